@@ -1,0 +1,26 @@
+//! The types that every crate of the server shares: nodes, phases, parts, the items of a push, and limits.
+//!
+//! Nothing here starts a thread or waits. A type that holds memory has its allocator as its last
+//! parameter, and a list inside it is a [`Seq`], which contracts see as the list of its items.
+#![tactic(auto)]
+
+mod entry;
+mod item;
+mod limits;
+mod memory;
+mod node;
+mod part;
+mod phase;
+mod seq;
+
+pub use entry::Entry;
+pub use item::{CutReason, Item, What};
+pub use limits::{Limits, Settings};
+pub use memory::{NoMemory, TryClone};
+pub use node::Node;
+pub use part::{Param, Part};
+pub use phase::Phase;
+pub use seq::{Seq, try_clone_each};
+
+#[cfg(test)]
+mod tests;
