@@ -1,0 +1,10 @@
+pub mod Cutting
+pub mod FieldLaws
+pub mod Growing
+pub mod HeaderLaws
+pub mod Keys
+pub mod Ordering
+pub mod Pieces
+pub mod SizeLaws
+pub mod Spelling
+pub mod WritingLaws

@@ -1,0 +1,34 @@
+//! What holds of all headers and all stream parameters. The functions do nothing: what they ensure is a theorem.
+
+ghost use Rattle.std.specs.Prelude.{ℕ, List};
+ghost use Rattle.hg_types.specs.declared.part.Param.{Param as AnyParam};
+ghost use Rattle.hg_params.specs.declared.head.Head.{Head as AnyHead};
+ghost use Rattle.hg_params.specs.Header.{IsHeader};
+ghost use Rattle.hg_params.specs.Laws.{HasOneReading, IsReadBack, IsAllThatIsWritten, IsSmall, HasOneParamsReading};
+
+use std::alloc::Allocator;
+
+/// A header is read in one way: its bytes say one thing, or have one fault, and never both.
+pub fn headers_have_one_reading<A: Allocator>()
+    ensures { (bytes : List ℕ) → HasOneReading A bytes }
+{}
+
+/// What is written of a part that can be written is read back as the same part with its type cased.
+pub fn what_is_written_is_read_back<A: Allocator>()
+    ensures { (kind : List ℕ) (id : ℕ) (params : List (AnyParam A)) → IsReadBack kind id params }
+{}
+
+/// A part can be written only where it, with its type cased, is what some header says.
+pub fn only_what_headers_say_is_written<A: Allocator>()
+    ensures { (kind : List ℕ) (id : ℕ) (params : List (AnyParam A)) → IsAllThatIsWritten kind id params }
+{}
+
+/// No header is empty, and none has more than 261,382 bytes.
+pub fn headers_are_small<A: Allocator>()
+    ensures { (bytes : List ℕ) (head : AnyHead A) → IsHeader bytes head → IsSmall bytes }
+{}
+
+/// Stream parameters are read in one way: their bytes give one list, or have one fault, and never both.
+pub fn stream_params_have_one_reading<A: Allocator>()
+    ensures { (bytes : List ℕ) → HasOneParamsReading A bytes }
+{}
