@@ -1,0 +1,11 @@
+pub mod Magic
+pub mod Steps
+pub mod Chunks
+pub mod Interruptions
+pub mod Moves
+pub mod Telling
+pub mod Feeding
+pub mod HeaderSizes
+pub mod Writing
+pub mod WrittenBundles
+pub mod OneBundle

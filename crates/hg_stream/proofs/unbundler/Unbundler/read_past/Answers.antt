@@ -1,0 +1,35 @@
+use Rattle.std.proofs.Common.{◌≡◌, ℕ, ◌+◌, ◌≤◌, ◌∷◌, [], ◌++◌, List, length, take, arith, refl, sym, ◌∙◌, ap, subst, ◌⊎◌}
+use Rattle.std.proofs.lemmas.List.{length-append, length-take, take_at}
+use Rattle.hg_stream.specs.declared.state.State.TheVariants.{Reading, Ended}
+use Rattle.hg_stream.specs.Frames.{IsWhole}
+use Rattle.hg_stream.specs.Places.{IsReading}
+use Rattle.hg_stream.specs.Faults.{by_length}
+use Rattle.hg_stream.specs.Unbundler.{state_of}
+use Rattle.hg_stream.proofs.Telling.{told, reading_of, reading_or_whole_of, reading_not_ended}
+use Rattle.hg_stream.proofs.unbundler.Unbundler.read_past.Goals as goal
+
+pub returns-in-Err-clause-past : goal.returns-in-Err-clause-past
+returns-in-Err-clause-past g c =
+    let failed = c.in-Err.ensures.err in (
+      failed.0,
+      failed.1,
+      λ bytes parts at going full.
+          (c.in-Err.ensures.ready, told c.in-Err.fault c.args.self.now.limits _ parts (omega (arith, length-append bytes (take failed.0 (c.args.byte ∷ [])), length-take failed.0 (c.args.byte ∷ []), full, failed.1)) (failed.2 bytes parts at)),
+    )
+
+pub returns-clause-past : goal.returns-clause-past
+returns-clause-past g c = (
+  1,
+  omega arith,
+  λ bytes parts at going full.
+      let going_on : state_of c.args.self.now ≡ Ended → ⊥ = λ e. reading_not_ended (sym going ∙ e) in
+      let some = c.in_default.ensures.some going_on in
+      let one : c.in_default.field-0 ≡ 1 = omega (arith, some, c.in_default.ensures.count) in
+      let moved = c.in_default.ensures.ok bytes parts at in
+      let both = rw one at (reading_or_whole_of c.advance.new.self (bytes ++ take c.in_default.field-0 (c.args.byte ∷ [])) (parts ++ moved.0) moved.1.at) in
+      let read : IsReading c.args.self.now.limits (bytes ++ c.args.byte ∷ []) (parts ++ moved.0) ⊎ IsWhole c.args.self.now.limits (bytes ++ c.args.byte ∷ []) (parts ++ moved.0) =
+      subst (λ l. IsReading l (bytes ++ c.args.byte ∷ []) (parts ++ moved.0) ⊎ IsWhole l (bytes ++ c.args.byte ∷ []) (parts ++ moved.0)) c.advance.ensures.limits both in (
+        c.truncate.ensures.items ∙ ap (take c.len-finished.result) moved.1.ready ∙ take_at c.args.self.now.ready.items moved.0 c.len-finished.result (sym c.args.self.now.ready.ok.0 ∙ sym c.len-finished.ensures),
+        by_length bytes c.args.byte (parts ++ moved.0) (reading_of c.args.self.now bytes parts at going) read refl (omega (arith, length-append bytes (c.args.byte ∷ []), full)) refl,
+      ),
+)

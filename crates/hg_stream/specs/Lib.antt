@@ -1,0 +1,11 @@
+pub mod Block
+pub mod Frames
+pub mod Interrupting
+pub mod Places
+pub mod Faults
+pub mod Unbundler
+pub mod Written
+pub mod Number
+pub mod Told
+pub mod Going
+pub mod Laws

@@ -1,0 +1,185 @@
+-- What a reader of bundles has taken.
+use Rattle.std.specs.Prelude.{◌≡◌, ℕ, ◌+◌, ◌≤◌, List, [], ◌∷◌, ◌++◌, length}
+use Rattle.hg_types.specs.declared.limits.Limits.{Limits}
+use Rattle.hg_types.specs.declared.part.Part.{Part}
+use Rattle.hg_chunks.specs.declared.payload.PayloadIn.{PayloadIn}
+use Rattle.hg_chunks.specs.PayloadIn as chunks
+use Rattle.hg_params.specs.declared.head.Head.{Head}
+use Rattle.hg_stream.specs.declared.fault.StreamFault.{StreamFault}
+use Rattle.hg_stream.specs.declared.fault.StreamFault.TheVariants.{Params, Header, NoMemory}
+use Rattle.hg_stream.specs.declared.state.State.{State}
+use Rattle.hg_stream.specs.declared.state.State.TheVariants.{Reading, Ended, Failed}
+use Rattle.hg_stream.specs.declared.block.BlockIn.{BlockIn}
+use Rattle.hg_stream.specs.declared.unbundler.Stage.{Stage}
+use Rattle.hg_stream.specs.declared.unbundler.Stage.TheVariants as stage
+use Rattle.hg_stream.specs.declared.unbundler.Unbundler.{Unbundler}
+use Rattle.hg_stream.specs.Block.{HoldsBlock}
+use Rattle.hg_chunks.specs.Payload.{closing}
+use Rattle.hg_stream.specs.Frames.{magic, max_header, part_of, HasParts, IsWhole}
+use Rattle.hg_stream.specs.Places.{IsInPayload, IsInterrupted, IsInInner, header_room, IsReading}
+use Rattle.hg_stream.specs.Faults.{Decides, Stops, Tells}
+
+abbrev pub state_at : Stage → State
+state_at stage.Magic = Reading
+state_at stage.Params = Reading
+state_at stage.Header = Reading
+state_at stage.Payload = Reading
+state_at stage.InnerHeader = Reading
+state_at stage.Inner = Reading
+state_at stage.Ended = Ended
+state_at (stage.Failed fault) = Failed fault
+
+-- how far the reader is
+abbrev pub state_of : {A : Type 0} → Unbundler A → State
+state_of u = state_at u.stage
+
+abbrev pub limits_of : {A : Type 0} → Unbundler A → Limits
+limits_of u = u.limits
+
+-- the finished parts that it has still to give
+abbrev pub ready_of : {A : Type 0} → Unbundler A → List (Part A)
+ready_of u = u.ready.items
+
+-- a payload's reader that goes on, at the limit on payloads
+pub record Takes {A : Type 0} (limits : Limits) (p : PayloadIn A) (whole rest : List ℕ) : Type 0 where
+  pub holds : chunks.Holds p whole rest
+  pub limit : chunks.limit_of p ≡ limits.payload
+  pub reading : chunks.phase_of p ≡ chunks.Reading
+
+-- it waits for a block, of at most so many bytes
+pub record Waits {A : Type 0} (b : BlockIn A) (most : ℕ) (rest : List ℕ) : Type 0 where
+  pub holds : HoldsBlock b rest
+  pub most_is : b.most ≡ most
+
+-- what a reader holds besides its stage and the parts that it finished
+pub record Fields (A : Type 0) : Type 0 where
+  pub limits : Limits
+  pub magic : List ℕ
+  pub block : BlockIn A
+  pub head : Head A
+  pub payload : PayloadIn A
+  pub inner : PayloadIn A
+
+abbrev pub fields_of : {A : Type 0} → Unbundler A → Fields A
+fields_of u = record { limits = u.limits; magic = u.magic; block = u.block; head = u.head; payload = u.payload; inner = u.inner }
+
+-- in the stream parameters, behind the magic
+pub record AtParams {A : Type 0} (u : Fields A) (bytes : List ℕ) (parts : List (Part A)) : Type 0 where
+  pub rest : List ℕ
+  pub waits : Waits u.block u.limits.params rest
+  pub none : parts ≡ []
+  pub spelled : bytes ≡ magic ++ rest
+
+-- in a header size or a header, behind whole frames
+pub record AtHeader {A : Type 0} (u : Fields A) (bytes : List ℕ) (parts : List (Part A)) : Type 0 where
+  pub front : List ℕ
+  pub rest : List ℕ
+  pub has : HasParts u.limits front parts
+  pub waits : Waits u.block (header_room u.limits parts) rest
+  pub spelled : bytes ≡ front ++ rest
+
+-- in a payload
+pub record AtPayload {A : Type 0} (u : Fields A) (bytes : List ℕ) (parts : List (Part A)) : Type 0 where
+  pub front : List ℕ
+  pub rest : List ℕ
+  pub whole : List ℕ
+  pub inside : IsInPayload u.limits front parts u.head whole
+  pub goes_on : Takes u.limits u.payload whole rest
+  pub spelled : bytes ≡ front ++ rest
+
+-- in the header size or the header of an interrupting part
+pub record AtInnerHeader {A : Type 0} (u : Fields A) (bytes : List ℕ) (parts : List (Part A)) : Type 0 where
+  pub front : List ℕ
+  pub rest : List ℕ
+  pub whole : List ℕ
+  pub interrupted : IsInterrupted u.limits front parts u.head whole
+  pub goes_on : Takes u.limits u.payload whole []
+  pub waits : Waits u.block max_header rest
+  pub spelled : bytes ≡ front ++ rest
+
+-- in the payload of an interrupting part
+pub record AtInner {A : Type 0} (u : Fields A) (bytes : List ℕ) (parts : List (Part A)) : Type 0 where
+  pub front : List ℕ
+  pub rest : List ℕ
+  pub whole : List ℕ
+  pub data_whole : List ℕ
+  pub inside : IsInInner u.limits front parts u.head whole data_whole
+  pub goes_on : Takes u.limits u.payload whole []
+  pub inner : Takes u.limits u.inner data_whole rest
+  pub spelled : bytes ≡ front ++ rest
+
+-- in the magic
+pub record AtMagic {A : Type 0} (u : Fields A) (bytes : List ℕ) (parts : List (Part A)) : Type 0 where
+  pub taken : bytes ≡ u.magic
+  pub short : length bytes ≤ 3
+  pub waits : Waits u.block u.limits.params []
+  pub none : parts ≡ []
+
+abbrev pub IsAtStage : {A : Type 0} → Stage → Fields A → List ℕ → List (Part A) → Type 0
+IsAtStage stage.Magic u bytes parts = AtMagic u bytes parts
+IsAtStage stage.Params u bytes parts = AtParams u bytes parts
+IsAtStage stage.Header u bytes parts = AtHeader u bytes parts
+IsAtStage stage.Payload u bytes parts = AtPayload u bytes parts
+IsAtStage stage.InnerHeader u bytes parts = AtInnerHeader u bytes parts
+IsAtStage stage.Inner u bytes parts = AtInner u bytes parts
+IsAtStage stage.Ended u bytes parts = IsWhole u.limits bytes parts
+IsAtStage (stage.Failed fault) u bytes parts = ⊥
+
+-- The reader, which has not failed, took these bytes, whose whole frames have these parts.
+pub record IsAt {A : Type 0} (u : Unbundler A) (bytes : List ℕ) (parts : List (Part A)) : Type 0 where
+  pub left : u.parts_left + length parts ≡ u.limits.parts
+  pub place : IsAtStage u.stage (fields_of u) bytes parts
+
+-- ---- steps
+
+-- it finished these parts
+pub record Finishes {A : Type 0} (u v : Unbundler A) (bytes : List ℕ) (parts added : List (Part A)) : Type 0 where
+  pub ready : ready_of v ≡ ready_of u ++ added
+  pub at : IsAt v bytes (parts ++ added)
+
+-- from u it came to v by these bytes
+abbrev pub Moves : {A : Type 0} → Unbundler A → Unbundler A → List ℕ → Type 0
+Moves {A} u v taken = (bytes : List ℕ) (parts : List (Part A)) → IsAt u bytes parts → (added : List (Part A)) × Finishes u v (bytes ++ taken) parts added
+
+-- the last byte decides the fault by the grammar, or memory was refused
+abbrev pub Breaks : {A : Type 0} → StreamFault → Limits → List ℕ → List (Part A) → Type 0
+Breaks NoMemory limits bytes parts = IsReading limits bytes parts
+Breaks fault limits bytes parts = Decides fault limits bytes parts
+
+-- from u it met that fault by these bytes
+abbrev pub Fails : {A : Type 0} → StreamFault → Unbundler A → List ℕ → Type 0
+Fails {A} fault u taken = (bytes : List ℕ) (parts : List (Part A)) → IsAt u bytes parts → Breaks fault u.limits (bytes ++ taken) parts
+
+-- the same, and it may have finished some parts before
+abbrev pub Halts : {A : Type 0} → StreamFault → Unbundler A → Unbundler A → List ℕ → Type 0
+Halts {A} fault u v taken = (bytes : List ℕ) (parts : List (Part A)) → IsAt u bytes parts
+    → (added : List (Part A)) × (ready_of v ≡ ready_of u ++ added) × Breaks fault u.limits (bytes ++ taken) (parts ++ added)
+
+-- from u, which took as many bytes as the stream may have, it met that fault by these bytes, and finished nothing
+abbrev pub PassesBy : {A : Type 0} → StreamFault → Unbundler A → Unbundler A → List ℕ → Type 0
+PassesBy {A} fault u v taken = (bytes : List ℕ) (parts : List (Part A)) → IsAt u bytes parts → state_of u ≡ Reading → length bytes ≡ u.limits.stream
+    → (ready_of v ≡ ready_of u) × Stops fault u.limits (bytes ++ taken) parts
+
+-- ---- the whole
+
+-- a reader that goes on knows where it is, and how many bytes may still come
+abbrev pub Keeps : {A : Type 0} → State → Unbundler A → List ℕ → List (Part A) → Type 0
+Keeps Reading u bytes parts = IsAt u bytes parts × (u.stream_left + length bytes ≡ u.limits.stream)
+Keeps Ended u bytes parts = Unit {0}
+Keeps (Failed fault) u bytes parts = Unit {0}
+
+-- The reader took these bytes and gave these parts.
+pub record Holds {A : Type 0} (u : Unbundler A) (given : List (Part A)) (bytes : List ℕ) : Type 0 where
+  pub keeps : Keeps (state_of u) u bytes (given ++ ready_of u)
+  pub tells : Tells (state_of u) (limits_of u) bytes (given ++ ready_of u)
+
+-- from u, which went on, it came to v by these bytes
+abbrev pub Feeds : {A : Type 0} → Unbundler A → Unbundler A → List ℕ → Type 0
+Feeds {A} u v taken = (given : List (Part A)) (bytes : List ℕ) → state_of u ≡ Reading → Holds u given bytes → Holds v given (bytes ++ taken)
+
+-- ---- parts of steps
+
+-- a part was finished behind whole pieces with that data, and the next header is waited for
+abbrev pub Finished : {A : Type 0} → Unbundler A → Unbundler A → List ℕ → Type 0
+Finished {A} u v payload = (front : List ℕ) (parts : List (Part A)) → IsInPayload u.limits front parts u.head payload → u.parts_left + length parts ≡ u.limits.parts
+    → Finishes u v (front ++ closing) parts (part_of u.head payload ∷ [])

@@ -1,0 +1,218 @@
+//! Each fault by its name and number, at its byte.
+
+use super::*;
+use hg_chunks::ChunkFault;
+use hg_params::ParamFault;
+
+/// Whether the reader answers that fault for good.
+fn has_failed<A: Allocator + Copy>(reader: &mut Unbundler<A>, fault: StreamFault) -> bool {
+    reader.state() == State::Failed(fault)
+        && reader.feed(EMPTY) == Err(fault)
+        && reader.feed(b"") == Err(fault)
+        && reader.end_input() == Err(fault)
+        && reader.state() == State::Failed(fault)
+}
+
+/// Whether the last byte shows the fault and no byte before it, in two pieces, byte by byte and with bytes behind it, and
+/// the fault stays.
+fn is_fault_at_end<A: Allocator + Copy>(
+    alloc: A,
+    bytes: &[u8],
+    fault: StreamFault,
+) -> Result<bool, NoMemory> {
+    let limits = Limits::standard();
+    let Some((last, front)) = bytes.split_last() else {
+        return Ok(false);
+    };
+    let mut reader = Unbundler::new(alloc, limits);
+    let in_two = reader.feed(front) == Ok(front.len())
+        && reader.state() == State::Reading
+        && reader.feed(&[*last]) == Err(fault)
+        && has_failed(&mut reader, fault);
+
+    let bytewise = read_in_pieces(alloc, limits, bytes, 1, 1)?;
+    let mut more = Vec::from_slice(alloc, bytes)?;
+    more.extend_from_slice(EMPTY)?;
+    let behind = read_whole(alloc, limits, more.as_slice())?;
+    Ok(
+        in_two
+            && bytewise.state == State::Failed(fault)
+            && bytewise.taken == front.len()
+            && behind.state == State::Failed(fault),
+    )
+}
+
+#[test]
+fn magic_and_sizes(rt: HostRuntime) -> Result<(), Fail> {
+    let cases: [(&[u8], StreamFault); 10] = [
+        (b"HG10", StreamFault::BadMagic),
+        (b"hg20", StreamFault::BadMagic),
+        // stream parameters of -1, of the least size, and of 65,537 bytes
+        (b"HG20\xff\xff\xff\xff", StreamFault::NegativeSize),
+        (b"HG20\x80\0\0\0", StreamFault::NegativeSize),
+        (b"HG20\0\x01\0\x01", StreamFault::TooLarge),
+        // headers of -1, 261,383 and 2,147,483,647 bytes
+        (b"HG20\0\0\0\0\xff\xff\xff\xff", StreamFault::NegativeSize),
+        (b"HG20\0\0\0\0\0\x03\xfd\x07", StreamFault::TooLarge),
+        (b"HG20\0\0\0\0\x7f\xff\xff\xff", StreamFault::TooLarge),
+        // a header of -2 bytes behind a part
+        (
+            b"HG20\0\0\0\0\0\0\0\x08\x01a\0\0\0\0\0\0\0\0\0\0\xff\xff\xff\xfe",
+            StreamFault::NegativeSize,
+        ),
+        // a chunk of -2 bytes
+        (
+            b"HG20\0\0\0\0\0\0\0\x08\x01a\0\0\0\0\0\0\xff\xff\xff\xfe",
+            StreamFault::Chunk(ChunkFault::BadSize),
+        ),
+    ];
+    for (bytes, fault) in cases {
+        assert!(rt; is_fault_at_end(rt.alloc(), bytes, fault)?, "{fault}");
+    }
+    Ok(())
+}
+
+#[test]
+fn stream_parameters_refused(rt: HostRuntime) -> Result<(), Fail> {
+    let cases: [(&[u8], ParamFault); 4] = [
+        (b"HG20\0\0\0\x0ecompression=GZ", ParamFault::Compressed),
+        (b"HG20\0\0\0\x03Foo", ParamFault::UnknownMandatory),
+        (b"HG20\0\0\0\x04a  b", ParamFault::EmptyName),
+        (b"HG20\0\0\0\x021x", ParamFault::BadName),
+    ];
+    for (bytes, fault) in cases {
+        let fault = StreamFault::Params(fault);
+        assert!(rt; is_fault_at_end(rt.alloc(), bytes, fault)?, "{fault}");
+    }
+    Ok(())
+}
+
+// Headers with a fault, of a part and of an interrupting part.
+#[test]
+fn headers_refused(rt: HostRuntime) -> Result<(), Fail> {
+    let cases: [(&[u8], ParamFault); 4] = [
+        (b"\0\0\0\x07\0\0\0\0\0\0\0", ParamFault::BadType),
+        (
+            b"\0\0\0\x0e\x01a\0\0\0\0\x01\x01\x01\0\x01\0kk",
+            ParamFault::RepeatedKey,
+        ),
+        (b"\0\0\0\x09\x01a\0\0\0\0\0\0\0", ParamFault::Leftover),
+        (b"\0\0\0\x07\x01a\0\0\0\0\0", ParamFault::Short),
+    ];
+    for (header, fault) in cases {
+        for front in [
+            b"HG20\0\0\0\0".as_slice(),
+            b"HG20\0\0\0\0\0\0\0\x08\x01a\0\0\0\0\0\0\xff\xff\xff\xff".as_slice(),
+        ] {
+            let mut bytes = Vec::from_slice(rt.alloc(), front)?;
+            bytes.extend_from_slice(header)?;
+            let fault = StreamFault::Header(fault);
+            assert!(rt;
+                is_fault_at_end(rt.alloc(), bytes.as_slice(), fault)?,
+                "{fault}"
+            );
+        }
+    }
+    Ok(())
+}
+
+// What may not interrupt a payload: sizes, an interruption, aborts, and parts that have to be understood and are not.
+#[test]
+fn interruptions_refused(rt: HostRuntime) -> Result<(), Fail> {
+    let cases: [(&[u8], StreamFault); 9] = [
+        (b"\xff\xff\xff\xff", StreamFault::NegativeSize),
+        (b"\0\x03\xfd\x07", StreamFault::TooLarge),
+        (
+            b"\0\0\0\x0d\x06output\0\0\0\0\0\0\xff\xff\xff\xff",
+            StreamFault::NestedInterrupt,
+        ),
+        (
+            b"\0\0\0\x0d\x06output\0\0\0\0\0\0\xff\xff\xff\xfe",
+            StreamFault::Chunk(ChunkFault::BadSize),
+        ),
+        (
+            b"\0\0\0\x12\x0berror:abort\0\0\0\0\0\0",
+            StreamFault::ClientAbort,
+        ),
+        (
+            b"\0\0\0\x1d\x0bERROR:ABORT\0\0\0\0\x01\0\x04\x05hintagain",
+            StreamFault::ClientAbort,
+        ),
+        (b"\0\0\0\x0b\x04FROB\0\0\0\0\0\0", StreamFault::Unsupported),
+        (
+            b"\0\0\0\x15\x0bERROR:ABORT\0\0\0\0\x01\0\x01\0x",
+            StreamFault::Unsupported,
+        ),
+        (
+            b"\0\0\0\x10\x06OUTPUT\0\0\0\0\x01\0\x01\0x",
+            StreamFault::Unsupported,
+        ),
+    ];
+    for (inner, fault) in cases {
+        let front: &[u8] = b"HG20\0\0\0\0\0\0\0\x08\x01a\0\0\0\0\0\0\0\0\0\x01!\xff\xff\xff\xff";
+        let mut bytes = Vec::from_slice(rt.alloc(), front)?;
+        bytes.extend_from_slice(inner)?;
+        assert!(rt;
+            is_fault_at_end(rt.alloc(), bytes.as_slice(), fault)?,
+            "{fault}"
+        );
+    }
+    Ok(())
+}
+
+// The input ends inside the bundle, behind each front of the empty one and of one with an interruption.
+#[test]
+fn truncated_input(rt: HostRuntime) {
+    for bundle in [EMPTY, FIRST_PUSH_INTERRUPTED] {
+        for (size, _) in bundle.iter().enumerate() {
+            let mut reader = Unbundler::new(rt.alloc(), Limits::standard());
+            assert_eq!(rt; reader.feed(&bundle[..size]), Ok(size));
+            assert_eq!(rt; reader.end_input(), Err(StreamFault::Truncated));
+            assert_eq!(rt; reader.state(), State::Failed(StreamFault::Truncated));
+            assert_eq!(rt; reader.feed(&bundle[size..]), Err(StreamFault::Truncated));
+            assert_eq!(rt; reader.end_input(), Err(StreamFault::Truncated));
+        }
+    }
+}
+
+// The part that was finished before the fault can be taken behind it, and the one that was not finished is none.
+#[test]
+fn parts_before_a_fault(rt: HostRuntime) {
+    for fault in [
+        StreamFault::Truncated,
+        StreamFault::Chunk(ChunkFault::BadSize),
+    ] {
+        let mut reader = Unbundler::new(rt.alloc(), Limits::standard());
+        assert_eq!(rt; reader.feed(&FIRST_PUSH[..54]), Ok(54));
+        if fault == StreamFault::Truncated {
+            assert_eq!(rt; reader.end_input(), Err(fault));
+        } else {
+            assert_eq!(rt; reader.feed(b"\xff\xff\xff\xfe"), Err(fault));
+        }
+        match reader.next_part() {
+            Some(part) => assert_eq!(rt; part.kind.as_slice(), b"REPLYCAPS".as_slice()),
+            None => assert!(rt; false, "the part before {fault}"),
+        }
+        assert!(rt; reader.next_part().is_none());
+        assert_eq!(rt; reader.state(), State::Failed(fault));
+    }
+}
+
+#[test]
+fn faults_by_number(rt: HostRuntime) {
+    for (fault, number) in [
+        (StreamFault::BadMagic, 1),
+        (StreamFault::NegativeSize, 2),
+        (StreamFault::Params(ParamFault::Compressed), 3),
+        (StreamFault::Header(ParamFault::Short), 4),
+        (StreamFault::Chunk(ChunkFault::BadSize), 5),
+        (StreamFault::NestedInterrupt, 6),
+        (StreamFault::ClientAbort, 7),
+        (StreamFault::Unsupported, 8),
+        (StreamFault::TooLarge, 9),
+        (StreamFault::Truncated, 10),
+        (StreamFault::NoMemory, 11),
+    ] {
+        assert_eq!(rt; fault.number(), number);
+    }
+}

@@ -1,0 +1,434 @@
+//! The reader of a bundle, whose bytes come in pieces.
+
+ghost use Rattle.std.specs.Prelude.{◌≡◌, ◌≢◌, ◌≤◌, ◌<◌, ◌+◌, ◌++◌, ◌∷◌, [], List, ℕ, length, take, Ok, Err, IfOk, IfErr, IfSome, IfNone, IsOk, OnOk, OnErr, IsTrue, ◌↔◌, option_to_list};
+ghost use Rattle.hg_types.specs.Limits.{IsAllowed};
+ghost use Rattle.hg_types.specs.declared.part.Part.{Part};
+ghost use Rattle.hg_chunks.specs.PayloadIn.{phase_of};
+ghost use Rattle.hg_stream.specs.Going.{GoesOn};
+ghost use Rattle.hg_stream.specs.declared.state.State.{State};
+ghost use Rattle.hg_stream.specs.declared.state.State.TheVariants.{Reading, Ended, Failed};
+
+use crate::block::{BlockIn, BlockStep};
+use crate::fault::StreamFault;
+use crate::head::{
+    MAX_HEADER, header_room, make_part, no_head, read_head, read_interrupting, read_params,
+};
+use crate::state::State;
+use crate::told::{block_fault, chunk_fault};
+use hg_chunks::{PayloadIn, SizeField, Step};
+use hg_params::Head;
+use hg_types::{Limits, Part, Seq};
+use std::alloc::{Allocator, Global};
+use std::collections::VecDeque;
+use std::mem;
+
+/// `HG20`, as a number.
+const MAGIC: i32 = 0x4847_3230;
+
+/// Where the reader is in the bundle.
+#[derive(Clone, Copy)]
+enum Stage {
+    /// In the magic.
+    Magic,
+    /// In the stream parameters, or in their size.
+    Params,
+    /// In a header, or in its size.
+    Header,
+    /// In a part's payload.
+    Payload,
+    /// In the header of an interrupting part, or in its size.
+    InnerHeader,
+    /// In the payload of an interrupting part.
+    Inner,
+    /// Behind the end mark.
+    Ended,
+    Failed(StreamFault),
+}
+
+/// Takes the bytes of one bundle, in pieces of any sizes, and gives its parts.
+#[derive(Drop)]
+pub struct Unbundler<A: Allocator = Global> {
+    alloc: A,
+    limits: Limits,
+    /// How many bytes of the stream may still come.
+    stream_left: u32,
+    /// How many parts may still be finished.
+    parts_left: u32,
+    stage: Stage,
+    magic: SizeField,
+    block: BlockIn<A>,
+    /// The head of the part whose payload is being read.
+    head: Head<A>,
+    payload: PayloadIn<A>,
+    /// The payload of an interrupting part.
+    inner: PayloadIn<A>,
+    /// The parts that were finished and not yet given.
+    ready: VecDeque<Part<A>, A>,
+    ghost payload_goes_on: { GoesOn (phase_of payload) },
+    ghost inner_goes_on: { GoesOn (phase_of inner) },
+}
+
+impl<A: Allocator + Copy> Unbundler<A> {
+    ghost use Rattle.hg_stream.specs.Unbundler.{Holds, Feeds, Moves, Fails, Halts, PassesBy, Finished, state_of, limits_of, ready_of};
+
+    /// A reader that was fed nothing.
+    pub fn new(alloc: A, limits: Limits) -> Self
+        requires { IsAllowed limits }
+        ensures empty { Holds result [] [] }
+        ensures limits { limits_of result ≡ limits }
+        ensures state { state_of result ≡ Reading }
+    {
+        Unbundler {
+            alloc,
+            limits,
+            stream_left: limits.stream,
+            parts_left: limits.parts,
+            stage: Stage::Magic,
+            magic: SizeField::new(),
+            block: BlockIn::new(alloc, limits.params),
+            head: no_head(alloc),
+            payload: PayloadIn::new(alloc, limits.payload),
+            inner: PayloadIn::new(alloc, limits.payload),
+            ready: VecDeque::new(alloc),
+        }
+    }
+
+    /// Takes the whole piece, or the bytes of it up to the end mark, and answers how many. Once ended it takes nothing.
+    /// A fault is answered for good.
+    pub fn feed(&mut self, piece: &[u8]) -> Result<usize, StreamFault>
+        ensures count { IfOk result (λ n. n ≤ length piece.now) }
+        ensures all { IfOk result (λ n. state_of self.new ≡ Reading → n ≡ length piece.now) }
+        ensures ok { IfOk result (λ n. (given : List (Part A)) (bytes : List ℕ) → Holds self.old given bytes → Holds self.new given (bytes ++ take n piece.now)) }
+        ensures err { IfErr result (λ fault. (place : ℕ) × (place ≤ length piece.now)
+            × ((given : List (Part A)) (bytes : List ℕ) → Holds self.old given bytes → Holds self.new given (bytes ++ take place piece.now))) }
+        ensures failed { IfErr result (λ fault. state_of self.new ≡ Failed fault) }
+        ensures still_failed { (fault : StreamFault) → state_of self.old ≡ Failed fault → (result ≡ Err fault) × (self.new ≡ self.old) }
+        ensures still_ended { state_of self.old ≡ Ended → (result ≡ Ok 0) × (self.new ≡ self.old) }
+        ensures limits { limits_of self.new ≡ limits_of self.old }
+    {
+        match self.stage {
+            Stage::Failed(fault) => Err(fault),
+            Stage::Ended => Ok(0),
+            _ => self.feed_on(piece),
+        }
+    }
+
+    /// Gives the next finished part, in the order of the stream.
+    pub fn next_part(&mut self) -> Option<Part<A>>
+        ensures part { IfSome result (λ part. ready_of self.old ≡ part ∷ ready_of self.new) }
+        ensures none { IfNone result ((ready_of self.old ≡ []) × (ready_of self.new ≡ [])) }
+        ensures holds { (given : List (Part A)) (bytes : List ℕ) → Holds self.old given bytes → Holds self.new (given ++ option_to_list result) bytes }
+        ensures state { state_of self.new ≡ state_of self.old }
+        ensures limits { limits_of self.new ≡ limits_of self.old }
+    {
+        self.ready.pop_front()
+    }
+
+    /// Says that no more bytes come. Truncated where the end mark is missing.
+    pub fn end_input(&mut self) -> Result<(), StreamFault>
+        ensures ended { state_of self.old ≡ Ended → (IsOk result) × (self.new ≡ self.old) }
+        ensures reading { state_of self.old ≡ Reading → (result ≡ Err StreamFault.Truncated) × (state_of self.new ≡ Failed StreamFault.Truncated) }
+        ensures failed { (fault : StreamFault) → state_of self.old ≡ Failed fault → (result ≡ Err fault) × (self.new ≡ self.old) }
+        ensures holds { (given : List (Part A)) (bytes : List ℕ) → Holds self.old given bytes → Holds self.new given bytes }
+        ensures ready { ready_of self.new ≡ ready_of self.old }
+        ensures limits { limits_of self.new ≡ limits_of self.old }
+    {
+        match self.stage {
+            Stage::Ended => Ok(()),
+            Stage::Failed(fault) => Err(fault),
+            _ => {
+                self.stage = Stage::Failed(StreamFault::Truncated);
+                Err(StreamFault::Truncated)
+            }
+        }
+    }
+
+    /// How far the reader is.
+    pub fn state(&self) -> State
+        ensures { result ≡ state_of self.now }
+    {
+        match self.stage {
+            Stage::Ended => State::Ended,
+            Stage::Failed(fault) => State::Failed(fault),
+            _ => State::Reading,
+        }
+    }
+
+    /// Reads on: up to the limit on the stream, and one byte past it at most.
+    fn feed_on(&mut self, piece: &[u8]) -> Result<usize, StreamFault>
+        ensures count { IfOk result (λ n. n ≤ length piece.now) }
+        ensures all { IfOk result (λ n. state_of self.new ≡ Reading → n ≡ length piece.now) }
+        ensures ok { IfOk result (λ n. Feeds self.old self.new (take n piece.now)) }
+        ensures err { IfErr result (λ fault. (place : ℕ) × (place ≤ length piece.now) × Feeds self.old self.new (take place piece.now)) }
+        ensures failed { IfErr result (λ fault. state_of self.new ≡ Failed fault) }
+        ensures limits { limits_of self.new ≡ limits_of self.old }
+    {
+        let within = piece.len().min(self.stream_left as usize);
+        let count = self.read(&piece[..within])?;
+        self.stream_left -= count as u32;
+        if within == piece.len() {
+            return Ok(count);
+        }
+        if self.is_ended() {
+            return Ok(count);
+        }
+        Err(self.read_past(piece[within]))
+    }
+
+    /// Reads the first byte past the limit on the stream: the grammar's fault there, or else TooLarge.
+    fn read_past(&mut self, byte: u8) -> StreamFault
+        ensures failed { state_of self.new ≡ Failed result }
+        ensures limits { limits_of self.new ≡ limits_of self.old }
+        ensures past { (place : ℕ) × (place ≤ 1) × PassesBy result self.old self.new (take place (byte ∷ [])) }
+    {
+        let finished = self.ready.len();
+        if let Err(fault) = self.advance(&[byte]) {
+            self.stage = Stage::Failed(fault);
+            return fault;
+        }
+        self.ready.truncate(finished);
+        self.stage = Stage::Failed(StreamFault::TooLarge);
+        StreamFault::TooLarge
+    }
+
+    /// Reads on with no regard to the limit on the stream.
+    fn read(&mut self, piece: &[u8]) -> Result<usize, StreamFault>
+        ensures count { IfOk result (λ n. n ≤ length piece.now) }
+        ensures all { IfOk result (λ n. (state_of self.new ≡ Ended → ⊥) → n ≡ length piece.now) }
+        ensures ok { IfOk result (λ n. Moves self.old self.new (take n piece.now)) }
+        ensures err { IfErr result (λ fault. (place : ℕ) × (place ≤ length piece.now) × Halts fault self.old self.new (take place piece.now)) }
+        ensures failed { IfErr result (λ fault. state_of self.new ≡ Failed fault) }
+        ensures limits { limits_of self.new ≡ limits_of self.old }
+        ensures stream_left { self.new.stream_left ≡ self.old.stream_left }
+    {
+        let mut taken = 0;
+        while taken < piece.len() {
+            if self.is_ended() {
+                return Ok(taken);
+            }
+            match self.advance(&piece[taken..]) {
+                Ok(count) => taken += count,
+                Err(fault) => {
+                    self.stage = Stage::Failed(fault);
+                    return Err(fault);
+                }
+            }
+        }
+        Ok(taken)
+    }
+
+    fn is_ended(&self) -> bool
+        ensures { IsTrue result ↔ (state_of self.now ≡ Ended) }
+    {
+        matches!(self.stage, Stage::Ended)
+    }
+
+    /// Takes some bytes, up to the next place where something is decided.
+    fn advance(&mut self, piece: &[u8]) -> Result<usize, StreamFault>
+        requires { 0 < length piece.now }
+        ensures count { IfOk result (λ n. n ≤ length piece.now) }
+        ensures some { IfOk result (λ n. (state_of self.old ≡ Ended → ⊥) → 0 < n) }
+        ensures ok { IfOk result (λ n. Moves self.old self.new (take n piece.now)) }
+        ensures err { IfErr result (λ fault. (place : ℕ) × (place ≤ length piece.now) × Fails fault self.old (take place piece.now)) }
+        ensures ready { OnErr result (ready_of self.new ≡ ready_of self.old) }
+        ensures limits { limits_of self.new ≡ limits_of self.old }
+        ensures stream_left { self.new.stream_left ≡ self.old.stream_left }
+    {
+        match self.stage {
+            Stage::Magic => self.take_magic(piece),
+            Stage::Params => self.take_params(piece),
+            Stage::Header => self.take_header(piece),
+            Stage::Payload => self.take_payload(piece),
+            Stage::InnerHeader => self.take_inner_header(piece),
+            Stage::Inner => self.take_inner(piece),
+            Stage::Ended => Ok(0),
+            Stage::Failed(fault) => Err(fault),
+        }
+    }
+
+    fn take_magic(&mut self, piece: &[u8]) -> Result<usize, StreamFault>
+        requires stage { self.old.stage ≡ Stage.Magic }
+        requires piece { 0 < length piece.now }
+        ensures count { IfOk result (λ n. n ≤ length piece.now) }
+        ensures some { IfOk result (λ n. 0 < n) }
+        ensures ok { IfOk result (λ n. Moves self.old self.new (take n piece.now)) }
+        ensures err { IfErr result (λ fault. (place : ℕ) × (place ≤ length piece.now) × Fails fault self.old (take place piece.now)) }
+        ensures ready { OnErr result (ready_of self.new ≡ ready_of self.old) }
+        ensures limits { limits_of self.new ≡ limits_of self.old }
+        ensures stream_left { self.new.stream_left ≡ self.old.stream_left }
+    {
+        let Some(magic) = self.magic.push(piece[0]) else {
+            return Ok(1);
+        };
+        if magic != MAGIC {
+            return Err(StreamFault::BadMagic);
+        }
+        self.stage = Stage::Params;
+        Ok(1)
+    }
+
+    fn take_params(&mut self, piece: &[u8]) -> Result<usize, StreamFault>
+        requires stage { self.old.stage ≡ Stage.Params }
+        requires piece { 0 < length piece.now }
+        ensures count { IfOk result (λ n. n ≤ length piece.now) }
+        ensures some { IfOk result (λ n. 0 < n) }
+        ensures ok { IfOk result (λ n. Moves self.old self.new (take n piece.now)) }
+        ensures err { IfErr result (λ fault. (place : ℕ) × (place ≤ length piece.now) × Fails fault self.old (take place piece.now)) }
+        ensures ready { OnErr result (ready_of self.new ≡ ready_of self.old) }
+        ensures limits { limits_of self.new ≡ limits_of self.old }
+        ensures stream_left { self.new.stream_left ≡ self.old.stream_left }
+    {
+        let (count, step) = match self.block.feed(piece) {
+            Ok(taken) => taken,
+            Err(fault) => return Err(block_fault(fault)),
+        };
+        match step {
+            BlockStep::More => return Ok(count),
+            BlockStep::Nothing => {}
+            BlockStep::Whole => {
+                read_params(self.alloc, self.block.block.as_slice())?;
+            }
+        }
+        self.block.restart(header_room(self.parts_left));
+        self.stage = Stage::Header;
+        Ok(count)
+    }
+
+    fn take_header(&mut self, piece: &[u8]) -> Result<usize, StreamFault>
+        requires stage { self.old.stage ≡ Stage.Header }
+        requires piece { 0 < length piece.now }
+        ensures count { IfOk result (λ n. n ≤ length piece.now) }
+        ensures some { IfOk result (λ n. 0 < n) }
+        ensures ok { IfOk result (λ n. Moves self.old self.new (take n piece.now)) }
+        ensures err { IfErr result (λ fault. (place : ℕ) × (place ≤ length piece.now) × Fails fault self.old (take place piece.now)) }
+        ensures ready { OnErr result (ready_of self.new ≡ ready_of self.old) }
+        ensures limits { limits_of self.new ≡ limits_of self.old }
+        ensures stream_left { self.new.stream_left ≡ self.old.stream_left }
+    {
+        let (count, step) = match self.block.feed(piece) {
+            Ok(taken) => taken,
+            Err(fault) => return Err(block_fault(fault)),
+        };
+        match step {
+            BlockStep::More => Ok(count),
+            BlockStep::Nothing => {
+                self.stage = Stage::Ended;
+                Ok(count)
+            }
+            BlockStep::Whole => {
+                self.head = read_head(self.alloc, self.block.block.as_slice())?;
+                self.payload = PayloadIn::new(self.alloc, self.limits.payload);
+                self.stage = Stage::Payload;
+                Ok(count)
+            }
+        }
+    }
+
+    fn take_payload(&mut self, piece: &[u8]) -> Result<usize, StreamFault>
+        requires stage { self.old.stage ≡ Stage.Payload }
+        requires piece { 0 < length piece.now }
+        ensures count { IfOk result (λ n. n ≤ length piece.now) }
+        ensures some { IfOk result (λ n. 0 < n) }
+        ensures ok { IfOk result (λ n. Moves self.old self.new (take n piece.now)) }
+        ensures err { IfErr result (λ fault. (place : ℕ) × (place ≤ length piece.now) × Fails fault self.old (take place piece.now)) }
+        ensures ready { OnErr result (ready_of self.new ≡ ready_of self.old) }
+        ensures limits { limits_of self.new ≡ limits_of self.old }
+        ensures stream_left { self.new.stream_left ≡ self.old.stream_left }
+    {
+        let (count, step) = match self.payload.feed(piece) {
+            Ok(taken) => taken,
+            Err(fault) => return Err(chunk_fault(fault)),
+        };
+        match step {
+            Step::More => Ok(count),
+            Step::Interrupt => {
+                self.block.restart(MAX_HEADER);
+                self.stage = Stage::InnerHeader;
+                Ok(count)
+            }
+            Step::Done => {
+                let mut ended = mem::replace(
+                    &mut self.payload,
+                    PayloadIn::new(self.alloc, self.limits.payload),
+                );
+                self.finish_part(ended.take_payload())?;
+                Ok(count)
+            }
+        }
+    }
+
+    fn take_inner_header(&mut self, piece: &[u8]) -> Result<usize, StreamFault>
+        requires stage { self.old.stage ≡ Stage.InnerHeader }
+        requires piece { 0 < length piece.now }
+        ensures count { IfOk result (λ n. n ≤ length piece.now) }
+        ensures some { IfOk result (λ n. 0 < n) }
+        ensures ok { IfOk result (λ n. Moves self.old self.new (take n piece.now)) }
+        ensures err { IfErr result (λ fault. (place : ℕ) × (place ≤ length piece.now) × Fails fault self.old (take place piece.now)) }
+        ensures ready { OnErr result (ready_of self.new ≡ ready_of self.old) }
+        ensures limits { limits_of self.new ≡ limits_of self.old }
+        ensures stream_left { self.new.stream_left ≡ self.old.stream_left }
+    {
+        let (count, step) = match self.block.feed(piece) {
+            Ok(taken) => taken,
+            Err(fault) => return Err(block_fault(fault)),
+        };
+        match step {
+            BlockStep::More => Ok(count),
+            BlockStep::Nothing => {
+                self.stage = Stage::Payload;
+                Ok(count)
+            }
+            BlockStep::Whole => {
+                read_interrupting(self.alloc, self.block.block.as_slice())?;
+                self.inner = PayloadIn::new(self.alloc, self.limits.payload);
+                self.stage = Stage::Inner;
+                Ok(count)
+            }
+        }
+    }
+
+    fn take_inner(&mut self, piece: &[u8]) -> Result<usize, StreamFault>
+        requires stage { self.old.stage ≡ Stage.Inner }
+        requires piece { 0 < length piece.now }
+        ensures count { IfOk result (λ n. n ≤ length piece.now) }
+        ensures some { IfOk result (λ n. 0 < n) }
+        ensures ok { IfOk result (λ n. Moves self.old self.new (take n piece.now)) }
+        ensures err { IfErr result (λ fault. (place : ℕ) × (place ≤ length piece.now) × Fails fault self.old (take place piece.now)) }
+        ensures ready { OnErr result (ready_of self.new ≡ ready_of self.old) }
+        ensures limits { limits_of self.new ≡ limits_of self.old }
+        ensures stream_left { self.new.stream_left ≡ self.old.stream_left }
+    {
+        let (count, step) = match self.inner.feed(piece) {
+            Ok(taken) => taken,
+            Err(fault) => return Err(chunk_fault(fault)),
+        };
+        match step {
+            Step::More => Ok(count),
+            Step::Interrupt => Err(StreamFault::NestedInterrupt),
+            Step::Done => {
+                self.inner = PayloadIn::new(self.alloc, self.limits.payload);
+                self.stage = Stage::Payload;
+                Ok(count)
+            }
+        }
+    }
+
+    /// Makes a part of the head and a payload, and waits for the next header.
+    fn finish_part(&mut self, payload: Seq<u8, A>) -> Result<(), StreamFault>
+        requires { self.old.stage ≡ Stage.Payload }
+        ensures ok { OnOk result (Finished self.old self.new payload) }
+        ensures err { IfErr result (λ fault. fault ≡ StreamFault.NoMemory) }
+        ensures ready { OnErr result (ready_of self.new ≡ ready_of self.old) }
+        ensures limits { limits_of self.new ≡ limits_of self.old }
+        ensures stream_left { self.new.stream_left ≡ self.old.stream_left }
+    {
+        let head = mem::replace(&mut self.head, no_head(self.alloc));
+        if self.ready.push_back(make_part(head, payload)).is_err() {
+            return Err(StreamFault::NoMemory);
+        }
+        self.parts_left = self.parts_left.saturating_sub(1);
+        self.block.restart(header_room(self.parts_left));
+        self.stage = Stage::Header;
+        Ok(())
+    }
+}
