@@ -1,0 +1,17 @@
+pub mod Trims
+pub mod Withouts
+pub mod Journals
+pub mod Holding
+pub mod Finding
+pub mod Stepping
+pub mod Opening
+pub mod Worlds
+pub mod Standings
+pub mod Taking
+pub mod Replying
+pub mod Sending
+pub mod Completing
+pub mod Handling
+pub mod Telling
+pub mod Calling
+pub mod Searching

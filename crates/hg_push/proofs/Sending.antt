@@ -1,0 +1,91 @@
+-- A bundle can carry the part that tells why a push was aborted.
+use Rattle.std.proofs.Common.{ℕ, ◌≡◌, ◌≢◌, ◌<◌, List, [], ◌∷◌, ◌++◌, refl, ap, arith, take, length, true, rules, All}
+use Rattle.std.specs.Prelude.{codes, decimal}
+use Rattle.std.proofs.lemmas.List.{length-take}
+use Rattle.std.proofs.lemmas.List.Elements.{All-cons, All-from_recursion}
+use Rattle.hg_types.specs.declared.part.Part.{Part}
+use Rattle.hg_types.specs.declared.item.CutReason.{CutReason}
+use Rattle.hg_types.specs.declared.item.CutReason.TheVariants.{Stream, ReadFailed, GaveUp}
+use Rattle.hg_params.specs.Header.{AreDistinct, is_kind}
+use Rattle.hg_params.specs.Writing.{CanStand, FitsParam}
+use Rattle.hg_stream.specs.Written.{CanBeWritten}
+use Rattle.hg_repo.specs.declared.refusal.Refusal.{Refusal}
+use Rattle.hg_repo.specs.declared.refusal.Refusal.TheVariants.{Unsupported, Raced, BadPart, ClientAbort, NoMemory}
+use Rattle.hg_repo.specs.Refusal.{message_of}
+use Rattle.hg_push.specs.declared.outcome.Reason.{Reason}
+use Rattle.hg_push.specs.declared.outcome.Reason.TheVariants.{Refused, Cut, WrongIndex, NoMemory as without_memory}
+use Rattle.hg_push.specs.Reply.{error_part, telling, unsupported_part, refusal_part, cut_part, reason_part}
+
+short : (value : List ℕ) → length (take 255 value) < 256
+short value = omega (arith, length-take 255 value)
+
+one_key : (key : List ℕ) → AreDistinct (key ∷ [])
+unfolding AreDistinct
+one_key key = (tt, tt)
+
+two_keys : (key other : List ℕ) → key ≢ other → AreDistinct (key ∷ other ∷ [])
+unfolding AreDistinct
+two_keys key other differ = ((differ, tt), (tt, tt))
+
+-- a part with one parameter, whose value was cut
+one_stands : {A : Type 0} (kind key value : List ℕ) → is_kind kind ≡ true → length kind < 256 → length key < 256 → CanBeWritten {A = A} (error_part kind (telling key value ∷ []))
+one_stands kind key value is_one kind_fits key_fits = record {
+  header = record {
+    kind_is = is_one;
+    kind_fits = kind_fits;
+    in_order = refl;
+    mandatory_fit = omega arith;
+    advisory_fit = omega arith;
+    params_fit = All-from_recursion FitsParam (telling key value ∷ []) (record { key = key_fits; value = short value }, tt);
+    distinct = one_key key;
+  };
+  payload = omega arith;
+}
+
+two_stand : {A : Type 0} (kind key value key' value' : List ℕ) → is_kind kind ≡ true → length kind < 256 → length key < 256 → length key' < 256 → key ≢ key' → CanBeWritten {A = A} (error_part kind (telling key value ∷ telling key' value' ∷ []))
+two_stand kind key value key' value' is_one kind_fits key_fits key_fits' differ = record {
+  header = record {
+    kind_is = is_one;
+    kind_fits = kind_fits;
+    in_order = refl;
+    mandatory_fit = omega arith;
+    advisory_fit = omega arith;
+    params_fit = All-from_recursion FitsParam (telling key value ∷ telling key' value' ∷ []) (record { key = key_fits; value = short value }, (record { key = key_fits'; value = short value' }, tt));
+    distinct = two_keys key key' differ;
+  };
+  payload = omega arith;
+}
+
+abort_stands : {A : Type 0} (message : List ℕ) → CanBeWritten {A = A} (error_part (codes "ERROR:ABORT") (telling (codes "message") message ∷ []))
+abort_stands message = one_stands _ _ message refl (omega arith) (omega arith)
+
+race_stands : {A : Type 0} (message : List ℕ) → CanBeWritten {A = A} (error_part (codes "ERROR:PUSHRACED") (telling (codes "message") message ∷ []))
+race_stands message = one_stands _ _ message refl (omega arith) (omega arith)
+
+unlike : codes "parttype" ≢ codes "params"
+unlike e = let n : 8 ≡ 6 = ap length e in omega (arith, n)
+
+unsupported_stands : {A : Type 0} (kind : List ℕ) (names : List (List ℕ)) → CanBeWritten {A = A} (unsupported_part kind names)
+unsupported_stands kind [] = one_stands _ _ kind refl (omega arith) (omega arith)
+unsupported_stands kind (name ∷ names) = two_stand _ _ kind _ _ refl (omega arith) (omega arith) (omega arith) unlike
+
+refusal_stands : {A : Type 0} (refusal : Refusal A) → CanBeWritten (refusal_part refusal)
+refusal_stands (Unsupported place kind params) = unsupported_stands kind params
+refusal_stands (Raced place text) = race_stands (message_of text)
+refusal_stands (BadPart place) = abort_stands (codes "part " ++ decimal place ++ codes " is malformed")
+refusal_stands (ClientAbort place) = abort_stands (codes "client aborted")
+refusal_stands NoMemory = abort_stands (codes "out of memory")
+
+cut_stands : {A : Type 0} (reason : CutReason) → CanBeWritten {A = A} (cut_part reason)
+cut_stands (Stream fault) = abort_stands (codes "stream fault " ++ decimal fault)
+cut_stands ReadFailed = abort_stands (codes "connection lost")
+cut_stands GaveUp = abort_stands (codes "push dropped")
+
+pub reason_stands : {A : Type 0} (reason : Reason (Refusal A)) → CanBeWritten (reason_part reason)
+reason_stands (Refused refusal) = refusal_stands refusal
+reason_stands (Cut reason) = cut_stands reason
+reason_stands WrongIndex = abort_stands (codes "bad end mark")
+reason_stands without_memory = abort_stands (codes "out of memory")
+
+pub reason_sent : {A : Type 0} (reason : Reason (Refusal A)) → All CanBeWritten (reason_part reason ∷ [])
+reason_sent reason = All-cons CanBeWritten (reason_part reason) [] (reason_stands reason) (λ k d within. absurd (omega arith))

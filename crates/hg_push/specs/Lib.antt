@@ -1,0 +1,9 @@
+pub mod History
+pub mod Run
+pub mod Changed
+pub mod Rows
+pub mod Book
+pub mod World
+pub mod Calls
+pub mod Reply
+pub mod Complete

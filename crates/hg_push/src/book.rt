@@ -1,0 +1,208 @@
+//! The book: openings, steps and replies.
+
+ghost use Rattle.std.specs.Prelude.{◌≡◌, ◌≢◌, ◌<◌, ◌+◌, ◌≤◌, ◌^◌, ◌==◌, ◌++◌, ◌∷◌, ◌↔◌, List, ℕ, [], length, true, false, IsTrue, IsNone, IfNone, IfSome, IsSome, IfOk, OnOk, OnErr, IsErrOf, ◌-◌, Some, None, if◌then◌else◌};
+ghost use Rattle.hg_push.specs.History.{Place, History, serial, outcome};
+ghost use Rattle.hg_push.specs.Book.{Holds, IsSameOpenings, is_opened, stepped, Opens};
+ghost use Rattle.hg_push.specs.Rows.{IsShut, reply_in, row_of, rows_without, standing_of};
+ghost use Rattle.hg_push.specs.Reply.{CanBeTold};
+ghost use Rattle.hg_push.specs.Run.{RepositoryOf, run_push};
+
+use crate::outcome::{Outcome, Standing};
+use crate::row::{Row, State};
+use crate::step::{
+    closed_place, has_push, open_place, outcome_of, place_of, row_standing, step_row,
+};
+use hg_repo::{Done, Refusal, Repo};
+use hg_types::{Item, Seq};
+use std::alloc::{Allocator, Global};
+use std::marker::Model;
+use thiserror::Error;
+
+/// Why a push is not opened. Of several, the lower number is told.
+#[derive(Clone, Copy, Debug, PartialEq, Eq, Error)]
+pub enum OpenFault {
+    /// 1: as many pushes have a row as the limit `rows` allows.
+    #[error("too many pushes are open")]
+    TooManyOpen = 1,
+    /// 2: the next number would be 4,294,967,295.
+    #[error("the push numbers are exhausted")]
+    Exhausted,
+    /// 3: a growth was refused.
+    #[error("out of memory")]
+    NoMemory,
+}
+
+/// A repository, and the pushes on it whose outcome was not handed out: a row for each, in the order of their
+/// numbers. A push that is open has its parts there, one that is closed its outcome.
+#[derive(Drop)]
+pub struct Book<A: Allocator = Global> {
+    repo: Repo<A>,
+    journal: Vec<u32, A>,
+    rows: Vec<Row<Done<A>, Refusal<A>, A>, A>,
+    first_push: u32,
+    next: u32,
+    limit: u32,
+}
+
+impl<A: Allocator> Model for Book<A> {
+    ghost use Rattle.std.specs.Prelude.{◌+◌, ◌≤◌, ℕ, List, vec_len, vec_capacity};
+    ghost use Rattle.std.specs.List.{count_by};
+    ghost use Rattle.hg_repo.specs.declared.done.Done.{Done as DoneValue};
+    ghost use Rattle.hg_repo.specs.declared.refusal.Refusal.{Refusal as RefusalValue};
+    ghost use Rattle.hg_push.specs.Run.{RepositoryOf};
+    ghost use Rattle.hg_push.specs.Book.{Book as BookValue, AreRows, is_between};
+    ghost use Rattle.hg_push.specs.Rows.{is_open};
+
+    ghost Value = { BookValue A (RepositoryOf A) (DoneValue A) (RefusalValue A) };
+
+    ghost view = { λ b. record {
+      repo = b.repo;
+      journal = b.journal.items;
+      first_push = b.first_push;
+      next = b.next;
+      limit = b.limit;
+      rows = b.rows.items;
+    } };
+
+    ghost invariant = { λ b. AreRows (is_between b.first_push b.next) b.rows.items
+        × (b.first_push ≤ b.next)
+        × (vec_len b.journal + count_by (λ r. is_open r.state) b.rows.items ≤ vec_capacity b.journal) };
+}
+
+impl<A: Allocator + Copy> Book<A> {
+    /// A book over that repository, in which no push is opened. The numbers of its pushes begin at the
+    /// `first_push` of the repository's settings, and at most `rows` of its limits have a row at once.
+    /// It takes no memory.
+    pub fn new(alloc: A, repo: Repo<A>) -> Self
+        ensures repo { result.repo ≡ repo }
+        ensures journal { result.journal ≡ [] }
+        ensures numbers { (result.first_push ≡ repo.settings.first_push) × (result.next ≡ repo.settings.first_push) }
+        ensures limit { result.limit ≡ repo.settings.limits.rows }
+        ensures rows { result.rows ≡ [] }
+        ensures holds { Holds run_push repo [] result }
+    {
+        let first_push = repo.settings().first_push;
+        let limit = repo.settings().limits.rows;
+        Book {
+            repo,
+            journal: Vec::new(alloc),
+            rows: Vec::new(alloc),
+            first_push,
+            next: first_push,
+            limit,
+        }
+    }
+
+    /// What is known of the number, also after its reply was taken. It takes no memory.
+    pub fn standing(&self, push: u32) -> Standing
+        ensures unknown { is_opened self.now push ≡ false → result ≡ Standing.Unknown }
+        ensures opened { (first : RepositoryOf A) (h : History A) → Holds run_push first h self.now → is_opened self.now push ≡ true →
+            result ≡ standing_of (outcome run_push first push h) }
+    {
+        if push < self.first_push || push >= self.next {
+            return Standing::Unknown;
+        }
+        match place_of(self.rows.as_slice(), push) {
+            Some(at) => row_standing(&self.rows[at]),
+            None => {
+                if has_push(self.journal.as_slice(), push) {
+                    Standing::Done
+                } else {
+                    Standing::Aborted
+                }
+            }
+        }
+    }
+
+    /// Opens the next push: gives its number, and makes its row and its place in the journal, so that no later
+    /// step needs memory to close it. An `Err` changes nothing that contracts see.
+    pub fn open(&mut self) -> Result<u32, OpenFault>
+        ensures ok { IfOk result (λ p. Opens self.old p self.new) }
+        ensures err { OnErr result (self.new ≡ self.old) }
+        ensures too_many { IsErrOf result OpenFault.TooManyOpen ↔ (self.old.limit ≤ length self.old.rows) }
+        ensures exhausted { IsErrOf result OpenFault.Exhausted ↔ ((length self.old.rows < self.old.limit) × (self.old.next ≡ 2 ^ 32 - 1)) }
+        ensures holds { (first : RepositoryOf A) (h : History A) → Holds run_push first h self.old → Holds run_push first h self.new }
+    {
+        if self.rows.len() >= self.limit as usize {
+            return Err(OpenFault::TooManyOpen);
+        }
+        if self.next == u32::MAX {
+            return Err(OpenFault::Exhausted);
+        }
+        let alloc = *self.journal.allocator();
+        let places = self.rows.len() + 1;
+        if let Err(_) = self.journal.reserve(places) {
+            return Err(OpenFault::NoMemory);
+        }
+        let push = self.next;
+        let row = Row {
+            push,
+            state: State::Open(Seq::new(alloc)),
+        };
+        if let Err(_) = self.rows.push(row) {
+            return Err(OpenFault::NoMemory);
+        }
+        self.next += 1;
+        Ok(push)
+    }
+
+    /// Takes an item, and says whether memory was refused for it.
+    ///
+    /// An item of a push that was never opened, or that is closed, is dropped. A part is staged, a cut
+    /// aborts its push, and so does an end mark whose index is not the number of staged parts. Any other
+    /// end mark runs the staged parts on the repository: the push is done, and its number joins the
+    /// journal, or it is aborted. Where memory is refused while a part is staged or the parts are run,
+    /// the push is aborted. A push that is aborted leaves repository and journal as they were.
+    pub fn step(&mut self, item: Item<A>) -> bool
+        ensures opened { result ≡ true → is_opened self.old item.push ≡ true }
+        ensures dropped { IsShut item.push self.old.rows → (result ≡ false) × (self.new ≡ self.old) }
+        ensures pushes { IsSameOpenings self.old self.new }
+        ensures holds { (first : RepositoryOf A) (h : History A) → Holds run_push first h self.old →
+            Holds run_push first (stepped self.old item result h) self.new }
+    {
+        let Item { push, index, what } = item;
+        let Some(at) = open_place(self.rows.as_slice(), push) else {
+            return false;
+        };
+        let row = &mut self.rows[at];
+        step_row(&mut self.repo, &mut self.journal, row, index, what)
+    }
+
+    /// Hands out how a closed push ended, and takes its row away. None, with nothing changed, where the push has no row or is open.
+    pub fn take_reply(&mut self, push: u32) -> Option<Outcome<Done<A>, Refusal<A>>>
+        ensures reply { result ≡ reply_in (row_of push self.old.rows) }
+        ensures none { IfNone result (self.new ≡ self.old) }
+        ensures some { IfSome result (λ _. self.new ≡ record self.old { rows = rows_without push self.old.rows }) }
+        ensures answer { (first : RepositoryOf A) (h : History A) → Holds run_push first h self.old → IsSome (row_of push self.old.rows) →
+            result ≡ outcome run_push first push h }
+        ensures told { (first : RepositoryOf A) (h : History A) → Holds run_push first h self.old → IfSome result CanBeTold }
+        ensures holds { (first : RepositoryOf A) (h : History A) → Holds run_push first h self.old → Holds run_push first h self.new }
+    {
+        let at = closed_place(self.rows.as_slice(), push)?;
+        let row = self.rows.remove(at);
+        Some(outcome_of(row))
+    }
+
+    /// The numbers of the done pushes, in the order in which they were done.
+    pub fn journal(&self) -> &[u32]
+        ensures { result.now ≡ self.now.journal }
+    {
+        self.journal.as_slice()
+    }
+
+    /// The repository that the done pushes gave.
+    pub fn repo(&self) -> &Repo<A>
+        ensures { result.now ≡ self.now.repo }
+    {
+        &self.repo
+    }
+
+    /// The repository and the journal.
+    pub fn into_parts(self) -> (Repo<A>, Vec<u32, A>)
+        ensures repo { result.0 ≡ self.repo }
+        ensures journal { result.1.items ≡ self.journal }
+    {
+        let Book { repo, journal, .. } = self;
+        (repo, journal)
+    }
+}

@@ -1,0 +1,192 @@
+//! One step: what an item does to the row of its push, to the repository and to the journal.
+
+ghost use Rattle.std.specs.Prelude.{◌≡◌, ◌≢◌, ◌<◌, ◌+◌, ◌≤◌, ◌^◌, ◌==◌, ◌++◌, ◌∷◌, [], length, true, position, IfNone, IfSome, IsTrue, IsNone, None, Some, cond, vec_len, vec_capacity};
+ghost use Rattle.std.specs.Bool.{OnTrue, OnFalse};
+ghost use Rattle.std.specs.List.{list_any};
+ghost use Rattle.std.specs.Prelude.{if◌then◌else◌, false};
+ghost use Rattle.hg_push.specs.Rows.{AreInOrder, EndsAs, IsClosedAt, IsOpenAt, IsShut, StepsRow, is_open, reply_in, row_of, staged_in, standing_in};
+ghost use Rattle.hg_push.specs.Run.{run_push};
+
+use crate::outcome::{Outcome, Reason, Standing};
+use crate::row::{Row, State};
+use hg_repo::{Done, Refusal, Repo, Source};
+use hg_types::{Part, What};
+use std::alloc::Allocator;
+
+/// The place of the push's row, among rows in the order of their numbers.
+pub fn place_of<D, E, A: Allocator>(rows: &[Row<D, E, A>], push: u32) -> Option<usize>
+    requires { AreInOrder rows.now }
+    ensures { result ≡ position (λ r. r.push == push) rows.now }
+{
+    rows.binary_search_by_key(&push, |row| row.push).ok()
+}
+
+/// Whether the journal has the push.
+pub fn has_push(journal: &[u32], push: u32) -> bool
+    ensures { result ≡ list_any (λ p. p == push) journal.now }
+{
+    journal.iter().any(|p| *p == push)
+}
+
+/// Whether the row's push is open.
+pub fn is_open_row<D, E, A: Allocator>(row: &Row<D, E, A>) -> bool
+    ensures { result ≡ is_open row.now.state }
+{
+    match &row.state {
+        State::Open(_) => true,
+        State::Closed(_) => false,
+    }
+}
+
+/// The standing that the row tells.
+pub fn row_standing<D, E, A: Allocator>(row: &Row<D, E, A>) -> Standing
+    ensures { result ≡ standing_in row.now.state }
+{
+    match &row.state {
+        State::Open(_) => Standing::Open,
+        State::Closed(Outcome::Done(_)) => Standing::Done,
+        State::Closed(Outcome::Aborted(_)) => Standing::Aborted,
+    }
+}
+
+/// The place of the push's row, if the push is open.
+pub fn open_place<D, E, A: Allocator>(rows: &[Row<D, E, A>], push: u32) -> Option<usize>
+    requires { AreInOrder rows.now }
+    ensures none { IfNone result (IsShut push rows.now) }
+    ensures some { IfSome result (λ at. (at < length rows.now) × IsOpenAt push rows.now at) }
+{
+    let at = place_of(rows, push)?;
+    let row = &rows[at];
+    if is_open_row(row) {
+        return Some(at);
+    }
+    None
+}
+
+/// The place of the push's row, if the push is closed.
+pub fn closed_place<D, E, A: Allocator>(rows: &[Row<D, E, A>], push: u32) -> Option<usize>
+    requires { AreInOrder rows.now }
+    ensures none { IfNone result (reply_in (row_of push rows.now) ≡ None) }
+    ensures some { IfSome result (λ at. (at < length rows.now) × IsClosedAt push rows.now at) }
+{
+    let at = place_of(rows, push)?;
+    let row = &rows[at];
+    if is_open_row(row) {
+        return None;
+    }
+    Some(at)
+}
+
+/// How the row's push ended, where it is closed.
+pub fn outcome_of<D, E, A: Allocator>(row: Row<D, E, A>) -> Outcome<D, E>
+    requires { is_open row.state ≡ false }
+    ensures { row.state ≡ State.Closed result }
+{
+    match row.state {
+        State::Closed(outcome) => outcome,
+        State::Open(_) => unreachable!(),
+    }
+}
+
+/// Runs the parts at an end mark with this index.
+pub fn end<A: Allocator + Copy>(
+    repo: &mut Repo<A>,
+    staged: &[Part<A>],
+    index: u32,
+) -> Result<Done<A>, Reason<Refusal<A>>>
+    ensures { EndsAs run_push repo.old staged.now index result repo.new }
+{
+    if index as usize != staged.len() {
+        return Err(Reason::WrongIndex);
+    }
+    match repo.run(Source::Push, staged) {
+        Ok(done) => Ok(done),
+        Err(Refusal::NoMemory) => Err(Reason::NoMemory),
+        Err(refusal) => Err(Reason::Refused(refusal)),
+    }
+}
+
+/// Closes the row's push, which ended so.
+fn close<D: Drop, E: Drop, A: Allocator>(row: &mut Row<D, E, A>, outcome: Outcome<D, E>)
+    ensures push { row.new.push ≡ row.old.push }
+    ensures state { row.new.state ≡ State.Closed outcome }
+{
+    row.state = State::Closed(outcome);
+}
+
+/// Adds a part to an open push, or aborts the push where memory is refused.
+fn stage<A: Allocator + Copy>(row: &mut Row<Done<A>, Refusal<A>, A>, part: Part<A>) -> bool
+    requires { is_open row.old.state ≡ true }
+    ensures push { row.new.push ≡ row.old.push }
+    ensures ok { OnFalse result (row.new.state ≡ State.Open (staged_in row.old.state ++ part ∷ [])) }
+    ensures err { OnTrue result (row.new.state ≡ State.Closed (Outcome.Aborted Reason.NoMemory)) }
+{
+    let refused = match &mut row.state {
+        State::Open(staged) => staged.push(part).is_err(),
+        State::Closed(_) => unreachable!(),
+    };
+    if refused {
+        close(row, Outcome::Aborted(Reason::NoMemory));
+    }
+    refused
+}
+
+/// Ends an open push at an end mark.
+fn finish<A: Allocator + Copy>(
+    repo: &mut Repo<A>,
+    journal: &mut Vec<u32, A>,
+    row: &mut Row<Done<A>, Refusal<A>, A>,
+    index: u32,
+) -> bool
+    requires is_open { is_open row.old.state ≡ true }
+    requires room { vec_len journal.old < vec_capacity journal.old }
+    ensures steps { StepsRow run_push (record { repo = repo.old; journal = journal.old.items }) row.old
+        (record { item = record { push = row.old.push; index = index; what = What.End }; refused = result })
+        (record { repo = repo.new; journal = journal.new.items }) row.new }
+    ensures closed { is_open row.new.state ≡ false }
+    ensures room { vec_len journal.new ≤ vec_len journal.old + 1 }
+    ensures capacity { vec_capacity journal.new ≡ vec_capacity journal.old }
+{
+    let ended = match &row.state {
+        State::Open(staged) => end(repo, staged.as_slice(), index),
+        State::Closed(_) => unreachable!(),
+    };
+    match ended {
+        Ok(done) => {
+            journal.push_reserved(row.push);
+            close(row, Outcome::Done(done));
+            false
+        }
+        Err(reason) => {
+            let refused = matches!(&reason, Reason::NoMemory);
+            close(row, Outcome::Aborted(reason));
+            refused
+        }
+    }
+}
+
+/// Takes an item of an open push, and says whether memory was refused.
+pub fn step_row<A: Allocator + Copy>(
+    repo: &mut Repo<A>,
+    journal: &mut Vec<u32, A>,
+    row: &mut Row<Done<A>, Refusal<A>, A>,
+    index: u32,
+    what: What<A>,
+) -> bool
+    requires is_open { is_open row.old.state ≡ true }
+    requires room { vec_len journal.old < vec_capacity journal.old }
+    ensures steps { StepsRow run_push (record { repo = repo.old; journal = journal.old.items }) row.old
+        (record { item = record { push = row.old.push; index = index; what = what }; refused = result })
+        (record { repo = repo.new; journal = journal.new.items }) row.new }
+    ensures room { vec_len journal.new + (if is_open row.new.state then 1 else 0) ≤ vec_len journal.old + 1 }
+    ensures capacity { vec_capacity journal.new ≡ vec_capacity journal.old }
+{
+    match what {
+        What::Part(part) => stage(row, part),
+        What::Cut(reason) => {
+            close(row, Outcome::Aborted(Reason::Cut(reason)));
+            false
+        }
+        What::End => finish(repo, journal, row, index),
+    }
+}
