@@ -1,0 +1,56 @@
+-- One bundle, from the opening of its push to the status.
+use Rattle.std.proofs.Common.{ℕ, Bool, ◌≡◌, ◌≤◌, ◌<◌, ◌^◌, List, [], ◌∷◌, refl, sym, ◌∙◌, ap, subst, arith, length, Option, Some, None}
+use Rattle.std.specs.Io.KnownBytes.{Appends}
+use Rattle.hg_types.specs.declared.part.Part.{Part}
+use Rattle.hg_types.specs.declared.item.What.{What}
+use Rattle.hg_types.specs.Limits.{IsAllowed, standard_limits}
+use Rattle.hg_repo.specs.declared.done.Done.{Done}
+use Rattle.hg_repo.specs.declared.refusal.Refusal.{Refusal}
+use Rattle.hg_push.specs.declared.outcome.Outcome.{Outcome}
+use Rattle.hg_push.specs.Book.{Holds, Opens}
+use Rattle.hg_push.specs.History.{History}
+use Rattle.hg_push.specs.Reply.{reply_of}
+use Rattle.hg_push.specs.Run.{RepositoryOf, run_push}
+use Rattle.hg_pushd.specs.declared.ending.Ending.{Ending}
+use Rattle.hg_pushd.specs.declared.send.Sending.{Sending}
+use Rattle.hg_pushd.specs.Receiving.{Received, items_of, mark_of, state_at}
+use Rattle.hg_pushd.specs.Taking.{BookOf, Ends, HasTaken}
+use Rattle.hg_pushd.specs.Answering.{Answered, Sends, empty_repository, status_of}
+use Rattle.hg_pushd.proofs.Few.{few}
+use Rattle.hg_pushd.proofs.Items.{begins}
+
+pub allowed : IsAllowed standard_limits
+allowed = record {
+  params = (omega arith, omega arith);
+  payload = (omega arith, omega arith);
+  stream = (omega arith, omega arith);
+  parts = (omega arith, omega arith);
+  text = (omega arith, omega arith);
+  rows = (omega arith, omega arith);
+  revisions = (omega arith, omega arith);
+}
+
+pub few_received : {A : Type 0} (input left : Option (List ℕ)) (ending : Ending) (parts : List (Part A)) → Received standard_limits input left ending parts → length parts < 2 ^ 32
+few_received input left ending parts r = omega (arith, few (state_at ending) standard_limits r.consumed parts r.tells)
+
+-- the first push of an empty book has the number 0
+pub opened : {A : Type 0} (publishing : Bool) (repo : RepositoryOf A) (b new : BookOf A) (push : ℕ) → repo ≡ empty_repository publishing → (b.first_push ≡ repo.settings.first_push) × (b.next ≡ repo.settings.first_push) → b.rows ≡ []
+    → Holds run_push repo [] b → Opens b push new → ((first : RepositoryOf A) (h : History A) → Holds run_push first h b → Holds run_push first h new) → (push ≡ 0) × HasTaken {A = A} (empty_repository publishing) push new []
+opened {A} publishing repo b new push is numbers rows holds opens still = (
+  opens.0 ∙ numbers.1 ∙ ap (λ r. r.settings.first_push) is,
+  subst (λ (r : RepositoryOf A). HasTaken {A = A} r push new []) is (begins repo push b new (numbers.1 ∙ sym numbers.0) rows opens (still repo [] holds)),
+)
+
+pub answers : {A : Type 0} (publishing : Bool) (input left before after : Option (List ℕ)) (status push : ℕ) (ending : Ending) (parts : List (Part A)) (how : Outcome (Done A) (Refusal A)) (sending : Sending) → push ≡ 0
+    → Received standard_limits input left ending parts → Ends {A = A} (empty_repository publishing) push (items_of push parts (mark_of ending)) how → Sends sending before after (reply_of how) → status ≡ status_of ending how sending
+    → Answered A publishing input left before after status
+answers {A} publishing input left before after status push ending parts how sending zeroth received ends sent is = record {
+  ending = ending;
+  parts = parts;
+  received = received;
+  how = how;
+  ends = subst (λ (p : ℕ). Ends {A = A} (empty_repository publishing) p (items_of p parts (mark_of ending)) how) zeroth ends;
+  sending = sending;
+  sent = sent;
+  status_is = is;
+}

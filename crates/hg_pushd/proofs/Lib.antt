@@ -1,0 +1,5 @@
+pub mod Few
+pub mod Reading
+pub mod Items
+pub mod Sending
+pub mod Answered

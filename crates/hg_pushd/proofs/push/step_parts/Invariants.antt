@@ -1,0 +1,14 @@
+use Rattle.std.proofs.Common.{◌≡◌, ◌++◌, List, [], length, ℕ}
+use Rattle.hg_types.specs.declared.part.Part.{Part}
+use Rattle.hg_push.specs.Run.{RepositoryOf}
+use Rattle.hg_stream.specs.Unbundler.{ready_of}
+use Rattle.hg_pushd.specs.Receiving.{part_items}
+use Rattle.hg_pushd.specs.Taking.{HasTaken}
+use Rattle.hg_pushd.proofs.Items.{HasStepped}
+use Rattle.hg_pushd.proofs.push.step_parts.Given as goal
+
+abbrev pub invariant-loop-part : goal.invariant-loop-part
+invariant-loop-part g l = HasStepped l.fn.book l.book l.push l.index (ready_of l.bundle) (ready_of l.fn.bundle)
+
+abbrev pub decreases-loop-part : goal.decreases-loop-part
+decreases-loop-part g l = length (ready_of l.bundle)
