@@ -1,0 +1,88 @@
+-- What each kind of step makes of the view of the seat that takes it.
+use Rattle.std.specs.Prelude.{◌≡◌, ℕ, ◌+◌, Bool, List, [], ◌∷◌, ◌++◌, Option, Some, None}
+use Rattle.hg_types.specs.declared.item.Item.{Item}
+use Rattle.hg_queue.specs.declared.view.Taken.{Taken}
+use Rattle.hg_queue.specs.declared.view.Claim.{Claim}
+use Rattle.hg_queue.specs.declared.view.TakerView.{TakerView}
+use Rattle.hg_queue.specs.declared.view.PutterView.{PutterView}
+use Rattle.hg_queue.specs.declared.view.View.{View}
+use Rattle.hg_queue.specs.declared.view.View.TheVariants.{AsTaker, AsPutter, AsMarked, AsVisitor, Spent}
+
+module _ {A : Type 0} where
+  -- The Taker of a new queue of that capacity. A queue is made with none, and the first step sets it.
+  abbrev pub fresh : ℕ → TakerView A
+  fresh n = record { capacity = n; settled = []; last = None; empties = 0; noted = []; joined = []; awaited = None; heard = [] }
+
+  abbrev pub unsized : View A
+  unsized = AsTaker (fresh 0)
+
+  abbrev pub sized : ℕ → View A → View A
+  sized n v = AsTaker (fresh n)
+
+  -- the Putter of the push n that put nothing
+  abbrev pub putter : ℕ → ℕ → PutterView A
+  putter capacity n = record { capacity = capacity; push = n; put = []; fulls = 0 }
+
+  -- the Taker notes the push n, and the new seat is its Putter
+  abbrev pub noted : ℕ → View A → View A
+  noted n (AsTaker t) = AsTaker (record t { noted = n ∷ t.noted })
+  noted n v = v
+
+  abbrev pub opened : ℕ → View A → View A
+  opened n (AsTaker t) = AsPutter (putter t.capacity n)
+  opened n v = Spent
+
+  -- the Putter put a part
+  abbrev pub put_by : View A → Item A → View A
+  put_by (AsPutter v) x = AsPutter (record v { put = v.put ++ x ∷ [] })
+  put_by v x = v
+
+  -- the Putter put its mark at that place, and is a Marked
+  abbrev pub claim : PutterView A → Item A → ℕ → Claim A
+  claim v x place = record { push = v.push; put = v.put ++ x ∷ []; place = place }
+
+  abbrev pub Marks : View A → Item A → View A → Type 0
+  Marks (AsPutter v) x w = (place : ℕ) × (w ≡ AsMarked (claim v x place))
+  Marks v x w = ⊥
+
+  -- the Putter found the queue full
+  abbrev pub counted_full : View A → View A
+  counted_full (AsPutter v) = AsPutter (record v { fulls = v.fulls + 1 })
+  counted_full v = v
+
+  -- what the item taken last adds to the settled history, once its refusal is known
+  abbrev pub settle : Option (Item A) → Bool → List (Taken A)
+  settle None refused = []
+  settle (Some x) refused = record { item = x; refused = refused } ∷ []
+
+  abbrev pub settled_view : Bool → TakerView A → TakerView A
+  settled_view refused t = record t { settled = t.settled ++ settle t.last refused; last = None }
+
+  -- the Taker took an item, and settled the one before
+  abbrev pub took : Bool → View A → Item A → View A
+  took refused (AsTaker t) x = AsTaker (record (settled_view refused t) { last = Some x })
+  took refused v x = v
+
+  -- the Taker found the queue empty, and settled the item taken last
+  abbrev pub counted_empty : Bool → View A → View A
+  counted_empty refused (AsTaker t) = AsTaker (record (settled_view refused t) { empties = t.empties + 1 })
+  counted_empty refused v = v
+
+  -- the Taker settled the item taken last, and the new seat has seen its whole history
+  abbrev pub settled : Bool → View A → View A
+  settled refused (AsTaker t) = AsTaker (settled_view refused t)
+  settled refused v = v
+
+  abbrev pub history_note : Bool → View A → View A
+  history_note refused (AsTaker t) = AsVisitor (settled_view refused t).settled
+  history_note refused v = Spent
+
+  -- the Taker took in a Marked
+  abbrev pub joined : View A → View A → View A
+  joined (AsTaker t) (AsMarked c) = AsTaker (record t { joined = c.push ∷ t.joined; awaited = Some c })
+  joined v w = v
+
+  -- the Taker heard what a Visitor has seen
+  abbrev pub heard : View A → View A → View A
+  heard (AsTaker t) (AsVisitor h) = AsTaker (record t { heard = h })
+  heard v w = v
