@@ -1,0 +1,44 @@
+//! Why a delta gives no text.
+
+ghost use Rattle.std.specs.Prelude.{◌≡◌};
+ghost use Rattle.hg_delta.specs.declared.fault.DeltaFault.TheVariants.{NoMemory};
+
+use std::alloc::{AllocError, AllocFailed};
+use thiserror::Error;
+
+/// Why a delta gives no text: the fault of the first hunk that has one. Within a hunk the faults are looked
+/// for in this order: a header that is short, `Backwards`, `PastEnd`, a content that is short.
+#[derive(Clone, Copy, Debug, PartialEq, Eq, Error)]
+pub enum DeltaFault {
+    /// 1: the bytes end inside a hunk.
+    #[error("the delta ends inside a hunk")]
+    Short,
+    /// 2: a hunk begins before the end of the one before it, or ends before its own start.
+    #[error("a hunk of the delta goes backwards")]
+    Backwards,
+    /// 3: a hunk ends behind the end of the base.
+    #[error("a hunk of the delta goes past the end of the base")]
+    PastEnd,
+    /// 4: every hunk is well formed, and the text is longer than allowed.
+    #[error("the text is too long")]
+    TooLong,
+    /// 5: memory for the text was refused.
+    #[error("out of memory")]
+    NoMemory,
+}
+
+impl From<AllocError> for DeltaFault {
+    ghost from_gives = { λ _ e. e ≡ NoMemory };
+
+    fn from(_e: AllocError) -> Self {
+        DeltaFault::NoMemory
+    }
+}
+
+impl<T: Drop> From<AllocFailed<T>> for DeltaFault {
+    ghost from_gives = { λ _ e. e ≡ NoMemory };
+
+    fn from(_e: AllocFailed<T>) -> Self {
+        DeltaFault::NoMemory
+    }
+}

@@ -1,0 +1,83 @@
+//! The text that a delta makes of a base.
+
+ghost use Rattle.std.specs.Prelude.{ℕ, ◌≡◌, ◌≢◌, ◌≤◌, List, [], ◌++◌, length, IfOk, IfErr, IsErrOf, OnOk, Result};
+ghost use Rattle.hg_delta.specs.declared.fault.DeltaFault.{DeltaFault};
+ghost use Rattle.hg_delta.specs.Delta.{Applies};
+ghost use Rattle.hg_delta.specs.Faults.{BreaksAt, GivesTooMuch, IsOutcome};
+
+use crate::fault::DeltaFault;
+use crate::hunk::read_hunk;
+use std::alloc::Allocator;
+
+/// How long the text is.
+fn text_length(base: &[u8], delta: &[u8]) -> Result<usize, DeltaFault>
+    ensures length { IfOk result (λ n. (text : List ℕ) × Applies base.now delta.now text × (n ≡ length text)) }
+    ensures fault { IfErr result (λ fault. BreaksAt fault base.now delta.now) }
+{
+    let mut length = 0;
+    let mut end = 0;
+    let mut rest = delta;
+    while !rest.is_empty() {
+        let (hunk, after) = read_hunk(base.len(), end, rest)?;
+        length += hunk.start - end + hunk.content.len();
+        end = hunk.end;
+        rest = after;
+    }
+    Ok(length + (base.len() - end))
+}
+
+/// Appends the text.
+fn write_text<A: Allocator + Copy>(
+    text: &mut Vec<u8, A>,
+    base: &[u8],
+    delta: &[u8],
+) -> Result<(), DeltaFault>
+    requires { text.old.items ≡ [] }
+    ensures ok { OnOk result (Applies base.now delta.now text.new.items) }
+    ensures fault { IfErr result (λ fault. fault ≢ DeltaFault.NoMemory → BreaksAt fault base.now delta.now) }
+{
+    let mut end = 0;
+    let mut rest = delta;
+    while !rest.is_empty() {
+        let (hunk, after) = read_hunk(base.len(), end, rest)?;
+        text.extend_from_slice(&base[end..hunk.start])?;
+        text.extend_from_slice(hunk.content)?;
+        end = hunk.end;
+        rest = after;
+    }
+    text.extend_from_slice(&base[end..])?;
+    Ok(())
+}
+
+/// The text that the delta makes of the base: the kept pieces of the base and the contents of the hunks, in
+/// order. The text may have up to `max` bytes.
+///
+/// The first faulty hunk decides a fault; within it, of several, the one that comes first of: a header that is short,
+/// `Backwards`, `PastEnd`, a content that is short. `TooLong` is answered only where every hunk is well formed, and
+/// no memory is asked for before that is known.
+pub fn apply<A: Allocator + Copy>(
+    alloc: A,
+    base: &[u8],
+    delta: &[u8],
+    max: u32,
+) -> Result<Vec<u8, A>, DeltaFault>
+    ensures text { IfOk result (λ text. Applies base.now delta.now text.items) }
+    ensures fits { IfOk result (λ text. length text.items ≤ max) }
+    ensures short { IsErrOf result DeltaFault.Short → BreaksAt DeltaFault.Short base.now delta.now }
+    ensures backwards { IsErrOf result DeltaFault.Backwards → BreaksAt DeltaFault.Backwards base.now delta.now }
+    ensures past_end { IsErrOf result DeltaFault.PastEnd → BreaksAt DeltaFault.PastEnd base.now delta.now }
+    ensures too_long { IsErrOf result DeltaFault.TooLong → GivesTooMuch base.now delta.now max }
+{
+    let length = text_length(base, delta)?;
+    if length > max as usize {
+        return Err(DeltaFault::TooLong);
+    }
+    let mut text = Vec::with_capacity(alloc, length)?;
+    write_text(&mut text, base, delta)?;
+    Ok(text)
+}
+
+/// A delta gives one text of a base, or has one fault: whatever is an outcome of it by the definitions is the same.
+pub fn one_outcome()
+    ensures { (base delta : List ℕ) (most : ℕ) (a b : Result (List ℕ) DeltaFault) → IsOutcome base delta most a → IsOutcome base delta most b → a ≡ b }
+{}
