@@ -1,0 +1,6 @@
+pub mod Lengths
+pub mod Fronts
+pub mod Entries
+pub mod OneChunk
+pub mod OneReading
+pub mod OneGroup

@@ -1,0 +1,5 @@
+pub mod Chunk
+pub mod Changeset
+pub mod Group
+pub mod Faults
+pub mod Read

@@ -1,0 +1,80 @@
+//! Changesets: a delta header, and delta data.
+
+ghost use Rattle.std.specs.Prelude.{◌≡◌, ◌≢◌, ◌≤◌, ◌<◌, ◌+◌, ◌++◌, List, ℕ, Option, length, map, IfOk, IfErr, unwrap_or};
+ghost use Rattle.hg_types.specs.declared.node.Node.{Node};
+ghost use Rattle.hg_cgroup.specs.Chunk.{IsContent, empty_chunk, IsChunkFault};
+ghost use Rattle.hg_cgroup.specs.Changeset.{Changeset, AreChangesets, IsSpelled, entries_of, header_size};
+
+use crate::chunk::{Chunk, read_chunk};
+use crate::fault::GroupFault;
+use crate::version::Version;
+use hg_types::{Entry, Node, Seq};
+use std::alloc::Allocator;
+
+/// The bytes of an id.
+const ID: usize = 20;
+
+/// The id that the first twenty bytes are, and the bytes behind it.
+fn split_id(bytes: &[u8]) -> (Node, &[u8])
+    requires { 20 ≤ length bytes.now }
+    ensures id { bytes.now ≡ result.0.0 ++ result.1.now }
+    ensures size { length result.0.0 ≡ 20 }
+    ensures length { length bytes.now ≡ 20 + length result.1.now }
+{
+    let (id, rest) = bytes.split_first_chunk::<ID>().unwrap();
+    (Node(*id), rest)
+}
+
+/// The entry of a changeset. `before` is the node of the one before it, which is the base in version 01.
+fn read_entry<A: Allocator + Copy>(
+    alloc: A,
+    version: Version,
+    before: Option<Node>,
+    content: &[u8],
+) -> Result<Entry<A>, GroupFault>
+    requires { header_size version ≤ length content.now }
+    ensures ok { IfOk result (λ entry. IsSpelled version before content.now entry) }
+    ensures err { IfErr result (λ fault. fault ≡ GroupFault.NoMemory) }
+{
+    let (node, rest) = split_id(content);
+    let (p1, rest) = split_id(rest);
+    let (p2, rest) = split_id(rest);
+    let (base, rest) = match version {
+        Version::V01 => (before.unwrap_or(p1), rest),
+        Version::V02 => split_id(rest),
+    };
+    let (_link, delta) = split_id(rest);
+    let delta = Seq::copy_of(alloc, delta)?;
+    Ok(Entry {
+        node,
+        p1,
+        p2,
+        base,
+        delta,
+    })
+}
+
+/// The entries of the group of the changesets, and the bytes behind it.
+pub fn read_changesets<A: Allocator + Copy>(
+    alloc: A,
+    version: Version,
+    payload: &[u8],
+) -> Result<(Seq<Entry<A>, A>, &[u8]), GroupFault>
+    ensures ok { IfOk result (λ read. (changesets : List (Changeset A)) × AreChangesets version payload.now changesets (empty_chunk ++ read.1.now) × (read.0 ≡ entries_of changesets)) }
+    ensures fault { IfErr result (λ fault. fault ≢ GroupFault.NoMemory → (changesets : List (Changeset A)) × (rest : List ℕ) × AreChangesets version payload.now changesets rest × IsChunkFault fault (header_size version) rest) }
+{
+    let mut entries = Vec::new(alloc);
+    let mut before = None;
+    let mut rest = payload;
+    loop {
+        match read_chunk(version.header_size(), rest)? {
+            (Chunk::Empty, after) => return Ok((Seq::from_vec(entries), after)),
+            (Chunk::Content(content), after) => {
+                let entry = read_entry(alloc, version, before, content)?;
+                before = Some(entry.node);
+                entries.push(entry)?;
+                rest = after;
+            }
+        }
+    }
+}
