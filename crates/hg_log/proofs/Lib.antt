@@ -1,0 +1,9 @@
+pub mod Lists
+pub mod Kept
+pub mod Counted
+pub mod Found
+pub mod RowLemmas
+pub mod Wholes
+pub mod Lookups
+pub mod HeadLemmas
+pub mod Outcomes

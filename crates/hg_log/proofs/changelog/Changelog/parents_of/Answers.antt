@@ -1,0 +1,10 @@
+use Rattle.std.proofs.Common.{rules, ◌≡◌, ◌≢◌, ◌⊎◌, ◌↔◌, ℕ, ◌+◌, ◌-◌, ◌<◌, ◌^◌, [], ◌∷◌, ◌++◌, length, take, drop, set, slice_index, slice_set, OnOk, OnErr, Contains, AllPairs, ◌*◌, ◌≤◌, Bool, true, false, nat_eq, nat_lt, List, slice_index_or, Some, None, Ok, Err, IfSome, slice_get, option_map, map, sym, ap, subst, ◌∙◌, arith, refl, inl, inr}
+use Rattle.hg_log.specs.Add.{IsAnswer}
+use Rattle.hg_log.specs.Add.IsAnswer.{unknown_parent}
+use Rattle.hg_log.proofs.changelog.Changelog.parents_of.Goals as goal
+
+pub returns-in_default-clause-fault : goal.returns-in_default-clause-fault
+returns-in_default-clause-fault g c = unknown_parent c.requires (λ both. c.in_default.ensures'.unknown both.1)
+
+pub returns-in_default-2-clause-fault : goal.returns-in_default-2-clause-fault
+returns-in_default-2-clause-fault g c = unknown_parent c.requires (λ both. (rw c.in_default.is-0 at c.parent.ensures.unknown) both.0)

@@ -1,0 +1,31 @@
+use Rattle.std.proofs.Common.{rules, ◌≡◌, ◌≢◌, ◌⊎◌, ◌↔◌, ℕ, ◌+◌, ◌-◌, ◌<◌, ◌^◌, [], ◌∷◌, ◌++◌, length, take, drop, set, slice_index, slice_set, OnOk, OnErr, Contains, AllPairs, ◌*◌, ◌≤◌, Bool, true, false, nat_eq, nat_lt, List, slice_index_or, Some, None, Ok, Err, IfSome, slice_get, option_map, map, sym, ap, subst, ◌∙◌, arith, refl, inl, inr}
+use Rattle.hg_types.specs.declared.seq.Seq.{Seq}
+use Rattle.hg_delta.specs.declared.fault.DeltaFault.TheVariants as fault
+use Rattle.hg_delta.specs.Delta.{Applies}
+use Rattle.hg_delta.specs.Faults.{BreaksAt, GivesTooMuch}
+use Rattle.hg_delta.specs.Faults.IsOutcome.{gives}
+use Rattle.hg_log.specs.Add.{IsAnswer, HasOutcome}
+use Rattle.hg_log.specs.Add.IsAnswer.{unknown_base}
+use Rattle.hg_log.proofs.Outcomes.{told}
+use Rattle.hg_log.proofs.changelog.Changelog.text_of.Goals as goal
+
+pub returns-in_default-clause-fault : goal.returns-in_default-clause-fault
+returns-in_default-clause-fault g c = λ _. unknown_base c.requires c.in_default.ensures.unknown
+
+pub returns-in-Ok-clause-text : goal.returns-in-Ok-clause-text
+returns-in-Ok-clause-text g c =
+    let fits : length c.in-Ok.text.items ≤ c.args.self.now.limits.text = rw (← c.self.view_is) c.in-Ok.ensures.fits in
+    let applies : Applies c.in-Some.base.now c.args.entry.now.delta c.in-Ok.text.items = rw (← c.as_slice.ensures) c.in-Ok.ensures.text in
+    rw c.from_vec.ensures (record { parents = c.requires; base = c.in-Some.base.now; base_is = c.in-Some.ensures.known; outcome_is = gives c.in-Ok.text.items applies fits })
+
+pub returns-in-Err : goal.returns-in-Err
+returns-in-Err g c =
+    let e = c.in-Err.ensures in
+    let f = c.in-Err.fault in
+    let base = c.in-Some.base.now in
+    let delta = c.args.entry.now.delta in
+    let short : f ≡ fault.Short → BreaksAt fault.Short base delta = λ is. rw (← c.as_slice.ensures) (e.short (cc)) in
+    let backwards : f ≡ fault.Backwards → BreaksAt fault.Backwards base delta = λ is. rw (← c.as_slice.ensures) (e.backwards (cc)) in
+    let past : f ≡ fault.PastEnd → BreaksAt fault.PastEnd base delta = λ is. rw (← c.as_slice.ensures) (e.past_end (cc)) in
+    let long : f ≡ fault.TooLong → GivesTooMuch base delta c.args.self.now.limits.text = λ is. rw (← c.as_slice.ensures, ← c.self.view_is) (e.too_long (cc)) in
+    record { text = tt; fault = rw c.from.ensures (told c.args.self.now c.args.entry.now base f c.requires c.in-Some.ensures.known short backwards past long) }

@@ -1,0 +1,10 @@
+pub mod NodeId
+pub mod Changeset
+pub mod Rows
+pub mod Ancestors
+pub mod Heads
+pub mod ChildCounts
+pub mod Graph
+pub mod Marks
+pub mod Inside
+pub mod Add

@@ -1,0 +1,154 @@
+//! Adding a changeset: what can be wrong with it, and how it becomes a row.
+
+ghost use Rattle.std.specs.Prelude.{◌≡◌, ◌≢◌, ◌<◌, IfOk, IfErr, OnErr, IfSome, IfNone, IsTrue, ◌↔◌, Ok, Err, length};
+ghost use Rattle.hg_log.specs.Rows.{IsKnown};
+ghost use Rattle.hg_log.specs.Inside.{IsAt};
+ghost use Rattle.hg_log.specs.Add.{IsAnswer, IsBase, HasParentsIn, HasOutcome, Agrees, told_as};
+
+use crate::changelog::{Changelog, Row};
+use crate::graph::Parents;
+use crate::node::node_id;
+use hg_delta::{DeltaFault, apply};
+use hg_types::{Entry, NoMemory, Node, Seq};
+use std::alloc::Allocator;
+use thiserror::Error;
+
+/// What became of an entry that is right.
+#[derive(Clone, Copy, Debug, PartialEq, Eq)]
+pub enum Added {
+    /// It is the row of that number now.
+    New(u32),
+    /// Its id was known, and nothing changed.
+    Known,
+}
+
+/// Why an entry was not added. The first fault in this order is told.
+#[derive(Clone, Copy, Debug, PartialEq, Eq, Error)]
+pub enum AddFault {
+    /// 1: a parent is neither null nor in the log.
+    #[error("a parent is not known")]
+    UnknownParent,
+    /// 2: the base of the delta is neither null nor in the log.
+    #[error("the base of the delta is not known")]
+    UnknownBase,
+    /// 3: the delta gives no text, or one beyond the limit `text`.
+    #[error("the delta does not apply: {0}")]
+    Delta(DeltaFault),
+    /// 4: the id is not the hash of the parents and the text.
+    #[error("the id does not agree with the hash")]
+    HashMismatch,
+    /// 5: the log has as many changesets as the limit `revisions` allows.
+    #[error("the log has too many changesets")]
+    TooMany,
+    /// 6: memory was refused.
+    #[error("out of memory")]
+    NoMemory,
+}
+
+impl From<DeltaFault> for AddFault {
+    ghost from_gives = { λ fault told. told ≡ told_as fault };
+
+    fn from(fault: DeltaFault) -> Self {
+        match fault {
+            DeltaFault::NoMemory => AddFault::NoMemory,
+            fault => AddFault::Delta(fault),
+        }
+    }
+}
+
+impl<A: Allocator + Copy> Changelog<A> {
+    /// Adds the changeset of an entry, unless its id is known. The log is unchanged but where the answer is `New`.
+    ///
+    /// `NoMemory` may stand in place of any other answer where a growth was refused.
+    pub fn add(&mut self, entry: &Entry<A>) -> Result<Added, AddFault>
+        ensures answer { result ≢ Err AddFault.NoMemory → IsAnswer self.old entry.now result self.new }
+        ensures err { OnErr result (self.new ≡ self.old) }
+    {
+        if self.knows(&entry.node) {
+            return Ok(Added::Known);
+        }
+        let parents = self.parents_of(entry)?;
+        let text = self.text_of(entry)?;
+        if !agrees(entry, text.as_slice()) {
+            return Err(AddFault::HashMismatch);
+        }
+        let rev = self.len();
+        if rev >= self.limits.revisions as usize {
+            return Err(AddFault::TooMany);
+        }
+        let row = Row {
+            p1: entry.p1,
+            p2: entry.p2,
+            text,
+        };
+        match self.append(entry.node, row, parents) {
+            Ok(()) => Ok(Added::New(rev as u32)),
+            Err(NoMemory) => Err(AddFault::NoMemory),
+        }
+    }
+
+    /// The numbers of the parents of an entry that is not known.
+    fn parents_of(&self, entry: &Entry<A>) -> Result<Parents, AddFault>
+        requires { ¬ (IsKnown self.now.rows entry.now.node.0) }
+        ensures known { IfOk result (λ _. HasParentsIn self.now.rows entry.now) }
+        ensures p1 { IfOk result (λ parents. IsAt self.now.rows (length self.now.rows) entry.now.p1.0 parents.p1) }
+        ensures p2 { IfOk result (λ parents. IsAt self.now.rows (length self.now.rows) entry.now.p2.0 parents.p2) }
+        ensures fault { IfErr result (λ fault. IsAnswer self.now entry.now (Err fault) self.now) }
+    {
+        match (self.parent(&entry.p1), self.parent(&entry.p2)) {
+            (Some(p1), Some(p2)) => Ok(Parents { p1, p2 }),
+            _ => Err(AddFault::UnknownParent),
+        }
+    }
+
+    /// The number of a parent that is known, and none for it where it is null.
+    fn parent(&self, node: &Node) -> Option<Option<u32>>
+        ensures known { IfSome result (λ place. IsAt self.now.rows (length self.now.rows) node.now.0 place) }
+        ensures unknown { IfNone result (¬ (IsKnown self.now.rows node.now.0)) }
+    {
+        if *node == Node::NULL {
+            return Some(None);
+        }
+        match self.rev(node) {
+            Some(rev) => Some(Some(rev)),
+            None => None,
+        }
+    }
+
+    /// The text of a changeset, which is empty where the id is null.
+    fn base(&self, node: &Node) -> Option<&[u8]>
+        ensures known { IfSome result (λ text. IsBase self.now.rows node.now.0 text.now) }
+        ensures unknown { IfNone result (¬ (IsKnown self.now.rows node.now.0)) }
+    {
+        if *node == Node::NULL {
+            return Some(&[]);
+        }
+        match self.rev(node) {
+            Some(rev) => Some(self.text(rev)),
+            None => None,
+        }
+    }
+
+    /// The text of an entry whose parents are known.
+    fn text_of(&self, entry: &Entry<A>) -> Result<Seq<u8, A>, AddFault>
+        requires { HasParentsIn self.now.rows entry.now }
+        ensures text { IfOk result (λ text. HasOutcome self.now entry.now (Ok text)) }
+        ensures fault { IfErr result (λ fault. fault ≢ AddFault.NoMemory → IsAnswer self.now entry.now (Err fault) self.now) }
+    {
+        let Some(base) = self.base(&entry.base) else {
+            return Err(AddFault::UnknownBase);
+        };
+        let alloc = *self.rows.allocator();
+        match apply(alloc, base, entry.delta.as_slice(), self.limits.text) {
+            Ok(text) => Ok(Seq::from_vec(text)),
+            Err(fault) => Err(AddFault::from(fault)),
+        }
+    }
+}
+
+/// Whether the id of an entry is that of a changeset with this text.
+fn agrees<A: Allocator>(entry: &Entry<A>, text: &[u8]) -> bool
+    ensures { IsTrue result ↔ Agrees entry.now text.now }
+{
+    node_id(&entry.p1, &entry.p2, text) == entry.node
+}

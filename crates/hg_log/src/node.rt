@@ -1,0 +1,29 @@
+//! The id of a changeset.
+
+ghost use Rattle.std.specs.Prelude.{◌≡◌, ◌++◌};
+ghost use Rattle.sha1.specs.Sha1.{sha1};
+ghost use Rattle.hg_log.specs.NodeId.{node_id_of};
+
+use hg_types::Node;
+use sha1::Sha1;
+
+/// The id of a changeset with these parents and this text: SHA-1 of the lesser parent id, the greater parent id, and the text.
+pub fn node_id(p1: &Node, p2: &Node, text: &[u8]) -> Node
+    ensures { result.0 ≡ node_id_of p1.now.0 p2.now.0 text.now }
+{
+    if p1.0.as_slice().cmp(&p2.0.as_slice()).is_le() {
+        Node(digest(&p1.0, &p2.0, text))
+    } else {
+        Node(digest(&p2.0, &p1.0, text))
+    }
+}
+
+fn digest(first: &[u8], second: &[u8], text: &[u8]) -> [u8; 20]
+    ensures { result ≡ sha1 (first.now ++ second.now ++ text.now) }
+{
+    let mut hasher = Sha1::new();
+    hasher.update(first);
+    hasher.update(second);
+    hasher.update(text);
+    hasher.finalize()
+}
