@@ -1,0 +1,119 @@
+-- A merge, one marker at a time.
+use Rattle.std.proofs.Common.{◌≡◌, ℕ, Bool, true, false, cond, not, ◌||◌, List, [], ◌∷◌, ◌++◌, filter, refl, sym, ap, ◌∙◌, append_assoc, true≢false, ◌<◌, ◌≢◌, ◌+◌, zero, suc, length, get_or, take, AllPairs, arith}
+use Rattle.std.proofs.lemmas.List.{length-take, get_or-take, take_more}
+use Rattle.std.proofs.lemmas.List.Folds.{list_any-append, list_any_none}
+use Rattle.std.proofs.lemmas.List.Elements.{All-get_or, All-from_recursion, All-from_get_or}
+use Rattle.std.specs.List.{list_any, IsDistinct}
+use Rattle.std.specs.Cmp.{IsEquivalence, decided}
+use Rattle.indexmap.proofs.SetLemmas.{filter_keep, filter_skip}
+use Rattle.hg_obs.specs.declared.marker.Marker.{Marker}
+use Rattle.hg_obs.specs.Same.{is_same, is_same_decides}
+use Rattle.hg_obs.specs.Markers.{is_in, firsts, fresh, merged}
+
+module _ {A : Type 0} where
+  pub same_equiv : IsEquivalence {K = Marker A} is_same
+  same_equiv = decided is_same is_same_decides
+
+  -- a test tells markers apart that it answers differently
+  different : (p : Marker A → Bool) (x z : Marker A) → p x ≡ true → p z ≡ false → is_same x z ≡ false
+  different p x z passes fails = by (is_same x z) refl
+    where
+      by : (b : Bool) → is_same x z ≡ b → b ≡ false
+      by true e = absurd (true≢false (sym passes ∙ ap p ((is_same_decides x z).0 e) ∙ fails))
+      by false e = refl
+
+  any_filter : (p : Marker A → Bool) (x : Marker A) (zs : List (Marker A)) → p x ≡ true → list_any (is_same x) (filter p zs) ≡ list_any (is_same x) zs
+  any_filter p x [] passes = refl
+  any_filter p x (z ∷ zs) passes = by (p z) refl (any_filter p x zs passes)
+    where
+      by : (b : Bool) → p z ≡ b → list_any (is_same x) (filter p zs) ≡ list_any (is_same x) zs → list_any (is_same x) (cond (p z) (z ∷ filter p zs) (filter p zs)) ≡ (is_same x z || list_any (is_same x) zs)
+      by true e rest = ap (λ (c : Bool). list_any (is_same x) (cond c (z ∷ filter p zs) (filter p zs))) e ∙ ap (λ (c : Bool). is_same x z || c) rest
+      by false e rest =
+          ap (λ (c : Bool). list_any (is_same x) (cond c (z ∷ filter p zs) (filter p zs))) e ∙ rest ∙ sym (ap (λ (c : Bool). c || list_any (is_same x) zs) (different p x z passes e))
+
+  any_firsts : (x : Marker A) (xs : List (Marker A)) → list_any (is_same x) (firsts xs) ≡ list_any (is_same x) xs
+  any_firsts x [] = refl
+  any_firsts x (y ∷ ys) = by (is_same x y) refl (any_firsts x ys)
+    where
+      others : List (Marker A)
+      others = filter (λ n. not (is_same y n)) (firsts ys)
+
+      by : (b : Bool) → is_same x y ≡ b → list_any (is_same x) (firsts ys) ≡ list_any (is_same x) ys → (is_same x y || list_any (is_same x) (filter (λ n. not (is_same y n)) (firsts ys))) ≡ (is_same x y || list_any (is_same x) ys)
+      by true e rest = rw e refl
+      by false e rest =
+          let apart : not (is_same y x) ≡ true = ap not (same_equiv.symm y x ∙ e) in
+          ap (λ (c : Bool). is_same x y || c) (any_filter (λ n. not (is_same y n)) x (firsts ys) apart ∙ rest)
+
+  firsts-push : (xs : List (Marker A)) (x : Marker A) → firsts (xs ++ x ∷ []) ≡ cond (list_any (is_same x) xs) (firsts xs) (firsts xs ++ x ∷ [])
+  firsts-push [] x = refl
+  firsts-push (y ∷ ys) x = ap (λ (l : List (Marker A)). y ∷ filter (λ n. not (is_same y n)) l) (firsts-push ys x) ∙ by (is_same x y) (list_any (is_same x) ys) refl
+    where
+      by : (a b : Bool) → is_same x y ≡ a
+          → y ∷ filter (λ n. not (is_same y n)) (cond b (firsts ys) (firsts ys ++ x ∷ []))
+          ≡ cond (a || b) (y ∷ filter (λ n. not (is_same y n)) (firsts ys)) ((y ∷ filter (λ n. not (is_same y n)) (firsts ys)) ++ x ∷ [])
+      by true true e = refl
+      by false true e = refl
+      by true false e = ap (λ (l : List (Marker A)). y ∷ l) (filter_skip (λ n. not (is_same y n)) (firsts ys) x (ap not (same_equiv.symm y x ∙ e)))
+      by false false e = ap (λ (l : List (Marker A)). y ∷ l) (filter_keep (λ n. not (is_same y n)) (firsts ys) x (ap not (same_equiv.symm y x ∙ e)))
+
+  fresh-push : (old xs : List (Marker A)) (x : Marker A) → fresh old (xs ++ x ∷ []) ≡ cond (is_in (merged old xs) x) (fresh old xs) (fresh old xs ++ x ∷ [])
+  fresh-push old xs x =
+      ap (filter (λ m. not (is_in old m))) (firsts-push xs x) ∙ by (is_in old x) (list_any (is_same x) xs) refl refl
+      ∙ sym (ap (λ (c : Bool). cond c (fresh old xs) (fresh old xs ++ x ∷ [])) (list_any-append (is_same x) old (fresh old xs)))
+    where
+      by : (a b : Bool) → is_in old x ≡ a → list_any (is_same x) xs ≡ b
+          → filter (λ m. not (is_in old m)) (cond b (firsts xs) (firsts xs ++ x ∷ []))
+          ≡ cond (is_in old x || list_any (is_same x) (fresh old xs)) (fresh old xs) (fresh old xs ++ x ∷ [])
+      by true true e f = sym (ap (λ (c : Bool). cond (c || list_any (is_same x) (fresh old xs)) (fresh old xs) (fresh old xs ++ x ∷ [])) e)
+      by true false e f =
+          filter_skip (λ m. not (is_in old m)) (firsts xs) x (ap not e) ∙ sym (ap (λ (c : Bool). cond (c || list_any (is_same x) (fresh old xs)) (fresh old xs) (fresh old xs ++ x ∷ [])) e)
+      by false b e f =
+          let there : list_any (is_same x) (fresh old xs) ≡ b = any_filter (λ m. not (is_in old m)) x (firsts xs) (ap not e) ∙ any_firsts x xs ∙ f in
+          new b ∙ sym (ap (λ (c : Bool). cond (c || list_any (is_same x) (fresh old xs)) (fresh old xs) (fresh old xs ++ x ∷ [])) e ∙ ap (λ (c : Bool). cond c (fresh old xs) (fresh old xs ++ x ∷ [])) there)
+        where
+          new : (b : Bool) → filter (λ m. not (is_in old m)) (cond b (firsts xs) (firsts xs ++ x ∷ [])) ≡ cond b (fresh old xs) (fresh old xs ++ x ∷ [])
+          new true = refl
+          new false = filter_keep (λ m. not (is_in old m)) (firsts xs) x (ap not e)
+
+  pub merged-push : (old xs : List (Marker A)) (x : Marker A) → merged old (xs ++ x ∷ []) ≡ cond (is_in (merged old xs) x) (merged old xs) (merged old xs ++ x ∷ [])
+  merged-push old xs x = ap (λ (l : List (Marker A)). old ++ l) (fresh-push old xs x) ∙ by (is_in (merged old xs) x)
+    where
+      by : (b : Bool) → old ++ cond b (fresh old xs) (fresh old xs ++ x ∷ []) ≡ cond b (merged old xs) (merged old xs ++ x ∷ [])
+      by true = refl
+      by false = sym (append_assoc old (fresh old xs) (x ∷ []))
+
+  -- a new key stands at the end
+  pub pushed : (old new : List (Marker A)) (m : Marker A) → new ≡ cond (is_in old m) old (old ++ m ∷ []) → not (is_in old m) ≡ true → new ≡ old ++ m ∷ []
+  pushed old new m e h = by (is_in old m) e h
+    where
+      by : (b : Bool) → new ≡ cond b old (old ++ m ∷ []) → not b ≡ true → new ≡ old ++ m ∷ []
+      by true e h = absurd (true≢false (sym h))
+      by false e h = e
+
+  -- no two markers of distinct ones are one
+  pub distinct_pairs : (ms : List (Marker A)) → IsDistinct is_same ms → AllPairs (λ a b. a ≢ b) ms
+  unfolding IsDistinct
+  distinct_pairs [] d i j e less within = absurd (omega arith)
+  distinct_pairs (m ∷ ms) d zero zero e less within = absurd (omega arith)
+  distinct_pairs (m ∷ ms) d zero (suc j) e less within =
+      let apart : is_same m (get_or ms j e) ≡ false = All-get_or (λ (n : Marker A). is_same m n ≡ false) ms j e (omega arith) (All-from_recursion (λ (n : Marker A). is_same m n ≡ false) ms d.0) in
+      λ same. true≢false (sym ((is_same_decides m (get_or ms j e)).1 same) ∙ apart)
+  distinct_pairs (m ∷ ms) d (suc i) zero e less within = absurd (omega arith)
+  distinct_pairs (m ∷ ms) d (suc i) (suc j) e less within = distinct_pairs ms d.1 i j e (omega arith) (omega arith)
+
+  -- so the next one is not among those before it
+  pub not_before : (ms : List (Marker A)) (i : ℕ) (m : Marker A) → AllPairs (λ a b. a ≢ b) ms → i < length ms → m ≡ get_or ms i m → is_in (take i ms) m ≡ false
+  not_before ms i m apart within at = list_any_none (is_same m) (take i ms) (All-from_get_or (λ (n : Marker A). is_same m n ≡ false) (take i ms) m (λ k below. by k (omega (arith, length-take i ms)) (is_same m (get_or (take i ms) k m)) refl))
+    where
+      by : (k : ℕ) → k < i → (b : Bool) → is_same m (get_or (take i ms) k m) ≡ b → b ≡ false
+      by k below true e =
+          let same : m ≡ get_or (take i ms) k m = (is_same_decides m (get_or (take i ms) k m)).0 e in
+          absurd (apart k i m below within (sym (get_or-take i ms k m below) ∙ sym same ∙ at))
+      by k below false e = refl
+
+  -- a copy of distinct markers adds each
+  pub clone_goes_on : (ms copy : List (Marker A)) (i : ℕ) (m next : Marker A) → AllPairs (λ a b. a ≢ b) ms → i < length ms → m ≡ get_or ms i m → next ≡ m → copy ≡ take i ms
+      → cond (is_in copy next) copy (copy ++ next ∷ []) ≡ take (i + 1) ms
+  clone_goes_on ms copy i m next apart within at same e =
+      ap (λ (x : Marker A). cond (is_in copy x) copy (copy ++ x ∷ [])) same ∙ ap (λ (c : List (Marker A)). cond (is_in c m) c (c ++ m ∷ [])) e
+      ∙ ap (λ (b : Bool). cond b (take i ms) (take i ms ++ m ∷ [])) (not_before ms i m apart within at) ∙ ap (λ (x : Marker A). take i ms ++ x ∷ []) at ∙ sym (take_more ms i m within)

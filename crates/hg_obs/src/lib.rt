@@ -1,0 +1,32 @@
+//! Obsolescence markers: their bytes, and the list of those that a repository has.
+//!
+//! Nothing here starts a thread or waits. [`read_markers`] reads marker data, which a client sends, and
+//! [`Markers`] is the list of distinct markers, to which more are merged and which is cut back again.
+//!
+//! Marker data is of format 0 of Mercurial's obsolete module. It is one version byte, 0, and markers up
+//! to its end. Numbers are big-endian. A marker is
+//!
+//! | bytes | field |
+//! |---|---|
+//! | 1 | N, the number of its successors |
+//! | 4 | M, the number of bytes of its metadata |
+//! | 1 | flags |
+//! | 20 | the predecessor, which is obsolete |
+//! | 20 N | the successors |
+//! | M | the metadata: strings `key:value`, with a NUL between them or after each |
+#![tactic(auto)]
+
+mod fault;
+mod law;
+mod marker;
+mod markers;
+mod read;
+
+pub use fault::MarkerFault;
+pub use law::{bytes_tell_markers, reading_is_the_grammar};
+pub use marker::Marker;
+pub use markers::Markers;
+pub use read::read_markers;
+
+#[cfg(test)]
+mod tests;
