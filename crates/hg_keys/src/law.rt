@@ -1,0 +1,9 @@
+//! What the definitions say together.
+
+ghost use Rattle.std.specs.Prelude.{◌≡◌, ℕ, List, Ok};
+ghost use Rattle.hg_keys.specs.Base85.{IsBytes, decoded, encoded};
+
+/// Decoding gives back what was encoded.
+pub fn decoding_gives_back()
+    ensures { (bytes : List ℕ) → IsBytes bytes → decoded (encoded bytes) ≡ Ok bytes }
+{}
