@@ -1,0 +1,37 @@
+# hg_pushd: build, run, test, measure.
+#
+#   make run     prove and build the program, and let it answer a small push
+#   make build   leave the program at build/hg_pushd
+#   make test    prove everything from nothing, refuse the wrong bodies, run the tests
+#   make bench   measure the program, and the crates below it
+
+PROGRAM := build/hg_pushd
+SOURCES := crates.txt $(shell find crates -name out -prune -o -type f \( -name '*.rt' -o -name '*.antt' \) -print 2>/dev/null)
+
+.PHONY: build run test bench clean
+
+build: $(PROGRAM)
+
+$(PROGRAM): $(SOURCES)
+	@command -v rt > /dev/null || { echo 'hg_pushd is built with the Rattle toolchain: its command rt is not on the path.'; exit 1; }
+	@echo 'Proving and building hg_pushd and the crates below it. This takes some minutes the first time.'
+	@cd crates/hg_pushd && rt run -- one < ../../examples/first-push.hg20 > /dev/null
+	@mkdir -p build
+	@cp crates/hg_pushd/out/hg_pushd $(PROGRAM)
+	@echo 'The program is at $(PROGRAM).'
+
+run: $(PROGRAM)
+	@echo 'A push: reply capabilities, and a check that the only head is the null id.'
+	@od -A d -c examples/first-push.hg20
+	@$(PROGRAM) one < examples/first-push.hg20 > build/reply.hg20; echo "Status $$?. The reply: a bundle without parts."
+	@od -A d -c build/reply.hg20
+
+test:
+	@echo 'Proving every crate from nothing, trying the wrong bodies, running the tests. This takes a while.'
+	@rt ci
+
+bench: $(PROGRAM)
+	@bash bench/one.sh
+
+clean:
+	@rm -rf build crates/*/out

@@ -1,0 +1,6 @@
+#!/bin/sh
+# MB/s of `hg_cgroup::decode` and `hg_delta::apply`, beside a copy of the same bytes in the same run: name, MB/s, times the copy's time.
+set -eu
+. "$(dirname "$0")/../scratch.sh"
+scratch_program changegroups changegroup_speed 'anyhow hg_types hg_delta hg_cgroup'
+"$rt" run 2>&1 | grep -e 'MB/s' -e error -e 'no proof'

@@ -1,0 +1,53 @@
+#!/usr/bin/env bash
+# How fast `hg_pushd one` reads a bundle with one `output` part of 64 MiB, beside `cat` and `sha1sum` on the same file, and how
+# much memory it takes at most: with the payload as one chunk, in chunks of 32 KiB, and in chunks of 16 bytes. All in one
+# run; each time is the best of five.
+set -eu
+cd "$(dirname "$0")/.."
+work=$(mktemp -d)
+trap 'rm -rf "$work"' EXIT
+
+# a bundle with so many bytes of payload in chunks of so many bytes
+write_bundle() {
+    python3 - "$@" <<'PY'
+import sys
+
+path, size, chunk = sys.argv[1], int(sys.argv[2]), int(sys.argv[3])
+header = bytes([6]) + b"output" + bytes(4) + bytes(2)
+one = chunk.to_bytes(4, "big") + (bytes(range(256)) * (chunk // 256 + 1))[:chunk]
+with open(path, "wb") as out:
+    out.write(b"HG20" + bytes(4) + len(header).to_bytes(4, "big") + header)
+    for _ in range(size // chunk):
+        out.write(one)
+    out.write(bytes(4) + bytes(4))
+PY
+}
+
+# MB/s and the peak of each command on that bundle; a process of its own, since a child's peak is no less than its parent's
+measure() {
+    python3 - "$@" <<'PY'
+import os, subprocess, sys, time
+
+bundle, size = sys.argv[1], int(sys.argv[2])
+for label, command in (("cat", ["cat"]), ("sha1sum", ["sha1sum"]), ("hg_pushd one", ["build/hg_pushd", "one"])):
+    least, peak = None, 0
+    for _ in range(5):
+        with open(bundle, "rb") as source, open(os.devnull, "wb") as sink:
+            start = time.perf_counter()
+            child = subprocess.Popen(command, stdin=source, stdout=sink)
+            _, status, usage = os.wait4(child.pid, 0)
+            took = time.perf_counter() - start
+        if status != 0:
+            sys.exit(f"{command[0]}: status {status}")
+        least = took if least is None else min(least, took)
+        peak = max(peak, usage.ru_maxrss * 1024)
+    print(f"  {label:14} {size / least / 1e6:7.0f} MB/s of payload   peak {peak / size:5.2f} times the payload")
+PY
+}
+
+size=$((64 * 1024 * 1024))
+for chunk in $size 32768 16; do
+    write_bundle "$work/bundle" $size $chunk
+    echo "chunks of $chunk bytes: a bundle of $(stat -c %s "$work/bundle") bytes"
+    measure "$work/bundle" $size
+done

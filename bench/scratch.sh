@@ -1,0 +1,16 @@
+# A scratch repository with this repository's crates and one benchmark's program, for the benchmarks to source. RT names the
+# toolchain's command. The sources of the programs lie here under names with .txt, since they are no crates of this repository.
+rt=${RT:-rt}
+top=$(cd "$(dirname "$0")/../.." && pwd)
+scratch=$(mktemp -d)
+trap 'rm -rf "$scratch"' EXIT
+
+# scratch_program FOLDER NAME "CRATES": the program of bench/FOLDER as the crate NAME over these crates; leaves the shell in its folder
+scratch_program() {
+    git -C "$top" archive HEAD HANDLES crates.txt crates | tar -x -C "$scratch"
+    cp -r "$top/bench/$1/program" "$scratch/crates/$2"
+    find "$scratch/crates/$2" -name '*.txt' | while read -r file; do mv "$file" "${file%.txt}"; done
+    echo "$2: $3" >> "$scratch/crates.txt"
+    git init -q "$scratch"
+    cd "$scratch/crates/$2"
+}
