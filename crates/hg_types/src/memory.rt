@@ -5,7 +5,7 @@ ghost use Rattle.std.specs.Prelude.{◌≡◌, IfOk};
 use std::alloc::{AllocError, AllocFailed, Allocator};
 use thiserror::Error;
 
-/// A growth was refused. It is answered only where one really was.
+/// A growth was refused. That it is answered only where one was is shown by tests.
 #[derive(Clone, Copy, Debug, PartialEq, Eq, Error)]
 #[error("out of memory")]
 pub struct NoMemory;

@@ -54,13 +54,13 @@ impl<T, A: Allocator> Seq<T, A> {
     pub fn len(&self) -> usize
         ensures { result ≡ length self.now }
     {
-        self.items.as_slice().len()
+        self.items.len()
     }
 
     pub fn is_empty(&self) -> bool
         ensures { IsTrue result ↔ (self.now ≡ []) }
     {
-        self.items.as_slice().is_empty()
+        self.items.is_empty()
     }
 
     /// Adds an item at the end. An item that memory is refused for is dropped.
