@@ -181,6 +181,17 @@ fn refused_sizes(rt: HostRuntime) {
     }
 }
 
+#[test]
+fn faults_by_number(rt: HostRuntime) {
+    for (fault, number) in [
+        (ChunkFault::BadSize, 1),
+        (ChunkFault::TooLarge, 2),
+        (ChunkFault::NoMemory, 3),
+    ] {
+        assert_eq!(rt; fault as u8, number);
+    }
+}
+
 // A limit at its last value, and one past it: in one chunk, in two, and behind an interruption.
 #[test]
 fn limit_at_its_last_value(rt: HostRuntime) {

@@ -8,7 +8,7 @@ use Rattle.hg_params.specs.Header.{IsHeader, IsHeaderFault}
 use Rattle.hg_params.specs.Writing.{cased, header_bytes, written_head, CanStand}
 use Rattle.hg_params.specs.StreamParams.{AreStreamParams, IsStreamParamsFault}
 
--- the bytes say one thing, or have one fault, and never both
+-- the bytes say at most one thing or have at most one fault, and not both
 pub record HasOneReading (A : Type 0) (bytes : List ℕ) : Type 0 where
   pub one_value : (first second : Head A) → IsHeader bytes first → IsHeader bytes second → first ≡ second
   pub no_fault : (head : Head A) (fault : ParamFault) → IsHeader bytes head → IsHeaderFault bytes fault → ⊥
@@ -26,7 +26,7 @@ IsAllThatIsWritten kind id params = (bytes : List ℕ) → IsHeader bytes (writt
 abbrev pub IsSmall : List ℕ → Type 0
 IsSmall bytes = (0 < length bytes) × (length bytes ≤ 261382)
 
--- the stream parameters of bytes are one list, or have one fault, and never both
+-- bytes give at most one list of stream parameters or have at most one fault, and not both
 pub record HasOneParamsReading (A : Type 0) (bytes : List ℕ) : Type 0 where
   pub one_value : (first second : List (StreamParam A)) → AreStreamParams bytes first → AreStreamParams bytes second → first ≡ second
   pub no_fault : (params : List (StreamParam A)) (fault : ParamFault) → AreStreamParams bytes params → IsStreamParamsFault bytes fault → ⊥

@@ -8,7 +8,7 @@ ghost use Rattle.hg_params.specs.Laws.{HasOneReading, IsReadBack, IsAllThatIsWri
 
 use std::alloc::Allocator;
 
-/// A header is read in one way: its bytes say one thing, or have one fault, and never both.
+/// A header is read in one way: its bytes say at most one thing or have at most one fault, and not both.
 pub fn headers_have_one_reading<A: Allocator>()
     ensures { (bytes : List ℕ) → HasOneReading A bytes }
 {}
@@ -28,7 +28,7 @@ pub fn headers_are_small<A: Allocator>()
     ensures { (bytes : List ℕ) (head : AnyHead A) → IsHeader bytes head → IsSmall bytes }
 {}
 
-/// Stream parameters are read in one way: their bytes give one list, or have one fault, and never both.
+/// Stream parameters are read in one way: their bytes give at most one list or have at most one fault, and not both.
 pub fn stream_params_have_one_reading<A: Allocator>()
     ensures { (bytes : List ℕ) → HasOneParamsReading A bytes }
 {}
