@@ -8,13 +8,14 @@ use Rattle.std.specs.Io.KnownBytes.{Consumes, Keeps, IsAtEnd}
 use Rattle.hg_types.specs.declared.part.Part.{Part}
 use Rattle.hg_types.specs.Limits.{standard_limits}
 use Rattle.hg_stream.specs.declared.fault.StreamFault.{StreamFault}
+use Rattle.hg_stream.specs.declared.fault.StreamFault.TheVariants.{BadMagic, NegativeSize, Params, Header, Chunk, NestedInterrupt, ClientAbort, Unsupported, TooLarge, Truncated, NoMemory}
 use Rattle.hg_stream.specs.declared.state.State.{State}
 use Rattle.hg_stream.specs.declared.state.State.TheVariants.{Reading as going, Failed}
 use Rattle.hg_stream.specs.declared.unbundler.Unbundler.{Unbundler}
 use Rattle.hg_stream.specs.Unbundler.{Holds, limits_of, ready_of, state_of}
 use Rattle.hg_stream.specs.Faults.{Tells}
 use Rattle.hg_pushd.specs.declared.ending.Ending.{Ending}
-use Rattle.hg_pushd.specs.declared.ending.Ending.TheVariants.{InputEnded, ReadFailed}
+use Rattle.hg_pushd.specs.declared.ending.Ending.TheVariants.{Fault, InputEnded, ReadFailed}
 use Rattle.hg_pushd.specs.Receiving.{Leaves, Received, state_at}
 
 -- all that was read was fed, at least a byte a turn, and the bundle goes on
@@ -81,6 +82,26 @@ stops ending input mid left u v turn piece r more small fed state limits leaves 
       tells = told v (state_at ending) (r.bytes ++ take fed.place piece) state (limits ∙ r.limits) (fed.holds r.bytes r.holds);
       leaves = leaves (drop fed.place piece);
     }
+
+leaves_behind : (fault : StreamFault) (dropped : List ℕ) (left : Option (List ℕ)) → fault ≢ Truncated → Leaves (Fault fault) dropped left
+leaves_behind BadMagic dropped left ne = tt
+leaves_behind NegativeSize dropped left ne = tt
+leaves_behind (Params fault) dropped left ne = tt
+leaves_behind (Header fault) dropped left ne = tt
+leaves_behind (Chunk fault) dropped left ne = tt
+leaves_behind NestedInterrupt dropped left ne = tt
+leaves_behind ClientAbort dropped left ne = tt
+leaves_behind Unsupported dropped left ne = tt
+leaves_behind TooLarge dropped left ne = tt
+leaves_behind Truncated dropped left ne = absurd (ne refl)
+leaves_behind NoMemory dropped left ne = tt
+
+-- a reader that was fed has failed by a fault of its bytes, or by want of memory
+pub leaves_fault : {A : Type 0} (fault : StreamFault) (result : Result ℕ StreamFault) (v : Unbundler A) (dropped : List ℕ) (left : Option (List ℕ)) → IfOk result (λ n. (f : StreamFault) → state_of v ≢ Failed f)
+    → IfErr result (λ f. state_of v ≡ Failed f) → result ≢ Err Truncated → state_of v ≡ Failed fault → Leaves (Fault fault) dropped left
+leaves_fault fault (Ok n) v dropped left goes_on failed not_truncated is = absurd (goes_on fault is)
+leaves_fault fault (Err f) v dropped left goes_on failed not_truncated is =
+    leaves_behind fault dropped left (λ e. (let both : Failed f ≡ Failed Truncated = sym failed ∙ (is ∙ ap (λ x. Failed x) e) in let same : f ≡ Truncated = cc in not_truncated (ap (λ x. Err x) same)))
 
 -- nothing more came
 ends : {A : Type 0} (ending : Ending) (input mid left : Option (List ℕ)) (u : Unbundler A) (turn : ℕ) (r : Reads input mid u turn) → Consumes input left r.bytes → state_at ending ≡ going → Leaves ending [] left

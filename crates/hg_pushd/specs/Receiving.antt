@@ -38,9 +38,11 @@ part_items push index (part ∷ parts) = record { push = push; index = index; wh
 abbrev pub items_of : {A : Type 0} → ℕ → List (Part A) → What A → List (Item A)
 items_of push parts mark = part_items push 0 parts ++ record { push = push; index = length parts; what = mark } ∷ []
 
--- bytes behind an end mark or a fault may have been read and are dropped; none where the input ended or a read failed
+-- Bytes behind an end mark or a fault may have been read and are dropped; none where the input ended or a read failed. That the
+-- bytes are truncated is never told as a fault of them: their end is.
 abbrev pub Leaves : Ending → List ℕ → Option (List ℕ) → Type 0
 Leaves Whole dropped left = ⊤
+Leaves (Fault Truncated) dropped left = ⊥
 Leaves (Fault fault) dropped left = ⊤
 Leaves InputEnded dropped left = (dropped ≡ []) × IsAtEnd left
 Leaves ReadFailed dropped left = dropped ≡ []

@@ -58,8 +58,13 @@ fn job(rt: &HostRuntime) -> Result<Job, u8> {
     match job_of(rt.alloc(), &words) {
         Ok(job) => Ok(job),
         Err(error) => {
-            let _ = error.print(rt);
-            Err(status_of(&error))
+            let status = status_of(&error);
+            if status == 4 {
+                tell(rt, status);
+            } else {
+                let _ = error.print(rt);
+            }
+            Err(status)
         }
     }
 }

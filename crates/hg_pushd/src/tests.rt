@@ -22,12 +22,63 @@ const RACE: &[u8] = b"HG20\0\0\0\0\0\0\0\x12\x0bCHECK:HEADS\0\0\0\0\0\0\0\0\0\0\
 const RACE_REPLY: &[u8] =
     b"HG20\0\0\0\0\0\0\0\x2c\x0fERROR:PUSHRACED\0\0\0\0\x01\0\x07\x0dmessageheads changed\0\0\0\0\0\0\0\0";
 
-/// Runs the bundle, and checks status and reply.
+/// `frob` with the id 5, which may be ignored.
+const ADVISORY: &[u8] = b"HG20\0\0\0\0\0\0\0\x0b\x04frob\0\0\0\x05\0\0\0\0\0\0\0\0\0\0";
+
+/// `frob` with the id 5, which may not be ignored.
+const MANDATORY: &[u8] = b"HG20\0\0\0\0\0\0\0\x0b\x04FROB\0\0\0\x05\0\0\0\0\0\0\0\0\0\0";
+
+const MANDATORY_REPLY: &[u8] =
+    b"HG20\0\0\0\0\0\0\0\x2d\x18ERROR:UNSUPPORTEDCONTENT\0\0\0\0\x01\0\x08\x04parttypefrob\0\0\0\0\0\0\0\0";
+
+/// `replycaps` with the parameter `x`, which may not be ignored.
+const PARAMETER: &[u8] =
+    b"HG20\0\0\0\0\0\0\0\x13\x09REPLYCAPS\0\0\0\0\x01\0\x01\0x\0\0\0\0\0\0\0\0";
+
+const PARAMETER_REPLY: &[u8] =
+    b"HG20\0\0\0\0\0\0\0\x3b\x18ERROR:UNSUPPORTEDCONTENT\0\0\0\0\x02\0\x08\x09\x06\x01parttypereplycapsparamsx\0\0\0\0\0\0\0\0";
+
+/// `error:abort` without parameters.
+const CLIENT_ABORT: &[u8] = b"HG20\0\0\0\0\0\0\0\x12\x0bERROR:ABORT\0\0\0\0\0\0\0\0\0\0\0\0\0\0";
+
+const CLIENT_ABORT_REPLY: &[u8] =
+    b"HG20\0\0\0\0\0\0\0\x29\x0bERROR:ABORT\0\0\0\0\x01\0\x07\x0emessageclient aborted\0\0\0\0\0\0\0\0";
+
+/// A bundle of another kind.
+const FOREIGN: &[u8] = b"HG10";
+
+const FOREIGN_REPLY: &[u8] =
+    b"HG20\0\0\0\0\0\0\0\x29\x0bERROR:ABORT\0\0\0\0\x01\0\x07\x0emessagestream fault 1\0\0\0\0\0\0\0\0";
+
+/// The first push, whose null id comes in chunks of 8 and 12 bytes with `output` between them.
+const INTERRUPTED: &[u8] =
+    b"HG20\0\0\0\0\0\0\0\x10\x09REPLYCAPS\0\0\0\0\0\0\0\0\0\0\0\0\0\x12\x0bCHECK:HEADS\0\0\0\x01\0\0\0\0\0\x08\0\0\0\0\0\0\0\0\xff\xff\xff\xff\0\0\0\x0d\x06output\0\0\0\0\0\0\0\0\0\0\0\0\0\x0c\0\0\0\0\0\0\0\0\0\0\0\0\0\0\0\0\0\0\0\0";
+
+/// The same, where `output` is interrupted itself.
+const TWICE_INTERRUPTED: &[u8] =
+    b"HG20\0\0\0\0\0\0\0\x10\x09REPLYCAPS\0\0\0\0\0\0\0\0\0\0\0\0\0\x12\x0bCHECK:HEADS\0\0\0\x01\0\0\0\0\0\x08\0\0\0\0\0\0\0\0\xff\xff\xff\xff\0\0\0\x0d\x06output\0\0\0\0\0\0\xff\xff\xff\xff\0\0\0\x0c\0\0\0\0\0\0\0\0\0\0\0\0\0\0\0\0\0\0\0\0";
+
+const TWICE_INTERRUPTED_REPLY: &[u8] =
+    b"HG20\0\0\0\0\0\0\0\x29\x0bERROR:ABORT\0\0\0\0\x01\0\x07\x0emessagestream fault 6\0\0\0\0\0\0\0\0";
+
+/// The same, interrupted by `frob`, which may not be ignored.
+const UNKNOWN_INTERRUPTION: &[u8] =
+    b"HG20\0\0\0\0\0\0\0\x10\x09REPLYCAPS\0\0\0\0\0\0\0\0\0\0\0\0\0\x12\x0bCHECK:HEADS\0\0\0\x01\0\0\0\0\0\x08\0\0\0\0\0\0\0\0\xff\xff\xff\xff\0\0\0\x0b\x04FROB\0\0\0\0\0\0\0\0\0\0\0\0\0\x0c\0\0\0\0\0\0\0\0\0\0\0\0\0\0\0\0\0\0\0\0";
+
+const UNKNOWN_INTERRUPTION_REPLY: &[u8] =
+    b"HG20\0\0\0\0\0\0\0\x29\x0bERROR:ABORT\0\0\0\0\x01\0\x07\x0emessagestream fault 8\0\0\0\0\0\0\0\0";
+
+/// The bundle without parts, and bytes that are dropped.
+const WITH_MORE: &[u8] = b"HG20\0\0\0\0\0\0\0\0 more";
+
+/// Runs the bundle, read at once, byte by byte and in pieces of three bytes, and checks status and reply.
 fn check<A: Allocator + Copy>(rt: &impl Abort, alloc: A, bundle: &[u8], status: u8, reply: &[u8]) {
-    let mut reader = Source::new(bundle);
-    let mut writer = Sink::new(alloc);
-    assert_eq!(*rt; run_one(alloc, &mut reader, &mut writer, false), status);
-    assert_eq!(*rt; writer.bytes(), reply);
+    for step in [usize::MAX, 1, 3] {
+        let mut reader = Source::in_pieces(bundle, step);
+        let mut writer = Sink::new(alloc);
+        assert_eq!(*rt; run_one(alloc, &mut reader, &mut writer, false), status);
+        assert_eq!(*rt; writer.bytes(), reply);
+    }
 }
 
 #[test]
@@ -56,36 +107,84 @@ fn the_race_on_heads(rt: HostRuntime) {
     check(&rt, rt.alloc(), RACE, 1, RACE_REPLY);
 }
 
+/// Its bytes come around another part, which is dropped.
+#[test]
+fn the_first_push_interrupted(rt: HostRuntime) {
+    assert_eq!(rt; INTERRUPTED.len(), 115);
+    check(&rt, rt.alloc(), INTERRUPTED, 0, EMPTY);
+}
+
+#[test]
+fn an_interruption_within_an_interruption(rt: HostRuntime) {
+    check(
+        &rt,
+        rt.alloc(),
+        TWICE_INTERRUPTED,
+        1,
+        TWICE_INTERRUPTED_REPLY,
+    );
+}
+
+#[test]
+fn an_unknown_interruption(rt: HostRuntime) {
+    check(
+        &rt,
+        rt.alloc(),
+        UNKNOWN_INTERRUPTION,
+        1,
+        UNKNOWN_INTERRUPTION_REPLY,
+    );
+}
+
 #[test]
 fn an_unknown_advisory_part(rt: HostRuntime) {
-    let bundle = b"HG20\0\0\0\0\0\0\0\x0b\x04frob\0\0\0\x05\0\0\0\0\0\0\0\0\0\0";
-    check(&rt, rt.alloc(), bundle, 0, EMPTY);
+    check(&rt, rt.alloc(), ADVISORY, 0, EMPTY);
 }
 
 #[test]
 fn an_unknown_mandatory_part(rt: HostRuntime) {
-    let bundle = b"HG20\0\0\0\0\0\0\0\x0b\x04FROB\0\0\0\x05\0\0\0\0\0\0\0\0\0\0";
-    let reply =
-        b"HG20\0\0\0\0\0\0\0\x2d\x18ERROR:UNSUPPORTEDCONTENT\0\0\0\0\x01\0\x08\x04parttypefrob\0\0\0\0\0\0\0\0";
-    assert_eq!(rt; reply.len(), 65);
-    check(&rt, rt.alloc(), bundle, 1, reply);
+    assert_eq!(rt; MANDATORY_REPLY.len(), 65);
+    check(&rt, rt.alloc(), MANDATORY, 1, MANDATORY_REPLY);
+}
+
+#[test]
+fn an_unknown_parameter(rt: HostRuntime) {
+    check(&rt, rt.alloc(), PARAMETER, 1, PARAMETER_REPLY);
+}
+
+/// Two unknown parameters, whose names of 200 bytes are told joined by NUL and cut after 255 bytes.
+#[test]
+fn unknown_parameters_with_long_names(rt: HostRuntime) -> Result<(), Fail> {
+    let mut bundle = Vec::from_slice(
+        rt.alloc(),
+        b"HG20\0\0\0\0\0\0\x01\xa4\x09REPLYCAPS\0\0\0\0\x02\0\xc8\0\xc8\0",
+    )?;
+    bundle.extend_from_slice(&[b'a'; 200])?;
+    bundle.extend_from_slice(&[b'b'; 200])?;
+    bundle.extend_from_slice(&[0; 8])?;
+    let mut reply = Vec::from_slice(
+        rt.alloc(),
+        b"HG20\0\0\0\0\0\0\x01\x39\x18ERROR:UNSUPPORTEDCONTENT\0\0\0\0\x02\0\x08\x09\x06\xffparttypereplycapsparams",
+    )?;
+    reply.extend_from_slice(&[b'a'; 200])?;
+    reply.push(0)?;
+    reply.extend_from_slice(&[b'b'; 54])?;
+    reply.extend_from_slice(&[0; 8])?;
+    assert_eq!(rt; reply.len(), 333);
+    check(&rt, rt.alloc(), &bundle, 1, &reply);
+    Ok(())
 }
 
 #[test]
 fn an_abort_of_the_client(rt: HostRuntime) {
-    let bundle = b"HG20\0\0\0\0\0\0\0\x12\x0bERROR:ABORT\0\0\0\0\0\0\0\0\0\0\0\0\0\0";
-    let reply =
-        b"HG20\0\0\0\0\0\0\0\x29\x0bERROR:ABORT\0\0\0\0\x01\0\x07\x0emessageclient aborted\0\0\0\0\0\0\0\0";
-    assert_eq!(rt; reply.len(), 61);
-    check(&rt, rt.alloc(), bundle, 1, reply);
+    assert_eq!(rt; CLIENT_ABORT_REPLY.len(), 61);
+    check(&rt, rt.alloc(), CLIENT_ABORT, 1, CLIENT_ABORT_REPLY);
 }
 
 #[test]
 fn a_foreign_magic(rt: HostRuntime) {
-    let reply =
-        b"HG20\0\0\0\0\0\0\0\x29\x0bERROR:ABORT\0\0\0\0\x01\0\x07\x0emessagestream fault 1\0\0\0\0\0\0\0\0";
-    assert_eq!(rt; reply.len(), 61);
-    check(&rt, rt.alloc(), b"HG10", 1, reply);
+    assert_eq!(rt; FOREIGN_REPLY.len(), 61);
+    check(&rt, rt.alloc(), FOREIGN, 1, FOREIGN_REPLY);
 }
 
 /// The reply to a bundle that is cut short.
@@ -106,14 +205,14 @@ fn a_short_bundle(rt: HostRuntime) {
 
 #[test]
 fn bytes_after_the_end_mark(rt: HostRuntime) {
-    check(&rt, rt.alloc(), b"HG20\0\0\0\0\0\0\0\0 more", 0, EMPTY);
+    check(&rt, rt.alloc(), WITH_MORE, 0, EMPTY);
 }
 
 /// The reply to a push whose reader failed.
 const LOST_REPLY: &[u8] =
     b"HG20\0\0\0\0\0\0\0\x2a\x0bERROR:ABORT\0\0\0\0\x01\0\x07\x0fmessageconnection lost\0\0\0\0\0\0\0\0";
 
-/// The first push in reads of 1 byte to all of it, of which each in turn fails.
+/// The first push in reads of 1 byte to all but one, of which each in turn fails.
 #[test]
 fn a_reader_that_fails(rt: HostRuntime) {
     for step in 1..FIRST_PUSH.len() {
@@ -146,4 +245,13 @@ fn a_writer_that_fails(rt: HostRuntime) {
     let mut writer = Sink::failing(rt.alloc(), RACE_REPLY.len(), true);
     assert_eq!(rt; run_one(rt.alloc(), &mut reader, &mut writer, false), 1);
     assert_eq!(rt; writer.bytes(), RACE_REPLY);
+}
+
+/// A writer that takes the whole reply, and does not flush it.
+#[test]
+fn a_flush_that_fails(rt: HostRuntime) {
+    let mut reader = Source::new(FIRST_PUSH);
+    let mut writer = Sink::without_flush(rt.alloc());
+    assert_eq!(rt; run_one(rt.alloc(), &mut reader, &mut writer, false), 3);
+    assert_eq!(rt; writer.bytes(), EMPTY);
 }

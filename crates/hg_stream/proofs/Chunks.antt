@@ -1,5 +1,5 @@
 -- What a reader of payloads took, seen from the stream.
-use Rattle.std.proofs.Common.{◌≡◌, ℕ, ◌+◌, ◌-◌, ◌<◌, ◌≤◌, List, [], ◌∷◌, ◌++◌, length, refl, sym, ap, ◌∙◌, append_assoc, arith, subst, take}
+use Rattle.std.proofs.Common.{◌≡◌, ℕ, ◌≤◌, List, [], ◌∷◌, ◌++◌, length, refl, sym, ap, ◌∙◌, append_assoc, arith, subst}
 use Rattle.std.specs.List.{flat_map, AllByRecursion}
 use Rattle.std.proofs.lemmas.Grind.{flat_map-append}
 use Rattle.std.proofs.lemmas.List.{append-nil, length-append}
@@ -12,7 +12,6 @@ use Rattle.hg_chunks.specs.Payload.{chunk_bytes, IsChunk, IsOpen, interruption, 
 use Rattle.hg_chunks.proofs.Phases.{open_while_reading}
 use Rattle.hg_chunks.specs.PayloadIn as chunks
 use Rattle.hg_params.specs.declared.head.Head.{Head}
-use Rattle.hg_stream.specs.declared.unbundler.Unbundler.{Unbundler}
 use Rattle.hg_stream.specs.Block.{sized}
 use Rattle.hg_stream.specs.Frames.{magic, Piece, Chunk, Pause, Break, Inner, joined, piece_bytes, piece_data, IsPiece, IsInner, inner_bytes, Frame, frame_bytes, part_of, IsFrame, AreFrames, HasParts}
 use Rattle.hg_stream.specs.Places.{IsInPayload, IsInterrupted, IsInInner, IsBeforeChunk, IsReading, at_chunk}
@@ -170,6 +169,7 @@ closes_part limits front parts head payload inside =
       params = has.params;
       frames = has.frames ++ frame ∷ [];
       block_fits = has.block_fits;
+      block_small = has.block_small;
       block_read = has.block_read;
       are = frames_more limits has.frames parts frame (part_of head payload) has.are (record {
         head = head;

@@ -1,16 +1,17 @@
 -- What a call of `feed` makes of a reader that goes on.
-use Rattle.std.proofs.Common.{◌≡◌, ℕ, zero, suc, ◌+◌, ◌-◌, ◌<◌, ◌≤◌, List, [], ◌∷◌, ◌++◌, length, take, drop, get_or, refl, sym, ap, ◌∙◌, append_assoc, arith, subst, Result, Ok, Err, IfOk, IfErr}
-use Rattle.std.proofs.lemmas.List.{append-nil, length-append, length-take, take_more, take-append-le, take-append-drop, take_all}
+use Rattle.std.proofs.Common.{◌≡◌, ◌≢◌, ℕ, zero, suc, ◌+◌, ◌<◌, ◌≤◌, List, [], ◌∷◌, ◌++◌, length, take, drop, get_or, refl, sym, ap, ◌∙◌, append_assoc, arith, subst, inl, inr, ◌⊎◌, Result, Ok, Err, IfOk, IfErr}
+use Rattle.std.proofs.lemmas.List.{append-nil, length-append, length-take, take_more, take-append-le, take-append-drop}
 use Rattle.hg_types.specs.declared.limits.Limits.{Limits}
 use Rattle.hg_types.specs.declared.part.Part.{Part}
 use Rattle.hg_stream.specs.declared.fault.StreamFault.{StreamFault}
+use Rattle.hg_stream.specs.declared.fault.StreamFault.TheVariants.{NoMemory}
 use Rattle.hg_stream.specs.declared.state.State.TheVariants.{Reading, Ended, Failed}
 use Rattle.hg_stream.specs.declared.unbundler.Stage.{Stage}
 use Rattle.hg_stream.specs.declared.unbundler.Stage.TheVariants as stage
 use Rattle.hg_stream.specs.declared.unbundler.Unbundler.{Unbundler}
 use Rattle.hg_stream.specs.Faults.{Stops, Tells}
-use Rattle.hg_stream.specs.Unbundler.{Fields, fields_of, IsAt, IsAtStage, Breaks, Halts, PassesBy, Feeds, Keeps, Holds, ready_of, limits_of, state_at, state_of}
-use Rattle.hg_stream.proofs.Telling.{told, holds}
+use Rattle.hg_stream.specs.Unbundler.{Fields, fields_of, IsAt, IsAtStage, Fails, Halts, Meets, PassesBy, Feeds, Keeps, Holds, ready_of, limits_of, state_at, state_of}
+use Rattle.hg_stream.proofs.Telling.{is_no_memory, met, met_stops, holds, reading_of}
 
 -- the same bytes of a front of a piece as of the piece
 pub front_take : (piece : List ℕ) (within n : ℕ) → n ≤ length (take within piece) → take n (take within piece) ≡ take n piece
@@ -47,7 +48,27 @@ halted fault u v taken failed same halts within given bytes going h =
     let k = going_keeps u given bytes going h in
     let x = halts bytes (given ++ ready_of u) k.0 in
     failed_holds fault v (limits_of u) given ((given ++ ready_of u) ++ x.0) (bytes ++ taken) failed same (append_assoc given (ready_of u) x.0 ∙ ap (λ r. given ++ r) (sym x.1))
-    (told fault (limits_of u) (bytes ++ taken) ((given ++ ready_of u) ++ x.0) (omega (arith, length-append bytes taken, k.1, within)) x.2)
+    (met_stops fault (limits_of u) (bytes ++ taken) ((given ++ ready_of u) ++ x.0) (met fault (limits_of u) (bytes ++ taken) ((given ++ ready_of u) ++ x.0) (omega (arith, length-append bytes taken, k.1, within)) (λ refused. omega (arith, length-append bytes taken, k.1, within)) x.2))
+
+-- The byte past the limit on the stream decides a fault; and where memory is refused there, that byte is not taken.
+pub refused_or_met : {A : Type 0} (fault : StreamFault) (u : Unbundler A) (place byte : ℕ) → place ≤ 1 → Fails fault u (take place (byte ∷ []))
+    → (n : ℕ) × (n ≤ 1) × ((bytes : List ℕ) (parts : List (Part A)) → IsAt u bytes parts → state_of u ≡ Reading → length bytes ≡ u.limits.stream → Meets fault u.limits (bytes ++ take n (byte ∷ [])) parts)
+refused_or_met {A} fault u place byte one fails = by_fault (is_no_memory fault)
+  where
+    by_fault : (fault ≡ NoMemory) ⊎ (fault ≢ NoMemory)
+        → (n : ℕ) × (n ≤ 1) × ((bytes : List ℕ) (parts : List (Part A)) → IsAt u bytes parts → state_of u ≡ Reading → length bytes ≡ u.limits.stream → Meets fault u.limits (bytes ++ take n (byte ∷ [])) parts)
+    by_fault (inl refused) = (
+      0,
+      omega arith,
+      λ bytes parts at going full.
+          subst (λ f. Meets f u.limits (bytes ++ []) parts) (sym refused) (subst (λ b. Meets NoMemory u.limits b parts) (sym (append-nil bytes)) (reading_of u bytes parts at going, omega (arith, full))),
+    )
+    by_fault (inr other) = (
+      place,
+      one,
+      λ bytes parts at going full.
+          met fault u.limits (bytes ++ take place (byte ∷ [])) parts (omega (arith, length-append bytes (take place (byte ∷ [])), length-take place (byte ∷ []), full, one)) (λ refused. absurd (other refused)) (fails bytes parts at),
+    )
 
 -- what a call took, and finished
 pub record Reads {A : Type 0} (u w : Unbundler A) (bytes : List ℕ) (parts added : List (Part A)) : Type 0 where
@@ -87,7 +108,7 @@ passed fault u w v taken past reads not_ended full same same_past failed passes 
     let on : state_of w ≡ Reading = going_at w.stage (fields_of w) (bytes ++ taken) ((given ++ ready_of u) ++ x.0) x.1.at.place not_ended in
     let p = passes (bytes ++ taken) ((given ++ ready_of u) ++ x.0) x.1.at on (omega (arith, length-append bytes taken, k.1, full, stream)) in
     subst (λ b. Holds v given b) (append_assoc bytes taken past)
-    (failed_holds fault v (limits_of w) given ((given ++ ready_of u) ++ x.0) ((bytes ++ taken) ++ past) failed same_past (parts_are u w given x.0 x.1.ready ∙ ap (λ r. given ++ r) (sym p.0)) p.1)
+    (failed_holds fault v (limits_of w) given ((given ++ ready_of u) ++ x.0) ((bytes ++ taken) ++ past) failed same_past (parts_are u w given x.0 x.1.ready ∙ ap (λ r. given ++ r) (sym p.0)) (met_stops fault (limits_of w) ((bytes ++ taken) ++ past) ((given ++ ready_of u) ++ x.0) p.1))
 
 -- ---- by cases of the answer
 

@@ -9,3 +9,13 @@ pub mod HeaderSizes
 pub mod Writing
 pub mod WrittenBundles
 pub mod OneBundle
+pub mod Runs
+pub mod Fronts
+pub mod Meanings
+pub mod Outcomes
+pub mod OneRun
+pub mod Reaching
+pub mod Words
+pub mod Prefixes
+pub mod Settling
+pub mod FirstFaults

@@ -1,9 +1,9 @@
 -- The four bytes of the magic, as a number.
-use Rattle.std.proofs.Common.{◌≡◌, ◌≢◌, ℕ, List, [], ◌∷◌, ◌++◌, length, refl, sym, ap, ◌∙◌, take, get_or, ◌<◌, ◌≤◌, arith, rules}
+use Rattle.std.proofs.Common.{◌≡◌, ◌≢◌, ℕ, List, [], ◌∷◌, ◌++◌, length, sym, ap, ◌∙◌, take, get_or, ◌<◌, ◌≤◌, arith, rules}
 use Rattle.std.specs.Prelude.{ℤ, pos}
 use Rattle.std.specs.Int.{w32, to_be_bytes, cast_unsigned}
 use Rattle.std.specs.Int.RustNames.{FitsSigned}
-use Rattle.std.proofs.lemmas.List.{append-nil, take_more, length-append}
+use Rattle.std.proofs.lemmas.List.{take_more, length-append}
 use Rattle.hg_chunks.specs.Size.{size_bytes}
 use Rattle.hg_chunks.proofs.Sizes.{one_size_lem}
 use Rattle.hg_stream.specs.Frames.{magic}

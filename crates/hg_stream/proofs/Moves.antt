@@ -5,7 +5,7 @@ use Rattle.std.proofs.lemmas.List.{append-nil, take_all, length-drop}
 use Rattle.hg_types.specs.declared.part.Part.{Part}
 use Rattle.hg_stream.specs.declared.fault.StreamFault.{StreamFault}
 use Rattle.hg_stream.specs.declared.unbundler.Unbundler.{Unbundler}
-use Rattle.hg_stream.specs.Unbundler.{IsAt, Finishes, Moves, Breaks, Fails, Halts, limits_of, ready_of}
+use Rattle.hg_stream.specs.Unbundler.{IsAt, Moves, Breaks, Fails, Halts, limits_of, ready_of}
 use Rattle.hg_stream.proofs.Steps.{finishes_none}
 
 pub moves_none : {A : Type 0} (u : Unbundler A) → Moves u u []

@@ -4,7 +4,6 @@ use Rattle.std.specs.Prelude.{pos, negsuc}
 use Rattle.std.specs.List.{flat_map, AllByRecursion}
 use Rattle.std.proofs.lemmas.List.{length-append}
 use Rattle.hg_types.specs.declared.limits.Limits.{Limits}
-use Rattle.hg_types.specs.Limits.{IsAllowed}
 use Rattle.hg_types.specs.declared.part.Part.{Part}
 use Rattle.hg_chunks.specs.Size.{size_bytes}
 use Rattle.hg_chunks.specs.Payload.{chunk_bytes, IsChunk, interruption, closing}
@@ -175,13 +174,13 @@ spelled_out limits bytes x parts w =
     ∙ append_assoc magic (sized w.has.block) (all ++ (closing ++ x))
 
 -- bytes begin with one whole bundle at most
-pub one_bundle : (A : Type 0) (limits : Limits) → IsAllowed limits → AreReadInOneWay A limits
-one_bundle A limits allowed a b x y ps qs wa wb same =
+pub one_bundle : (A : Type 0) (limits : Limits) → AreReadInOneWay A limits
+one_bundle A limits a b x y ps qs wa wb same =
     let all_a : List ℕ = frames_bytes wa.has.frames ++ (closing ++ x) in
     let all_b : List ℕ = frames_bytes wb.has.frames ++ (closing ++ y) in
     let behind = (fronts magic magic (sized wa.has.block ++ all_a) (sized wb.has.block ++ all_b) refl (sym (spelled_out limits a x ps wa) ∙ same ∙ spelled_out limits b y qs wb)).1 in
-    let fa : length wa.has.block < 2 ^ 31 = omega (arith, wa.has.block_fits, allowed.params.1) in
-    let fb : length wb.has.block < 2 ^ 31 = omega (arith, wb.has.block_fits, allowed.params.1) in
+    let fa : length wa.has.block < 2 ^ 31 = wa.has.block_small in
+    let fb : length wb.has.block < 2 ^ 31 = wb.has.block_small in
     let blocks = block_is wa.has.block wb.has.block all_a all_b fa fb behind in
     let read = one_frames limits wa.has.frames wb.has.frames ps qs x y wa.has.are wb.has.are blocks.1 in
     let sizes : length (a ++ x) ≡ length (b ++ y) = ap length same in

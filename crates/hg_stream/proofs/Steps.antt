@@ -1,14 +1,13 @@
 -- What the steps of a reader of bundles make of where it stood.
-use Rattle.std.proofs.Common.{◌≡◌, ℕ, zero, suc, ◌+◌, ◌<◌, ◌≤◌, Bool, true, false, List, [], ◌∷◌, ◌++◌, length, refl, sym, ap, ◌∙◌, append_assoc, arith, inl, inr, subst, take}
+use Rattle.std.proofs.Common.{◌≡◌, ℕ, ◌+◌, ◌<◌, ◌≤◌, ◌^◌, Bool, true, false, List, [], ◌++◌, length, refl, sym, ap, ◌∙◌, append_assoc, arith, inl, inr, subst, take}
 use Rattle.std.specs.Prelude.{nat_lt, if◌then◌else◌}
 use Rattle.std.proofs.lemmas.Bool.{ltb-true, lt-ltb, ltb_from_iff}
-use Rattle.std.proofs.lemmas.List.{append-nil, length-append}
+use Rattle.std.proofs.lemmas.List.{append-nil}
 use Rattle.hg_types.specs.declared.limits.Limits.{Limits}
 use Rattle.hg_types.specs.declared.part.Part.{Part}
-use Rattle.hg_chunks.specs.Payload.{closing}
 use Rattle.hg_params.specs.declared.head.Head.{Head}
 use Rattle.hg_params.specs.Header.{IsHeader}
-use Rattle.hg_params.specs.StreamParams.{AreStreamParams, pieces}
+use Rattle.hg_params.specs.StreamParams.{pieces}
 use Rattle.hg_stream.specs.declared.block.Awaits.{Awaits}
 use Rattle.hg_stream.specs.declared.block.Awaits.TheVariants as awaits
 use Rattle.hg_stream.specs.declared.block.BlockFault.{BlockFault}
@@ -21,7 +20,7 @@ use Rattle.hg_stream.specs.Block.{sized, IsBlock, IsPartialBlock, HoldsAt, Holds
 use Rattle.hg_stream.specs.Frames.{magic, max_header, HasParts}
 use Rattle.hg_stream.specs.Places.{IsBeforeBlock, params, header, IsBeforeHeader, IsInPayload, IsReading, at_block, header_room}
 use Rattle.hg_stream.specs.Told.{of_block, room_left, ReadsParams, RefusesParams, RefusesHeader}
-use Rattle.hg_stream.specs.Unbundler.{Breaks, IsAt, IsAtStage, Waits, AtParams, AtHeader, Finishes, ready_of}
+use Rattle.hg_stream.specs.Unbundler.{Breaks, IsAt, Waits, Finishes, ready_of}
 
 -- ---- blocks
 
@@ -62,12 +61,13 @@ room_is left limits parts sum =
 
 -- ---- the stream parameters
 
-pub params_read : {A : Type 0} (limits : Limits) (block : List ℕ) → length block ≤ limits.params → ReadsParams A block → HasParts {A = A} limits (magic ++ sized block) []
-params_read limits block fits reads = record {
+pub params_read : {A : Type 0} (limits : Limits) (block : List ℕ) → length block ≤ limits.params → length block < 2 ^ 31 → ReadsParams A block → HasParts {A = A} limits (magic ++ sized block) []
+params_read limits block fits small reads = record {
   block = block;
   params = reads.0;
   frames = [];
   block_fits = fits;
+  block_small = small;
   block_read = reads.1;
   are = tt;
   few = omega arith;
@@ -127,11 +127,11 @@ unfolding pieces
 no_params = ([], record { sound = refl; says = refl })
 
 -- behind the stream parameters
-pub behind_params : {A : Type 0} (limits : Limits) (block bytes rest taken : List ℕ) (parts : List (Part A)) → length block ≤ limits.params → ReadsParams A block → parts ≡ []
+pub behind_params : {A : Type 0} (limits : Limits) (block bytes rest taken : List ℕ) (parts : List (Part A)) → length block ≤ limits.params → length block < 2 ^ 31 → ReadsParams A block → parts ≡ []
     → bytes ≡ magic ++ rest → rest ++ taken ≡ sized block → (front : List ℕ) × HasParts limits front parts × (bytes ++ taken ≡ front ++ [])
-behind_params {A} limits block bytes rest taken parts fits reads none spelled is = (
+behind_params {A} limits block bytes rest taken parts fits small reads none spelled is = (
   magic ++ sized block,
-  subst (λ ps. HasParts {A = A} limits (magic ++ sized block) ps) (sym none) (params_read limits block fits reads),
+  subst (λ ps. HasParts {A = A} limits (magic ++ sized block) ps) (sym none) (params_read limits block fits small reads),
   further bytes magic rest taken spelled ∙ ap (λ (x : List ℕ). magic ++ x) is ∙ sym (append-nil _),
 )
 

@@ -1,6 +1,6 @@
 -- What a reader of bundles tells of the bytes that it took.
-use Rattle.std.proofs.Common.{◌≡◌, ◌≢◌, ℕ, ◌+◌, ◌≤◌, List, [], ◌∷◌, ◌++◌, length, take, refl, sym, ap, ◌∙◌, arith, inl, inr, subst, ◌⊎◌}
-use Rattle.std.proofs.lemmas.List.{append-nil, length-append, take_at}
+use Rattle.std.proofs.Common.{◌≡◌, ◌≢◌, ℕ, ◌+◌, ◌≤◌, List, [], ◌++◌, length, refl, sym, ap, ◌∙◌, arith, inl, inr, subst, ◌⊎◌}
+use Rattle.std.proofs.lemmas.List.{append-nil}
 use Rattle.hg_types.specs.declared.limits.Limits.{Limits}
 use Rattle.hg_types.specs.declared.part.Part.{Part}
 use Rattle.hg_chunks.specs.PayloadIn.{Phase}
@@ -13,25 +13,59 @@ use Rattle.hg_stream.specs.declared.unbundler.Stage.{Stage}
 use Rattle.hg_stream.specs.declared.unbundler.Stage.TheVariants as stage
 use Rattle.hg_stream.specs.declared.unbundler.Unbundler.{Unbundler}
 use Rattle.hg_stream.specs.Frames.{magic, IsWhole}
-use Rattle.hg_stream.specs.Places.{IsReading, at_magic, params, header, of_part, of_interrupting, IsBeforeChunk}
-use Rattle.hg_stream.specs.Faults.{IsFault, by_grammar, by_length, Stops, Tells}
-use Rattle.hg_stream.specs.Unbundler.{Fields, fields_of, IsAt, IsAtStage, Breaks, Keeps, Holds, ready_of, state_at, state_of}
+use Rattle.hg_stream.specs.Places.{IsReading, at_magic, params, header, of_part, of_interrupting}
+use Rattle.hg_stream.specs.Faults.{by_grammar, by_length, Stops, Tells}
+use Rattle.hg_stream.specs.Unbundler.{Fields, fields_of, IsAt, IsAtStage, Breaks, Meets, Keeps, Holds, ready_of, state_at, state_of}
 use Rattle.hg_stream.proofs.Steps.{still_reading}
 use Rattle.hg_stream.proofs.Chunks.{chunk_reading}
 
--- a fault that is decided is one that is told
-pub told : {A : Type 0} (fault : StreamFault) (limits : Limits) (bytes : List ℕ) (parts : List (Part A)) → length bytes ≤ limits.stream + 1 → Breaks fault limits bytes parts → Stops fault limits bytes parts
-told BadMagic limits bytes parts within h = by_grammar h within
-told NegativeSize limits bytes parts within h = by_grammar h within
-told (Params fault) limits bytes parts within h = by_grammar h within
-told (Header fault) limits bytes parts within h = by_grammar h within
-told (Chunk fault) limits bytes parts within h = by_grammar h within
-told NestedInterrupt limits bytes parts within h = by_grammar h within
-told ClientAbort limits bytes parts within h = by_grammar h within
-told Unsupported limits bytes parts within h = by_grammar h within
-told TooLarge limits bytes parts within h = by_grammar h within
-told Truncated limits bytes parts within h = absurd h
-told NoMemory limits bytes parts within h = h
+-- want of memory, or another fault
+pub is_no_memory : (fault : StreamFault) → (fault ≡ NoMemory) ⊎ (fault ≢ NoMemory)
+is_no_memory BadMagic = inr (λ e. cc)
+is_no_memory NegativeSize = inr (λ e. cc)
+is_no_memory (Params fault) = inr (λ e. cc)
+is_no_memory (Header fault) = inr (λ e. cc)
+is_no_memory (Chunk fault) = inr (λ e. cc)
+is_no_memory NestedInterrupt = inr (λ e. cc)
+is_no_memory ClientAbort = inr (λ e. cc)
+is_no_memory Unsupported = inr (λ e. cc)
+is_no_memory TooLarge = inr (λ e. cc)
+is_no_memory Truncated = inr (λ e. cc)
+is_no_memory NoMemory = inl refl
+
+-- a fault that is decided is one that is met; memory is refused within the limit on the stream
+pub met : {A : Type 0} (fault : StreamFault) (limits : Limits) (bytes : List ℕ) (parts : List (Part A)) → length bytes ≤ limits.stream + 1 → (fault ≡ NoMemory → length bytes ≤ limits.stream)
+    → Breaks fault limits bytes parts → Meets fault limits bytes parts
+met BadMagic limits bytes parts within room h = by_grammar h within
+met NegativeSize limits bytes parts within room h = by_grammar h within
+met (Params fault) limits bytes parts within room h = by_grammar h within
+met (Header fault) limits bytes parts within room h = by_grammar h within
+met (Chunk fault) limits bytes parts within room h = by_grammar h within
+met NestedInterrupt limits bytes parts within room h = by_grammar h within
+met ClientAbort limits bytes parts within room h = by_grammar h within
+met Unsupported limits bytes parts within room h = by_grammar h within
+met TooLarge limits bytes parts within room h = by_grammar h within
+met Truncated limits bytes parts within room h = absurd h
+met NoMemory limits bytes parts within room h = (h, room refl)
+
+-- no byte decides that the input ended
+not_truncated : {A : Type 0} (limits : Limits) (bytes : List ℕ) (parts : List (Part A)) → Meets Truncated limits bytes parts → ⊥
+not_truncated limits bytes parts (by_grammar decides within) = decides
+not_truncated limits bytes parts (by_length front last read before after spelled full e) = cc
+
+-- a reader that met a fault stops there
+pub met_stops : {A : Type 0} (fault : StreamFault) (limits : Limits) (bytes : List ℕ) (parts : List (Part A)) → Meets fault limits bytes parts → Stops fault limits bytes parts
+met_stops BadMagic limits bytes parts h = h
+met_stops NegativeSize limits bytes parts h = h
+met_stops (Params fault) limits bytes parts h = h
+met_stops (Header fault) limits bytes parts h = h
+met_stops (Chunk fault) limits bytes parts h = h
+met_stops NestedInterrupt limits bytes parts h = h
+met_stops ClientAbort limits bytes parts h = h
+met_stops Unsupported limits bytes parts h = h
+met_stops TooLarge limits bytes parts h = h
+met_stops Truncated limits bytes parts h = absurd (not_truncated limits bytes parts h)
+met_stops NoMemory limits bytes parts h = h
 
 reading_at : {A : Type 0} (s : Stage) (u : Fields A) (bytes : List ℕ) (parts : List (Part A)) → IsAtStage s u bytes parts → state_at s ≡ Reading → IsReading u.limits (bytes ++ []) parts
 reading_at stage.Magic u bytes parts h e = at_magic (rw append-nil (omega (arith, h.short))) h.none

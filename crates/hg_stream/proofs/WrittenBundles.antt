@@ -85,6 +85,7 @@ written_is_bundle limits parts within =
           params = none.0;
           frames = written_frames 0 parts;
           block_fits = omega arith;
+          block_small = omega arith;
           block_read = none.1;
           are = are_frames limits 0 parts (omega (arith, within.numbered)) (recursion_from_All CanBeWritten parts within.writable) (recursion_from_All (λ part. length part.payload ≤ limits.payload) parts within.payloads);
           few = omega (arith, as_many 0 parts, within.few);

@@ -1,5 +1,5 @@
 -- Which fault the last of some bytes decides.
-use Rattle.std.specs.Prelude.{◌≡◌, ◌≢◌, ℕ, ◌+◌, ◌<◌, ◌≤◌, List, [], ◌∷◌, ◌++◌, length, ◌⊎◌}
+use Rattle.std.specs.Prelude.{◌≡◌, ◌≢◌, ℕ, ◌+◌, ◌≤◌, List, [], ◌∷◌, ◌++◌, length, ◌⊎◌}
 use Rattle.hg_types.specs.declared.limits.Limits.{Limits}
 use Rattle.hg_types.specs.declared.part.Part.{Part}
 use Rattle.hg_chunks.specs.declared.fault.ChunkFault.{ChunkFault}
@@ -60,10 +60,10 @@ pub data IsFault {A : Type 0} (limits : Limits) (bytes : List ℕ) (parts : List
   by_length : (front : List ℕ) (last : ℕ) (read : List (Part A)) → IsReading limits front parts → IsReading limits bytes read ⊎ IsWhole limits bytes read
       → bytes ≡ front ++ last ∷ [] → length bytes ≡ limits.stream + 1 → fault ≡ TooLarge → IsFault limits bytes parts fault
 
--- no fault of the bytes: memory was refused, or the input ended
+-- no fault of the bytes, which are still read within the limit on the stream: memory was refused, or the input ended
 abbrev pub Stops : {A : Type 0} → StreamFault → Limits → List ℕ → List (Part A) → Type 0
-Stops Truncated limits bytes parts = IsReading limits bytes parts
-Stops NoMemory limits bytes parts = IsReading limits bytes parts
+Stops Truncated limits bytes parts = IsReading limits bytes parts × (length bytes ≤ limits.stream)
+Stops NoMemory limits bytes parts = IsReading limits bytes parts × (length bytes ≤ limits.stream)
 Stops fault limits bytes parts = IsFault limits bytes parts fault
 
 -- what a state says of the bytes consumed, and of their parts

@@ -1,5 +1,5 @@
 -- The grammar of a bundle: the magic, the stream parameters, frames and the end mark, joined.
-use Rattle.std.specs.Prelude.{◌≡◌, ℕ, ◌<◌, ◌≤◌, List, [], ◌∷◌, ◌++◌, length}
+use Rattle.std.specs.Prelude.{◌≡◌, ℕ, ◌<◌, ◌≤◌, ◌^◌, List, [], ◌∷◌, ◌++◌, length}
 use Rattle.std.specs.List.{flat_map, AllByRecursion}
 use Rattle.hg_types.specs.declared.limits.Limits.{Limits}
 use Rattle.hg_types.specs.declared.part.Part.{Part}
@@ -106,6 +106,7 @@ pub record HasParts {A : Type 0} (limits : Limits) (bytes : List ℕ) (parts : L
   pub params : List (StreamParam A)
   pub frames : List Frame
   pub block_fits : length block ≤ limits.params
+  pub block_small : length block < 2 ^ 31
   pub block_read : AreStreamParams block params
   pub are : AreFrames limits frames parts
   pub few : length parts ≤ limits.parts

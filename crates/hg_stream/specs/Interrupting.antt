@@ -6,7 +6,6 @@ use Rattle.std.specs.Prelude.{ℕ, Bool, ◌&&◌, ◌||◌, not, List, if◌the
 use Rattle.std.specs.List.{list_all, list_any}
 use Rattle.std.specs.Char.{to_ascii_lowercase, is_ascii_uppercase}
 use Rattle.std.specs.Str.{bytes_eq}
-use Rattle.hg_types.specs.declared.part.Param.{Param}
 use Rattle.hg_params.specs.declared.head.Head.{Head}
 use Rattle.hg_stream.specs.declared.interrupting.Verdict.{Verdict}
 use Rattle.hg_stream.specs.declared.interrupting.Verdict.TheVariants.{Dropped, Aborts, Refused}

@@ -6,7 +6,7 @@ use Rattle.hg_chunks.specs.declared.payload.PayloadIn.{PayloadIn}
 use Rattle.hg_chunks.specs.PayloadIn as chunks
 use Rattle.hg_params.specs.declared.head.Head.{Head}
 use Rattle.hg_stream.specs.declared.fault.StreamFault.{StreamFault}
-use Rattle.hg_stream.specs.declared.fault.StreamFault.TheVariants.{Params, Header, NoMemory}
+use Rattle.hg_stream.specs.declared.fault.StreamFault.TheVariants.{NoMemory}
 use Rattle.hg_stream.specs.declared.state.State.{State}
 use Rattle.hg_stream.specs.declared.state.State.TheVariants.{Reading, Ended, Failed}
 use Rattle.hg_stream.specs.declared.block.BlockIn.{BlockIn}
@@ -17,7 +17,7 @@ use Rattle.hg_stream.specs.Block.{HoldsBlock}
 use Rattle.hg_chunks.specs.Payload.{closing}
 use Rattle.hg_stream.specs.Frames.{magic, max_header, part_of, HasParts, IsWhole}
 use Rattle.hg_stream.specs.Places.{IsInPayload, IsInterrupted, IsInInner, header_room, IsReading}
-use Rattle.hg_stream.specs.Faults.{Decides, Stops, Tells}
+use Rattle.hg_stream.specs.Faults.{Decides, IsFault, Tells}
 
 abbrev pub state_at : Stage → State
 state_at stage.Magic = Reading
@@ -155,10 +155,15 @@ abbrev pub Halts : {A : Type 0} → StreamFault → Unbundler A → Unbundler A 
 Halts {A} fault u v taken = (bytes : List ℕ) (parts : List (Part A)) → IsAt u bytes parts
     → (added : List (Part A)) × (ready_of v ≡ ready_of u ++ added) × Breaks fault u.limits (bytes ++ taken) (parts ++ added)
 
+-- what a reader that is fed can meet: the fault that the last byte decides, or want of memory within the limit on the stream
+abbrev pub Meets : {A : Type 0} → StreamFault → Limits → List ℕ → List (Part A) → Type 0
+Meets NoMemory limits bytes parts = IsReading limits bytes parts × (length bytes ≤ limits.stream)
+Meets fault limits bytes parts = IsFault limits bytes parts fault
+
 -- from u, which took as many bytes as the stream may have, it met that fault by these bytes, and finished nothing
 abbrev pub PassesBy : {A : Type 0} → StreamFault → Unbundler A → Unbundler A → List ℕ → Type 0
 PassesBy {A} fault u v taken = (bytes : List ℕ) (parts : List (Part A)) → IsAt u bytes parts → state_of u ≡ Reading → length bytes ≡ u.limits.stream
-    → (ready_of v ≡ ready_of u) × Stops fault u.limits (bytes ++ taken) parts
+    → (ready_of v ≡ ready_of u) × Meets fault u.limits (bytes ++ taken) parts
 
 -- ---- the whole
 
@@ -172,6 +177,10 @@ Keeps (Failed fault) u bytes parts = Unit {0}
 pub record Holds {A : Type 0} (u : Unbundler A) (given : List (Part A)) (bytes : List ℕ) : Type 0 where
   pub keeps : Keeps (state_of u) u bytes (given ++ ready_of u)
   pub tells : Tells (state_of u) (limits_of u) bytes (given ++ ready_of u)
+
+-- a reader that took some bytes, gave some parts, and goes on
+abbrev pub IsStillReading : {A : Type 0} → Unbundler A → Type 0
+IsStillReading {A} u = (given : List (Part A)) × (bytes : List ℕ) × Holds u given bytes × (state_of u ≡ Reading)
 
 -- from u, which went on, it came to v by these bytes
 abbrev pub Feeds : {A : Type 0} → Unbundler A → Unbundler A → List ℕ → Type 0

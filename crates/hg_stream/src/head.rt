@@ -1,6 +1,6 @@
 //! Heads of parts: how large they may be, what a whole block says as one, and the part of a head and its payload.
 
-ghost use Rattle.std.specs.Prelude.{◌≡◌, IfOk, IfErr, OnOk};
+ghost use Rattle.std.specs.Prelude.{◌≡◌, [], IfOk, IfErr, OnOk};
 ghost use Rattle.hg_params.specs.Header.{IsHeader};
 ghost use Rattle.hg_stream.specs.Frames.{part_of};
 ghost use Rattle.hg_stream.specs.Told.{room_left, RefusesHeader, RefusesParams, ReadsParams, ReadsInterrupting, RefusesInterrupting};
@@ -69,7 +69,12 @@ pub fn read_params<A: Allocator + Copy>(alloc: A, block: &[u8]) -> Result<(), St
     }
 }
 
-pub fn no_head<A: Allocator + Copy>(alloc: A) -> Head<A> {
+/// A head that says nothing.
+pub fn no_head<A: Allocator + Copy>(alloc: A) -> Head<A>
+    ensures kind { result.kind ≡ [] }
+    ensures id { result.id ≡ 0 }
+    ensures params { result.params ≡ [] }
+{
     Head {
         kind: Seq::new(alloc),
         id: 0,

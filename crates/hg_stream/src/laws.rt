@@ -3,8 +3,7 @@
 ghost use Rattle.std.specs.Prelude.{List};
 ghost use Rattle.hg_types.specs.declared.limits.Limits.{Limits as AnyLimits};
 ghost use Rattle.hg_types.specs.declared.part.Part.{Part as AnyPart};
-ghost use Rattle.hg_types.specs.Limits.{IsAllowed};
-ghost use Rattle.hg_stream.specs.Laws.{IsReadBack, AreReadInOneWay};
+ghost use Rattle.hg_stream.specs.Laws.{IsReadBack, AreReadInOneWay, AreSettledOnce, HasOneVerdict};
 
 use std::alloc::Allocator;
 
@@ -15,5 +14,17 @@ pub fn what_is_written_is_a_bundle<A: Allocator>()
 
 /// Bytes begin with one whole bundle at most, and it has one list of parts.
 pub fn bundles_are_read_in_one_way<A: Allocator>()
-    ensures { (limits : AnyLimits) → IsAllowed limits → AreReadInOneWay A limits }
+    ensures { (limits : AnyLimits) → AreReadInOneWay A limits }
+{}
+
+/// A stream is settled at one place: its bytes are read on up to there, and there they are a whole bundle or decide a fault, in
+/// one way and with one list of parts.
+pub fn streams_are_settled_once<A: Allocator>()
+    ensures { (limits : AnyLimits) → AreSettledOnce A limits }
+{}
+
+/// A stream has one verdict at most, which is what the reader tells: within the limit on the stream its bytes are read on up to one
+/// place, and there they are a bundle or show a fault, one alone and with one list of parts.
+pub fn streams_have_one_verdict<A: Allocator>()
+    ensures { (limits : AnyLimits) → HasOneVerdict A limits }
 {}

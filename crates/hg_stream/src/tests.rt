@@ -25,6 +25,14 @@ const FIRST_PUSH: &[u8] =
 const FIRST_PUSH_INTERRUPTED: &[u8] =
     b"HG20\0\0\0\0\0\0\0\x10\x09REPLYCAPS\0\0\0\0\0\0\0\0\0\0\0\0\0\x12\x0bCHECK:HEADS\0\0\0\x01\0\0\0\0\0\x08\0\0\0\0\0\0\0\0\xff\xff\xff\xff\0\0\0\x0d\x06output\0\0\0\0\0\0\0\0\0\0\0\0\0\x0c\0\0\0\0\0\0\0\0\0\0\0\0\0\0\0\0\0\0\0\0";
 
+/// The interrupted first push, with a size of -1 in place of the closing size inside the `output` part.
+const FIRST_PUSH_INTERRUPTED_TWICE: &[u8] =
+    b"HG20\0\0\0\0\0\0\0\x10\x09REPLYCAPS\0\0\0\0\0\0\0\0\0\0\0\0\0\x12\x0bCHECK:HEADS\0\0\0\x01\0\0\0\0\0\x08\0\0\0\0\0\0\0\0\xff\xff\xff\xff\0\0\0\x0d\x06output\0\0\0\0\0\0\xff\xff\xff\xff\0\0\0\x0c\0\0\0\0\0\0\0\0\0\0\0\0\0\0\0\0\0\0\0\0";
+
+/// The interrupted first push, with a mandatory part of the type `FROB` in place of the `output` part.
+const FIRST_PUSH_INTERRUPTED_BY_FROB: &[u8] =
+    b"HG20\0\0\0\0\0\0\0\x10\x09REPLYCAPS\0\0\0\0\0\0\0\0\0\0\0\0\0\x12\x0bCHECK:HEADS\0\0\0\x01\0\0\0\0\0\x08\0\0\0\0\0\0\0\0\xff\xff\xff\xff\0\0\0\x0b\x04FROB\0\0\0\0\0\0\0\0\0\0\0\0\0\x0c\0\0\0\0\0\0\0\0\0\0\0\0\0\0\0\0\0\0\0\0";
+
 /// A part that asks for no heads at all.
 const RACE_ON_HEADS: &[u8] = b"HG20\0\0\0\0\0\0\0\x12\x0bCHECK:HEADS\0\0\0\0\0\0\0\0\0\0\0\0\0\0";
 
@@ -36,6 +44,14 @@ struct Fields<'a> {
     params: usize,
     payload: &'a [u8],
 }
+
+/// The first part of the first push.
+const REPLYCAPS: Fields<'static> = Fields {
+    kind: b"REPLYCAPS",
+    id: 0,
+    params: 0,
+    payload: b"",
+};
 
 fn has_fields<A: Allocator>(part: &Part<A>, fields: Fields) -> bool {
     part.kind.as_slice() == fields.kind
@@ -116,6 +132,34 @@ fn read_whole<A: Allocator + Copy>(
     requires { IsAllowed limits }
 {
     read_in_pieces(alloc, limits, bytes, bytes.len(), bytes.len())
+}
+
+/// Whether the bytes, byte by byte, in pieces of 3 and at once, lead to that state with equally many parts, so many of them
+/// taken before it byte by byte.
+fn comes_to<A: Allocator + Copy>(
+    alloc: A,
+    limits: Limits,
+    bytes: &[u8],
+    taken: usize,
+    state: State,
+) -> Result<bool, NoMemory>
+    requires { IsAllowed limits }
+{
+    let bytewise = read_in_pieces(alloc, limits, bytes, 1, 1)?;
+    let by_threes = read_in_pieces(alloc, limits, bytes, 3, 3)?;
+    let whole = read_whole(alloc, limits, bytes)?;
+    let count = bytewise.parts.len();
+    Ok(
+        bytewise.state == state
+            && bytewise.taken == taken
+            && is_settled(&by_threes, state, count)
+            && is_settled(&whole, state, count),
+    )
+}
+
+/// Whether the reader came to that state with so many parts.
+fn is_settled<A: Allocator>(read: &Read<A>, state: State, count: usize) -> bool {
+    read.state == state && read.parts.len() == count
 }
 
 /// The limits of a stream and of payloads, beside the standard ones. They have to be allowed.

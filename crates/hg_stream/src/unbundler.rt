@@ -69,7 +69,7 @@ pub struct Unbundler<A: Allocator = Global> {
 }
 
 impl<A: Allocator + Copy> Unbundler<A> {
-    ghost use Rattle.hg_stream.specs.Unbundler.{Holds, Feeds, Moves, Fails, Halts, PassesBy, Finished, state_of, limits_of, ready_of};
+    ghost use Rattle.hg_stream.specs.Unbundler.{Holds, IsStillReading, Feeds, Moves, Fails, Halts, PassesBy, Finished, state_of, limits_of, ready_of};
 
     /// A reader that was fed nothing.
     pub fn new(alloc: A, limits: Limits) -> Self
@@ -102,6 +102,8 @@ impl<A: Allocator + Copy> Unbundler<A> {
         ensures err { IfErr result (λ fault. (place : ℕ) × (place ≤ length piece.now)
             × ((given : List (Part A)) (bytes : List ℕ) → Holds self.old given bytes → Holds self.new given (bytes ++ take place piece.now))) }
         ensures failed { IfErr result (λ fault. state_of self.new ≡ Failed fault) }
+        ensures goes_on { IsStillReading self.old → IfOk result (λ n. (fault : StreamFault) → state_of self.new ≢ Failed fault) }
+        ensures not_truncated { IsStillReading self.old → result ≢ Err StreamFault.Truncated }
         ensures still_failed { (fault : StreamFault) → state_of self.old ≡ Failed fault → (result ≡ Err fault) × (self.new ≡ self.old) }
         ensures still_ended { state_of self.old ≡ Ended → (result ≡ Ok 0) × (self.new ≡ self.old) }
         ensures limits { limits_of self.new ≡ limits_of self.old }
@@ -161,6 +163,8 @@ impl<A: Allocator + Copy> Unbundler<A> {
         ensures ok { IfOk result (λ n. Feeds self.old self.new (take n piece.now)) }
         ensures err { IfErr result (λ fault. (place : ℕ) × (place ≤ length piece.now) × Feeds self.old self.new (take place piece.now)) }
         ensures failed { IfErr result (λ fault. state_of self.new ≡ Failed fault) }
+        ensures goes_on { IsStillReading self.old → IfOk result (λ n. (fault : StreamFault) → state_of self.new ≢ Failed fault) }
+        ensures not_truncated { IsStillReading self.old → result ≢ Err StreamFault.Truncated }
         ensures limits { limits_of self.new ≡ limits_of self.old }
     {
         let within = piece.len().min(self.stream_left as usize);

@@ -4,6 +4,19 @@ use super::*;
 use linked_list_allocator::LocalHeap;
 use std::alloc::Global;
 
+/// The reply to a push that was aborted for want of memory.
+const REFUSED_REPLY: &[u8] =
+    b"HG20\0\0\0\0\0\0\0\x28\x0bERROR:ABORT\0\0\0\0\x01\0\x07\x0dmessageout of memory\0\0\0\0\0\0\0\0";
+
+/// The reply to a bundle of which a part was not kept, for want of memory.
+const UNREAD_REPLY: &[u8] =
+    b"HG20\0\0\0\0\0\0\0\x2a\x0bERROR:ABORT\0\0\0\0\x01\0\x07\x0fmessagestream fault 11\0\0\0\0\0\0\0\0";
+
+/// Whether the bytes tell want of memory. They are empty where there was no memory to tell it.
+fn tells_want_of_memory(bytes: &[u8]) -> bool {
+    bytes.is_empty() || bytes == REFUSED_REPLY || bytes == UNREAD_REPLY
+}
+
 /// One growth after another is refused, until none is. The answer comes or memory is wanting: there is no third.
 fn grows(
     rt: &impl Abort,
@@ -19,6 +32,7 @@ fn grows(
         let mut writer = Sink::new(alloc);
         let answer = run_one(&heap, &mut reader, &mut writer, false);
         if answer == 4 {
+            assert!(*rt; tells_want_of_memory(writer.bytes()));
             refused = refused.saturating_add(1);
             continue;
         }
@@ -31,19 +45,32 @@ fn grows(
     Ok(())
 }
 
+/// Each worked example.
 #[test]
-fn a_growth_for_the_first_push_is_refused(rt: HostRuntime) -> Result<(), Fail> {
-    grows(&rt, rt.alloc(), FIRST_PUSH, 0, EMPTY)
-}
-
-#[test]
-fn a_growth_for_the_race_is_refused(rt: HostRuntime) -> Result<(), Fail> {
-    grows(&rt, rt.alloc(), RACE, 1, RACE_REPLY)
-}
-
-#[test]
-fn a_growth_for_a_short_bundle_is_refused(rt: HostRuntime) -> Result<(), Fail> {
-    grows(&rt, rt.alloc(), &FIRST_PUSH[..80], 1, TRUNCATED_REPLY)
+fn a_growth_is_refused(rt: HostRuntime) -> Result<(), Fail> {
+    assert_eq!(rt; REFUSED_REPLY.len(), 60);
+    assert_eq!(rt; UNREAD_REPLY.len(), 62);
+    let examples: [(&[u8], u8, &[u8]); 15] = [
+        (EMPTY, 0, EMPTY),
+        (FIRST_PUSH, 0, EMPTY),
+        (INTERRUPTED, 0, EMPTY),
+        (TWICE_INTERRUPTED, 1, TWICE_INTERRUPTED_REPLY),
+        (UNKNOWN_INTERRUPTION, 1, UNKNOWN_INTERRUPTION_REPLY),
+        (RACE, 1, RACE_REPLY),
+        (ADVISORY, 0, EMPTY),
+        (MANDATORY, 1, MANDATORY_REPLY),
+        (PARAMETER, 1, PARAMETER_REPLY),
+        (CLIENT_ABORT, 1, CLIENT_ABORT_REPLY),
+        (FOREIGN, 1, FOREIGN_REPLY),
+        (&EMPTY[..3], 1, TRUNCATED_REPLY),
+        (&EMPTY[..11], 1, TRUNCATED_REPLY),
+        (&FIRST_PUSH[..80], 1, TRUNCATED_REPLY),
+        (WITH_MORE, 0, EMPTY),
+    ];
+    for (bundle, status, reply) in examples {
+        grows(&rt, rt.alloc(), bundle, status, reply)?;
+    }
+    Ok(())
 }
 
 /// Where memory is wanting and a read fails, the status tells the read. Nothing is read where the push is not opened.

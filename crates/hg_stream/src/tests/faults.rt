@@ -13,8 +13,8 @@ fn has_failed<A: Allocator + Copy>(reader: &mut Unbundler<A>, fault: StreamFault
         && reader.state() == State::Failed(fault)
 }
 
-/// Whether the last byte shows the fault and no byte before it, in two pieces, byte by byte and with bytes behind it, and
-/// the fault stays.
+/// Whether the last byte shows the fault and no byte before it, in two pieces, byte by byte, in pieces of 3, at once and
+/// with bytes behind it, and the fault stays.
 fn is_fault_at_end<A: Allocator + Copy>(
     alloc: A,
     bytes: &[u8],
@@ -30,15 +30,13 @@ fn is_fault_at_end<A: Allocator + Copy>(
         && reader.feed(&[*last]) == Err(fault)
         && has_failed(&mut reader, fault);
 
-    let bytewise = read_in_pieces(alloc, limits, bytes, 1, 1)?;
+    let failed = State::Failed(fault);
     let mut more = Vec::from_slice(alloc, bytes)?;
     more.extend_from_slice(EMPTY)?;
-    let behind = read_whole(alloc, limits, more.as_slice())?;
     Ok(
         in_two
-            && bytewise.state == State::Failed(fault)
-            && bytewise.taken == front.len()
-            && behind.state == State::Failed(fault),
+            && comes_to(alloc, limits, bytes, front.len(), failed)?
+            && comes_to(alloc, limits, more.as_slice(), front.len(), failed)?,
     )
 }
 
@@ -156,6 +154,47 @@ fn interruptions_refused(rt: HostRuntime) -> Result<(), Fail> {
             is_fault_at_end(rt.alloc(), bytes.as_slice(), fault)?,
             "{fault}"
         );
+    }
+    Ok(())
+}
+
+// The interrupted first push, whose interrupting part is interrupted in place of closed, or is `FROB`: the fault, its number
+// and its byte, with the bytes behind it and without, and the part before it.
+#[test]
+fn first_push_interrupted_wrongly(rt: HostRuntime) -> Result<(), Fail> {
+    assert_eq!(rt; FIRST_PUSH_INTERRUPTED_TWICE.len(), 115);
+    assert_eq!(rt; FIRST_PUSH_INTERRUPTED_BY_FROB.len(), 113);
+    let cases: [(&[u8], usize, StreamFault, u8); 2] = [
+        (
+            FIRST_PUSH_INTERRUPTED_TWICE,
+            91,
+            StreamFault::NestedInterrupt,
+            6,
+        ),
+        (
+            FIRST_PUSH_INTERRUPTED_BY_FROB,
+            85,
+            StreamFault::Unsupported,
+            8,
+        ),
+    ];
+    for (bundle, place, fault, number) in cases {
+        assert_eq!(rt; fault.number(), number);
+        let (front, _) = bundle.split_at(place.min(bundle.len()));
+        assert!(rt; is_fault_at_end(rt.alloc(), front, fault)?, "{fault}");
+        let taken = place.saturating_sub(1);
+        let failed = State::Failed(fault);
+        assert!(rt;
+            comes_to(rt.alloc(), Limits::standard(), bundle, taken, failed)?,
+            "{fault}"
+        );
+        for width in [1usize, 3, 115] {
+            let read = read_in_pieces(rt.alloc(), Limits::standard(), bundle, width, width)?;
+            assert!(rt;
+                have_fields(read.parts.as_slice(), &[REPLYCAPS]),
+                "{fault} in pieces of {width}"
+            );
+        }
     }
     Ok(())
 }

@@ -1,25 +1,8 @@
 //! Limits at their last value, and one past it.
 
-ghost use Rattle.hg_types.specs.Limits.{IsAllowed};
-
 use super::*;
 use hg_chunks::ChunkFault;
 use hg_params::ParamFault;
-
-/// Whether the bytes, byte by byte and at once, lead to that state, so many of them taken before it byte by byte.
-fn comes_to<A: Allocator + Copy>(
-    alloc: A,
-    limits: Limits,
-    bytes: &[u8],
-    taken: usize,
-    state: State,
-) -> Result<bool, NoMemory>
-    requires { IsAllowed limits }
-{
-    let bytewise = read_in_pieces(alloc, limits, bytes, 1, 1)?;
-    let whole = read_whole(alloc, limits, bytes)?;
-    Ok(bytewise.state == state && bytewise.taken == taken && whole.state == state)
-}
 
 const TOO_LARGE: State = State::Failed(StreamFault::TooLarge);
 
@@ -101,15 +84,23 @@ fn byte_past_the_limit_with_a_fault(rt: HostRuntime) -> Result<(), Fail> {
 #[test]
 fn part_past_the_limit(rt: HostRuntime) -> Result<(), Fail> {
     for (limit, count) in [(33u32, 0usize), (34, 1), (37, 1)] {
-        let read = read_whole(rt.alloc(), stream_limit(limit), RACE_ON_HEADS)?;
-        assert_eq!(rt; read.state, TOO_LARGE);
-        assert_eq!(rt; read.parts.len(), count, "with room for {limit} bytes");
+        for width in [1usize, 3, 38] {
+            let read = read_in_pieces(
+                rt.alloc(),
+                stream_limit(limit),
+                RACE_ON_HEADS,
+                width,
+                width,
+            )?;
+            assert_eq!(rt; read.state, TOO_LARGE);
+            assert_eq!(rt; read.parts.len(), count, "with room for {limit} bytes");
+        }
     }
     Ok(())
 }
 
 // Two parts are allowed: a third is refused at the fourth byte of its header's size, whatever the size, and the end mark
-// is not. Parts that interrupt aren't counted.
+// is not. Parts that interrupt are not counted.
 #[test]
 fn parts_past_their_number(rt: HostRuntime) -> Result<(), Fail> {
     let mut limits = Limits::standard();

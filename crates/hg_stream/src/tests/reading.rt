@@ -18,7 +18,7 @@ fn is_read_as<A: Allocator + Copy>(
     )
 }
 
-/// The first of many cuttings in which the bundle isn't read to its end with these parts: by the size of the first piece
+/// The first of many cuttings in which the bundle is not read to its end with these parts: by the size of the first piece
 /// and that of the others. The cuttings are those into pieces of a few widths, and into two at each place.
 fn find_misread<A: Allocator + Copy>(
     alloc: A,
@@ -37,13 +37,6 @@ fn find_misread<A: Allocator + Copy>(
     }
     Ok(None)
 }
-
-const REPLYCAPS: Fields<'static> = Fields {
-    kind: b"REPLYCAPS",
-    id: 0,
-    params: 0,
-    payload: b"",
-};
 
 const NO_HEADS: Fields<'static> = Fields {
     kind: b"CHECK:HEADS",

@@ -1,8 +1,9 @@
 use Rattle.std.proofs.Common.{◌≡◌, ◌∙◌, sym, refl, subst, take, length, arith, ◌≤◌, ◌<◌, ℕ, []}
 use Rattle.std.proofs.KnownBytes.{Consumes-nil}
 use Rattle.std.specs.Io.KnownBytes.{Consumes}
+use Rattle.hg_stream.specs.Unbundler.{IsStillReading}
 use Rattle.hg_pushd.specs.declared.ending.Ending.TheVariants.{Whole, Fault}
-use Rattle.hg_pushd.proofs.Reading.{starts, feeds, goes_on, stops, input_ends, read_fails, small_read}
+use Rattle.hg_pushd.proofs.Reading.{starts, feeds, goes_on, stops, leaves_fault, input_ends, read_fails, small_read}
 use Rattle.hg_pushd.proofs.run.receive.Goals as goal
 
 pub loop-turn-init : goal.loop-turn-init
@@ -29,8 +30,9 @@ pub returns-in-Failed : goal.returns-in-Failed
 returns-in-Failed g c =
     let i = c.loop-turn.invariant in
     let piece = take c.in-Ok.count c.read.new.buf in
+    let still : IsStillReading c.loop-turn.bundle = ([], i.reads.bytes, i.reads.holds, i.reads.state) in
     stops (Fault c.in-Failed.fault) _ _ _ c.loop-turn.bundle c.feed.new.self _ piece i.reads c.in-Ok.ensures.bytes.0 (small_read c.read.new.buf c.in-Ok.count (c.read.auto.buf ∙ i.room))
-    (feeds c.feed.result c.loop-turn.bundle c.feed.new.self piece c.feed.ensures.all c.feed.ensures.ok c.feed.ensures.err c.feed.ensures.failed) (sym c.state.ensures ∙ c.in-Failed.is) c.feed.ensures.limits (λ dropped. tt)
+    (feeds c.feed.result c.loop-turn.bundle c.feed.new.self piece c.feed.ensures.all c.feed.ensures.ok c.feed.ensures.err c.feed.ensures.failed) (sym c.state.ensures ∙ c.in-Failed.is) c.feed.ensures.limits (λ dropped. leaves_fault c.in-Failed.fault c.feed.result c.feed.new.self dropped _ (c.feed.ensures.goes_on still) c.feed.ensures.failed (c.feed.ensures.not_truncated still) (sym c.state.ensures ∙ c.in-Failed.is))
 
 pub loop-turn-preserved : goal.loop-turn-preserved
 loop-turn-preserved g c =

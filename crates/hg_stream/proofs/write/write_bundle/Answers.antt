@@ -1,4 +1,4 @@
-use Rattle.std.proofs.Common.{◌≡◌, [], ◌++◌}
+use Rattle.std.proofs.Common.{[], ◌++◌}
 use Rattle.hg_stream.specs.Block.{sized}
 use Rattle.hg_stream.specs.Frames.{magic}
 use Rattle.hg_stream.proofs.Writing.{one_more}

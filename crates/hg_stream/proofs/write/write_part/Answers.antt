@@ -1,6 +1,4 @@
-use Rattle.std.proofs.Common.{◌≡◌, ◌≤◌, ◌∙◌, ap, arith, length}
-use Rattle.hg_params.specs.Writing.{cased, header_bytes}
-use Rattle.hg_stream.specs.Frames.{max_header}
+use Rattle.std.proofs.Common.{◌∙◌, ap, arith, length}
 use Rattle.hg_stream.proofs.HeaderSizes.{header_within}
 use Rattle.hg_stream.proofs.write.write_part.Goals as goal
 

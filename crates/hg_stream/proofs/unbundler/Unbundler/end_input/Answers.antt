@@ -1,4 +1,4 @@
-use Rattle.std.proofs.Common.{◌≡◌, ◌++◌, refl, sym, ap, ◌∙◌, subst}
+use Rattle.std.proofs.Common.{◌++◌, refl, subst}
 use Rattle.hg_stream.specs.declared.state.State.TheVariants.{Reading}
 use Rattle.hg_stream.specs.Faults.{Tells}
 use Rattle.hg_stream.specs.Unbundler.{ready_of, limits_of}
@@ -13,7 +13,7 @@ returns-in_default g c = record {
   holds = λ given bytes h.
       let going = goes_on c.args.self.now.stage c.in_default.not-Ended c.in_default.not-Failed in
       let told : Tells Reading (limits_of c.args.self.now) bytes (given ++ ready_of c.args.self.now) = subst (λ s. Tells s (limits_of c.args.self.now) bytes (given ++ ready_of c.args.self.now)) going h.tells in
-      record { keeps = tt; tells = told.0 };
+      record { keeps = tt; tells = told };
   ready = refl;
   limits = refl;
 }

@@ -1,4 +1,4 @@
-use Rattle.std.proofs.Common.{length, ◌-◌, ◌≡◌, ℕ, ◌≤◌, take}
+use Rattle.std.proofs.Common.{length, ◌-◌, ◌≡◌, ◌≤◌, take}
 use Rattle.hg_stream.specs.Unbundler.{Moves, limits_of}
 use Rattle.hg_stream.proofs.unbundler.Unbundler.read.Given as goal
 

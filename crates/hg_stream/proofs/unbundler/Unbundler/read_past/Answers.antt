@@ -1,21 +1,19 @@
-use Rattle.std.proofs.Common.{◌≡◌, ℕ, ◌+◌, ◌≤◌, ◌∷◌, [], ◌++◌, List, length, take, arith, refl, sym, ◌∙◌, ap, subst, ◌⊎◌}
-use Rattle.std.proofs.lemmas.List.{length-append, length-take, take_at}
-use Rattle.hg_stream.specs.declared.state.State.TheVariants.{Reading, Ended}
+use Rattle.std.proofs.Common.{◌≡◌, ◌∷◌, [], ◌++◌, take, arith, refl, sym, ◌∙◌, ap, subst, ◌⊎◌}
+use Rattle.std.proofs.lemmas.List.{length-append, take_at}
+use Rattle.hg_stream.specs.declared.state.State.TheVariants.{Ended}
 use Rattle.hg_stream.specs.Frames.{IsWhole}
 use Rattle.hg_stream.specs.Places.{IsReading}
 use Rattle.hg_stream.specs.Faults.{by_length}
 use Rattle.hg_stream.specs.Unbundler.{state_of}
-use Rattle.hg_stream.proofs.Telling.{told, reading_of, reading_or_whole_of, reading_not_ended}
+use Rattle.hg_stream.proofs.Telling.{reading_of, reading_or_whole_of, reading_not_ended}
+use Rattle.hg_stream.proofs.Feeding.{refused_or_met}
 use Rattle.hg_stream.proofs.unbundler.Unbundler.read_past.Goals as goal
 
 pub returns-in-Err-clause-past : goal.returns-in-Err-clause-past
 returns-in-Err-clause-past g c =
-    let failed = c.in-Err.ensures.err in (
-      failed.0,
-      failed.1,
-      λ bytes parts at going full.
-          (c.in-Err.ensures.ready, told c.in-Err.fault c.args.self.now.limits _ parts (omega (arith, length-append bytes (take failed.0 (c.args.byte ∷ [])), length-take failed.0 (c.args.byte ∷ []), full, failed.1)) (failed.2 bytes parts at)),
-    )
+    let failed = c.in-Err.ensures.err in
+    let past = refused_or_met c.in-Err.fault c.args.self.now failed.0 c.args.byte failed.1 failed.2 in
+    (past.0, past.1, λ bytes parts at going full. (c.in-Err.ensures.ready, past.2 bytes parts at going full))
 
 pub returns-clause-past : goal.returns-clause-past
 returns-clause-past g c = (

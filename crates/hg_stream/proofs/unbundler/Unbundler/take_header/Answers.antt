@@ -1,4 +1,4 @@
-use Rattle.std.proofs.Common.{◌≡◌, ◌≤◌, ◌∷◌, [], List, ℕ, take, length, refl, sym, ◌∙◌, ap, ◌++◌, subst}
+use Rattle.std.proofs.Common.{[], List, ℕ, take, refl, sym, ◌∙◌, ap, ◌++◌, subst}
 use Rattle.std.proofs.lemmas.Result.{err_from_is_err_and}
 use Rattle.std.proofs.lemmas.List.{append-nil}
 use Rattle.hg_stream.specs.declared.block.BlockStep.TheVariants.{Whole, Nothing, More}

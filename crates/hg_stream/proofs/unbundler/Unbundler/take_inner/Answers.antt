@@ -1,6 +1,5 @@
-use Rattle.std.proofs.Common.{◌≡◌, ◌≤◌, ◌∷◌, [], List, ℕ, take, length, arith, refl, sym, ◌∙◌, ap, ◌++◌, subst}
+use Rattle.std.proofs.Common.{[], List, ℕ, take, refl, sym, ◌∙◌, ap, ◌++◌, subst}
 use Rattle.std.proofs.lemmas.List.{append-nil}
-use Rattle.hg_chunks.specs.declared.fault.Step.TheVariants.{More, Interrupt, Done}
 use Rattle.hg_chunks.specs.Payload.{interruption, closing}
 use Rattle.hg_chunks.specs.PayloadIn as chunks
 use Rattle.hg_stream.specs.Places.{IsInInner, of_interrupting}

@@ -1,7 +1,6 @@
-use Rattle.std.proofs.Common.{◌≡◌, ◌≤◌, ◌∷◌, [], List, ℕ, take, length, get_or, arith, rules, refl, sym, ◌∙◌, ap, append_assoc, ◌++◌, subst}
+use Rattle.std.proofs.Common.{◌≡◌, [], List, ℕ, take, arith, refl, ◌∙◌, ◌++◌, subst}
 use Rattle.std.proofs.lemmas.Result.{err_from_is_err_and}
-use Rattle.std.proofs.lemmas.List.{append-nil}
-use Rattle.hg_stream.specs.declared.block.BlockStep.TheVariants.{Whole, Nothing, More}
+use Rattle.hg_stream.specs.declared.block.BlockStep.TheVariants.{Whole, More}
 use Rattle.hg_stream.specs.Block.{BlockStops}
 use Rattle.hg_stream.specs.Frames.{magic, HasParts}
 use Rattle.hg_stream.specs.Places.{params}
@@ -39,11 +38,11 @@ returns-clause-ok g c = λ bytes parts h.
     let has : (front : List ℕ) × HasParts c.args.self.now.limits front parts × (bytes ++ take c.in-Ok.taken.0 c.args.piece.now ≡ front ++ []) = elim c.match-step.branch [
       | in-Nothing w ↦
           let closed : place.rest ++ take c.in-Ok.taken.0 c.args.piece.now ≡ _ = subst (λ step. BlockStops step c.feed.new.self (place.rest ++ take c.in-Ok.taken.0 c.args.piece.now)) w.in-Nothing.is (c.in-Ok.ensures.ok place.rest place.waits.holds) in
-          behind_params _ [] bytes place.rest _ parts (omega arith) no_params place.none place.spelled closed
+          behind_params _ [] bytes place.rest _ parts (omega arith) (omega arith) no_params place.none place.spelled closed
       | in-Whole+in_ok-read_params-in-Whole w ↦
           let whole : BlockStops Whole c.feed.new.self (place.rest ++ take c.in-Ok.taken.0 c.args.piece.now) =
           subst (λ step. BlockStops step c.feed.new.self (place.rest ++ take c.in-Ok.taken.0 c.args.piece.now)) w.in-Whole.is (c.in-Ok.ensures.ok place.rest place.waits.holds) in
-          behind_params _ _ bytes place.rest _ parts (rw (← (c.feed.ensures.most ∙ place.waits.most_is)) whole.0.1) (rw (← w.as_slice.ensures.value) w.in_ok-read_params-in-Whole.ensures.ok) place.none place.spelled whole.1
+          behind_params _ _ bytes place.rest _ parts (rw (← (c.feed.ensures.most ∙ place.waits.most_is)) whole.0.1) whole.0.2 (rw (← w.as_slice.ensures.value) w.in_ok-read_params-in-Whole.ensures.ok) place.none place.spelled whole.1
     ] in (
       [],
       finishes_none _ _ _ parts refl (record {

@@ -1,7 +1,6 @@
-use Rattle.std.proofs.Common.{◌≡◌, ◌≤◌, ◌∷◌, [], List, ℕ, take, length, arith, refl, sym, ◌∙◌, ap, ◌++◌, subst}
+use Rattle.std.proofs.Common.{◌∷◌, [], List, ℕ, take, arith, refl, sym, ◌∙◌, ap, ◌++◌, subst}
 use Rattle.std.proofs.lemmas.Result.{err_from_is_err_and}
 use Rattle.std.proofs.lemmas.List.{append-nil}
-use Rattle.hg_chunks.specs.declared.fault.Step.TheVariants.{More, Interrupt, Done}
 use Rattle.hg_chunks.specs.Payload.{interruption, closing}
 use Rattle.hg_chunks.specs.PayloadIn as chunks
 use Rattle.hg_stream.specs.Frames.{part_of}
