@@ -1,5 +1,5 @@
 -- A binary search among rows in the order of their numbers.
-use Rattle.std.proofs.Common.{ℕ, Bool, true, false, ◌≡◌, ◌≢◌, ◌==◌, ◌<◌, ◌≤◌, List, [], ◌∷◌, refl, sym, arith, Result, Ok, Err, map, length, zero, suc}
+use Rattle.std.proofs.Common.{ℕ, Bool, true, false, ◌≡◌, ◌≢◌, ◌==◌, ◌<◌, ◌≤◌, List, [], ◌∷◌, refl, sym, arith, Result, Ok, Err, Some, map, length, zero, suc}
 use Rattle.std.specs.Prelude.{position, nat_lt}
 use Rattle.std.specs.Result.{result_ok}
 use Rattle.std.specs.List.{AllByRecursion, position_or_len}
@@ -83,3 +83,7 @@ search_place {A} {D} {E} push rows (Err at) are within parted =
     (λ t. less_other (get_or rows k d).push push (split.0 k d (omega arith) (grind (arith, nat_tests))))
     (λ f. greater_other (get_or rows k d).push push (split.1 k d (grind (arith, nat_tests)) inside))) in
     rw (none, past_test (length rows)) refl
+
+-- the row with that number stands at its place
+pub found_place : {A D E : Type 0} (push : ℕ) (rows : List (Row D E A)) (at : ℕ) (d : Row D E A) → AreInOrder rows → at < length rows → (get_or rows at d).push ≡ push → Some at ≡ position (λ r. r.push == push) rows
+found_place push rows at d are within is = rw (found_len push rows at d are within is, within_test at (length rows) within) refl

@@ -20,6 +20,10 @@ pub record Course (A : Type 0) : Type 0 where
   pub limit : ℕ
   pub waiting : List ℕ
 
+-- nothing was called yet
+abbrev pub course_of_new : {A : Type 0} → ℕ → ℕ → Course A
+course_of_new first_push limit = record { history = []; first_push = first_push; next = first_push; limit = limit; waiting = [] }
+
 abbrev pub is_waiting : {A : Type 0} → Course A → ℕ → Bool
 is_waiting c p = list_any (λ q. q == p) c.waiting
 

@@ -3,6 +3,7 @@
 ghost use Rattle.std.specs.Prelude.{◌≡◌, ◌≢◌, ◌<◌, ◌+◌, ◌≤◌, ◌^◌, ◌==◌, ◌++◌, ◌∷◌, ◌↔◌, List, ℕ, [], length, true, false, IsTrue, IsNone, IfNone, IfSome, IsSome, IfOk, OnOk, OnErr, IsErrOf, ◌-◌, Some, None, if◌then◌else◌};
 ghost use Rattle.hg_push.specs.History.{Place, History, serial, outcome};
 ghost use Rattle.hg_push.specs.Book.{Holds, IsSameOpenings, is_opened, stepped, Opens};
+ghost use Rattle.hg_push.specs.Calls.{Follows, course_of_new};
 ghost use Rattle.hg_push.specs.Rows.{IsShut, reply_in, row_of, rows_without, standing_of};
 ghost use Rattle.hg_push.specs.Reply.{CanBeTold};
 ghost use Rattle.hg_push.specs.Run.{RepositoryOf, run_push};
@@ -80,6 +81,7 @@ impl<A: Allocator + Copy> Book<A> {
         ensures limit { result.limit ≡ repo.settings.limits.rows }
         ensures rows { result.rows ≡ [] }
         ensures holds { Holds run_push repo [] result }
+        ensures follows { Follows run_push repo (course_of_new repo.settings.first_push repo.settings.limits.rows) result }
     {
         let first_push = repo.settings().first_push;
         let limit = repo.settings().limits.rows;

@@ -13,11 +13,18 @@ use hg_repo::{Done, Refusal, Repo, Source};
 use hg_types::{Part, What};
 use std::alloc::Allocator;
 
-/// The place of the push's row, among rows in the order of their numbers.
+/// The place of the push's row, among rows in the order of their numbers. Where no row between the first one and the push's
+/// was taken away, it is the distance of their numbers; else it is searched by halves.
 pub fn place_of<D, E, A: Allocator>(rows: &[Row<D, E, A>], push: u32) -> Option<usize>
     requires { AreInOrder rows.now }
     ensures { result ≡ position (λ r. r.push == push) rows.now }
 {
+    if let Some(first) = rows.first() {
+        let distance = push.wrapping_sub(first.push) as usize;
+        if distance < rows.len() && rows[distance].push == push {
+            return Some(distance);
+        }
+    }
     rows.binary_search_by_key(&push, |row| row.push).ok()
 }
 

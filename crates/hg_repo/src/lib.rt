@@ -2,7 +2,7 @@
 //!
 //! [`Repo`] is the repository, and [`Repo::run`] runs a list of parts on it, all of them or none. It gives
 //! a [`Done`] with the reply parts, or a [`Refusal`] that names the first part that is refused. Nothing
-//! here starts a thread or waits. What may be used above: the contracts, whose words are in `specs/`.
+//! here starts a thread or waits. The crates above use the contracts, whose words are in `specs/`.
 #![tactic(auto)]
 
 mod done;

@@ -28,7 +28,7 @@ impl RaceText {
 
 /// Why a run was refused. The first part that is refused decides, and `place` is its place among the
 /// parts, counted from 0. Within one part the order is: unsupported, faults of its format, faults
-/// against the repository. The repository is left unchanged.
+/// against the repository. The repository is left unchanged. The numbers 3, 5 and 6 are those of parts to come.
 #[derive(Drop)]
 pub enum Refusal<A: Allocator = Global> {
     /// 1: the part is mandatory, and its type is not known, or a mandatory parameter of it is not.
