@@ -1,4 +1,4 @@
-//! The queue, and what its seats do at it. Each exchange is one atomic step of the ruled queue; its contract says what the step made of the seat's view.
+//! The queue, and what its seats do at it. Each exchange is one atomic step of the ruled queue of `crossbeam_queue`; its contract says what the step made of the seat's view.
 
 ghost use Rattle.std.specs.Prelude.{◌≡◌, ◌<◌, ◌≤◌, ◌+◌, ◌++◌, ◌∷◌, [], false, List, None, Some, IfOk, IsOk, MatchResult, MatchOption, length};
 ghost use mathlib.Core.List.{IsPrefix};
