@@ -1,3 +1,4 @@
 pub mod Numbers
 pub mod Hunks
 pub mod Readings
+pub mod Outcomes

@@ -14,7 +14,7 @@ pub length-header : (start end size : ℕ) → length (header start end size) �
 unfolding number_bytes
 length-header start end size = refl
 
-taken_fits : (bytes : List ℕ) → ((i : ℕ) → get_or bytes i 0 < 256) → (i : ℕ) → get_or (take 4 bytes) i 0 < 256
+pub taken_fits : (bytes : List ℕ) → ((i : ℕ) → get_or bytes i 0 < 256) → (i : ℕ) → get_or (take 4 bytes) i 0 < 256
 taken_fits bytes fits i =
     elim (cases_lt i 4) [
       | inl lt ↦ rw (get_or-take 4 bytes i 0 lt) (fits i)

@@ -16,7 +16,7 @@ fronts a b x y len same = (
   sym (drop_at a x (length b) len) ∙ (ap (drop (length b)) same ∙ drop_at b y (length b) refl),
 )
 
-regrouped : (start end size : ℕ) (more : List ℕ) → header start end size ++ more ≡ number_bytes start ++ (number_bytes end ++ (number_bytes size ++ more))
+pub regrouped : (start end size : ℕ) (more : List ℕ) → header start end size ++ more ≡ number_bytes start ++ (number_bytes end ++ (number_bytes size ++ more))
 regrouped start end size more =
     append_assoc (number_bytes start) (number_bytes end ++ number_bytes size) more ∙ ap (λ (x : List ℕ). number_bytes start ++ x) (append_assoc (number_bytes end) (number_bytes size) more)
 

@@ -13,7 +13,7 @@ mod hunk;
 mod text;
 
 pub use fault::DeltaFault;
-pub use text::{apply, one_outcome};
+pub use text::{apply, every_delta_has_an_outcome, one_outcome};
 
 #[cfg(test)]
 mod tests;

@@ -4,6 +4,7 @@ ghost use Rattle.std.specs.Prelude.{ℕ, ◌≡◌, ◌≢◌, ◌≤◌, List, 
 ghost use Rattle.hg_delta.specs.declared.fault.DeltaFault.{DeltaFault};
 ghost use Rattle.hg_delta.specs.Delta.{Applies};
 ghost use Rattle.hg_delta.specs.Faults.{BreaksAt, GivesTooMuch, IsOutcome};
+ghost use Rattle.hg_delta.specs.Outcome.{Gives, IsBytes, outcome_of};
 
 use crate::fault::DeltaFault;
 use crate::hunk::read_hunk;
@@ -67,6 +68,8 @@ pub fn apply<A: Allocator + Copy>(
     ensures backwards { IsErrOf result DeltaFault.Backwards → BreaksAt DeltaFault.Backwards base.now delta.now }
     ensures past_end { IsErrOf result DeltaFault.PastEnd → BreaksAt DeltaFault.PastEnd base.now delta.now }
     ensures too_long { IsErrOf result DeltaFault.TooLong → GivesTooMuch base.now delta.now max }
+    // So it is what reading from left to right gives, unless memory is refused.
+    ensures outcome { Gives (λ text. text.items) result (outcome_of base.now delta.now max) }
 {
     let length = text_length(base, delta)?;
     if length > max as usize {
@@ -80,4 +83,9 @@ pub fn apply<A: Allocator + Copy>(
 /// A delta gives one text of a base, or has one fault: whatever is an outcome of it by the definitions is the same.
 pub fn one_outcome()
     ensures { (base delta : List ℕ) (most : ℕ) (a b : Result (List ℕ) DeltaFault) → IsOutcome base delta most a → IsOutcome base delta most b → a ≡ b }
+{}
+
+/// A delta of bytes has an outcome: what reading it from left to right gives. So that is the one it has.
+pub fn every_delta_has_an_outcome()
+    ensures { (base delta : List ℕ) (most : ℕ) → IsBytes delta → IsOutcome base delta most (outcome_of base delta most) }
 {}

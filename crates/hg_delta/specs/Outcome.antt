@@ -1,0 +1,62 @@
+-- A delta, read from left to right: its text, or its first fault.
+use Rattle.std.specs.Prelude.{◌≡◌, ◌<◌, ℕ, zero, suc, List, [], ◌∷◌, ◌++◌, length, take, drop, slice_index_or, Result, Ok, Err, nat_lt, if◌then◌else◌}
+use Rattle.std.specs.Int.{w32, from_be_bytes}
+use Rattle.hg_delta.specs.declared.fault.DeltaFault.{DeltaFault}
+use Rattle.hg_delta.specs.declared.fault.DeltaFault.TheVariants.{Short, Backwards, PastEnd, TooLong, NoMemory}
+use Rattle.hg_delta.specs.Delta.{Hunk, piece_of}
+
+-- each is a byte
+abbrev pub IsBytes : List ℕ → Type 0
+IsBytes bytes = (i : ℕ) → slice_index_or bytes i 0 < 256
+
+infixl 10 ◌>>=◌
+abbrev pub ◌>>=◌ : {X Y : Type 0} → Result X DeltaFault → (X → Result Y DeltaFault) → Result Y DeltaFault
+(Ok x) >>= f = f x
+(Err fault) >>= f = Err fault
+
+-- the number of 32 bits at that place
+abbrev pub number_at : ℕ → List ℕ → ℕ
+number_at place bytes = from_be_bytes w32 (take 4 (drop place bytes))
+
+-- Behind a header of these numbers: the hunk and the bytes behind it, in a base of that size and behind a hunk that ends at `before`.
+unfoldable pub hunk_headed : ℕ → ℕ → ℕ → ℕ → ℕ → List ℕ → Result (Hunk × List ℕ) DeltaFault
+hunk_headed size before start end wanted more =
+    if nat_lt start before then Err Backwards else
+    if nat_lt end start then Err Backwards else
+    if nat_lt size end then Err PastEnd else
+    if nat_lt (length more) wanted then Err Short else
+    Ok (record { start = start; end = end; content = take wanted more }, drop wanted more)
+
+-- the hunk at the front of the bytes, and those behind it
+unfoldable pub hunk_at : ℕ → ℕ → List ℕ → Result (Hunk × List ℕ) DeltaFault
+hunk_at size before bytes =
+    if nat_lt (length bytes) 12 then Err Short else
+    hunk_headed size before (number_at 0 bytes) (number_at 4 bytes) (number_at 8 bytes) (drop 12 bytes)
+
+-- the text behind a hunk that ends at `before`: of at most so many hunks, up to the end of the bytes
+unfoldable pub text_within : ℕ → List ℕ → ℕ → List ℕ → Result (List ℕ) DeltaFault
+text_within zero base before bytes = Ok (drop before base)
+text_within (suc most) base before [] = Ok (drop before base)
+text_within (suc most) base before (byte ∷ bytes) = do
+  x ← hunk_at (length base) before (byte ∷ bytes)
+  text ← text_within most base x.0.end x.1
+  Ok (piece_of base (before, x.0) ++ text)
+
+-- What a delta gives of a base, where the text may have `most` bytes. No hunk is without bytes, so there are no more hunks than bytes.
+unfoldable pub outcome_of : List ℕ → List ℕ → ℕ → Result (List ℕ) DeltaFault
+outcome_of base delta most = do
+  text ← text_within (length delta) base 0 delta
+  if nat_lt most (length text) then Err TooLong else Ok text
+
+-- what a function answered, unless memory was refused
+abbrev pub Fails : DeltaFault → Result (List ℕ) DeltaFault → Type 0
+Fails Short read = read ≡ Err Short
+Fails Backwards read = read ≡ Err Backwards
+Fails PastEnd read = read ≡ Err PastEnd
+Fails TooLong read = read ≡ Err TooLong
+Fails NoMemory read = Unit {0}
+
+-- What a function returned, seen by view, is what reading gives, unless memory was refused.
+abbrev pub Gives : {X : Type 0} → (X → List ℕ) → Result X DeltaFault → Result (List ℕ) DeltaFault → Type 0
+Gives view (Ok x) read = read ≡ Ok (view x)
+Gives view (Err fault) read = Fails fault read
