@@ -4,3 +4,5 @@ pub mod Entries
 pub mod OneChunk
 pub mod OneReading
 pub mod OneGroup
+pub mod Chunks
+pub mod Outcomes

@@ -3,3 +3,4 @@ pub mod Changeset
 pub mod Group
 pub mod Faults
 pub mod Read
+pub mod Outcome

@@ -1,10 +1,11 @@
 //! A whole changegroup.
 
-ghost use Rattle.std.specs.Prelude.{◌≡◌, ◌<◌, List, ℕ, [], length, Result, IfOk, IsErrOf};
+ghost use Rattle.std.specs.Prelude.{◌≡◌, ◌≢◌, List, ℕ, [], Result, Err, IfOk, IsErrOf};
 ghost use Rattle.hg_types.specs.declared.entry.Entry.{Entry};
 ghost use Rattle.hg_cgroup.specs.declared.fault.GroupFault.{GroupFault};
 ghost use Rattle.hg_cgroup.specs.Group.{IsGroup};
 ghost use Rattle.hg_cgroup.specs.Faults.{IsUnknown, IsOf, Breaks, HasLeftover, IsOutcome};
+ghost use Rattle.hg_cgroup.specs.Outcome.{IsBytes, outcome_of};
 
 use crate::changeset::read_changesets;
 use crate::fault::GroupFault;
@@ -30,6 +31,8 @@ pub fn decode<A: Allocator + Copy>(
     ensures short_header { IsErrOf result GroupFault.ShortHeader → IsOf version.now (λ v. Breaks A v payload.now GroupFault.ShortHeader) }
     ensures truncated { IsErrOf result GroupFault.Truncated → IsOf version.now (λ v. Breaks A v payload.now GroupFault.Truncated) }
     ensures leftover { IsErrOf result GroupFault.Leftover → IsOf version.now (λ v. HasLeftover A v payload.now) }
+    // It is what reading from left to right gives, unless memory was refused.
+    ensures outcome { result ≢ Err GroupFault.NoMemory → result ≡ outcome_of version.now payload.now }
 {
     let Some(version) = Version::named(version) else {
         return Err(GroupFault::UnknownVersion);
@@ -46,4 +49,10 @@ pub fn decode<A: Allocator + Copy>(
 /// where its entries lie.
 pub fn one_outcome<A: Allocator>()
     ensures { (name payload : List ℕ) (a b : Result (List (Entry A)) GroupFault) → IsOutcome A name payload a → IsOutcome A name payload b → a ≡ b }
+{}
+
+/// Each changegroup has an outcome, whatever its bytes: what reading it from left to right gives. With `one_outcome` it has
+/// that one and no other.
+pub fn every_changegroup_has_an_outcome<A: Allocator>()
+    ensures { (name payload : List ℕ) → IsBytes payload → IsOutcome A name payload (outcome_of name payload) }
 {}

@@ -23,7 +23,7 @@ mod group;
 mod version;
 
 pub use fault::GroupFault;
-pub use group::{decode, one_outcome};
+pub use group::{decode, every_changegroup_has_an_outcome, one_outcome};
 
 #[cfg(test)]
 mod tests;

@@ -276,3 +276,44 @@ fn refused_memory(rt: HostRuntime) -> Result<(), Fail> {
     assert!(rt; made > 0);
     Ok(())
 }
+
+/// How many entries the payload has, if the memory is enough for them.
+fn count_in<H: Allocator + Copy>(alloc: H, payload: &[u8]) -> Option<usize> {
+    let entries = decode(alloc, b"02", payload).ok()?;
+    Some(entries.len())
+}
+
+// With manifests and files of more bytes than any of the heaps has, and without them: the same heaps are enough.
+#[test]
+fn manifests_and_files_take_no_memory(rt: HostRuntime) -> Result<(), Fail> {
+    let root = root(rt.alloc())?;
+    let bare = joined(rt.alloc(), &[root.as_slice(), EMPTY, EMPTY, EMPTY])?;
+    let manifest = [7u8; 4092];
+    let frames = [
+        b"\0\0\x10\0".as_slice(),
+        manifest.as_slice(),
+        EMPTY,
+        FILE,
+        FILE,
+        EMPTY,
+    ];
+    let frames = joined(rt.alloc(), &frames)?;
+    let full = joined(rt.alloc(), &[root.as_slice(), EMPTY, frames.as_slice()])?;
+    let mut refused = 0u32;
+    let mut made = 0u32;
+    for sixteens in 0..100usize {
+        let heap = LocalHeap::new(rt.alloc(), sixteens * 16)?;
+        let without = count_in(&heap, &bare);
+        let other = LocalHeap::new(rt.alloc(), sixteens * 16)?;
+        assert!(rt;
+            count_in(&other, &full) == without,
+            "with {sixteens} times 16 bytes"
+        );
+        match without {
+            Some(_) => made = made.saturating_add(1),
+            None => refused = refused.saturating_add(1),
+        }
+    }
+    assert!(rt; refused > 0 && made > 0);
+    Ok(())
+}
