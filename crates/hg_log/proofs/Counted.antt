@@ -1,12 +1,11 @@
 -- How often rows are parents, as rows come and go.
-use Rattle.std.proofs.Common.{◌≡◌, ◌≢◌, ◌⊎◌, ◌↔◌, ℕ, zero, suc, ◌+◌, ◌-◌, ◌*◌, ◌<◌, ◌≤◌, ◌^◌, eqb, cond, true, false, List, [], ◌∷◌, ◌++◌, length, take, set, slice_get, slice_index, get_or, sum_by, Option, Some, None, IfSome, All, refl, sym, ap, ◌∙◌, subst, inl, inr, ⊎_elim, arith, rules}
+use Rattle.std.proofs.Common.{◌≡◌, ◌≢◌, ◌↔◌, ℕ, zero, suc, ◌+◌, ◌-◌, ◌*◌, ◌<◌, ◌≤◌, ◌^◌, eqb, List, [], ◌∷◌, ◌++◌, length, take, set, slice_get, slice_index, Option, Some, None, IfSome, refl, sym, ap, ◌∙◌, subst, inl, inr, ⊎_elim, arith}
 use Rattle.std.proofs.lemmas.List.{length-set, length-take-le, get_or-set_same, get_or-set_other, get_or-take, get_or_append_left, get_or_push, length_push}
-use Rattle.std.proofs.lemmas.List.Sums.{sum_by-cons, sum_by_push, sum_by-le}
-use Rattle.std.proofs.lemmas.List.Elements.{All-nil, All-cons}
-use Rattle.std.proofs.lemmas.Bool.{cases_eq, eqb-true, eqb-false, eq-eqb, ne_eqb, cases_Bool}
+use Rattle.std.proofs.lemmas.List.Sums.{sum_by-cons, sum_by_push}
+use Rattle.std.proofs.lemmas.Bool.{cases_eq, eq-eqb, ne_eqb, cases_Bool}
 use Rattle.std.proofs.lemmas.Option.{slice_get_within}
 use Rattle.hg_log.specs.declared.graph.Parents.{Parents}
-use Rattle.hg_log.specs.Graph.{HasParent, AreEarlier, AllAreEarlier, AreChildless, AreCounted, is_named, times_named}
+use Rattle.hg_log.specs.Graph.{HasParent, AreEarlier, AllAreEarlier, AreCounted, is_named, times_named}
 use Rattle.hg_log.specs.ChildCounts.{one_more, one_less}
 use Rattle.hg_log.proofs.Lists.{slice_get_front, slice_get_last, slice_get_pushed}
 

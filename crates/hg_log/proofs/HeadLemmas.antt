@@ -1,6 +1,6 @@
 -- The ids of the rows that nobody has as a parent.
-use Rattle.std.proofs.Common.{rules, ◌≡◌, ◌≢◌, ◌⊎◌, ◌↔◌, ℕ, zero, suc, ◌+◌, ◌-◌, ◌<◌, ◌≤◌, Bool, true, false, List, [], ◌∷◌, ◌++◌, length, take, map, get_or, swap, slice_get, slice_index, Option, Some, None, All, AllPairs, Contains, IsPermutation, IsSorted, refl, sym, ap, ◌∙◌, subst, inl, inr, ⊎_elim, arith}
-use Rattle.std.specs.Ordering.{nat_cmp, is_lt}
+use Rattle.std.proofs.Common.{rules, ◌≡◌, ◌≢◌, ℕ, suc, ◌+◌, ◌<◌, ◌≤◌, List, [], ◌∷◌, ◌++◌, length, take, get_or, swap, slice_index, All, AllPairs, Contains, IsPermutation, IsSorted, refl, sym, ap, ◌∙◌, subst, inl, inr, arith}
+use Rattle.std.specs.Ordering.{nat_cmp}
 use Rattle.std.specs.Cmp.Lexicographic.{slice_cmp}
 use Rattle.std.proofs.lemmas.List.{length-map, length-take-le, length_push, get_or-take, get_or_append_left, get_or_push, get_or-map, get_or_default, take_all}
 use Rattle.std.proofs.lemmas.List.Edits.{swapped_from_swap, length-swap}
@@ -14,9 +14,8 @@ use Rattle.hg_types.specs.contracts.node.NodeOrd.TheImpl as ord
 use Rattle.hg_log.specs.declared.graph.Parents.{Parents}
 use Rattle.hg_log.specs.NodeId.{null_id}
 use Rattle.hg_log.specs.Changeset.{Changeset}
-use Rattle.hg_log.specs.Rows.{HasNode, AreLawful}
-use Rattle.hg_log.specs.Ancestors.{IsParent}
-use Rattle.hg_log.specs.Graph.{HasParent, AreChildless, AllAreEarlier}
+use Rattle.hg_log.specs.Rows.{HasNode}
+use Rattle.hg_log.specs.Graph.{HasParent, AreChildless}
 use Rattle.hg_log.specs.Heads.{IsHead, AreHeadsOf, AreHeads, ids}
 use Rattle.hg_log.specs.Inside.{IsWhole}
 use Rattle.hg_log.proofs.RowLemmas.{has_within, same_rev}

@@ -1,8 +1,7 @@
 -- What each change leaves of the order of rows in `ChildCounts`.
-use Rattle.std.proofs.Common.{◌≡◌, ◌≢◌, ◌⊎◌, ◌↔◌, ℕ, ◌+◌, ◌-◌, ◌<◌, ◌≤◌, ◌^◌, List, [], ◌∷◌, ◌++◌, length, take, drop, set, Contains, AllPairs, get_or, slice_index, refl, sym, ap, ◌∙◌, subst, inl, inr, ⊎_elim, arith, rules, length-append, add-one}
-use Rattle.std.proofs.lemmas.List.{length-set, length-take, length-take-le, get_or-set_same, get_or-set_other, take_at, get_or-take, get_or_append_left, get_or_push, length_push, set_at, take-set, get_or_default}
+use Rattle.std.proofs.Common.{◌≡◌, ◌≢◌, ◌↔◌, ℕ, ◌+◌, ◌-◌, ◌<◌, ◌≤◌, ◌^◌, List, [], ◌∷◌, ◌++◌, length, take, set, Contains, AllPairs, get_or, slice_index, refl, sym, ap, ◌∙◌, subst, ⊎_elim, arith, length-append}
+use Rattle.std.proofs.lemmas.List.{length-set, length-take-le, get_or-set_same, get_or-set_other, get_or-take, get_or_append_left, get_or_push, length_push, set_at, take-set, get_or_default}
 use Rattle.std.proofs.lemmas.Bool.{cases_eq, cases_lt}
-use Rattle.std.proofs.lemmas.Grind.{common_steps}
 use Rattle.hg_log.specs.ChildCounts.{AreInverse, AreExchanged, AreKept}
 
 -- two rows at one place are one row

@@ -1,5 +1,5 @@
 -- A place in the index map is a row of that id.
-use Rattle.std.proofs.Common.{cond, Option, ◌≡◌, ℕ, ◌<◌, Bool, true, false, List, [], ◌∷◌, Some, None, All, slice_get, map, get_or, length, option_map, rules, refl, sym, ap, ◌∙◌, subst, arith}
+use Rattle.std.proofs.Common.{cond, Option, ◌≡◌, ℕ, ◌<◌, Bool, true, false, List, [], ◌∷◌, Some, None, slice_get, map, get_or, length, option_map, rules, refl, sym, ap, ◌∙◌, arith}
 use Rattle.std.specs.List.{position, AllByRecursion}
 use Rattle.std.proofs.lemmas.List.Elements.{All-from_recursion, recursion_from_All}
 use Rattle.indexmap.proofs.MapLemmas.{Missing-position}

@@ -1,14 +1,13 @@
 -- What the outcome of a delta makes of an entry.
-use Rattle.std.proofs.Common.{◌≡◌, ◌≢◌, ℕ, ◌≤◌, List, length, Ok, Err, refl}
+use Rattle.std.proofs.Common.{◌≡◌, ◌≢◌, ℕ, List, Err, refl}
 use Rattle.hg_types.specs.declared.entry.Entry.{Entry}
 use Rattle.hg_delta.specs.declared.fault.DeltaFault.{DeltaFault}
 use Rattle.hg_delta.specs.declared.fault.DeltaFault.TheVariants as fault
-use Rattle.hg_delta.specs.Faults.{BreaksAt, GivesTooMuch, IsOutcome}
+use Rattle.hg_delta.specs.Faults.{BreaksAt, GivesTooMuch}
 use Rattle.hg_delta.specs.Faults.IsOutcome.{breaks, exceeds}
-use Rattle.hg_log.specs.declared.add.AddFault.{AddFault}
 use Rattle.hg_log.specs.declared.add.AddFault.TheVariants.{NoMemory}
 use Rattle.hg_log.specs.Changeset.{Log}
-use Rattle.hg_log.specs.Add.{HasParentsIn, HasOutcome, IsBase, IsAnswer, told_as}
+use Rattle.hg_log.specs.Add.{HasParentsIn, IsBase, IsAnswer, told_as}
 use Rattle.hg_log.specs.Add.IsAnswer.{bad_delta}
 
 pub told : {A : Type 0} (log : Log) (entry : Entry A) (base : List ℕ) (f : DeltaFault) → HasParentsIn log.rows entry → IsBase log.rows entry.base.0 base

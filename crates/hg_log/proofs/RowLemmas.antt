@@ -1,13 +1,13 @@
 -- Rows, as rows come and go.
-use Rattle.std.proofs.Common.{◌≡◌, ◌≢◌, ◌⊎◌, ◌↔◌, ℕ, zero, suc, ◌+◌, ◌-◌, ◌<◌, ◌≤◌, List, [], ◌∷◌, ◌++◌, length, take, map, get_or, slice_get, Option, Some, None, IfSome, option_map, All, AllPairs, refl, sym, ap, ◌∙◌, subst, inl, inr, ⊎_elim, arith}
-use Rattle.std.proofs.lemmas.List.{length-map, length-take-le, length_push, get_or-take, get_or_append_left, get_or-map}
+use Rattle.std.proofs.Common.{◌≡◌, ◌≢◌, ℕ, ◌<◌, ◌≤◌, List, [], ◌∷◌, ◌++◌, length, take, get_or, slice_get, Some, AllPairs, sym, ap, ◌∙◌, subst, inl, inr, arith}
+use Rattle.std.proofs.lemmas.List.{length-take-le, get_or-take}
 use Rattle.std.proofs.lemmas.List.Quantifiers.{all_pairs_push}
-use Rattle.std.proofs.lemmas.Bool.{cases_eq, cases_order}
-use Rattle.std.proofs.lemmas.Option.{slice_get_within, slice_get-map, get_or_from_slice_get, slice_get-get_or}
-use Rattle.hg_log.specs.NodeId.{null_id, node_id_of}
+use Rattle.std.proofs.lemmas.Bool.{cases_order}
+use Rattle.std.proofs.lemmas.Option.{slice_get_within, get_or_from_slice_get, slice_get-get_or}
+use Rattle.hg_log.specs.NodeId.{null_id}
 use Rattle.hg_log.specs.Changeset.{Changeset}
 use Rattle.hg_log.specs.Rows.{HasNode, LacksNode, IsKnown, IsEarlier, IsLawfulRow, AreLawful}
-use Rattle.hg_log.proofs.Lists.{slice_get_front, slice_get_last, slice_get_pushed, slice_get_take, slice_get_kept}
+use Rattle.hg_log.proofs.Lists.{slice_get_front, slice_get_pushed, slice_get_take, slice_get_kept}
 
 pub has_within : (rows : List Changeset) (r : ℕ) (node : List ℕ) → HasNode rows r node → r < length rows
 has_within rows r node has = slice_get_within rows r has.row has.row_at

@@ -1,19 +1,19 @@
 -- The rows beside the graph of their parents, as rows come and go; and what the one says of the other.
-use Rattle.std.proofs.Common.{rules, ◌≡◌, ◌≢◌, ◌⊎◌, ◌↔◌, ℕ, zero, suc, ◌+◌, ◌-◌, ◌<◌, ◌≤◌, List, [], ◌∷◌, ◌++◌, length, take, slice_get, Option, Some, None, IfSome, refl, sym, ap, ◌∙◌, subst, inl, inr, ⊎_elim, arith}
+use Rattle.std.proofs.Common.{rules, ◌≡◌, ◌≢◌, ℕ, ◌<◌, ◌≤◌, List, [], ◌∷◌, ◌++◌, length, take, slice_get, Option, Some, None, IfSome, sym, ap, ◌∙◌, subst, inl, inr, arith}
 use Rattle.std.proofs.lemmas.List.{length-take-le, length_push}
 use Rattle.std.proofs.lemmas.Option.{slice_get_within}
 use Rattle.hg_types.specs.declared.limits.Limits.{Limits}
 use Rattle.hg_log.specs.declared.graph.Parents.{Parents}
 use Rattle.hg_log.specs.NodeId.{null_id, node_id_of}
 use Rattle.hg_log.specs.Changeset.{Changeset}
-use Rattle.hg_log.specs.Rows.{HasNode, LacksNode, IsKnown, IsEarlier, IsLawfulRow, AreLawful}
+use Rattle.hg_log.specs.Rows.{HasNode, LacksNode, IsKnown, IsEarlier}
 use Rattle.hg_log.specs.Ancestors.{IsParent, IsAncestor}
 use Rattle.hg_log.specs.Ancestors.IsAncestor.{itself, of_parent}
 use Rattle.hg_log.specs.Graph.{HasParent, Reaches, AreEarlier}
 use Rattle.hg_log.specs.Graph.Reaches.{itself as itself_by_number, of_parent as of_parent_by_number}
-use Rattle.hg_log.specs.Inside.{IsAt, AreParentsOf, AreNumbered, IsWhole}
+use Rattle.hg_log.specs.Inside.{IsAt, AreParentsOf, IsWhole}
 use Rattle.hg_log.proofs.Lists.{slice_get_pushed, slice_get_kept, slice_get_in}
-use Rattle.hg_log.proofs.RowLemmas.{has_pushed, has_taken, has_within, lawful_pushed, lawful_taken, same_rev, not_null}
+use Rattle.hg_log.proofs.RowLemmas.{has_pushed, has_taken, lawful_pushed, lawful_taken, same_rev, not_null}
 
 at_pushed : (rows : List Changeset) (new : Changeset) (r : ℕ) (node : List ℕ) (o : Option ℕ) → IsAt rows r node o → IsAt (rows ++ new ∷ []) r node o
 at_pushed rows new r node None at = at

@@ -1,5 +1,5 @@
 -- What adding an entry of a changegroup gives, memory apart.
-use Rattle.std.specs.Prelude.{◌≡◌, ◌≢◌, ◌⊎◌, ℕ, ◌+◌, ◌<◌, ◌≤◌, List, [], ◌∷◌, ◌++◌, length, Result, Ok, Err}
+use Rattle.std.specs.Prelude.{◌≡◌, ◌⊎◌, ℕ, ◌<◌, ◌≤◌, List, [], ◌∷◌, ◌++◌, length, Result, Ok, Err}
 use Rattle.hg_types.specs.declared.entry.Entry.{Entry}
 use Rattle.hg_delta.specs.Faults.{IsOutcome}
 use Rattle.hg_delta.specs.declared.fault.DeltaFault.{DeltaFault}

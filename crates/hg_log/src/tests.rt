@@ -14,6 +14,8 @@ const ROOT: Node = Node([
     0xfa, 0x86, 0xd1, 0xdb,
 ]);
 
+const NULL: Node = Node::NULL;
+
 /// An id that no changeset here has.
 const OTHER: Node = Node([0x11; 20]);
 
@@ -71,6 +73,19 @@ const CHILD_B: Node = Node([
     0x8f, 0x65, 0x64, 0x92,
 ]);
 
+/// A changeset, by its whole text.
+#[derive(Clone, Copy)]
+struct Given<'t> {
+    node: Node,
+    p1: Node,
+    p2: Node,
+    text: &'t [u8],
+}
+
+fn changeset<'t>(node: Node, p1: Node, p2: Node, text: &'t [u8]) -> Given<'t> {
+    Given { node, p1, p2, text }
+}
+
 /// A delta of one hunk: the bytes `start` to `end` become the content.
 fn hunk<A: Allocator + Copy>(
     alloc: A,
@@ -78,72 +93,73 @@ fn hunk<A: Allocator + Copy>(
     end: u8,
     content: &[u8],
 ) -> Result<Seq<u8, A>, NoMemory> {
-    let head = [
-        0,
-        0,
-        0,
-        start,
-        0,
-        0,
-        0,
-        end,
-        0,
-        0,
-        0,
-        (content.len() % 256) as u8,
-    ];
+    let length = (content.len() % 256) as u8;
+    let head = [0, 0, 0, start, 0, 0, 0, end, 0, 0, 0, length];
     let mut delta = Vec::from_slice(alloc, &head)?;
     delta.extend_from_slice(content)?;
     Ok(Seq::from_vec(delta))
 }
 
-/// An entry whose text is made of the empty text.
-fn whole<A: Allocator + Copy>(
-    alloc: A,
-    node: Node,
-    p1: Node,
-    p2: Node,
-    text: &[u8],
-) -> Result<Entry<A>, NoMemory> {
-    let delta = if text.is_empty() {
-        Seq::new(alloc)
+/// The delta that makes a text of the empty text.
+fn whole<A: Allocator + Copy>(alloc: A, text: &[u8]) -> Result<Seq<u8, A>, NoMemory> {
+    if text.is_empty() {
+        Ok(Seq::new(alloc))
     } else {
-        hunk(alloc, 0, 0, text)?
+        hunk(alloc, 0, 0, text)
+    }
+}
+
+/// Adds a changeset.
+fn put<A: Allocator + Copy>(
+    alloc: A,
+    log: &mut Changelog<A>,
+    given: Given,
+) -> Result<Added, AddFault> {
+    let Ok(delta) = whole(alloc, given.text) else {
+        return Err(AddFault::NoMemory);
     };
-    Ok(Entry {
-        node,
-        p1,
-        p2,
-        base: Node::NULL,
+    log.add(&Entry {
+        node: given.node,
+        p1: given.p1,
+        p2: given.p2,
+        base: NULL,
         delta,
     })
 }
 
-/// Adds a changeset by its whole text.
-fn put<A: Allocator + Copy>(
-    alloc: A,
-    log: &mut Changelog<A>,
-    node: Node,
-    p1: Node,
-    p2: Node,
-    text: &[u8],
-) -> Result<Added, AddFault> {
-    match whole(alloc, node, p1, p2, text) {
-        Ok(entry) => log.add(&entry),
-        Err(NoMemory) => Err(AddFault::NoMemory),
+/// Adds changesets, and tells whether each became the next row.
+fn put_all(alloc: Global, log: &mut Changelog, rows: &[Given]) -> bool {
+    let mut all = true;
+    for row in rows {
+        let next = log.len();
+        let added = put(alloc, log, *row);
+        all = all && matches!(added, Ok(Added::New(rev)) if rev as usize == next);
     }
+    all
 }
 
 fn new_log(rt: HostRuntime) -> Result<Changelog, Fail> {
     Ok(Changelog::new(rt.alloc(), RandomState::new(&rt)?, Limits::standard()))
 }
 
-/// The text of a row, where there is one.
-fn text_at<A: Allocator>(log: &Changelog<A>, rev: u32) -> Option<&[u8]> {
-    if (rev as usize) < log.len() {
-        Some(log.text(rev))
-    } else {
-        None
+/// Whether the log has a row with that id and that text.
+fn has_text<A: Allocator>(log: &Changelog<A>, node: &Node, text: &[u8]) -> bool {
+    match log.rev(node) {
+        Some(rev) if (rev as usize) < log.len() => log.node(rev) == *node && log.text(rev) == text,
+        _ => false,
+    }
+}
+
+/// Whether the row of that number has those parents.
+fn has_parents<A: Allocator>(log: &Changelog<A>, rev: u32, p1: Node, p2: Node) -> bool {
+    (rev as usize) < log.len() && log.parents(rev) == (p1, p2)
+}
+
+/// Whether the log has these heads.
+fn has_heads(alloc: Global, log: &Changelog, heads: &[Node]) -> bool {
+    match log.heads(alloc) {
+        Ok(told) => told.as_slice() == heads,
+        Err(NoMemory) => false,
     }
 }
 
@@ -159,257 +175,233 @@ fn ancestor(log: &Changelog, ancestor: u32, rev: u32) -> Option<bool> {
 #[test]
 fn a_root_changeset(rt: HostRuntime) -> Result<(), Fail> {
     let mut log = new_log(rt)?;
-    assert_eq!(rt; node_id(&Node::NULL, &Node::NULL, b""), ROOT);
+    assert_eq!(rt; node_id(&NULL, &NULL, b""), ROOT);
     assert_eq!(rt;
-        put(rt.alloc(), &mut log, ROOT, Node::NULL, Node::NULL, b""),
+        put(rt.alloc(), &mut log, changeset(ROOT, NULL, NULL, b"")),
         Ok(Added::New(0))
     );
     assert_eq!(rt; log.len(), 1);
     assert_eq!(rt; log.rev(&ROOT), Some(0));
-    assert_eq!(rt; text_at(&log, 0), Some(b"".as_slice()));
+    assert!(rt; has_text(&log, &ROOT, b""));
     assert!(rt; log.knows(&ROOT));
-    assert!(rt; log.knows(&Node::NULL));
+    Ok(())
+}
+
+#[test]
+fn ids_that_no_row_has(rt: HostRuntime) -> Result<(), Fail> {
+    let log = new_log(rt)?;
+    assert!(rt; log.knows(&NULL));
     assert!(rt; !log.knows(&OTHER));
     assert_eq!(rt; log.rev(&OTHER), None);
-    assert_eq!(rt; log.rev(&Node::NULL), None);
+    assert_eq!(rt; log.rev(&NULL), None);
+    assert!(rt; has_heads(rt.alloc(), &log, &[NULL]));
     Ok(())
 }
 
 #[test]
 fn changesets_of_mercurial(rt: HostRuntime) -> Result<(), Fail> {
     let mut log = new_log(rt)?;
-    let null = Node::NULL;
-    assert_eq!(rt;
-        put(rt.alloc(), &mut log, ADD_A, null, null, TEXT_A),
-        Ok(Added::New(0))
-    );
-    assert_eq!(rt;
-        put(rt.alloc(), &mut log, ADD_B, ADD_A, null, TEXT_B),
-        Ok(Added::New(1))
-    );
-    assert_eq!(rt;
-        put(rt.alloc(), &mut log, ADD_C, ADD_B, null, TEXT_C),
-        Ok(Added::New(2))
-    );
+    let rows = [
+        changeset(ADD_A, NULL, NULL, TEXT_A),
+        changeset(ADD_B, ADD_A, NULL, TEXT_B),
+        changeset(ADD_C, ADD_B, NULL, TEXT_C),
+    ];
+    assert!(rt; put_all(rt.alloc(), &mut log, &rows));
     assert_eq!(rt; log.rev(&ADD_B), Some(1));
-    assert_eq!(rt; text_at(&log, 1), Some(TEXT_B));
-    if 2 < log.len() {
-        assert_eq!(rt; log.node(2), ADD_C);
-        assert_eq!(rt; log.parents(2), (ADD_B, null));
-        assert_eq!(rt; log.parents(0), (null, null));
-    }
-    let heads = log.heads(rt.alloc()).ok().ok_or("heads")?;
-    assert_eq!(rt; heads.as_slice(), [ADD_C].as_slice());
+    assert!(rt; has_text(&log, &ADD_B, TEXT_B));
+    assert!(rt; has_parents(&log, 0, NULL, NULL));
+    assert!(rt; has_parents(&log, 2, ADD_B, NULL));
+    assert!(rt; has_heads(rt.alloc(), &log, &[ADD_C]));
     Ok(())
 }
 
 #[test]
 fn parents_in_either_order(rt: HostRuntime) {
-    assert_eq!(rt; node_id(&Node::NULL, &ADD_A, TEXT_B), ADD_B);
-    assert_eq!(rt; node_id(&ADD_A, &Node::NULL, TEXT_B), ADD_B);
+    assert_eq!(rt; node_id(&NULL, &ADD_A, TEXT_B), ADD_B);
+    assert_eq!(rt; node_id(&ADD_A, &NULL, TEXT_B), ADD_B);
 }
 
 #[test]
 fn the_same_changeset_again(rt: HostRuntime) -> Result<(), Fail> {
     let mut log = new_log(rt)?;
-    let null = Node::NULL;
-    assert_eq!(rt;
-        put(rt.alloc(), &mut log, ROOT, null, null, b""),
-        Ok(Added::New(0))
-    );
-    assert_eq!(rt;
-        put(rt.alloc(), &mut log, ROOT, null, null, b""),
-        Ok(Added::Known)
-    );
-    assert_eq!(rt;
-        put(rt.alloc(), &mut log, ROOT, OTHER, null, b"x"),
-        Ok(Added::Known)
-    );
-    assert_eq!(rt;
-        put(rt.alloc(), &mut log, null, OTHER, null, b"x"),
-        Ok(Added::Known)
-    );
+    assert!(rt; put_all(rt.alloc(), &mut log, &[changeset(ROOT, NULL, NULL, b"")]));
+    for again in [
+        changeset(ROOT, NULL, NULL, b""),
+        changeset(ROOT, OTHER, NULL, b"x"),
+        changeset(NULL, OTHER, NULL, b"x"),
+    ] {
+        assert_eq!(rt; put(rt.alloc(), &mut log, again), Ok(Added::Known));
+    }
     assert_eq!(rt; log.len(), 1);
     Ok(())
+}
+
+/// Adds the child of the root with the text `b`, by a delta on the text `r`.
+fn put_on_r(alloc: Global, log: &mut Changelog) -> Result<Added, AddFault> {
+    let Ok(delta) = hunk(alloc, 0, 1, b"b") else {
+        return Err(AddFault::NoMemory);
+    };
+    log.add(&Entry {
+        node: CHILD_B,
+        p1: ROOT,
+        p2: NULL,
+        base: ROOT_R,
+        delta,
+    })
 }
 
 #[test]
 fn a_known_entry_is_a_base(rt: HostRuntime) -> Result<(), Fail> {
     let mut log = new_log(rt)?;
-    let null = Node::NULL;
+    let rows = [
+        changeset(ROOT, NULL, NULL, b""),
+        changeset(ROOT_R, NULL, NULL, b"r"),
+    ];
+    assert!(rt; put_all(rt.alloc(), &mut log, &rows));
     assert_eq!(rt;
-        put(rt.alloc(), &mut log, ROOT, null, null, b""),
-        Ok(Added::New(0))
-    );
-    assert_eq!(rt;
-        put(rt.alloc(), &mut log, ROOT_R, null, null, b"r"),
-        Ok(Added::New(1))
-    );
-    assert_eq!(rt;
-        put(rt.alloc(), &mut log, ROOT_R, null, null, b"r"),
+        put(rt.alloc(), &mut log, changeset(ROOT_R, NULL, NULL, b"r")),
         Ok(Added::Known)
     );
-    let delta = hunk(rt.alloc(), 0, 1, b"b").ok().ok_or("a delta")?;
-    let entry = Entry {
-        node: CHILD_B,
-        p1: ROOT,
-        p2: null,
-        base: ROOT_R,
-        delta,
-    };
-    assert_eq!(rt; log.add(&entry), Ok(Added::New(2)));
-    assert_eq!(rt; text_at(&log, 2), Some(b"b".as_slice()));
-    let heads = log.heads(rt.alloc()).ok().ok_or("heads")?;
-    assert_eq!(rt; heads.as_slice(), [ROOT_R, CHILD_B].as_slice());
+    assert_eq!(rt; put_on_r(rt.alloc(), &mut log), Ok(Added::New(2)));
+    assert!(rt; has_text(&log, &CHILD_B, b"b"));
+    assert!(rt; has_heads(rt.alloc(), &log, &[ROOT_R, CHILD_B]));
     Ok(())
 }
 
 #[test]
 fn a_wrong_hash(rt: HostRuntime) -> Result<(), Fail> {
     let mut log = new_log(rt)?;
-    let null = Node::NULL;
     let mut wrong = ROOT;
     wrong.0[19] = 0xdc;
-    assert_eq!(rt;
-        put(rt.alloc(), &mut log, wrong, null, null, b""),
-        Err(AddFault::HashMismatch)
-    );
-    assert_eq!(rt;
-        put(rt.alloc(), &mut log, ROOT, null, null, b"x"),
-        Err(AddFault::HashMismatch)
-    );
+    for other in [
+        changeset(wrong, NULL, NULL, b""),
+        changeset(ROOT, NULL, NULL, b"x"),
+    ] {
+        assert_eq!(rt;
+            put(rt.alloc(), &mut log, other),
+            Err(AddFault::HashMismatch)
+        );
+    }
     assert_eq!(rt; log.len(), 0);
     assert!(rt; !log.knows(&wrong));
     Ok(())
 }
 
+/// A root, its three children, and the merge of the first two.
+fn merged() -> [Given<'static>; 5] {
+    [
+        changeset(ROOT, NULL, NULL, b""),
+        changeset(FIRST, ROOT, NULL, b"1"),
+        changeset(SECOND, ROOT, NULL, b"2"),
+        changeset(THIRD, ROOT, NULL, b"3"),
+        changeset(MERGE, FIRST, SECOND, b"m"),
+    ]
+}
+
 #[test]
-fn a_merge(rt: HostRuntime) -> Result<(), Fail> {
+fn the_heads_before_a_merge_and_after_it(rt: HostRuntime) -> Result<(), Fail> {
     let mut log = new_log(rt)?;
-    let null = Node::NULL;
-    let heads = log.heads(rt.alloc()).ok().ok_or("heads")?;
-    assert_eq!(rt; heads.as_slice(), [null].as_slice());
-    assert_eq!(rt;
-        put(rt.alloc(), &mut log, ROOT, null, null, b""),
-        Ok(Added::New(0))
-    );
-    assert_eq!(rt;
-        put(rt.alloc(), &mut log, FIRST, ROOT, null, b"1"),
-        Ok(Added::New(1))
-    );
-    assert_eq!(rt;
-        put(rt.alloc(), &mut log, SECOND, ROOT, null, b"2"),
-        Ok(Added::New(2))
-    );
-    assert_eq!(rt;
-        put(rt.alloc(), &mut log, THIRD, ROOT, null, b"3"),
-        Ok(Added::New(3))
-    );
-    let heads = log.heads(rt.alloc()).ok().ok_or("heads")?;
-    assert_eq!(rt; heads.as_slice(), [THIRD, FIRST, SECOND].as_slice());
-    assert_eq!(rt;
-        put(rt.alloc(), &mut log, MERGE, FIRST, SECOND, b"m"),
-        Ok(Added::New(4))
-    );
-    let heads = log.heads(rt.alloc()).ok().ok_or("heads")?;
-    assert_eq!(rt; heads.as_slice(), [THIRD, MERGE].as_slice());
-    assert_eq!(rt; ancestor(&log, 1, 4), Some(true));
-    assert_eq!(rt; ancestor(&log, 2, 4), Some(true));
-    assert_eq!(rt; ancestor(&log, 0, 4), Some(true));
-    assert_eq!(rt; ancestor(&log, 4, 4), Some(true));
-    assert_eq!(rt; ancestor(&log, 3, 4), Some(false));
+    let rows = merged();
+    assert!(rt; put_all(rt.alloc(), &mut log, &rows[..4]));
+    assert!(rt; has_heads(rt.alloc(), &log, &[THIRD, FIRST, SECOND]));
+    assert!(rt; put_all(rt.alloc(), &mut log, &rows[4..]));
+    assert!(rt; has_heads(rt.alloc(), &log, &[THIRD, MERGE]));
+    Ok(())
+}
+
+#[test]
+fn the_ancestors_of_a_merge(rt: HostRuntime) -> Result<(), Fail> {
+    let mut log = new_log(rt)?;
+    assert!(rt; put_all(rt.alloc(), &mut log, &merged()));
+    for (rev, is) in [(0, true), (1, true), (2, true), (3, false), (4, true)] {
+        assert_eq!(rt; ancestor(&log, rev, 4), Some(is));
+    }
     assert_eq!(rt; ancestor(&log, 4, 1), Some(false));
     Ok(())
+}
+
+/// Cuts a log back, where it has so many rows.
+fn cut(log: &mut Changelog, len: usize) {
+    if len <= log.len() {
+        log.cut_back(len);
+    }
 }
 
 #[test]
 fn a_cut_back(rt: HostRuntime) -> Result<(), Fail> {
     let mut log = new_log(rt)?;
-    let null = Node::NULL;
-    assert_eq!(rt;
-        put(rt.alloc(), &mut log, ROOT, null, null, b""),
-        Ok(Added::New(0))
-    );
-    assert_eq!(rt;
-        put(rt.alloc(), &mut log, FIRST, ROOT, null, b"1"),
-        Ok(Added::New(1))
-    );
-    assert_eq!(rt;
-        put(rt.alloc(), &mut log, SECOND, ROOT, null, b"2"),
-        Ok(Added::New(2))
-    );
-    assert_eq!(rt;
-        put(rt.alloc(), &mut log, MERGE, FIRST, SECOND, b"m"),
-        Ok(Added::New(3))
-    );
-    if log.len() >= 2 {
-        log.cut_back(2);
-    }
+    let rows = merged();
+    assert!(rt; put_all(rt.alloc(), &mut log, &rows));
+    cut(&mut log, 2);
     assert_eq!(rt; log.len(), 2);
     assert_eq!(rt; log.rev(&SECOND), None);
     assert!(rt; !log.knows(&MERGE));
-    let heads = log.heads(rt.alloc()).ok().ok_or("heads")?;
-    assert_eq!(rt; heads.as_slice(), [FIRST].as_slice());
-    assert_eq!(rt;
-        put(rt.alloc(), &mut log, SECOND, ROOT, null, b"2"),
-        Ok(Added::New(2))
-    );
-    let heads = log.heads(rt.alloc()).ok().ok_or("heads")?;
-    assert_eq!(rt; heads.as_slice(), [FIRST, SECOND].as_slice());
+    assert!(rt; has_heads(rt.alloc(), &log, &[FIRST]));
+    assert!(rt; put_all(rt.alloc(), &mut log, &rows[2..3]));
+    assert!(rt; has_heads(rt.alloc(), &log, &[FIRST, SECOND]));
     Ok(())
 }
 
 #[test]
 fn a_clone(rt: HostRuntime) -> Result<(), Fail> {
     let mut log = new_log(rt)?;
-    let null = Node::NULL;
-    assert_eq!(rt;
-        put(rt.alloc(), &mut log, ADD_A, null, null, TEXT_A),
-        Ok(Added::New(0))
-    );
-    assert_eq!(rt;
-        put(rt.alloc(), &mut log, ADD_B, ADD_A, null, TEXT_B),
-        Ok(Added::New(1))
-    );
+    let rows = [
+        changeset(ADD_A, NULL, NULL, TEXT_A),
+        changeset(ADD_B, ADD_A, NULL, TEXT_B),
+    ];
+    assert!(rt; put_all(rt.alloc(), &mut log, &rows));
     let mut copy = log.try_clone(rt.alloc()).ok().ok_or("a clone")?;
-    assert_eq!(rt;
-        put(rt.alloc(), &mut copy, ADD_C, ADD_B, null, TEXT_C),
-        Ok(Added::New(2))
+    assert!(rt;
+        put_all(
+            rt.alloc(),
+            &mut copy,
+            &[changeset(ADD_C, ADD_B, NULL, TEXT_C)]
+        )
     );
-    assert_eq!(rt; text_at(&copy, 0), Some(TEXT_A));
-    assert_eq!(rt; text_at(&copy, 1), Some(TEXT_B));
+    assert!(rt; has_text(&copy, &ADD_A, TEXT_A));
     assert_eq!(rt; copy.rev(&ADD_B), Some(1));
-    assert_eq!(rt; log.len(), 2);
     assert_eq!(rt; ancestor(&copy, 0, 2), Some(true));
+    assert_eq!(rt; log.len(), 2);
     Ok(())
+}
+
+/// Adds an entry that ends within its first hunk.
+fn put_short(
+    alloc: Global,
+    log: &mut Changelog,
+    p1: Node,
+    p2: Node,
+    base: Node,
+) -> Result<Added, AddFault> {
+    let Ok(delta) = Seq::copy_of(alloc, b"short") else {
+        return Err(AddFault::NoMemory);
+    };
+    log.add(&Entry {
+        node: ROOT,
+        p1,
+        p2,
+        base,
+        delta,
+    })
 }
 
 #[test]
 fn an_unknown_parent_before_an_unknown_base(rt: HostRuntime) -> Result<(), Fail> {
     let mut log = new_log(rt)?;
-    let null = Node::NULL;
-    let mut entry = Entry {
-        node: ROOT,
-        p1: null,
-        p2: OTHER,
-        base: OTHER,
-        delta: Seq::copy_of(rt.alloc(), b"short").ok().ok_or("a delta")?,
-    };
-    assert_eq!(rt; log.add(&entry), Err(AddFault::UnknownParent));
-    entry.p1 = OTHER;
-    entry.p2 = null;
-    assert_eq!(rt; log.add(&entry), Err(AddFault::UnknownParent));
-    entry.p1 = null;
-    assert_eq!(rt; log.add(&entry), Err(AddFault::UnknownBase));
-    entry.base = null;
-    assert_eq!(rt; log.add(&entry), Err(AddFault::Delta(DeltaFault::Short)));
+    for (p1, p2, base, fault) in [
+        (NULL, OTHER, OTHER, AddFault::UnknownParent),
+        (OTHER, NULL, OTHER, AddFault::UnknownParent),
+        (NULL, NULL, OTHER, AddFault::UnknownBase),
+        (NULL, NULL, NULL, AddFault::Delta(DeltaFault::Short)),
+    ] {
+        assert_eq!(rt; put_short(rt.alloc(), &mut log, p1, p2, base), Err(fault));
+    }
     assert_eq!(rt; log.len(), 0);
     Ok(())
 }
 
-#[test]
-fn limits(rt: HostRuntime) -> Result<(), Fail> {
-    let null = Node::NULL;
+/// A log for texts of one byte, and for two rows.
+fn small_log(rt: HostRuntime) -> Result<Changelog, Fail> {
     let limits = Limits {
         params: 1,
         payload: 1,
@@ -419,89 +411,134 @@ fn limits(rt: HostRuntime) -> Result<(), Fail> {
         rows: 1,
         revisions: 2,
     };
-    let mut log = Changelog::new(rt.alloc(), RandomState::new(&rt)?, limits);
-    let too_long = Err(AddFault::Delta(DeltaFault::TooLong));
+    Ok(Changelog::new(rt.alloc(), RandomState::new(&rt)?, limits))
+}
+
+#[test]
+fn a_text_at_its_limit_and_past_it(rt: HostRuntime) -> Result<(), Fail> {
+    let mut log = small_log(rt)?;
+    assert!(rt; put_all(rt.alloc(), &mut log, &[changeset(ROOT_R, NULL, NULL, b"r")]));
     assert_eq!(rt;
-        put(rt.alloc(), &mut log, ROOT_R, null, null, b"r"),
-        Ok(Added::New(0))
+        put(rt.alloc(), &mut log, changeset(ROOT, NULL, NULL, b"rr")),
+        Err(AddFault::Delta(DeltaFault::TooLong))
     );
-    assert_eq!(rt;
-        put(rt.alloc(), &mut log, ROOT, null, null, b"rr"),
-        too_long
-    );
-    assert_eq!(rt;
-        put(rt.alloc(), &mut log, ROOT, null, null, b""),
-        Ok(Added::New(1))
-    );
-    assert_eq!(rt;
-        put(rt.alloc(), &mut log, CHILD_B, ROOT, null, b"c"),
-        Err(AddFault::HashMismatch)
-    );
-    assert_eq!(rt;
-        put(rt.alloc(), &mut log, CHILD_B, ROOT, null, b"b"),
-        Err(AddFault::TooMany)
-    );
-    assert_eq!(rt;
-        put(rt.alloc(), &mut log, ROOT, null, null, b""),
-        Ok(Added::Known)
-    );
+    assert_eq!(rt; log.len(), 1);
+    Ok(())
+}
+
+#[test]
+fn as_many_rows_as_are_allowed_and_one_more(rt: HostRuntime) -> Result<(), Fail> {
+    let mut log = small_log(rt)?;
+    let rows = [
+        changeset(ROOT, NULL, NULL, b""),
+        changeset(ROOT_R, NULL, NULL, b"r"),
+    ];
+    assert!(rt; put_all(rt.alloc(), &mut log, &rows));
+    for (more, answer) in [
+        (
+            changeset(CHILD_B, ROOT, NULL, b"c"),
+            Err(AddFault::HashMismatch),
+        ),
+        (changeset(CHILD_B, ROOT, NULL, b"b"), Err(AddFault::TooMany)),
+        (changeset(ROOT, NULL, NULL, b""), Ok(Added::Known)),
+    ] {
+        assert_eq!(rt; put(rt.alloc(), &mut log, more), answer);
+    }
     assert_eq!(rt; log.len(), 2);
     Ok(())
 }
 
-/// What became of changesets that were put into a log over a small heap.
+/// How far a log over a small heap came.
 #[derive(Clone, Copy, PartialEq, Eq)]
-enum Filled {
-    Whole,
-    /// Memory was refused, and the log was as before.
-    Refused,
-    /// Something else went wrong.
-    Broken,
+enum Reached {
+    Adding,
+    Copying,
+    End,
+    Wrong,
 }
 
-fn fill(heap: &LocalHeap, state: RandomState) -> Filled {
-    let mut log = Changelog::new(heap, state, Limits::standard());
-    for (node, p1, p2, text) in [
-        (ROOT, Node::NULL, Node::NULL, b"0"),
-        (FIRST, ROOT, Node::NULL, b"1"),
-        (SECOND, ROOT, Node::NULL, b"2"),
-        (MERGE, FIRST, SECOND, b"m"),
-    ] {
-        let text = if node == ROOT {
-            b"".as_slice()
-        } else {
-            text.as_slice()
-        };
-        let before = log.len();
-        match put(heap, &mut log, node, p1, p2, text) {
+/// Whether the log has these rows and no others.
+fn has_rows<A: Allocator>(log: &Changelog<A>, rows: &[Given]) -> bool {
+    let mut all = log.len() == rows.len();
+    for row in rows {
+        all = all && log.knows(&row.node) && has_text(log, &row.node, row.text);
+    }
+    all
+}
+
+/// Puts changesets into a log, their deltas in a heap of their own, and copies it, until memory is refused. A refused row leaves
+/// the rows before it.
+fn fill<'h>(
+    heap: &'h LocalHeap,
+    deltas: &'h LocalHeap,
+    log: &mut Changelog<&'h LocalHeap>,
+    rows: &[Given],
+) -> Reached {
+    for (count, row) in rows.iter().enumerate() {
+        match put(deltas, log, *row) {
             Ok(Added::New(_)) => {}
-            Err(AddFault::NoMemory) if log.len() == before && !log.knows(&node) => {
-                return Filled::Refused;
-            }
-            _ => return Filled::Broken,
+            Err(AddFault::NoMemory) if has_rows(log, &rows[..count]) => return Reached::Adding,
+            _ => return Reached::Wrong,
         }
     }
-    if log.heads(heap).is_err() || log.try_clone(heap).is_err() {
-        return Filled::Refused;
+    if log.try_clone(heap).is_err() {
+        return Reached::Copying;
     }
-    Filled::Whole
+    Reached::End
 }
 
-/// Over heaps of every size, so that each growth is refused in turn.
+fn fill_new(heap: &LocalHeap, deltas: &LocalHeap, state: RandomState) -> Reached {
+    let mut log = Changelog::new(heap, state, Limits::standard());
+    fill(heap, deltas, &mut log, &merged())
+}
+
+/// Over heaps of each multiple of 16 bytes, so that each growth is refused in turn.
 #[test]
 fn each_growth_refused(rt: HostRuntime) -> Result<(), Fail> {
     let state = RandomState::new(&rt)?;
-    let mut refused = 0u32;
-    let mut whole = 0u32;
-    for sixteens in 1..256usize {
+    let deltas = LocalHeap::new(rt.alloc(), 1024)?;
+    let mut seen = [false; 3];
+    for sixteens in 1..512usize {
         let heap = LocalHeap::new(rt.alloc(), sixteens * 16)?;
-        match fill(&heap, state) {
-            Filled::Whole => whole = whole.saturating_add(1),
-            Filled::Refused => refused = refused.saturating_add(1),
-            Filled::Broken => return Err("a fault that is not want of memory".into()),
+        match fill_new(&heap, &deltas, state) {
+            Reached::Adding => seen[0] = true,
+            Reached::Copying => seen[1] = true,
+            Reached::End => seen[2] = true,
+            Reached::Wrong => assert!(rt; false, "with {sixteens} times 16 bytes"),
         }
     }
-    assert!(rt; refused > 0);
-    assert!(rt; whole > 0);
+    assert!(rt; seen == [true; 3]);
+    Ok(())
+}
+
+/// Over a heap with nothing left: heads, an ancestor and a copy are refused, and the other looks and a cut want nothing.
+#[test]
+fn no_memory_for_looking_and_cutting(rt: HostRuntime) -> Result<(), Fail> {
+    let heap = LocalHeap::new(rt.alloc(), 8192)?;
+    let mut log = Changelog::new(&heap, RandomState::new(&rt)?, Limits::standard());
+    let rows = merged();
+    for row in rows {
+        assert!(rt; put(&heap, &mut log, row).is_ok());
+    }
+    // What is left of the heap is taken, down to the last byte.
+    let mut taken = Vec::new(rt.alloc());
+    for size in [4096usize, 2048, 1024, 512, 256, 128, 64, 32, 16, 8, 4, 2, 1] {
+        for _ in 0..16u32 {
+            if let Ok(block) = Vec::<u8, _>::with_capacity(&heap, size) {
+                taken.push(block)?;
+            }
+        }
+    }
+    assert!(rt; Vec::<u8, _>::with_capacity(&heap, 1).is_err());
+    assert!(rt; log.heads(&heap).is_err() && log.try_clone(&heap).is_err());
+    assert!(rt; log.len() == 5);
+    if log.len() > 4 {
+        assert!(rt; log.is_ancestor(0, 4).is_err());
+    }
+    assert!(rt; has_rows(&log, &rows) && has_parents(&log, 4, FIRST, SECOND));
+    if log.len() > 2 {
+        log.cut_back(2);
+    }
+    assert!(rt; has_rows(&log, &rows[..2]) && !log.knows(&SECOND));
     Ok(())
 }

@@ -1,5 +1,5 @@
-use Rattle.std.proofs.Common.{rules, ◌≡◌, ◌≢◌, ◌⊎◌, ◌↔◌, ℕ, ◌+◌, ◌-◌, ◌<◌, ◌^◌, [], ◌∷◌, ◌++◌, length, take, drop, set, slice_index, slice_set, OnOk, OnErr, Contains, AllPairs, ◌*◌, ◌≤◌, Bool, true, false, nat_eq, nat_lt, List, slice_index_or, Some, None, Ok, Err, IfSome, slice_get, option_map, map, sym, ap, subst, ◌∙◌, arith, refl, inl, inr}
-use Rattle.hg_log.specs.Add.{IsAnswer, HasOutcome, Agrees}
+use Rattle.std.proofs.Common.{◌≡◌, ◌<◌, length, ◌≤◌, true, false, arith, refl}
+use Rattle.hg_log.specs.Add.{Agrees}
 use Rattle.hg_log.specs.Add.IsAnswer.{known, mismatch, too_many, added}
 use Rattle.hg_log.proofs.RowLemmas.{lacks_unknown}
 use Rattle.hg_log.proofs.changelog.Changelog.add.Goals as goal

@@ -1,4 +1,4 @@
-use Rattle.std.proofs.Common.{rules, ◌≡◌, ◌≢◌, ◌⊎◌, ◌↔◌, ℕ, ◌+◌, ◌-◌, ◌<◌, ◌^◌, [], ◌∷◌, ◌++◌, length, take, drop, set, slice_index, slice_set, OnOk, OnErr, Contains, AllPairs, ◌*◌, ◌≤◌, Bool, true, false, nat_eq, nat_lt, List, slice_index_or, Some, None, IfSome, slice_get, option_map, map, sym, ap, subst, ◌∙◌, arith, refl, inl, inr}
+use Rattle.std.proofs.Common.{◌≡◌, ◌<◌, [], ◌∷◌, ◌++◌, length, List, None, ap, ◌∙◌}
 use Rattle.indexmap.proofs.CallerLemmas.{insert_entry-new}
 use Rattle.indexmap.specs.IndexMap.{get}
 use Rattle.std.specs.Map.{lookup}
@@ -8,7 +8,7 @@ use Rattle.hg_types.specs.declared.node.Node.{Node}
 use Rattle.hg_log.specs.declared.changelog.Row.{Row}
 use Rattle.hg_log.specs.Changeset.{Changeset, Log}
 use Rattle.hg_log.specs.Rows.{LacksNode}
-use Rattle.hg_log.specs.Inside.{changeset, rows_of, IsAt, IsWhole}
+use Rattle.hg_log.specs.Inside.{changeset, rows_of, IsAt}
 use Rattle.hg_log.proofs.Wholes.{whole_pushed}
 use Rattle.hg_log.proofs.Lookups.{absent}
 use Rattle.hg_log.proofs.changelog.Changelog.append.Goals as goal

@@ -1,13 +1,12 @@
-use Rattle.std.proofs.Common.{rules, ◌≡◌, ◌≢◌, ◌⊎◌, ◌↔◌, ℕ, ◌+◌, ◌-◌, ◌<◌, ◌^◌, [], ◌∷◌, ◌++◌, length, take, drop, set, slice_index, slice_set, OnOk, OnErr, Contains, AllPairs, ◌*◌, ◌≤◌, Bool, true, false, nat_eq, nat_lt, List, slice_index_or, Some, None, Ok, Err, IfSome, slice_get, option_map, map, sym, ap, subst, ◌∙◌, arith, refl, inl, inr}
+use Rattle.std.proofs.Common.{◌≡◌, ◌+◌, ◌<◌, [], ◌∷◌, ◌++◌, length, take, List, Some, slice_get, option_map, sym, ap, ◌∙◌, arith}
 use Rattle.std.specs.Map.Iter.{deref_pair}
 use Rattle.std.proofs.lemmas.List.{length-take-le, take_more}
 use Rattle.std.proofs.lemmas.Option.{get_or_from_slice_get}
 use Rattle.hg_types.specs.declared.node.Node.{Node}
 use Rattle.hg_log.specs.declared.changelog.Row.{Row}
 use Rattle.hg_log.specs.Changeset.{Changeset, Log}
-use Rattle.hg_log.specs.Rows.{LacksNode}
 use Rattle.hg_log.specs.Add.{with_row}
-use Rattle.hg_log.specs.Inside.{changeset, rows_of, IsAt}
+use Rattle.hg_log.specs.Inside.{changeset, rows_of}
 use Rattle.hg_log.proofs.Lookups.{row_at}
 use Rattle.hg_log.proofs.RowLemmas.{lacks_taken}
 use Rattle.hg_log.proofs.Wholes.{at_taken}

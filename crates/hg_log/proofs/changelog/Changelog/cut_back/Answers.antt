@@ -1,9 +1,9 @@
-use Rattle.std.proofs.Common.{rules, ◌≡◌, ◌≢◌, ◌⊎◌, ◌↔◌, ℕ, ◌+◌, ◌-◌, ◌<◌, ◌^◌, [], ◌∷◌, ◌++◌, length, take, drop, set, slice_index, slice_set, OnOk, OnErr, Contains, AllPairs, ◌*◌, ◌≤◌, Bool, true, false, nat_eq, nat_lt, List, slice_index_or, Some, None, IfSome, slice_get, option_map, map, sym, ap, subst, ◌∙◌, arith, refl, inl, inr}
+use Rattle.std.proofs.Common.{◌≡◌, length, take, ◌≤◌, List, sym, ap, ◌∙◌}
 use Rattle.std.proofs.lemmas.List.{take-map}
 use Rattle.hg_types.specs.declared.node.Node.{Node}
 use Rattle.hg_log.specs.declared.changelog.Row.{Row}
 use Rattle.hg_log.specs.Changeset.{Changeset, Log}
-use Rattle.hg_log.specs.Inside.{changeset, rows_of, IsWhole}
+use Rattle.hg_log.specs.Inside.{changeset, rows_of}
 use Rattle.hg_log.proofs.Wholes.{whole_taken}
 use Rattle.hg_log.proofs.changelog.Changelog.cut_back.Goals as goal
 

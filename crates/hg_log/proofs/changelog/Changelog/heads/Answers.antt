@@ -1,11 +1,10 @@
-use Rattle.std.proofs.Common.{rules, ◌≡◌, ◌≢◌, ◌⊎◌, ◌↔◌, ℕ, ◌+◌, ◌-◌, ◌<◌, ◌^◌, [], ◌∷◌, ◌++◌, length, take, drop, set, slice_index, slice_set, OnOk, OnErr, Contains, AllPairs, ◌*◌, ◌≤◌, Bool, true, false, nat_eq, nat_lt, List, slice_index_or, Some, None, Ok, Err, IfSome, slice_get, option_map, map, sym, ap, subst, ◌∙◌, arith, refl, inl, inr}
+use Rattle.std.proofs.Common.{rules, ◌≡◌, ◌≢◌, [], ◌∷◌, length, slice_index_or, sym, ap, ◌∙◌, arith}
 use Rattle.std.proofs.lemmas.Bool.{eqb-true, eqb-false}
 use Rattle.std.proofs.lemmas.List.Elements.{Contains-get_or}
-use Rattle.hg_types.specs.declared.node.Node.{Node}
 use Rattle.hg_log.specs.NodeId.{null_id}
 use Rattle.hg_log.specs.Heads.{ids}
 use Rattle.hg_log.specs.Inside.{rows_of}
-use Rattle.hg_log.proofs.HeadLemmas.{AreIdsOf, null_node, ids_none, ids_more, ids_all, are_heads, no_heads}
+use Rattle.hg_log.proofs.HeadLemmas.{null_node, ids_none, ids_more, ids_all, are_heads, no_heads}
 use Rattle.hg_log.proofs.changelog.Changelog.heads.Goals as goal
 
 pub returns-then-is_empty : goal.returns-then-is_empty

@@ -1,5 +1,3 @@
-use Rattle.std.proofs.Common.{rules, ◌≡◌, ◌≢◌, ◌⊎◌, ◌↔◌, ℕ, ◌+◌, ◌-◌, ◌<◌, ◌^◌, [], ◌∷◌, ◌++◌, length, take, drop, set, slice_index, slice_set, OnOk, OnErr, Contains, AllPairs, ◌*◌, ◌≤◌, Bool, true, false, nat_eq, nat_lt, List, slice_index_or, Some, None, Ok, Err, IfSome, slice_get, option_map, map, sym, ap, subst, ◌∙◌, arith, refl, inl, inr}
-use Rattle.hg_log.specs.Add.{IsAnswer}
 use Rattle.hg_log.specs.Add.IsAnswer.{unknown_parent}
 use Rattle.hg_log.proofs.changelog.Changelog.parents_of.Goals as goal
 

@@ -1,5 +1,4 @@
-use Rattle.std.proofs.Common.{rules, ◌≡◌, ◌≢◌, ◌⊎◌, ◌↔◌, ℕ, ◌+◌, ◌-◌, ◌<◌, ◌^◌, [], ◌∷◌, ◌++◌, length, take, drop, set, slice_index, slice_set, OnOk, OnErr, Contains, AllPairs, ◌*◌, ◌≤◌, Bool, true, false, nat_eq, nat_lt, List, slice_index_or, Some, None, IfSome, slice_get, option_map, map, sym, ap, subst, ◌∙◌, arith, refl, inl, inr}
-use Rattle.hg_log.specs.Rows.{HasNode, LacksNode}
+use Rattle.std.proofs.Common.{sym}
 use Rattle.hg_types.specs.contracts.node.NodePartialEq.TheImpl as eq
 use Rattle.hg_log.proofs.Lookups.{found, lacks, same_id, id_same}
 use Rattle.hg_log.proofs.changelog.Changelog.rev.Goals as goal

@@ -1,10 +1,8 @@
-use Rattle.std.proofs.Common.{rules, ◌≡◌, ◌≢◌, ◌⊎◌, ◌↔◌, ℕ, ◌+◌, ◌-◌, ◌<◌, ◌^◌, [], ◌∷◌, ◌++◌, length, take, drop, set, slice_index, slice_set, OnOk, OnErr, Contains, AllPairs, ◌*◌, ◌≤◌, Bool, true, false, nat_eq, nat_lt, List, slice_index_or, Some, None, Ok, Err, IfSome, slice_get, option_map, map, sym, ap, subst, ◌∙◌, arith, refl, inl, inr}
-use Rattle.hg_types.specs.declared.seq.Seq.{Seq}
+use Rattle.std.proofs.Common.{◌≡◌, length, ◌≤◌}
 use Rattle.hg_delta.specs.declared.fault.DeltaFault.TheVariants as fault
 use Rattle.hg_delta.specs.Delta.{Applies}
 use Rattle.hg_delta.specs.Faults.{BreaksAt, GivesTooMuch}
 use Rattle.hg_delta.specs.Faults.IsOutcome.{gives}
-use Rattle.hg_log.specs.Add.{IsAnswer, HasOutcome}
 use Rattle.hg_log.specs.Add.IsAnswer.{unknown_base}
 use Rattle.hg_log.proofs.Outcomes.{told}
 use Rattle.hg_log.proofs.changelog.Changelog.text_of.Goals as goal

@@ -1,6 +1,5 @@
-use Rattle.std.proofs.Common.{rules, ◌≡◌, ◌≢◌, ◌↔◌, ℕ, ◌+◌, ◌-◌, ◌<◌, ◌^◌, [], ◌∷◌, ◌++◌, length, take, set, slice_index, slice_set, OnOk, OnErr, Contains, AllPairs, ◌*◌, ◌≤◌, Bool, true, false, nat_eq, nat_lt, List, slice_index_or, sym, ap, subst, ◌∙◌, arith, refl}
+use Rattle.std.proofs.Common.{◌≡◌, ◌<◌, length, slice_index, sym, ◌∙◌}
 use Rattle.std.proofs.lemmas.List.{get_or_read}
-use Rattle.hg_log.specs.ChildCounts.{AreKept, AreExchanged}
 use Rattle.hg_log.proofs.Kept.{kept_more, kept_left}
 use Rattle.hg_log.proofs.child_counts.ChildCounts.add_child.Goals as goal
 use Rattle.hg_log.proofs.child_counts.ChildCounts.add_child.Goals.{then-count-eq0, else-count-eq0}

@@ -1,4 +1,3 @@
-use Rattle.std.proofs.Common.{rules, ◌≡◌, ◌≢◌, ◌↔◌, ℕ, ◌+◌, ◌-◌, ◌<◌, ◌^◌, [], ◌∷◌, ◌++◌, length, take, set, slice_index, slice_set, OnOk, OnErr, Contains, AllPairs, ◌*◌, ◌≤◌, Bool, true, false, nat_eq, nat_lt, List, slice_index_or, sym, ap, subst, ◌∙◌, arith, refl}
 use Rattle.hg_log.proofs.Kept.{first_each, first_distinct}
 use Rattle.hg_log.proofs.child_counts.ChildCounts.childless.Goals as goal
 

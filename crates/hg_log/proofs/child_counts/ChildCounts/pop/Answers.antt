@@ -1,6 +1,4 @@
-use Rattle.std.proofs.Common.{rules, ◌≡◌, ◌≢◌, ◌↔◌, ℕ, ◌+◌, ◌-◌, ◌<◌, ◌^◌, [], ◌∷◌, ◌++◌, length, take, set, slice_index, slice_set, OnOk, OnErr, Contains, AllPairs, ◌*◌, ◌≤◌, Bool, true, false, nat_eq, nat_lt, List, slice_index_or, sym, ap, subst, ◌∙◌, arith, refl}
-use Rattle.std.proofs.lemmas.List.{get_or_read}
-use Rattle.hg_log.specs.ChildCounts.{AreKept, AreExchanged}
+use Rattle.std.proofs.Common.{◌≡◌, ◌-◌, ◌<◌, length, slice_index, ap, ◌∙◌, arith}
 use Rattle.hg_log.proofs.Kept.{kept_popped}
 use Rattle.hg_log.proofs.child_counts.ChildCounts.pop.Goals as goal
 

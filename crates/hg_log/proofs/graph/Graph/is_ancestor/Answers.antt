@@ -1,6 +1,4 @@
-use Rattle.std.proofs.Common.{rules, ◌≡◌, ◌≢◌, ◌⊎◌, ◌↔◌, ℕ, ◌+◌, ◌-◌, ◌<◌, ◌^◌, [], ◌∷◌, ◌++◌, length, take, drop, set, slice_index, slice_set, OnOk, OnErr, Contains, AllPairs, ◌*◌, ◌≤◌, Bool, true, false, nat_eq, nat_lt, List, slice_index_or, Some, None, IfSome, slice_get, sym, ap, subst, ◌∙◌, arith, refl, inl, inr}
-use Rattle.std.proofs.lemmas.List.{get_or_read, length_push, take_at}
-use Rattle.hg_log.specs.Graph.{Reaches}
+use Rattle.std.proofs.Common.{◌≡◌, ◌+◌, ◌-◌, ◌<◌, length, true, false, Some, slice_get, subst, ◌∙◌, arith, refl}
 use Rattle.std.proofs.lemmas.Option.{slice_get_read}
 use Rattle.hg_log.proofs.Counted.{below}
 use Rattle.hg_log.proofs.Found.{ancestor_low, AreFound, found_first, found_skip, found_step, found_all}

@@ -1,6 +1,5 @@
-use Rattle.std.proofs.Common.{rules, ◌≡◌, ◌≢◌, ◌⊎◌, ◌↔◌, ℕ, ◌+◌, ◌-◌, ◌<◌, ◌^◌, [], ◌∷◌, ◌++◌, length, take, drop, set, slice_index, slice_set, OnOk, OnErr, Contains, AllPairs, ◌*◌, ◌≤◌, Bool, true, false, nat_eq, nat_lt, List, slice_index_or, Some, None, IfSome, slice_get, sym, ap, subst, ◌∙◌, arith, refl, inl, inr}
-use Rattle.std.proofs.lemmas.List.{get_or_read, length_push, take_at}
-use Rattle.hg_log.specs.Graph.{AreCounted, AreEarlier}
+use Rattle.std.proofs.Common.{◌≡◌, ◌-◌, length, slice_index, ap, ◌∙◌, arith}
+use Rattle.std.proofs.lemmas.List.{length_push}
 use Rattle.hg_log.proofs.Counted.{counted_popped, last_childless, some_first, some_second, first, second}
 use Rattle.hg_log.proofs.graph.Graph.pop.Goals as goal
 

@@ -1,6 +1,5 @@
-use Rattle.std.proofs.Common.{rules, ◌≡◌, ◌≢◌, ◌⊎◌, ◌↔◌, ℕ, ◌+◌, ◌-◌, ◌<◌, ◌^◌, [], ◌∷◌, ◌++◌, length, take, drop, set, slice_index, slice_set, OnOk, OnErr, Contains, AllPairs, ◌*◌, ◌≤◌, Bool, true, false, nat_eq, nat_lt, List, slice_index_or, Some, None, IfSome, slice_get, sym, ap, subst, ◌∙◌, arith, refl, inl, inr}
-use Rattle.std.proofs.lemmas.List.{get_or_read, length_push, take_at}
-use Rattle.hg_log.specs.Graph.{AreCounted, AreEarlier}
+use Rattle.std.proofs.Common.{rules, ◌≡◌, ◌+◌, ◌<◌, ◌^◌, [], ◌∷◌, ◌++◌, length}
+use Rattle.hg_log.specs.Graph.{AreEarlier}
 use Rattle.hg_log.proofs.Counted.{counted_pushed, few_first, few_second}
 use Rattle.hg_log.proofs.graph.Graph.push.Goals as goal
 

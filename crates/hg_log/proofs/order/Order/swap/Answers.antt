@@ -1,6 +1,5 @@
-use Rattle.std.proofs.Common.{rules, ◌≡◌, ◌≢◌, ◌↔◌, ℕ, ◌+◌, ◌-◌, ◌<◌, ◌^◌, [], ◌∷◌, ◌++◌, length, take, set, slice_index, slice_set, OnOk, OnErr, Contains, AllPairs, ◌*◌, ◌≤◌, Bool, true, false, nat_eq, nat_lt, List, slice_index_or, sym, ap, subst, ◌∙◌, arith, refl}
+use Rattle.std.proofs.Common.{◌≡◌, slice_index}
 use Rattle.std.proofs.lemmas.List.{get_or_read}
-use Rattle.hg_log.specs.ChildCounts.{AreExchanged}
 use Rattle.hg_log.proofs.Kept.{exchanged}
 use Rattle.hg_log.proofs.order.Order.swap.Goals as goal
 
