@@ -1,13 +1,11 @@
 -- Decoding gives back what was encoded, group by group.
-use Rattle.std.proofs.Common.{◌≡◌, ◌≢◌, ◌+◌, ◌*◌, ◌/◌, ◌%◌, ◌^◌, ◌<◌, ◌≤◌, ◌==◌, ◌&&◌, ℕ, suc, Bool, true, false, cond, ltb, lt-ltb, ne_eqb, List, [], ◌∷◌, ◌++◌, length, map, take, get_or, Result, Ok, Err, refl, sym, ap, subst, ◌∙◌, arith}
-use Rattle.std.specs.Int.{w32, to_be_bytes, from_be_bytes}
+use Rattle.std.proofs.Common.{◌≡◌, ◌≢◌, ◌+◌, ◌*◌, ◌/◌, ◌%◌, ◌^◌, ◌<◌, ◌≤◌, ◌==◌, ◌&&◌, ℕ, suc, Bool, true, false, cond, ltb, lt-ltb, ne_eqb, List, [], ◌∷◌, ◌++◌, length, Ok, Err, refl, sym, ap, subst, ◌∙◌, arith}
+use Rattle.std.specs.Int.{w32, from_be_bytes}
 use Rattle.std.specs.List.{list_all, flat_map}
 use Rattle.std.proofs.lemmas.List.{length-append}
 use Rattle.std.proofs.lemmas.List.Concat.{flat_map-cons}
-use Rattle.std.proofs.lemmas.List.Folds.{list_all-append}
-use Rattle.hg_keys.specs.declared.fault.Base85Fault.{Base85Fault}
 use Rattle.hg_keys.specs.declared.fault.Base85Fault.TheVariants.{BadDigit, BadLength, Overflow}
-use Rattle.hg_keys.specs.Base85.{IsBytes, digit_value, digit_at, is_digit, fives, fours, fits, group_value, filled_value, group_bytes, group_text, digits_of, decoded, decoded_groups, encoded}
+use Rattle.hg_keys.specs.Base85.{IsBytes, digit_value, digit_at, is_digit, fives, fours, fits, group_value, filled_value, group_bytes, group_text, decoded, decoded_groups, encoded}
 use Rattle.hg_keys.proofs.Tables.{digit_back, tilde}
 
 and_true : (p q : Bool) → p ≡ true → q ≡ true → (p && q) ≡ true

@@ -2,7 +2,7 @@
 use Rattle.std.proofs.Common.{◌≡◌, ◌+◌, ◌<◌, ◌≤◌, ◌==◌, ℕ, zero, suc, Bool, true, false, not, cond, List, [], ◌∷◌, length, map, get_or, refl, sym, ap, ◌∙◌, arith}
 use Rattle.std.specs.List.{prefix_len}
 use Rattle.std.proofs.lemmas.List.{get_or-map}
-use Rattle.hg_keys.specs.declared.base85.TheConstants.{VALUES, DIGITS}
+use Rattle.hg_keys.specs.declared.base85.TheConstants.{VALUES}
 use Rattle.hg_keys.specs.Base85.{all_digits, place_of, digit_value, digit_at}
 
 -- so many numbers from the first on

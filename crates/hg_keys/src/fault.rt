@@ -1,4 +1,4 @@
-//! What can be wrong with what a client pushes.
+//! What can be wrong with a base-85 text.
 
 use std::alloc::AllocError;
 use thiserror::Error;

@@ -1,4 +1,4 @@
-//! Keys that a client pushes, and the base-85 text in which it pushes markers.
+//! The base-85 text in which a client pushes markers.
 //!
 //! Nothing here starts a thread or waits. [`base85_encode`] and [`base85_decode`] are the two directions of
 //! Mercurial's base-85, in which a pushkey carries marker data.

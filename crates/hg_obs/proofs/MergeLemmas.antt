@@ -1,9 +1,9 @@
 -- A merge, one marker at a time.
-use Rattle.std.proofs.Common.{◌≡◌, ℕ, Bool, true, false, cond, not, ◌||◌, List, [], ◌∷◌, ◌++◌, filter, refl, sym, ap, ◌∙◌, append_assoc, true≢false, ◌<◌, ◌≢◌, ◌+◌, zero, suc, length, get_or, take, AllPairs, arith}
-use Rattle.std.proofs.lemmas.List.{length-take, get_or-take, take_more}
-use Rattle.std.proofs.lemmas.List.Folds.{list_any-append, list_any_none}
-use Rattle.std.proofs.lemmas.List.Elements.{All-get_or, All-from_recursion, All-from_get_or}
-use Rattle.std.specs.List.{list_any, IsDistinct}
+use Rattle.std.proofs.Common.{◌≡◌, ℕ, Bool, true, false, cond, not, ◌||◌, List, [], ◌∷◌, ◌++◌, filter, refl, sym, ap, subst, ◌∙◌, append_assoc, true≢false, ◌≢◌, zero, suc, length, get_or, AllPairs, Result, Ok, OnOk, ◌≤◌, ◌+◌, arith}
+use Rattle.std.proofs.lemmas.List.{length-append}
+use Rattle.std.proofs.lemmas.List.Folds.{list_any-append}
+use Rattle.std.proofs.lemmas.List.Elements.{All-get_or, All-from_recursion}
+use Rattle.std.specs.List.{list_any, AllByRecursion, IsDistinct}
 use Rattle.std.specs.Cmp.{IsEquivalence, decided}
 use Rattle.indexmap.proofs.SetLemmas.{filter_keep, filter_skip}
 use Rattle.hg_obs.specs.declared.marker.Marker.{Marker}
@@ -101,19 +101,58 @@ module _ {A : Type 0} where
   distinct_pairs (m ∷ ms) d (suc i) zero e less within = absurd (omega arith)
   distinct_pairs (m ∷ ms) d (suc i) (suc j) e less within = distinct_pairs ms d.1 i j e (omega arith) (omega arith)
 
-  -- so the next one is not among those before it
-  pub not_before : (ms : List (Marker A)) (i : ℕ) (m : Marker A) → AllPairs (λ a b. a ≢ b) ms → i < length ms → m ≡ get_or ms i m → is_in (take i ms) m ≡ false
-  not_before ms i m apart within at = list_any_none (is_same m) (take i ms) (All-from_get_or (λ (n : Marker A). is_same m n ≡ false) (take i ms) m (λ k below. by k (omega (arith, length-take i ms)) (is_same m (get_or (take i ms) k m)) refl))
+  filter_shorter : (p : Marker A → Bool) (ms : List (Marker A)) → length (filter p ms) ≤ length ms
+  filter_shorter p [] = omega (arith)
+  filter_shorter p (m ∷ ms) = by (p m) (filter_shorter p ms)
     where
-      by : (k : ℕ) → k < i → (b : Bool) → is_same m (get_or (take i ms) k m) ≡ b → b ≡ false
-      by k below true e =
-          let same : m ≡ get_or (take i ms) k m = (is_same_decides m (get_or (take i ms) k m)).0 e in
-          absurd (apart k i m below within (sym (get_or-take i ms k m below) ∙ sym same ∙ at))
-      by k below false e = refl
+      by : (b : Bool) → length (filter p ms) ≤ length ms → length (cond b (m ∷ filter p ms) (filter p ms)) ≤ suc (length ms)
+      by true rest = omega (arith)
+      by false rest = omega (arith)
 
-  -- a copy of distinct markers adds each
-  pub clone_goes_on : (ms copy : List (Marker A)) (i : ℕ) (m next : Marker A) → AllPairs (λ a b. a ≢ b) ms → i < length ms → m ≡ get_or ms i m → next ≡ m → copy ≡ take i ms
-      → cond (is_in copy next) copy (copy ++ next ∷ []) ≡ take (i + 1) ms
-  clone_goes_on ms copy i m next apart within at same e =
-      ap (λ (x : Marker A). cond (is_in copy x) copy (copy ++ x ∷ [])) same ∙ ap (λ (c : List (Marker A)). cond (is_in c m) c (c ++ m ∷ [])) e
-      ∙ ap (λ (b : Bool). cond b (take i ms) (take i ms ++ m ∷ [])) (not_before ms i m apart within at) ∙ ap (λ (x : Marker A). take i ms ++ x ∷ []) at ∙ sym (take_more ms i m within)
+  firsts_shorter : (ms : List (Marker A)) → length (firsts ms) ≤ length ms
+  firsts_shorter [] = omega (arith)
+  firsts_shorter (m ∷ ms) =
+      let rest : length (firsts ms) ≤ length ms = firsts_shorter ms in
+      let less : length (filter (λ n. not (is_same m n)) (firsts ms)) ≤ length (firsts ms) = filter_shorter (λ n. not (is_same m n)) (firsts ms) in
+      omega (arith)
+
+  -- a merge makes a list longer by no more than what is merged
+  pub merged_size : (old xs now : List (Marker A)) (asked room : ℕ) → now ≡ merged old xs → asked ≡ length xs → asked ≤ room → length now ≤ length old + room
+  merged_size old xs now asked room e size enough =
+      let long : length now ≡ length old + length (fresh old xs) = ap length e ∙ length-append old (fresh old xs) in
+      let some : length (fresh old xs) ≤ length (firsts xs) = filter_shorter (λ m. not (is_in old m)) (firsts xs) in
+      let all : length (firsts xs) ≤ length xs = firsts_shorter xs in
+      omega (arith)
+
+  keeps_others : (m : Marker A) (ns : List (Marker A)) → AllByRecursion (λ n. is_same m n ≡ false) ns → filter (λ n. not (is_same m n)) ns ≡ ns
+  keeps_others m [] h = refl
+  keeps_others m (n ∷ ns) h =
+      ap (λ (b : Bool). cond (not b) (n ∷ filter (λ k. not (is_same m k)) ns) (filter (λ k. not (is_same m k)) ns)) h.0 ∙ ap (λ (l : List (Marker A)). n ∷ l) (keeps_others m ns h.1)
+
+  -- of distinct markers each is the first
+  firsts_distinct : (ms : List (Marker A)) → IsDistinct is_same ms → firsts ms ≡ ms
+  unfolding IsDistinct
+  firsts_distinct [] d = refl
+  firsts_distinct (m ∷ ms) d =
+      ap (λ (l : List (Marker A)). m ∷ filter (λ n. not (is_same m n)) l) (firsts_distinct ms d.1) ∙ ap (λ (l : List (Marker A)). m ∷ l) (keeps_others m ms d.0)
+
+  none_there : (ms : List (Marker A)) → filter (λ m. not (is_in [] m)) ms ≡ ms
+  none_there [] = refl
+  none_there (m ∷ ms) = ap (λ (l : List (Marker A)). m ∷ l) (none_there ms)
+
+  -- distinct markers, merged into an empty list
+  pub merged_distinct : (ms : List (Marker A)) → IsDistinct is_same ms → merged [] ms ≡ ms
+  merged_distinct ms d = ap (filter (λ m. not (is_in [] m))) (firsts_distinct ms d) ∙ none_there ms
+
+-- what is said of an answer, where it is known
+pub on_ok : {X E : Type 0} (r : Result X E) (x : X) (P : Type 0) → r ≡ Ok x → OnOk r P → P
+on_ok {X = X} {E = E} r x P e h = subst (λ (z : Result X E). OnOk z P) e h
+
+-- a list that is one shorter needs one place less
+pub room_left : {X : Type 0} (x : X) (all rest : List X) (room left : ℕ) → all ≡ x ∷ rest → length all ≤ room → room ≤ left + 1 → length rest ≤ left
+room_left x all rest room left e enough used =
+    let longer : length all ≡ suc (length rest) = ap length e in omega (arith)
+
+-- as many places as before, of which one is used
+pub room_stays : (size at old left : ℕ) → size ≤ at + old → old ≤ left + 1 → size ≤ at + 1 + left
+room_stays size at old left enough used = omega (arith)

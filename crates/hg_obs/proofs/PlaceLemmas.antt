@@ -1,5 +1,6 @@
 -- The place of the first marker of each predecessor.
-use Rattle.std.proofs.Common.{◌≡◌, ◌≢◌, ◌+◌, ◌<◌, ◌==◌, ◌||◌, ℕ, suc, Bool, true, false, cond, Option, Some, None, is_some, List, [], ◌∷◌, ◌++◌, length, refl, sym, ap, ◌∙◌, arith, eq-eqb, ne_eqb, true≢false, eqb-true, nat_eq}
+use Rattle.std.proofs.Common.{◌≡◌, ◌≢◌, ◌+◌, ◌<◌, ◌==◌, ◌||◌, ℕ, suc, Bool, true, false, cond, Option, Some, None, is_some, List, [], ◌∷◌, ◌++◌, length, take, get_or, refl, sym, ap, ◌∙◌, arith, eq-eqb, ne_eqb, true≢false, eqb-true, nat_eq}
+use Rattle.std.proofs.lemmas.List.{length-take, take_more}
 use Rattle.std.specs.Option.{option_eq}
 use Rattle.std.specs.Cmp.{IsEquivalence, decided}
 use Rattle.std.specs.List.{list_any}
@@ -117,6 +118,13 @@ module _ {A : Type 0} where
   added old new m n found node e h k =
       ap (λ (o : Option ℕ). or_else o (cond (same_node node m.predecessor) (Some n) None)) k
       ∙ ap (λ (i : ℕ). or_else (place_from 0 node old) (cond (same_node node m.predecessor) (Some i) None)) h ∙ sym (noted old m node) ∙ ap (place_from 0 node) (sym e)
+
+  -- and noted for one marker more of a list
+  pub noted_next : (ms : List (Marker A)) (i : ℕ) (d : Marker A) (found : Option ℕ) (node : Node) → i < length ms → found ≡ place_from 0 node (take i ms)
+      → or_else found (cond (same_node node (get_or ms i d).predecessor) (Some i) None) ≡ place_from 0 node (take (i + 1) ms)
+  noted_next ms i d found node within k =
+      let size : i ≡ length (take i ms) = omega (arith, length-take i ms) in
+      added (take i ms) (take (i + 1) ms) (get_or ms i d) i found node (take_more ms i d within) size k
 
   some_place : (from : ℕ) (node : Node) (ms : List (Marker A)) → is_some (place_from from node ms) ≡ list_any (λ m. same_node node m.predecessor) ms
   some_place from node [] = refl

@@ -1,6 +1,7 @@
 -- A list of distinct markers: what a merge makes of it, and which changesets it makes obsolete.
 use Rattle.std.specs.Prelude.{◌≡◌, ℕ, suc, Bool, true, false, ◌==◌, not, List, [], ◌∷◌, ◌++◌, filter, Any, Option, Some, None, if◌then◌else◌}
 use Rattle.std.specs.List.{list_any}
+use Rattle.std.specs.Map.{lookup}
 use Rattle.hg_types.specs.declared.node.Node.{Node}
 use Rattle.hg_obs.specs.declared.marker.Marker.{Marker}
 use Rattle.hg_obs.specs.Same.{is_same, same_node}
@@ -30,6 +31,10 @@ IsPredecessor markers node = Any (λ m. m.predecessor ≡ node) markers
 abbrev pub place_from : {A : Type 0} → ℕ → Node → List (Marker A) → Option ℕ
 place_from from node [] = None
 place_from from node (m ∷ ms) = if same_node node m.predecessor then Some from else place_from (suc from) node ms
+
+-- a look-up of each id finds the place of the first marker that has it as its predecessor
+abbrev pub ArePlaces : {A : Type 0} → List (Node × ℕ) → List (Marker A) → Type 0
+ArePlaces entries markers = (node : Node) → lookup (same_node node) entries ≡ place_from 0 node markers
 
 -- the first of two places, where there is one
 abbrev pub or_else : Option ℕ → Option ℕ → Option ℕ

@@ -1,17 +1,22 @@
 //! The markers of a repository.
 
-ghost use Rattle.std.specs.Prelude.{◌≡◌, ◌≢◌, ◌≤◌, ◌-◌, ◌++◌, ◌∷◌, [], ◌↔◌, Some, None, IsTrue, IfOk, OnOk, OnErr, AllPairs, List, length, take, if◌then◌else◌};
+ghost use Rattle.std.specs.Prelude.{◌≡◌, ◌≢◌, ◌<◌, ◌≤◌, ◌+◌, ◌-◌, ◌++◌, ◌∷◌, [], ◌↔◌, Some, None, IsTrue, IfOk, OnOk, OnErr, AllPairs, length, take, if◌then◌else◌};
 ghost use Rattle.std.specs.Map.{lookup};
+ghost use Rattle.indexmap.specs.IndexMap.{spare as places_room};
+ghost use Rattle.indexmap.specs.IndexSet.{spare as list_room};
 ghost use Rattle.hg_types.specs.declared.node.Node.{Node as AnId};
 ghost use Rattle.hg_obs.specs.Same.{same_node};
-ghost use Rattle.hg_obs.specs.Markers.{or_else, without};
+ghost use Rattle.hg_obs.specs.Markers.{ArePlaces, is_in, merged, or_else, without};
 
 use crate::marker::Marker;
-use hg_types::{NoMemory, Node, Seq, TryClone};
+use hg_types::{NoMemory, Node, Seq, TryClone, try_clone_each};
 use indexmap::{IndexMap, IndexSet};
 use std::alloc::{Allocator, Global};
 use std::hash::RandomState;
 use std::marker::Model;
+
+/// Distinct markers, in order.
+type List<A> = IndexSet<Marker<A>, RandomState, A>;
 
 /// The place of the first marker of each predecessor.
 type Places<A> = IndexMap<Node, usize, RandomState, A>;
@@ -19,23 +24,20 @@ type Places<A> = IndexMap<Node, usize, RandomState, A>;
 /// Distinct markers, in the order in which they came first. Contracts see the list of them.
 #[derive(Drop)]
 pub struct Markers<A: Allocator = Global> {
-    list: IndexSet<Marker<A>, RandomState, A>,
+    list: List<A>,
     places: Places<A>,
 }
 
 impl<A: Allocator> Model for Markers<A> {
-    ghost use Rattle.std.specs.Prelude.{◌≡◌, List};
-    ghost use Rattle.std.specs.Map.{lookup};
-    ghost use Rattle.hg_types.specs.declared.node.Node.{Node as AnId};
+    ghost use Rattle.std.specs.Prelude.{List as AList};
     ghost use Rattle.hg_obs.specs.declared.marker.Marker.{Marker as AMarker};
-    ghost use Rattle.hg_obs.specs.Same.{same_node};
-    ghost use Rattle.hg_obs.specs.Markers.{place_from};
+    ghost use Rattle.hg_obs.specs.Markers.{ArePlaces};
 
-    ghost Value = { List (AMarker A) };
+    ghost Value = { AList (AMarker A) };
 
     ghost view = { λ m. m.list.keys };
 
-    ghost invariant = { λ m. (node : AnId) → lookup (same_node node) m.places.entries ≡ place_from 0 node m.list.keys };
+    ghost invariant = { λ m. ArePlaces m.places.entries m.list.keys };
 }
 
 impl<A: Allocator + Copy> Markers<A> {
@@ -51,7 +53,7 @@ impl<A: Allocator + Copy> Markers<A> {
 }
 
 impl<A: Allocator> Markers<A> {
-    ghost use Rattle.hg_obs.specs.Markers.{IsPredecessor, fresh, merged, is_in};
+    ghost use Rattle.hg_obs.specs.Markers.{IsPredecessor, fresh, merged};
 
     /// The markers, in order.
     pub fn list(&self) -> &[Marker<A>]
@@ -68,21 +70,19 @@ impl<A: Allocator> Markers<A> {
         self.places.contains_key(node)
     }
 
-    /// Adds each marker that is not there yet, in order, and answers how many. Where memory is refused
-    /// the markers are as before. It takes time for what is merged, and not for what is there.
+    /// Adds each marker that is not there yet, in order, and answers how many. Room is made for all of them first, so that
+    /// where memory is refused the markers are as before. On average it takes time for what is merged, and not for what is there.
     pub fn merge(&mut self, added: Seq<Marker<A>, A>) -> Result<u64, NoMemory>
         ensures ok { OnOk result (self.new ≡ merged self.old added) }
         ensures count { IfOk result (λ count. count ≡ length (fresh self.old added)) }
         ensures err { OnErr result (self.new ≡ self.old) }
     {
         let len = self.list.len();
-        match self.add_all(added) {
-            Ok(()) => Ok((self.list.len() - len) as u64),
-            Err(NoMemory) => {
-                self.cut_back(len);
-                Err(NoMemory)
-            }
-        }
+        self.list.reserve(added.len())?;
+        self.places.reserve(added.len())?;
+        add_each(&mut self.list, added);
+        note_each(&mut self.places, self.list.as_slice(), len);
+        Ok((self.list.len() - len) as u64)
     }
 
     /// Drops the markers from that place on. It takes no memory.
@@ -93,34 +93,6 @@ impl<A: Allocator> Markers<A> {
         while len < self.list.len() {
             self.drop_last();
         }
-    }
-
-    /// Adds markers until memory is refused.
-    fn add_all(&mut self, added: Seq<Marker<A>, A>) -> Result<(), NoMemory>
-        ensures ok { OnOk result (self.new ≡ merged self.old added) }
-        ensures err { OnErr result ((more : List (Marker A)) × (self.new ≡ self.old ++ more)) }
-    {
-        for marker in added.into_vec() {
-            self.add(marker)?;
-        }
-        Ok(())
-    }
-
-    /// Adds a marker that is not there yet.
-    fn add(&mut self, marker: Marker<A>) -> Result<(), NoMemory>
-        ensures ok { OnOk result (self.new ≡ (if is_in self.old marker then self.old else self.old ++ marker ∷ [])) }
-        ensures err { OnErr result (self.new ≡ self.old) }
-    {
-        let place = self.list.len();
-        let predecessor = marker.predecessor;
-        let added = self.list.insert(marker)?;
-        if added {
-            if let Err(refused) = note(&mut self.places, predecessor, place) {
-                self.list.pop();
-                return Err(refused);
-            }
-        }
-        Ok(())
     }
 
     /// Drops the last marker, if there is one.
@@ -135,27 +107,52 @@ impl<A: Allocator> Markers<A> {
 
 impl<A: Allocator + Copy> TryClone<A> for Markers<A> {
     fn try_clone(&self, alloc: A) -> Result<Self, NoMemory> {
+        let copies = try_clone_each(alloc, self.list.as_slice())?;
         let mut copy = Markers::new(alloc, *self.list.hasher());
-        for marker in self.list() {
-            copy.add(marker.try_clone(alloc)?)?;
-        }
+        copy.merge(copies)?;
         Ok(copy)
     }
 }
 
-/// Notes the place of a marker, unless one before it has the same predecessor.
-fn note<A: Allocator>(
-    places: &mut Places<A>,
-    predecessor: Node,
-    place: usize,
-) -> Result<(), NoMemory>
-    ensures ok { OnOk result ((node : AnId) → lookup (same_node node) places.new.entries ≡ or_else (lookup (same_node node) places.old.entries) (if same_node node predecessor then Some place else None)) }
-    ensures err { OnErr result (places.new.entries ≡ places.old.entries) }
+/// Adds each marker that is not there yet, in order. There is room for all of them.
+fn add_each<A: Allocator>(list: &mut List<A>, added: Seq<Marker<A>, A>)
+    requires { length added ≤ list_room list.old }
+    ensures { list.new.keys ≡ merged list.old.keys added }
+{
+    for marker in added.into_vec() {
+        add(list, marker);
+    }
+}
+
+/// Adds a marker that is not there yet. There is room for it.
+fn add<A: Allocator>(list: &mut List<A>, marker: Marker<A>)
+    requires { 0 < list_room list.old }
+    ensures markers { list.new.keys ≡ (if is_in list.old.keys marker then list.old.keys else list.old.keys ++ marker ∷ []) }
+    ensures room { list_room list.old ≤ list_room list.new + 1 }
+{
+    list.insert(marker).unwrap();
+}
+
+/// Notes the place of each marker from that place on. There is room for all of them.
+fn note_each<A: Allocator>(places: &mut Places<A>, markers: &[Marker<A>], from: usize)
+    requires room { length markers.now ≤ from + places_room places.old }
+    requires places { ArePlaces places.old.entries (take from markers.now) }
+    ensures { ArePlaces places.new.entries markers.now }
+{
+    for place in from..markers.len() {
+        note(places, markers[place].predecessor, place);
+    }
+}
+
+/// Notes the place of a marker, unless one before it has the same predecessor. There is room for it.
+fn note<A: Allocator>(places: &mut Places<A>, predecessor: Node, place: usize)
+    requires room { 0 < places_room places.old }
+    ensures found { (node : AnId) → lookup (same_node node) places.new.entries ≡ or_else (lookup (same_node node) places.old.entries) (if same_node node predecessor then Some place else None) }
+    ensures room { places_room places.old ≤ places_room places.new + 1 }
 {
     if !places.contains_key(&predecessor) {
-        places.insert(predecessor, place)?;
+        places.insert(predecessor, place).unwrap();
     }
-    Ok(())
 }
 
 /// Forgets a predecessor, if its first marker is the one at that place.

@@ -226,6 +226,7 @@ fn cut_back_and_copy(rt: HostRuntime) -> Result<(), Fail> {
 enum Reached {
     Reading,
     Merging,
+    MergingMore,
     Copying,
     Writing,
     End,
@@ -233,7 +234,21 @@ enum Reached {
     Wrong,
 }
 
-/// Reads two markers, merges them, copies the list and writes both, in that memory.
+/// Ten markers with predecessors of their own, which with two others are more than the first room of a list.
+const TEN: [(u8, u8); 10] = [
+    (1, 9),
+    (2, 9),
+    (3, 9),
+    (4, 9),
+    (5, 9),
+    (6, 9),
+    (7, 9),
+    (8, 9),
+    (9, 9),
+    (10, 9),
+];
+
+/// Reads two markers, merges them, copies the list and writes both, in that memory. Behind that ten more are merged.
 fn reach<A: Allocator + Copy>(alloc: A, state: RandomState) -> Reached {
     let read = match read_markers(alloc, &TWO) {
         Ok(read) => read,
@@ -261,7 +276,24 @@ fn reach<A: Allocator + Copy>(alloc: A, state: RandomState) -> Reached {
     match write_all(copy.list(), &mut out) {
         // A marker is there whole or not at all.
         Err(NoMemory) if out.is_empty() || out.len() == 52 => Reached::Writing,
-        Ok(()) if out.as_slice() == &TWO[1..] => Reached::End,
+        Ok(()) if out.as_slice() == &TWO[1..] => merge_ten(alloc, markers),
+        _ => Reached::Wrong,
+    }
+}
+
+/// Merges ten markers into a list of two.
+fn merge_ten<A: Allocator + Copy>(alloc: A, markers: Markers<A>) -> Reached {
+    let mut markers = markers;
+    let Ok(ten) = list_of(alloc, &TEN) else {
+        return Reached::MergingMore;
+    };
+    let (known, unknown) = (node(17), node(1));
+    match markers.merge(ten) {
+        Ok(10) if markers.list().len() == 12 && markers.is_predecessor(&unknown) => Reached::End,
+        Err(NoMemory)
+            if markers.list().len() == 2
+                && markers.is_predecessor(&known)
+                && !markers.is_predecessor(&unknown) => { Reached::MergingMore }
         _ => Reached::Wrong,
     }
 }
@@ -269,8 +301,8 @@ fn reach<A: Allocator + Copy>(alloc: A, state: RandomState) -> Reached {
 #[test]
 fn each_growth_refused(rt: HostRuntime) -> Result<(), Fail> {
     let state = RandomState::new(&rt)?;
-    let mut seen = [false; 5];
-    for size in 0..512usize {
+    let mut seen = [false; 6];
+    for size in 0..1024usize {
         let heap = LocalHeap::new(rt.alloc(), size * 16)?;
         match reach(&heap, state) {
             Reached::Reading => seen[0] = true,
@@ -278,9 +310,35 @@ fn each_growth_refused(rt: HostRuntime) -> Result<(), Fail> {
             Reached::Copying => seen[2] = true,
             Reached::Writing => seen[3] = true,
             Reached::End => seen[4] = true,
+            Reached::MergingMore => seen[5] = true,
             Reached::Wrong => assert!(rt; false, "with {size} times 16 bytes"),
         }
     }
-    assert!(rt; seen == [true; 5]);
+    assert!(rt; seen == [true; 6]);
+    Ok(())
+}
+
+#[test]
+fn no_memory_for_looking_and_cutting(rt: HostRuntime) -> Result<(), Fail> {
+    let heap = LocalHeap::new(rt.alloc(), 8192)?;
+    let mut markers = Markers::new(&heap, RandomState::new(&rt)?);
+    let added = markers.merge(read_markers(&heap, &TWO)?)?;
+    assert!(rt; added == 2);
+    // What is left of the heap is taken, down to the last byte.
+    let mut taken = Vec::new(rt.alloc());
+    for size in [4096usize, 2048, 1024, 512, 256, 128, 64, 32, 16, 8, 4, 2, 1] {
+        for _ in 0..16u32 {
+            if let Ok(block) = Vec::<u8, _>::with_capacity(&heap, size) {
+                taken.push(block)?;
+            }
+        }
+    }
+    assert!(rt; Vec::<u8, _>::with_capacity(&heap, 1).is_err());
+    assert!(rt; markers.list().len() == 2 && markers.is_predecessor(&node(34)));
+    if markers.list().len() > 1 {
+        markers.cut_back(1);
+    }
+    assert!(rt; markers.list().len() == 1);
+    assert!(rt; markers.is_predecessor(&node(17)) && !markers.is_predecessor(&node(34)));
     Ok(())
 }

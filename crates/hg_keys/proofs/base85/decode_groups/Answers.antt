@@ -1,4 +1,4 @@
-use Rattle.std.proofs.Common.{◌≤◌, ◌≡◌, ◌++◌, ap, ◌∙◌, length, arith, List, ℕ}
+use Rattle.std.proofs.Common.{◌≤◌, ◌++◌, ap, ◌∙◌, length, arith, List, ℕ}
 use Rattle.hg_keys.specs.Base85.{decoded_groups}
 use Rattle.hg_keys.proofs.GroupLemmas.{goes_on}
 use Rattle.hg_keys.proofs.base85.decode_groups.Goals as goal
