@@ -3,7 +3,7 @@
 #   make run     prove and build the program, and let it answer a small push
 #   make build   leave the program at build/hg_pushd
 #   make test    prove everything from nothing, refuse the wrong bodies, run the tests
-#   make bench   measure the program, and the crates below it
+#   make bench   measure the program; bench/*/run.sh measure the crates below it
 
 PROGRAM := build/hg_pushd
 SOURCES := crates.txt $(shell find crates -name out -prune -o -type f \( -name '*.rt' -o -name '*.antt' \) -print 2>/dev/null)
@@ -23,7 +23,7 @@ $(PROGRAM): $(SOURCES)
 run: $(PROGRAM)
 	@echo 'A push: reply capabilities, and a check that the only head is the null id.'
 	@od -A d -c examples/first-push.hg20
-	@$(PROGRAM) one < examples/first-push.hg20 > build/reply.hg20; echo "Status $$?. The reply: a bundle without parts."
+	@$(PROGRAM) one < examples/first-push.hg20 > build/reply.hg20 && echo 'Status 0: the push is done. The reply: a bundle without parts.'
 	@od -A d -c build/reply.hg20
 
 test:

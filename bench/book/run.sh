@@ -1,6 +1,12 @@
 #!/bin/sh
-# Steps a second of a book with 1, 64 and 1,024 open pushes of 100 small parts each, taken round-robin.
+# Steps a second of a book with 1, 64 and 1,024 open pushes of 100 small parts each, taken round-robin, beside plain vectors.
 set -eu
 . "$(dirname "$0")/../scratch.sh"
+rustc --edition 2024 -O -o "$scratch/plain" "$top/bench/book/plain.rs"
 scratch_program book book_speed 'anyhow hg_types hg_repo hg_push'
-"$rt" run 2>&1 | grep -e ' a second' -e error -e 'no proof'
+if ! "$rt" run > "$scratch/told" 2>&1; then
+    tail -20 "$scratch/told"
+    exit 1
+fi
+grep ' a second' "$scratch/told"
+"$scratch/plain"

@@ -1,0 +1,73 @@
+//! The same parts, put into plain vectors: what the memory alone costs, with no book, no rows to search and nothing proved.
+
+use std::time::Instant;
+
+/// The parts of each push.
+const PARTS: u32 = 100;
+
+/// The pushes of each round.
+const PUSHES: u32 = 1_024;
+
+/// The rounds, of which the fastest counts.
+const ROUNDS: u32 = 7;
+
+struct Param {
+    _mandatory: bool,
+    _key: Vec<u8>,
+    _value: Vec<u8>,
+}
+
+struct Part {
+    _kind: Vec<u8>,
+    _id: u32,
+    _params: Vec<Param>,
+    _payload: Vec<u8>,
+}
+
+struct Item {
+    push: u32,
+    part: Part,
+}
+
+fn small_part(id: u32) -> Part {
+    Part {
+        _kind: b"output".to_vec(),
+        _id: id,
+        _params: Vec::new(),
+        _payload: vec![7; 16],
+    }
+}
+
+/// The parts of all pushes, by groups of so many pushes that are open at once; in a group a part of each push in turn.
+fn items_in_turn(open: u32) -> Vec<Item> {
+    let groups = 0..PUSHES / open;
+    let turns = groups.flat_map(|_| (0..PARTS).flat_map(move |index| (0..open).map(move |push| (push, index))));
+    turns.map(|(push, index)| Item { push, part: small_part(index) }).collect()
+}
+
+#[inline(never)]
+fn step(staged: &mut [Vec<Part>], item: Item) {
+    staged[item.push as usize].push(item.part);
+}
+
+fn time_steps(open: u32) -> u128 {
+    let mut items = items_in_turn(open).into_iter();
+    let mut sum = 0;
+    for _ in 0..PUSHES / open {
+        let mut staged: Vec<Vec<Part>> = (0..open).map(|_| Vec::new()).collect();
+        let start = Instant::now();
+        for item in items.by_ref().take((open * PARTS) as usize) {
+            step(&mut staged, item);
+        }
+        sum += start.elapsed().as_nanos();
+    }
+    sum
+}
+
+fn main() {
+    let steps = u128::from(PUSHES * PARTS);
+    for open in [1, 64, 1_024] {
+        let least = (0..ROUNDS).map(|_| time_steps(open)).min().unwrap_or(1).max(1);
+        println!("plain vectors, {open} open: {} steps a second, {:.1} ns a step", steps * 1_000_000_000 / least, least as f64 / steps as f64);
+    }
+}
