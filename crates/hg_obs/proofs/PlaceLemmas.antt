@@ -1,5 +1,5 @@
 -- The place of the first marker of each predecessor.
-use Rattle.std.proofs.Common.{◌≡◌, ◌≢◌, ◌+◌, ◌<◌, ◌==◌, ◌||◌, ℕ, suc, Bool, true, false, cond, Option, Some, None, is_some, List, [], ◌∷◌, ◌++◌, length, take, get_or, refl, sym, ap, ◌∙◌, arith, eq-eqb, ne_eqb, true≢false, eqb-true, nat_eq}
+use Rattle.std.proofs.Common.{◌≡◌, ◌≢◌, ◌+◌, ◌<◌, ◌==◌, ◌||◌, ℕ, suc, Bool, true, false, cond, Option, Some, None, is_some, List, [], ◌∷◌, ◌++◌, length, take, get_or, unwrap_or, refl, sym, ap, ◌∙◌, arith, eq-eqb, ne_eqb, true≢false, eqb-true, nat_eq}
 use Rattle.std.proofs.lemmas.List.{length-take, take_more}
 use Rattle.std.specs.Option.{option_eq}
 use Rattle.std.specs.Cmp.{IsEquivalence, decided}
@@ -45,6 +45,16 @@ module _ (old new : List (Node × ℕ)) (predecessor : Node) (place : ℕ) (node
       by : (b : Bool) → same_node node predecessor ≡ b → lookup (same_node node) old ≡ or_else (lookup (same_node node) old) (cond b (Some place) None)
       by true e = sym (or_else_some (lookup (same_node node) old) (Some place) (ap is_some (same_look e) ∙ there))
       by false e = sym (or_else_none (lookup (same_node node) old))
+
+  -- what an entry of the predecessor leaves, where a value that is there stays
+  pub noted_first : (found : Option ℕ) → lookup (same_node predecessor) old ≡ found → lookup (same_node node) new ≡ cond (same_node predecessor node) (Some (unwrap_or found place)) (lookup (same_node node) old)
+      → lookup (same_node node) new ≡ or_else (lookup (same_node node) old) (cond (same_node node predecessor) (Some place) None)
+  noted_first None e h = noted_new (ap is_some e) h
+  noted_first (Some first) e h = h ∙ by (same_node node predecessor) refl ∙ noted_before (ap is_some e)
+    where
+      by : (b : Bool) → same_node node predecessor ≡ b → cond (same_node predecessor node) (Some first) (lookup (same_node node) old) ≡ lookup (same_node node) old
+      by true k = ap (λ (c : Bool). cond c (Some first) (lookup (same_node node) old)) (same_node_equiv.symm predecessor node ∙ k) ∙ sym (same_look k ∙ e)
+      by false k = ap (λ (c : Bool). cond c (Some first) (lookup (same_node node) old)) (same_node_equiv.symm predecessor node ∙ k)
 
   pub forgotten_last : lookup (same_node predecessor) old ≡ Some place → lookup (same_node node) new ≡ cond (same_node predecessor node) None (lookup (same_node node) old)
       → lookup (same_node node) new ≡ without (same_node node predecessor) place (lookup (same_node node) old)

@@ -150,9 +150,7 @@ fn note<A: Allocator>(places: &mut Places<A>, predecessor: Node, place: usize)
     ensures found { (node : AnId) → lookup (same_node node) places.new.entries ≡ or_else (lookup (same_node node) places.old.entries) (if same_node node predecessor then Some place else None) }
     ensures room { places_room places.old ≤ places_room places.new + 1 }
 {
-    if !places.contains_key(&predecessor) {
-        places.insert(predecessor, place).unwrap();
-    }
+    places.entry(predecessor).unwrap().or_insert(place);
 }
 
 /// Forgets a predecessor, if its first marker is the one at that place.
