@@ -8,8 +8,15 @@ const PARTS: u32 = 100;
 /// The pushes of each round.
 const PUSHES: u32 = 1_024;
 
-/// The rounds, of which the fastest counts.
-const ROUNDS: u32 = 7;
+/// The rounds, of which the fastest counts. In each the numbers of open pushes take turns.
+const ROUNDS: u32 = 15;
+
+/// How many pushes are open at once.
+const OPEN: [u32; 3] = [1, 64, 1_024];
+
+/// A block as large as the C library ever takes from the system by itself. Once it is given back, the library keeps what it
+/// gets back of smaller ones, so that each round but the first works in memory that the process has.
+const BLOCK: usize = 1 << 25;
 
 struct Param {
     _mandatory: bool,
@@ -66,8 +73,15 @@ fn time_steps(open: u32) -> u128 {
 
 fn main() {
     let steps = u128::from(PUSHES * PARTS);
-    for open in [1, 64, 1_024] {
-        let least = (0..ROUNDS).map(|_| time_steps(open)).min().unwrap_or(1).max(1);
-        println!("plain vectors, {open} open: {} steps a second, {:.1} ns a step", steps * 1_000_000_000 / least, least as f64 / steps as f64);
+    drop(std::hint::black_box(Vec::<u8>::with_capacity(BLOCK)));
+    let mut least = [u128::MAX; 3];
+    for _ in 0..ROUNDS {
+        for (place, open) in OPEN.into_iter().enumerate() {
+            least[place] = least[place].min(time_steps(open));
+        }
+    }
+    for (open, least) in OPEN.into_iter().zip(least) {
+        let nanos = least.max(1);
+        println!("plain vectors, {open} open: {} steps a second, {:.1} ns a step", steps * 1_000_000_000 / nanos, nanos as f64 / steps as f64);
     }
 }

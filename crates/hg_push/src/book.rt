@@ -155,6 +155,7 @@ impl<A: Allocator + Copy> Book<A> {
     /// end mark runs the staged parts on the repository: the push is done, and its number joins the
     /// journal, or it is aborted. Where memory is refused while a part is staged or the parts are run,
     /// the push is aborted. A push that is aborted leaves repository and journal as they were.
+    #[inline(always)]
     pub fn step(&mut self, item: Item<A>) -> bool
         ensures opened { result ≡ true → is_opened self.old item.push ≡ true }
         ensures dropped { IsShut item.push self.old.rows → (result ≡ false) × (self.new ≡ self.old) }

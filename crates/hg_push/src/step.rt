@@ -1,6 +1,7 @@
-//! One step: what an item does to the row of its push, to the repository and to the journal.
+//! One step: what an item does to the row of its push, to the repository and to the journal. What stages a part is written into
+//! its callers, and what closes a push is not: most items are parts.
 
-ghost use Rattle.std.specs.Prelude.{◌≡◌, ◌≢◌, ◌<◌, ◌+◌, ◌≤◌, ◌^◌, ◌==◌, ◌++◌, ◌∷◌, [], length, true, position, IfNone, IfSome, IsTrue, IsNone, None, Some, cond, vec_len, vec_capacity};
+ghost use Rattle.std.specs.Prelude.{◌≡◌, ◌≢◌, ◌<◌, ◌+◌, ◌≤◌, ◌^◌, ◌==◌, ◌++◌, ◌∷◌, [], length, true, position, IfNone, IfSome, IsTrue, IsNone, None, Some, cond, vec_len, vec_capacity, OnOk, OnErr};
 ghost use Rattle.std.specs.Bool.{OnTrue, OnFalse};
 ghost use Rattle.std.specs.List.{list_any};
 ghost use Rattle.std.specs.Prelude.{if◌then◌else◌, false};
@@ -10,11 +11,12 @@ ghost use Rattle.hg_push.specs.Run.{run_push};
 use crate::outcome::{Outcome, Reason, Standing};
 use crate::row::{Row, State};
 use hg_repo::{Done, Refusal, Repo, Source};
-use hg_types::{Part, What};
+use hg_types::{NoMemory, Part, Seq, What};
 use std::alloc::Allocator;
 
 /// The place of the push's row, among rows in the order of their numbers. Where no row between the first one and the push's
 /// was taken away, it is the distance of their numbers; else it is searched by halves.
+#[inline(always)]
 pub fn place_of<D, E, A: Allocator>(rows: &[Row<D, E, A>], push: u32) -> Option<usize>
     requires { AreInOrder rows.now }
     ensures { result ≡ position (λ r. r.push == push) rows.now }
@@ -36,6 +38,7 @@ pub fn has_push(journal: &[u32], push: u32) -> bool
 }
 
 /// Whether the row's push is open.
+#[inline(always)]
 pub fn is_open_row<D, E, A: Allocator>(row: &Row<D, E, A>) -> bool
     ensures { result ≡ is_open row.now.state }
 {
@@ -57,6 +60,7 @@ pub fn row_standing<D, E, A: Allocator>(row: &Row<D, E, A>) -> Standing
 }
 
 /// The place of the push's row, if the push is open.
+#[inline(always)]
 pub fn open_place<D, E, A: Allocator>(rows: &[Row<D, E, A>], push: u32) -> Option<usize>
     requires { AreInOrder rows.now }
     ensures none { IfNone result (IsShut push rows.now) }
@@ -114,6 +118,7 @@ pub fn end<A: Allocator + Copy>(
 }
 
 /// Closes the row's push, which ended so.
+#[inline(never)]
 fn close<D: Drop, E: Drop, A: Allocator>(row: &mut Row<D, E, A>, outcome: Outcome<D, E>)
     ensures push { row.new.push ≡ row.old.push }
     ensures state { row.new.state ≡ State.Closed outcome }
@@ -121,7 +126,28 @@ fn close<D: Drop, E: Drop, A: Allocator>(row: &mut Row<D, E, A>, outcome: Outcom
     row.state = State::Closed(outcome);
 }
 
+/// How many parts a list gets room for with its first one, where there is memory for so many: more than most pushes have, so
+/// that their lists are not moved while they grow.
+const FIRST_ROOM: usize = 128;
+
+/// Adds a part to the staged ones, which are as before where memory is refused.
+#[inline(always)]
+fn add_part<A: Allocator + Copy>(
+    staged: &mut Seq<Part<A>, A>,
+    part: Part<A>,
+) -> Result<(), NoMemory>
+    ensures ok { OnOk result (staged.new ≡ staged.old ++ part ∷ []) }
+    ensures err { OnErr result (staged.new ≡ staged.old) }
+{
+    if staged.is_empty() {
+        // Where this is refused, there may be room for the one part.
+        let _many = staged.reserve(FIRST_ROOM);
+    }
+    staged.push(part)
+}
+
 /// Adds a part to an open push, or aborts the push where memory is refused.
+#[inline(always)]
 fn stage<A: Allocator + Copy>(row: &mut Row<Done<A>, Refusal<A>, A>, part: Part<A>) -> bool
     requires { is_open row.old.state ≡ true }
     ensures push { row.new.push ≡ row.old.push }
@@ -129,7 +155,7 @@ fn stage<A: Allocator + Copy>(row: &mut Row<Done<A>, Refusal<A>, A>, part: Part<
     ensures err { OnTrue result (row.new.state ≡ State.Closed (Outcome.Aborted Reason.NoMemory)) }
 {
     let refused = match &mut row.state {
-        State::Open(staged) => staged.push(part).is_err(),
+        State::Open(staged) => add_part(staged, part).is_err(),
         State::Closed(_) => unreachable!(),
     };
     if refused {
@@ -139,6 +165,7 @@ fn stage<A: Allocator + Copy>(row: &mut Row<Done<A>, Refusal<A>, A>, part: Part<
 }
 
 /// Ends an open push at an end mark.
+#[inline(never)]
 fn finish<A: Allocator + Copy>(
     repo: &mut Repo<A>,
     journal: &mut Vec<u32, A>,
@@ -173,6 +200,7 @@ fn finish<A: Allocator + Copy>(
 }
 
 /// Takes an item of an open push, and says whether memory was refused.
+#[inline(always)]
 pub fn step_row<A: Allocator + Copy>(
     repo: &mut Repo<A>,
     journal: &mut Vec<u32, A>,

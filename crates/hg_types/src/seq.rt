@@ -63,6 +63,15 @@ impl<T, A: Allocator> Seq<T, A> {
         self.items.is_empty()
     }
 
+    /// Asks for room for so many more items, so that the list is not moved while it grows by them. The items stay, whether or
+    /// not memory is refused; contracts do not see the room.
+    pub fn reserve(&mut self, more: usize) -> Result<(), NoMemory>
+        ensures { self.new ≡ self.old }
+    {
+        self.items.reserve(more)?;
+        Ok(())
+    }
+
     /// Adds an item at the end. An item that memory is refused for is dropped.
     pub fn push(&mut self, item: T) -> Result<(), NoMemory>
     where

@@ -176,3 +176,26 @@ fn memory_is_refused_or_the_clone_is_equal(rt: HostRuntime) -> Result<(), Fail> 
     assert!(rt; made > 0);
     Ok(())
 }
+
+/// Where room was made, as many items are added without more memory; where it was refused, the list is as before.
+#[test]
+fn room_is_made_or_refused(rt: HostRuntime) -> Result<(), Fail> {
+    let (mut made, mut refused) = (0u32, 0u32);
+    for sixteens in 1..32usize {
+        let heap = LocalHeap::new(rt.alloc(), sixteens * 16)?;
+        let mut list: Seq<u64, &LocalHeap> = Seq::new(&heap);
+        if list.reserve(8).is_err() {
+            assert!(rt; list.is_empty());
+            refused = refused.saturating_add(1);
+            continue;
+        }
+        for item in 0..8u64 {
+            assert_eq!(rt; list.push(item), Ok(()));
+        }
+        assert_eq!(rt; list.as_slice(), [0, 1, 2, 3, 4, 5, 6, 7].as_slice());
+        made = made.saturating_add(1);
+    }
+    assert!(rt; made > 0);
+    assert!(rt; refused > 0);
+    Ok(())
+}
