@@ -8,6 +8,9 @@
 PROGRAM := build/hg_pushd
 SOURCES := crates.txt $(shell find crates -name out -prune -o -type f \( -name '*.rt' -o -name '*.antt' \) -print 2>/dev/null)
 
+# The program keeps payloads in memory: with this the C library asks the system for huge pages to keep them in.
+HUGE_PAGES := GLIBC_TUNABLES=glibc.malloc.hugetlb=1
+
 .PHONY: build run test bench clean
 
 build: $(PROGRAM)
@@ -23,7 +26,7 @@ $(PROGRAM): $(SOURCES)
 run: $(PROGRAM)
 	@echo 'A push: reply capabilities, and a check that the only head is the null id.'
 	@od -A d -c examples/first-push.hg20
-	@$(PROGRAM) one < examples/first-push.hg20 > build/reply.hg20 && echo 'Status 0: the push is done. The reply: a bundle without parts.'
+	@$(HUGE_PAGES) $(PROGRAM) one < examples/first-push.hg20 > build/reply.hg20 && echo 'Status 0: the push is done. The reply: a bundle without parts.'
 	@od -A d -c build/reply.hg20
 
 test:

@@ -1,8 +1,9 @@
 #!/usr/bin/env bash
 # How fast `hg_pushd one` reads a bundle with one `output` part of 64 MiB, beside `cat` and `sha1sum` on the same file, and how
 # much memory it takes at most: with the payload as one chunk, in chunks of 32 KiB, and in chunks of 16 bytes. Beside it a C
-# program that reads by 4,096 bytes and keeps them, since most of the time goes into the pages that the payload is kept in; and
-# both once more where the C library asks for huge pages. All in one run; each time is the best of nine.
+# program that reads by 4,096 bytes and keeps them, since most of the time goes into the pages that the payload is kept in. Both
+# run as the Makefile has it, where the C library asks the system for huge pages, and once more where it does not. All in one
+# run, in which the commands take turns; of each the best of eleven counts.
 set -eu
 cd "$(dirname "$0")/.."
 work=$(mktemp -d)
@@ -32,28 +33,37 @@ measure() {
 import os, subprocess, sys, time
 
 bundle, size, keep = sys.argv[1], int(sys.argv[2]), sys.argv[3]
-huge = dict(os.environ, GLIBC_TUNABLES="glibc.malloc.hugetlb=1")
+small = {name: value for name, value in os.environ.items() if name != "GLIBC_TUNABLES"}
+huge = dict(small, GLIBC_TUNABLES="glibc.malloc.hugetlb=1")
 program = ["build/hg_pushd", "one"]
 commands = (
-    ("cat", ["cat"], None),
-    ("sha1sum", ["sha1sum"], None),
-    ("C, kept", [keep], None),
-    ("hg_pushd one", program, None),
-    ("C, huge pages", [keep], huge),
-    ("one, huge pages", program, huge),
+    ("cat", ["cat"], small),
+    ("sha1sum", ["sha1sum"], small),
+    ("C, kept", [keep], huge),
+    ("hg_pushd one", program, huge),
+    ("C, small pages", [keep], small),
+    ("one, small pages", program, small),
 )
-for label, command, environment in commands:
-    least, peak = None, 0
-    for _ in range(9):
-        with open(bundle, "rb") as source, open(os.devnull, "wb") as sink:
-            start = time.perf_counter()
-            child = subprocess.Popen(command, stdin=source, stdout=sink, env=environment)
-            _, status, usage = os.wait4(child.pid, 0)
-            took = time.perf_counter() - start
-        if status != 0:
-            sys.exit(f"{command[0]}: status {status}")
-        least = took if least is None else min(least, took)
-        peak = max(peak, usage.ru_maxrss * 1024)
+
+
+def run(command, environment):
+    with open(bundle, "rb") as source, open(os.devnull, "wb") as sink:
+        start = time.perf_counter()
+        child = subprocess.Popen(command, stdin=source, stdout=sink, env=environment)
+        _, status, usage = os.wait4(child.pid, 0)
+        took = time.perf_counter() - start
+    if status != 0:
+        sys.exit(f"{command[0]}: status {status}")
+    return took, usage.ru_maxrss * 1024
+
+
+figures = {label: [] for label, _, _ in commands}
+for _ in range(11):
+    for label, command, environment in commands:
+        figures[label].append(run(command, environment))
+for label, runs in figures.items():
+    least = min(took for took, _ in runs)
+    peak = max(most for _, most in runs)
     print(f"  {label:16} {size / least / 1e6:7.0f} MB/s of payload   peak {peak / size:5.2f} times the payload")
 PY
 }
