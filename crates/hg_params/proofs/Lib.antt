@@ -1,4 +1,5 @@
 pub mod Cutting
+pub mod EveryReading
 pub mod FieldLaws
 pub mod Growing
 pub mod HeaderLaws
