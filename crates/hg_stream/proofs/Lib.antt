@@ -19,3 +19,6 @@ pub mod Words
 pub mod Prefixes
 pub mod Settling
 pub mod FirstFaults
+pub mod EveryStep
+pub mod EveryStream
+pub mod EveryVerdict

@@ -240,7 +240,7 @@ opens_inner_payload limits bytes parts head payload taken next is t = record {
 }
 
 -- a step leads from a place of the grammar to the next
-stands_behind : {A : Type 0} (limits : Limits) (p next : Place A) (bytes taken : List ℕ) → Stands limits p bytes → Leads limits p taken next → Stands limits next (bytes ++ taken)
+pub stands_behind : {A : Type 0} (limits : Limits) (p next : Place A) (bytes taken : List ℕ) → Stands limits p bytes → Leads limits p taken next → Stands limits next (bytes ++ taken)
 stands_behind {A} limits AtParams next bytes taken stands leads =
     let has : HasParts {A = A} limits (bytes ++ sized leads.block) [] = rw stands (params_read limits leads.block leads.fits leads.small (leads.params, leads.reads)) in
     respelled limits (AtHeader []) next bytes (sized leads.block) taken leads.leads leads.spelled has
@@ -268,7 +268,7 @@ stands_behind limits (AtInnerChunk parts head payload inner) next bytes taken st
     respelled limits (AtChunk parts head payload) next bytes closing taken to is (ends_inner limits bytes parts head payload inner stands)
 
 -- what may still become a block or chunk there is still read
-still_read : {A : Type 0} (limits : Limits) (p : Place A) (bytes rest : List ℕ) → Stands limits p bytes → IsPartialAt limits p rest → IsReading limits (bytes ++ rest) (parts_at p)
+pub still_read : {A : Type 0} (limits : Limits) (p : Place A) (bytes rest : List ℕ) → Stands limits p bytes → IsPartialAt limits p rest → IsReading limits (bytes ++ rest) (parts_at p)
 still_read limits AtParams bytes rest stands partial = at_block bytes rest limits.params (params stands refl refl) partial refl
 still_read limits (AtHeader parts) bytes rest stands partial = at_block bytes rest (header_room limits parts) (header (of_part stands refl)) partial refl
 still_read limits (AtChunk parts head payload) bytes rest stands partial = at_chunk bytes rest payload (of_part head stands) partial refl

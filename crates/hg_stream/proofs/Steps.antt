@@ -158,7 +158,7 @@ header_err fault limits b after piece n within (inr (wrong, e, faulty)) same end
       (front, after.block.items, most, before, block, faulty, further bytes front rest (take n piece) spelled ∙ ap (λ (x : List ℕ). front ++ x) whole.1),
 )
 
-room_some : (b : Bool) (n : ℕ) → 0 < n → n ≤ (if b then max_header else 0) → (b ≡ true) × (n ≤ max_header)
+pub room_some : (b : Bool) (n : ℕ) → 0 < n → n ≤ (if b then max_header else 0) → (b ≡ true) × (n ≤ max_header)
 room_some true n some within = (refl, within)
 room_some false n some within = absurd (omega (arith, some, within))
 

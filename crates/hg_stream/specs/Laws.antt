@@ -1,5 +1,5 @@
 -- What holds of all bundles.
-use Rattle.std.specs.Prelude.{◌≡◌, ℕ, ◌+◌, ◌<◌, ◌≤◌, ◌^◌, List, [], ◌∷◌, ◌++◌, length, Option, Some, None}
+use Rattle.std.specs.Prelude.{◌≡◌, ◌⊎◌, ℕ, ◌+◌, ◌<◌, ◌≤◌, ◌^◌, List, [], ◌∷◌, ◌++◌, length, Option, Some, None}
 use Rattle.std.specs.List.{All}
 use Rattle.hg_types.specs.declared.limits.Limits.{Limits}
 use Rattle.hg_types.specs.declared.part.Part.{Part}
@@ -51,6 +51,11 @@ pub record AreSettledOnce (A : Type 0) (limits : Limits) : Type 0 where
   pub not_read_after : (a x : List ℕ) (ps qs : List (Part A)) (v : Option StreamFault) → IsSettled v limits a ps → IsReading limits (a ++ x) qs → ⊥
   pub one_reading : (bytes : List ℕ) (ps qs : List (Part A)) → IsReading limits bytes ps → IsReading limits bytes qs → ps ≡ qs
 
+-- the bytes are still read, or a front of them is settled
+abbrev pub IsReadOrSettled : Type 0 → Limits → List ℕ → Type 0
+IsReadOrSettled A limits bytes = ((parts : List (Part A)) × IsReading limits bytes parts)
+    ⊎ ((front behind : List ℕ) × (parts : List (Part A)) × (v : Option StreamFault) × IsSettled v limits front parts × (bytes ≡ front ++ behind))
+
 -- a bundle, within the limit on the stream, or bytes whose last one shows a fault, one byte past it at most
 abbrev pub IsVerdict : {A : Type 0} → Option StreamFault → Limits → List ℕ → List (Part A) → Type 0
 IsVerdict None limits bytes parts = IsBundle limits bytes parts
@@ -65,3 +70,8 @@ pub record HasOneVerdict (A : Type 0) (limits : Limits) : Type 0 where
   pub one_place : (a b x y : List ℕ) (ps qs : List (Part A)) (v w : Option StreamFault) → IsVerdict v limits a ps → IsVerdict w limits b qs → a ++ x ≡ b ++ y
       → (a ≡ b) × (ps ≡ qs) × (v ≡ w)
   pub not_read_after : (a x : List ℕ) (ps qs : List (Part A)) (v : Option StreamFault) → IsVerdict v limits a ps → IsReading limits (a ++ x) qs → length (a ++ x) ≤ limits.stream → ⊥
+
+-- the bytes are still read within the limit on the stream, or a front of them has a verdict
+abbrev pub IsReadOrJudged : Type 0 → Limits → List ℕ → Type 0
+IsReadOrJudged A limits bytes = ((parts : List (Part A)) × IsReading limits bytes parts × (length bytes ≤ limits.stream))
+    ⊎ ((front behind : List ℕ) × (parts : List (Part A)) × (v : Option StreamFault) × IsVerdict v limits front parts × (bytes ≡ front ++ behind))

@@ -1,9 +1,9 @@
 //! What holds of all bundles. The functions do nothing: what they ensure is a theorem.
 
-ghost use Rattle.std.specs.Prelude.{List};
+ghost use Rattle.std.specs.Prelude.{ℕ, ◌<◌, List, All};
 ghost use Rattle.hg_types.specs.declared.limits.Limits.{Limits as AnyLimits};
 ghost use Rattle.hg_types.specs.declared.part.Part.{Part as AnyPart};
-ghost use Rattle.hg_stream.specs.Laws.{IsReadBack, AreReadInOneWay, AreSettledOnce, HasOneVerdict};
+ghost use Rattle.hg_stream.specs.Laws.{IsReadBack, AreReadInOneWay, AreSettledOnce, IsReadOrSettled, HasOneVerdict, IsReadOrJudged};
 
 use std::alloc::Allocator;
 
@@ -23,8 +23,20 @@ pub fn streams_are_settled_once<A: Allocator>()
     ensures { (limits : AnyLimits) → AreSettledOnce A limits }
 {}
 
+/// Any bytes are still read, or a front of them is settled. With [`streams_are_settled_once`], they are one of the two, and there is
+/// one such front.
+pub fn every_stream_is_read_or_settled<A: Allocator>()
+    ensures { (limits : AnyLimits) (bytes : List ℕ) → All (λ byte. byte < 256) bytes → IsReadOrSettled A limits bytes }
+{}
+
 /// A stream has one verdict at most, which is what the reader tells: within the limit on the stream its bytes are read on up to one
 /// place, and there they are a bundle or show a fault, one alone and with one list of parts.
 pub fn streams_have_one_verdict<A: Allocator>()
     ensures { (limits : AnyLimits) → HasOneVerdict A limits }
+{}
+
+/// Any bytes are still read within the limit on the stream, or a front of them has a verdict. With [`streams_have_one_verdict`],
+/// they are one of the two, and there is one such front.
+pub fn every_stream_is_read_or_judged<A: Allocator>()
+    ensures { (limits : AnyLimits) (bytes : List ℕ) → All (λ byte. byte < 256) bytes → IsReadOrJudged A limits bytes }
 {}
