@@ -7,3 +7,4 @@ pub mod Wholes
 pub mod Lookups
 pub mod HeadLemmas
 pub mod Outcomes
+pub mod Answering

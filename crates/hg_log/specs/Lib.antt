@@ -8,3 +8,4 @@ pub mod Graph
 pub mod Marks
 pub mod Inside
 pub mod Add
+pub mod Answer

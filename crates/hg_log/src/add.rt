@@ -1,9 +1,15 @@
 //! Adding a changeset: what can be wrong with it, and how it becomes a row.
 
-ghost use Rattle.std.specs.Prelude.{◌≡◌, ◌≢◌, ◌<◌, IfOk, IfErr, OnErr, IfSome, IfNone, IsTrue, ◌↔◌, Ok, Err, length};
-ghost use Rattle.hg_log.specs.Rows.{IsKnown};
+ghost use Rattle.std.specs.Prelude.{◌≡◌, ◌≢◌, ◌<◌, IfOk, IfErr, OnErr, IfSome, IfNone, IsTrue, ◌↔◌, Ok, Err, Result, length};
+ghost use Rattle.hg_types.specs.declared.entry.Entry.{Entry};
+ghost use Rattle.hg_delta.specs.Outcome.{IsBytes};
+ghost use Rattle.hg_log.specs.declared.add.Added.{Added};
+ghost use Rattle.hg_log.specs.declared.add.AddFault.{AddFault};
+ghost use Rattle.hg_log.specs.Changeset.{Log};
+ghost use Rattle.hg_log.specs.Rows.{IsKnown, AreLawful};
 ghost use Rattle.hg_log.specs.Inside.{IsAt};
 ghost use Rattle.hg_log.specs.Add.{IsAnswer, IsBase, HasParentsIn, HasOutcome, Agrees, told_as};
+ghost use Rattle.hg_log.specs.Answer.{text_of, answer_of};
 
 use crate::changelog::{Changelog, Row};
 use crate::graph::Parents;
@@ -62,6 +68,8 @@ impl<A: Allocator + Copy> Changelog<A> {
     /// `NoMemory` may stand in place of any other answer where a growth was refused.
     pub fn add(&mut self, entry: &Entry<A>) -> Result<Added, AddFault>
         ensures answer { result ≢ Err AddFault.NoMemory → IsAnswer self.old entry.now result self.new }
+        // So the result and the new log are the one answer as a value, unless memory was refused.
+        ensures value { result ≢ Err AddFault.NoMemory → (result, self.new) ≡ answer_of self.old entry.now }
         ensures err { OnErr result (self.new ≡ self.old) }
     {
         if self.knows(&entry.node) {
@@ -94,6 +102,7 @@ impl<A: Allocator + Copy> Changelog<A> {
         ensures p1 { IfOk result (λ parents. IsAt self.now.rows (length self.now.rows) entry.now.p1.0 parents.p1) }
         ensures p2 { IfOk result (λ parents. IsAt self.now.rows (length self.now.rows) entry.now.p2.0 parents.p2) }
         ensures fault { IfErr result (λ fault. IsAnswer self.now entry.now (Err fault) self.now) }
+        ensures value { IfErr result (λ fault. (Err fault, self.now) ≡ answer_of self.now entry.now) }
     {
         match (self.parent(&entry.p1), self.parent(&entry.p2)) {
             (Some(p1), Some(p2)) => Ok(Parents { p1, p2 }),
@@ -134,6 +143,7 @@ impl<A: Allocator + Copy> Changelog<A> {
         requires { HasParentsIn self.now.rows entry.now }
         ensures text { IfOk result (λ text. HasOutcome self.now entry.now (Ok text)) }
         ensures fault { IfErr result (λ fault. fault ≢ AddFault.NoMemory → IsAnswer self.now entry.now (Err fault) self.now) }
+        ensures value { result ≢ Err AddFault.NoMemory → result ≡ text_of self.now entry.now }
     {
         let Some(base) = self.base(&entry.base) else {
             return Err(AddFault::UnknownBase);
@@ -152,3 +162,13 @@ fn agrees<A: Allocator>(entry: &Entry<A>, text: &[u8]) -> bool
 {
     node_id(&entry.p1, &entry.p2, text) == entry.node
 }
+
+/// Every entry whose delta is bytes has an answer: the value that `answer_of` gives. `A` is where the entry lies.
+pub fn every_entry_has_an_answer<A: Allocator>()
+    ensures { (log : Log) (entry : Entry A) → IsBytes entry.delta → IsAnswer log entry (answer_of log entry).0 (answer_of log entry).1 }
+{}
+
+/// A lawful log gives an entry one answer, with one log after it: whatever is an answer by the definitions is that value.
+pub fn one_answer<A: Allocator>()
+    ensures { (log : Log) (entry : Entry A) (answer : Result Added AddFault) (after : Log) → AreLawful log.rows → IsBytes entry.delta → IsAnswer log entry answer after → (answer, after) ≡ answer_of log entry }
+{}

@@ -13,7 +13,7 @@ mod marks;
 mod node;
 mod order;
 
-pub use add::{AddFault, Added};
+pub use add::{AddFault, Added, every_entry_has_an_answer, one_answer};
 pub use changelog::Changelog;
 pub use node::node_id;
 

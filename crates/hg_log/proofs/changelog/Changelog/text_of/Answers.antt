@@ -1,10 +1,17 @@
-use Rattle.std.proofs.Common.{◌≡◌, length, ◌≤◌}
+use Rattle.std.proofs.Common.{◌≡◌, ◌≢◌, length, ◌≤◌, Ok, Err, sym, ap, ◌∙◌}
 use Rattle.hg_delta.specs.declared.fault.DeltaFault.TheVariants as fault
 use Rattle.hg_delta.specs.Delta.{Applies}
 use Rattle.hg_delta.specs.Faults.{BreaksAt, GivesTooMuch}
 use Rattle.hg_delta.specs.Faults.IsOutcome.{gives}
+use Rattle.hg_delta.specs.Outcome.{Fails, outcome_of}
+use Rattle.hg_log.specs.declared.add.AddFault.{AddFault}
+use Rattle.hg_log.specs.declared.add.AddFault.TheVariants.{NoMemory}
+use Rattle.hg_log.specs.Rows.{AreLawful}
+use Rattle.hg_log.specs.Add.{told_as}
 use Rattle.hg_log.specs.Add.IsAnswer.{unknown_base}
-use Rattle.hg_log.proofs.Outcomes.{told}
+use Rattle.hg_log.specs.Answer.{told_text, text_of}
+use Rattle.hg_log.proofs.Outcomes.{told, told_value}
+use Rattle.hg_log.proofs.Answering.{text_no_base, text_on_base}
 use Rattle.hg_log.proofs.changelog.Changelog.text_of.Goals as goal
 
 pub returns-in_default-clause-fault : goal.returns-in_default-clause-fault
@@ -16,6 +23,16 @@ returns-in-Ok-clause-text g c =
     let applies : Applies c.in-Some.base.now c.args.entry.now.delta c.in-Ok.text.items = rw (← c.as_slice.ensures) c.in-Ok.ensures.text in
     rw c.from_vec.ensures (record { parents = c.requires; base = c.in-Some.base.now; base_is = c.in-Some.ensures.known; outcome_is = gives c.in-Ok.text.items applies fits })
 
+pub returns-in_default-clause-value : goal.returns-in_default-clause-value
+returns-in_default-clause-value g c = λ _. text_no_base c.args.self.now c.args.entry.now c.in_default.ensures.unknown
+
+pub returns-in-Ok-clause-value : goal.returns-in-Ok-clause-value
+returns-in-Ok-clause-value g c = λ _.
+    let base = c.in-Some.base.now in
+    let lawful : AreLawful c.args.self.now.rows = rw (← c.self.view_is) c.self.invariant.lawful in
+    let read : outcome_of base c.args.entry.now.delta c.args.self.now.limits.text ≡ Ok c.in-Ok.text.items = rw (← c.as_slice.ensures, ← c.self.view_is) c.in-Ok.ensures.outcome in
+    rw c.from_vec.ensures (sym (ap told_text read) ∙ text_on_base c.args.self.now c.args.entry.now base lawful c.in-Some.ensures.known)
+
 pub returns-in-Err : goal.returns-in-Err
 returns-in-Err g c =
     let e = c.in-Err.ensures in
@@ -26,4 +43,12 @@ returns-in-Err g c =
     let backwards : f ≡ fault.Backwards → BreaksAt fault.Backwards base delta = λ is. rw (← c.as_slice.ensures) (e.backwards (cc)) in
     let past : f ≡ fault.PastEnd → BreaksAt fault.PastEnd base delta = λ is. rw (← c.as_slice.ensures) (e.past_end (cc)) in
     let long : f ≡ fault.TooLong → GivesTooMuch base delta c.args.self.now.limits.text = λ is. rw (← c.as_slice.ensures, ← c.self.view_is) (e.too_long (cc)) in
-    record { text = tt; fault = rw c.from.ensures (told c.args.self.now c.args.entry.now base f c.requires c.in-Some.ensures.known short backwards past long) }
+    let lawful : AreLawful c.args.self.now.rows = rw (← c.self.view_is) c.self.invariant.lawful in
+    let read : Fails f (outcome_of base delta c.args.self.now.limits.text) = rw (← c.as_slice.ensures, ← c.self.view_is) e.outcome in
+    let value : told_as f ≢ NoMemory → Err (told_as f) ≡ text_of c.args.self.now c.args.entry.now = λ other.
+    told_value f (outcome_of base delta c.args.self.now.limits.text) read other ∙ text_on_base c.args.self.now c.args.entry.now base lawful c.in-Some.ensures.known in
+    record {
+      text = tt;
+      fault = rw c.from.ensures (told c.args.self.now c.args.entry.now base f c.requires c.in-Some.ensures.known short backwards past long);
+      value = rw c.from.ensures (λ other. value (λ e. other (ap (λ (x : AddFault). Err x) e)));
+    }

@@ -1,0 +1,5 @@
+use Rattle.hg_log.proofs.Answering.{has_answer}
+use Rattle.hg_log.proofs.add.every_entry_has_an_answer.Goals as goal
+
+pub returns : goal.returns
+returns g c = has_answer
