@@ -1,6 +1,6 @@
 -- The items of one push, and what a book makes of them.
-use Rattle.std.proofs.Common.{ℕ, Bool, true, false, ◌≡◌, ◌==◌, ◌≤◌, ◌<◌, ◌+◌, ◌^◌, ◌&&◌, ◌||◌, not, append_assoc, List, [], ◌∷◌, ◌++◌, refl, sym, ◌∙◌, ap, subst, arith, length, Option, Some, None, map}
-use Rattle.std.specs.Prelude.{IsSome, IfSome, find, nat_le, nat_lt}
+use Rattle.std.proofs.Common.{ℕ, Bool, true, ◌≡◌, ◌==◌, ◌<◌, ◌+◌, ◌^◌, append_assoc, List, [], ◌∷◌, ◌++◌, refl, sym, ◌∙◌, ap, subst, arith, length, Option, Some, None, map}
+use Rattle.std.specs.Prelude.{◌↔◌, IsSome, IfSome, nat_le, nat_lt}
 use Rattle.hg_push.specs.declared.row.State.TheVariants.{Open}
 use Rattle.std.proofs.lemmas.Bool.Decides.{nat_tests}
 use Rattle.std.proofs.lemmas.List.{append-nil, length-append}
@@ -11,13 +11,11 @@ use Rattle.hg_repo.specs.declared.done.Done.{Done}
 use Rattle.hg_repo.specs.declared.refusal.Refusal.{Refusal}
 use Rattle.hg_push.specs.declared.outcome.Outcome.{Outcome}
 use Rattle.hg_push.specs.declared.row.Row.{Row}
-use Rattle.hg_push.specs.History.{History, Place, is_closed, is_mark, is_of, closes, outcome}
+use Rattle.hg_push.specs.History.{History, Place, is_closed, is_mark, outcome}
 use Rattle.hg_push.specs.Book.{Holds, IsSameOpenings, Opens, is_opened, stepped}
 use Rattle.hg_push.specs.Reply.{CanBeTold}
 use Rattle.hg_push.specs.Rows.{row_of}
 use Rattle.hg_push.specs.Run.{RepositoryOf, run_push}
-use Rattle.hg_push.specs.World.{items_in}
-use Rattle.hg_push.proofs.Holding.{closed_ended}
 use Rattle.hg_pushd.specs.declared.ending.Ending.{Ending}
 use Rattle.hg_pushd.specs.declared.ending.Ending.TheVariants.{Whole, Fault, InputEnded, ReadFailed}
 use Rattle.hg_types.specs.declared.item.What.{What}
@@ -58,6 +56,10 @@ has_stepped {A} first push b new items item refused of_it s t = record {
   rows = s.pushes.pushes ∙ t.rows;
 }
 
+-- the law `closed_pushes_have_ended`
+abbrev pub ClosedAreEnded : Type 0 → Type 0
+ClosedAreEnded A = (first : RepositoryOf A) (p : ℕ) (h : History A) → (is_closed p h ≡ true) ↔ IsSome (outcome run_push first p h)
+
 -- the book took the mark of a push
 pub record Closes {A : Type 0} (first : RepositoryOf A) (push : ℕ) (book : BookOf A) (items : List (Item A)) : Type 0 where
   pub taken : HasTaken first push book items
@@ -71,12 +73,12 @@ has_row : {A D E : Type 0} (push : ℕ) (rows : List (Row D E A)) → map (λ r.
 has_row push [] is = cc
 has_row push (row ∷ rows) is = let own : (row.push == push) ≡ true = grind (arith, nat_tests, is) in rw own refl
 
-pub mark_stepped : {A : Type 0} (first : RepositoryOf A) (push : ℕ) (b new : BookOf A) (items : List (Item A)) (item : Item A) (refused : Bool) → item.push ≡ push → is_mark item.what ≡ true → Steps b new item refused
+pub mark_stepped : {A : Type 0} → ClosedAreEnded A → (first : RepositoryOf A) (push : ℕ) (b new : BookOf A) (items : List (Item A)) (item : Item A) (refused : Bool) → item.push ≡ push → is_mark item.what ≡ true → Steps b new item refused
     → HasTaken first push b items → Closes first push new (items ++ item ∷ [])
 unfolding has_stepped
-mark_stepped {A} first push b new items item refused of_it mark s t = record {
+mark_stepped {A} law first push b new items item refused of_it mark s t = record {
   taken = has_stepped first push b new items item refused of_it s t;
-  ended = closed_ended run_push first push (record { item = item; refused = refused } ∷ t.history) (mark_closes push (record { item = item; refused = refused }) t.history of_it mark);
+  ended = (law first push (record { item = item; refused = refused } ∷ t.history)).0 (mark_closes push (record { item = item; refused = refused }) t.history of_it mark);
   row = has_row push new.rows (s.pushes.pushes ∙ t.rows);
 }
 
@@ -154,9 +156,9 @@ marked A InputEnded = refl
 marked A ReadFailed = refl
 
 -- the book was given all parts and the mark
-pub whole_push : {A : Type 0} (first : RepositoryOf A) (push : ℕ) (b new : BookOf A) (parts : List (Part A)) (ending : Ending) (index : ℕ) (what : What A) (refused : Bool) → index ≡ length parts → what ≡ mark_of ending
+pub whole_push : {A : Type 0} → ClosedAreEnded A → (first : RepositoryOf A) (push : ℕ) (b new : BookOf A) (parts : List (Part A)) (ending : Ending) (index : ℕ) (what : What A) (refused : Bool) → index ≡ length parts → what ≡ mark_of ending
     → Steps b new (record { push = push; index = index; what = what }) refused → HasTaken first push b (part_items push 0 parts) → Closes first push new (items_of push parts (mark_of ending))
-whole_push {A} first push b new parts ending index what refused counted is s t =
+whole_push {A} law first push b new parts ending index what refused counted is s t =
     let with_mark : Steps b new (record { push = push; index = index; what = mark_of ending }) refused = subst (λ (w : What A). Steps b new (record { push = push; index = index; what = w }) refused) is s in
     let with_count : Steps b new (record { push = push; index = length parts; what = mark_of ending }) refused = subst (λ (i : ℕ). Steps b new (record { push = push; index = i; what = mark_of ending }) refused) counted with_mark in
-    mark_stepped first push b new (part_items push 0 parts) (record { push = push; index = length parts; what = mark_of ending }) refused refl (marked A ending) with_count t
+    mark_stepped law first push b new (part_items push 0 parts) (record { push = push; index = length parts; what = mark_of ending }) refused refl (marked A ending) with_count t

@@ -11,6 +11,7 @@ ghost use Rattle.hg_pushd.specs.Receiving.{items_of, mark_of, part_items};
 ghost use Rattle.hg_pushd.specs.Taking.{Ends, HasTaken};
 
 use crate::ending::{Ending, mark_of};
+use hg_push::laws::closed_pushes_have_ended;
 use hg_push::{Book, Outcome};
 use hg_repo::{Done, Refusal};
 use hg_stream::Unbundler;
@@ -31,6 +32,8 @@ pub fn end_push<A: Allocator + Copy>(
     let index = step_parts(&mut book, push, bundle);
     let what = mark_of(ending);
     book.step(Item { push, index, what });
+    // the mark closed the push, so there is an outcome
+    closed_pushes_have_ended::<A>();
     match book.take_reply(push) {
         Some(outcome) => outcome,
         None => unreachable!(),

@@ -7,6 +7,7 @@
 
 mod done;
 mod handle;
+pub mod laws;
 mod parts;
 mod refusal;
 mod repo;

@@ -172,6 +172,7 @@ fn the_laws_stand(_rt: HostRuntime) -> Result<(), Fail> {
     laws::taken_once::<Global>();
     laws::nothing_after::<Global>();
     laws::done_had_all::<Global>();
+    laws::closed_pushes_have_ended::<Global>();
     laws::one_by_one::<Global>();
     laws::aborted_changes_nothing::<Global>();
     Ok(())

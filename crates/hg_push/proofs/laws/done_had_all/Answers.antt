@@ -3,7 +3,6 @@ use Rattle.std.specs.List.{range_with_len}
 use Rattle.hg_repo.specs.declared.done.Source.TheVariants.{Push}
 use Rattle.hg_push.specs.Run.{run_push}
 use Rattle.hg_push.proofs.Completing.{all_complete}
-use Rattle.hg_repo.proofs.Runs.{done_handled}
 use Rattle.hg_push.proofs.laws.done_had_all.Goals as goal
 
 pub returns : goal.returns
@@ -11,5 +10,5 @@ returns g c = record {
   complete = λ capacity events first p done is. all_complete run_push first capacity events p done is;
   handled = λ capacity events first p done is.
       let all = all_complete run_push first capacity events p done is in
-      done_handled Push all.before _ all.after done all.answered ∙ ap (λ ps. range_with_len 0 (length ps)) all.parts;
+      c.done_runs_handle_all.ensures Push all.before _ all.after done all.answered ∙ ap (λ ps. range_with_len 0 (length ps)) all.parts;
 }
