@@ -1,6 +1,7 @@
-pub mod Sizes
-pub mod OneReading
-pub mod EveryReading
-pub mod Steps
-pub mod Phases
-pub mod Whole
+mod Sizes
+mod OneReading
+mod EveryReading
+mod Steps
+mod Phases
+mod Whole
+pub mod CallerLemmas

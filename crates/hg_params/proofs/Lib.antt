@@ -1,11 +1,12 @@
-pub mod Cutting
-pub mod EveryReading
-pub mod FieldLaws
-pub mod Growing
-pub mod HeaderLaws
-pub mod Keys
-pub mod Ordering
-pub mod Pieces
-pub mod SizeLaws
-pub mod Spelling
-pub mod WritingLaws
+mod Cutting
+mod EveryReading
+mod FieldLaws
+mod Growing
+mod HeaderLaws
+mod Keys
+mod Ordering
+mod Pieces
+mod SizeLaws
+mod Spelling
+mod WritingLaws
+pub mod CallerLemmas

@@ -9,7 +9,7 @@ use Rattle.hg_chunks.specs.declared.fault.ChunkFault.{ChunkFault}
 use Rattle.hg_chunks.specs.declared.fault.ChunkFault.TheVariants.{BadSize, TooLarge, NoMemory}
 use Rattle.hg_chunks.specs.declared.payload.PayloadIn.{PayloadIn}
 use Rattle.hg_chunks.specs.Payload.{chunk_bytes, IsChunk, IsOpen, interruption, closing}
-use Rattle.hg_chunks.proofs.Phases.{open_while_reading}
+use Rattle.hg_chunks.proofs.CallerLemmas.{open_while_reading}
 use Rattle.hg_chunks.specs.PayloadIn as chunks
 use Rattle.hg_params.specs.declared.head.Head.{Head}
 use Rattle.hg_stream.specs.Block.{sized}

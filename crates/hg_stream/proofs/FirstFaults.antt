@@ -4,7 +4,7 @@ use Rattle.std.proofs.lemmas.Bool.{cases_lt}
 use Rattle.std.proofs.lemmas.List.{append-nil, length-append}
 use Rattle.hg_types.specs.declared.limits.Limits.{Limits}
 use Rattle.hg_types.specs.declared.part.Part.{Part}
-use Rattle.hg_chunks.proofs.Sizes.{fronts}
+use Rattle.hg_chunks.proofs.CallerLemmas.{fronts}
 use Rattle.hg_stream.specs.declared.fault.StreamFault.{StreamFault}
 use Rattle.hg_stream.specs.declared.fault.StreamFault.TheVariants.{TooLarge}
 use Rattle.hg_stream.specs.Frames.{IsWhole}

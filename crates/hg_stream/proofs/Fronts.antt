@@ -7,7 +7,7 @@ use Rattle.std.proofs.lemmas.Int.{ints}
 use Rattle.std.proofs.lemmas.List.{length-append}
 use Rattle.hg_types.specs.declared.limits.Limits.{Limits}
 use Rattle.hg_chunks.specs.Size.{size_bytes}
-use Rattle.hg_chunks.proofs.Sizes.{fronts, one_size_lem}
+use Rattle.hg_chunks.proofs.CallerLemmas.{fronts, one_size_lem}
 use Rattle.hg_stream.specs.Block.{sized}
 use Rattle.hg_stream.specs.Frames.{max_header}
 use Rattle.hg_stream.specs.Places.{header_room}

@@ -2,8 +2,7 @@
 use Rattle.std.proofs.Common.{ℕ, ◌<◌, ◌≤◌, ◌^◌, List, length}
 use Rattle.hg_types.specs.declared.part.Param.{Param}
 use Rattle.hg_params.specs.Writing.{cased, header_bytes, written_head, CanStand}
-use Rattle.hg_params.proofs.SizeLaws.{header_small}
-use Rattle.hg_params.proofs.WritingLaws.{read_back}
+use Rattle.hg_params.proofs.CallerLemmas.{header_small, read_back}
 use Rattle.hg_stream.specs.Frames.{max_header}
 
 -- it is no larger than the greatest one, since it is read back

@@ -5,7 +5,7 @@ use Rattle.std.specs.Int.{w32, to_be_bytes, cast_unsigned}
 use Rattle.std.specs.Int.RustNames.{FitsSigned}
 use Rattle.std.proofs.lemmas.List.{take_more, length-append}
 use Rattle.hg_chunks.specs.Size.{size_bytes}
-use Rattle.hg_chunks.proofs.Sizes.{one_size_lem}
+use Rattle.hg_chunks.proofs.CallerLemmas.{one_size_lem}
 use Rattle.hg_stream.specs.Frames.{magic}
 
 -- the first byte of a piece

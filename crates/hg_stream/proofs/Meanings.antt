@@ -9,8 +9,7 @@ use Rattle.hg_params.specs.declared.stream_params.StreamParam.{StreamParam}
 use Rattle.hg_params.specs.declared.fault.ParamFault.{ParamFault}
 use Rattle.hg_params.specs.Header.{IsHeader, IsHeaderFault}
 use Rattle.hg_params.specs.StreamParams.{AreStreamParams, IsStreamParamsFault}
-use Rattle.hg_params.proofs.HeaderLaws.{one_value, no_fault, one_fault}
-use Rattle.hg_params.proofs.Pieces.{one_list, no_params_fault, one_params_fault}
+use Rattle.hg_params.proofs.CallerLemmas.{one_value, no_fault, one_fault, one_list, no_params_fault, one_params_fault}
 use Rattle.hg_stream.specs.declared.fault.StreamFault.TheVariants.{NegativeSize, Params, Header, Chunk, NestedInterrupt, ClientAbort, Unsupported, TooLarge}
 use Rattle.hg_stream.specs.declared.interrupting.Verdict.{Verdict}
 use Rattle.hg_stream.specs.declared.interrupting.Verdict.TheVariants.{Dropped, Aborts, Refused}

@@ -7,10 +7,10 @@ use Rattle.hg_types.specs.declared.limits.Limits.{Limits}
 use Rattle.hg_types.specs.declared.part.Part.{Part}
 use Rattle.hg_chunks.specs.Size.{size_bytes}
 use Rattle.hg_chunks.specs.Payload.{chunk_bytes, IsChunk, interruption, closing}
-use Rattle.hg_chunks.proofs.Sizes.{fronts, size_is}
+use Rattle.hg_chunks.proofs.CallerLemmas.{fronts, size_is}
 use Rattle.hg_params.specs.declared.head.Head.{Head}
 use Rattle.hg_params.specs.Header.{IsHeader}
-use Rattle.hg_params.proofs.HeaderLaws.{one_value}
+use Rattle.hg_params.proofs.CallerLemmas.{one_value}
 use Rattle.hg_stream.specs.Block.{sized}
 use Rattle.hg_stream.specs.Frames.{magic, Inner, Piece, Chunk, Pause, Break, inner_bytes, piece_bytes, piece_data, IsInner, IsPiece, Frame, frame_bytes, part_of, IsFrame, AreFrames, IsWhole}
 use Rattle.hg_stream.specs.Laws.{AreReadInOneWay}

@@ -9,7 +9,7 @@ use Rattle.hg_chunks.specs.declared.fault.ChunkFault.{ChunkFault}
 use Rattle.hg_chunks.specs.declared.fault.ChunkFault.TheVariants as chunk_fault
 use Rattle.hg_chunks.specs.Size.{size_bytes}
 use Rattle.hg_chunks.specs.Payload.{IsOpen, interruption, closing}
-use Rattle.hg_chunks.proofs.Sizes.{fronts}
+use Rattle.hg_chunks.proofs.CallerLemmas.{fronts}
 use Rattle.hg_params.specs.declared.head.Head.{Head}
 use Rattle.hg_stream.specs.declared.fault.StreamFault.{StreamFault}
 use Rattle.hg_stream.specs.declared.fault.StreamFault.TheVariants.{BadMagic}

@@ -3,7 +3,7 @@ use Rattle.std.proofs.Common.{◌≡◌, ◌≢◌, ℕ, ◌<◌, List, [], ◌+
 use Rattle.std.proofs.lemmas.List.{length-append}
 use Rattle.hg_types.specs.declared.limits.Limits.{Limits}
 use Rattle.hg_types.specs.declared.part.Part.{Part}
-use Rattle.hg_chunks.proofs.Sizes.{fronts}
+use Rattle.hg_chunks.proofs.CallerLemmas.{fronts}
 use Rattle.hg_stream.specs.declared.fault.StreamFault.{StreamFault}
 use Rattle.hg_stream.specs.declared.fault.StreamFault.TheVariants.{BadMagic}
 use Rattle.hg_stream.specs.Frames.{magic}

@@ -7,8 +7,7 @@ use Rattle.hg_types.specs.declared.limits.Limits.{Limits}
 use Rattle.hg_types.specs.declared.part.Part.{Part}
 use Rattle.hg_chunks.specs.Payload.{chunk_bytes, closing, payload_bytes}
 use Rattle.hg_params.specs.Writing.{cased, header_bytes, written_head}
-use Rattle.hg_params.proofs.WritingLaws.{read_back}
-use Rattle.hg_params.proofs.SizeLaws.{header_small}
+use Rattle.hg_params.proofs.CallerLemmas.{read_back, header_small}
 use Rattle.hg_stream.specs.Block.{sized}
 use Rattle.hg_stream.specs.Frames.{magic, Piece, Chunk, piece_bytes, piece_data, IsPiece, Frame, frame_bytes, part_of, IsFrame, AreFrames}
 use Rattle.hg_stream.specs.Written.{parts_bytes, CanBeWritten}

@@ -1,7 +1,6 @@
-use Rattle.std.proofs.Common.{◌≡◌, ℕ, ◌+◌, ◌<◌, List, length, take, arith, sym, ◌∙◌, subst}
+use Rattle.std.proofs.Common.{◌≡◌, ℕ, ◌+◌, ◌<◌, List, length, take, arith, sym, ◌∙◌, subst, true≢false}
 use Rattle.std.proofs.lemmas.Result.{err_from_is_err_and}
 use Rattle.std.proofs.lemmas.List.{length-take, take_all}
-use Rattle.hg_chunks.proofs.Steps.{no_true}
 use Rattle.hg_stream.specs.declared.state.State.TheVariants.{Ended}
 use Rattle.hg_stream.specs.Unbundler.{Feeds, Halts, Moves, state_of}
 use Rattle.hg_stream.proofs.Feeding.{front_take, front_within, past_take, halted, fed, passed}
@@ -40,7 +39,7 @@ returns-then-is_ended-clause-ok g c =
 pub returns-clause-err : goal.returns-clause-err
 returns-clause-err g c =
     let past = c.read_past.ensures.past in
-    let not_ended : state_of c.read.new.self ≡ Ended → ⊥ = λ e. no_true (sym c.if-is_ended.false ∙ c.is_ended.ensures.1 e) in
+    let not_ended : state_of c.read.new.self ≡ Ended → ⊥ = λ e. true≢false (sym (c.is_ended.ensures.1 e) ∙ c.if-is_ended.false) in
     let whole = c.in_ok-count.ensures.all not_ended in
     let front : List ℕ = take c.min-within.result c.args.piece.now in
     let some : c.min-within.result < length c.args.piece.now = omega (arith, c.min-within.ensures, c.if-within-piece.false) in

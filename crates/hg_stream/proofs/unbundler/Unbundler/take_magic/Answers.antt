@@ -1,8 +1,7 @@
-use Rattle.std.proofs.Common.{[], arith, rules, sym}
+use Rattle.std.proofs.Common.{[], arith, rules, sym, true≢false}
 use Rattle.std.specs.Int.{w32}
 use Rattle.std.specs.Int.RustNames.{FitsSigned}
 use Rattle.std.proofs.lemmas.List.{append-nil}
-use Rattle.hg_chunks.proofs.Steps.{no_true}
 use Rattle.hg_stream.proofs.Magic.{magic_whole, magic_more, bad_magic}
 use Rattle.hg_stream.proofs.unbundler.Unbundler.take_magic.Goals as goal
 
@@ -23,7 +22,7 @@ returns-clause-ok g c = λ bytes parts h.
 pub returns-in_default-clause-ok : goal.returns-in_default-clause-ok
 returns-in_default-clause-ok g c = λ bytes parts h.
     let place = rw c.requires.stage at h.place in
-    let more = magic_more bytes c.args.self.now.magic c.push.new.self c.args.piece.now place.taken c.requires.piece c.in_default.ensures.more place.short (λ e. no_true (c.in_default.ensures.full.1 e)) in (
+    let more = magic_more bytes c.args.self.now.magic c.push.new.self c.args.piece.now place.taken c.requires.piece c.in_default.ensures.more place.short (λ e. true≢false (sym (c.in_default.ensures.full.1 e))) in (
       [],
       record {
         ready = sym (append-nil _);
