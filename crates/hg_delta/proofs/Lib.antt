@@ -1,4 +1,4 @@
-pub mod Numbers
-pub mod Hunks
-pub mod Readings
-pub mod Outcomes
+mod Numbers
+mod Hunks
+mod Readings
+mod Outcomes

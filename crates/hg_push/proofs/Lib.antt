@@ -1,17 +1,17 @@
-pub mod Trims
-pub mod Withouts
-pub mod Journals
-pub mod Holding
-pub mod Finding
-pub mod Stepping
-pub mod Opening
-pub mod Worlds
-pub mod Standings
-pub mod Taking
-pub mod Replying
-pub mod Sending
-pub mod Completing
-pub mod Handling
-pub mod Telling
-pub mod Calling
-pub mod Searching
+mod Trims
+mod Withouts
+mod Journals
+mod Holding
+mod Finding
+mod Stepping
+mod Opening
+mod Worlds
+mod Standings
+mod Taking
+mod Replying
+mod Sending
+mod Completing
+mod Handling
+mod Telling
+mod Calling
+mod Searching

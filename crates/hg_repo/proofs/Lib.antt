@@ -1,6 +1,6 @@
-pub mod Ascending
-pub mod Mandatory
-pub mod Ranges
-pub mod Runs
-pub mod SameIds
-pub mod Tables
+mod Ascending
+mod Mandatory
+mod Ranges
+mod Runs
+mod SameIds
+mod Tables

@@ -1,24 +1,24 @@
-pub mod Magic
-pub mod Steps
-pub mod Chunks
-pub mod Interruptions
-pub mod Moves
-pub mod Telling
-pub mod Feeding
-pub mod HeaderSizes
-pub mod Writing
-pub mod WrittenBundles
-pub mod OneBundle
-pub mod Runs
-pub mod Fronts
-pub mod Meanings
-pub mod Outcomes
-pub mod OneRun
-pub mod Reaching
-pub mod Words
-pub mod Prefixes
-pub mod Settling
-pub mod FirstFaults
-pub mod EveryStep
-pub mod EveryStream
-pub mod EveryVerdict
+mod Magic
+mod Steps
+mod Chunks
+mod Interruptions
+mod Moves
+mod Telling
+mod Feeding
+mod HeaderSizes
+mod Writing
+mod WrittenBundles
+mod OneBundle
+mod Runs
+mod Fronts
+mod Meanings
+mod Outcomes
+mod OneRun
+mod Reaching
+mod Words
+mod Prefixes
+mod Settling
+mod FirstFaults
+mod EveryStep
+mod EveryStream
+mod EveryVerdict

@@ -1,1 +1,1 @@
-pub mod PartLemmas
+mod PartLemmas
