@@ -5,8 +5,8 @@ use Rattle.std.proofs.lemmas.Bool.{leb-true, leb-false, le-leb, lt-leb}
 use Rattle.std.proofs.lemmas.Slice.Eq.{bytes_eq-Decides}
 use Rattle.hg_types.specs.declared.entry.Entry.{Entry}
 use Rattle.hg_delta.specs.declared.fault.DeltaFault.{DeltaFault}
+use Rattle.hg_delta.specs.Faults.{IsOutcome}
 use Rattle.hg_delta.specs.Outcome.{IsBytes, outcome_of}
-use Rattle.hg_delta.proofs.Outcomes.{has_outcome, outcome_is}
 use Rattle.hg_log.specs.declared.add.Added.{Added}
 use Rattle.hg_log.specs.declared.add.Added.TheVariants.{New, Known}
 use Rattle.hg_log.specs.declared.add.AddFault.{AddFault}
@@ -212,50 +212,60 @@ outcome_answered : {A : Type 0} (log : Log) (entry : Entry A) (outcome : Result 
 outcome_answered log entry (Ok text) has = text_answered log entry text has
 outcome_answered log entry (Err fault) has = bad_delta fault has
 
-parents_answered : {A : Type 0} (log : Log) (entry : Entry A) → IsBytes entry.delta → HasParentsIn log.rows entry → IsAnswered log entry (text_of log entry >>= checked_row log entry)
-unfolding text_of
-parents_answered log entry fits parents = by (text_by_id log.rows entry.base.0) (text_tells log.rows entry.base.0)
-  where
-    by : (o : Option (List ℕ)) → TellsBase log.rows entry.base.0 o → IsAnswered log entry ((ok_or o UnknownBase >>= λ base. told_text (outcome_of base entry.delta log.limits.text)) >>= checked_row log entry)
-    by (Some base) is =
-        let most = log.limits.text in
-        outcome_answered log entry (outcome_of base entry.delta most) (record { parents = parents; base = base; base_is = is; outcome_is = has_outcome base entry.delta most fits })
-    by None unknown = unknown_base parents unknown
+-- a delta of bytes has the outcome that reading it gives
+abbrev pub HaveOutcomes : Type 0
+HaveOutcomes = (base delta : List ℕ) (most : ℕ) → IsBytes delta → IsOutcome base delta most (outcome_of base delta most)
 
-new_answered : {A : Type 0} (log : Log) (entry : Entry A) → IsBytes entry.delta → ¬ (IsKnown log.rows entry.node.0) → IsAnswered log entry (new_row log entry)
-unfolding new_row
-new_answered log entry fits unknown = by (is_known log.rows entry.p1.0) (is_known log.rows entry.p2.0) (is_known-Decides log.rows entry.p1.0) (is_known-Decides log.rows entry.p2.0)
-  where
-    by : (a b : Bool) → Decides a (IsKnown log.rows entry.p1.0) → Decides b (IsKnown log.rows entry.p2.0)
-        → IsAnswered log entry (cond (not (a && b)) (Err UnknownParent) (text_of log entry >>= checked_row log entry))
-    by true true p1 p2 = parents_answered log entry fits (record { unknown = unknown; p1 = p1.0 refl; p2 = p2.0 refl })
-    by true false p1 p2 = unknown_parent unknown (λ both. let yes = p2.1 both.1 in absurd cc)
-    by false b p1 p2 = unknown_parent unknown (λ both. let yes = p1.1 both.0 in absurd cc)
+-- a delta has one outcome
+abbrev pub HaveOneOutcome : Type 0
+HaveOneOutcome = (base delta : List ℕ) (most : ℕ) (a b : Result (List ℕ) DeltaFault) → IsOutcome base delta most a → IsOutcome base delta most b → a ≡ b
 
--- the answer by whether the entry is known
-abbrev decided : {A : Type 0} → Log → Entry A → Bool → Result Added AddFault × Log
-decided log entry b = cond b (Ok Known, log) (answered log (new_row log entry))
+module _ (every : HaveOutcomes) where
+  parents_answered : {A : Type 0} (log : Log) (entry : Entry A) → IsBytes entry.delta → HasParentsIn log.rows entry → IsAnswered log entry (text_of log entry >>= checked_row log entry)
+  unfolding text_of
+  parents_answered log entry fits parents = by (text_by_id log.rows entry.base.0) (text_tells log.rows entry.base.0)
+    where
+      by : (o : Option (List ℕ)) → TellsBase log.rows entry.base.0 o → IsAnswered log entry ((ok_or o UnknownBase >>= λ base. told_text (outcome_of base entry.delta log.limits.text)) >>= checked_row log entry)
+      by (Some base) is =
+          let most = log.limits.text in
+          outcome_answered log entry (outcome_of base entry.delta most) (record { parents = parents; base = base; base_is = is; outcome_is = every base entry.delta most fits })
+      by None unknown = unknown_base parents unknown
 
-pub has_answer : {A : Type 0} (log : Log) (entry : Entry A) → IsBytes entry.delta → IsAnswer log entry (answer_of log entry).0 (answer_of log entry).1
-unfolding answer_of
-has_answer log entry fits = by (is_known log.rows entry.node.0) (is_known-Decides log.rows entry.node.0)
-  where
-    by : (b : Bool) → Decides b (IsKnown log.rows entry.node.0) → IsAnswer log entry (decided log entry b).0 (decided log entry b).1
-    by true is = known (is.0 refl)
-    by false is = new_answered log entry fits (λ yes. let b = is.1 yes in absurd cc)
+  new_answered : {A : Type 0} (log : Log) (entry : Entry A) → IsBytes entry.delta → ¬ (IsKnown log.rows entry.node.0) → IsAnswered log entry (new_row log entry)
+  unfolding new_row
+  new_answered log entry fits unknown = by (is_known log.rows entry.p1.0) (is_known log.rows entry.p2.0) (is_known-Decides log.rows entry.p1.0) (is_known-Decides log.rows entry.p2.0)
+    where
+      by : (a b : Bool) → Decides a (IsKnown log.rows entry.p1.0) → Decides b (IsKnown log.rows entry.p2.0)
+          → IsAnswered log entry (cond (not (a && b)) (Err UnknownParent) (text_of log entry >>= checked_row log entry))
+      by true true p1 p2 = parents_answered log entry fits (record { unknown = unknown; p1 = p1.0 refl; p2 = p2.0 refl })
+      by true false p1 p2 = unknown_parent unknown (λ both. let yes = p2.1 both.1 in absurd cc)
+      by false b p1 p2 = unknown_parent unknown (λ both. let yes = p1.1 both.0 in absurd cc)
+
+  -- the answer by whether the entry is known
+  abbrev decided : {A : Type 0} → Log → Entry A → Bool → Result Added AddFault × Log
+  decided log entry b = cond b (Ok Known, log) (answered log (new_row log entry))
+
+  pub has_answer : {A : Type 0} (log : Log) (entry : Entry A) → IsBytes entry.delta → IsAnswer log entry (answer_of log entry).0 (answer_of log entry).1
+  unfolding answer_of
+  has_answer log entry fits = by (is_known log.rows entry.node.0) (is_known-Decides log.rows entry.node.0)
+    where
+      by : (b : Bool) → Decides b (IsKnown log.rows entry.node.0) → IsAnswer log entry (decided log entry b).0 (decided log entry b).1
+      by true is = known (is.0 refl)
+      by false is = new_answered log entry fits (λ yes. let b = is.1 yes in absurd cc)
 
 -- ---- and no other is
 
-read_text : {A : Type 0} (log : Log) (entry : Entry A) (outcome : Result (List ℕ) DeltaFault) → AreLawful log.rows → IsBytes entry.delta → HasOutcome log entry outcome → told_text outcome ≡ text_of log entry
-read_text log entry outcome lawful fits has =
-    ap told_text (sym (outcome_is has.base entry.delta log.limits.text outcome fits has.outcome_is)) ∙ text_on_base log entry has.base lawful has.base_is
+module _ (every : HaveOutcomes) (one : HaveOneOutcome) where
+  read_text : {A : Type 0} (log : Log) (entry : Entry A) (outcome : Result (List ℕ) DeltaFault) → AreLawful log.rows → IsBytes entry.delta → HasOutcome log entry outcome → told_text outcome ≡ text_of log entry
+  read_text log entry outcome lawful fits has =
+      ap told_text (one has.base entry.delta log.limits.text outcome _ has.outcome_is (every has.base entry.delta log.limits.text fits)) ∙ text_on_base log entry has.base lawful has.base_is
 
-pub answer_is : {A : Type 0} (log : Log) (entry : Entry A) (answer : Result Added AddFault) (after : Log) → AreLawful log.rows → IsBytes entry.delta → IsAnswer log entry answer after
-    → (answer, after) ≡ answer_of log entry
-answer_is log entry answer after lawful fits (known is) = answer_known log entry is
-answer_is log entry answer after lawful fits (unknown_parent unknown lacks) = answer_no_parents log entry unknown lacks
-answer_is log entry answer after lawful fits (unknown_base parents lacks) = answer_no_text log entry UnknownBase parents (text_no_base log entry lacks)
-answer_is log entry answer after lawful fits (bad_delta fault has) = answer_no_text log entry (Delta fault) has.parents (read_text log entry (Err fault) lawful fits has)
-answer_is log entry answer after lawful fits (mismatch text has other) = answer_mismatch log entry text has.parents (read_text log entry (Ok text) lawful fits has) other
-answer_is log entry answer after lawful fits (too_many text has same full) = answer_too_many log entry text has.parents (read_text log entry (Ok text) lawful fits has) same full
-answer_is log entry answer after lawful fits (added text has same room) = answer_added log entry text has.parents (read_text log entry (Ok text) lawful fits has) same room
+  pub answer_is : {A : Type 0} (log : Log) (entry : Entry A) (answer : Result Added AddFault) (after : Log) → AreLawful log.rows → IsBytes entry.delta → IsAnswer log entry answer after
+      → (answer, after) ≡ answer_of log entry
+  answer_is log entry answer after lawful fits (known is) = answer_known log entry is
+  answer_is log entry answer after lawful fits (unknown_parent unknown lacks) = answer_no_parents log entry unknown lacks
+  answer_is log entry answer after lawful fits (unknown_base parents lacks) = answer_no_text log entry UnknownBase parents (text_no_base log entry lacks)
+  answer_is log entry answer after lawful fits (bad_delta fault has) = answer_no_text log entry (Delta fault) has.parents (read_text log entry (Err fault) lawful fits has)
+  answer_is log entry answer after lawful fits (mismatch text has other) = answer_mismatch log entry text has.parents (read_text log entry (Ok text) lawful fits has) other
+  answer_is log entry answer after lawful fits (too_many text has same full) = answer_too_many log entry text has.parents (read_text log entry (Ok text) lawful fits has) same full
+  answer_is log entry answer after lawful fits (added text has same room) = answer_added log entry text has.parents (read_text log entry (Ok text) lawful fits has) same room

@@ -14,7 +14,7 @@ ghost use Rattle.hg_log.specs.Answer.{text_of, answer_of};
 use crate::changelog::{Changelog, Row};
 use crate::graph::Parents;
 use crate::node::node_id;
-use hg_delta::{DeltaFault, apply};
+use hg_delta::{DeltaFault, apply, every_delta_has_an_outcome, one_outcome};
 use hg_types::{Entry, NoMemory, Node, Seq};
 use std::alloc::Allocator;
 use thiserror::Error;
@@ -166,9 +166,14 @@ fn agrees<A: Allocator>(entry: &Entry<A>, text: &[u8]) -> bool
 /// Every entry whose delta is bytes has an answer: the value that `answer_of` gives. `A` is where the entry lies.
 pub fn every_entry_has_an_answer<A: Allocator>()
     ensures { (log : Log) (entry : Entry A) → IsBytes entry.delta → IsAnswer log entry (answer_of log entry).0 (answer_of log entry).1 }
-{}
+{
+    every_delta_has_an_outcome();
+}
 
 /// A lawful log gives an entry one answer, with one log after it: whatever is an answer by the definitions is that value.
 pub fn one_answer<A: Allocator>()
     ensures { (log : Log) (entry : Entry A) (answer : Result Added AddFault) (after : Log) → AreLawful log.rows → IsBytes entry.delta → IsAnswer log entry answer after → (answer, after) ≡ answer_of log entry }
-{}
+{
+    every_delta_has_an_outcome();
+    one_outcome();
+}

@@ -11,10 +11,10 @@ use Rattle.hg_chunks.specs.declared.fault.ChunkFault.TheVariants as chunk_fault
 use Rattle.hg_chunks.specs.Size.{size_bytes}
 use Rattle.hg_chunks.specs.Payload.{Item, Chunk, Interruption, item_bytes, chunk_bytes, interruption, closing, IsOpen}
 use Rattle.hg_chunks.specs.Reading.{IsStopped, partial_size, partial_chunk, closes, bad_size, Reads}
-use Rattle.hg_chunks.proofs.EveryReading.{every_reading_lem}
+use Rattle.hg_chunks.proofs.CallerLemmas.{every_reading_lem}
 use Rattle.hg_params.specs.declared.head.Head.{Head}
 use Rattle.hg_params.specs.Laws.{HasSomeReading, HasSomeParamsReading}
-use Rattle.hg_params.proofs.EveryReading.{every_header, every_params_text}
+use Rattle.hg_params.proofs.CallerLemmas.{every_header, every_params_text}
 use Rattle.hg_stream.specs.declared.fault.StreamFault.{StreamFault}
 use Rattle.hg_stream.specs.declared.fault.StreamFault.TheVariants as stream_fault
 use Rattle.hg_stream.specs.declared.interrupting.Verdict.{Verdict}
