@@ -1,13 +1,12 @@
 -- A bundle can carry the part that tells why a push was aborted.
-use Rattle.std.proofs.Common.{ℕ, ◌≡◌, ◌≢◌, ◌<◌, List, [], ◌∷◌, ◌++◌, refl, ap, arith, take, length, true, rules, All}
+use Rattle.std.proofs.Common.{ℕ, ◌≡◌, ◌≢◌, ◌<◌, List, [], ◌∷◌, ◌++◌, refl, ap, arith, take, length, true, All}
 use Rattle.std.specs.Prelude.{codes, decimal}
 use Rattle.std.proofs.lemmas.List.{length-take}
 use Rattle.std.proofs.lemmas.List.Elements.{All-cons, All-from_recursion}
-use Rattle.hg_types.specs.declared.part.Part.{Part}
 use Rattle.hg_types.specs.declared.item.CutReason.{CutReason}
 use Rattle.hg_types.specs.declared.item.CutReason.TheVariants.{Stream, ReadFailed, GaveUp}
 use Rattle.hg_params.specs.Header.{AreDistinct, is_kind}
-use Rattle.hg_params.specs.Writing.{CanStand, FitsParam}
+use Rattle.hg_params.specs.Writing.{FitsParam}
 use Rattle.hg_stream.specs.Written.{CanBeWritten}
 use Rattle.hg_repo.specs.declared.refusal.Refusal.{Refusal}
 use Rattle.hg_repo.specs.declared.refusal.Refusal.TheVariants.{Unsupported, Raced, BadPart, ClientAbort, NoMemory}

@@ -1,7 +1,7 @@
 //! One step: what an item does to the row of its push, to the repository and to the journal. What stages a part is written into
 //! its callers, and what closes a push is not: most items are parts.
 
-ghost use Rattle.std.specs.Prelude.{◌≡◌, ◌≢◌, ◌<◌, ◌+◌, ◌≤◌, ◌^◌, ◌==◌, ◌++◌, ◌∷◌, [], length, true, position, IfNone, IfSome, IsTrue, IsNone, None, Some, cond, vec_len, vec_capacity, OnOk, OnErr};
+ghost use Rattle.std.specs.Prelude.{◌≡◌, ◌≢◌, ◌<◌, ◌+◌, ◌≤◌, ◌^◌, ◌==◌, ◌++◌, ◌∷◌, [], length, true, position, IfNone, IfSome, IsTrue, IsNone, None, Some, cond, vec_len, vec_capacity};
 ghost use Rattle.std.specs.Bool.{OnTrue, OnFalse};
 ghost use Rattle.std.specs.List.{list_any};
 ghost use Rattle.std.specs.Prelude.{if◌then◌else◌, false};
@@ -11,7 +11,7 @@ ghost use Rattle.hg_push.specs.Run.{run_push};
 use crate::outcome::{Outcome, Reason, Standing};
 use crate::row::{Row, State};
 use hg_repo::{Done, Refusal, Repo, Source};
-use hg_types::{NoMemory, Part, Seq, What};
+use hg_types::{Part, What};
 use std::alloc::Allocator;
 
 /// The place of the push's row, among rows in the order of their numbers. Where no row between the first one and the push's
@@ -126,25 +126,9 @@ fn close<D: Drop, E: Drop, A: Allocator>(row: &mut Row<D, E, A>, outcome: Outcom
     row.state = State::Closed(outcome);
 }
 
-/// How many parts a list gets room for with its first one, where there is memory for so many: more than most pushes have, so
-/// that their lists are not moved while they grow.
+/// How many parts a staged list asks for room for with its first one: more than most pushes have, so that their lists are not
+/// moved while they grow.
 const FIRST_ROOM: usize = 128;
-
-/// Adds a part to the staged ones, which are as before where memory is refused.
-#[inline(always)]
-fn add_part<A: Allocator + Copy>(
-    staged: &mut Seq<Part<A>, A>,
-    part: Part<A>,
-) -> Result<(), NoMemory>
-    ensures ok { OnOk result (staged.new ≡ staged.old ++ part ∷ []) }
-    ensures err { OnErr result (staged.new ≡ staged.old) }
-{
-    if staged.is_empty() {
-        // Where this is refused, there may be room for the one part.
-        let _many = staged.reserve(FIRST_ROOM);
-    }
-    staged.push(part)
-}
 
 /// Adds a part to an open push, or aborts the push where memory is refused.
 #[inline(always)]
@@ -155,7 +139,7 @@ fn stage<A: Allocator + Copy>(row: &mut Row<Done<A>, Refusal<A>, A>, part: Part<
     ensures err { OnTrue result (row.new.state ≡ State.Closed (Outcome.Aborted Reason.NoMemory)) }
 {
     let refused = match &mut row.state {
-        State::Open(staged) => add_part(staged, part).is_err(),
+        State::Open(staged) => staged.push_with_room(part, FIRST_ROOM).is_err(),
         State::Closed(_) => unreachable!(),
     };
     if refused {

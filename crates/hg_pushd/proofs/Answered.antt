@@ -1,8 +1,6 @@
 -- One bundle, from the opening of its push to the status.
-use Rattle.std.proofs.Common.{ℕ, Bool, ◌≡◌, ◌≤◌, ◌<◌, ◌^◌, List, [], ◌∷◌, refl, sym, ◌∙◌, ap, subst, arith, length, Option, Some, None}
-use Rattle.std.specs.Io.KnownBytes.{Appends}
+use Rattle.std.proofs.Common.{ℕ, Bool, ◌≡◌, ◌<◌, ◌^◌, List, [], sym, ◌∙◌, ap, subst, arith, length, Option}
 use Rattle.hg_types.specs.declared.part.Part.{Part}
-use Rattle.hg_types.specs.declared.item.What.{What}
 use Rattle.hg_types.specs.Limits.{IsAllowed, standard_limits}
 use Rattle.hg_repo.specs.declared.done.Done.{Done}
 use Rattle.hg_repo.specs.declared.refusal.Refusal.{Refusal}

@@ -1,10 +1,10 @@
 -- One more write of a reply.
-use Rattle.std.proofs.Common.{ℕ, ◌≡◌, ◌≤◌, ◌<◌, ◌+◌, ◌-◌, List, [], ◌∷◌, ◌++◌, refl, sym, ◌∙◌, ap, subst, arith, length, take, drop, take-append-drop, length-drop, Option, Some, None}
+use Rattle.std.proofs.Common.{ℕ, ◌≡◌, ◌≤◌, ◌+◌, ◌-◌, List, sym, ◌∙◌, ap, subst, arith, length, take, drop, take-append-drop, length-drop, Option, Some, None}
 use Rattle.std.proofs.lemmas.List.{length-take, take_all}
 use Rattle.std.proofs.Math.Seq.{take-add, take-length}
-use Rattle.std.proofs.KnownBytes.{Appends-trans, Keeps-trans}
+use Rattle.std.proofs.KnownBytes.{Appends-trans}
 use Rattle.std.specs.Io.KnownBytes.{Appends, Keeps}
-use Rattle.hg_pushd.specs.declared.send.Sending.TheVariants.{Whole, Broken, NoMemory}
+use Rattle.hg_pushd.specs.declared.send.Sending.TheVariants.{Whole, Broken}
 use Rattle.hg_pushd.specs.Answering.{Sends}
 
 -- after a write of n bytes more

@@ -1,5 +1,5 @@
 -- What is answered to a push.
-use Rattle.std.specs.Prelude.{ℕ, ◌≡◌, List, [], ◌++◌, Option, Some, Bool, ◌⊎◌}
+use Rattle.std.specs.Prelude.{ℕ, ◌≡◌, List, ◌++◌, Option, Bool}
 use Rattle.std.specs.Io.KnownBytes.{Appends, Keeps}
 use Rattle.hg_types.specs.declared.part.Part.{Part}
 use Rattle.hg_types.specs.Limits.{standard_limits}
@@ -12,7 +12,7 @@ use Rattle.hg_push.specs.declared.outcome.Outcome.TheVariants.{Done as done_with
 use Rattle.hg_push.specs.declared.outcome.Reason.TheVariants.{NoMemory as without_memory}
 use Rattle.hg_push.specs.Reply.{reply_of}
 use Rattle.hg_pushd.specs.declared.ending.Ending.{Ending}
-use Rattle.hg_pushd.specs.declared.ending.Ending.TheVariants.{Whole, Fault, InputEnded, ReadFailed}
+use Rattle.hg_pushd.specs.declared.ending.Ending.TheVariants.{Fault, ReadFailed}
 use Rattle.hg_pushd.specs.declared.send.Sending.{Sending}
 use Rattle.hg_pushd.specs.declared.send.Sending.TheVariants.{Whole as sent_whole, Broken, NoMemory}
 use Rattle.hg_pushd.specs.Receiving.{Received, items_of, mark_of}

@@ -1,5 +1,5 @@
 -- The first parameter with a key, by its place.
-use Rattle.std.proofs.Common.{◌≡◌, ◌≢◌, ◌<◌, ◌+◌, ℕ, List, ◌++◌, ◌∷◌, [], length, refl, sym, ◌∙◌, ap, take, drop, All, get_or, subst, Bool, true, false, IsTrue}
+use Rattle.std.proofs.Common.{◌≡◌, ◌≢◌, ◌<◌, ◌+◌, ℕ, List, ◌++◌, ◌∷◌, [], length, refl, sym, ◌∙◌, ap, take, drop, get_or, subst, Bool, true, false, IsTrue}
 use Rattle.std.proofs.lemmas.List.{take-append-drop, drop_more, take_more}
 use Rattle.std.proofs.lemmas.List.Elements.{All-push}
 use Rattle.hg_types.specs.declared.part.Param.{Param}

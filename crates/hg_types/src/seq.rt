@@ -63,15 +63,6 @@ impl<T, A: Allocator> Seq<T, A> {
         self.items.is_empty()
     }
 
-    /// Asks for room for so many more items, so that the list is not moved while it grows by them. The items stay, whether or
-    /// not memory is refused; contracts do not see the room.
-    pub fn reserve(&mut self, more: usize) -> Result<(), NoMemory>
-        ensures { self.new ≡ self.old }
-    {
-        self.items.reserve(more)?;
-        Ok(())
-    }
-
     /// Adds an item at the end. An item that memory is refused for is dropped.
     pub fn push(&mut self, item: T) -> Result<(), NoMemory>
     where
@@ -81,6 +72,20 @@ impl<T, A: Allocator> Seq<T, A> {
     {
         self.items.push(item)?;
         Ok(())
+    }
+
+    /// Adds an item at the end as [`Seq::push`] does. A list that has no item yet asks for room for so many first, so that it is
+    /// not moved while it grows by them; where that is refused, the item takes what it needs.
+    pub fn push_with_room(&mut self, item: T, room: usize) -> Result<(), NoMemory>
+    where
+        T: Drop,
+        ensures ok { OnOk result (self.new ≡ self.old ++ item ∷ []) }
+        ensures err { OnErr result (self.new ≡ self.old) }
+    {
+        if self.items.is_empty() {
+            let _room = self.items.reserve(room);
+        }
+        self.push(item)
     }
 }
 

@@ -177,25 +177,47 @@ fn memory_is_refused_or_the_clone_is_equal(rt: HostRuntime) -> Result<(), Fail> 
     Ok(())
 }
 
-/// Where room was made, as many items are added without more memory; where it was refused, the list is as before.
+/// Takes what is left of a heap, sixteen bytes at a time.
+fn fill<'a>(heap: &'a LocalHeap, blocks: &mut Vec<Vec<u8, &'a LocalHeap>>) -> Result<(), Fail> {
+    for _ in 0..1_000 {
+        match Vec::with_capacity(heap, 16) {
+            Ok(block) => blocks.push(block)?,
+            Err(_) => return Ok(()),
+        }
+    }
+    Ok(())
+}
+
+/// Room that was made with the first item serves the next ones, where there is no more memory; where it was refused, the first
+/// item is there if there was memory for it alone.
 #[test]
-fn room_is_made_or_refused(rt: HostRuntime) -> Result<(), Fail> {
-    let (mut made, mut refused) = (0u32, 0u32);
-    for sixteens in 1..32usize {
+fn room_is_made_with_the_first_item(rt: HostRuntime) -> Result<(), Fail> {
+    let (mut refused, mut alone, mut made) = (0u32, 0u32, 0u32);
+    for sixteens in 1..64usize {
         let heap = LocalHeap::new(rt.alloc(), sixteens * 16)?;
         let mut list: Seq<u64, &LocalHeap> = Seq::new(&heap);
-        if list.reserve(8).is_err() {
+        if list.push_with_room(0, 40).is_err() {
             assert!(rt; list.is_empty());
             refused = refused.saturating_add(1);
             continue;
         }
-        for item in 0..8u64 {
-            assert_eq!(rt; list.push(item), Ok(()));
+        let mut blocks = Vec::new(rt.alloc());
+        fill(&heap, &mut blocks)?;
+        for item in 1..40u64 {
+            if list.push_with_room(item, 40).is_err() {
+                break;
+            }
         }
-        assert_eq!(rt; list.as_slice(), [0, 1, 2, 3, 4, 5, 6, 7].as_slice());
-        made = made.saturating_add(1);
+        assert_eq!(rt; list.as_slice().first(), Some(&0));
+        assert_eq!(rt; list.as_slice().last(), Some(&(list.len() as u64 - 1)));
+        if list.len() == 40 {
+            made = made.saturating_add(1);
+        } else {
+            alone = alone.saturating_add(1);
+        }
     }
-    assert!(rt; made > 0);
     assert!(rt; refused > 0);
+    assert!(rt; alone > 0);
+    assert!(rt; made > 0);
     Ok(())
 }

@@ -1,9 +1,5 @@
-use Rattle.std.proofs.Common.{◌≡◌, ◌++◌, List, [], length, ℕ}
-use Rattle.hg_types.specs.declared.part.Part.{Part}
-use Rattle.hg_push.specs.Run.{RepositoryOf}
+use Rattle.std.proofs.Common.{length}
 use Rattle.hg_stream.specs.Unbundler.{ready_of}
-use Rattle.hg_pushd.specs.Receiving.{part_items}
-use Rattle.hg_pushd.specs.Taking.{HasTaken}
 use Rattle.hg_pushd.proofs.Items.{HasStepped}
 use Rattle.hg_pushd.proofs.push.step_parts.Given as goal
 

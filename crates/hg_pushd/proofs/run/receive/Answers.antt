@@ -1,4 +1,4 @@
-use Rattle.std.proofs.Common.{◌≡◌, ◌∙◌, sym, refl, subst, take, length, arith, ◌≤◌, ◌<◌, ℕ, []}
+use Rattle.std.proofs.Common.{◌∙◌, sym, refl, subst, take, arith, ℕ, []}
 use Rattle.std.proofs.KnownBytes.{Consumes-nil}
 use Rattle.std.specs.Io.KnownBytes.{Consumes}
 use Rattle.hg_stream.specs.Unbundler.{IsStillReading}

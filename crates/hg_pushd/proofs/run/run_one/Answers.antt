@@ -1,4 +1,4 @@
-use Rattle.std.proofs.Common.{inl, inr, refl}
+use Rattle.std.proofs.Common.{inl}
 use Rattle.hg_stream.specs.Unbundler.{ready_of}
 use Rattle.hg_pushd.specs.Answering.{empty_repository}
 use Rattle.hg_pushd.proofs.Answered.{answers, opened}

@@ -1,6 +1,6 @@
-use Rattle.std.proofs.Common.{rules, ◌≡◌, subst, sym, ◌∙◌, take}
+use Rattle.std.proofs.Common.{rules, ◌≡◌, subst, ◌∙◌}
 use Rattle.std.proofs.lemmas.List.{take_all}
-use Rattle.hg_types.specs.Part.{LacksKey, IsFirstWith}
+use Rattle.hg_types.specs.Part.{LacksKey}
 use Rattle.hg_types.proofs.PartLemmas.{first_with, lacks_more, differs}
 use Rattle.hg_types.proofs.part.Part.param.Goals as goal
 
