@@ -3,4 +3,8 @@
 set -eu
 . "$(dirname "$0")/../scratch.sh"
 scratch_program changegroups changegroup_speed 'anyhow hg_types hg_delta hg_cgroup'
-"$rt" run 2>&1 | grep -e 'MB/s' -e error -e 'no proof'
+if ! "$rt" run > "$scratch/told" 2>&1; then
+    tail -20 "$scratch/told"
+    exit 1
+fi
+grep 'MB/s' "$scratch/told"

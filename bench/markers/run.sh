@@ -3,7 +3,11 @@
 set -eu
 . "$(dirname "$0")/../scratch.sh"
 scratch_program markers marker_speed 'anyhow hg_types hg_obs hg_keys'
-"$rt" run 2>&1 | grep -e ' a second' -e 'MB/s' -e error -e 'no proof'
+if ! "$rt" run > "$scratch/told" 2>&1; then
+    tail -20 "$scratch/told"
+    exit 1
+fi
+grep -e ' a second' -e 'MB/s' "$scratch/told"
 python3 - <<'PYTHON'
 import base64, time
 data = bytes(i % 251 for i in range(1 << 22))
