@@ -7,12 +7,13 @@ use Rattle.std.specs.Int.RustNames.{FitsSigned}
 use Rattle.std.proofs.lemmas.Bool.{eqb-false, ltb-true, ltb-false, leb-true, leb-false}
 use Rattle.std.proofs.lemmas.Int.{ints}
 use Rattle.std.proofs.lemmas.List.{take-append-drop, get_or-drop, length-take, length-drop}
+use Rattle.hg_types.specs.Bytes.{IsBytes}
 use Rattle.hg_cgroup.specs.declared.fault.GroupFault.{GroupFault}
 use Rattle.hg_cgroup.specs.declared.fault.GroupFault.TheVariants.{BadLength, ShortHeader, Truncated}
 use Rattle.hg_cgroup.specs.Chunk.{length_bytes, chunk_bytes, empty_chunk, IsContent, IsChunkFault}
 use Rattle.hg_cgroup.specs.Group.{File, IsFile, file_bytes, AreFiles}
 use Rattle.hg_cgroup.specs.Faults.{BreaksAtFile, at_name, in_file}
-use Rattle.hg_cgroup.specs.Outcome.{IsBytes, ◌>>=◌, ReadChunk, ReadGroup, content_at, sized_at, chunk_at, after_chunk, group_within, group_at, after_name, files_within, files_at}
+use Rattle.hg_cgroup.specs.Outcome.{◌>>=◌, ReadChunk, ReadGroup, content_at, sized_at, chunk_at, after_chunk, group_within, group_at, after_name, files_within, files_at}
 use Rattle.hg_cgroup.proofs.Lengths.{length_is, length_fits}
 use Rattle.hg_cgroup.proofs.OneChunk.{IsEnough}
 

@@ -6,6 +6,7 @@ use Rattle.std.proofs.lemmas.List.{take-append-drop, drop-drop, length-take, len
 use Rattle.std.proofs.lemmas.Slice.Eq.{bytes_eq-Decides}
 use Rattle.hg_types.specs.declared.node.Node.{Node}
 use Rattle.hg_types.specs.declared.entry.Entry.{Entry}
+use Rattle.hg_types.specs.Bytes.{IsBytes}
 use Rattle.hg_cgroup.specs.declared.fault.GroupFault.{GroupFault}
 use Rattle.hg_cgroup.specs.declared.fault.GroupFault.TheVariants.{UnknownVersion, Leftover, NoMemory}
 use Rattle.hg_cgroup.specs.declared.version.Version.{Version}
@@ -14,7 +15,7 @@ use Rattle.hg_cgroup.specs.Chunk.{chunk_bytes, empty_chunk, IsContent, AreChunks
 use Rattle.hg_cgroup.specs.Changeset.{Changeset, IsChangeset, changeset_bytes, header_size, entries_of, bases_behind, HasBases, AreChangesets, name_of}
 use Rattle.hg_cgroup.specs.Group.{AreFrames, IsGroup}
 use Rattle.hg_cgroup.specs.Faults.{IsUnknown, IsOf, BreaksInFrames, in_manifests, in_files, Breaks, in_changesets, in_frames, HasLeftover, IsOutcome, gives, unknown, breaks, left_over}
-use Rattle.hg_cgroup.specs.Outcome.{IsBytes, ◌>>=◌, ReadGroup, group_at, files_at, id_at, base_of, entry_of, entries_behind, ended, entries_at, version_at, outcome_of}
+use Rattle.hg_cgroup.specs.Outcome.{◌>>=◌, ReadGroup, group_at, files_at, id_at, base_of, entry_of, entries_behind, ended, entries_at, version_at, outcome_of}
 use Rattle.hg_cgroup.proofs.Chunks.{GroupRead, whole, broken, group_read, contents_only, FilesRead, all, stopped, files_read}
 use Rattle.hg_cgroup.proofs.Entries.{whole as whole_group}
 use Rattle.hg_cgroup.proofs.OneChunk.{IsEnough}

@@ -1,5 +1,5 @@
 -- A changegroup, read from left to right: its entries, or its first fault.
-use Rattle.std.specs.Prelude.{ℕ, zero, suc, ℤ, pos, negsuc, ◌-◌, ◌<◌, List, [], ◌∷◌, length, take, drop, Option, Some, None, unwrap_or, Result, Ok, Err, nat_lt, nat_le, ◌==◌, if◌then◌else◌, slice_index_or}
+use Rattle.std.specs.Prelude.{ℕ, zero, suc, ℤ, pos, negsuc, ◌-◌, List, [], ◌∷◌, length, take, drop, Option, Some, None, unwrap_or, Result, Ok, Err, nat_lt, nat_le, ◌==◌, if◌then◌else◌}
 use Rattle.std.specs.Int.{w32, from_be_bytes, cast_signed}
 use Rattle.std.specs.Str.{bytes_eq}
 use Rattle.hg_types.specs.declared.node.Node.{Node}
@@ -9,10 +9,6 @@ use Rattle.hg_cgroup.specs.declared.fault.GroupFault.TheVariants.{UnknownVersion
 use Rattle.hg_cgroup.specs.declared.version.Version.{Version}
 use Rattle.hg_cgroup.specs.declared.version.Version.TheVariants.{V01, V02}
 use Rattle.hg_cgroup.specs.Changeset.{name_of, header_size}
-
--- each is a byte
-abbrev pub IsBytes : List ℕ → Type 0
-IsBytes bytes = (i : ℕ) → slice_index_or bytes i 0 < 256
 
 infixl 10 ◌>>=◌
 abbrev pub ◌>>=◌ : {X Y : Type 0} → Result X GroupFault → (X → Result Y GroupFault) → Result Y GroupFault

@@ -2,10 +2,11 @@
 
 ghost use Rattle.std.specs.Prelude.{◌≡◌, ◌≢◌, List, ℕ, [], Result, Err, IfOk, IsErrOf};
 ghost use Rattle.hg_types.specs.declared.entry.Entry.{Entry};
+ghost use Rattle.hg_types.specs.Bytes.{IsBytes};
 ghost use Rattle.hg_cgroup.specs.declared.fault.GroupFault.{GroupFault};
 ghost use Rattle.hg_cgroup.specs.Group.{IsGroup};
 ghost use Rattle.hg_cgroup.specs.Faults.{IsUnknown, IsOf, Breaks, HasLeftover, IsOutcome};
-ghost use Rattle.hg_cgroup.specs.Outcome.{IsBytes, outcome_of};
+ghost use Rattle.hg_cgroup.specs.Outcome.{outcome_of};
 
 use crate::changeset::read_changesets;
 use crate::fault::GroupFault;

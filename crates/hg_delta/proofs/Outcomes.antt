@@ -2,11 +2,12 @@
 use Rattle.std.proofs.Common.{◌≡◌, ◌≢◌, ℕ, zero, suc, ◌+◌, ◌^◌, ◌<◌, ◌≤◌, Bool, true, false, cond, ltb, List, [], ◌∷◌, ◌++◌, length, take, drop, Result, Ok, Err, refl, sym, ap, subst, ◌∙◌, append_assoc, arith, inl, inr}
 use Rattle.std.proofs.lemmas.Bool.{ltb-true, ltb-false}
 use Rattle.std.proofs.lemmas.List.{take-append-drop, length-append, length-take, length-drop, drop-drop, get_or-drop}
+use Rattle.hg_types.specs.Bytes.{IsBytes}
 use Rattle.hg_delta.specs.declared.fault.DeltaFault.{DeltaFault}
 use Rattle.hg_delta.specs.declared.fault.DeltaFault.TheVariants.{Short, Backwards, PastEnd, TooLong, NoMemory}
 use Rattle.hg_delta.specs.Delta.{Hunk, number_bytes, header, hunk_bytes, IsPlaced, piece_of, Applies}
 use Rattle.hg_delta.specs.Faults.{HasHeader, IsHunkFault, BreaksAt, IsOutcome, gives, breaks, exceeds}
-use Rattle.hg_delta.specs.Outcome.{IsBytes, ◌>>=◌, number_at, hunk_headed, hunk_at, text_within, outcome_of, Fails, Gives}
+use Rattle.hg_delta.specs.Outcome.{◌>>=◌, number_at, hunk_headed, hunk_at, text_within, outcome_of, Fails, Gives}
 use Rattle.hg_delta.proofs.Numbers.{length-header, taken_fits, number_is}
 use Rattle.hg_delta.proofs.Hunks.{Took, took_none, took_more, took_all, took_broken}
 use Rattle.hg_delta.proofs.Readings.{regrouped, outcome_once}

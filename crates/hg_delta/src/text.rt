@@ -1,10 +1,11 @@
 //! The text that a delta makes of a base.
 
 ghost use Rattle.std.specs.Prelude.{ℕ, ◌≡◌, ◌≢◌, ◌≤◌, List, [], ◌++◌, length, IfOk, IfErr, IsErrOf, OnOk, Result};
+ghost use Rattle.hg_types.specs.Bytes.{IsBytes};
 ghost use Rattle.hg_delta.specs.declared.fault.DeltaFault.{DeltaFault};
 ghost use Rattle.hg_delta.specs.Delta.{Applies};
 ghost use Rattle.hg_delta.specs.Faults.{BreaksAt, GivesTooMuch, IsOutcome};
-ghost use Rattle.hg_delta.specs.Outcome.{Gives, IsBytes, outcome_of};
+ghost use Rattle.hg_delta.specs.Outcome.{Gives, outcome_of};
 
 use crate::fault::DeltaFault;
 use crate::hunk::read_hunk;

@@ -4,8 +4,9 @@ use Rattle.std.specs.Int.{w32, from_be_bytes}
 use Rattle.std.specs.List.{list_all, flat_map}
 use Rattle.std.proofs.lemmas.List.{length-append}
 use Rattle.std.proofs.lemmas.List.Concat.{flat_map-cons}
+use Rattle.hg_types.specs.Bytes.{IsBytes}
 use Rattle.hg_keys.specs.declared.fault.Base85Fault.TheVariants.{BadDigit, BadLength, Overflow}
-use Rattle.hg_keys.specs.Base85.{IsBytes, digit_value, digit_at, is_digit, fives, fours, fits, group_value, filled_value, group_bytes, group_text, decoded, decoded_groups, encoded}
+use Rattle.hg_keys.specs.Base85.{digit_value, digit_at, is_digit, fives, fours, fits, group_value, filled_value, group_bytes, group_text, decoded, decoded_groups, encoded}
 use Rattle.hg_keys.proofs.Tables.{digit_back, tilde}
 
 and_true : (p q : Bool) → p ≡ true → q ≡ true → (p && q) ≡ true

@@ -1,7 +1,8 @@
 //! What the definitions say together.
 
 ghost use Rattle.std.specs.Prelude.{◌≡◌, ℕ, List, Ok};
-ghost use Rattle.hg_keys.specs.Base85.{IsBytes, decoded, encoded};
+ghost use Rattle.hg_types.specs.Bytes.{IsBytes};
+ghost use Rattle.hg_keys.specs.Base85.{decoded, encoded};
 
 /// Decoding gives back what was encoded.
 pub fn decoding_gives_back()

@@ -4,14 +4,16 @@ use Rattle.std.specs.Prelude.{bytes_eq, ◌&&◌, Decides}
 use Rattle.std.proofs.lemmas.Bool.{leb-true, leb-false, le-leb, lt-leb}
 use Rattle.std.proofs.lemmas.Slice.Eq.{bytes_eq-Decides}
 use Rattle.hg_types.specs.declared.entry.Entry.{Entry}
+use Rattle.hg_types.specs.Bytes.{IsBytes}
+use Rattle.hg_types.specs.NullId.{null_id}
 use Rattle.hg_delta.specs.declared.fault.DeltaFault.{DeltaFault}
 use Rattle.hg_delta.specs.Faults.{IsOutcome}
-use Rattle.hg_delta.specs.Outcome.{IsBytes, outcome_of}
+use Rattle.hg_delta.specs.Outcome.{outcome_of}
 use Rattle.hg_log.specs.declared.add.Added.{Added}
 use Rattle.hg_log.specs.declared.add.Added.TheVariants.{New, Known}
 use Rattle.hg_log.specs.declared.add.AddFault.{AddFault}
 use Rattle.hg_log.specs.declared.add.AddFault.TheVariants.{UnknownParent, UnknownBase, Delta, HashMismatch, TooMany}
-use Rattle.hg_log.specs.NodeId.{null_id, node_id_of}
+use Rattle.hg_log.specs.NodeId.{node_id_of}
 use Rattle.hg_log.specs.Changeset.{Changeset, Log}
 use Rattle.hg_log.specs.Rows.{HasNode, IsKnown, AreLawful}
 use Rattle.hg_log.specs.Add.{IsBase, HasParentsIn, HasOutcome, Agrees, row_of, with_row, IsAnswer}

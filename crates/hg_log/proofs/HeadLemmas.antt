@@ -11,8 +11,8 @@ use Rattle.std.proofs.lemmas.Option.{slice_get_within, slice_get-get_or, get_or_
 use Rattle.hg_types.specs.declared.node.Node.{Node}
 use Rattle.hg_types.specs.declared.limits.Limits.{Limits}
 use Rattle.hg_types.specs.contracts.node.NodeOrd.TheImpl as ord
+use Rattle.hg_types.specs.NullId.{null_id}
 use Rattle.hg_log.specs.declared.graph.Parents.{Parents}
-use Rattle.hg_log.specs.NodeId.{null_id}
 use Rattle.hg_log.specs.Changeset.{Changeset}
 use Rattle.hg_log.specs.Rows.{HasNode}
 use Rattle.hg_log.specs.Graph.{HasParent, AreChildless}

@@ -4,7 +4,7 @@ use Rattle.std.proofs.lemmas.List.{length-take-le, get_or-take}
 use Rattle.std.proofs.lemmas.List.Quantifiers.{all_pairs_push}
 use Rattle.std.proofs.lemmas.Bool.{cases_order}
 use Rattle.std.proofs.lemmas.Option.{slice_get_within, get_or_from_slice_get, slice_get-get_or}
-use Rattle.hg_log.specs.NodeId.{null_id}
+use Rattle.hg_types.specs.NullId.{null_id}
 use Rattle.hg_log.specs.Changeset.{Changeset}
 use Rattle.hg_log.specs.Rows.{HasNode, LacksNode, IsKnown, IsEarlier, IsLawfulRow, AreLawful}
 use Rattle.hg_log.proofs.Lists.{slice_get_front, slice_get_pushed, slice_get_take, slice_get_kept}

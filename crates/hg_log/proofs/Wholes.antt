@@ -3,8 +3,9 @@ use Rattle.std.proofs.Common.{rules, ◌≡◌, ◌≢◌, ℕ, ◌<◌, ◌≤�
 use Rattle.std.proofs.lemmas.List.{length-take-le, length_push}
 use Rattle.std.proofs.lemmas.Option.{slice_get_within}
 use Rattle.hg_types.specs.declared.limits.Limits.{Limits}
+use Rattle.hg_types.specs.NullId.{null_id}
 use Rattle.hg_log.specs.declared.graph.Parents.{Parents}
-use Rattle.hg_log.specs.NodeId.{null_id, node_id_of}
+use Rattle.hg_log.specs.NodeId.{node_id_of}
 use Rattle.hg_log.specs.Changeset.{Changeset}
 use Rattle.hg_log.specs.Rows.{HasNode, LacksNode, IsKnown, IsEarlier}
 use Rattle.hg_log.specs.Ancestors.{IsParent, IsAncestor}

@@ -1,6 +1,7 @@
 -- What adding an entry of a changegroup gives, memory apart.
 use Rattle.std.specs.Prelude.{◌≡◌, ◌⊎◌, ℕ, ◌<◌, ◌≤◌, List, [], ◌∷◌, ◌++◌, length, Result, Ok, Err}
 use Rattle.hg_types.specs.declared.entry.Entry.{Entry}
+use Rattle.hg_types.specs.NullId.{null_id}
 use Rattle.hg_delta.specs.Faults.{IsOutcome}
 use Rattle.hg_delta.specs.declared.fault.DeltaFault.{DeltaFault}
 use Rattle.hg_delta.specs.declared.fault.DeltaFault.TheVariants as fault
@@ -8,7 +9,7 @@ use Rattle.hg_log.specs.declared.add.Added.{Added}
 use Rattle.hg_log.specs.declared.add.Added.TheVariants.{New, Known}
 use Rattle.hg_log.specs.declared.add.AddFault.{AddFault}
 use Rattle.hg_log.specs.declared.add.AddFault.TheVariants.{UnknownParent, UnknownBase, Delta, HashMismatch, TooMany, NoMemory}
-use Rattle.hg_log.specs.NodeId.{null_id, node_id_of}
+use Rattle.hg_log.specs.NodeId.{node_id_of}
 use Rattle.hg_log.specs.Changeset.{Changeset, Log}
 use Rattle.hg_log.specs.Rows.{HasNode, HasText, IsKnown}
 

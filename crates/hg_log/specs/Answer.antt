@@ -1,13 +1,14 @@
 -- The answer to an entry and the log after it, as values.
 use Rattle.std.specs.Prelude.{ℕ, Bool, not, ◌&&◌, List, [], length, find, Option, Some, is_some, option_map, ok_or, Result, Ok, Err, nat_le, bytes_eq, if◌then◌else◌}
 use Rattle.hg_types.specs.declared.entry.Entry.{Entry}
+use Rattle.hg_types.specs.NullId.{null_id}
 use Rattle.hg_delta.specs.declared.fault.DeltaFault.{DeltaFault}
 use Rattle.hg_delta.specs.Outcome.{outcome_of}
 use Rattle.hg_log.specs.declared.add.Added.{Added}
 use Rattle.hg_log.specs.declared.add.Added.TheVariants.{New, Known}
 use Rattle.hg_log.specs.declared.add.AddFault.{AddFault}
 use Rattle.hg_log.specs.declared.add.AddFault.TheVariants.{UnknownParent, UnknownBase, Delta, HashMismatch, TooMany}
-use Rattle.hg_log.specs.NodeId.{null_id, node_id_of}
+use Rattle.hg_log.specs.NodeId.{node_id_of}
 use Rattle.hg_log.specs.Changeset.{Changeset, Log}
 use Rattle.hg_log.specs.Add.{row_of, with_row}
 

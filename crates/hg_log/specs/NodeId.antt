@@ -1,12 +1,8 @@
 -- The id of a changeset: SHA-1 of the lesser parent id, the greater parent id, and the text.
-use Rattle.std.specs.Prelude.{ℕ, List, ◌++◌, if◌then◌else◌, Bool, replicate}
+use Rattle.std.specs.Prelude.{ℕ, List, ◌++◌, if◌then◌else◌, Bool}
 use Rattle.std.specs.Ordering.{nat_cmp, is_le}
 use Rattle.std.specs.Cmp.Lexicographic.{slice_cmp}
 use Rattle.sha1.specs.Sha1.{sha1}
-
--- the id of no changeset: 20 zero bytes
-abbrev pub null_id : List ℕ
-null_id = replicate 20 0
 
 -- the bytes of a are not above those of b, in the order of a dictionary
 abbrev pub is_lesser : List ℕ → List ℕ → Bool

@@ -1,6 +1,7 @@
 -- Rows: which id a row has, which ids are known, and when rows are lawful.
 use Rattle.std.specs.Prelude.{◌≡◌, ◌≢◌, ◌⊎◌, ℕ, ◌<◌, List, Some, slice_get, All, AllPairs}
-use Rattle.hg_log.specs.NodeId.{null_id, node_id_of}
+use Rattle.hg_types.specs.NullId.{null_id}
+use Rattle.hg_log.specs.NodeId.{node_id_of}
 use Rattle.hg_log.specs.Changeset.{Changeset}
 
 -- the row of that number has that id

@@ -2,7 +2,7 @@
 
 ghost use Rattle.std.specs.Prelude.{◌≡◌, ◌≢◌, ◌<◌, IfOk, IfErr, OnErr, IfSome, IfNone, IsTrue, ◌↔◌, Ok, Err, Result, length};
 ghost use Rattle.hg_types.specs.declared.entry.Entry.{Entry};
-ghost use Rattle.hg_delta.specs.Outcome.{IsBytes};
+ghost use Rattle.hg_types.specs.Bytes.{IsBytes};
 ghost use Rattle.hg_log.specs.declared.add.Added.{Added};
 ghost use Rattle.hg_log.specs.declared.add.AddFault.{AddFault};
 ghost use Rattle.hg_log.specs.Changeset.{Log};

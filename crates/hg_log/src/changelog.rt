@@ -2,8 +2,9 @@
 
 ghost use Rattle.std.specs.Prelude.{◌≡◌, ◌≢◌, ◌+◌, [], ◌∷◌, ◌++◌, take, length, ◌<◌, ◌≤◌, ◌↔◌, IfSome, IfNone, IfOk, OnOk, OnErr, IsTrue};
 ghost use Rattle.hg_types.specs.Limits.{IsAllowed};
+ghost use Rattle.hg_types.specs.NullId.{null_id};
 ghost use Rattle.hg_log.specs.Changeset.{Log};
-ghost use Rattle.hg_log.specs.NodeId.{null_id, node_id_of};
+ghost use Rattle.hg_log.specs.NodeId.{node_id_of};
 ghost use Rattle.hg_log.specs.Ancestors.{IsAncestor};
 ghost use Rattle.hg_log.specs.Heads.{AreHeads, ids};
 ghost use Rattle.hg_log.specs.Inside.{IsAt, changeset};

@@ -5,11 +5,13 @@ use Rattle.std.specs.List.{AllByRecursion, flat_map}
 use Rattle.std.proofs.lemmas.List.{append-nil, length-append, drop_at, nil_from_length}
 use Rattle.std.proofs.lemmas.List.Concat.{flat_map-cons}
 use Rattle.std.proofs.lemmas.Map.Views.{list_any-from_Contains}
+use Rattle.hg_types.specs.Bytes.{IsBytes}
+use Rattle.hg_types.specs.NullId.{null_node}
 use Rattle.hg_obs.specs.declared.marker.Marker.{Marker}
 use Rattle.hg_obs.specs.declared.fault.MarkerFault.{MarkerFault}
 use Rattle.hg_obs.specs.declared.fault.MarkerFault.TheVariants.{BadVersion, Short, BadMetadata, NullSuccessor, NoMemory}
-use Rattle.hg_obs.specs.Marker.{marker_bytes, null_id, IsMarker}
-use Rattle.hg_obs.specs.Grammar.{IsBytes, AreMarkers, IsMarkerFault, IsFaultBehind, IsFault}
+use Rattle.hg_obs.specs.Marker.{marker_bytes, IsMarker}
+use Rattle.hg_obs.specs.Grammar.{AreMarkers, IsMarkerFault, IsFaultBehind, IsFault}
 use Rattle.hg_obs.specs.Reading.{◌>>=◌, Fails, Gives, Fields, byte_at, checked, marker_at, with_front, markers_within, markers_at, markers_of}
 use Rattle.hg_obs.proofs.ReadingLemmas.{bind_ok, ok_is, IsBytes-drop}
 use Rattle.hg_obs.proofs.PlaceLemmas.{same_node_equiv}
@@ -289,7 +291,7 @@ module _ {A : Type 0} where
       ap (λ (r : Result (Fields × List ℕ) MarkerFault). r >>= checked {A = A}) (reads_fields rest faulty.0 faulty.1) ∙ checked_is (fields_of faulty.0) faulty.1.more false (null_in (fields_of faulty.0)) faulty.2 refl
   fault_again NullSuccessor rest fits faulty =
       ap (λ (r : Result (Fields × List ℕ) MarkerFault). r >>= checked {A = A}) (reads_fields rest faulty.0 faulty.1)
-      ∙ checked_is (fields_of faulty.0) faulty.1.more true true faulty.2 (list_any-from_Contains same_node_equiv null_id faulty.0.successors faulty.3)
+      ∙ checked_is (fields_of faulty.0) faulty.1.more true true faulty.2 (list_any-from_Contains same_node_equiv null_node faulty.0.successors faulty.3)
   fault_again Short rest fits none = by (marker_at rest) refl
     where
       by_fault : (c : MarkerFault) → IsMarkerFault A c rest → c ≡ Short

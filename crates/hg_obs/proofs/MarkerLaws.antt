@@ -5,36 +5,38 @@ use Rattle.hg_obs.proofs.PlaceLemmas.{same_node_equiv}
 use Rattle.std.specs.List.{AllByRecursion, list_any}
 use Rattle.indexmap.proofs.CallerLemmas.{Contains-list_any}
 use Rattle.hg_types.specs.declared.node.Node.{Node}
+use Rattle.hg_types.specs.Bytes.{IsBytes}
+use Rattle.hg_types.specs.NullId.{null_node}
 use Rattle.hg_obs.specs.declared.marker.Marker.{Marker}
 use Rattle.hg_obs.specs.declared.fault.MarkerFault.{MarkerFault}
 use Rattle.hg_obs.specs.declared.fault.MarkerFault.TheVariants.{Short, BadMetadata, NullSuccessor}
-use Rattle.hg_obs.specs.Marker.{marker_bytes, is_metadata, null_id, Fits, HasIds, IsMarker}
+use Rattle.hg_obs.specs.Marker.{marker_bytes, is_metadata, Fits, HasIds, IsMarker}
 use Rattle.hg_obs.specs.Same.{same_node, same_node_decides}
-use Rattle.hg_obs.specs.Grammar.{IsBytes, BeginsWith, IsMarkerFault}
+use Rattle.hg_obs.specs.Grammar.{BeginsWith, IsMarkerFault}
 use Rattle.hg_obs.specs.Reading.{◌>>=◌, Fields, node_of, kept_of, fields_at, checked, marker_at}
 use Rattle.hg_obs.proofs.ReadingLemmas.{TakesFields, FieldsFit, fields_take, fields_again, fields_err, bind_ok, ok_is}
 
 -- ---- ids that are not null
 
-no_null : (ids : List Node) → list_any (same_node null_id) ids ≡ false → AllByRecursion (λ id. id ≢ null_id) ids
+no_null : (ids : List Node) → list_any (same_node null_node) ids ≡ false → AllByRecursion (λ id. id ≢ null_node) ids
 no_null [] e = tt
-no_null (id ∷ ids) e = by (same_node null_id id) refl e (no_null ids)
+no_null (id ∷ ids) e = by (same_node null_node id) refl e (no_null ids)
   where
-    by : (b : Bool) → same_node null_id id ≡ b → (b || list_any (same_node null_id) ids) ≡ false → (list_any (same_node null_id) ids ≡ false → AllByRecursion (λ (n : Node). n ≢ null_id) ids)
-        → (id ≢ null_id) × AllByRecursion (λ (n : Node). n ≢ null_id) ids
+    by : (b : Bool) → same_node null_node id ≡ b → (b || list_any (same_node null_node) ids) ≡ false → (list_any (same_node null_node) ids ≡ false → AllByRecursion (λ (n : Node). n ≢ null_node) ids)
+        → (id ≢ null_node) × AllByRecursion (λ (n : Node). n ≢ null_node) ids
     by true s h rest = absurd (true≢false h)
-    by false s h rest = ((λ same. true≢false (sym ((same_node_decides null_id id).1 (sym same)) ∙ s)), rest h)
+    by false s h rest = ((λ same. true≢false (sym ((same_node_decides null_node id).1 (sym same)) ∙ s)), rest h)
 
-still_no_null : (ids : List Node) → AllByRecursion (λ id. id ≢ null_id) ids → list_any (same_node null_id) ids ≡ false
+still_no_null : (ids : List Node) → AllByRecursion (λ id. id ≢ null_node) ids → list_any (same_node null_node) ids ≡ false
 still_no_null [] each = refl
-still_no_null (id ∷ ids) each = by (same_node null_id id) refl (still_no_null ids each.1)
+still_no_null (id ∷ ids) each = by (same_node null_node id) refl (still_no_null ids each.1)
   where
-    by : (b : Bool) → same_node null_id id ≡ b → list_any (same_node null_id) ids ≡ false → (b || list_any (same_node null_id) ids) ≡ false
-    by true s h = absurd (each.0 (sym ((same_node_decides null_id id).0 s)))
+    by : (b : Bool) → same_node null_node id ≡ b → list_any (same_node null_node) ids ≡ false → (b || list_any (same_node null_node) ids) ≡ false
+    by true s h = absurd (each.0 (sym ((same_node_decides null_node id).0 s)))
     by false s h = h
 
 abbrev pub null_in : Fields → Bool
-null_in f = list_any (same_node null_id) f.successors
+null_in f = list_any (same_node null_node) f.successors
 
 abbrev fails : (A : Type 0) → MarkerFault → Result A MarkerFault
 fails A d = Err d
@@ -46,9 +48,9 @@ clash : (A : Type 0) (d : MarkerFault) (x : A) → fails A d ≡ Ok x → ⊥
 clash A d x e = absurd cc
 
 -- the code looks for the null id so
-pub any_null : (ids : List (List ℕ)) → list_any (λ id. pointwise nat_eq id null_id.0) ids ≡ list_any (same_node null_id) (map node_of ids)
+pub any_null : (ids : List (List ℕ)) → list_any (λ id. pointwise nat_eq id null_node.0) ids ≡ list_any (same_node null_node) (map node_of ids)
 any_null [] = refl
-any_null (id ∷ ids) = ap (λ (b : Bool). b || list_any (λ i. pointwise nat_eq i null_id.0) ids) (same_node_equiv.symm (node_of id) null_id) ∙ ap (λ (b : Bool). same_node null_id (node_of id) || b) (any_null ids)
+any_null (id ∷ ids) = ap (λ (b : Bool). b || list_any (λ i. pointwise nat_eq i null_node.0) ids) (same_node_equiv.symm (node_of id) null_node) ∙ ap (λ (b : Bool). same_node null_node (node_of id) || b) (any_null ids)
 
 module _ {A : Type 0} where
   -- the fields of a marker
@@ -123,7 +125,7 @@ module _ {A : Type 0} where
           subst (λ (x : MarkerFault). IsMarkerFault A x bytes) same (kept_of f, begins bytes f after took, g)
       by_checks f after took true true g h k =
           let same : NullSuccessor ≡ d = err_is (Marker A × List ℕ) NullSuccessor d (sym (checked_is f after true true g h) ∙ k) in
-          let there : Contains f.successors null_id = Contains-list_any same_node (λ x y q. (same_node_decides x y).0 q) f.successors null_id h in
+          let there : Contains f.successors null_node = Contains-list_any same_node (λ x y q. (same_node_decides x y).0 q) f.successors null_node h in
           subst (λ (x : MarkerFault). IsMarkerFault A x bytes) same (kept_of f, begins bytes f after took, g, there)
 
       by : (r : Result (Fields × List ℕ) MarkerFault) → fields_at bytes ≡ r → (r >>= checked {A = A}) ≡ Err d → IsMarkerFault A d bytes

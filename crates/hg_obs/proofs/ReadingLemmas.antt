@@ -8,10 +8,10 @@ use Rattle.std.proofs.lemmas.List.{take_at, drop_at, take-append-drop, length-ap
 use Rattle.std.proofs.lemmas.List.Concat.{flat_map-cons}
 use Rattle.std.proofs.lemmas.Nat.{be_bytes_4, from_be_bytes-to_be_bytes_4}
 use Rattle.hg_types.specs.declared.node.Node.{Node}
+use Rattle.hg_types.specs.Bytes.{IsBytes}
 use Rattle.hg_obs.specs.declared.fault.MarkerFault.{MarkerFault}
 use Rattle.hg_obs.specs.declared.fault.MarkerFault.TheVariants.{Short}
 use Rattle.hg_obs.specs.Marker.{ids_bytes}
-use Rattle.hg_obs.specs.Grammar.{IsBytes}
 use Rattle.hg_obs.specs.Reading.{◌>>=◌, byte_at, number_at, bytes_at, node_of, node_at, nodes_at, Fields, fields_at}
 
 pub IsBytes-drop : (n : ℕ) (bytes : List ℕ) → IsBytes bytes → IsBytes (drop n bytes)

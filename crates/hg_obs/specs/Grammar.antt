@@ -1,14 +1,11 @@
 -- Marker data as its markers joined, and what is wrong with data that is none.
-use Rattle.std.specs.Prelude.{◌≡◌, ◌≢◌, ◌<◌, ◌⊎◌, ℕ, true, false, List, [], ◌∷◌, ◌++◌, length, slice_index_or, Contains}
+use Rattle.std.specs.Prelude.{◌≡◌, ◌≢◌, ◌<◌, ◌⊎◌, ℕ, true, false, List, [], ◌∷◌, ◌++◌, length, Contains}
 use Rattle.std.specs.List.{AllByRecursion, flat_map}
+use Rattle.hg_types.specs.NullId.{null_node}
 use Rattle.hg_obs.specs.declared.marker.Marker.{Marker}
 use Rattle.hg_obs.specs.declared.fault.MarkerFault.{MarkerFault}
 use Rattle.hg_obs.specs.declared.fault.MarkerFault.TheVariants.{BadVersion, Short, BadMetadata, NullSuccessor, NoMemory}
-use Rattle.hg_obs.specs.Marker.{marker_bytes, is_metadata, null_id, Fits, HasIds, IsMarker}
-
--- each is a byte
-abbrev pub IsBytes : List ℕ → Type 0
-IsBytes bytes = (i : ℕ) → slice_index_or bytes i 0 < 256
+use Rattle.hg_obs.specs.Marker.{marker_bytes, is_metadata, Fits, HasIds, IsMarker}
 
 -- the data is the version byte 0 and these markers, joined
 pub record AreMarkers {A : Type 0} (bytes : List ℕ) (markers : List (Marker A)) : Type 0 where
@@ -27,7 +24,7 @@ abbrev pub IsMarkerFault : (A : Type 0) → MarkerFault → List ℕ → Type 0
 -- there are not the bytes of a whole one
 IsMarkerFault A Short rest = (m : Marker A) → BeginsWith rest m → ⊥
 IsMarkerFault A BadMetadata rest = (m : Marker A) × BeginsWith rest m × (is_metadata m.meta ≡ false)
-IsMarkerFault A NullSuccessor rest = (m : Marker A) × BeginsWith rest m × (is_metadata m.meta ≡ true) × Contains m.successors null_id
+IsMarkerFault A NullSuccessor rest = (m : Marker A) × BeginsWith rest m × (is_metadata m.meta ≡ true) × Contains m.successors null_node
 IsMarkerFault A BadVersion rest = ⊥
 IsMarkerFault A NoMemory rest = ⊥
 

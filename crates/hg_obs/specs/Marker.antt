@@ -1,13 +1,10 @@
 -- The bytes of a marker, and which markers marker data may have.
-use Rattle.std.specs.Prelude.{◌≡◌, ◌≢◌, ◌<◌, ◌^◌, ◌==◌, ℕ, Bool, true, List, [], ◌∷◌, ◌++◌, length, replicate}
+use Rattle.std.specs.Prelude.{◌≡◌, ◌≢◌, ◌<◌, ◌^◌, ◌==◌, ℕ, Bool, true, List, [], ◌∷◌, ◌++◌, length}
 use Rattle.std.specs.List.{AllByRecursion, flat_map, list_all, list_any, slice_split}
 use Rattle.std.specs.Int.{w32, to_be_bytes}
 use Rattle.hg_types.specs.declared.node.Node.{Node}
+use Rattle.hg_types.specs.NullId.{null_node}
 use Rattle.hg_obs.specs.declared.marker.Marker.{Marker}
-
--- 20 zero bytes
-abbrev pub null_id : Node
-null_id = record { 0 = replicate 20 0 }
 
 -- ids, joined
 abbrev pub ids_bytes : List Node → List ℕ
@@ -41,4 +38,4 @@ pub record IsMarker {A : Type 0} (m : Marker A) : Type 0 where
   pub fits : Fits m
   pub ids : HasIds m
   pub metadata : is_metadata m.meta ≡ true
-  pub successors : AllByRecursion (λ id. id ≢ null_id) m.successors
+  pub successors : AllByRecursion (λ id. id ≢ null_node) m.successors

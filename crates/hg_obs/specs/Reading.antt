@@ -4,10 +4,11 @@ use Rattle.std.specs.List.{list_any}
 use Rattle.std.specs.Int.{w32, from_be_bytes}
 use Rattle.std.specs.Simd.{first_chunks}
 use Rattle.hg_types.specs.declared.node.Node.{Node}
+use Rattle.hg_types.specs.NullId.{null_node}
 use Rattle.hg_obs.specs.declared.marker.Marker.{Marker}
 use Rattle.hg_obs.specs.declared.fault.MarkerFault.{MarkerFault}
 use Rattle.hg_obs.specs.declared.fault.MarkerFault.TheVariants.{BadVersion, Short, BadMetadata, NullSuccessor, NoMemory}
-use Rattle.hg_obs.specs.Marker.{is_metadata, null_id}
+use Rattle.hg_obs.specs.Marker.{is_metadata}
 use Rattle.hg_obs.specs.Same.{same_node}
 
 infixl 10 ◌>>=◌
@@ -73,7 +74,7 @@ fields_at bytes = do
   Ok (record { successors = successors.0; flags = flags.0; predecessor = predecessor.0; meta = meta.0 }, meta.1)
 
 unfoldable pub checked : {A : Type 0} → Fields × List ℕ → Result (Marker A × List ℕ) MarkerFault
-checked x = if is_metadata x.0.meta then (if list_any (same_node null_id) x.0.successors then Err NullSuccessor else Ok (kept_of x.0, x.1)) else Err BadMetadata
+checked x = if is_metadata x.0.meta then (if list_any (same_node null_node) x.0.successors then Err NullSuccessor else Ok (kept_of x.0, x.1)) else Err BadMetadata
 
 unfoldable pub marker_at : {A : Type 0} → List ℕ → Result (Marker A × List ℕ) MarkerFault
 marker_at bytes = fields_at bytes >>= checked

@@ -1,10 +1,11 @@
 //! What the definitions say together.
 
 ghost use Rattle.std.specs.Prelude.{◌≡◌, ◌≢◌, ◌↔◌, ℕ, List, Ok, Err};
+ghost use Rattle.hg_types.specs.Bytes.{IsBytes};
 ghost use Rattle.hg_obs.specs.declared.marker.Marker.{Marker as AMarker};
 ghost use Rattle.hg_obs.specs.declared.fault.MarkerFault.{MarkerFault as AFault};
 ghost use Rattle.hg_obs.specs.declared.fault.MarkerFault.TheVariants.{NoMemory as Refused};
-ghost use Rattle.hg_obs.specs.Grammar.{AreMarkers, IsBytes, IsFault};
+ghost use Rattle.hg_obs.specs.Grammar.{AreMarkers, IsFault};
 ghost use Rattle.hg_obs.specs.Marker.{Fits, HasIds, marker_bytes};
 ghost use Rattle.hg_obs.specs.Reading.{markers_of};
 

@@ -7,10 +7,11 @@ use Rattle.hg_types.specs.declared.part.Part.{Part}
 use Rattle.hg_types.specs.declared.item.What.{What}
 use Rattle.hg_types.specs.declared.item.What.TheVariants.{End}
 use Rattle.hg_types.specs.declared.item.Item.{Item}
+use Rattle.hg_types.specs.declared.item.Taken.{Taken}
 use Rattle.hg_push.specs.declared.outcome.Outcome.{Outcome}
 use Rattle.hg_push.specs.declared.outcome.Outcome.TheVariants.{Done}
 use Rattle.hg_push.specs.declared.outcome.Reason.{Reason}
-use Rattle.hg_push.specs.History.{Place, History, Running, is_of, closes, is_closed, is_mark, part_in, parts, serial, outcome, decided, told}
+use Rattle.hg_push.specs.History.{History, Running, is_of, closes, is_closed, is_mark, part_in, parts, serial, outcome, decided, told}
 use Rattle.hg_push.specs.World.{World, Event, start, happens, run_all, put, can_put, take_first, items_in, items_of, all_parts, has_mark}
 use Rattle.hg_push.specs.World.Event.{Open, Put, Take}
 use Rattle.hg_push.specs.Complete.{IsComplete}
@@ -71,13 +72,13 @@ run_puts (e ∷ es) w lists = run_puts es (happens w e) (happens_puts w e lists)
 
 -- ---- what a history has of an open push, and of one that is done
 
-items_more : {A : Type 0} (p : ℕ) (x : Place A) (before : History A) → is_of p x ≡ true → items_of p (items_in (x ∷ before)) ≡ items_of p (items_in before) ++ x.item ∷ []
+items_more : {A : Type 0} (p : ℕ) (x : Taken A) (before : History A) → is_of p x ≡ true → items_of p (items_in (x ∷ before)) ≡ items_of p (items_in before) ++ x.item ∷ []
 items_more p x before own = items_of-append p (items_in before) (x.item ∷ []) ∙ rw own refl
 
-items_same : {A : Type 0} (p : ℕ) (x : Place A) (before : History A) → is_of p x ≡ false → items_of p (items_in (x ∷ before)) ≡ items_of p (items_in before)
+items_same : {A : Type 0} (p : ℕ) (x : Taken A) (before : History A) → is_of p x ≡ false → items_of p (items_in (x ∷ before)) ≡ items_of p (items_in before)
 items_same p x before other = items_of-append p (items_in before) (x.item ∷ []) ∙ rw other (append-nil (items_of p (items_in before)))
 
-open_parts_step : {A : Type 0} (p : ℕ) (x : Place A) (before : History A) → all_parts (items_of p (items_in before)) ≡ parts p before → is_of p x ≡ true → is_closed p before ≡ false → x.refused ≡ false → all_parts (items_of p (items_in (x ∷ before))) ≡ parts p (x ∷ before)
+open_parts_step : {A : Type 0} (p : ℕ) (x : Taken A) (before : History A) → all_parts (items_of p (items_in before)) ≡ parts p before → is_of p x ≡ true → is_closed p before ≡ false → x.refused ≡ false → all_parts (items_of p (items_in (x ∷ before))) ≡ parts p (x ∷ before)
 open_parts_step p x before same own here taken =
     ap all_parts (items_more p x before own) ∙ (all_parts-append (items_of p (items_in before)) (x.item ∷ []) ∙ rw (own, here, taken) (ap (λ ps. ps ++ (part_in x.item.what ++ [])) same ∙ ap (λ ps. parts p before ++ ps) (append-nil (part_in x.item.what))))
 
@@ -123,7 +124,7 @@ done_late run items more x ps done is d = record {
 done_same : {A R D E : Type 0} (run : Running A R D E) (items more : List (Item A)) (ps : List (Part A)) (done : D) → more ≡ items → IsDoneIn run items ps done → IsDoneIn run more ps done
 done_same run items more ps done is d = subst (λ is. IsDoneIn run is ps done) (sym is) d
 
-done_now : {A R D E : Type 0} (run : Running A R D E) (repo : R) (p : ℕ) (x : Place A) (before : History A) (done : D) → is_of p x ≡ true → is_closed p before ≡ false → told (decided run repo (parts p before) x) ≡ Some (Done done) → IsDoneIn run (items_of p (items_in (x ∷ before))) (parts p before) done
+done_now : {A R D E : Type 0} (run : Running A R D E) (repo : R) (p : ℕ) (x : Taken A) (before : History A) (done : D) → is_of p x ≡ true → is_closed p before ≡ false → told (decided run repo (parts p before) x) ≡ Some (Done done) → IsDoneIn run (items_of p (items_in (x ∷ before))) (parts p before) done
 done_now run repo p x before done own here is =
     let ran = told_done (decided run repo (parts p before) x) done is in
     let ends = decides_closes run repo (parts p before) x (ran.0, done) ran.1 in
@@ -139,13 +140,13 @@ done_now run repo p x before done own here is =
       answered = ends.2;
     }
 
-end_adds : {A R D E : Type 0} (run : Running A R D E) (repo : R) (p : ℕ) (x : Place A) (before : History A) (done : D) → told (decided run repo (parts p before) x) ≡ Some (Done done) → parts p (x ∷ before) ≡ parts p before
+end_adds : {A R D E : Type 0} (run : Running A R D E) (repo : R) (p : ℕ) (x : Taken A) (before : History A) (done : D) → told (decided run repo (parts p before) x) ≡ Some (Done done) → parts p (x ∷ before) ≡ parts p before
 end_adds run repo p x before done is =
     let ran = told_done (decided run repo (parts p before) x) done is in
     let ends = decides_closes run repo (parts p before) x (ran.0, done) ran.1 in
     end_parts p x before ends.1
 
-done_step : {A R D E : Type 0} (run : Running A R D E) (repo : R) (p : ℕ) (x : Place A) (before : History A) (old : Option (Outcome D E)) (done : D) → (old ≡ Some (Done done) → IsDoneIn run (items_of p (items_in before)) (parts p before) done) → (if is_of p x && not (is_closed p before) then told (decided run repo (parts p before) x) else old) ≡ Some (Done done) → IsDoneIn run (items_of p (items_in (x ∷ before))) (parts p (x ∷ before)) done
+done_step : {A R D E : Type 0} (run : Running A R D E) (repo : R) (p : ℕ) (x : Taken A) (before : History A) (old : Option (Outcome D E)) (done : D) → (old ≡ Some (Done done) → IsDoneIn run (items_of p (items_in before)) (parts p before) done) → (if is_of p x && not (is_closed p before) then told (decided run repo (parts p before) x) else old) ≡ Some (Done done) → IsDoneIn run (items_of p (items_in (x ∷ before))) (parts p (x ∷ before)) done
 done_step {A} {R} {D} {E} run repo p x before old done ih is =
     let P : List (Part A) → Type 0 = λ ps. IsDoneIn run (items_of p (items_in (x ∷ before))) ps done in
     either_way (is_of p x)

@@ -7,13 +7,14 @@ use Rattle.hg_types.specs.declared.part.Part.{Part}
 use Rattle.hg_types.specs.declared.item.Item.{Item}
 use Rattle.hg_types.specs.declared.item.What.{What}
 use Rattle.hg_types.specs.declared.item.What.TheVariants.{Part as a_part, End, Cut}
+use Rattle.hg_types.specs.declared.item.Taken.{Taken}
 use Rattle.hg_push.specs.declared.outcome.Reason.{Reason}
 use Rattle.hg_push.specs.declared.outcome.Reason.TheVariants.{NoMemory}
 use Rattle.hg_push.specs.declared.outcome.Outcome.{Outcome}
 use Rattle.hg_push.specs.declared.row.Row.{Row}
 use Rattle.hg_push.specs.declared.row.State.{State}
 use Rattle.hg_push.specs.declared.row.State.TheVariants.{Open, Closed}
-use Rattle.hg_push.specs.History.{Place, History, Running, is_of, closes, is_closed, parts, parts_after, serial, outcome, decided, decided_by, is_mark, told}
+use Rattle.hg_push.specs.History.{History, Running, is_of, closes, is_closed, parts, parts_after, serial, outcome, decided, decided_by, is_mark, told}
 use Rattle.hg_push.specs.Rows.{row_of, is_open, staged_in, Tells, TellsState, StepsRow}
 use Rattle.hg_push.specs.Book.{Book, Holds, is_opened, stepped}
 use Rattle.hg_push.proofs.Trims.{either_way}
@@ -21,16 +22,16 @@ use Rattle.hg_push.proofs.Withouts.{outcome_open}
 
 -- ---- what one more place does to its own push, and to the others
 
-outcome_same : {A R D E : Type 0} (run : Running A R D E) (first : R) (p : ℕ) (x : Place A) (h : History A) → (is_of p x && not (is_closed p h)) ≡ false → outcome run first p (x ∷ h) ≡ outcome run first p h
+outcome_same : {A R D E : Type 0} (run : Running A R D E) (first : R) (p : ℕ) (x : Taken A) (h : History A) → (is_of p x && not (is_closed p h)) ≡ false → outcome run first p (x ∷ h) ≡ outcome run first p h
 outcome_same run first p x h late = rw late
 
-parts_same : {A : Type 0} (p : ℕ) (x : Place A) (h : History A) → (is_of p x && not (is_closed p h)) ≡ false → parts p (x ∷ h) ≡ parts p h
+parts_same : {A : Type 0} (p : ℕ) (x : Taken A) (h : History A) → (is_of p x && not (is_closed p h)) ≡ false → parts p (x ∷ h) ≡ parts p h
 parts_same p x h late = grind (arith, late)
 
-parts_next : {A : Type 0} (p : ℕ) (x : Place A) (h : History A) → is_of p x ≡ true → is_closed p h ≡ false → parts p (x ∷ h) ≡ parts_after (parts p h) x
+parts_next : {A : Type 0} (p : ℕ) (x : Taken A) (h : History A) → is_of p x ≡ true → is_closed p h ≡ false → parts p (x ∷ h) ≡ parts_after (parts p h) x
 parts_next p x h own here = grind (arith, own, here)
 
-outcome_next : {A R D E : Type 0} (run : Running A R D E) (first : R) (p : ℕ) (x : Place A) (h : History A) → is_of p x ≡ true → is_closed p h ≡ false → outcome run first p (x ∷ h) ≡ told (decided run (serial run first h).repo (parts p h) x)
+outcome_next : {A R D E : Type 0} (run : Running A R D E) (first : R) (p : ℕ) (x : Taken A) (h : History A) → is_of p x ≡ true → is_closed p h ≡ false → outcome run first p (x ∷ h) ≡ told (decided run (serial run first h).repo (parts p h) x)
 outcome_next run first p x h own here = rw (own, here)
 
 different : {T : Type 0} (o : Option T) → o ≡ None → IsSome o → ⊥
@@ -46,7 +47,7 @@ told_closes_at run repo ps false index (a_part part) ends = cc
 told_closes_at run repo ps false index (Cut reason) ends = refl
 told_closes_at run repo ps false index End ends = told_some _
 
-closed_ended_step : {A R D E : Type 0} (run : Running A R D E) (repo : R) (p : ℕ) (x : Place A) (h : History A) (old : Option (Outcome D E)) → (is_closed p h ≡ true → IsSome old) → is_closed p (x ∷ h) ≡ true → IsSome (if is_of p x && not (is_closed p h) then told (decided run repo (parts p h) x) else old)
+closed_ended_step : {A R D E : Type 0} (run : Running A R D E) (repo : R) (p : ℕ) (x : Taken A) (h : History A) (old : Option (Outcome D E)) → (is_closed p h ≡ true → IsSome old) → is_closed p (x ∷ h) ≡ true → IsSome (if is_of p x && not (is_closed p h) then told (decided run repo (parts p h) x) else old)
 closed_ended_step run repo p x h old ih shut =
     either_way (is_closed p h)
     (λ c. let late : (is_of p x && not (is_closed p h)) ≡ false = grind (arith, c) in rw late (ih c))
@@ -78,17 +79,17 @@ no_row_closed : {A D E : Type 0} (ps : List (Part A)) (how : Option (Outcome D E
 no_row_closed ps how None shut tells = tells
 no_row_closed ps how (Some r) shut tells = closed_tells ps how r.state (shut r refl) tells
 
-late_place : {A : Type 0} (p : ℕ) (x : Place A) (h : History A) → is_closed x.item.push h ≡ true → (is_of p x && not (is_closed p h)) ≡ false
+late_place : {A : Type 0} (p : ℕ) (x : Taken A) (h : History A) → is_closed x.item.push h ≡ true → (is_of p x && not (is_closed p h)) ≡ false
 late_place p x h shut = grind (arith, nat_tests)
 
-other_place : {A : Type 0} (p : ℕ) (x : Place A) (h : History A) → p ≢ x.item.push → (is_of p x && not (is_closed p h)) ≡ false
+other_place : {A : Type 0} (p : ℕ) (x : Taken A) (h : History A) → p ≢ x.item.push → (is_of p x && not (is_closed p h)) ≡ false
 other_place p x h other = grind (arith, nat_tests)
 
 -- ---- an item of a closed push is dropped
 
 pub holds_dropped : {A R D E : Type 0} (run : Running A R D E) (first : R) (h : History A) (b : Book A R D E) (item : Item A) → Holds run first h b → is_opened b item.push ≡ true → ((r : Row D E A) → row_of item.push b.rows ≡ Some r → is_open r.state ≡ false) → Holds run first (record { item = item; refused = false } ∷ h) b
 holds_dropped {A} run first h b item holds opened shut =
-    let x : Place A = record { item = item; refused = false } in
+    let x : Taken A = record { item = item; refused = false } in
     let ended = no_row_closed _ _ _ shut (holds.rows item.push opened) in
     let c : is_closed item.push h ≡ true = ended_closed run first item.push h ended in
     record {
@@ -106,7 +107,7 @@ all_same : {A : Type 0} (f g : ℕ → Bool) → ((p : ℕ) → g p ≡ f p) →
 all_same f g same [] all = tt
 all_same f g same (x ∷ h) all = (same x.item.push ∙ all.0, all_same f g same h all.1)
 
-pub holds_stepped : {A R D E : Type 0} (run : Running A R D E) (first : R) (h : History A) (b new : Book A R D E) (x : Place A) (r r' : Row D E A) → Holds run first h b → is_opened b x.item.push ≡ true
+pub holds_stepped : {A R D E : Type 0} (run : Running A R D E) (first : R) (h : History A) (b new : Book A R D E) (x : Taken A) (r r' : Row D E A) → Holds run first h b → is_opened b x.item.push ≡ true
     → row_of x.item.push b.rows ≡ Some r → r.push ≡ x.item.push → is_open r.state ≡ true
     → StepsRow run (record { repo = b.repo; journal = b.journal }) r x (record { repo = new.repo; journal = new.journal }) r'
     → ((p : ℕ) → is_opened new p ≡ is_opened b p) → row_of x.item.push new.rows ≡ Some r' → ((p : ℕ) → p ≢ x.item.push → row_of p new.rows ≡ row_of p b.rows)

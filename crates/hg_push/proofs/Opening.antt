@@ -5,16 +5,17 @@ use Rattle.std.specs.List.{AllByRecursion, count_by}
 use Rattle.std.proofs.lemmas.Bool.Decides.{nat_tests}
 use Rattle.std.proofs.lemmas.List.Folds.{find-append}
 use Rattle.std.proofs.lemmas.List.Sums.{count_by-le-length}
+use Rattle.hg_types.specs.declared.item.Taken.{Taken}
 use Rattle.hg_push.specs.declared.row.Row.{Row}
 use Rattle.hg_push.specs.declared.row.State.{State}
 use Rattle.hg_push.specs.declared.row.State.TheVariants.{Open}
-use Rattle.hg_push.specs.History.{Place, History, Running, is_of, parts, outcome}
+use Rattle.hg_push.specs.History.{History, Running, is_of, parts, outcome}
 use Rattle.hg_push.specs.Rows.{row_of, is_open, Tells}
 use Rattle.hg_push.specs.Book.{Book, Holds, AreRows, AreNumbers, is_between, is_opened, Opens}
 use Rattle.hg_push.proofs.Finding.{row_opened}
 use Rattle.hg_push.proofs.Trims.{either_way}
 
-fresh_step : {A : Type 0} (opened : ℕ → Bool) (p : ℕ) (x : Place A) → opened p ≡ false → opened x.item.push ≡ true → is_of p x ≡ false
+fresh_step : {A : Type 0} (opened : ℕ → Bool) (p : ℕ) (x : Taken A) → opened p ≡ false → opened x.item.push ≡ true → is_of p x ≡ false
 fresh_step opened p x new old = either_way (is_of p x) (λ t. let e : x.item.push ≡ p = grind (arith, nat_tests) in let h : opened x.item.push ≡ opened p = ap opened e in cc) (λ f. f)
 
 -- a push that is not opened has no part and no outcome

@@ -8,7 +8,8 @@ use Rattle.hg_push.specs.declared.outcome.Reason.TheVariants.{NoMemory}
 use Rattle.hg_types.specs.declared.part.Part.{Part}
 use Rattle.hg_types.specs.declared.item.What.{What}
 use Rattle.hg_types.specs.declared.item.What.TheVariants.{Part as a_part, End, Cut}
-use Rattle.hg_push.specs.History.{Place, History, Running, Serial, is_of, closes, is_closed, parts, serial, outcome, decided, decided_by, told, kept, is_mark}
+use Rattle.hg_types.specs.declared.item.Taken.{Taken}
+use Rattle.hg_push.specs.History.{History, Running, Serial, is_of, closes, is_closed, parts, serial, outcome, decided, decided_by, told, kept, is_mark}
 use Rattle.hg_push.specs.Changed.{without, IsDone}
 use Rattle.hg_push.proofs.Trims.{either_way}
 
@@ -18,21 +19,21 @@ told_open_at run repo ps false index (a_part part) stays = refl
 told_open_at run repo ps false index End stays = cc
 told_open_at run repo ps false index (Cut reason) stays = cc
 
-told_open : {A R D E : Type 0} (run : Running A R D E) (repo : R) (ps : List (Part A)) (x : Place A) → closes x ≡ false → told (decided run repo ps x) ≡ None
+told_open : {A R D E : Type 0} (run : Running A R D E) (repo : R) (ps : List (Part A)) (x : Taken A) → closes x ≡ false → told (decided run repo ps x) ≡ None
 told_open run repo ps x stays = told_open_at run repo ps x.refused x.item.index x.item.what stays
 
 or_left : (a b : Bool) → (a || b) ≡ false → a ≡ false
 or_left false b h = refl
 or_left true b h = cc
 
-without_closed_step : {A : Type 0} (p q : ℕ) (x : Place A) (before cut : History A) → q ≢ p → is_closed q cut ≡ is_closed q before → is_closed q (if is_of p x then cut else x ∷ cut) ≡ is_closed q (x ∷ before)
+without_closed_step : {A : Type 0} (p q : ℕ) (x : Taken A) (before cut : History A) → q ≢ p → is_closed q cut ≡ is_closed q before → is_closed q (if is_of p x then cut else x ∷ cut) ≡ is_closed q (x ∷ before)
 without_closed_step p q x before cut other same = grind (arith, nat_tests, same)
 
 pub without_closed : {A : Type 0} (p q : ℕ) (h : History A) → q ≢ p → is_closed q (without p h) ≡ is_closed q h
 without_closed p q [] other = refl
 without_closed p q (x ∷ before) other = without_closed_step p q x before (without p before) other (without_closed p q before other)
 
-without_parts_step : {A : Type 0} (p q : ℕ) (x : Place A) (before cut : History A) → q ≢ p → is_closed q cut ≡ is_closed q before → parts q cut ≡ parts q before → parts q (if is_of p x then cut else x ∷ cut) ≡ parts q (x ∷ before)
+without_parts_step : {A : Type 0} (p q : ℕ) (x : Taken A) (before cut : History A) → q ≢ p → is_closed q cut ≡ is_closed q before → parts q cut ≡ parts q before → parts q (if is_of p x then cut else x ∷ cut) ≡ parts q (x ∷ before)
 without_parts_step p q x before cut other same also = grind (arith, nat_tests, same, also)
 
 pub without_parts : {A : Type 0} (p q : ℕ) (h : History A) → q ≢ p → parts q (without p h) ≡ parts q h
@@ -40,7 +41,7 @@ without_parts p q [] other = refl
 without_parts p q (x ∷ before) other = without_parts_step p q x before (without p before) other (without_closed p q before other) (without_parts p q before other)
 
 -- an open push has no outcome
-outcome_open_step : {A R D E : Type 0} (run : Running A R D E) (repo : R) (p : ℕ) (x : Place A) (before : History A) (old : Option (Outcome D E)) → old ≡ None → is_closed p (x ∷ before) ≡ false → (if is_of p x && not (is_closed p before) then told (decided run repo (parts p before) x) else old) ≡ None
+outcome_open_step : {A R D E : Type 0} (run : Running A R D E) (repo : R) (p : ℕ) (x : Taken A) (before : History A) (old : Option (Outcome D E)) → old ≡ None → is_closed p (x ∷ before) ≡ false → (if is_of p x && not (is_closed p before) then told (decided run repo (parts p before) x) else old) ≡ None
 outcome_open_step run repo p x before old none is_open =
     either_way (is_of p x)
     (λ t. either_way (is_closed p before) (λ c. rw (t, c) none) (λ o. let stays : closes x ≡ false = grind (arith, is_open) in rw (t, o) (told_open run repo (parts p before) x stays)))
@@ -56,7 +57,7 @@ kept_unless_done s p None not_done = refl
 kept_unless_done s p (Some (Err reason)) not_done = refl
 kept_unless_done s p (Some (Ok done)) not_done = absurd (not_done done.1 refl)
 
-without_serial_step : {A R D E : Type 0} (run : Running A R D E) (first : R) (p : ℕ) (x : Place A) (before cut : History A) → ((q : ℕ) → q ≢ p → is_closed q cut ≡ is_closed q before) → ((q : ℕ) → q ≢ p → parts q cut ≡ parts q before) → (¬ IsDone run first p before → serial run first cut ≡ serial run first before) → ¬ IsDone run first p (x ∷ before)
+without_serial_step : {A R D E : Type 0} (run : Running A R D E) (first : R) (p : ℕ) (x : Taken A) (before cut : History A) → ((q : ℕ) → q ≢ p → is_closed q cut ≡ is_closed q before) → ((q : ℕ) → q ≢ p → parts q cut ≡ parts q before) → (¬ IsDone run first p before → serial run first cut ≡ serial run first before) → ¬ IsDone run first p (x ∷ before)
     → serial run first (if is_of p x then cut else x ∷ cut) ≡ serial run first (x ∷ before)
 without_serial_step run first p x before cut same also state not_done =
     either_way (is_of p x)
@@ -75,14 +76,14 @@ pub without_serial : {A R D E : Type 0} (run : Running A R D E) (first : R) (p :
 without_serial run first p [] not_done = refl
 without_serial run first p (x ∷ before) not_done = without_serial_step run first p x before (without p before) (λ q. without_closed p q before) (λ q. without_parts p q before) (without_serial run first p before) not_done
 
-without_outcome_step : {A R D E : Type 0} (run : Running A R D E) (first : R) (p q : ℕ) (x : Place A) (before cut : History A) → q ≢ p → is_closed q cut ≡ is_closed q before → parts q cut ≡ parts q before → serial run first cut ≡ serial run first before → outcome run first q cut ≡ outcome run first q before
+without_outcome_step : {A R D E : Type 0} (run : Running A R D E) (first : R) (p q : ℕ) (x : Taken A) (before cut : History A) → q ≢ p → is_closed q cut ≡ is_closed q before → parts q cut ≡ parts q before → serial run first cut ≡ serial run first before → outcome run first q cut ≡ outcome run first q before
     → outcome run first q (if is_of p x then cut else x ∷ cut) ≡ outcome run first q (x ∷ before)
 without_outcome_step run first p q x before cut other same also state old =
     either_way (is_of p x)
     (λ t. let away : is_of q x ≡ false = grind (arith, nat_tests) in rw (t, away) old)
     (λ f. rw (f, same, also, state, old))
 
-not_done_before : {A R D E : Type 0} (run : Running A R D E) (first : R) (p : ℕ) (x : Place A) (before : History A) → ¬ IsDone run first p (x ∷ before) → ¬ IsDone run first p before
+not_done_before : {A R D E : Type 0} (run : Running A R D E) (first : R) (p : ℕ) (x : Taken A) (before : History A) → ¬ IsDone run first p (x ∷ before) → ¬ IsDone run first p before
 not_done_before run first p x before not_done d =
     either_way (is_closed p before)
     (λ c. let old : outcome run first p (x ∷ before) ≡ outcome run first p before = either_way (is_of p x) (λ t. rw (t, c)) (λ f. rw f) in not_done (d.0, old ∙ d.1))

@@ -5,25 +5,21 @@ use Rattle.hg_types.specs.declared.part.Part.{Part}
 use Rattle.hg_types.specs.declared.item.What.{What}
 use Rattle.hg_types.specs.declared.item.What.TheVariants.{Part as a_part, End, Cut}
 use Rattle.hg_types.specs.declared.item.Item.{Item}
+use Rattle.hg_types.specs.declared.item.Taken.{Taken}
 use Rattle.hg_push.specs.declared.outcome.Reason.{Reason}
 use Rattle.hg_push.specs.declared.outcome.Reason.TheVariants.{Refused, Cut as cut, WrongIndex, NoMemory}
 use Rattle.hg_push.specs.declared.outcome.Outcome.{Outcome}
 use Rattle.hg_push.specs.declared.outcome.Outcome.TheVariants.{Done, Aborted}
 
--- A place of a history: the item that was taken there, and whether memory was refused for it.
-pub record Place (A : Type 0) : Type 0 where
-  pub item : Item A
-  pub refused : Bool
-
 -- The places in the order in which they were taken, the newest first.
 abbrev pub History : Type 0 → Type 0
-History A = List (Place A)
+History A = List (Taken A)
 
 -- How a repository's value and a push's parts give a new value and an answer, or a refusal.
 abbrev pub Running : Type 0 → Type 0 → Type 0 → Type 0 → Type 0
 Running A R D E = R → List (Part A) → Result (R × D) E
 
-abbrev pub is_of : {A : Type 0} → ℕ → Place A → Bool
+abbrev pub is_of : {A : Type 0} → ℕ → Taken A → Bool
 is_of p x = x.item.push == p
 
 abbrev pub is_mark : {A : Type 0} → What A → Bool
@@ -32,7 +28,7 @@ is_mark End = true
 is_mark (Cut reason) = true
 
 -- It closes its push, where that is open.
-abbrev pub closes : {A : Type 0} → Place A → Bool
+abbrev pub closes : {A : Type 0} → Taken A → Bool
 closes x = x.refused || is_mark x.item.what
 
 -- Closing: p has a place that holds an end mark or a cut, or at which memory was refused.
@@ -46,7 +42,7 @@ part_in End = []
 part_in (Cut reason) = []
 
 -- the parts of a push after one more place of it, where it was open with these
-abbrev pub parts_after : {A : Type 0} → List (Part A) → Place A → List (Part A)
+abbrev pub parts_after : {A : Type 0} → List (Part A) → Taken A → List (Part A)
 parts_after ps x = if x.refused then ps else ps ++ part_in x.item.what
 
 -- Parts: the parts of p before the place that closed it, or all where there is none.
@@ -64,7 +60,7 @@ decided_by run repo ps index (Cut reason) = Some (Err (cut reason))
 decided_by run repo ps index End = Some (if index == length ps then refused_as (run repo ps) else Err WrongIndex)
 
 -- What a place decides of its push, which was open with these parts: nothing yet, the run's repository and answer, or why the push is aborted.
-abbrev pub decided : {A R D E : Type 0} → Running A R D E → R → List (Part A) → Place A → Option (Result (R × D) (Reason E))
+abbrev pub decided : {A R D E : Type 0} → Running A R D E → R → List (Part A) → Taken A → Option (Result (R × D) (Reason E))
 decided run repo ps x = if x.refused then Some (Err NoMemory) else decided_by run repo ps x.item.index x.item.what
 
 -- A repository and the numbers of the done pushes, in order.
@@ -77,7 +73,7 @@ kept s p None = s
 kept s p (Some (Err reason)) = s
 kept s p (Some (Ok done)) = record { repo = done.0; journal = s.journal ++ p ∷ [] }
 
-abbrev pub after : {A R D E : Type 0} → Running A R D E → History A → Place A → Serial R → Serial R
+abbrev pub after : {A R D E : Type 0} → Running A R D E → History A → Taken A → Serial R → Serial R
 after run before x s =
     if is_closed x.item.push before then s
     else kept s x.item.push (decided run s.repo (parts x.item.push before) x)

@@ -2,6 +2,7 @@
 use Rattle.std.specs.Prelude.{ℕ, Bool, true, false, ◌≡◌, ◌≢◌, ◌==◌, ◌<◌, map, List, [], ◌∷◌, length, find, filter, not, position, slice_index_or, Option, None, Some, Result, Ok, Err, IsSome}
 use Rattle.std.specs.List.{AllByRecursion}
 use Rattle.hg_types.specs.declared.part.Part.{Part}
+use Rattle.hg_types.specs.declared.item.Taken.{Taken}
 use Rattle.hg_push.specs.declared.outcome.Reason.{Reason}
 use Rattle.hg_push.specs.declared.outcome.Reason.TheVariants.{Refused, Cut, WrongIndex, NoMemory}
 use Rattle.hg_push.specs.declared.outcome.Outcome.{Outcome}
@@ -11,7 +12,7 @@ use Rattle.hg_push.specs.declared.outcome.Standing.TheVariants.{Open as is_open_
 use Rattle.hg_push.specs.declared.row.State.{State}
 use Rattle.hg_push.specs.declared.row.State.TheVariants.{Open, Closed}
 use Rattle.hg_push.specs.declared.row.Row.{Row}
-use Rattle.hg_push.specs.History.{Place, Running, Serial, decided, kept, told, takes_memory, parts_after}
+use Rattle.hg_push.specs.History.{Running, Serial, decided, kept, told, takes_memory, parts_after}
 
 -- the row of p
 abbrev pub row_of : {A D E : Type 0} → ℕ → List (Row D E A) → Option (Row D E A)
@@ -52,7 +53,7 @@ EndsAs run old ps index (Err WrongIndex) new = (index ≢ length ps) × (new ≡
 EndsAs run old ps index (Err (Cut reason)) new = ⊥
 
 -- What a place does to its row, which is open, and to the state.
-pub record StepsRow {A R D E : Type 0} (run : Running A R D E) (old : Serial R) (row : Row D E A) (x : Place A) (new : Serial R) (row' : Row D E A) : Type 0 where
+pub record StepsRow {A R D E : Type 0} (run : Running A R D E) (old : Serial R) (row : Row D E A) (x : Taken A) (new : Serial R) (row' : Row D E A) : Type 0 where
   pub push : row'.push ≡ row.push
   pub may : x.refused ≡ true → takes_memory (length (staged_in row.state)) x.item.index x.item.what ≡ true
   pub state : new ≡ kept old row.push (decided run old.repo (staged_in row.state) x)

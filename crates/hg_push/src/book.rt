@@ -1,7 +1,7 @@
 //! The book: openings, steps and replies.
 
 ghost use Rattle.std.specs.Prelude.{◌≡◌, ◌≢◌, ◌<◌, ◌+◌, ◌≤◌, ◌^◌, ◌==◌, ◌++◌, ◌∷◌, ◌↔◌, List, ℕ, [], length, true, false, IsTrue, IsNone, IfNone, IfSome, IsSome, IfOk, OnOk, OnErr, IsErrOf, ◌-◌, Some, None, if◌then◌else◌};
-ghost use Rattle.hg_push.specs.History.{Place, History, serial, outcome};
+ghost use Rattle.hg_push.specs.History.{History, serial, outcome};
 ghost use Rattle.hg_push.specs.Book.{Holds, IsSameOpenings, is_opened, stepped, Opens};
 ghost use Rattle.hg_push.specs.Calls.{Follows, course_of_new};
 ghost use Rattle.hg_push.specs.Rows.{IsShut, reply_in, row_of, rows_without, standing_of};

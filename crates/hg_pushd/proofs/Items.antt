@@ -11,7 +11,7 @@ use Rattle.hg_repo.specs.declared.done.Done.{Done}
 use Rattle.hg_repo.specs.declared.refusal.Refusal.{Refusal}
 use Rattle.hg_push.specs.declared.outcome.Outcome.{Outcome}
 use Rattle.hg_push.specs.declared.row.Row.{Row}
-use Rattle.hg_push.specs.History.{History, Place, is_closed, is_mark, outcome}
+use Rattle.hg_push.specs.History.{History, is_closed, is_mark, outcome}
 use Rattle.hg_push.specs.Book.{Holds, IsSameOpenings, Opens, is_opened, stepped}
 use Rattle.hg_push.specs.Reply.{CanBeTold}
 use Rattle.hg_push.specs.Rows.{row_of}
@@ -19,6 +19,7 @@ use Rattle.hg_push.specs.Run.{RepositoryOf, run_push}
 use Rattle.hg_pushd.specs.declared.ending.Ending.{Ending}
 use Rattle.hg_pushd.specs.declared.ending.Ending.TheVariants.{Whole, Fault, InputEnded, ReadFailed}
 use Rattle.hg_types.specs.declared.item.What.{What}
+use Rattle.hg_types.specs.declared.item.Taken.{Taken}
 use Rattle.hg_pushd.specs.Receiving.{items_of, mark_of, part_items}
 use Rattle.hg_pushd.specs.Taking.{BookOf, HasTaken, Ends}
 
@@ -66,7 +67,7 @@ pub record Closes {A : Type 0} (first : RepositoryOf A) (push : ℕ) (book : Boo
   pub ended : IsSome (outcome run_push first push taken.history)
   pub row : IsSome (row_of push book.rows)
 
-mark_closes : {A : Type 0} (push : ℕ) (x : Place A) (before : History A) → x.item.push ≡ push → is_mark x.item.what ≡ true → is_closed push (x ∷ before) ≡ true
+mark_closes : {A : Type 0} (push : ℕ) (x : Taken A) (before : History A) → x.item.push ≡ push → is_mark x.item.what ≡ true → is_closed push (x ∷ before) ≡ true
 mark_closes push x before of_it mark = grind (arith, nat_tests, of_it, mark)
 
 has_row : {A D E : Type 0} (push : ℕ) (rows : List (Row D E A)) → map (λ r. r.push) rows ≡ push ∷ [] → IsSome (row_of push rows)

@@ -3,7 +3,7 @@ use Rattle.std.specs.Prelude.{◌≡◌, ℕ, ◌+◌, ◌==◌, ◌||◌, Bool,
 use Rattle.hg_types.specs.declared.item.Item.{Item}
 use Rattle.hg_types.specs.declared.item.What.{What}
 use Rattle.hg_types.specs.declared.item.What.TheVariants.{Part as a_part, End, Cut}
-use Rattle.hg_queue.specs.declared.view.Taken.{Taken}
+use Rattle.hg_types.specs.declared.item.Taken.{Taken}
 
 module _ {A : Type 0} where
   abbrev pub is_part : What A → Bool

@@ -1,14 +1,9 @@
 //! What each seat of the queue knows. These are values of contracts alone: none is made when the program runs.
+//! A history is a list of `Taken`, in the order in which they were taken.
 
-use hg_types::Item;
+use hg_types::{Item, Taken};
 use std::alloc::{Allocator, Global};
 use std::collections::LinkedList;
-
-/// An item that was taken, and whether memory was refused for it. A history is a list of these, in the order in which they were taken.
-pub struct Taken<A: Allocator = Global> {
-    pub item: Item<A>,
-    pub refused: bool,
-}
 
 /// What the Taker knows.
 pub struct TakerView<A: Allocator = Global> {

@@ -1,2 +1,4 @@
+pub mod Bytes
+pub mod NullId
 pub mod Part
 pub mod Limits

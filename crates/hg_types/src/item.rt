@@ -31,6 +31,12 @@ pub struct Item<A: Allocator = Global> {
     pub what: What<A>,
 }
 
+/// An item that was taken, and whether memory was refused for it: one place of a history. A value of contracts alone, which no program makes.
+pub struct Taken<A: Allocator = Global> {
+    pub item: Item<A>,
+    pub refused: bool,
+}
+
 impl<A: Allocator + Copy> TryClone<A> for What<A> {
     fn try_clone(&self, alloc: A) -> Result<Self, NoMemory> {
         match self {

@@ -14,7 +14,7 @@ mod phase;
 mod seq;
 
 pub use entry::Entry;
-pub use item::{CutReason, Item, What};
+pub use item::{CutReason, Item, Taken, What};
 pub use limits::{Limits, Settings};
 pub use memory::{NoMemory, TryClone};
 pub use node::Node;

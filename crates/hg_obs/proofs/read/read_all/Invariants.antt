@@ -1,5 +1,5 @@
 use Rattle.std.proofs.Common.{◌≡◌, length}
-use Rattle.hg_obs.specs.Grammar.{IsBytes}
+use Rattle.hg_types.specs.Bytes.{IsBytes}
 use Rattle.hg_obs.specs.Reading.{with_front, markers_at, markers_of}
 use Rattle.hg_obs.proofs.read.read_all.Given as goal
 

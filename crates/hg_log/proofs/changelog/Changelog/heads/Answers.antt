@@ -1,7 +1,7 @@
 use Rattle.std.proofs.Common.{rules, ◌≡◌, ◌≢◌, [], ◌∷◌, length, slice_index_or, sym, ap, ◌∙◌, arith}
 use Rattle.std.proofs.lemmas.Bool.{eqb-true, eqb-false}
 use Rattle.std.proofs.lemmas.List.Elements.{Contains-get_or}
-use Rattle.hg_log.specs.NodeId.{null_id}
+use Rattle.hg_types.specs.NullId.{null_id}
 use Rattle.hg_log.specs.Heads.{ids}
 use Rattle.hg_log.specs.Inside.{rows_of}
 use Rattle.hg_log.proofs.HeadLemmas.{null_node, ids_none, ids_more, ids_all, are_heads, no_heads}
