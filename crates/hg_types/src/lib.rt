@@ -6,6 +6,7 @@
 
 mod entry;
 mod item;
+mod law;
 mod limits;
 mod memory;
 mod node;
@@ -15,6 +16,7 @@ mod seq;
 
 pub use entry::Entry;
 pub use item::{CutReason, Item, Taken, What};
+pub use law::{a_key_has_one_value, bytes_are_bytes, phases_are_ordered_by_number};
 pub use limits::{Limits, Settings};
 pub use memory::{NoMemory, TryClone};
 pub use node::Node;

@@ -1,4 +1,7 @@
-//! The phase of a changeset.
+//! The phase of a changeset, and its number.
+
+ghost use Rattle.std.specs.Prelude.{◌≡◌, ◌≢◌, pos, IfSome, IfNone};
+ghost use Rattle.hg_types.specs.declared.phase.Phase.{Phase as APhase};
 
 /// How far a changeset is from being shared for good. No changeset is in a lower phase than an ancestor of it.
 #[derive(Clone, Copy, Debug, PartialEq, Eq, PartialOrd, Ord)]
@@ -9,4 +12,28 @@ pub enum Phase {
     Draft = 1,
     /// Phase 2: it is not to leave its repository.
     Secret = 2,
+}
+
+impl Phase {
+    ghost use Rattle.hg_types.specs.Phase.{number_of};
+
+    /// The number of the phase: 0, 1 or 2.
+    pub fn number(self) -> u8
+        ensures { result ≡ number_of self }
+    {
+        self as u8
+    }
+
+    /// The phase with that number, which phase entries carry as a signed number; none where no phase has it.
+    pub fn from_number(number: i32) -> Option<Phase>
+        ensures found { IfSome result (λ phase. number ≡ pos (number_of phase)) }
+        ensures none { IfNone result ((phase : APhase) → number ≢ pos (number_of phase)) }
+    {
+        match number {
+            0 => Some(Phase::Public),
+            1 => Some(Phase::Draft),
+            2 => Some(Phase::Secret),
+            _ => None,
+        }
+    }
 }

@@ -221,3 +221,34 @@ fn room_is_made_with_the_first_item(rt: HostRuntime) -> Result<(), Fail> {
     assert!(rt; made > 0);
     Ok(())
 }
+
+/// A part with a thousand parameters and a payload of 70,000 bytes.
+fn large_part<A: Allocator + Copy>(alloc: A) -> Result<Part<A>, NoMemory> {
+    let kind = Seq::copy_of(alloc, b"output")?;
+    let mut params = Seq::new(alloc);
+    for _ in 0..1_000u32 {
+        params.push(param(alloc, false, b"key", b"value")?)?;
+    }
+    let payload = Seq::copy_of(alloc, &[7; 70_000])?;
+    Ok(Part {
+        kind,
+        id: 7,
+        params,
+        payload,
+    })
+}
+
+/// Over an ample heap a clone is not refused, however large its source is, and it takes at most as much; to look at a part
+/// takes nothing.
+#[test]
+fn a_large_part_is_cloned(rt: HostRuntime) -> Result<(), Fail> {
+    let heap = LocalHeap::new(rt.alloc(), 1 << 20)?;
+    let source = large_part(&heap)?;
+    let had = heap.used();
+    let copy = source.try_clone(&heap)?;
+    assert!(rt; heap.used().saturating_sub(had) <= had);
+    let both = heap.used();
+    assert!(rt; !copy.is_mandatory() && copy.param(b"other").is_none());
+    assert!(rt; is_same_part(&source, &copy) && heap.used() == both);
+    Ok(())
+}
