@@ -4,4 +4,5 @@ mod EveryReading
 mod Steps
 mod Phases
 mod Whole
+mod Written
 pub mod CallerLemmas

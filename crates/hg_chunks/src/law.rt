@@ -1,10 +1,10 @@
 //! Laws of the bytes: sizes and payloads are read in one way.
 
-ghost use Rattle.std.specs.Prelude.{◌≡◌, ◌<◌, ◌++◌, ℕ, ℤ, List, All};
+ghost use Rattle.std.specs.Prelude.{◌≡◌, ◌<◌, ◌^◌, ◌++◌, ℕ, ℤ, List, All, length};
 ghost use Rattle.std.specs.Int.{w32};
 ghost use Rattle.std.specs.Int.RustNames.{FitsSigned};
 ghost use Rattle.hg_chunks.specs.Size.{size_bytes};
-ghost use Rattle.hg_chunks.specs.Payload.{Item, IsPayload};
+ghost use Rattle.hg_chunks.specs.Payload.{Item, IsPayload, payload_bytes};
 ghost use Rattle.hg_chunks.specs.Reading.{Reads};
 
 /// No two sizes have the same four bytes.
@@ -21,6 +21,11 @@ pub fn one_reading()
 pub fn one_payload()
     ensures { (a b x y first second : List ℕ) → IsPayload a first → IsPayload b second → a ++ x ≡ b ++ y
         → (a ≡ b) × (first ≡ second) × (x ≡ y) }
+{}
+
+/// What is written of data is a whole payload with that data.
+pub fn what_is_written_is_a_payload()
+    ensures { (bytes : List ℕ) → length bytes < 2 ^ 31 → IsPayload (payload_bytes bytes) bytes }
 {}
 
 /// Any bytes are items and a rest that begins with no whole item.

@@ -296,3 +296,49 @@ fn memory_refused_to_the_writer(rt: HostRuntime) -> Result<(), Fail> {
     assert!(rt; tally.ample > 0);
     Ok(())
 }
+
+// A payload of 64 MiB, written and read back where memory is ample.
+#[test]
+fn greatest_payload(rt: HostRuntime) -> Result<(), Fail> {
+    let mut data = Vec::new(rt.alloc());
+    for _ in 0..16_384usize {
+        data.extend_from_slice(&[7; 4_096])?;
+    }
+    let mut out = Vec::new(rt.alloc());
+    if data.len() < 0x8000_0000 {
+        assert_eq!(rt; write_payload(&mut out, data.as_slice()), Ok(()));
+    }
+    assert_eq!(rt; out.len(), 67_108_872);
+    assert_eq!(rt; put_i32(&mut out, 5), Ok(()));
+    let mut payload = PayloadIn::new(rt.alloc(), 67_108_864);
+    match read_in_pieces(&mut payload, out.as_slice(), 65_536) {
+        Ok(read) => {
+            assert_eq!(rt; read.taken, 67_108_872);
+            assert!(rt; read.data.is_some_and(|read| read.len() == 67_108_864));
+        }
+        Err(fault) => assert!(rt; false, "{fault}"),
+    }
+    Ok(())
+}
+
+// Where memory is ample, a size takes none, whatever it announces, and data takes little more than came. A writer takes
+// little more than it writes.
+#[test]
+fn memory_follows_the_bytes(rt: HostRuntime) -> Result<(), Fail> {
+    let heap = LocalHeap::new(rt.alloc(), 134_217_728)?;
+    let mut payload = PayloadIn::new(&heap, 67_108_864);
+    assert_eq!(rt; payload.feed(&[4, 0, 0, 0]), Ok((4, Step::More)));
+    assert_eq!(rt; heap.used(), 0);
+    assert_eq!(rt; payload.feed(&[7; 4]), Ok((4, Step::More)));
+    assert!(rt; heap.used() <= 64);
+    assert_eq!(rt; payload.feed(&[7; 4_096]), Ok((4_096, Step::More)));
+    let read = heap.used();
+    assert!(rt; read <= 8_192, "{read} bytes");
+
+    let mut out = Vec::new(&heap);
+    assert_eq!(rt; put_i32(&mut out, 0x0400_0000), Ok(()));
+    assert!(rt; heap.used() <= read.saturating_add(64));
+    assert_eq!(rt; write_payload(&mut out, &TWENTY), Ok(()));
+    assert!(rt; heap.used() <= read.saturating_add(128));
+    Ok(())
+}

@@ -130,8 +130,14 @@ fn the_greatest_header(rt: HostRuntime) -> Result<(), Fail> {
     let mut bytes = Vec::new(rt.alloc());
     append_greatest(&mut bytes)?;
     assert_eq!(rt; bytes.len(), 261_382);
-    let head = read_header(rt.alloc(), bytes.as_slice())?;
-    assert_eq!(rt; head.params.len(), 510);
+    let part = part_of(rt.alloc(), read_header(rt.alloc(), bytes.as_slice())?);
+    assert_eq!(rt; part.params.len(), 510);
+    assert!(rt; is_writable(&part));
+    if is_writable(&part) {
+        let mut out = Vec::new(rt.alloc());
+        write_header(&mut out, &part)?;
+        assert_eq!(rt; out.as_slice(), bytes.as_slice());
+    }
     bytes.push(0)?;
     assert_eq!(rt;
         header_fault(rt.alloc(), bytes.as_slice()),
@@ -232,6 +238,20 @@ fn stream_parameters(rt: HostRuntime) {
     }
 }
 
+// Stream parameters of 65,536 bytes, where memory is ample.
+#[test]
+fn the_greatest_stream_parameters(rt: HostRuntime) -> Result<(), Fail> {
+    let mut bytes = Vec::new(rt.alloc());
+    for _ in 0..32_767usize {
+        bytes.extend_from_slice(b"a ")?;
+    }
+    bytes.extend_from_slice(b"aa")?;
+    assert_eq!(rt; bytes.len(), 65_536);
+    let params = read_stream_params(rt.alloc(), bytes.as_slice())?;
+    assert_eq!(rt; params.len(), 32_768);
+    Ok(())
+}
+
 #[test]
 fn names_and_values_of_stream_parameters(rt: HostRuntime) -> Result<(), Fail> {
     let params = read_stream_params(rt.alloc(), b"foo=%20a bar a%3Db=c=d%zz%")?;
@@ -324,5 +344,31 @@ fn memory_refused_in_turn(rt: HostRuntime) -> Result<(), Fail> {
     for count in served.iter().chain(refused.iter()) {
         assert!(rt; *count > 0);
     }
+    Ok(())
+}
+
+// Where memory is ample, what is read takes little more than came, whatever its counts announce, and what is written
+// little more than itself. A test takes none.
+#[test]
+fn memory_follows_the_bytes(rt: HostRuntime) -> Result<(), Fail> {
+    let heap = LocalHeap::new(rt.alloc(), 1_048_576)?;
+    let head = read_header(&heap, REPLY)?;
+    let read = heap.used();
+    assert!(rt; read <= 1_024, "{read} bytes");
+    let params = read_stream_params(&heap, b"foo=%20a bar")?;
+    assert_eq!(rt; params.len(), 2);
+    let both = heap.used();
+    assert!(rt; both <= read.saturating_add(512), "{both} bytes");
+    let part = part_of(&heap, head);
+    let writable = is_writable(&part);
+    assert_eq!(rt; heap.used(), both);
+    if writable {
+        let mut out = Vec::new(&heap);
+        write_header(&mut out, &part)?;
+        assert!(rt; heap.used() <= both.saturating_add(128));
+    }
+    let none = LocalHeap::new(rt.alloc(), 0)?;
+    let announced = b"\x01a\0\0\0\0\xff\xff".as_slice();
+    assert_eq!(rt; header_fault(&none, announced), Some(ParamFault::Short));
     Ok(())
 }
