@@ -10,7 +10,7 @@ use Rattle.hg_stream.specs.declared.unbundler.Stage.{Stage}
 use Rattle.hg_stream.specs.declared.unbundler.Stage.TheVariants as stage
 use Rattle.hg_stream.specs.declared.unbundler.Unbundler.{Unbundler}
 use Rattle.hg_stream.specs.Faults.{Stops, Tells}
-use Rattle.hg_stream.specs.Unbundler.{Fields, fields_of, IsAt, IsAtStage, Fails, Halts, Meets, PassesBy, Feeds, Keeps, Holds, ready_of, limits_of, state_at, state_of}
+use Rattle.hg_stream.specs.Unbundler.{Fields, fields_of, HasFinished, IsAt, IsAtStage, Fails, Halts, Meets, PassesBy, Feeds, Keeps, Holds, ready_of, limits_of, state_at, state_of}
 use Rattle.hg_stream.proofs.Telling.{is_no_memory, met, met_stops, holds, reading_of}
 
 -- the same bytes of a front of a piece as of the piece
@@ -34,12 +34,12 @@ going_keeps u given bytes going h = subst (λ s. Keeps s u bytes (given ++ ready
 
 -- a reader that failed
 failed_holds : {A : Type 0} (fault : StreamFault) (v : Unbundler A) (limits : Limits) (given parts : List (Part A)) (bytes : List ℕ) → state_of v ≡ Failed fault → limits_of v ≡ limits
-    → parts ≡ given ++ ready_of v → Stops fault limits bytes parts → Holds v given bytes
-failed_holds fault v limits given parts bytes failed same ready stops =
+    → parts ≡ given ++ ready_of v → HasFinished v parts → Stops fault limits bytes parts → Holds v given bytes
+failed_holds fault v limits given parts bytes failed same ready finished stops =
     let one : Stops fault limits bytes (given ++ ready_of v) = subst (λ p. Stops fault limits bytes p) ready stops in
     let two : Stops fault (limits_of v) bytes (given ++ ready_of v) = subst (λ l. Stops fault l bytes (given ++ ready_of v)) (sym same) one in
     record {
-      keeps = subst (λ s. Keeps s v bytes (given ++ ready_of v)) (sym failed) tt;
+      keeps = subst (λ s. Keeps s v bytes (given ++ ready_of v)) (sym failed) (subst (HasFinished v) ready finished);
       tells = subst (λ s. Tells s (limits_of v) bytes (given ++ ready_of v)) (sym failed) two;
     }
 
@@ -47,8 +47,8 @@ pub halted : {A : Type 0} (fault : StreamFault) (u v : Unbundler A) (taken : Lis
 halted fault u v taken failed same halts within given bytes going h =
     let k = going_keeps u given bytes going h in
     let x = halts bytes (given ++ ready_of u) k.0 in
-    failed_holds fault v (limits_of u) given ((given ++ ready_of u) ++ x.0) (bytes ++ taken) failed same (append_assoc given (ready_of u) x.0 ∙ ap (λ r. given ++ r) (sym x.1))
-    (met_stops fault (limits_of u) (bytes ++ taken) ((given ++ ready_of u) ++ x.0) (met fault (limits_of u) (bytes ++ taken) ((given ++ ready_of u) ++ x.0) (omega (arith, length-append bytes taken, k.1, within)) (λ refused. omega (arith, length-append bytes taken, k.1, within)) x.2))
+    failed_holds fault v (limits_of u) given ((given ++ ready_of u) ++ x.0) (bytes ++ taken) failed same (append_assoc given (ready_of u) x.0 ∙ ap (λ r. given ++ r) (sym x.1)) x.2
+    (met_stops fault (limits_of u) (bytes ++ taken) ((given ++ ready_of u) ++ x.0) (met fault (limits_of u) (bytes ++ taken) ((given ++ ready_of u) ++ x.0) (omega (arith, length-append bytes taken, k.1, within)) (λ refused. omega (arith, length-append bytes taken, k.1, within)) x.3))
 
 -- The byte past the limit on the stream decides a fault; and where memory is refused there, that byte is not taken.
 pub refused_or_met : {A : Type 0} (fault : StreamFault) (u : Unbundler A) (place byte : ℕ) → place ≤ 1 → Fails fault u (take place (byte ∷ []))
@@ -108,7 +108,7 @@ passed fault u w v taken past reads not_ended full same same_past failed passes 
     let on : state_of w ≡ Reading = going_at w.stage (fields_of w) (bytes ++ taken) ((given ++ ready_of u) ++ x.0) x.1.at.place not_ended in
     let p = passes (bytes ++ taken) ((given ++ ready_of u) ++ x.0) x.1.at on (omega (arith, length-append bytes taken, k.1, full, stream)) in
     subst (λ b. Holds v given b) (append_assoc bytes taken past)
-    (failed_holds fault v (limits_of w) given ((given ++ ready_of u) ++ x.0) ((bytes ++ taken) ++ past) failed same_past (parts_are u w given x.0 x.1.ready ∙ ap (λ r. given ++ r) (sym p.0)) (met_stops fault (limits_of w) ((bytes ++ taken) ++ past) ((given ++ ready_of u) ++ x.0) p.1))
+    (failed_holds fault v (limits_of w) given ((given ++ ready_of u) ++ x.0) ((bytes ++ taken) ++ past) failed same_past (parts_are u w given x.0 x.1.ready ∙ ap (λ r. given ++ r) (sym p.0)) p.1 (met_stops fault (limits_of w) ((bytes ++ taken) ++ past) ((given ++ ready_of u) ++ x.0) p.2))
 
 -- ---- by cases of the answer
 

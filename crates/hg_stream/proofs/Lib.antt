@@ -22,3 +22,4 @@ mod FirstFaults
 mod EveryStep
 mod EveryStream
 mod EveryVerdict
+mod Few

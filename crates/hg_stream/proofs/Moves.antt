@@ -1,11 +1,11 @@
 -- Steps of a reader of bundles, one after another.
-use Rattle.std.proofs.Common.{◌≡◌, ℕ, ◌+◌, ◌-◌, ◌≤◌, List, [], ◌++◌, length, take, drop, refl, sym, ap, ◌∙◌, append_assoc, arith, subst}
+use Rattle.std.proofs.Common.{◌≡◌, ℕ, ◌+◌, ◌-◌, ◌≤◌, ◌<◌, Ok, Err, List, [], ◌++◌, length, take, drop, refl, sym, ap, ◌∙◌, append_assoc, arith, subst}
 use Rattle.std.proofs.Math.Seq.{take-add}
 use Rattle.std.proofs.lemmas.List.{append-nil, take_all, length-drop}
 use Rattle.hg_types.specs.declared.part.Part.{Part}
 use Rattle.hg_stream.specs.declared.fault.StreamFault.{StreamFault}
 use Rattle.hg_stream.specs.declared.unbundler.Unbundler.{Unbundler}
-use Rattle.hg_stream.specs.Unbundler.{IsAt, Moves, Breaks, Fails, Halts, limits_of, ready_of}
+use Rattle.hg_stream.specs.Unbundler.{IsAt, KeepsParts, Moves, Breaks, Fails, Halts, Steps, limits_of, ready_of}
 use Rattle.hg_stream.proofs.Steps.{finishes_none}
 
 pub moves_none : {A : Type 0} (u : Unbundler A) → Moves u u []
@@ -23,11 +23,16 @@ moves_then u v w a b first second bytes parts at =
       },
     )
 
-pub halts_then : {A : Type 0} (fault : StreamFault) (u v w : Unbundler A) (a b : List ℕ) → limits_of v ≡ limits_of u → ready_of w ≡ ready_of v → Moves u v a → Fails fault v b → Halts fault u w (a ++ b)
-halts_then fault u v w a b limits ready first fails bytes parts at =
+pub halts_then : {A : Type 0} (fault : StreamFault) (u v w : Unbundler A) (a b : List ℕ) → limits_of v ≡ limits_of u → limits_of w ≡ limits_of v → KeepsParts v w → Moves u v a → Fails fault v b
+    → Halts fault u w (a ++ b)
+halts_then fault u v w a b limits same kept first fails bytes parts at =
     let x = first bytes parts at in
-    let wrong : Breaks fault (limits_of u) ((bytes ++ a) ++ b) (parts ++ x.0) = subst (λ l. Breaks fault l ((bytes ++ a) ++ b) (parts ++ x.0)) limits (fails (bytes ++ a) (parts ++ x.0) x.1.at) in
-    (x.0, ready ∙ x.1.ready, subst (λ t. Breaks fault (limits_of u) t (parts ++ x.0)) (append_assoc bytes a b) wrong)
+    let wrong : Breaks fault (limits_of u) ((bytes ++ a) ++ b) (parts ++ x.0) = subst (λ l. Breaks fault l ((bytes ++ a) ++ b) (parts ++ x.0)) limits (fails (bytes ++ a) (parts ++ x.0) x.1.at) in (
+      x.0,
+      kept.0 ∙ x.1.ready,
+      ap (λ n. n + length (parts ++ x.0)) kept.1 ∙ x.1.at.left ∙ ap (λ l. l.parts) (sym same),
+      subst (λ t. Breaks fault (limits_of u) t (parts ++ x.0)) (append_assoc bytes a b) wrong,
+    )
 
 -- what is left of a piece from a place on
 pub tail_is : (piece : List ℕ) (i : ℕ) → take (length piece - i) (drop i piece) ≡ drop i piece
@@ -39,3 +44,11 @@ piece_then piece i n = ap (λ (t : List ℕ). take i piece ++ take n t) (tail_is
 
 pub within_piece : (piece : List ℕ) (i n : ℕ) → i ≤ length piece → n ≤ length (take (length piece - i) (drop i piece)) → i + n ≤ length piece
 within_piece piece i n within more = let is = ap length (tail_is piece i) in omega (arith, is, length-drop i piece, within, more)
+
+-- a step that took some bytes, and one that met a fault
+pub took : {A : Type 0} (u v : Unbundler A) (piece : List ℕ) (n : ℕ) → n ≤ length piece → 0 < n → limits_of v ≡ limits_of u → v.stream_left ≡ u.stream_left → Moves u v (take n piece) → Steps u v piece (Ok n)
+took u v piece n within some limits left moves = record { count = within; some = some; ok = moves; err = tt; kept = tt; limits = limits; stream_left = left }
+
+pub stumbled : {A : Type 0} (u v : Unbundler A) (piece : List ℕ) (fault : StreamFault) → KeepsParts u v → limits_of v ≡ limits_of u → v.stream_left ≡ u.stream_left
+    → (place : ℕ) × (place ≤ length piece) × Fails fault u (take place piece) → Steps u v piece (Err fault)
+stumbled u v piece fault kept limits left fails = record { count = tt; some = tt; ok = tt; err = fails; kept = kept; limits = limits; stream_left = left }

@@ -122,8 +122,8 @@ keeps_at stage.Header u bytes parts at counted = (at, counted)
 keeps_at stage.Payload u bytes parts at counted = (at, counted)
 keeps_at stage.InnerHeader u bytes parts at counted = (at, counted)
 keeps_at stage.Inner u bytes parts at counted = (at, counted)
-keeps_at stage.Ended u bytes parts at counted = tt
-keeps_at (stage.Failed fault) u bytes parts at counted = tt
+keeps_at stage.Ended u bytes parts at counted = at.left
+keeps_at (stage.Failed fault) u bytes parts at counted = at.left
 
 -- a reader that knows where it is, and how many bytes may still come
 pub holds : {A : Type 0} (u : Unbundler A) (given : List (Part A)) (bytes : List ℕ) → IsAt u bytes (given ++ ready_of u) → u.stream_left + length bytes ≡ u.limits.stream → Holds u given bytes
@@ -133,9 +133,9 @@ holds u given bytes at counted = record {
 }
 
 -- a reader whose finished parts alone are others
-pub keeps_same : {A : Type 0} (s : Stage) (u v : Unbundler A) (bytes : List ℕ) (parts parts' : List (Part A)) → parts ≡ parts' → (IsAt u bytes parts → IsAt v bytes parts) → v.stream_left ≡ u.stream_left → v.limits ≡ u.limits
+pub keeps_same : {A : Type 0} (s : Stage) (u v : Unbundler A) (bytes : List ℕ) (parts parts' : List (Part A)) → parts ≡ parts' → (IsAt u bytes parts → IsAt v bytes parts) → v.stream_left ≡ u.stream_left → v.parts_left ≡ u.parts_left → v.limits ≡ u.limits
     → Keeps (state_at s) u bytes parts → Keeps (state_at s) v bytes parts'
-keeps_same s u v bytes parts parts' same at left limits keeps = subst (λ p. Keeps (state_at s) v bytes p) same (kept s keeps)
+keeps_same s u v bytes parts parts' same at left parts_left limits keeps = subst (λ p. Keeps (state_at s) v bytes p) same (kept s keeps)
   where
     kept : (s : Stage) → Keeps (state_at s) u bytes parts → Keeps (state_at s) v bytes parts
     kept stage.Magic k = (at k.0, ap (λ n. n + length bytes) left ∙ k.1 ∙ ap (λ l. l.stream) (sym limits))
@@ -144,8 +144,8 @@ keeps_same s u v bytes parts parts' same at left limits keeps = subst (λ p. Kee
     kept stage.Payload k = (at k.0, ap (λ n. n + length bytes) left ∙ k.1 ∙ ap (λ l. l.stream) (sym limits))
     kept stage.InnerHeader k = (at k.0, ap (λ n. n + length bytes) left ∙ k.1 ∙ ap (λ l. l.stream) (sym limits))
     kept stage.Inner k = (at k.0, ap (λ n. n + length bytes) left ∙ k.1 ∙ ap (λ l. l.stream) (sym limits))
-    kept stage.Ended k = tt
-    kept (stage.Failed fault) k = tt
+    kept stage.Ended k = ap (λ n. n + length parts) parts_left ∙ k ∙ ap (λ l. l.parts) (sym limits)
+    kept (stage.Failed fault) k = ap (λ n. n + length parts) parts_left ∙ k ∙ ap (λ l. l.parts) (sym limits)
 
 -- ---- stages and states
 

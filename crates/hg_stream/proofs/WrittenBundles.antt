@@ -1,17 +1,17 @@
 -- What is written of parts is a bundle with these parts.
 use Rattle.std.proofs.Common.{◌≡◌, ℕ, suc, ◌+◌, ◌<◌, ◌≤◌, ◌^◌, List, [], ◌∷◌, ◌++◌, length, refl, sym, ap, ◌∙◌, append_assoc, arith}
-use Rattle.std.specs.List.{flat_map, AllByRecursion}
+use Rattle.std.specs.List.{All, flat_map, AllByRecursion}
 use Rattle.std.proofs.lemmas.List.{append-nil}
-use Rattle.std.proofs.lemmas.List.Elements.{recursion_from_All}
+use Rattle.std.proofs.lemmas.List.Elements.{All-from_recursion, recursion_from_All}
 use Rattle.hg_types.specs.declared.limits.Limits.{Limits}
 use Rattle.hg_types.specs.declared.part.Part.{Part}
 use Rattle.hg_chunks.specs.Payload.{chunk_bytes, closing, payload_bytes}
 use Rattle.hg_params.specs.Writing.{cased, header_bytes, written_head}
 use Rattle.hg_params.proofs.CallerLemmas.{read_back, header_small}
 use Rattle.hg_stream.specs.Block.{sized}
-use Rattle.hg_stream.specs.Frames.{magic, Piece, Chunk, piece_bytes, piece_data, IsPiece, Frame, frame_bytes, part_of, IsFrame, AreFrames}
-use Rattle.hg_stream.specs.Written.{parts_bytes, CanBeWritten}
-use Rattle.hg_stream.specs.Laws.{read_part, read_parts, IsReadBack}
+use Rattle.hg_stream.specs.Frames.{magic, Piece, Chunk, piece_bytes, piece_data, IsPiece, Frame, frame_bytes, part_of, IsFrame, AreFrames, IsBundle}
+use Rattle.hg_stream.specs.Written.{bundle_bytes, parts_bytes, CanBeWritten}
+use Rattle.hg_stream.specs.Laws.{read_part, read_parts, AreWithin, IsReadBack, IsWithinAsPartsAre}
 use Rattle.hg_stream.proofs.Steps.{no_params}
 
 -- ---- payloads
@@ -94,3 +94,28 @@ written_is_bundle limits parts within =
       },
       within.stream,
     )
+
+-- ---- within the limits
+
+payload_fits : {A : Type 0} (limits : Limits) (frame : Frame) (part : Part A) → IsFrame limits frame part → length part.payload ≤ limits.payload
+payload_fits limits frame part is = is.fits
+
+-- the payloads of parts that frames carry are within their limit
+payloads_fit : {A : Type 0} (limits : Limits) (place : ℕ) (frames : List Frame) (parts : List (Part A)) → AreFrames limits frames (read_parts place parts)
+    → AllByRecursion (λ part. length part.payload ≤ limits.payload) parts
+payloads_fit limits place [] [] are = tt
+payloads_fit limits place (frame ∷ frames) [] are = tt
+payloads_fit limits place [] (part ∷ parts) are = absurd are
+payloads_fit limits place (frame ∷ frames) (part ∷ parts) are = (payload_fits limits frame (read_part place part) are.0, payloads_fit limits (place + 1) frames parts are.1)
+
+bundle_within : {A : Type 0} (limits : Limits) (parts : List (Part A)) → All CanBeWritten parts → length parts < 2 ^ 32 → IsBundle limits (bundle_bytes parts) (read_parts 0 parts) → AreWithin limits parts
+bundle_within limits parts can numbered is = record {
+  writable = can;
+  numbered = numbered;
+  few = omega (arith, as_many 0 parts, is.0.has.few);
+  payloads = All-from_recursion (λ part. length part.payload ≤ limits.payload) parts (payloads_fit limits 0 is.0.has.frames parts is.0.has.are);
+  stream = is.1;
+}
+
+pub within_as_parts_are : {A : Type 0} (limits : Limits) (parts : List (Part A)) → IsWithinAsPartsAre limits parts
+within_as_parts_are limits parts can numbered = (written_is_bundle limits parts, bundle_within limits parts can numbered)

@@ -1,5 +1,5 @@
 -- What holds of all bundles.
-use Rattle.std.specs.Prelude.{◌≡◌, ◌⊎◌, ℕ, ◌+◌, ◌<◌, ◌≤◌, ◌^◌, List, [], ◌∷◌, ◌++◌, length, Option, Some, None}
+use Rattle.std.specs.Prelude.{◌≡◌, ◌↔◌, ◌⊎◌, ℕ, ◌+◌, ◌<◌, ◌≤◌, ◌^◌, List, [], ◌∷◌, ◌++◌, length, Option, Some, None}
 use Rattle.std.specs.List.{All}
 use Rattle.hg_types.specs.declared.limits.Limits.{Limits}
 use Rattle.hg_types.specs.declared.part.Part.{Part}
@@ -30,6 +30,10 @@ pub record AreWithin {A : Type 0} (limits : Limits) (parts : List (Part A)) : Ty
 -- what is written of such parts is a bundle with these parts, as they are read
 abbrev pub IsReadBack : {A : Type 0} → Limits → List (Part A) → Type 0
 IsReadBack limits parts = AreWithin limits parts → IsBundle limits (bundle_bytes parts) (read_parts 0 parts)
+
+-- of parts that can be written, the bundle is one with these parts exactly where they are within the limits
+abbrev pub IsWithinAsPartsAre : {A : Type 0} → Limits → List (Part A) → Type 0
+IsWithinAsPartsAre limits parts = All CanBeWritten parts → length parts < 2 ^ 32 → (AreWithin limits parts ↔ IsBundle limits (bundle_bytes parts) (read_parts 0 parts))
 
 -- Bytes that begin with two whole bundles begin with one, and it has one list of parts. No bundle is the front of another.
 abbrev pub AreReadInOneWay : (A : Type 0) → Limits → Type 0

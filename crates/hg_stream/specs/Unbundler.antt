@@ -1,5 +1,5 @@
 -- What a reader of bundles has taken.
-use Rattle.std.specs.Prelude.{◌≡◌, ℕ, ◌+◌, ◌≤◌, List, [], ◌∷◌, ◌++◌, length}
+use Rattle.std.specs.Prelude.{◌≡◌, ℕ, ◌+◌, ◌≤◌, ◌<◌, List, [], ◌∷◌, ◌++◌, length, take, Result, IfOk, IfErr, OnErr}
 use Rattle.hg_types.specs.declared.limits.Limits.{Limits}
 use Rattle.hg_types.specs.declared.part.Part.{Part}
 use Rattle.hg_chunks.specs.declared.payload.PayloadIn.{PayloadIn}
@@ -125,9 +125,13 @@ IsAtStage stage.Inner u bytes parts = AtInner u bytes parts
 IsAtStage stage.Ended u bytes parts = IsWhole u.limits bytes parts
 IsAtStage (stage.Failed fault) u bytes parts = ⊥
 
+-- These are all parts that the reader has finished, by its own count of those that may still come.
+abbrev pub HasFinished : {A : Type 0} → Unbundler A → List (Part A) → Type 0
+HasFinished u parts = u.parts_left + length parts ≡ u.limits.parts
+
 -- The reader, which has not failed, took these bytes, whose whole frames have these parts.
 pub record IsAt {A : Type 0} (u : Unbundler A) (bytes : List ℕ) (parts : List (Part A)) : Type 0 where
-  pub left : u.parts_left + length parts ≡ u.limits.parts
+  pub left : HasFinished u parts
   pub place : IsAtStage u.stage (fields_of u) bytes parts
 
 -- ---- steps
@@ -141,6 +145,10 @@ pub record Finishes {A : Type 0} (u v : Unbundler A) (bytes : List ℕ) (parts a
 abbrev pub Moves : {A : Type 0} → Unbundler A → Unbundler A → List ℕ → Type 0
 Moves {A} u v taken = (bytes : List ℕ) (parts : List (Part A)) → IsAt u bytes parts → (added : List (Part A)) × Finishes u v (bytes ++ taken) parts added
 
+-- it finished no part, and lost none
+abbrev pub KeepsParts : {A : Type 0} → Unbundler A → Unbundler A → Type 0
+KeepsParts u v = (ready_of v ≡ ready_of u) × (v.parts_left ≡ u.parts_left)
+
 -- the last byte decides the fault by the grammar, or memory was refused
 abbrev pub Breaks : {A : Type 0} → StreamFault → Limits → List ℕ → List (Part A) → Type 0
 Breaks NoMemory limits bytes parts = IsReading limits bytes parts
@@ -150,10 +158,21 @@ Breaks fault limits bytes parts = Decides fault limits bytes parts
 abbrev pub Fails : {A : Type 0} → StreamFault → Unbundler A → List ℕ → Type 0
 Fails {A} fault u taken = (bytes : List ℕ) (parts : List (Part A)) → IsAt u bytes parts → Breaks fault u.limits (bytes ++ taken) parts
 
--- the same, and it may have finished some parts before
+-- One step, by its answer: how many bytes of a piece it took, some at least, and what it came to by them; or the fault that it met in
+-- the piece, with no part finished or lost.
+pub record Steps {A : Type 0} (u v : Unbundler A) (piece : List ℕ) (answer : Result ℕ StreamFault) : Type 0 where
+  pub count : IfOk answer (λ n. n ≤ length piece)
+  pub some : IfOk answer (λ n. 0 < n)
+  pub ok : IfOk answer (λ n. Moves u v (take n piece))
+  pub err : IfErr answer (λ fault. (place : ℕ) × (place ≤ length piece) × Fails fault u (take place piece))
+  pub kept : OnErr answer (KeepsParts u v)
+  pub limits : limits_of v ≡ limits_of u
+  pub stream_left : v.stream_left ≡ u.stream_left
+
+-- the same, and it may have finished some parts before, which it keeps
 abbrev pub Halts : {A : Type 0} → StreamFault → Unbundler A → Unbundler A → List ℕ → Type 0
 Halts {A} fault u v taken = (bytes : List ℕ) (parts : List (Part A)) → IsAt u bytes parts
-    → (added : List (Part A)) × (ready_of v ≡ ready_of u ++ added) × Breaks fault u.limits (bytes ++ taken) (parts ++ added)
+    → (added : List (Part A)) × (ready_of v ≡ ready_of u ++ added) × HasFinished v (parts ++ added) × Breaks fault u.limits (bytes ++ taken) (parts ++ added)
 
 -- what a reader that is fed can meet: the fault that the last byte decides, or want of memory within the limit on the stream
 abbrev pub Meets : {A : Type 0} → StreamFault → Limits → List ℕ → List (Part A) → Type 0
@@ -163,15 +182,15 @@ Meets fault limits bytes parts = IsFault limits bytes parts fault
 -- from u, which took as many bytes as the stream may have, it met that fault by these bytes, and finished nothing
 abbrev pub PassesBy : {A : Type 0} → StreamFault → Unbundler A → Unbundler A → List ℕ → Type 0
 PassesBy {A} fault u v taken = (bytes : List ℕ) (parts : List (Part A)) → IsAt u bytes parts → state_of u ≡ Reading → length bytes ≡ u.limits.stream
-    → (ready_of v ≡ ready_of u) × Meets fault u.limits (bytes ++ taken) parts
+    → (ready_of v ≡ ready_of u) × HasFinished v parts × Meets fault u.limits (bytes ++ taken) parts
 
 -- ---- the whole
 
--- a reader that goes on knows where it is, and how many bytes may still come
+-- a reader that goes on knows where it is, and how many bytes may still come; one that has ended or failed has lost no part that it finished
 abbrev pub Keeps : {A : Type 0} → State → Unbundler A → List ℕ → List (Part A) → Type 0
 Keeps Reading u bytes parts = IsAt u bytes parts × (u.stream_left + length bytes ≡ u.limits.stream)
-Keeps Ended u bytes parts = Unit {0}
-Keeps (Failed fault) u bytes parts = Unit {0}
+Keeps Ended u bytes parts = HasFinished u parts
+Keeps (Failed fault) u bytes parts = HasFinished u parts
 
 -- The reader took these bytes and gave these parts.
 pub record Holds {A : Type 0} (u : Unbundler A) (given : List (Part A)) (bytes : List ℕ) : Type 0 where

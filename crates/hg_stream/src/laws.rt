@@ -1,15 +1,22 @@
 //! What holds of all bundles. The functions do nothing: what they ensure is a theorem.
 
-ghost use Rattle.std.specs.Prelude.{ℕ, ◌<◌, List, All};
+ghost use Rattle.std.specs.Prelude.{ℕ, ◌<◌, ◌≤◌, List, All, length};
 ghost use Rattle.hg_types.specs.declared.limits.Limits.{Limits as AnyLimits};
 ghost use Rattle.hg_types.specs.declared.part.Part.{Part as AnyPart};
-ghost use Rattle.hg_stream.specs.Laws.{IsReadBack, AreReadInOneWay, AreSettledOnce, IsReadOrSettled, HasOneVerdict, IsReadOrJudged};
+ghost use Rattle.hg_stream.specs.declared.state.State.{State};
+ghost use Rattle.hg_stream.specs.Faults.{Tells};
+ghost use Rattle.hg_stream.specs.Laws.{IsReadBack, IsWithinAsPartsAre, AreReadInOneWay, AreSettledOnce, IsReadOrSettled, HasOneVerdict, IsReadOrJudged};
 
 use std::alloc::Allocator;
 
 /// What is written of parts is a bundle, and its parts are these, with their types cased and their places as their ids.
 pub fn what_is_written_is_a_bundle<A: Allocator>()
     ensures { (limits : AnyLimits) (parts : List (AnyPart A)) → IsReadBack limits parts }
+{}
+
+/// Of parts that can be written, what is written is within the limits exactly where the parts are.
+pub fn what_is_written_is_within_as_its_parts_are<A: Allocator>()
+    ensures { (limits : AnyLimits) (parts : List (AnyPart A)) → IsWithinAsPartsAre limits parts }
 {}
 
 /// Bytes begin with one whole bundle at most, and it has one list of parts.
@@ -39,4 +46,9 @@ pub fn streams_have_one_verdict<A: Allocator>()
 /// they are one of the two, and there is one such front.
 pub fn every_stream_is_read_or_judged<A: Allocator>()
     ensures { (limits : AnyLimits) (bytes : List ℕ) → All (λ byte. byte < 256) bytes → IsReadOrJudged A limits bytes }
+{}
+
+/// A stream has no more parts than the limit on parts, wherever it stands and whatever became of it.
+pub fn parts_are_few<A: Allocator>()
+    ensures { (limits : AnyLimits) (state : State) (bytes : List ℕ) (parts : List (AnyPart A)) → Tells state limits bytes parts → length parts ≤ limits.parts }
 {}

@@ -3,6 +3,7 @@
 ghost use Rattle.std.specs.Prelude.{◌≡◌};
 ghost use Rattle.hg_types.specs.Limits.{IsAllowed};
 
+mod ample;
 mod faults;
 mod limits;
 mod memory;

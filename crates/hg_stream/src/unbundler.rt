@@ -64,12 +64,13 @@ pub struct Unbundler<A: Allocator = Global> {
     inner: PayloadIn<A>,
     /// The parts that were finished and not yet given.
     ready: VecDeque<Part<A>, A>,
+    ghost allowed: { IsAllowed limits },
     ghost payload_goes_on: { GoesOn (phase_of payload) },
     ghost inner_goes_on: { GoesOn (phase_of inner) },
 }
 
 impl<A: Allocator + Copy> Unbundler<A> {
-    ghost use Rattle.hg_stream.specs.Unbundler.{Holds, IsStillReading, Feeds, Moves, Fails, Halts, PassesBy, Finished, state_of, limits_of, ready_of};
+    ghost use Rattle.hg_stream.specs.Unbundler.{Holds, IsStillReading, Feeds, KeepsParts, Steps, Moves, Fails, Halts, PassesBy, Finished, state_of, limits_of, ready_of};
 
     /// A reader that was fed nothing.
     pub fn new(alloc: A, limits: Limits) -> Self
@@ -94,7 +95,7 @@ impl<A: Allocator + Copy> Unbundler<A> {
     }
 
     /// Takes the whole piece, or the bytes of it up to the end mark, and answers how many. Once ended it takes nothing.
-    /// A fault is answered for good.
+    /// A fault is answered for good, want of memory too; the parts finished before it can still be taken.
     pub fn feed(&mut self, piece: &[u8]) -> Result<usize, StreamFault>
         ensures count { IfOk result (λ n. n ≤ length piece.now) }
         ensures all { IfOk result (λ n. state_of self.new ≡ Reading → n ≡ length piece.now) }
@@ -145,6 +146,19 @@ impl<A: Allocator + Copy> Unbundler<A> {
         }
     }
 
+    /// Begins the next bundle, as a new reader with the same limits. It takes no memory, and gives back what
+    /// the last bundle took.
+    pub fn restart(&mut self)
+        requires ended { state_of self.old ≡ Ended }
+        requires given { ready_of self.old ≡ [] }
+        ensures empty { Holds self.new [] [] }
+        ensures limits { limits_of self.new ≡ limits_of self.old }
+        ensures state { state_of self.new ≡ Reading }
+        ensures ready { ready_of self.new ≡ [] }
+    {
+        *self = Unbundler::new(self.alloc, self.limits);
+    }
+
     /// How far the reader is.
     pub fn state(&self) -> State
         ensures { result ≡ state_of self.now }
@@ -186,11 +200,13 @@ impl<A: Allocator + Copy> Unbundler<A> {
         ensures past { (place : ℕ) × (place ≤ 1) × PassesBy result self.old self.new (take place (byte ∷ [])) }
     {
         let finished = self.ready.len();
+        let parts_left = self.parts_left;
         if let Err(fault) = self.advance(&[byte]) {
             self.stage = Stage::Failed(fault);
             return fault;
         }
         self.ready.truncate(finished);
+        self.parts_left = parts_left;
         self.stage = Stage::Failed(StreamFault::TooLarge);
         StreamFault::TooLarge
     }
@@ -234,7 +250,7 @@ impl<A: Allocator + Copy> Unbundler<A> {
         ensures some { IfOk result (λ n. (state_of self.old ≡ Ended → ⊥) → 0 < n) }
         ensures ok { IfOk result (λ n. Moves self.old self.new (take n piece.now)) }
         ensures err { IfErr result (λ fault. (place : ℕ) × (place ≤ length piece.now) × Fails fault self.old (take place piece.now)) }
-        ensures ready { OnErr result (ready_of self.new ≡ ready_of self.old) }
+        ensures kept { OnErr result (KeepsParts self.old self.new) }
         ensures limits { limits_of self.new ≡ limits_of self.old }
         ensures stream_left { self.new.stream_left ≡ self.old.stream_left }
     {
@@ -253,13 +269,7 @@ impl<A: Allocator + Copy> Unbundler<A> {
     fn take_magic(&mut self, piece: &[u8]) -> Result<usize, StreamFault>
         requires stage { self.old.stage ≡ Stage.Magic }
         requires piece { 0 < length piece.now }
-        ensures count { IfOk result (λ n. n ≤ length piece.now) }
-        ensures some { IfOk result (λ n. 0 < n) }
-        ensures ok { IfOk result (λ n. Moves self.old self.new (take n piece.now)) }
-        ensures err { IfErr result (λ fault. (place : ℕ) × (place ≤ length piece.now) × Fails fault self.old (take place piece.now)) }
-        ensures ready { OnErr result (ready_of self.new ≡ ready_of self.old) }
-        ensures limits { limits_of self.new ≡ limits_of self.old }
-        ensures stream_left { self.new.stream_left ≡ self.old.stream_left }
+        ensures { Steps self.old self.new piece.now result }
     {
         let Some(magic) = self.magic.push(piece[0]) else {
             return Ok(1);
@@ -274,13 +284,7 @@ impl<A: Allocator + Copy> Unbundler<A> {
     fn take_params(&mut self, piece: &[u8]) -> Result<usize, StreamFault>
         requires stage { self.old.stage ≡ Stage.Params }
         requires piece { 0 < length piece.now }
-        ensures count { IfOk result (λ n. n ≤ length piece.now) }
-        ensures some { IfOk result (λ n. 0 < n) }
-        ensures ok { IfOk result (λ n. Moves self.old self.new (take n piece.now)) }
-        ensures err { IfErr result (λ fault. (place : ℕ) × (place ≤ length piece.now) × Fails fault self.old (take place piece.now)) }
-        ensures ready { OnErr result (ready_of self.new ≡ ready_of self.old) }
-        ensures limits { limits_of self.new ≡ limits_of self.old }
-        ensures stream_left { self.new.stream_left ≡ self.old.stream_left }
+        ensures { Steps self.old self.new piece.now result }
     {
         let (count, step) = match self.block.feed(piece) {
             Ok(taken) => taken,
@@ -301,13 +305,7 @@ impl<A: Allocator + Copy> Unbundler<A> {
     fn take_header(&mut self, piece: &[u8]) -> Result<usize, StreamFault>
         requires stage { self.old.stage ≡ Stage.Header }
         requires piece { 0 < length piece.now }
-        ensures count { IfOk result (λ n. n ≤ length piece.now) }
-        ensures some { IfOk result (λ n. 0 < n) }
-        ensures ok { IfOk result (λ n. Moves self.old self.new (take n piece.now)) }
-        ensures err { IfErr result (λ fault. (place : ℕ) × (place ≤ length piece.now) × Fails fault self.old (take place piece.now)) }
-        ensures ready { OnErr result (ready_of self.new ≡ ready_of self.old) }
-        ensures limits { limits_of self.new ≡ limits_of self.old }
-        ensures stream_left { self.new.stream_left ≡ self.old.stream_left }
+        ensures { Steps self.old self.new piece.now result }
     {
         let (count, step) = match self.block.feed(piece) {
             Ok(taken) => taken,
@@ -331,13 +329,7 @@ impl<A: Allocator + Copy> Unbundler<A> {
     fn take_payload(&mut self, piece: &[u8]) -> Result<usize, StreamFault>
         requires stage { self.old.stage ≡ Stage.Payload }
         requires piece { 0 < length piece.now }
-        ensures count { IfOk result (λ n. n ≤ length piece.now) }
-        ensures some { IfOk result (λ n. 0 < n) }
-        ensures ok { IfOk result (λ n. Moves self.old self.new (take n piece.now)) }
-        ensures err { IfErr result (λ fault. (place : ℕ) × (place ≤ length piece.now) × Fails fault self.old (take place piece.now)) }
-        ensures ready { OnErr result (ready_of self.new ≡ ready_of self.old) }
-        ensures limits { limits_of self.new ≡ limits_of self.old }
-        ensures stream_left { self.new.stream_left ≡ self.old.stream_left }
+        ensures { Steps self.old self.new piece.now result }
     {
         let (count, step) = match self.payload.feed(piece) {
             Ok(taken) => taken,
@@ -364,13 +356,7 @@ impl<A: Allocator + Copy> Unbundler<A> {
     fn take_inner_header(&mut self, piece: &[u8]) -> Result<usize, StreamFault>
         requires stage { self.old.stage ≡ Stage.InnerHeader }
         requires piece { 0 < length piece.now }
-        ensures count { IfOk result (λ n. n ≤ length piece.now) }
-        ensures some { IfOk result (λ n. 0 < n) }
-        ensures ok { IfOk result (λ n. Moves self.old self.new (take n piece.now)) }
-        ensures err { IfErr result (λ fault. (place : ℕ) × (place ≤ length piece.now) × Fails fault self.old (take place piece.now)) }
-        ensures ready { OnErr result (ready_of self.new ≡ ready_of self.old) }
-        ensures limits { limits_of self.new ≡ limits_of self.old }
-        ensures stream_left { self.new.stream_left ≡ self.old.stream_left }
+        ensures { Steps self.old self.new piece.now result }
     {
         let (count, step) = match self.block.feed(piece) {
             Ok(taken) => taken,
@@ -394,13 +380,7 @@ impl<A: Allocator + Copy> Unbundler<A> {
     fn take_inner(&mut self, piece: &[u8]) -> Result<usize, StreamFault>
         requires stage { self.old.stage ≡ Stage.Inner }
         requires piece { 0 < length piece.now }
-        ensures count { IfOk result (λ n. n ≤ length piece.now) }
-        ensures some { IfOk result (λ n. 0 < n) }
-        ensures ok { IfOk result (λ n. Moves self.old self.new (take n piece.now)) }
-        ensures err { IfErr result (λ fault. (place : ℕ) × (place ≤ length piece.now) × Fails fault self.old (take place piece.now)) }
-        ensures ready { OnErr result (ready_of self.new ≡ ready_of self.old) }
-        ensures limits { limits_of self.new ≡ limits_of self.old }
-        ensures stream_left { self.new.stream_left ≡ self.old.stream_left }
+        ensures { Steps self.old self.new piece.now result }
     {
         let (count, step) = match self.inner.feed(piece) {
             Ok(taken) => taken,
@@ -422,7 +402,7 @@ impl<A: Allocator + Copy> Unbundler<A> {
         requires { self.old.stage ≡ Stage.Payload }
         ensures ok { OnOk result (Finished self.old self.new payload) }
         ensures err { IfErr result (λ fault. fault ≡ StreamFault.NoMemory) }
-        ensures ready { OnErr result (ready_of self.new ≡ ready_of self.old) }
+        ensures kept { OnErr result (KeepsParts self.old self.new) }
         ensures limits { limits_of self.new ≡ limits_of self.old }
         ensures stream_left { self.new.stream_left ≡ self.old.stream_left }
     {

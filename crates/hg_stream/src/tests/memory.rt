@@ -4,10 +4,11 @@ use super::writing::{RACED, changegroup_part, raced_part, written};
 use super::*;
 use linked_list_allocator::LocalHeap;
 
-/// How often memory was refused, and how often not.
+/// How often memory was refused, how often behind a finished part, and how often not.
 #[derive(Clone, Copy)]
 struct Tally {
     refused: u32,
+    kept: u32,
     ample: u32,
 }
 
@@ -23,8 +24,10 @@ const PUSH: Fields<'static> = Fields {
 enum Came {
     /// The parts were given.
     Given,
-    /// Memory was refused, for good.
+    /// Memory was refused, for good, before a part was finished.
     Refused,
+    /// The same behind a finished part, which was given.
+    Kept,
     /// Anything else.
     Astray,
 }
@@ -54,10 +57,12 @@ fn feed_bundle<A: Allocator + Copy>(alloc: A, bytes: &[u8], width: usize) -> Cam
     for _ in 0..bytes.len() {
         let (piece, _) = rest.split_at(width.min(rest.len()));
         let Ok(count) = reader.feed(piece) else {
-            return if is_out_of_memory(&mut reader) {
-                Came::Refused
-            } else {
+            return if !is_out_of_memory(&mut reader) {
                 Came::Astray
+            } else if reader.next_part().is_some() {
+                Came::Kept
+            } else {
+                Came::Refused
             };
         };
         rest = &rest[count.min(rest.len())..];
@@ -70,12 +75,13 @@ fn feed_bundle<A: Allocator + Copy>(alloc: A, bytes: &[u8], width: usize) -> Cam
 }
 
 // Two parts, one with an interruption, over heaps of every size, at once and byte by byte: they are given, or memory is
-// refused for good.
+// refused for good. Where it is refused behind the first part, that part stays.
 #[test]
 fn memory_refused_to_the_reader(rt: HostRuntime) -> Result<(), Fail> {
     for width in [115usize, 1] {
         let mut tally = Tally {
             refused: 0,
+            kept: 0,
             ample: 0,
         };
         for eights in 0..320usize {
@@ -83,10 +89,12 @@ fn memory_refused_to_the_reader(rt: HostRuntime) -> Result<(), Fail> {
             match feed_bundle(&heap, FIRST_PUSH_INTERRUPTED, width) {
                 Came::Given => tally.ample = tally.ample.saturating_add(1),
                 Came::Refused => tally.refused = tally.refused.saturating_add(1),
+                Came::Kept => tally.kept = tally.kept.saturating_add(1),
                 Came::Astray => assert!(rt; false, "a heap of {eights} times 8 bytes"),
             }
         }
         assert!(rt; tally.refused > 0);
+        assert!(rt; tally.kept > 0);
         assert!(rt; tally.ample > 0);
     }
     Ok(())
@@ -120,6 +128,7 @@ fn write_two<A: Allocator + Copy>(
 fn memory_refused_to_the_writer(rt: HostRuntime) -> Result<(), Fail> {
     let mut tally = Tally {
         refused: 0,
+        kept: 0,
         ample: 0,
     };
     for eights in 0..320usize {

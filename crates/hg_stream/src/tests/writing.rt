@@ -46,7 +46,7 @@ fn add_param<A: Allocator + Copy>(
     })
 }
 
-fn part_of<A: Allocator + Copy>(
+pub fn part_of<A: Allocator + Copy>(
     alloc: A,
     kind: &[u8],
     id: u32,

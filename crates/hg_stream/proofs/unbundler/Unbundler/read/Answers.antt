@@ -21,5 +21,5 @@ returns-in-Err-clause-err g c =
       c.loop-taken.taken + failed.0,
       within_piece c.args.piece.now c.loop-taken.taken failed.0 c.loop-taken.invariant.within failed.1,
       subst (λ t. Halts c.in-Err.fault c.args.self.now c.advance.new.self t) (piece_then c.args.piece.now c.loop-taken.taken failed.0)
-          (halts_then c.in-Err.fault c.args.self.now c.loop-taken.self c.advance.new.self _ _ c.loop-taken.invariant.limits c.in-Err.ensures.ready c.loop-taken.invariant.moved failed.2),
+          (halts_then c.in-Err.fault c.args.self.now c.loop-taken.self c.advance.new.self _ _ c.loop-taken.invariant.limits c.advance.ensures.limits c.in-Err.ensures.kept c.loop-taken.invariant.moved failed.2),
     )

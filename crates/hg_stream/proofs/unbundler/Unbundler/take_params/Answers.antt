@@ -1,39 +1,39 @@
-use Rattle.std.proofs.Common.{◌≡◌, [], List, ℕ, take, arith, refl, ◌∙◌, ◌++◌, subst}
+use Rattle.std.proofs.Common.{rules, ◌≡◌, [], List, ℕ, take, arith, refl, ◌∙◌, ◌++◌, subst}
 use Rattle.std.proofs.lemmas.Result.{err_from_is_err_and}
 use Rattle.hg_stream.specs.declared.block.BlockStep.TheVariants.{Whole, More}
 use Rattle.hg_stream.specs.Block.{BlockStops}
 use Rattle.hg_stream.specs.Frames.{magic, HasParts}
 use Rattle.hg_stream.specs.Places.{params}
 use Rattle.hg_stream.proofs.Steps.{block_err, params_err, finishes_none, further, behind_params, no_params, room_is}
+use Rattle.hg_stream.proofs.Moves.{took, stumbled}
 use Rattle.hg_stream.proofs.unbundler.Unbundler.take_params.Goals.{in-Nothing, in-Whole+in_ok-read_params-in-Whole}
 use Rattle.hg_stream.proofs.unbundler.Unbundler.take_params.Goals as goal
 
-pub returns-in-Err-clause-err : goal.returns-in-Err-clause-err
-returns-in-Err-clause-err g c =
-    let failed = c.in-Err.ensures.err in (
-      failed.0,
-      failed.1,
-      λ bytes parts h.
-          let place = rw c.requires.stage at h.place in
-          rw c.block_fault.ensures (block_err c.in-Err.fault _ bytes magic place.rest _ parts _ c.args.self.now.block (params refl place.none refl) place.waits place.spelled failed.2),
-    )
+pub returns-in-Err : goal.returns-in-Err
+returns-in-Err g c = stumbled _ _ _ _ (search rules) (search rules) (search rules) (let failed = c.in-Err.ensures.err in (
+  failed.0,
+  failed.1,
+  λ bytes parts h.
+      let place = rw c.requires.stage at h.place in
+      rw c.block_fault.ensures (block_err c.in-Err.fault _ bytes magic place.rest _ parts _ c.args.self.now.block (params refl place.none refl) place.waits place.spelled failed.2),
+))
 
-pub returns-in_err-read_params-in-Whole-clause-err : goal.returns-in_err-read_params-in-Whole-clause-err
-returns-in_err-read_params-in-Whole-clause-err g c =
+pub returns-in_err-read_params-in-Whole : goal.returns-in_err-read_params-in-Whole
+returns-in_err-read_params-in-Whole g c =
     let p = err_from_is_err_and c.from_residual.result c.from_residual.ensures.1 in
     let refused = rw c.as_slice.ensures.value at c.in_err-read_params-in-Whole.ensures.err in
     let failed = params_err c.in_err-read_params-in-Whole.field-0.0 c.args.self.now.limits c.args.self.now.block c.feed.new.self c.args.piece.now c.in-Ok.taken.0 c.in-Ok.ensures.count refused c.feed.ensures.most
     (λ rest holds. subst (λ step. BlockStops step c.feed.new.self (rest ++ take c.in-Ok.taken.0 c.args.piece.now)) c.in-Whole.is (c.in-Ok.ensures.ok rest holds)) in
-    rw (p.1, p.2) (
+    rw (p.1, p.2) (stumbled _ _ _ _ (search rules) (search rules) (search rules) (
       failed.0,
       failed.1,
       λ bytes parts h.
           let place = rw c.requires.stage at h.place in
           failed.2 bytes place.rest parts place.waits place.none place.spelled,
-    )
+    ))
 
-pub returns-clause-ok : goal.returns-clause-ok
-returns-clause-ok g c = λ bytes parts h.
+pub returns : goal.returns
+returns g c = took _ _ _ _ (search rules) (search rules) (search rules) (search rules) (λ bytes parts h.
     let place = rw c.requires.stage at h.place in
     let has : (front : List ℕ) × HasParts c.args.self.now.limits front parts × (bytes ++ take c.in-Ok.taken.0 c.args.piece.now ≡ front ++ []) = elim c.match-step.branch [
       | in-Nothing w ↦
@@ -55,10 +55,10 @@ returns-clause-ok g c = λ bytes parts h.
           spelled = has.2;
         };
       }),
-    )
+    ))
 
-pub returns-in-More-clause-ok : goal.returns-in-More-clause-ok
-returns-in-More-clause-ok g c = λ bytes parts h.
+pub returns-in-More : goal.returns-in-More
+returns-in-More g c = took _ _ _ _ (search rules) (search rules) (search rules) (search rules) (λ bytes parts h.
     let place = rw c.requires.stage at h.place in
     let more : BlockStops More c.feed.new.self (place.rest ++ take c.in-Ok.taken.0 c.args.piece.now) =
     subst (λ step. BlockStops step c.feed.new.self (place.rest ++ take c.in-Ok.taken.0 c.args.piece.now)) c.in-More.is (c.in-Ok.ensures.ok place.rest place.waits.holds) in (
@@ -72,4 +72,4 @@ returns-in-More-clause-ok g c = λ bytes parts h.
           spelled = further bytes magic place.rest _ place.spelled;
         });
       }),
-    )
+    ))
