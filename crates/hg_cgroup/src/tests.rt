@@ -317,3 +317,23 @@ fn manifests_and_files_take_no_memory(rt: HostRuntime) -> Result<(), Fail> {
     assert!(rt; refused > 0 && made > 0);
     Ok(())
 }
+
+// Over an ample heap memory is not refused, however many changesets come, and it keeps at most four times what came.
+#[test]
+fn many_changesets_over_an_ample_heap(rt: HostRuntime) -> Result<(), Fail> {
+    let heap = LocalHeap::new(rt.alloc(), 1 << 20)?;
+    let root = root(rt.alloc())?;
+    let mut payload = Vec::new(rt.alloc());
+    for count in [1usize, 1_001] {
+        payload.clear();
+        for _ in 0..count {
+            payload.extend_from_slice(&root)?;
+        }
+        payload.extend_from_slice(&[0; 12])?;
+        let entries = decode(&heap, b"02", &payload).ok().ok_or("entries")?;
+        assert_eq!(rt; entries.len(), count);
+        assert!(rt; heap.used() <= payload.len().saturating_mul(4).saturating_add(256));
+    }
+    assert_eq!(rt; heap.used(), 0);
+    Ok(())
+}

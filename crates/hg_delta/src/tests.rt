@@ -143,3 +143,21 @@ fn refused_memory(rt: HostRuntime) -> Result<(), Fail> {
     assert!(rt; made > 30);
     Ok(())
 }
+
+/// How long the text of that base is, and the bytes of the heap in use with it.
+fn kept(heap: &LocalHeap, base: &[u8]) -> Result<(usize, usize), DeltaFault> {
+    let text = apply(heap, base, ONE_HUNK, 16_777_216)?;
+    Ok((text.len(), heap.used()))
+}
+
+// Over an ample heap memory is not refused, up to a text of 16 MiB, and the heap keeps the text alone.
+#[test]
+fn long_texts_over_an_ample_heap(rt: HostRuntime) -> Result<(), Fail> {
+    let heap = LocalHeap::new(rt.alloc(), 1 << 25)?;
+    for size in [4_097usize, 4_098, 16_777_217] {
+        let base = vec![in rt.alloc(); 7u8; size]?;
+        let (length, used) = kept(&heap, &base)?;
+        assert!(rt; length == size.saturating_sub(1) && used <= size.saturating_add(64));
+    }
+    Ok(())
+}
