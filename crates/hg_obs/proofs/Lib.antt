@@ -1,7 +1,9 @@
-pub mod MetadataLemmas
-pub mod MergeLemmas
-pub mod PlaceLemmas
-pub mod ReadingLemmas
-pub mod MarkerLaws
-pub mod DataLaws
+mod MetadataLemmas
+mod MergeLemmas
+mod PlaceLemmas
+mod ReadingLemmas
+mod MarkerLaws
+mod DataLaws
+mod EachLemmas
+mod LawfulLemmas
 pub mod CallerLemmas

@@ -1,6 +1,6 @@
 -- A merge, one marker at a time.
-use Rattle.std.proofs.Common.{◌≡◌, ℕ, Bool, true, false, cond, not, ◌||◌, List, [], ◌∷◌, ◌++◌, filter, refl, sym, ap, subst, ◌∙◌, append_assoc, true≢false, ◌≢◌, zero, suc, length, get_or, AllPairs, Result, Ok, OnOk, ◌≤◌, ◌+◌, arith}
-use Rattle.std.proofs.lemmas.List.{length-append}
+use Rattle.std.proofs.Common.{◌≡◌, ℕ, Bool, true, false, cond, not, ◌||◌, List, [], ◌∷◌, ◌++◌, filter, refl, sym, ap, ◌∙◌, append_assoc, true≢false, ◌≢◌, zero, suc, length, take, get_or, AllPairs, ◌≤◌, ◌+◌, arith}
+use Rattle.std.proofs.Math.Seq.{take-append_seam}
 use Rattle.std.proofs.lemmas.List.Folds.{list_any-append}
 use Rattle.std.proofs.lemmas.List.Elements.{All-get_or, All-from_recursion}
 use Rattle.std.specs.List.{list_any, AllByRecursion, IsDistinct}
@@ -101,28 +101,27 @@ module _ {A : Type 0} where
   distinct_pairs (m ∷ ms) d (suc i) zero e less within = absurd (omega arith)
   distinct_pairs (m ∷ ms) d (suc i) (suc j) e less within = distinct_pairs ms d.1 i j e (omega arith) (omega arith)
 
-  filter_shorter : (p : Marker A → Bool) (ms : List (Marker A)) → length (filter p ms) ≤ length ms
-  filter_shorter p [] = omega (arith)
-  filter_shorter p (m ∷ ms) = by (p m) (filter_shorter p ms)
+  -- a marker that comes behind others, and is not in what they give, is new to the list
+  pub some_fresh : (old before rest added : List (Marker A)) (m : Marker A) → added ≡ before ++ m ∷ rest → is_in (merged old before) m ≡ false → fresh old added ≢ []
+  some_fresh old before rest added m e apart none =
+      let outside : is_in old m ≡ false = by (is_in old m) (sym (list_any-append (is_same m) old (fresh old before)) ∙ apart) in
+      let itself : is_same m m ≡ true = (is_same_decides m m).1 refl in
+      let comes : list_any (is_same m) added ≡ true =
+      ap (list_any (is_same m)) e ∙ list_any-append (is_same m) before (m ∷ rest) ∙ ap (λ (c : Bool). list_any (is_same m) before || (c || list_any (is_same m) rest)) itself ∙ either (list_any (is_same m) before) in
+      let kept : is_in (fresh old added) m ≡ true = any_filter (λ n. not (is_in old n)) m (firsts added) (ap not outside) ∙ any_firsts m added ∙ comes in
+      true≢false (sym kept ∙ ap (λ (ms : List (Marker A)). is_in ms m) none)
     where
-      by : (b : Bool) → length (filter p ms) ≤ length ms → length (cond b (m ∷ filter p ms) (filter p ms)) ≤ suc (length ms)
-      by true rest = omega (arith)
-      by false rest = omega (arith)
+      by : (b : Bool) → (b || is_in (fresh old before) m) ≡ false → b ≡ false
+      by true h = h
+      by false h = refl
 
-  firsts_shorter : (ms : List (Marker A)) → length (firsts ms) ≤ length ms
-  firsts_shorter [] = omega (arith)
-  firsts_shorter (m ∷ ms) =
-      let rest : length (firsts ms) ≤ length ms = firsts_shorter ms in
-      let less : length (filter (λ n. not (is_same m n)) (firsts ms)) ≤ length (firsts ms) = filter_shorter (λ n. not (is_same m n)) (firsts ms) in
-      omega (arith)
+      either : (b : Bool) → (b || true) ≡ true
+      either true = refl
+      either false = refl
 
-  -- a merge makes a list longer by no more than what is merged
-  pub merged_size : (old xs now : List (Marker A)) (asked room : ℕ) → now ≡ merged old xs → asked ≡ length xs → asked ≤ room → length now ≤ length old + room
-  merged_size old xs now asked room e size enough =
-      let long : length now ≡ length old + length (fresh old xs) = ap length e ∙ length-append old (fresh old xs) in
-      let some : length (fresh old xs) ≤ length (firsts xs) = filter_shorter (λ m. not (is_in old m)) (firsts xs) in
-      let all : length (firsts xs) ≤ length xs = firsts_shorter xs in
-      omega (arith)
+  -- the list of before is what stands in front of those that are new
+  pub merged_front : (old xs : List (Marker A)) (len : ℕ) → len ≡ length old → take len (merged old xs) ≡ old
+  merged_front old xs len e = ap (λ (n : ℕ). take n (merged old xs)) e ∙ take-append_seam old (fresh old xs)
 
   keeps_others : (m : Marker A) (ns : List (Marker A)) → AllByRecursion (λ n. is_same m n ≡ false) ns → filter (λ n. not (is_same m n)) ns ≡ ns
   keeps_others m [] h = refl
@@ -143,15 +142,6 @@ module _ {A : Type 0} where
   -- distinct markers, merged into an empty list
   pub merged_distinct : (ms : List (Marker A)) → IsDistinct is_same ms → merged [] ms ≡ ms
   merged_distinct ms d = ap (filter (λ m. not (is_in [] m))) (firsts_distinct ms d) ∙ none_there ms
-
--- what is said of an answer, where it is known
-pub on_ok : {X E : Type 0} (r : Result X E) (x : X) (P : Type 0) → r ≡ Ok x → OnOk r P → P
-on_ok {X = X} {E = E} r x P e h = subst (λ (z : Result X E). OnOk z P) e h
-
--- a list that is one shorter needs one place less
-pub room_left : {X : Type 0} (x : X) (all rest : List X) (room left : ℕ) → all ≡ x ∷ rest → length all ≤ room → room ≤ left + 1 → length rest ≤ left
-room_left x all rest room left e enough used =
-    let longer : length all ≡ suc (length rest) = ap length e in omega (arith)
 
 -- as many places as before, of which one is used
 pub room_stays : (size at old left : ℕ) → size ≤ at + old → old ≤ left + 1 → size ≤ at + 1 + left

@@ -1,9 +1,10 @@
 -- A list of distinct markers: what a merge makes of it, and which changesets it makes obsolete.
-use Rattle.std.specs.Prelude.{◌≡◌, ℕ, suc, Bool, true, false, ◌==◌, not, List, [], ◌∷◌, ◌++◌, filter, Any, Option, Some, None, if◌then◌else◌}
-use Rattle.std.specs.List.{list_any}
+use Rattle.std.specs.Prelude.{◌≡◌, ◌≢◌, ℕ, suc, Bool, true, false, ◌==◌, not, List, [], ◌∷◌, ◌++◌, filter, Any, AllPairs, Option, Some, None, if◌then◌else◌}
+use Rattle.std.specs.List.{list_any, AllByRecursion}
 use Rattle.std.specs.Map.{lookup}
 use Rattle.hg_types.specs.declared.node.Node.{Node}
 use Rattle.hg_obs.specs.declared.marker.Marker.{Marker}
+use Rattle.hg_obs.specs.Marker.{IsMarker}
 use Rattle.hg_obs.specs.Same.{is_same, same_node}
 
 -- the marker is in the list
@@ -46,3 +47,8 @@ abbrev pub without : Bool → ℕ → Option ℕ → Option ℕ
 without false place found = found
 without true place None = None
 without true place (Some other) = if other == place then None else Some other
+
+-- markers that a repository may have: distinct ones, and each is one that marker data may have
+pub record AreLawful {A : Type 0} (markers : List (Marker A)) : Type 0 where
+  pub distinct : AllPairs (λ a b. a ≢ b) markers
+  pub each : AllByRecursion IsMarker markers

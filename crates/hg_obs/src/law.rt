@@ -1,12 +1,14 @@
 //! What the definitions say together.
 
-ghost use Rattle.std.specs.Prelude.{◌≡◌, ◌≢◌, ◌↔◌, ℕ, List, Ok, Err};
+ghost use Rattle.std.specs.Prelude.{◌≡◌, ◌≢◌, ◌↔◌, ◌∷◌, [], ℕ, List, Ok, Err, take};
 ghost use Rattle.hg_types.specs.Bytes.{IsBytes};
 ghost use Rattle.hg_obs.specs.declared.marker.Marker.{Marker as AMarker};
 ghost use Rattle.hg_obs.specs.declared.fault.MarkerFault.{MarkerFault as AFault};
 ghost use Rattle.hg_obs.specs.declared.fault.MarkerFault.TheVariants.{NoMemory as Refused};
 ghost use Rattle.hg_obs.specs.Grammar.{AreMarkers, IsFault};
-ghost use Rattle.hg_obs.specs.Marker.{Fits, HasIds, marker_bytes};
+ghost use Rattle.std.specs.List.{AllByRecursion, flat_map};
+ghost use Rattle.hg_obs.specs.Marker.{Fits, HasIds, IsMarker, marker_bytes};
+ghost use Rattle.hg_obs.specs.Markers.{AreLawful, merged};
 ghost use Rattle.hg_obs.specs.Reading.{markers_of};
 
 use std::alloc::Allocator;
@@ -21,4 +23,13 @@ pub fn reading_is_the_grammar<A: Allocator>()
 /// Markers with the same bytes are equal.
 pub fn bytes_tell_markers<A: Allocator>()
     ensures { (a b : AMarker A) → Fits a → HasIds a → Fits b → HasIds b → marker_bytes a ≡ marker_bytes b → a ≡ b }
+{}
+
+/// No markers are lawful. Lawful ones stay so where markers that marker data may have are merged, and where the last ones are
+/// cut off; and behind the version byte their bytes are marker data again.
+pub fn markers_stay_lawful<A: Allocator>()
+    ensures none { AreLawful {A = A} [] }
+    ensures merge { (old added : List (AMarker A)) → AreLawful old → AllByRecursion IsMarker added → AreLawful (merged old added) }
+    ensures front { (markers : List (AMarker A)) (len : ℕ) → AreLawful markers → AreLawful (take len markers) }
+    ensures bytes { (markers : List (AMarker A)) → AreLawful markers → AreMarkers (0 ∷ flat_map marker_bytes markers) markers }
 {}

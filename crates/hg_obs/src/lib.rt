@@ -23,7 +23,7 @@ mod markers;
 mod read;
 
 pub use fault::MarkerFault;
-pub use law::{bytes_tell_markers, reading_is_the_grammar};
+pub use law::{bytes_tell_markers, markers_stay_lawful, reading_is_the_grammar};
 pub use marker::Marker;
 pub use markers::Markers;
 pub use read::read_markers;

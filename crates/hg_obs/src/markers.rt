@@ -1,12 +1,11 @@
 //! The markers of a repository.
 
-ghost use Rattle.std.specs.Prelude.{◌≡◌, ◌≢◌, ◌<◌, ◌≤◌, ◌+◌, ◌-◌, ◌++◌, ◌∷◌, [], ◌↔◌, Some, None, IsTrue, IfOk, OnOk, OnErr, AllPairs, length, take, if◌then◌else◌};
+ghost use Rattle.std.specs.Prelude.{◌≡◌, ◌≢◌, ◌<◌, ◌≤◌, ◌+◌, ◌-◌, ◌++◌, ◌∷◌, [], ◌↔◌, false, Some, None, IsTrue, IfOk, OnOk, OnErr, AllPairs, length, take, if◌then◌else◌};
 ghost use Rattle.std.specs.Map.{lookup};
 ghost use Rattle.indexmap.specs.IndexMap.{spare as places_room};
-ghost use Rattle.indexmap.specs.IndexSet.{spare as list_room};
 ghost use Rattle.hg_types.specs.declared.node.Node.{Node as AnId};
 ghost use Rattle.hg_obs.specs.Same.{same_node};
-ghost use Rattle.hg_obs.specs.Markers.{ArePlaces, is_in, merged, or_else, without};
+ghost use Rattle.hg_obs.specs.Markers.{ArePlaces, fresh, is_in, merged, or_else, without};
 
 use crate::marker::Marker;
 use hg_types::{NoMemory, Node, Seq, TryClone, try_clone_each};
@@ -70,19 +69,25 @@ impl<A: Allocator> Markers<A> {
         self.places.contains_key(node)
     }
 
-    /// Adds each marker that is not there yet, in order, and answers how many. Room is made for all of them first, so that
-    /// where memory is refused the markers are as before. On average it takes time for what is merged, and not for what is there.
+    /// Adds each marker that is not there yet, in order, and answers how many. Room is made for the new ones alone, and a merge
+    /// that adds nothing takes none; where it is refused the markers are as before. On average it takes time for what is
+    /// merged, and not for what is there.
     pub fn merge(&mut self, added: Seq<Marker<A>, A>) -> Result<u64, NoMemory>
         ensures ok { OnOk result (self.new ≡ merged self.old added) }
         ensures count { IfOk result (λ count. count ≡ length (fresh self.old added)) }
         ensures err { OnErr result (self.new ≡ self.old) }
+        // Memory is refused only where a marker is new.
+        ensures needed { OnErr result (fresh self.old added ≢ []) }
     {
         let len = self.list.len();
-        self.list.reserve(added.len())?;
-        self.places.reserve(added.len())?;
-        add_each(&mut self.list, added);
+        add_each(&mut self.list, added)?;
+        let count = self.list.len() - len;
+        if let Err(refused) = self.places.reserve(count) {
+            self.list.truncate(len);
+            return Err(refused.into());
+        }
         note_each(&mut self.places, self.list.as_slice(), len);
-        Ok((self.list.len() - len) as u64)
+        Ok(count as u64)
     }
 
     /// Drops the markers from that place on. It takes no memory.
@@ -114,23 +119,30 @@ impl<A: Allocator + Copy> TryClone<A> for Markers<A> {
     }
 }
 
-/// Adds each marker that is not there yet, in order. There is room for all of them.
-fn add_each<A: Allocator>(list: &mut List<A>, added: Seq<Marker<A>, A>)
-    requires { length added ≤ list_room list.old }
-    ensures { list.new.keys ≡ merged list.old.keys added }
+/// Adds each marker that is not there yet, in order, or none of them.
+fn add_each<A: Allocator>(list: &mut List<A>, added: Seq<Marker<A>, A>) -> Result<(), NoMemory>
+    ensures ok { OnOk result (list.new.keys ≡ merged list.old.keys added) }
+    ensures err { OnErr result (list.new.keys ≡ list.old.keys) }
+    ensures needed { OnErr result (fresh list.old.keys added ≢ []) }
 {
+    let len = list.len();
     for marker in added.into_vec() {
-        add(list, marker);
+        if let Err(refused) = add(list, marker) {
+            list.truncate(len);
+            return Err(refused);
+        }
     }
+    Ok(())
 }
 
-/// Adds a marker that is not there yet. There is room for it.
-fn add<A: Allocator>(list: &mut List<A>, marker: Marker<A>)
-    requires { 0 < list_room list.old }
-    ensures markers { list.new.keys ≡ (if is_in list.old.keys marker then list.old.keys else list.old.keys ++ marker ∷ []) }
-    ensures room { list_room list.old ≤ list_room list.new + 1 }
+/// Adds a marker that is not there yet.
+fn add<A: Allocator>(list: &mut List<A>, marker: Marker<A>) -> Result<(), NoMemory>
+    ensures ok { OnOk result (list.new.keys ≡ (if is_in list.old.keys marker then list.old.keys else list.old.keys ++ marker ∷ [])) }
+    ensures err { OnErr result (list.new.keys ≡ list.old.keys) }
+    ensures needed { OnErr result (is_in list.old.keys marker ≡ false) }
 {
-    list.insert(marker).unwrap();
+    list.insert(marker)?;
+    Ok(())
 }
 
 /// Notes the place of each marker from that place on. There is room for all of them.

@@ -342,3 +342,65 @@ fn no_memory_for_looking_and_cutting(rt: HostRuntime) -> Result<(), Fail> {
     assert!(rt; markers.is_predecessor(&node(17)) && !markers.is_predecessor(&node(34)));
     Ok(())
 }
+
+/// Marker data with so many markers of 46 bytes: each has a predecessor of its own and one successor.
+fn numbered(alloc: Global, count: u32) -> Result<Vec<u8>, AllocError> {
+    let mut bytes = Vec::new(alloc);
+    bytes.push(0)?;
+    for number in 0..count {
+        bytes.extend_from_slice(&[1, 0, 0, 0, 0, 0])?;
+        bytes.extend_from_slice(&[7; 16])?;
+        bytes.extend_from_slice(&number.to_be_bytes())?;
+        bytes.extend_from_slice(&[9; 20])?;
+    }
+    Ok(bytes)
+}
+
+/// The bytes of a heap in use where the list is empty, where the markers of the data are read, merged and copied, and where
+/// the list is looked at and cut to nothing.
+fn in_use(heap: &LocalHeap, state: RandomState, bytes: &[u8]) -> Result<[usize; 5], MarkerFault> {
+    let mut markers = Markers::new(heap, state);
+    let empty = heap.used();
+    let data = read_markers(heap, bytes)?;
+    let read = heap.used();
+    markers.merge(data)?;
+    let merged = heap.used();
+    let copy = markers.try_clone(heap)?;
+    let copied = heap.used();
+    if copy.is_predecessor(&Node::NULL) || copy.list().is_empty() {
+        return Ok([copied; 5]);
+    }
+    markers.cut_back(0);
+    Ok([empty, read, merged, copied, heap.used()])
+}
+
+/// Over an ample heap nothing is refused, however many markers come, and no call keeps more than came: reading at most 8 times
+/// the data and 256 bytes, a list at most 512 bytes a marker and 2,048, and a copy as much as its source. A cut takes nothing.
+#[test]
+fn many_markers_take_what_came(rt: HostRuntime) -> Result<(), Fail> {
+    let state = RandomState::new(&rt)?;
+    for count in [1u32, 20, 3_000] {
+        let data = numbered(rt.alloc(), count)?;
+        let heap = LocalHeap::new(rt.alloc(), 1 << 22)?;
+        let [empty, read, merged, copied, cut] = in_use(&heap, state, &data)?;
+        assert!(rt; empty == 0 && read <= data.len().saturating_mul(8).saturating_add(256));
+        assert!(rt; merged <= (count as usize).saturating_mul(512).saturating_add(2_048));
+        assert!(rt; copied <= merged.saturating_mul(2) && cut < copied);
+    }
+    Ok(())
+}
+
+/// Room is made for new markers alone: a list into which one marker was merged 50,000 times keeps at most 2,048 bytes.
+#[test]
+fn repeated_markers_take_no_memory(rt: HostRuntime) -> Result<(), Fail> {
+    let state = RandomState::new(&rt)?;
+    let mut data = Vec::new(rt.alloc());
+    data.push(0)?;
+    for _ in 0..50_000u32 {
+        data.extend_from_slice(&MARKER)?;
+    }
+    let heap = LocalHeap::new(rt.alloc(), 1 << 24)?;
+    let [_empty, _read, merged, _copied, _cut] = in_use(&heap, state, &data)?;
+    assert!(rt; merged <= 2_048);
+    Ok(())
+}
