@@ -7,7 +7,7 @@ use Rattle.std.proofs.lemmas.List.Edits.{swapped_from_swap, length-swap}
 use Rattle.std.proofs.lemmas.List.Elements.{Contains-get_or}
 use Rattle.std.proofs.lemmas.List.Sorted.{IsPermutation-keeps, IsPermutation-map, IsPermutation-sym, Contains-permutation}
 use Rattle.std.proofs.lemmas.Bool.{cases_eq, cases_order}
-use Rattle.std.proofs.lemmas.Option.{slice_get_within, slice_get-get_or, get_or_from_slice_get}
+use Rattle.std.proofs.lemmas.Option.{slice_get_within}
 use Rattle.hg_types.specs.declared.node.Node.{Node}
 use Rattle.hg_types.specs.declared.limits.Limits.{Limits}
 use Rattle.hg_types.specs.contracts.node.NodeOrd.TheImpl as ord
@@ -18,7 +18,7 @@ use Rattle.hg_log.specs.Rows.{HasNode}
 use Rattle.hg_log.specs.Graph.{HasParent, AreChildless}
 use Rattle.hg_log.specs.Heads.{IsHead, AreHeadsOf, AreHeads, ids}
 use Rattle.hg_log.specs.Inside.{IsWhole}
-use Rattle.hg_log.proofs.RowLemmas.{has_within, same_rev}
+use Rattle.hg_log.proofs.RowLemmas.{has_within, same_rev, unnamed, no_parent}
 use Rattle.hg_log.proofs.Wholes.{by_number, by_id, parent_earlier}
 
 -- the ids of the rows of those numbers
@@ -115,23 +115,10 @@ sorted_ids nodes sorted k d low high =
 module _ (rows : List Changeset) (graph : List Parents) (limits : Limits) (whole : IsWhole rows graph limits) where
   -- a row that nobody has as a parent by number is one that nobody names by its id
   head_childless : (r : ℕ) (node : List ℕ) → HasNode rows r node → ((child : ℕ) → ¬ (HasParent graph r child)) → All (λ (row : Changeset). (row.p1 ≢ node) × (row.p2 ≢ node)) rows
-  head_childless r node has none k d k_in =
-      let child_at = slice_get-get_or rows k d k_in in (
-        (λ e. none k (by_number rows graph limits whole r k (record { parent = has.row; child = get_or rows k d; parent_at = has.row_at; child_at = child_at; named = inl (e ∙ sym has.node_is) }))),
-        (λ e. none k (by_number rows graph limits whole r k (record { parent = has.row; child = get_or rows k d; parent_at = has.row_at; child_at = child_at; named = inr (e ∙ sym has.node_is) }))),
-      )
+  head_childless r node has none = unnamed rows r node has (λ child is. none child (by_number rows graph limits whole r child is))
 
   childless_head : (r : ℕ) (node : List ℕ) → HasNode rows r node → All (λ (row : Changeset). (row.p1 ≢ node) × (row.p2 ≢ node)) rows → (child : ℕ) → ¬ (HasParent graph r child)
-  childless_head r node has none child named =
-      let is = by_id rows graph limits whole r child named in
-      let same : is.parent ≡ has.row = let a = is.parent_at in let b = has.row_at in cc in
-      let id : is.parent.node ≡ node = ap (λ (x : Changeset). x.node) same ∙ has.node_is in
-      let at : get_or rows child is.child ≡ is.child = get_or_from_slice_get rows child is.child is.child is.child_at in
-      let free = none child is.child (slice_get_within rows child is.child is.child_at) in
-      elim is.named [
-        | inl e ↦ free.0 (ap (λ (x : Changeset). x.p1) at ∙ e ∙ id)
-        | inr e ↦ free.1 (ap (λ (x : Changeset). x.p2) at ∙ e ∙ id)
-      ]
+  childless_head r node has none child named = no_parent rows r node has none child (by_id rows graph limits whole r child named)
 
   module _ (revs : List ℕ) (childless : AreChildless graph revs) where
     ids_differ : (nodes : List Node) → AreIdsOf rows revs nodes → Differ (ids nodes)

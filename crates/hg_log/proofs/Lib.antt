@@ -1,10 +1,18 @@
-pub mod Lists
-pub mod Kept
-pub mod Counted
-pub mod Found
-pub mod RowLemmas
-pub mod Wholes
-pub mod Lookups
-pub mod HeadLemmas
-pub mod Outcomes
-pub mod Answering
+mod Lists
+mod Kept
+mod Counted
+mod Found
+mod RowLemmas
+mod Wholes
+mod ParentLemmas
+mod Lookups
+mod Ascending
+mod SameIds
+mod HeadCounts
+mod HeadValues
+mod HeadsAfter
+mod HeadLemmas
+mod Outcomes
+mod Answering
+mod AncestorLaws
+pub mod CallerLemmas

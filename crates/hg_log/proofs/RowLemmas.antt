@@ -1,5 +1,5 @@
 -- Rows, as rows come and go.
-use Rattle.std.proofs.Common.{◌≡◌, ◌≢◌, ℕ, ◌<◌, ◌≤◌, List, [], ◌∷◌, ◌++◌, length, take, get_or, slice_get, Some, AllPairs, sym, ap, ◌∙◌, subst, inl, inr, arith}
+use Rattle.std.proofs.Common.{◌≡◌, ◌≢◌, ℕ, ◌<◌, ◌≤◌, All, List, [], ◌∷◌, ◌++◌, length, take, get_or, slice_get, Some, AllPairs, sym, ap, ◌∙◌, subst, inl, inr, arith}
 use Rattle.std.proofs.lemmas.List.{length-take-le, get_or-take}
 use Rattle.std.proofs.lemmas.List.Quantifiers.{all_pairs_push}
 use Rattle.std.proofs.lemmas.Bool.{cases_order}
@@ -7,6 +7,7 @@ use Rattle.std.proofs.lemmas.Option.{slice_get_within, get_or_from_slice_get, sl
 use Rattle.hg_types.specs.NullId.{null_id}
 use Rattle.hg_log.specs.Changeset.{Changeset}
 use Rattle.hg_log.specs.Rows.{HasNode, LacksNode, IsKnown, IsEarlier, IsLawfulRow, AreLawful}
+use Rattle.hg_log.specs.Ancestors.{IsParent}
 use Rattle.hg_log.proofs.Lists.{slice_get_front, slice_get_pushed, slice_get_take, slice_get_kept}
 
 pub has_within : (rows : List Changeset) (r : ℕ) (node : List ℕ) → HasNode rows r node → r < length rows
@@ -83,3 +84,24 @@ lacks_taken rows r row lawful at k d k_in same =
 -- an id that is not known is in no row
 pub lacks_unknown : (rows : List Changeset) (node : List ℕ) → ¬ (IsKnown rows node) → LacksNode rows node
 lacks_unknown rows node unknown k d k_in same = unknown (inr (k, record { row = get_or rows k d; row_at = slice_get-get_or rows k d k_in; node_is = same }))
+
+-- a row that is nobody's parent is one whose id no row names
+pub unnamed : (rows : List Changeset) (r : ℕ) (node : List ℕ) → HasNode rows r node → ((child : ℕ) → ¬ (IsParent rows r child))
+    → All (λ (row : Changeset). (row.p1 ≢ node) × (row.p2 ≢ node)) rows
+unnamed rows r node has none k d k_in =
+    let child_at = slice_get-get_or rows k d k_in in (
+      (λ e. none k (record { parent = has.row; child = get_or rows k d; parent_at = has.row_at; child_at = child_at; named = inl (e ∙ sym has.node_is) })),
+      (λ e. none k (record { parent = has.row; child = get_or rows k d; parent_at = has.row_at; child_at = child_at; named = inr (e ∙ sym has.node_is) })),
+    )
+
+pub no_parent : (rows : List Changeset) (r : ℕ) (node : List ℕ) → HasNode rows r node → All (λ (row : Changeset). (row.p1 ≢ node) × (row.p2 ≢ node)) rows
+    → (child : ℕ) → ¬ (IsParent rows r child)
+no_parent rows r node has none child is =
+    let same : is.parent ≡ has.row = let a = is.parent_at in let b = has.row_at in cc in
+    let id : is.parent.node ≡ node = ap (λ (x : Changeset). x.node) same ∙ has.node_is in
+    let at : get_or rows child is.child ≡ is.child = get_or_from_slice_get rows child is.child is.child is.child_at in
+    let free = none child is.child (slice_get_within rows child is.child is.child_at) in
+    elim is.named [
+      | inl e ↦ free.0 (ap (λ (x : Changeset). x.p1) at ∙ e ∙ id)
+      | inr e ↦ free.1 (ap (λ (x : Changeset). x.p2) at ∙ e ∙ id)
+    ]

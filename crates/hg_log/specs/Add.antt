@@ -58,3 +58,14 @@ pub data IsAnswer {A : Type 0} (log : Log) (entry : Entry A) : Result Added AddF
   mismatch : (text : List ℕ) → HasOutcome log entry (Ok text) → ¬ (Agrees entry text) → IsAnswer log entry (Err HashMismatch) log
   too_many : (text : List ℕ) → HasOutcome log entry (Ok text) → Agrees entry text → log.limits.revisions ≤ length log.rows → IsAnswer log entry (Err TooMany) log
   added : (text : List ℕ) → HasOutcome log entry (Ok text) → Agrees entry text → length log.rows < log.limits.revisions → IsAnswer log entry (Ok (New (length log.rows))) (with_row log (row_of entry text))
+
+-- the row of a new entry stands behind the old ones, under the number that the answer tells
+pub record IsAppended {A : Type 0} (old : Log) (entry : Entry A) (rev : ℕ) (new : Log) : Type 0 where
+  pub next : rev ≡ length old.rows
+  pub text : List ℕ
+  pub appended : new ≡ with_row old (row_of entry text)
+
+-- what each good answer leaves
+abbrev pub Leaves : {A : Type 0} → Log → Entry A → Added → Log → Type 0
+Leaves old entry (New rev) new = IsAppended old entry rev new
+Leaves old entry Known new = IsKnown old.rows entry.node.0 × (new ≡ old)

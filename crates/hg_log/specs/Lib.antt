@@ -2,7 +2,9 @@ pub mod NodeId
 pub mod Changeset
 pub mod Rows
 pub mod Ancestors
+pub mod Parents
 pub mod Heads
+pub mod HeadCount
 pub mod ChildCounts
 pub mod Graph
 pub mod Marks

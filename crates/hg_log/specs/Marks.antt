@@ -1,13 +1,14 @@
--- Which rows are marked.
-use Rattle.std.specs.Prelude.{◌≡◌, ◌⊎◌, ◌↔◌, ℕ, ◌+◌, ◌-◌, ◌<◌, ◌≤◌, Bool, true, false, List, length, Option, Some, slice_index_or}
+-- Which rows are marked, of those from a top row down.
+use Rattle.std.specs.Prelude.{◌≡◌, ◌⊎◌, ◌↔◌, ℕ, ◌-◌, ◌<◌, ◌≤◌, Bool, true, false}
+use Rattle.std.specs.Prelude.{List, Option, Some, slice_index_or}
 
--- the row is marked in the marks of the rows from that one on
-pub record IsMarked (start : ℕ) (marks : List Bool) (row : ℕ) : Type 0 where
-  pub after : start ≤ row
-  pub within : row < start + length marks
-  pub is : slice_index_or marks (row - start) false ≡ true
+-- the mark of a row stands as far behind the first as the row below the top
+-- a row for which none stands is not marked
+pub record IsMarked (top : ℕ) (marks : List Bool) (row : ℕ) : Type 0 where
+  pub below : row ≤ top
+  pub is : slice_index_or marks (top - row) false ≡ true
 
--- one row more is marked, where there is one that does not stand before the first
-pub record AreMarked (start : ℕ) (row : Option ℕ) (old new : List Bool) : Type 0 where
-  pub as_long : length new ≡ length old
-  pub each : (r : ℕ) → IsMarked start new r ↔ (IsMarked start old r ⊎ ((row ≡ Some r) × (start ≤ r)))
+-- one row more is marked, where there is one that stands after a certain row
+abbrev pub AreMarked : ℕ → ℕ → Option ℕ → List Bool → List Bool → Type 0
+AreMarked after top row old new =
+    (r : ℕ) → IsMarked top new r ↔ (IsMarked top old r ⊎ ((row ≡ Some r) × (after < r)))

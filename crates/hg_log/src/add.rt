@@ -8,7 +8,7 @@ ghost use Rattle.hg_log.specs.declared.add.AddFault.{AddFault};
 ghost use Rattle.hg_log.specs.Changeset.{Log};
 ghost use Rattle.hg_log.specs.Rows.{IsKnown, AreLawful};
 ghost use Rattle.hg_log.specs.Inside.{IsAt};
-ghost use Rattle.hg_log.specs.Add.{IsAnswer, IsBase, HasParentsIn, HasOutcome, Agrees, told_as};
+ghost use Rattle.hg_log.specs.Add.{IsAnswer, IsBase, HasParentsIn, HasOutcome, Leaves, Agrees, told_as};
 ghost use Rattle.hg_log.specs.Answer.{text_of, answer_of};
 
 use crate::changelog::{Changelog, Row};
@@ -70,6 +70,7 @@ impl<A: Allocator + Copy> Changelog<A> {
         ensures answer { result ≢ Err AddFault.NoMemory → IsAnswer self.old entry.now result self.new }
         // So the result and the new log are the one answer as a value, unless memory was refused.
         ensures value { result ≢ Err AddFault.NoMemory → (result, self.new) ≡ answer_of self.old entry.now }
+        ensures leaves { IfOk result (λ added. Leaves self.old entry.now added self.new) }
         ensures err { OnErr result (self.new ≡ self.old) }
     {
         if self.knows(&entry.node) {

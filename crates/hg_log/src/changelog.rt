@@ -1,11 +1,14 @@
 //! The list of changesets, with its look-up by id.
 
-ghost use Rattle.std.specs.Prelude.{◌≡◌, ◌≢◌, ◌+◌, [], ◌∷◌, ◌++◌, take, length, ◌<◌, ◌≤◌, ◌↔◌, IfSome, IfNone, IfOk, OnOk, OnErr, IsTrue};
+ghost use Rattle.std.specs.Prelude.{◌≡◌, ◌≢◌, ◌+◌, [], ◌∷◌, ◌++◌, take, length, ◌<◌, ◌≤◌, ◌↔◌, ◌^◌};
+ghost use Rattle.std.specs.Prelude.{IfSome, IfNone, IfOk, OnOk, OnErr, IsTrue, IsSorted};
 ghost use Rattle.hg_types.specs.Limits.{IsAllowed};
 ghost use Rattle.hg_types.specs.NullId.{null_id};
 ghost use Rattle.hg_log.specs.Changeset.{Log};
 ghost use Rattle.hg_log.specs.NodeId.{node_id_of};
 ghost use Rattle.hg_log.specs.Ancestors.{IsAncestor};
+ghost use Rattle.hg_log.specs.Parents.{parents_of, rev_of, is_ancestor};
+ghost use Rattle.hg_log.specs.HeadCount.{head_count, head_ids, AreSameIds};
 ghost use Rattle.hg_log.specs.Heads.{AreHeads, ids};
 ghost use Rattle.hg_log.specs.Inside.{IsAt, changeset};
 ghost use Rattle.hg_log.specs.Add.{with_row};
@@ -75,6 +78,7 @@ impl<A: Allocator> Changelog<A> {
     pub fn rev(&self, node: &Node) -> Option<u32>
         ensures found { IfSome result (λ rev. HasNode self.now.rows rev node.now.0) }
         ensures none { IfNone result (LacksNode self.now.rows node.now.0) }
+        ensures value { result ≡ rev_of self.now.rows node.now.0 }
     {
         match self.rows.get_index_of(node) {
             Some(place) => Some(place as u32),
@@ -100,6 +104,18 @@ impl<A: Allocator> Changelog<A> {
         (row.p1, row.p2)
     }
 
+    /// The numbers of the parents of the changeset of that number. A parent that is null has none.
+    pub fn parent_revs(&self, rev: u32) -> (Option<u32>, Option<u32>)
+        requires { rev < length self.now.rows }
+        ensures first { result.0 ≡ (parents_of self.now.rows rev).0 }
+        ensures second { result.1 ≡ (parents_of self.now.rows rev).1 }
+        ensures first_earlier { IfSome result.0 (λ p. p < rev) }
+        ensures second_earlier { IfSome result.1 (λ p. p < rev) }
+    {
+        let parents = self.graph.parents(rev);
+        (parents.p1, parents.p2)
+    }
+
     /// The text of the changeset of that number.
     pub fn text(&self, rev: u32) -> &[u8]
         requires { rev < length self.now.rows }
@@ -116,12 +132,14 @@ impl<A: Allocator> Changelog<A> {
         *node == Node::NULL || self.rev(node).is_some()
     }
 
-    /// The ids of the changesets that are nobody's parent, in ascending order, or the null id alone where there are no changesets.
-    /// It costs by their number, and not by that of all changesets.
+    /// The ids of the changesets that are nobody's parent, in ascending order, or the null id alone where
+    /// there are no changesets. It costs by their number, and not by that of all changesets.
     pub fn heads(&self, alloc: A) -> Result<Seq<Node, A>, NoMemory>
     where
         A: Copy,
-        ensures { IfOk result (λ heads. AreHeads self.now.rows (ids heads)) }
+        ensures heads { IfOk result (λ heads. AreHeads self.now.rows (ids heads)) }
+        ensures value { IfOk result (λ heads. AreSameIds (ids heads) (head_ids self.now.rows)) }
+        ensures ascending { IfOk result (λ heads. IsSorted ⟦<Node as Ord>⟧.cmp heads) }
     {
         let childless = self.graph.childless();
         let mut heads = Vec::new(alloc);
@@ -136,13 +154,27 @@ impl<A: Allocator> Changelog<A> {
         Ok(Seq::from_vec(heads))
     }
 
-    /// Whether one changeset is an ancestor of another, or the same. It looks at the changesets from `rev` down to `ancestor`, each once.
+    /// How many heads there are. It takes no memory and costs the same however many changesets there are.
+    pub fn head_count(&self) -> usize
+        ensures count { result ≡ head_count self.now.rows }
+        ensures few { result < 2 ^ 32 }
+    {
+        let childless = self.graph.childless();
+        if childless.is_empty() {
+            1
+        } else {
+            childless.len()
+        }
+    }
+
+    /// Whether one changeset is an ancestor of another, or the same; a number that no changeset has is
+    /// neither. It looks at ancestors of `rev` alone, each once and none before `ancestor`, and takes no
+    /// memory where `rev` does not stand after `ancestor`.
     pub fn is_ancestor(&self, ancestor: u32, rev: u32) -> Result<bool, NoMemory>
     where
         A: Copy,
-        requires ancestor { ancestor < length self.now.rows }
-        requires rev { rev < length self.now.rows }
-        ensures { IfOk result (λ answer. IsTrue answer ↔ IsAncestor self.now.rows ancestor rev) }
+        ensures answer { IfOk result (λ answer. IsTrue answer ↔ IsAncestor self.now.rows ancestor rev) }
+        ensures value { IfOk result (λ answer. answer ≡ is_ancestor self.now.rows ancestor rev) }
     {
         let answer = self.graph.is_ancestor(ancestor, rev)?;
         Ok(answer)

@@ -1,6 +1,7 @@
 //! The parents of rows by their numbers: which rows nobody has as a parent, and which are ancestors of which.
 
-ghost use Rattle.std.specs.Prelude.{◌≡◌, ◌↔◌, ℕ, ◌+◌, ◌-◌, ◌<◌, ◌≤◌, ◌^◌, [], ◌∷◌, ◌++◌, length, take, IfOk, OnOk, OnErr, IfSome, IsTrue, slice_get, Some};
+ghost use Rattle.std.specs.Prelude.{◌≡◌, ◌⊎◌, ◌↔◌, ℕ, ◌+◌, ◌-◌, ◌<◌, ◌≤◌, ◌^◌, [], ◌∷◌, ◌++◌, length, take};
+ghost use Rattle.std.specs.Prelude.{IfOk, OnOk, OnErr, IfSome, IsTrue, slice_get, Some};
 ghost use Rattle.hg_log.specs.Graph.{AreEarlier, AreChildless, Reaches};
 
 use crate::child_counts::ChildCounts;
@@ -13,6 +14,15 @@ use std::marker::Model;
 pub struct Parents {
     pub p1: Option<u32>,
     pub p2: Option<u32>,
+}
+
+impl Parents {
+    /// Whether a row is one of them.
+    pub fn has(self, row: u32) -> bool
+        ensures { IsTrue result ↔ ((self.p1 ≡ Some row) ⊎ (self.p2 ≡ Some row)) }
+    {
+        self.p1 == Some(row) || self.p2 == Some(row)
+    }
 }
 
 /// The parents of each row. A parent comes before its child.
@@ -46,28 +56,35 @@ impl<A: Allocator + Copy> Graph<A> {
         }
     }
 
-    /// Whether `ancestor` is an ancestor of `row`. It marks ancestors from `row` down, each row once.
+    /// Whether `ancestor` is an ancestor of `row`, or the same. It looks at the rows that it reaches from
+    /// `row` down, each once and none before `ancestor`, and stops at a child of `ancestor`. It keeps a byte
+    /// for each number from `row` down to the lowest that it reached, and takes no memory where `row` does
+    /// not stand after `ancestor`.
     pub fn is_ancestor(&self, ancestor: u32, row: u32) -> Result<bool, AllocError>
-        requires ancestor { ancestor < length self.now }
-        requires row { row < length self.now }
         ensures { IfOk result (λ answer. IsTrue answer ↔ Reaches self.now ancestor row) }
     {
-        let alloc = *self.parents.allocator();
-        let low = ancestor as usize;
-        let high = row as usize;
-        if high < low {
+        if row as usize >= self.parents.len() || row < ancestor {
             return Ok(false);
         }
-        let mut marks = Marks::new(alloc, low, high - low + 1)?;
-        marks.mark(Some(row));
-        for child in (low + 1..high + 1).rev() {
+        if row == ancestor {
+            return Ok(true);
+        }
+        let mut marks = Marks::new(*self.parents.allocator(), ancestor, row);
+        marks.mark(Some(row))?;
+        for child in (ancestor + 1..row + 1).rev() {
+            if marks.end_above(child) {
+                return Ok(false);
+            }
             if marks.has(child) {
-                let parents = self.parents[child];
-                marks.mark(parents.p1);
-                marks.mark(parents.p2);
+                let parents = self.parents[child as usize];
+                if parents.has(ancestor) {
+                    return Ok(true);
+                }
+                marks.mark(parents.p1)?;
+                marks.mark(parents.p2)?;
             }
         }
-        Ok(marks.has(low))
+        Ok(false)
     }
 }
 

@@ -9,12 +9,16 @@ mod add;
 mod changelog;
 mod child_counts;
 mod graph;
+mod laws;
 mod marks;
 mod node;
 mod order;
 
 pub use add::{AddFault, Added, every_entry_has_an_answer, one_answer};
 pub use changelog::Changelog;
+pub use laws::{
+    ancestors_come_first, heads_after_a_row, one_list_of_heads, other_rows_keep_their_ancestors,
+};
 pub use node::node_id;
 
 #[cfg(test)]

@@ -1,49 +1,83 @@
 //! Marks on rows.
 
-ghost use Rattle.std.specs.Prelude.{◌≡◌, ◌↔◌, ℕ, ◌+◌, ◌<◌, ◌≤◌, length, IfOk, IfSome, IsTrue};
+ghost use Rattle.std.specs.Prelude.{◌≡◌, ◌↔◌, ℕ, ◌-◌, ◌<◌, ◌≤◌, [], length, vec_len};
+ghost use Rattle.std.specs.Prelude.{OnOk, IfSome, IsTrue, slice_index_or, false};
 ghost use Rattle.hg_log.specs.Marks.{IsMarked, AreMarked};
 
 use std::alloc::{AllocError, Allocator, Global};
 
-/// Which rows are marked, of some that follow each other.
+/// Which rows are marked, of those from `top` down to the one after `after`. There are as many marks as the
+/// lowest row that was marked wants.
 #[derive(Drop)]
 pub struct Marks<A: Allocator = Global> {
-    pub from: usize,
+    pub after: u32,
+    pub top: u32,
     pub marked: Vec<bool, A>,
-}
-
-impl<A: Allocator + Copy> Marks<A> {
-    /// Marks for so many rows from one on, none of which is marked.
-    pub fn new(alloc: A, from: usize, count: usize) -> Result<Self, AllocError>
-        ensures from { IfOk result (λ m. m.from ≡ from) }
-        ensures count { IfOk result (λ m. length m.marked.items ≡ count) }
-        ensures none { IfOk result (λ m. (row : ℕ) → ¬ (IsMarked m.from m.marked.items row)) }
-    {
-        let marked = vec![in alloc; false; count]?;
-        Ok(Marks { from, marked })
-    }
+    ghost few: { vec_len marked ≤ top - after },
 }
 
 impl<A: Allocator> Marks<A> {
-    /// Whether a row is marked.
-    pub fn has(&self, row: usize) -> bool
-        requires from { self.now.from ≤ row }
-        requires within { row < self.now.from + length self.now.marked.items }
-        ensures { IsTrue result ↔ IsMarked self.now.from self.now.marked.items row }
+    /// No marks.
+    pub fn new(alloc: A, after: u32, top: u32) -> Self
+        ensures after { result.after ≡ after }
+        ensures top { result.top ≡ top }
+        ensures none { result.marked.items ≡ [] }
     {
-        self.marked[row - self.from]
+        Marks {
+            after,
+            top,
+            marked: Vec::new(alloc),
+        }
     }
 
-    /// Marks a row, where there is one and it does not stand before the first.
-    pub fn mark(&mut self, row: Option<u32>)
-        requires { IfSome row (λ r. r < self.old.from + length self.old.marked.items) }
-        ensures from { self.new.from ≡ self.old.from }
-        ensures marked { AreMarked self.old.from row self.old.marked.items self.new.marked.items }
+    /// Whether a row is marked.
+    pub fn has(&self, row: u32) -> bool
+        requires { row ≤ self.now.top }
+        ensures { IsTrue result ↔ IsMarked self.now.top self.now.marked.items row }
     {
-        let Some(row) = row else { return };
-        let row = row as usize;
-        if row >= self.from {
-            self.marked[row - self.from] = true;
+        let place = (self.top - row) as usize;
+        place < self.marked.len() && self.marked[place]
+    }
+
+    /// Whether no row is marked, of this one and those before it.
+    pub fn end_above(&self, row: u32) -> bool
+        requires { row ≤ self.now.top }
+        ensures { IsTrue result → (r : ℕ) → r ≤ row → ¬ (IsMarked self.now.top self.now.marked.items r) }
+    {
+        let place = (self.top - row) as usize;
+        place >= self.marked.len()
+    }
+
+    /// Marks a row, where there is one and it stands after `after`.
+    pub fn mark(&mut self, row: Option<u32>) -> Result<(), AllocError>
+        requires { IfSome row (λ r. r ≤ self.old.top) }
+        ensures after { self.new.after ≡ self.old.after }
+        ensures top { self.new.top ≡ self.old.top }
+        ensures marked { OnOk result
+            (AreMarked self.old.after self.old.top row self.old.marked.items self.new.marked.items) }
+    {
+        let Some(row) = row else { return Ok(()) };
+        if row <= self.after {
+            return Ok(());
         }
+        let place = (self.top - row) as usize;
+        self.make_room(place)?;
+        self.marked[place] = true;
+        Ok(())
+    }
+
+    /// Makes room for the mark at a place.
+    fn make_room(&mut self, place: usize) -> Result<(), AllocError>
+        requires { place < self.old.top - self.old.after }
+        ensures after { self.new.after ≡ self.old.after }
+        ensures top { self.new.top ≡ self.old.top }
+        ensures room { OnOk result (place < length self.new.marked.items) }
+        ensures same { OnOk result ((k : ℕ)
+            → slice_index_or self.new.marked.items k false ≡ slice_index_or self.old.marked.items k false) }
+    {
+        if place >= self.marked.len() {
+            self.marked.resize(place + 1, false)?;
+        }
+        Ok(())
     }
 }

@@ -1,10 +1,11 @@
-//! Changesets that Mercurial made, by their bytes; the faults in their order; memory that runs out.
+//! Changesets that Mercurial made, by their bytes; the faults in their order.
+
+mod memory;
 
 use super::*;
 use hg_delta::DeltaFault;
 use hg_types::{Entry, Limits, NoMemory, Node, Seq, TryClone};
-use linked_list_allocator::LocalHeap;
-use std::alloc::{Allocator, Global};
+use std::alloc::{AllocError, Allocator, Global};
 use std::hash::RandomState;
 use std::test::*;
 
@@ -93,9 +94,9 @@ fn hunk<A: Allocator + Copy>(
     end: u8,
     content: &[u8],
 ) -> Result<Seq<u8, A>, NoMemory> {
-    let length = (content.len() % 256) as u8;
-    let head = [0, 0, 0, start, 0, 0, 0, end, 0, 0, 0, length];
-    let mut delta = Vec::from_slice(alloc, &head)?;
+    let length = u32::try_from(content.len()).unwrap_or(0);
+    let mut delta = Vec::from_slice(alloc, &[0, 0, 0, start, 0, 0, 0, end])?;
+    delta.extend_from_slice(&length.to_be_bytes())?;
     delta.extend_from_slice(content)?;
     Ok(Seq::from_vec(delta))
 }
@@ -155,21 +156,17 @@ fn has_parents<A: Allocator>(log: &Changelog<A>, rev: u32, p1: Node, p2: Node) -
     (rev as usize) < log.len() && log.parents(rev) == (p1, p2)
 }
 
-/// Whether the log has these heads.
+/// Whether the log has these heads, and so many.
 fn has_heads(alloc: Global, log: &Changelog, heads: &[Node]) -> bool {
     match log.heads(alloc) {
-        Ok(told) => told.as_slice() == heads,
+        Ok(told) => told.as_slice() == heads && log.head_count() == heads.len(),
         Err(NoMemory) => false,
     }
 }
 
-/// What `is_ancestor` answers, where there are such rows.
-fn ancestor(log: &Changelog, ancestor: u32, rev: u32) -> Option<bool> {
-    if (ancestor as usize) < log.len() && (rev as usize) < log.len() {
-        log.is_ancestor(ancestor, rev).ok()
-    } else {
-        None
-    }
+/// Whether these are the numbers of the parents of the row of that number.
+fn has_parent_revs(log: &Changelog, rev: u32, p1: Option<u32>, p2: Option<u32>) -> bool {
+    (rev as usize) < log.len() && log.parent_revs(rev) == (p1, p2)
 }
 
 #[test]
@@ -313,10 +310,21 @@ fn the_heads_before_a_merge_and_after_it(rt: HostRuntime) -> Result<(), Fail> {
 fn the_ancestors_of_a_merge(rt: HostRuntime) -> Result<(), Fail> {
     let mut log = new_log(rt)?;
     assert!(rt; put_all(rt.alloc(), &mut log, &merged()));
-    for (rev, is) in [(0, true), (1, true), (2, true), (3, false), (4, true)] {
-        assert_eq!(rt; ancestor(&log, rev, 4), Some(is));
+    for (rev, is) in [
+        (0, true),
+        (1, true),
+        (2, true),
+        (3, false),
+        (4, true),
+        (5, false),
+    ] {
+        assert_eq!(rt; log.is_ancestor(rev, 4), Ok(is), "row {rev}");
     }
-    assert_eq!(rt; ancestor(&log, 4, 1), Some(false));
+    for (ancestor, rev) in [(4, 1), (0, 5), (5, 5), (7, 9)] {
+        assert_eq!(rt; log.is_ancestor(ancestor, rev), Ok(false), "row {rev}");
+    }
+    assert!(rt; has_parent_revs(&log, 4, Some(1), Some(2)));
+    assert!(rt; has_parent_revs(&log, 3, Some(0), None) && has_parent_revs(&log, 0, None, None));
     Ok(())
 }
 
@@ -360,7 +368,7 @@ fn a_clone(rt: HostRuntime) -> Result<(), Fail> {
     );
     assert!(rt; has_text(&copy, &ADD_A, TEXT_A));
     assert_eq!(rt; copy.rev(&ADD_B), Some(1));
-    assert_eq!(rt; ancestor(&copy, 0, 2), Some(true));
+    assert_eq!(rt; copy.is_ancestor(0, 2), Ok(true));
     assert_eq!(rt; log.len(), 2);
     Ok(())
 }
@@ -445,100 +453,5 @@ fn as_many_rows_as_are_allowed_and_one_more(rt: HostRuntime) -> Result<(), Fail>
         assert_eq!(rt; put(rt.alloc(), &mut log, more), answer);
     }
     assert_eq!(rt; log.len(), 2);
-    Ok(())
-}
-
-/// How far a log over a small heap came.
-#[derive(Clone, Copy, PartialEq, Eq)]
-enum Reached {
-    Adding,
-    Copying,
-    End,
-    Wrong,
-}
-
-/// Whether the log has these rows and no others.
-fn has_rows<A: Allocator>(log: &Changelog<A>, rows: &[Given]) -> bool {
-    let mut all = log.len() == rows.len();
-    for row in rows {
-        all = all && log.knows(&row.node) && has_text(log, &row.node, row.text);
-    }
-    all
-}
-
-/// Puts changesets into a log, their deltas in a heap of their own, and copies it, until memory is refused. A refused row leaves
-/// the rows before it.
-fn fill<'h>(
-    heap: &'h LocalHeap,
-    deltas: &'h LocalHeap,
-    log: &mut Changelog<&'h LocalHeap>,
-    rows: &[Given],
-) -> Reached {
-    for (count, row) in rows.iter().enumerate() {
-        match put(deltas, log, *row) {
-            Ok(Added::New(_)) => {}
-            Err(AddFault::NoMemory) if has_rows(log, &rows[..count]) => return Reached::Adding,
-            _ => return Reached::Wrong,
-        }
-    }
-    if log.try_clone(heap).is_err() {
-        return Reached::Copying;
-    }
-    Reached::End
-}
-
-fn fill_new(heap: &LocalHeap, deltas: &LocalHeap, state: RandomState) -> Reached {
-    let mut log = Changelog::new(heap, state, Limits::standard());
-    fill(heap, deltas, &mut log, &merged())
-}
-
-/// Over heaps of each multiple of 16 bytes, so that each growth is refused in turn.
-#[test]
-fn each_growth_refused(rt: HostRuntime) -> Result<(), Fail> {
-    let state = RandomState::new(&rt)?;
-    let deltas = LocalHeap::new(rt.alloc(), 1024)?;
-    let mut seen = [false; 3];
-    for sixteens in 1..512usize {
-        let heap = LocalHeap::new(rt.alloc(), sixteens * 16)?;
-        match fill_new(&heap, &deltas, state) {
-            Reached::Adding => seen[0] = true,
-            Reached::Copying => seen[1] = true,
-            Reached::End => seen[2] = true,
-            Reached::Wrong => assert!(rt; false, "with {sixteens} times 16 bytes"),
-        }
-    }
-    assert!(rt; seen == [true; 3]);
-    Ok(())
-}
-
-/// Over a heap with nothing left: heads, an ancestor and a copy are refused, and the other looks and a cut want nothing.
-#[test]
-fn no_memory_for_looking_and_cutting(rt: HostRuntime) -> Result<(), Fail> {
-    let heap = LocalHeap::new(rt.alloc(), 8192)?;
-    let mut log = Changelog::new(&heap, RandomState::new(&rt)?, Limits::standard());
-    let rows = merged();
-    for row in rows {
-        assert!(rt; put(&heap, &mut log, row).is_ok());
-    }
-    // What is left of the heap is taken, down to the last byte.
-    let mut taken = Vec::new(rt.alloc());
-    for size in [4096usize, 2048, 1024, 512, 256, 128, 64, 32, 16, 8, 4, 2, 1] {
-        for _ in 0..16u32 {
-            if let Ok(block) = Vec::<u8, _>::with_capacity(&heap, size) {
-                taken.push(block)?;
-            }
-        }
-    }
-    assert!(rt; Vec::<u8, _>::with_capacity(&heap, 1).is_err());
-    assert!(rt; log.heads(&heap).is_err() && log.try_clone(&heap).is_err());
-    assert!(rt; log.len() == 5);
-    if log.len() > 4 {
-        assert!(rt; log.is_ancestor(0, 4).is_err());
-    }
-    assert!(rt; has_rows(&log, &rows) && has_parents(&log, 4, FIRST, SECOND));
-    if log.len() > 2 {
-        log.cut_back(2);
-    }
-    assert!(rt; has_rows(&log, &rows[..2]) && !log.knows(&SECOND));
     Ok(())
 }

@@ -15,6 +15,9 @@ returns-then-knows-clause-answer g c = λ _. known (c.if-knows.ensures.0 refl)
 pub returns-then-knows-clause-value : goal.returns-then-knows-clause-value
 returns-then-knows-clause-value g c = λ _. answer_known c.args.self.now c.args.entry.now (c.if-knows.ensures.0 refl)
 
+pub returns-then-knows-clause-leaves : goal.returns-then-knows-clause-leaves
+returns-then-knows-clause-leaves g c = (c.if-knows.ensures.0 refl, refl)
+
 pub returns-in_err-text-clause-value : goal.returns-in_err-text-clause-value
 returns-in_err-text-clause-value g c = λ other.
     let p = err_from_is_err_and c.from_residual-in_err-text.result c.from_residual-in_err-text.ensures.1 in
@@ -33,6 +36,7 @@ returns-then-not-agrees g c =
     record {
       answer = λ _. mismatch c.in_ok-text.text c.in_ok-text.ensures.text other;
       value = λ _. answer_mismatch log c.args.entry.now c.in_ok-text.text c.in_ok-parents.ensures.known (c.in_ok-text.ensures.value (λ e. absurd cc)) other;
+      leaves = tt;
       err = refl;
     }
 
@@ -45,6 +49,7 @@ returns-then-rev-self g c =
     record {
       answer = λ _. too_many c.in_ok-text.text c.in_ok-text.ensures.text agrees full;
       value = λ _. answer_too_many log c.args.entry.now c.in_ok-text.text c.in_ok-parents.ensures.known (c.in_ok-text.ensures.value (λ e. absurd cc)) agrees full;
+      leaves = tt;
       err = refl;
     }
 
@@ -60,5 +65,6 @@ returns-in-Ok g c =
     record {
       answer = λ _. rw (c.in-Ok.ensures.ok, c.len-rev.ensures.len) (added c.in_ok-text.text c.in_ok-text.ensures.text agrees room);
       value = λ _. rw (c.in-Ok.ensures.ok, c.len-rev.ensures.len) (answer_added log c.args.entry.now c.in_ok-text.text c.in_ok-parents.ensures.known (c.in_ok-text.ensures.value (λ e. absurd cc)) agrees room);
+      leaves = record { next = c.len-rev.ensures.len; text = c.in_ok-text.text; appended = c.in-Ok.ensures.ok };
       err = tt;
     }

@@ -5,6 +5,7 @@ use Rattle.hg_types.specs.NullId.{null_id}
 use Rattle.hg_log.specs.Heads.{ids}
 use Rattle.hg_log.specs.Inside.{rows_of}
 use Rattle.hg_log.proofs.HeadLemmas.{null_node, ids_none, ids_more, ids_all, are_heads, no_heads}
+use Rattle.hg_log.proofs.HeadValues.{heads_value}
 use Rattle.hg_log.proofs.changelog.Changelog.heads.Goals as goal
 
 pub returns-then-is_empty : goal.returns-then-is_empty
@@ -12,7 +13,10 @@ returns-then-is_empty g c =
     let none : length c.childless-childless.result.now ≡ 0 = eqb-true _ 0 (sym c.is_empty.ensures ∙ c.if-is_empty.true) in
     let items : c.push.new.self.items ≡ null_node ∷ [] = search rules in
     let heads : ids c.from_vec.result ≡ null_id ∷ [] = ap ids (c.from_vec.ensures ∙ items) in
-    rw (← c.self.view_is, heads) (no_heads (rows_of c.self.inside.rows.entries) c.self.inside.graph c.self.inside.limits c.self.invariant c.childless-childless.result.now c.childless-childless.ensures none)
+    let rows = rows_of c.self.inside.rows.entries in
+    let are = no_heads rows c.self.inside.graph c.self.inside.limits c.self.invariant c.childless-childless.result.now c.childless-childless.ensures none in
+    let value = heads_value rows c.self.invariant.lawful (null_id ∷ []) are in
+    record { heads = rw (← c.self.view_is, heads) are; value = rw (← c.self.view_is, heads) value; ascending = rw (c.from_vec.ensures, items) (λ k d low high. absurd (omega (arith, high))) }
 
 pub loop-rev-init : goal.loop-rev-init
 loop-rev-init g c = rw c.new-heads.ensures.items (ids_none c.args.self.now.rows [])
@@ -33,5 +37,8 @@ returns g c =
     let some : length revs ≢ 0 = eqb-false (length revs) 0 (sym c.is_empty.ensures ∙ c.if-is_empty.false) in
     let are = ids_all c.args.self.now.rows revs c.loop-rev.rev-index c.loop-rev.heads.items c.loop-rev-test.false c.loop-rev.invariant in
     let shown = rw (← c.self.view_is) at are in
-    rw (← c.self.view_is, c.from_vec-2.ensures) (are_heads (rows_of c.self.inside.rows.entries) c.self.inside.graph c.self.inside.limits c.self.invariant revs c.childless-childless.ensures
-    c.loop-rev.heads.items c.sort_unstable.new.self.items shown c.sort_unstable.ensures.permutation c.sort_unstable.ensures.sorted some)
+    let rows = rows_of c.self.inside.rows.entries in
+    let heads = are_heads rows c.self.inside.graph c.self.inside.limits c.self.invariant revs c.childless-childless.ensures
+    c.loop-rev.heads.items c.sort_unstable.new.self.items shown c.sort_unstable.ensures.permutation c.sort_unstable.ensures.sorted some in
+    let value = heads_value rows c.self.invariant.lawful (ids c.sort_unstable.new.self.items) heads in
+    record { heads = rw (← c.self.view_is, c.from_vec-2.ensures) heads; value = rw (← c.self.view_is, c.from_vec-2.ensures) value; ascending = rw c.from_vec-2.ensures c.sort_unstable.ensures.sorted }

@@ -1,0 +1,2 @@
+-- What proofs of callers may cite: this module alone. The laws of parents and ancestors.
+pub use Rattle.hg_log.proofs.ParentLemmas.{ordered, parents_kept, leads_on, not_later, leads_test, leads_same, leads_ancestor, ancestor_leads, ancestor_test}
