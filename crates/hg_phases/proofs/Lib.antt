@@ -1,0 +1,9 @@
+mod Ranks
+mod Ranges
+mod Rising
+mod Kept
+mod Marking
+mod Steps
+mod RootLaws
+mod EntryLemmas
+pub mod CallerLemmas

@@ -1,0 +1,6 @@
+pub mod Order
+pub mod Roots
+pub mod Phases
+pub mod Walk
+pub mod Tape
+pub mod Entries

@@ -1,0 +1,38 @@
+//! Why a payload gives no entries.
+
+ghost use Rattle.std.specs.Prelude.{◌≡◌};
+ghost use Rattle.hg_phases.specs.declared.fault.EntryFault.TheVariants.{NoMemory as Refused};
+
+use hg_types::NoMemory;
+use std::alloc::AllocError;
+use thiserror::Error;
+
+/// Why a payload gives no entries. `Short` comes before `BadPhase`.
+#[derive(Clone, Copy, Debug, PartialEq, Eq, Error)]
+pub enum EntryFault {
+    /// 1: the length is no multiple of 24.
+    #[error("the entries of phases are short")]
+    Short,
+    /// 2: an entry has another phase than 0, 1 or 2.
+    #[error("an entry has an unknown phase")]
+    BadPhase,
+    /// 3: memory was refused.
+    #[error("out of memory")]
+    NoMemory,
+}
+
+impl From<NoMemory> for EntryFault {
+    ghost from_gives = { λ _ fault. fault ≡ Refused };
+
+    fn from(_refused: NoMemory) -> Self {
+        EntryFault::NoMemory
+    }
+}
+
+impl From<AllocError> for EntryFault {
+    ghost from_gives = { λ _ fault. fault ≡ Refused };
+
+    fn from(_refused: AllocError) -> Self {
+        EntryFault::NoMemory
+    }
+}

@@ -1,0 +1,46 @@
+//! The order of phases.
+
+ghost use Rattle.std.specs.Prelude.{◌≡◌, ◌<◌, IfSome, length};
+ghost use Rattle.hg_phases.specs.Order.{rank, greater, phase_of, phase_from};
+
+use hg_types::Phase;
+
+/// The number of a phase.
+pub fn rank(phase: Phase) -> u8
+    ensures { result ≡ rank phase }
+{
+    match phase {
+        Phase::Public => 0,
+        Phase::Draft => 1,
+        Phase::Secret => 2,
+    }
+}
+
+/// The phase of a number.
+pub fn phase_from(number: u32) -> Option<Phase>
+    ensures { result ≡ phase_from number }
+{
+    match number {
+        0 => Some(Phase::Public),
+        1 => Some(Phase::Draft),
+        2 => Some(Phase::Secret),
+        _ => None,
+    }
+}
+
+pub fn greater(a: Phase, b: Phase) -> Phase
+    ensures { result ≡ greater a b }
+{
+    if rank(a) <= rank(b) { b } else { a }
+}
+
+/// The phase of a parent among those of rows. Where there is no parent, it is public.
+pub fn phase_of(phases: &[Phase], parent: Option<u32>) -> Phase
+    requires { IfSome parent (λ r. r < length phases.now) }
+    ensures { result ≡ phase_of phases.now parent }
+{
+    match parent {
+        Some(row) => phases[row as usize],
+        None => Phase::Public,
+    }
+}
