@@ -1,5 +1,7 @@
-//! What can be wrong with a base-85 text.
+//! What can be wrong with base-85 text, a payload of bookmarks, and a pushed key.
 
+use hg_obs::MarkerFault;
+use hg_types::NoMemory;
 use std::alloc::AllocError;
 use thiserror::Error;
 
@@ -29,5 +31,87 @@ impl From<AllocError> for Base85Fault {
 
     fn from(_refused: AllocError) -> Self {
         Base85Fault::NoMemory
+    }
+}
+
+/// Why the payload of the parts `bookmarks` and `check:bookmarks` was not read.
+#[derive(Clone, Copy, Debug, PartialEq, Eq, Error)]
+pub enum BookmarkFault {
+    /// 1: the payload ends inside an entry.
+    #[error("a payload of bookmarks is short")]
+    Short,
+    /// 2: a growth was refused.
+    #[error("out of memory")]
+    NoMemory,
+}
+
+impl From<NoMemory> for BookmarkFault {
+    ghost use Rattle.std.specs.Prelude.{◌≡◌};
+    ghost use Rattle.hg_keys.specs.declared.fault.BookmarkFault.TheVariants.{NoMemory as Refused};
+
+    ghost from_gives = { λ _ fault. fault ≡ Refused };
+
+    fn from(_refused: NoMemory) -> Self {
+        BookmarkFault::NoMemory
+    }
+}
+
+/// Why a call of pushkey is refused. A call whose answer is false is not: it changes nothing.
+#[derive(Clone, Copy, Debug, PartialEq, Eq, Error)]
+pub enum KeyFault {
+    /// 1: a dump of markers is not base-85.
+    #[error("a dump of markers is not base-85")]
+    BadBase85(Base85Fault),
+    /// 2: a dump of markers is no marker data.
+    #[error("a dump of markers is no marker data")]
+    BadMarkers(MarkerFault),
+    /// 3: a growth was refused.
+    #[error("out of memory")]
+    NoMemory,
+}
+
+impl From<NoMemory> for KeyFault {
+    ghost use Rattle.std.specs.Prelude.{◌≡◌};
+    ghost use Rattle.hg_keys.specs.declared.fault.KeyFault.TheVariants.{NoMemory as Refused};
+
+    ghost from_gives = { λ _ fault. fault ≡ Refused };
+
+    fn from(_refused: NoMemory) -> Self {
+        KeyFault::NoMemory
+    }
+}
+
+/// Want of memory is told as such.
+impl From<Base85Fault> for KeyFault {
+    ghost use Rattle.std.specs.Prelude.{◌≡◌};
+    ghost use Rattle.hg_keys.specs.KeyFaults.{told_text};
+
+    ghost from_gives = { λ fault told. told ≡ told_text fault };
+
+    fn from(fault: Base85Fault) -> Self {
+        match fault {
+            Base85Fault::NoMemory => KeyFault::NoMemory,
+            Base85Fault::BadDigit | Base85Fault::BadLength | Base85Fault::Overflow => {
+                KeyFault::BadBase85(fault)
+            }
+        }
+    }
+}
+
+/// Want of memory is told as such.
+impl From<MarkerFault> for KeyFault {
+    ghost use Rattle.std.specs.Prelude.{◌≡◌};
+    ghost use Rattle.hg_keys.specs.KeyFaults.{told_markers};
+
+    ghost from_gives = { λ fault told. told ≡ told_markers fault };
+
+    fn from(fault: MarkerFault) -> Self {
+        match fault {
+            MarkerFault::NoMemory => KeyFault::NoMemory,
+            MarkerFault::BadVersion
+            | MarkerFault::Short
+            | MarkerFault::BadMetadata
+            | MarkerFault::NullSuccessor => KeyFault::BadMarkers(fault),
+        }
     }
 }

@@ -1,16 +1,50 @@
-//! The base-85 text in which a client pushes markers.
+//! Base-85, bookmarks and pushkey.
 //!
-//! Nothing here starts a thread or waits. [`base85_encode`] and [`base85_decode`] are the two directions of
-//! Mercurial's base-85, in which a pushkey carries marker data.
+//! [`base85_encode`] and [`base85_decode`] are the two directions of Mercurial's base-85, in which a pushkey
+//! carries marker data. [`Bookmarks`] is a map from names to changesets, with a mark to go back to. Nothing
+//! here starts a thread or waits.
+//!
+//! [`read_bookmarks`] reads the payload of the parts `bookmarks` and `check:bookmarks`, as Mercurial's
+//! `internals.bundles` has them: entries, up to its end.
+//!
+//! | bytes | field |
+//! |---|---|
+//! | 20 | the id of a changeset; 20 bytes ff are none |
+//! | 2 | N, the number of bytes of the name; the most significant byte first |
+//! | N | the name |
+//!
+//! [`push_key`] sets a key of a namespace. It answers true where that took effect, or was so already.
+//!
+//! - `phases`: the key is the id of a known changeset, in 40 hexadecimal digits of either case; the values
+//!   are `0`, `1` or `2`. Where the present phase is the old value and the new one is lower, the changeset
+//!   and its ancestors are advanced. Else the answer is true only where the present phase is the new one.
+//! - `bookmarks`: the key is a name; a value is the id of a known changeset, as above, or nothing. The answer
+//!   is false for a name with `@` that does not end in `@`, and where the present value, in lower case
+//!   digits, is neither the old one nor the new one. Else the bookmark is set, or deleted.
+//! - `obsolete`: the key begins with `dump`, and the old value is empty. The new one is marker data in
+//!   base-85, which is merged.
+//!
+//! Any other call is answered false. The null id is known, and public.
 #![tactic(auto)]
 
 mod base85;
+mod bookmarks;
 mod fault;
+mod key_text;
+mod keys;
+mod known;
 mod law;
+mod payload;
 
 pub use base85::{base85_decode, base85_encode};
-pub use fault::Base85Fault;
+pub use bookmarks::{BookmarkMark, Bookmarks};
+pub use fault::{Base85Fault, BookmarkFault, KeyFault};
+pub use keys::{KeyCall, push_key};
+pub use known::{is_known, phase_of_node};
 pub use law::decoding_gives_back;
+pub use payload::read_bookmarks;
 
+#[cfg(test)]
+mod bookmarks_tests;
 #[cfg(test)]
 mod tests;

@@ -88,3 +88,15 @@ fn each_growth_refused(rt: HostRuntime) -> Result<(), Fail> {
     assert!(rt; refused > 0 && done > 0);
     Ok(())
 }
+
+/// 100,003 bytes are 125,004 digits: a heap with room for them and little more is enough, so no more is asked for than comes.
+#[test]
+fn many_bytes(rt: HostRuntime) -> Result<(), Fail> {
+    let bytes = vec![in rt.alloc(); 171u8; 100_003]?;
+    let heap = LocalHeap::new(rt.alloc(), 125_200)?;
+    assert_eq!(rt; base85_encode(&heap, bytes.as_slice())?.len(), 125_004);
+    let text = base85_encode(rt.alloc(), bytes.as_slice())?;
+    let heap = LocalHeap::new(rt.alloc(), 100_200)?;
+    assert!(rt; base85_decode(&heap, text.as_slice())?.as_slice() == bytes.as_slice());
+    Ok(())
+}

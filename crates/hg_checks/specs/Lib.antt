@@ -1,0 +1,5 @@
+pub mod Checked
+pub mod CheckFaults
+pub mod Heads
+pub mod Phases
+pub mod Bookmarks

@@ -1,0 +1,84 @@
+//! `check:bookmarks`: the bookmarks that the client saw.
+
+ghost use Rattle.std.specs.Prelude.{◌≡◌};
+ghost use Rattle.hg_keys.specs.PushKey.{are_same as same_test, is_known_target as known_target_test};
+ghost use Rattle.hg_checks.specs.Checked.{Gives, all_checked};
+ghost use Rattle.hg_checks.specs.Bookmarks.{bookmark_checked, bookmarks_checked};
+
+use crate::fault::CheckFault;
+use hg_keys::{Bookmarks, is_known, read_bookmarks};
+use hg_log::Changelog;
+use hg_types::{Node, Seq};
+use std::alloc::Allocator;
+
+/// Whether each name in a payload is on the changeset that stands before it. The payload is entries, as the
+/// part `bookmarks` has them: an id of 20 bytes, the size of a name in two bytes, the most significant first,
+/// and the name, which may be empty. The id of 20 bytes ff says that the name is no bookmark. The null id is
+/// known.
+///
+/// Refused is a payload that ends inside an entry (`Short`). After that the first entry decides that has an
+/// unknown changeset (`UnknownNode`) or whose name is on another one than it says (`Raced`).
+pub fn check_bookmarks<A: Allocator + Copy>(
+    alloc: A,
+    log: &Changelog<A>,
+    bookmarks: &Bookmarks<A>,
+    payload: &[u8],
+) -> Result<(), CheckFault>
+    ensures { Gives result (bookmarks_checked log.now.rows bookmarks.now.current payload.now) }
+{
+    let entries = read_bookmarks(alloc, payload)?;
+    check_each(log, bookmarks, entries.as_slice())
+}
+
+/// The entries in turn.
+fn check_each<A: Allocator>(
+    log: &Changelog<A>,
+    bookmarks: &Bookmarks<A>,
+    entries: &[(Option<Node>, Seq<u8, A>)],
+) -> Result<(), CheckFault>
+    ensures { result ≡ all_checked (bookmark_checked log.now.rows bookmarks.now.current) entries.now }
+{
+    for entry in entries {
+        check_entry(log, bookmarks, entry.0, entry.1.as_slice())?;
+    }
+    Ok(())
+}
+
+/// Whether a name is on the changeset that the client saw it on, or on none.
+fn check_entry<A: Allocator>(
+    log: &Changelog<A>,
+    bookmarks: &Bookmarks<A>,
+    seen: Option<Node>,
+    name: &[u8],
+) -> Result<(), CheckFault>
+    ensures { result ≡ bookmark_checked log.now.rows bookmarks.now.current (seen, name.now) }
+{
+    if !is_known_or_none(log, seen) {
+        return Err(CheckFault::UnknownNode);
+    }
+    if !are_same(bookmarks.get(name), seen) {
+        return Err(CheckFault::Raced);
+    }
+    Ok(())
+}
+
+/// Whether there is no changeset, or a known one.
+fn is_known_or_none<A: Allocator>(log: &Changelog<A>, node: Option<Node>) -> bool
+    ensures { result ≡ known_target_test log.now.rows node }
+{
+    match node {
+        Some(node) => is_known(log, &node),
+        None => true,
+    }
+}
+
+/// Whether both are the same changeset, or none.
+fn are_same(node: Option<Node>, other: Option<Node>) -> bool
+    ensures { result ≡ same_test node other }
+{
+    match (node, other) {
+        (Some(node), Some(other)) => node.0 == other.0,
+        (None, None) => true,
+        _ => false,
+    }
+}

@@ -1,0 +1,19 @@
+-- What a log and its phases tell of an id. The null id is known everywhere, and public.
+use Rattle.std.specs.Prelude.{ℕ, Bool, ◌||◌, List, Option, Some, option_map, is_some, bytes_eq, if◌then◌else◌}
+use Rattle.hg_types.specs.NullId.{null_id}
+use Rattle.hg_types.specs.declared.node.Node.{Node}
+use Rattle.hg_types.specs.declared.phase.Phase.{Phase}
+use Rattle.hg_types.specs.declared.phase.Phase.TheVariants.{Public}
+use Rattle.hg_log.specs.Changeset.{Changeset}
+use Rattle.hg_log.specs.Parents.{rev_of}
+use Rattle.hg_phases.specs.Order.{phase_at}
+
+abbrev pub is_null : Node → Bool
+is_null node = bytes_eq node.0 null_id
+
+abbrev pub is_known : List Changeset → Node → Bool
+is_known rows node = is_null node || is_some (rev_of rows node.0)
+
+-- the phase of a known id
+abbrev pub phase_of_node : List Changeset → List Phase → Node → Option Phase
+phase_of_node rows phases node = if is_null node then Some Public else option_map (phase_at phases) (rev_of rows node.0)
