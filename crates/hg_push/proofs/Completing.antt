@@ -1,28 +1,28 @@
 -- A push that is done had all parts of its sender, and its mark was its last item.
 use Rattle.std.proofs.Common.{ℕ, Bool, true, false, ◌≡◌, ◌≢◌, ◌==◌, ◌&&◌, ◌||◌, ◌+◌, not, List, [], ◌∷◌, ◌++◌, refl, sym, ◌∙◌, ap, subst, arith, length, length-append, append_assoc, if◌then◌else◌, Option, Some, None, Result, Ok, Err}
-use Rattle.std.specs.List.{list_any}
+use Rattle.std.specs.Prelude.{MatchBool}
 use Rattle.std.proofs.lemmas.Bool.Decides.{nat_tests}
 use Rattle.std.proofs.lemmas.List.{append-nil}
 use Rattle.hg_types.specs.declared.part.Part.{Part}
 use Rattle.hg_types.specs.declared.item.What.{What}
-use Rattle.hg_types.specs.declared.item.What.TheVariants.{End}
+use Rattle.hg_types.specs.declared.item.What.TheVariants.{Part as a_part, End, Cut}
 use Rattle.hg_types.specs.declared.item.Item.{Item}
 use Rattle.hg_types.specs.declared.item.Taken.{Taken}
 use Rattle.hg_push.specs.declared.outcome.Outcome.{Outcome}
 use Rattle.hg_push.specs.declared.outcome.Outcome.TheVariants.{Done}
 use Rattle.hg_push.specs.declared.outcome.Reason.{Reason}
 use Rattle.hg_push.specs.History.{History, Running, is_of, closes, is_closed, is_mark, part_in, parts, serial, outcome, decided, told}
-use Rattle.hg_push.specs.World.{World, Event, start, happens, run_all, put, can_put, take_first, items_in, items_of, all_parts, has_mark}
+use Rattle.hg_push.specs.World.{World, Event, start, happens, run_all, put, can_put, take_first, has_opened, items_in, items_of, next_item, all_parts, has_mark}
 use Rattle.hg_push.specs.World.Event.{Open, Put, Take}
-use Rattle.hg_push.specs.Complete.{IsComplete}
+use Rattle.hg_push.specs.Complete.{IsComplete, IsOrderly}
 use Rattle.hg_push.proofs.Trims.{either_way}
 use Rattle.hg_push.proofs.Journals.{decides_closes, end_parts, parts_stay}
-use Rattle.hg_push.proofs.Worlds.{Sound, all_sound, items_of-append}
+use Rattle.hg_push.proofs.Worlds.{Sound, all_sound, items_more, items_of-append, items_same}
 
 -- ---- what a sender put
 
 -- each item has the number of parts before it as its index, and nothing follows a mark
-abbrev IsPutList : {A : Type 0} → ℕ → List (Item A) → Type 0
+abbrev pub IsPutList : {A : Type 0} → ℕ → List (Item A) → Type 0
 IsPutList n [] = Unit {0}
 IsPutList n (x ∷ xs) = (x.index ≡ n) × (is_mark x.what ≡ true → xs ≡ []) × IsPutList (n + length (part_in x.what)) xs
 
@@ -47,7 +47,7 @@ PutLists w = (p : ℕ) → IsPutList 0 (w.puts p)
 can_put_marks : {A : Type 0} (w : World A) (p : ℕ) → can_put w p ≡ true → has_mark (w.puts p) ≡ false
 can_put_marks w p may = grind (arith, may)
 
-put_puts : {A : Type 0} (w : World A) (p : ℕ) (what : What A) → can_put w p ≡ true → PutLists w → PutLists (put w (record { push = p; index = length (all_parts (w.puts p)); what = what }))
+put_puts : {A : Type 0} (w : World A) (p : ℕ) (what : What A) → can_put w p ≡ true → PutLists w → PutLists (put w (next_item w p what))
 put_puts {A} w p what may lists q =
     let item : Item A = record { push = p; index = length (all_parts (w.puts p)); what = what } in
     either_way (p == q)
@@ -62,7 +62,7 @@ take_puts w refused [] lists = lists
 take_puts w refused (item ∷ rest) lists = lists
 
 happens_puts : {A : Type 0} (w : World A) (e : Event A) → PutLists w → PutLists (happens w e)
-happens_puts w (Open p) lists = either_way (list_any (λ q. q == p) w.opened) (λ t. rw t lists) (λ f. rw f lists)
+happens_puts w (Open p) lists = either_way (has_opened w p) (λ t. rw t lists) (λ f. rw f lists)
 happens_puts w (Put p what) lists = either_way (can_put w p) (λ t. rw t (put_puts w p what t lists)) (λ f. rw f lists)
 happens_puts w (Take refused) lists = take_puts w refused w.queue lists
 
@@ -71,12 +71,6 @@ run_puts [] w lists = lists
 run_puts (e ∷ es) w lists = run_puts es (happens w e) (happens_puts w e lists)
 
 -- ---- what a history has of an open push, and of one that is done
-
-items_more : {A : Type 0} (p : ℕ) (x : Taken A) (before : History A) → is_of p x ≡ true → items_of p (items_in (x ∷ before)) ≡ items_of p (items_in before) ++ x.item ∷ []
-items_more p x before own = items_of-append p (items_in before) (x.item ∷ []) ∙ rw own refl
-
-items_same : {A : Type 0} (p : ℕ) (x : Taken A) (before : History A) → is_of p x ≡ false → items_of p (items_in (x ∷ before)) ≡ items_of p (items_in before)
-items_same p x before other = items_of-append p (items_in before) (x.item ∷ []) ∙ rw other (append-nil (items_of p (items_in before)))
 
 open_parts_step : {A : Type 0} (p : ℕ) (x : Taken A) (before : History A) → all_parts (items_of p (items_in before)) ≡ parts p before → is_of p x ≡ true → is_closed p before ≡ false → x.refused ≡ false → all_parts (items_of p (items_in (x ∷ before))) ≡ parts p (x ∷ before)
 open_parts_step p x before same own here taken =
@@ -103,7 +97,7 @@ pub record IsDoneIn {A R D E : Type 0} (run : Running A R D E) (items : List (It
   pub after : R
   pub answered : run before ps ≡ Ok (after, done)
 
-told_done : {R D E : Type 0} (o : Option (Result (R × D) (Reason E))) (done : D) → told o ≡ Some (Done done) → (new : R) × (o ≡ Some (Ok (new, done)))
+pub told_done : {R D E : Type 0} (o : Option (Result (R × D) (Reason E))) (done : D) → told o ≡ Some (Done done) → (new : R) × (o ≡ Some (Ok (new, done)))
 told_done None done is = cc
 told_done (Some (Err reason)) done is = cc
 told_done (Some (Ok (new, given))) done is = (new, cc)
@@ -176,31 +170,48 @@ none_left : {A : Type 0} (xs ys : List (Item A)) → xs ++ ys ≡ [] → (xs ≡
 none_left [] ys e = (refl, e)
 none_left (x ∷ xs) ys e = cc
 
-pub complete : {A R D E : Type 0} (run : Running A R D E) (first : R) (p : ℕ) (w : World A) (done : D) → Sound w → PutLists w → outcome run first p w.history ≡ Some (Done done) → IsComplete {E = E} run (w.puts p) (parts p w.history) done
-complete {A} run first p w done sound lists is =
-    let d = done_in run first p w.history done is in
-    let spelled : w.puts p ≡ d.front ++ d.mark ∷ (d.late ++ items_of p w.queue) =
-    sym (sound.once p) ∙ (items_of-append p (items_in w.history) w.queue ∙ (ap (λ is. is ++ items_of p w.queue) d.spelled ∙ append_assoc d.front (d.mark ∷ d.late) (items_of p w.queue))) in
+-- where a history has the first items of a put list, and the push is done, it has the whole list
+pub complete_of : {A R D E : Type 0} (run : Running A R D E) (first : R) (p : ℕ) (h : History A) (rest put : List (Item A)) (done : D) → items_of p (items_in h) ++ rest ≡ put → IsPutList 0 put → outcome run first p h ≡ Some (Done done) → (rest ≡ []) × IsComplete put (parts p h)
+complete_of {A} run first p h rest put done begins list is =
+    let d = done_in run first p h done is in
+    let spelled : put ≡ d.front ++ d.mark ∷ (d.late ++ rest) = sym begins ∙ (ap (λ is. is ++ rest) d.spelled ∙ append_assoc d.front (d.mark ∷ d.late) rest) in
     let is_end : is_mark d.mark.what ≡ true = ap is_mark d.is_end in
-    let ends = put_ends 0 d.front d.mark (d.late ++ items_of p w.queue) (subst (IsPutList 0) spelled (lists p)) is_end in
-    let whole : w.puts p ≡ d.front ++ d.mark ∷ [] = spelled ∙ ap (λ l. d.front ++ d.mark ∷ l) ends.0 in
+    let ends = put_ends 0 d.front d.mark (d.late ++ rest) (subst (IsPutList 0) spelled list) is_end in
+    let whole : put ≡ d.front ++ d.mark ∷ [] = spelled ∙ ap (λ l. d.front ++ d.mark ∷ l) ends.0 in
     let no_part : part_in d.mark.what ≡ [] = ap part_in d.is_end in
-    let all : all_parts (w.puts p) ≡ parts p w.history =
-    ap all_parts whole ∙ (all_parts-append d.front (d.mark ∷ []) ∙ (ap (λ ps. all_parts d.front ++ (ps ++ [])) no_part ∙ (append-nil (all_parts d.front) ∙ d.same))) in
-    record {
-      parts = sym all;
-      mark = record {
-        front = d.front;
-        mark = d.mark;
-        spelled = whole;
-        is_end = d.is_end;
-        counts = omega (arith, ends.1);
-        parts_alone = ends.2;
-      };
-      before = d.before;
-      after = d.after;
-      answered = d.answered;
-    }
+    let all : all_parts put ≡ parts p h =
+    ap all_parts whole ∙ (all_parts-append d.front (d.mark ∷ []) ∙ (ap (λ ps. all_parts d.front ++ (ps ++ [])) no_part ∙ (append-nil (all_parts d.front) ∙ d.same))) in (
+      (none_left d.late rest ends.0).1,
+      record {
+        parts = sym all;
+        mark = record {
+          front = d.front;
+          mark = d.mark;
+          spelled = whole;
+          is_end = d.is_end;
+          counts = omega (arith, ends.1);
+          parts_alone = ends.2;
+        };
+      },
+    )
 
-pub all_complete : {A R D E : Type 0} (run : Running A R D E) (first : R) (capacity : ℕ) (es : List (Event A)) (p : ℕ) (done : D) → outcome run first p (run_all es (start capacity)).history ≡ Some (Done done) → IsComplete {E = E} run ((run_all es (start capacity)).puts p) (parts p (run_all es (start capacity)).history) done
+complete : {A R D E : Type 0} (run : Running A R D E) (first : R) (p : ℕ) (w : World A) (done : D) → Sound w → PutLists w → outcome run first p w.history ≡ Some (Done done) → IsComplete (w.puts p) (parts p w.history)
+complete run first p w done sound lists is =
+    (complete_of run first p w.history (items_of p w.queue) (w.puts p) done (sym (items_of-append p (items_in w.history) w.queue) ∙ sound.once p) (lists p) is).1
+
+pub all_complete : {A R D E : Type 0} (run : Running A R D E) (first : R) (capacity : ℕ) (es : List (Event A)) (p : ℕ) (done : D) → outcome run first p (run_all es (start capacity)).history ≡ Some (Done done) → IsComplete ((run_all es (start capacity)).puts p) (parts p (run_all es (start capacity)).history)
 all_complete run first capacity es p done is = complete run first p (run_all es (start capacity)) done (all_sound capacity es) (run_puts es (start capacity) (λ p. tt)) is
+
+-- ---- a list in order is one that a sender puts
+
+orderly_step : {A : Type 0} (k index : ℕ) (what : What A) (xs : List (Item A)) → index ≡ k → MatchBool (is_mark what) (xs ≡ []) (IsOrderly (k + 1) xs) → ((j : ℕ) → IsOrderly j xs → IsPutList j xs) → (index ≡ k) × (is_mark what ≡ true → xs ≡ []) × IsPutList (k + length (part_in what)) xs
+orderly_step k index (a_part part) xs same rest more = (same, (λ h. cc), more (k + 1) rest)
+orderly_step k index End xs same rest more = (same, (λ h. rest), subst (IsPutList (k + 0)) (sym rest) tt)
+orderly_step k index (Cut reason) xs same rest more = (same, (λ h. rest), subst (IsPutList (k + 0)) (sym rest) tt)
+
+pub orderly_list : {A : Type 0} (k : ℕ) (xs : List (Item A)) → IsOrderly k xs → IsPutList k xs
+orderly_list k [] are = tt
+orderly_list k (x ∷ xs) are = orderly_step k x.index x.what xs are.0 are.1 (λ j. orderly_list j xs)
+
+pub whole_list : {A : Type 0} (items rest put : List (Item A)) → items ++ rest ≡ put → rest ≡ [] → items ≡ put
+whole_list items rest put begins none = sym (append-nil items) ∙ (ap (λ r. items ++ r) (sym none) ∙ begins)

@@ -17,15 +17,15 @@ use Rattle.hg_push.specs.History.{History, Running, Serial, is_of, is_closed, pa
 use Rattle.hg_push.specs.Changed.{OneByOne, is_done}
 use Rattle.hg_push.proofs.Trims.{either_way}
 
-one_more : {A R D E : Type 0} (run : Running A R D E) (of : ℕ → List (Part A)) (first : R) (journal : List ℕ) (mid last : R) (p : ℕ) (done : D) → OneByOne run of first journal mid → run mid (of p) ≡ Ok (last, done) → OneByOne run of first (journal ++ p ∷ []) last
+pub one_more : {A R D E : Type 0} (run : Running A R D E) (of : ℕ → List (Part A)) (first : R) (journal : List ℕ) (mid last : R) (p : ℕ) (done : D) → OneByOne run of first journal mid → run mid (of p) ≡ Ok (last, done) → OneByOne run of first (journal ++ p ∷ []) last
 one_more run of first [] mid last p done same ran = (last, done, rw same ran, refl)
 one_more run of first (q ∷ journal) mid last p done all ran = (all.0, all.1, all.2, one_more run of all.0 journal mid last p done all.3 ran)
 
-one_same : {A R D E : Type 0} (run : Running A R D E) (of of' : ℕ → List (Part A)) (first : R) (journal : List ℕ) (last : R) → AllByRecursion (λ p. of' p ≡ of p) journal → OneByOne run of first journal last → OneByOne run of' first journal last
+pub one_same : {A R D E : Type 0} (run : Running A R D E) (of of' : ℕ → List (Part A)) (first : R) (journal : List ℕ) (last : R) → AllByRecursion (λ p. of' p ≡ of p) journal → OneByOne run of first journal last → OneByOne run of' first journal last
 one_same run of of' first [] last same all = all
 one_same run of of' first (p ∷ journal) last same all = (all.0, all.1, rw same.0 all.2, one_same run of of' all.0 journal last same.1 all.3)
 
-each_more : (P Q : ℕ → Type 0) → ((p : ℕ) → P p → Q p) → (xs : List ℕ) → AllByRecursion P xs → AllByRecursion Q xs
+pub each_more : (P Q : ℕ → Type 0) → ((p : ℕ) → P p → Q p) → (xs : List ℕ) → AllByRecursion P xs → AllByRecursion Q xs
 each_more P Q f [] h = tt
 each_more P Q f (p ∷ xs) h = (f p h.0, each_more P Q f xs h.1)
 

@@ -11,7 +11,9 @@ mod Taking
 mod Replying
 mod Sending
 mod Completing
-mod Handling
-mod Telling
 mod Calling
 mod Searching
+mod EachRow
+mod Leaving
+mod Turns
+pub mod CallerLemmas

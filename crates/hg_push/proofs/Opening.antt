@@ -73,6 +73,10 @@ holds_opened {A} {R} {D} {E} run first h b new order are opens holds =
           rw same (holds.rows p was));
     })
 
+-- the number that was opened is opened
+pub next_is_opened : (first next : ℕ) → first ≤ next → is_between first (next + 1) next ≡ true
+next_is_opened first next order = grind (arith, nat_tests)
+
 -- ---- the rows after one more
 
 all_last : (n : ℕ) (ps : List ℕ) (m : ℕ) → n < m → AllByRecursion (λ q. n < q) ps → AllByRecursion (λ q. n < q) (ps ++ m ∷ [])

@@ -1,5 +1,5 @@
 -- What a history keeps where all items of a push that is not done are taken out.
-use Rattle.std.proofs.Common.{ℕ, Bool, true, false, ◌≡◌, ◌≢◌, ◌&&◌, ◌||◌, not, List, [], ◌∷◌, refl, sym, ◌∙◌, arith, if◌then◌else◌, Option, Some, None, Result, Ok, Err}
+use Rattle.std.proofs.Common.{ℕ, Bool, true, false, ◌≡◌, ◌≢◌, ◌&&◌, ◌||◌, ◌++◌, not, List, [], ◌∷◌, refl, sym, ◌∙◌, ap, arith, if◌then◌else◌, Option, Some, None, Result, Ok, Err}
 use Rattle.std.proofs.lemmas.Bool.Decides.{nat_tests}
 use Rattle.hg_push.specs.declared.outcome.Outcome.{Outcome}
 use Rattle.hg_push.specs.declared.outcome.Outcome.TheVariants.{Done}
@@ -10,8 +10,14 @@ use Rattle.hg_types.specs.declared.item.What.{What}
 use Rattle.hg_types.specs.declared.item.What.TheVariants.{Part as a_part, End, Cut}
 use Rattle.hg_types.specs.declared.item.Taken.{Taken}
 use Rattle.hg_push.specs.History.{History, Running, Serial, is_of, closes, is_closed, parts, serial, outcome, decided, decided_by, told, kept, is_mark}
-use Rattle.hg_push.specs.Changed.{without, IsDone}
+use Rattle.hg_push.specs.Changed.{is_done, without}
+use Rattle.hg_push.specs.World.{items_in, items_of}
 use Rattle.hg_push.proofs.Trims.{either_way}
+use Rattle.hg_push.proofs.Worlds.{items_of-append, items_same}
+
+-- p was answered as done
+abbrev IsDone : {A R D E : Type 0} → Running A R D E → R → ℕ → History A → Type 0
+IsDone {A} {R} {D} run first p h = (done : D) × (outcome run first p h ≡ Some (Done done))
 
 told_open_at : {A R D E : Type 0} (run : Running A R D E) (repo : R) (ps : List (Part A)) (refused : Bool) (index : ℕ) (what : What A) → (refused || is_mark what) ≡ false → told (if refused then Some (Err NoMemory) else decided_by run repo ps index what) ≡ None
 told_open_at run repo ps true index what stays = cc
@@ -72,7 +78,7 @@ without_serial_step run first p x before cut same also state not_done =
     let s : serial run first cut ≡ serial run first before = state (λ d. not_done (d.0, old ∙ d.1)) in
     rw (f, same x.item.push other, also x.item.push other, s))
 
-pub without_serial : {A R D E : Type 0} (run : Running A R D E) (first : R) (p : ℕ) (h : History A) → ¬ IsDone run first p h → serial run first (without p h) ≡ serial run first h
+without_serial : {A R D E : Type 0} (run : Running A R D E) (first : R) (p : ℕ) (h : History A) → ¬ IsDone run first p h → serial run first (without p h) ≡ serial run first h
 without_serial run first p [] not_done = refl
 without_serial run first p (x ∷ before) not_done = without_serial_step run first p x before (without p before) (λ q. without_closed p q before) (λ q. without_parts p q before) (without_serial run first p before) not_done
 
@@ -89,8 +95,36 @@ not_done_before run first p x before not_done d =
     (λ c. let old : outcome run first p (x ∷ before) ≡ outcome run first p before = either_way (is_of p x) (λ t. rw (t, c)) (λ f. rw f) in not_done (d.0, old ∙ d.1))
     (λ o. let h : None ≡ Some (Done d.0) = sym (outcome_open run first p before o) ∙ d.1 in cc)
 
-pub without_outcome : {A R D E : Type 0} (run : Running A R D E) (first : R) (p q : ℕ) (h : History A) → q ≢ p → ¬ IsDone run first p h → outcome run first q (without p h) ≡ outcome run first q h
+without_outcome : {A R D E : Type 0} (run : Running A R D E) (first : R) (p q : ℕ) (h : History A) → q ≢ p → ¬ IsDone run first p h → outcome run first q (without p h) ≡ outcome run first q h
 without_outcome run first p q [] other not_done = refl
 without_outcome run first p q (x ∷ before) other not_done =
     let nd = not_done_before run first p x before not_done in
     without_outcome_step run first p q x before (without p before) other (without_closed p q before other) (without_parts p q before other) (without_serial run first p before nd) (without_outcome run first p q before other nd)
+
+not_done : {A R D E : Type 0} (run : Running A R D E) (first : R) (p : ℕ) (h : History A) → is_done (outcome run first p h) ≡ false → ¬ IsDone run first p h
+not_done run first p h none d = let t : is_done (outcome run first p h) ≡ true = ap is_done d.1 in cc
+
+pub aborted_serial : {A R D E : Type 0} (run : Running A R D E) (first : R) (p : ℕ) (h : History A) → is_done (outcome run first p h) ≡ false → serial run first (without p h) ≡ serial run first h
+aborted_serial run first p h none = without_serial run first p h (not_done run first p h none)
+
+pub aborted_outcome : {A R D E : Type 0} (run : Running A R D E) (first : R) (p q : ℕ) (h : History A) → q ≢ p → is_done (outcome run first p h) ≡ false → outcome run first q (without p h) ≡ outcome run first q h
+aborted_outcome run first p q h other none = without_outcome run first p q h other (not_done run first p h none)
+
+-- ---- all its items are left out, and no other
+
+pub without_gone : {A : Type 0} (p : ℕ) (h : History A) → items_of p (items_in (without p h)) ≡ []
+without_gone p [] = refl
+without_gone p (x ∷ before) = either_way (is_of p x) (λ t. rw t (without_gone p before)) (λ f. rw f (items_same p x (without p before) f ∙ without_gone p before))
+
+pub items_kept : {A : Type 0} (q : ℕ) (x : Taken A) (before cut : History A) → items_of q (items_in cut) ≡ items_of q (items_in before) → items_of q (items_in (x ∷ cut)) ≡ items_of q (items_in (x ∷ before))
+items_kept q x before cut same = items_of-append q (items_in cut) (x.item ∷ []) ∙ (ap (λ is. is ++ items_of q (x.item ∷ [])) same ∙ sym (items_of-append q (items_in before) (x.item ∷ [])))
+
+pub of_another : {A : Type 0} (p q : ℕ) (x : Taken A) → q ≢ p → is_of p x ≡ true → is_of q x ≡ false
+of_another p q x other mine = grind (arith, nat_tests)
+
+pub without_others : {A : Type 0} (p q : ℕ) (h : History A) → q ≢ p → items_of q (items_in (without p h)) ≡ items_of q (items_in h)
+without_others p q [] other = refl
+without_others p q (x ∷ before) other =
+    either_way (is_of p x)
+    (λ t. rw t (without_others p q before other ∙ sym (items_same q x before (of_another p q x other t))))
+    (λ f. rw f (items_kept q x before (without p before) (without_others p q before other)))

@@ -36,6 +36,12 @@ abbrev pub is_closed : {A : Type 0} → ℕ → History A → Bool
 is_closed p [] = false
 is_closed p (x ∷ before) = is_closed p before || (is_of p x && closes x)
 
+-- The place x, behind those before it, closed p: it is of p, which was open, and it closes it.
+pub record IsClosing {A : Type 0} (p : ℕ) (x : Taken A) (before : History A) : Type 0 where
+  pub mine : x.item.push ≡ p
+  pub shuts : closes x ≡ true
+  pub was_open : is_closed p before ≡ false
+
 abbrev pub part_in : {A : Type 0} → What A → List (Part A)
 part_in (a_part part) = part ∷ []
 part_in End = []

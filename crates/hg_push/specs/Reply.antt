@@ -14,6 +14,8 @@ use Rattle.hg_push.specs.declared.outcome.Reason.{Reason}
 use Rattle.hg_push.specs.declared.outcome.Reason.TheVariants.{Refused, Cut, WrongIndex, NoMemory as without_memory}
 use Rattle.hg_push.specs.declared.outcome.Outcome.{Outcome}
 use Rattle.hg_push.specs.declared.outcome.Outcome.TheVariants.{Done as done_with, Aborted}
+use Rattle.hg_push.specs.declared.row.State.{State}
+use Rattle.hg_push.specs.declared.row.State.TheVariants.{Open, Closed}
 
 -- A parameter of an error part is mandatory, and its value is cut after 255 bytes: a header holds no longer one.
 abbrev pub telling : {A : Type 0} → List ℕ → List ℕ → Param A
@@ -76,3 +78,8 @@ pub record CanBeSent {A : Type 0} (replies : List (Part A)) : Type 0 where
 abbrev pub CanBeTold : {A : Type 0} → Outcome (Done A) (Refusal A) → Type 0
 CanBeTold (done_with done) = CanBeSent done.replies
 CanBeTold (Aborted reason) = Unit {0}
+
+-- what is kept of a push can be told once it is closed
+abbrev pub KeepsTellable : {A : Type 0} → State (Done A) (Refusal A) A → Type 0
+KeepsTellable (Open staged) = Unit {0}
+KeepsTellable (Closed outcome) = CanBeTold outcome

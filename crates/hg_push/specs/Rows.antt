@@ -34,9 +34,13 @@ IsShut {A} {D} {E} p rows = (r : Row D E A) → row_of p rows ≡ Some r → is_
 abbrev pub IsOpenAt : {A D E : Type 0} → ℕ → List (Row D E A) → ℕ → Type 0
 IsOpenAt {A} {D} {E} p rows i = (position (λ r. r.push == p) rows ≡ Some i) × ((r : Row D E A) → r ≡ slice_index_or rows i r → is_open r.state ≡ true)
 
+-- the list that is staged of a push stands for these parts: it is them
+abbrev pub Stages : {A : Type 0} → List (Part A) → List (Part A) → Type 0
+Stages staged parts = staged ≡ parts
+
 -- what is kept of a push tells its parts while it is open, and how it ended
 abbrev pub TellsState : {A D E : Type 0} → List (Part A) → Option (Outcome D E) → State D E A → Type 0
-TellsState ps how (Open staged) = (how ≡ None) × (staged ≡ ps)
+TellsState ps how (Open staged) = (how ≡ None) × Stages staged ps
 TellsState ps how (Closed outcome) = how ≡ Some outcome
 
 -- a push without a row has ended

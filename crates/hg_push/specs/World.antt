@@ -29,11 +29,18 @@ all_parts items = flat_map (λ i. part_in i.what) items
 abbrev pub has_mark : {A : Type 0} → List (Item A) → Bool
 has_mark items = list_any (λ i. is_mark i.what) items
 
+abbrev pub has_opened : {A : Type 0} → World A → ℕ → Bool
+has_opened w p = list_any (λ q. q == p) w.opened
+
 abbrev pub is_full : {A : Type 0} → World A → Bool
 is_full w = not (nat_lt (length w.queue) w.capacity)
 
 abbrev pub can_put : {A : Type 0} → World A → ℕ → Bool
-can_put w p = list_any (λ q. q == p) w.opened && not (has_mark (w.puts p)) && not (is_full w)
+can_put w p = has_opened w p && not (has_mark (w.puts p)) && not (is_full w)
+
+-- what is put next for p: its index is the number of parts that were put for it
+abbrev pub next_item : {A : Type 0} → World A → ℕ → What A → Item A
+next_item w p what = record { push = p; index = length (all_parts (w.puts p)); what = what }
 
 abbrev pub put : {A : Type 0} → World A → Item A → World A
 put w item = record w { queue = w.queue ++ item ∷ []; puts = λ q. if item.push == q then w.puts q ++ item ∷ [] else w.puts q }
@@ -44,8 +51,8 @@ take_first w refused (item ∷ rest) = record w { queue = rest; history = record
 
 -- An event that is not allowed changes nothing: a put into a full queue is one.
 abbrev pub happens : {A : Type 0} → World A → Event A → World A
-happens w (Open p) = if list_any (λ q. q == p) w.opened then w else record w { opened = p ∷ w.opened }
-happens w (Put p what) = if can_put w p then put w (record { push = p; index = length (all_parts (w.puts p)); what = what }) else w
+happens w (Open p) = if has_opened w p then w else record w { opened = p ∷ w.opened }
+happens w (Put p what) = if can_put w p then put w (next_item w p what) else w
 happens w (Take refused) = take_first w refused w.queue
 
 abbrev pub run_all : {A : Type 0} → List (Event A) → World A → World A

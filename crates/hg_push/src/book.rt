@@ -47,12 +47,13 @@ pub struct Book<A: Allocator = Global> {
 
 impl<A: Allocator> Model for Book<A> {
     ghost use Rattle.std.specs.Prelude.{◌+◌, ◌≤◌, ℕ, List, vec_len, vec_capacity};
-    ghost use Rattle.std.specs.List.{count_by};
+    ghost use Rattle.std.specs.List.{count_by, AllByRecursion};
     ghost use Rattle.hg_repo.specs.declared.done.Done.{Done as DoneValue};
     ghost use Rattle.hg_repo.specs.declared.refusal.Refusal.{Refusal as RefusalValue};
     ghost use Rattle.hg_push.specs.Run.{RepositoryOf};
     ghost use Rattle.hg_push.specs.Book.{Book as BookValue, AreRows, is_between};
     ghost use Rattle.hg_push.specs.Rows.{is_open};
+    ghost use Rattle.hg_push.specs.Reply.{KeepsTellable};
 
     ghost Value = { BookValue A (RepositoryOf A) (DoneValue A) (RefusalValue A) };
 
@@ -67,7 +68,8 @@ impl<A: Allocator> Model for Book<A> {
 
     ghost invariant = { λ b. AreRows (is_between b.first_push b.next) b.rows.items
         × (b.first_push ≤ b.next)
-        × (vec_len b.journal + count_by (λ r. is_open r.state) b.rows.items ≤ vec_capacity b.journal) };
+        × (vec_len b.journal + count_by (λ r. is_open r.state) b.rows.items ≤ vec_capacity b.journal)
+        × AllByRecursion (λ r. KeepsTellable r.state) b.rows.items };
 }
 
 impl<A: Allocator + Copy> Book<A> {
@@ -120,6 +122,7 @@ impl<A: Allocator + Copy> Book<A> {
     /// step needs memory to close it. An `Err` changes nothing that contracts see.
     pub fn open(&mut self) -> Result<u32, OpenFault>
         ensures ok { IfOk result (λ p. Opens self.old p self.new) }
+        ensures opened { IfOk result (λ p. is_opened self.new p ≡ true) }
         ensures err { OnErr result (self.new ≡ self.old) }
         ensures too_many { IsErrOf result OpenFault.TooManyOpen ↔ (self.old.limit ≤ length self.old.rows) }
         ensures exhausted { IsErrOf result OpenFault.Exhausted ↔ ((length self.old.rows < self.old.limit) × (self.old.next ≡ 2 ^ 32 - 1)) }
@@ -171,14 +174,15 @@ impl<A: Allocator + Copy> Book<A> {
         step_row(&mut self.repo, &mut self.journal, row, index, what)
     }
 
-    /// Hands out how a closed push ended, and takes its row away. None, with nothing changed, where the push has no row or is open.
+    /// Hands out how a closed push ended, and takes its row away. None, with nothing changed, where the push
+    /// has no row or is open. What it hands out can be written as a reply.
     pub fn take_reply(&mut self, push: u32) -> Option<Outcome<Done<A>, Refusal<A>>>
         ensures reply { result ≡ reply_in (row_of push self.old.rows) }
         ensures none { IfNone result (self.new ≡ self.old) }
         ensures some { IfSome result (λ _. self.new ≡ record self.old { rows = rows_without push self.old.rows }) }
         ensures answer { (first : RepositoryOf A) (h : History A) → Holds run_push first h self.old → IsSome (row_of push self.old.rows) →
             result ≡ outcome run_push first push h }
-        ensures told { (first : RepositoryOf A) (h : History A) → Holds run_push first h self.old → IfSome result CanBeTold }
+        ensures told { IfSome result CanBeTold }
         ensures holds { (first : RepositoryOf A) (h : History A) → Holds run_push first h self.old → Holds run_push first h self.new }
     {
         let at = closed_place(self.rows.as_slice(), push)?;

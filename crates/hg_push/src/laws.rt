@@ -1,13 +1,20 @@
-//! What holds over every list of events, and of every history. The functions do nothing: each contract is a law of the definitions that `Book` is proved to keep.
+//! What holds over every list of events, and of every history. The functions do nothing: each contract is a law of
+//! the definitions that `Book` is proved to keep. A law on the world or on a history without some of its places
+//! also says what these definitions do, so that none of them can be empty.
 
-ghost use Rattle.std.specs.Prelude.{◌≡◌, ◌≢◌, ◌++◌, ◌↔◌, ℕ, List, Some, IsSome, IsTrue, length};
-ghost use Rattle.std.specs.List.{range_with_len};
-ghost use Rattle.hg_push.specs.History.{History, IsHistory, is_closed, outcome, parts, serial};
-ghost use Rattle.hg_push.specs.Changed.{IsDone, OneByOne, trimmed, without};
-ghost use Rattle.hg_push.specs.World.{Event, World, all_parts, items_in, items_of, run_all, start};
-ghost use Rattle.hg_push.specs.Complete.{IsComplete};
+ghost use Rattle.std.specs.Prelude.{◌≡◌, ◌≢◌, ◌<◌, ◌≤◌, ◌++◌, ◌∷◌, ◌&&◌, ◌↔◌, [], ℕ, Bool, List, Some, IsSome, IsTrue, count_by, length, ◌==◌, true, false, if◌then◌else◌};
+ghost use Rattle.std.specs.List.{AllByRecursion, range_with_len};
+ghost use mathlib.Core.List.{IsPrefix};
+ghost use Rattle.hg_types.specs.declared.item.CutReason.{CutReason};
+ghost use Rattle.hg_types.specs.declared.item.Item.{Item};
+ghost use Rattle.hg_types.specs.declared.item.Taken.{Taken as TakenItem};
+ghost use Rattle.hg_types.specs.declared.item.What.{What};
+ghost use Rattle.hg_types.specs.declared.item.What.TheVariants.{End, Cut};
+ghost use Rattle.hg_push.specs.History.{History, IsClosing, IsHistory, decided, is_closed, is_mark, may_refuse, outcome, parts, serial, told};
+ghost use Rattle.hg_push.specs.Changed.{OneByOne, RanInTurn, is_done, trimmed, without};
+ghost use Rattle.hg_push.specs.World.{Event, World, all_parts, happens, has_opened, items_in, items_of, next_item, run_all, start};
+ghost use Rattle.hg_push.specs.Complete.{IsComplete, IsOrderly};
 ghost use Rattle.hg_repo.specs.declared.done.Done.{Done};
-ghost use Rattle.hg_repo.specs.declared.refusal.Refusal.{Refusal};
 ghost use Rattle.hg_push.specs.Run.{RepositoryOf, run_push};
 
 use crate::outcome::Outcome;
@@ -21,10 +28,43 @@ pub fn taken_once<A: Allocator>()
     ensures legal { (capacity : ℕ) (events : List (Event A)) → IsHistory (run_all events (start capacity)).history }
 {}
 
-/// Nothing of a push after the place that closed it counts.
+/// What the events of the world do: an opening opens its push, a put of an opened push without a mark is enqueued
+/// where the queue has room and else changes nothing, and a take moves the first item into the history. The queue is
+/// never longer than its capacity, and only opened pushes have items.
+pub fn events_happen<A: Allocator>()
+    ensures opened { (w : World A) (p : ℕ) → has_opened (happens w (Event.Open p)) p ≡ true }
+    ensures queued { (w : World A) (p : ℕ) (what : What A) → has_opened w p ≡ true →
+        AllByRecursion (λ item. is_mark item.what ≡ false) (w.puts p) → length w.queue < w.capacity →
+        let item = next_item w p what in let new = happens w (Event.Put p what) in
+        (new.queue ≡ w.queue ++ item ∷ []) × (new.puts p ≡ w.puts p ++ item ∷ []) }
+    ensures full { (w : World A) (p : ℕ) (what : What A) → w.capacity ≤ length w.queue → happens w (Event.Put p what) ≡ w }
+    ensures taken { (w : World A) (item : Item A) (rest : List (Item A)) (refused : Bool) → w.queue ≡ item ∷ rest →
+        let new = happens w (Event.Take refused) in (new.queue ≡ rest)
+        × (new.history ≡ record { item = item; refused = refused && may_refuse w.history item } ∷ w.history) }
+    ensures bounded { (capacity : ℕ) (events : List (Event A)) → length (run_all events (start capacity)).queue ≤ capacity }
+    ensures unopened { (capacity : ℕ) (events : List (Event A)) (p : ℕ) →
+        let w = run_all events (start capacity) in has_opened w p ≡ false → w.puts p ≡ [] }
+{}
+
+/// Memory is refused only for an item of a push that is open, for no cut, and for an end mark only where its index is
+/// the number of the push's parts.
+pub fn refusals_are_due<A: Allocator>()
+    ensures was_open { (late before : History A) (x : TakenItem A) → IsHistory (late ++ x ∷ before) → x.refused ≡ true →
+        is_closed x.item.push before ≡ false }
+    ensures no_cut { (late before : History A) (x : TakenItem A) (reason : CutReason) → IsHistory (late ++ x ∷ before) →
+        x.refused ≡ true → x.item.what ≢ Cut reason }
+    ensures right_index { (late before : History A) (x : TakenItem A) → IsHistory (late ++ x ∷ before) → x.refused ≡ true →
+        x.item.what ≡ End → x.item.index ≡ length (parts x.item.push before) }
+{}
+
+/// Nothing of a push after the place that closed it counts. What is left out is exactly that: up to the closing place
+/// the push keeps its items, and other pushes keep all of theirs.
 pub fn nothing_after<A: Allocator>()
     ensures state { (first : RepositoryOf A) (p : ℕ) (h : History A) → serial run_push first (trimmed p h) ≡ serial run_push first h }
     ensures outcomes { (first : RepositoryOf A) (p q : ℕ) (h : History A) → outcome run_push first q (trimmed p h) ≡ outcome run_push first q h }
+    ensures left { (p : ℕ) (late before : History A) (x : TakenItem A) → IsClosing p x before →
+        items_of p (items_in (trimmed p (late ++ x ∷ before))) ≡ items_of p (items_in (x ∷ before)) }
+    ensures others { (p q : ℕ) (h : History A) → q ≢ p → items_of q (items_in (trimmed p h)) ≡ items_of q (items_in h) }
 {}
 
 /// A push is closed exactly where it has an outcome.
@@ -32,18 +72,39 @@ pub fn closed_pushes_have_ended<A: Allocator>()
     ensures { (first : RepositoryOf A) (p : ℕ) (h : History A) → IsTrue (is_closed p h) ↔ IsSome (outcome run_push first p h) }
 {}
 
-/// The pushes of the journal, run one by one, lead to the repository.
-pub fn one_by_one<A: Allocator>()
-    ensures { (first : RepositoryOf A) (h : History A) →
-        OneByOne run_push (λ p. parts p h) first (serial run_push first h).journal (serial run_push first h).repo }
+/// A push is answered by the place that closed it, on the repository of that moment. What is taken later changes its
+/// answer no more.
+pub fn answered_where_closed<A: Allocator>()
+    ensures { (first : RepositoryOf A) (p : ℕ) (late before : History A) (x : TakenItem A) → IsClosing p x before →
+        outcome run_push first p (late ++ x ∷ before) ≡ told (decided run_push (serial run_push first before).repo (parts p before) x) }
 {}
 
-/// A push that is not done changes nothing.
+/// The pushes of the journal, run one by one, lead to the repository, and to no other.
+pub fn one_by_one<A: Allocator>()
+    ensures leads { (first : RepositoryOf A) (h : History A) →
+        OneByOne run_push (λ p. parts p h) first (serial run_push first h).journal (serial run_push first h).repo }
+    ensures alone { (first last : RepositoryOf A) (h : History A) →
+        OneByOne run_push (λ p. parts p h) first (serial run_push first h).journal last → last ≡ (serial run_push first h).repo }
+{}
+
+/// A push is told as done exactly where its number is in the journal, and it is there once. It ran in its turn: on the
+/// repository that the pushes before it in the journal give, with the answer that is told.
+pub fn done_pushes_ran_in_turn<A: Allocator>()
+    ensures once { (first : RepositoryOf A) (p : ℕ) (h : History A) →
+        count_by (λ q. q == p) (serial run_push first h).journal ≡ (if is_done (outcome run_push first p h) then 1 else 0) }
+    ensures in_turn { (first : RepositoryOf A) (p : ℕ) (h : History A) (done : Done A) →
+        outcome run_push first p h ≡ Some (Outcome.Done done) →
+        RanInTurn run_push (λ q. parts q h) first (serial run_push first h).journal (serial run_push first h).repo p done }
+{}
+
+/// A push that is not done changes nothing. What is left out is all its items, and no other.
 pub fn aborted_changes_nothing<A: Allocator>()
-    ensures state { (first : RepositoryOf A) (p : ℕ) (h : History A) → ¬ IsDone run_push first p h →
+    ensures state { (first : RepositoryOf A) (p : ℕ) (h : History A) → is_done (outcome run_push first p h) ≡ false →
         serial run_push first (without p h) ≡ serial run_push first h }
-    ensures outcomes { (first : RepositoryOf A) (p q : ℕ) (h : History A) → q ≢ p → ¬ IsDone run_push first p h →
+    ensures outcomes { (first : RepositoryOf A) (p q : ℕ) (h : History A) → q ≢ p → is_done (outcome run_push first p h) ≡ false →
         outcome run_push first q (without p h) ≡ outcome run_push first q h }
+    ensures gone { (p : ℕ) (h : History A) → items_of p (items_in (without p h)) ≡ [] }
+    ensures others { (p q : ℕ) (h : History A) → q ≢ p → items_of q (items_in (without p h)) ≡ items_of q (items_in h) }
 {}
 
 /// A push that is answered as done had all parts that its sender put, and they were run in that order; its
@@ -51,11 +112,24 @@ pub fn aborted_changes_nothing<A: Allocator>()
 pub fn done_had_all<A: Allocator>()
     ensures complete { (capacity : ℕ) (events : List (Event A)) (first : RepositoryOf A) (p : ℕ) (done : Done A) →
         let w = run_all events (start capacity) in outcome run_push first p w.history ≡ Some (Outcome.Done done) →
-        IsComplete {E = Refusal A} run_push (w.puts p) (parts p w.history) done }
+        IsComplete (w.puts p) (parts p w.history) }
     ensures handled { (capacity : ℕ) (events : List (Event A)) (first : RepositoryOf A) (p : ℕ) (done : Done A) →
         let w = run_all events (start capacity) in outcome run_push first p w.history ≡ Some (Outcome.Done done) →
         done.handled ≡ range_with_len 0 (length (all_parts (w.puts p))) }
 {
     // its run was done, and so handled each part once
+    done_runs_handle_all::<A>();
+}
+
+/// The same of any history, as of one that threads made: it need not come of a list of events. Where it has, of the
+/// push, the first items of a list that is in order, and the push is done, it has the whole list.
+pub fn done_had_all_of_its_list<A: Allocator>()
+    ensures complete { (first : RepositoryOf A) (p : ℕ) (h : History A) (put : List (Item A)) (done : Done A) →
+        IsOrderly 0 put → IsPrefix (items_of p (items_in h)) put → outcome run_push first p h ≡ Some (Outcome.Done done) →
+        (items_of p (items_in h) ≡ put) × IsComplete put (parts p h) }
+    ensures handled { (first : RepositoryOf A) (p : ℕ) (h : History A) (put : List (Item A)) (done : Done A) →
+        IsOrderly 0 put → IsPrefix (items_of p (items_in h)) put → outcome run_push first p h ≡ Some (Outcome.Done done) →
+        done.handled ≡ range_with_len 0 (length (all_parts put)) }
+{
     done_runs_handle_all::<A>();
 }

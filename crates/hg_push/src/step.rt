@@ -1,12 +1,13 @@
 //! One step: what an item does to the row of its push, to the repository and to the journal. What stages a part is written into
 //! its callers, and what closes a push is not: most items are parts.
 
-ghost use Rattle.std.specs.Prelude.{◌≡◌, ◌≢◌, ◌<◌, ◌+◌, ◌≤◌, ◌^◌, ◌==◌, ◌++◌, ◌∷◌, [], length, true, position, IfNone, IfSome, IsTrue, IsNone, None, Some, cond, vec_len, vec_capacity};
+ghost use Rattle.std.specs.Prelude.{◌≡◌, ◌≢◌, ◌<◌, ◌+◌, ◌≤◌, ◌^◌, ◌==◌, ◌++◌, ◌∷◌, [], length, true, position, IfNone, IfOk, IfSome, IsTrue, IsNone, None, Some, cond, vec_len, vec_capacity};
 ghost use Rattle.std.specs.Bool.{OnTrue, OnFalse};
 ghost use Rattle.std.specs.List.{list_any};
 ghost use Rattle.std.specs.Prelude.{if◌then◌else◌, false};
 ghost use Rattle.hg_push.specs.Rows.{AreInOrder, EndsAs, IsClosedAt, IsOpenAt, IsShut, StepsRow, is_open, reply_in, row_of, staged_in, standing_in};
 ghost use Rattle.hg_push.specs.Run.{run_push};
+ghost use Rattle.hg_push.specs.Reply.{CanBeSent, KeepsTellable};
 
 use crate::outcome::{Outcome, Reason, Standing};
 use crate::row::{Row, State};
@@ -105,7 +106,8 @@ pub fn end<A: Allocator + Copy>(
     staged: &[Part<A>],
     index: u32,
 ) -> Result<Done<A>, Reason<Refusal<A>>>
-    ensures { EndsAs run_push repo.old staged.now index result repo.new }
+    ensures ends { EndsAs run_push repo.old staged.now index result repo.new }
+    ensures sent { IfOk result (λ done. CanBeSent done.replies) }
 {
     if index as usize != staged.len() {
         return Err(Reason::WrongIndex);
@@ -126,9 +128,9 @@ fn close<D: Drop, E: Drop, A: Allocator>(row: &mut Row<D, E, A>, outcome: Outcom
     row.state = State::Closed(outcome);
 }
 
-/// How many parts a staged list asks for room for with its first one: more than most pushes have, so that their lists are not
-/// moved while they grow.
-const FIRST_ROOM: usize = 128;
+/// How many parts a staged list asks for room for with its first one: as many as most pushes have, so that their
+/// lists are not moved while they grow. A part takes 80 bytes there, and so little room is given back fast.
+const FIRST_ROOM: usize = 12;
 
 /// Adds a part to an open push, or aborts the push where memory is refused.
 #[inline(always)]
@@ -137,6 +139,7 @@ fn stage<A: Allocator + Copy>(row: &mut Row<Done<A>, Refusal<A>, A>, part: Part<
     ensures push { row.new.push ≡ row.old.push }
     ensures ok { OnFalse result (row.new.state ≡ State.Open (staged_in row.old.state ++ part ∷ [])) }
     ensures err { OnTrue result (row.new.state ≡ State.Closed (Outcome.Aborted Reason.NoMemory)) }
+    ensures told { KeepsTellable row.new.state }
 {
     let refused = match &mut row.state {
         State::Open(staged) => staged.push_with_room(part, FIRST_ROOM).is_err(),
@@ -162,6 +165,7 @@ fn finish<A: Allocator + Copy>(
         (record { item = record { push = row.old.push; index = index; what = What.End }; refused = result })
         (record { repo = repo.new; journal = journal.new.items }) row.new }
     ensures closed { is_open row.new.state ≡ false }
+    ensures told { KeepsTellable row.new.state }
     ensures room { vec_len journal.new ≤ vec_len journal.old + 1 }
     ensures capacity { vec_capacity journal.new ≡ vec_capacity journal.old }
 {
@@ -197,6 +201,7 @@ pub fn step_row<A: Allocator + Copy>(
     ensures steps { StepsRow run_push (record { repo = repo.old; journal = journal.old.items }) row.old
         (record { item = record { push = row.old.push; index = index; what = what }; refused = result })
         (record { repo = repo.new; journal = journal.new.items }) row.new }
+    ensures told { KeepsTellable row.new.state }
     ensures room { vec_len journal.new + (if is_open row.new.state then 1 else 0) ≤ vec_len journal.old + 1 }
     ensures capacity { vec_capacity journal.new ≡ vec_capacity journal.old }
 {

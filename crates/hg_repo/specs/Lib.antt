@@ -6,3 +6,4 @@ pub mod Handled
 pub mod CheckHeads
 pub mod Handle
 pub mod Run
+pub mod Replies

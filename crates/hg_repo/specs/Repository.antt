@@ -12,6 +12,6 @@ pub record Repository : Type 0 where
 abbrev pub heads_of : Repository → List Node
 heads_of repo = null_node ∷ []
 
--- both hold the same; their settings may differ
-pub record IsSame (repo other : Repository) : Type 0 where
-  pub heads : heads_of repo ≡ heads_of other
+-- both hold the same: all but their settings is equal
+abbrev pub IsSame : Repository → Repository → Type 0
+IsSame repo other = repo ≡ record other { settings = repo.settings }

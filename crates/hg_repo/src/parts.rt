@@ -1,4 +1,5 @@
-//! The table of part types: the one place in which a type of part is listed, and which parts it supports.
+//! The table of part types: the name of each and the parameters that are known for it, and which parts it supports. What a
+//! type asks is picked in `handle`.
 //!
 //! A part is supported where its type is in the table, and each of its mandatory parameters is known for
 //! that type (Mercurial's `internals.bundles`, on parts and their parameters). What a type of part asks of

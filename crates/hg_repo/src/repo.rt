@@ -4,6 +4,7 @@ ghost use Rattle.std.specs.Prelude.{◌≡◌, ◌<◌, ◌^◌, length, IfOk, I
 ghost use Rattle.std.specs.List.{range_with_len};
 ghost use Rattle.hg_repo.specs.Repository.{heads_of, IsSame};
 ghost use Rattle.hg_repo.specs.Run.{run_of, HandlesEach, RunGives};
+ghost use Rattle.hg_repo.specs.Replies.{AreReplies};
 ghost use Rattle.hg_repo.specs.declared.done.Source.{Source};
 
 use crate::done::{Done, Source};
@@ -64,10 +65,12 @@ impl<A: Allocator + Copy> Repo<A> {
     }
 
     /// Runs the parts in order, as `run_of` says: all of them, or none and nothing is changed.
-    /// `NoMemory` stands in place of that answer where a growth was refused, and nothing is changed.
+    /// `NoMemory` stands in place of that answer where a growth was refused, and nothing is changed. The
+    /// replies of a run that is done can be written: at most one for each part, none with a payload.
     pub fn run(&mut self, source: Source, parts: &[Part<A>]) -> Result<Done<A>, Refusal<A>>
         requires { length parts.now < 2 ^ 32 }
-        ensures { RunGives (run_of source) self.old parts.now result self.new }
+        ensures gives { RunGives (run_of source) self.old parts.now result self.new }
+        ensures replies { IfOk result (λ done. AreReplies (length parts.now) done.replies) }
     {
         handle_each(self.alloc, self, parts)?;
         let replies = Seq::new(self.alloc);

@@ -72,6 +72,8 @@ enum Expected {
     Done(u32),
     /// Unsupported at that place, with that type and that one parameter, or none where it is empty.
     Unsupported(u32, &'static [u8], &'static [u8]),
+    /// Unsupported at place 0, with so many parameters.
+    UnknownNames(usize),
     Raced(u32),
     BadPart(u32),
     ClientAbort(u32),
@@ -107,6 +109,16 @@ fn is_expected<A: Allocator>(
             ),
             Expected::Unsupported(at, name, param),
         ) => *place == at && kind.as_slice() == name && is_one_name(params.as_slice(), param),
+        (
+            Err(
+                Refusal::Unsupported {
+                    place: 0,
+                    params,
+                    ..
+                },
+            ),
+            Expected::UnknownNames(count),
+        ) => params.len() == count,
         (
             Err(
                 Refusal::Raced {
@@ -296,5 +308,54 @@ fn heads_over_a_full_heap(rt: HostRuntime) -> Result<(), Fail> {
     let heap = LocalHeap::new(rt.alloc(), 16)?;
     let repo = Repo::new(&heap, settings());
     assert!(rt; repo.heads().is_err());
+    Ok(())
+}
+
+/// Whether a run of these parts, of which there are at most 1,000, answers what is expected.
+fn answers<A: Allocator + Copy>(repo: &mut Repo<A>, parts: &[Part<A>], expected: Expected) -> bool {
+    parts.len() <= 1_000 && is_expected(&repo.run(Source::Push, parts), expected) == Some(true)
+}
+
+/// Many parts, parameters, names and heads, over a heap of which half is never used: no growth is refused, so none is
+/// told.
+#[test]
+fn near_the_limits(rt: HostRuntime) -> Result<(), Fail> {
+    let heap = LocalHeap::new(rt.alloc(), 1 << 18)?;
+    let mut repo = Repo::new(&heap, settings());
+    let mut parts = Seq::new(&heap);
+    for id in 0..300 {
+        parts.push(part(&heap, b"frob", id, b"")?)?;
+    }
+    assert!(rt; answers(&mut repo, parts.as_slice(), Expected::Done(300)));
+    let mut named = part(&heap, b"OUTPUT", 0, b"")?;
+    for name in 0..100u8 {
+        named = with_param(&heap, named, true, &[name])?;
+    }
+    assert!(rt; answers(&mut repo, &[named], Expected::UnknownNames(100)));
+    let heads = part(&heap, b"CHECK:HEADS", 0, &[0; 4_000])?;
+    assert!(rt; answers(&mut repo, &[heads], Expected::Raced(0)));
+    assert!(rt; heap.free() > 1 << 17);
+    Ok(())
+}
+
+/// Where memory is to spare, what takes none leaves it, and a run that is done takes four bytes a part.
+#[test]
+fn memory_is_left(rt: HostRuntime) -> Result<(), Fail> {
+    let heap = LocalHeap::new(rt.alloc(), 1 << 12)?;
+    for example in [Example::NoParts, Example::ShortIds, Example::ClientAbort] {
+        let parts = parts_of(&heap, example)?;
+        let free = heap.free();
+        let mut repo = Repo::new(&heap, settings());
+        let copy = repo.try_clone(&heap)?;
+        let answer = repo.run(Source::Push, parts.as_slice());
+        assert!(rt; is_expected(&answer, answer_to(example)) == Some(true));
+        assert!(rt; repo.is_same(&copy));
+        assert_eq!(rt; heap.free(), free);
+    }
+    let parts = parts_of(&heap, Example::UnknownAdvisory)?;
+    let free = heap.free();
+    let answer = Repo::new(&heap, settings()).run(Source::Push, parts.as_slice());
+    assert!(rt; free.saturating_sub(heap.free()) <= 16);
+    assert!(rt; is_expected(&answer, Expected::Done(1)) == Some(true));
     Ok(())
 }

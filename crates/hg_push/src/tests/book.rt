@@ -2,9 +2,8 @@
 
 use super::*;
 use crate::calls::{Answer, Call, make_calls};
-use crate::{OpenFault, Standing, laws};
+use crate::{OpenFault, Standing};
 use hg_types::{CutReason, TryClone};
-use std::alloc::Global;
 use std::test::*;
 
 /// A0 B0 A1 B1 B end A end, where the second part of A is a race on heads, and that of B is none. The items are clones, and an advisory parameter of B's first part is ignored.
@@ -164,16 +163,5 @@ fn a_list_of_calls(rt: HostRuntime) -> Result<(), Fail> {
         }
         _ => panic!(rt; "other answers"),
     }
-    Ok(())
-}
-
-#[test]
-fn the_laws_stand(_rt: HostRuntime) -> Result<(), Fail> {
-    laws::taken_once::<Global>();
-    laws::nothing_after::<Global>();
-    laws::done_had_all::<Global>();
-    laws::closed_pushes_have_ended::<Global>();
-    laws::one_by_one::<Global>();
-    laws::aborted_changes_nothing::<Global>();
     Ok(())
 }

@@ -1,4 +1,4 @@
-//! Growths that are refused, over heaps of every size.
+//! Growths that are refused, over heaps of every size, and what is taken of a heap that has memory to spare.
 
 use super::*;
 use crate::{OpenFault, Standing, reply_bytes};
@@ -222,5 +222,50 @@ fn a_reply_is_refused(rt: HostRuntime) -> Result<(), Fail> {
     }
     assert!(rt; told > 0);
     assert!(rt; refused > 0);
+    Ok(())
+}
+
+/// As many open pushes as the limit allows, and one of them with 1,000 parts, over a heap of which half is never used:
+/// no growth is refused, so none is told. A staged part takes at most twice its 104 bytes, and 16 of its own.
+#[test]
+fn near_the_limits(rt: HostRuntime) -> Result<(), Fail> {
+    let heap = LocalHeap::new(rt.alloc(), 1 << 21)?;
+    let mut book = empty_book(&heap);
+    for push in 0..1_024 {
+        assert_eq!(rt; book.open(), Ok(push));
+    }
+    assert_eq!(rt; book.open(), Err(OpenFault::TooManyOpen));
+    let free = heap.free();
+    for index in 0..1_000 {
+        assert!(rt; !book.step(a_part(7, index, part(&heap, b"output", b"")?)));
+    }
+    assert!(rt; free.saturating_sub(heap.free()) <= 224_000);
+    assert!(rt; !book.step(an_end(7, 1_000)));
+    assert!(rt; is_done(&book.take_reply(7), 1_000));
+    assert!(rt; heap.free() > 1 << 20);
+    Ok(())
+}
+
+/// Where memory is to spare, what takes none leaves it: items that are dropped, closings and all that is asked. The
+/// first part of a push takes room for 12, of 104 bytes each over this heap.
+#[test]
+fn memory_is_left(rt: HostRuntime) -> Result<(), Fail> {
+    let heap = LocalHeap::new(rt.alloc(), 1 << 14)?;
+    let mut book = empty_book(&heap);
+    begin(&mut book, &heap).expect(&rt, "memory");
+    let first = a_part(2, 0, part(&heap, b"output", b"")?);
+    let free = heap.free();
+    assert!(rt; !book.step(first));
+    assert!(rt; free.saturating_sub(heap.free()) <= 12 * 104);
+    let free = heap.free();
+    assert!(rt; !book.step(an_end(9, 0)));
+    assert_eq!(rt; book.standing(1), Standing::Open);
+    assert!(rt; book.take_reply(1).is_none());
+    assert_eq!(rt; heap.free(), free);
+    assert!(rt; !book.step(an_end(1, 2)));
+    assert!(rt; !book.step(an_end(1, 2)));
+    assert!(rt; is_closed_by(&book.take_reply(1), What::End));
+    assert!(rt; is_done(&book.take_reply(0), 0));
+    assert!(rt; heap.free() >= free);
     Ok(())
 }

@@ -2,7 +2,8 @@ use Rattle.std.proofs.Common.{sym, ap, subst, refl, arith, ◌+◌}
 use Rattle.hg_push.specs.Run.{run_push}
 use Rattle.hg_push.specs.Book.{Holds}
 use Rattle.hg_push.specs.declared.row.State.TheVariants.{Open}
-use Rattle.hg_push.proofs.Opening.{holds_opened, opens_from, rows_last, room_last}
+use Rattle.hg_push.proofs.Opening.{holds_opened, next_is_opened, opens_from, rows_last, room_last}
+use Rattle.hg_push.proofs.EachRow.{each_last}
 use Rattle.hg_push.proofs.book.Book.open.Goals as goal
 
 pub invariant_of-self-2 : goal.invariant_of-self-2
@@ -10,7 +11,11 @@ invariant_of-self-2 g c = (
   rw c.in_default-push.ensures.items (rows_last c.self.inside.first_push c.self.inside.next c.self.inside.rows.items _ c.self.invariant.1 refl c.self.invariant.0),
   omega (arith, c.self.invariant.1),
   room_last c.self.inside.rows.items c.push.new.self.items _ _ _ (c.len-places.result + 1) c.in_default-push.ensures.items (omega (arith, c.self.inside.rows.ok, c.len-places.ensures)) (omega (arith, c.in_default.ensures.ok)),
+  rw c.in_default-push.ensures.items (each_last _ c.self.inside.rows.items _ c.self.invariant.3 tt),
 )
+
+pub returns-clause-opened : goal.returns-clause-opened
+returns-clause-opened g c = next_is_opened c.self.inside.first_push c.self.inside.next c.self.invariant.1
 
 pub returns-clause-holds : goal.returns-clause-holds
 returns-clause-holds g c = λ first h holds.

@@ -6,6 +6,7 @@ use Rattle.hg_push.proofs.Finding.{pushes_set}
 use Rattle.hg_push.proofs.Holding.{holds_unchanged}
 use Rattle.hg_push.proofs.Stepping.{open_at_opened, open_not_shut, same_openings, step_taken, rows_stay, open_count, room_is}
 use Rattle.hg_push.proofs.Searching.{rows_in_order}
+use Rattle.hg_push.proofs.EachRow.{each_set}
 use Rattle.hg_push.proofs.book.Book.step.Goals as goal
 
 pub open_place-requires : goal.open_place-requires
@@ -33,6 +34,7 @@ invariant_of-self g c =
       rows_stay _ c.self.inside.rows.items c.in-Some.at c.index_mut-row.result.now c.step_row.new.row is c.step_row.ensures.steps.push c.self.invariant.0,
       c.self.invariant.1,
       omega (arith, count, c.self.invariant.2, c.step_row.ensures.room, c.step_row.ensures.capacity),
+      each_set _ c.self.inside.rows.items c.in-Some.at c.step_row.new.row c.self.invariant.3 c.step_row.ensures.told,
     )
 
 pub returns-clause-opened : goal.returns-clause-opened

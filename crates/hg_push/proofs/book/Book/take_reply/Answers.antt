@@ -3,9 +3,9 @@ use Rattle.std.specs.Prelude.{IsSome, is_some}
 use Rattle.hg_push.specs.Run.{run_push}
 use Rattle.hg_push.specs.Book.{Holds, AreRows, is_between}
 use Rattle.hg_push.specs.Rows.{reply_in, row_of}
-use Rattle.hg_push.proofs.Taking.{book_taken, holds_taken, open_without, reply_closed, reply_is, rows_stay_without, rows_taken, some_row}
-use Rattle.hg_push.proofs.Telling.{outcome_told}
+use Rattle.hg_push.proofs.Taking.{book_taken, holds_taken, open_without, reply_closed, reply_is, rows_stay_without, rows_taken}
 use Rattle.hg_push.proofs.Searching.{rows_in_order}
+use Rattle.hg_push.proofs.EachRow.{each_at, each_removed}
 use Rattle.hg_push.proofs.book.Book.take_reply.Goals as goal
 
 pub closed_place-requires : goal.closed_place-requires
@@ -28,6 +28,7 @@ invariant_of-self g c =
       rw rows (rows_stay_without (is_between c.self.inside.first_push c.self.inside.next) c.args.push c.self.inside.rows.items c.self.invariant.0),
       c.self.invariant.1,
       rw c.remove-row.ensures.items (omega (arith, count, c.self.invariant.2)),
+      rw c.remove-row.ensures.items (each_removed _ c.self.inside.rows.items c.in_ok-at.at c.self.invariant.3),
     )
 
 pub returns-clause-reply : goal.returns-clause-reply
@@ -51,6 +52,7 @@ returns-clause-holds g c = λ first h holds.
     subst (λ b. Holds run_push first h b) (sym (returns-clause-some g c)) (holds_taken run_push first h c.args.self.now c.args.push has holds)
 
 pub returns-clause-told : goal.returns-clause-told
-returns-clause-told g c = λ first h holds.
-    let has : IsSome (row_of c.args.push c.args.self.now.rows) = some_row (row_of c.args.push c.args.self.now.rows) (ap is_some (sym (returns-clause-reply g c))) in
-    outcome_told first h c.args.push c.outcome_of.result (sym (returns-clause-answer g c first h holds has))
+returns-clause-told g c =
+    let at = rw c.as_slice.ensures.value at c.in_ok-at.ensures.some in
+    let told = each_at _ c.self.inside.rows.items c.in_ok-at.at c.remove-row.result at.0 c.remove-row.ensures.value c.self.invariant.3 in
+    rw c.outcome_of.ensures at told
