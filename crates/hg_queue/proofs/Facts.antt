@@ -1,6 +1,6 @@
 -- What follows for a Taker from the rule.
-use Rattle.std.proofs.Common.{◌≡◌, ℕ, ◌+◌, ◌<◌, Bool, true, false, List, [], ◌∷◌, ◌++◌, length, Some, Option, refl, sym, ap, ◌∙◌, subst, arith, append_assoc}
-use Rattle.std.specs.Prelude.{slice_get, option_to_list}
+use Rattle.std.proofs.Common.{◌≡◌, ℕ, ◌+◌, ◌<◌, Bool, true, false, List, [], ◌∷◌, ◌++◌, length, Some, None, Option, refl, sym, ap, ◌∙◌, subst, arith, append_assoc}
+use Rattle.std.specs.Prelude.{slice_get, option_to_list, MatchOption, IfSome}
 use mathlib.Core.List.{IsPrefix}
 use Rattle.hg_types.specs.declared.item.Item.{Item}
 use Rattle.hg_queue.specs.declared.view.Claim.{Claim}
@@ -9,6 +9,8 @@ use Rattle.hg_queue.specs.declared.view.View.{View}
 use Rattle.hg_queue.specs.declared.view.View.TheVariants.{AsTaker}
 use Rattle.hg_queue.specs.History.{is_part, of, items_of, has, IsOrderly, IsDistinct}
 use Rattle.hg_queue.specs.Rules.{World, whole, log_of, Stands, IsSound, FitsTaker}
+use Rattle.hg_queue.specs.Steps.{took, TakesOne}
+use Rattle.hg_queue.specs.Words.{taker_of}
 use Rattle.hg_queue.proofs.Lists.{of_inside}
 
 module _ {A : Type 0} where
@@ -59,3 +61,21 @@ module _ {A : Type 0} where
   -- the same view, by an equation
   pub stands_at : (v w : View A) (items : List (Item A)) → v ≡ w → Stands v items → Stands w items
   stands_at v w items is h = subst (λ (u : View A). Stands u items) is h
+
+  -- what a take tells: the view after it is a Taker's, of which the item was taken last
+  took_taker : (refused : Bool) (v w : View A) (t : TakerView A) (x : Item A) → v ≡ AsTaker t → w ≡ took refused v x → w ≡ AsTaker (taker_of w)
+  took_taker refused v w t x is now = let e : w ≡ took refused (AsTaker t) x = now ∙ ap (λ u. took refused u x) is in e ∙ ap (λ u. AsTaker (taker_of u)) (sym e)
+
+  took_noted : (refused : Bool) (v w : View A) (t : TakerView A) (x : Item A) → v ≡ AsTaker t → TakesOne refused v x w → has x.push (taker_of w).noted ≡ true
+  took_noted refused v w t x is h =
+      let e : w ≡ took refused (AsTaker t) x = h.0 ∙ ap (λ u. took refused u x) is in
+      noted_last (taker_of w) h.1.0 x (ap (λ u. (taker_of u).last) e) (knows w (taker_of w) h.1.0 (took_taker refused v w t x is h.0) h.1.1)
+
+  -- of a take that may have found nothing
+  pub tells_noted : (E : Type 0) (refused : Bool) (v w : View A) (t : TakerView A) → v ≡ AsTaker t → (r : Option (Item A)) → MatchOption r E (λ x. TakesOne refused v x w) → IfSome r (λ x. has x.push (taker_of w).noted ≡ true)
+  tells_noted E refused v w t is None h = tt
+  tells_noted E refused v w t is (Some x) h = took_noted refused v w t x is h
+
+  pub tells_fact : (E : Type 0) (refused : Bool) (v w : View A) (t : TakerView A) → v ≡ AsTaker t → (r : Option (Item A)) → MatchOption r E (λ x. TakesOne refused v x w) → IfSome r (λ _. (items : List (Item A)) × Stands (AsTaker (taker_of w)) items)
+  tells_fact E refused v w t is None h = tt
+  tells_fact E refused v w t is (Some x) h = (h.1.0, stands_at w (AsTaker (taker_of w)) h.1.0 (took_taker refused v w t x is h.0) h.1.1)

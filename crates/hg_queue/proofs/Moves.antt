@@ -10,7 +10,7 @@ use Rattle.hg_queue.specs.declared.view.View.{View}
 use Rattle.hg_queue.specs.declared.view.View.TheVariants.{AsTaker, AsPutter, AsMarked, AsVisitor, Spent}
 use Rattle.hg_queue.specs.History.{is_part, has}
 use Rattle.hg_queue.specs.Rules.{Rule}
-use Rattle.hg_queue.specs.Steps.{unsized, sized, noted, opened, put_by, Marks, counted_full, took, counted_empty, settled, history_note, joined, heard}
+use Rattle.hg_queue.specs.Steps.{unsized, sized, noted, opened, put_by, Marks, counted_full, TakesOne, counted_empty, settled, history_note, joined, heard}
 use Rattle.hg_queue.proofs.Steps.{MayPut, sizes, opens, puts, marks, counts_full, takes, counts_empty, settles, copies, dismisses, joins, notes, hears}
 
 module _ {A : Type 0} where
@@ -29,8 +29,8 @@ module _ {A : Type 0} where
   pub counts_full_as : (port : ℕ) (v : View A) (p : PutterView A) → v ≡ AsPutter p → Forks Rule port v (counted_full v) Spent
   counts_full_as port v p is = subst (λ (u : View A). Forks Rule port u (counted_full u) Spent) (sym is) (counts_full port p)
 
-  pub takes_as : (port : ℕ) (v : View A) (t : TakerView A) (refused : Bool) → v ≡ AsTaker t → Pops Rule port v (λ x w. w ≡ took refused v x)
-  takes_as port v t refused is = subst (λ (u : View A). Pops Rule port u (λ x w. w ≡ took refused u x)) (sym is) (takes port t refused)
+  pub takes_as : (port : ℕ) (v : View A) (t : TakerView A) (refused : Bool) → v ≡ AsTaker t → Pops Rule port v (TakesOne refused v)
+  takes_as port v t refused is = subst (λ (u : View A). Pops Rule port u (TakesOne refused u)) (sym is) (takes port t refused)
 
   pub counts_empty_as : (port : ℕ) (v : View A) (t : TakerView A) (refused : Bool) → v ≡ AsTaker t → Forks Rule port v (counted_empty refused v) Spent
   counts_empty_as port v t refused is = subst (λ (u : View A). Forks Rule port u (counted_empty refused u) Spent) (sym is) (counts_empty port t refused)

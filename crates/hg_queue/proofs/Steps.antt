@@ -6,7 +6,7 @@ use mathlib.Core.Option.{some, some-injective, some-ne-none}
 use mathlib.Core.List.{IsPrefix}
 use lib.ListN.{get_elem?}
 use Rattle.crossbeam_queue.specs.Fifo.{Pushes, Pops, Forks, Merges, Learns}
-use Rattle.crossbeam_queue.proofs.Lists.{at_set, set_again}
+use Rattle.crossbeam_queue.proofs.Lists.{at_set, set_again, set_here}
 use Rattle.hg_types.specs.declared.item.Item.{Item}
 use Rattle.hg_types.specs.declared.item.Taken.{Taken}
 use Rattle.hg_queue.specs.declared.view.Claim.{Claim}
@@ -16,7 +16,7 @@ use Rattle.hg_queue.specs.declared.view.View.{View}
 use Rattle.hg_queue.specs.declared.view.View.TheVariants.{AsTaker, AsPutter, AsMarked, AsVisitor, Spent}
 use Rattle.hg_queue.specs.History.{is_part, of, has, AllParts, IsOrderly, IsDistinct}
 use Rattle.hg_queue.specs.Rules.{World, log_of, whole, IsClaim, Kind, Fits, IsSound, AllFit, Rule, Stands}
-use Rattle.hg_queue.specs.Steps.{unsized, sized, settle, noted, opened, put_by, claim, Marks, counted_full, settled_view, took, counted_empty, settled, history_note, joined, heard}
+use Rattle.hg_queue.specs.Steps.{unsized, sized, settle, noted, opened, put_by, claim, Marks, counted_full, settled_view, took, TakesOne, counted_empty, settled, history_note, joined, heard}
 use Rattle.hg_queue.proofs.Lists.{same_or, of_mine, of_other, of_nobody, parts_more, parts_end, orderly_more, get_end, get_front, has_here, has_more, has_less, has_split, items_settle, prefix_longer, at_new, within}
 
 -- a seat is noted for one number more
@@ -296,7 +296,7 @@ module _ {A : Type 0} where
   taken_settled : (w : World A) (refused : Bool) (l : Option (Item A)) → log_of (further w (w.settled ++ settle w.last refused) l) ≡ log_of w ++ option_to_list l
   taken_settled w refused l = ap (λ xs. xs ++ option_to_list l) (items_settle w.settled w.last refused)
 
-  pub takes : (port : ℕ) (t : TakerView A) (refused : Bool) → Pops Rule port (AsTaker t) (λ x w. w ≡ took refused (AsTaker t) x)
+  pub takes : (port : ℕ) (t : TakerView A) (refused : Bool) → Pops Rule port (AsTaker t) (TakesOne refused (AsTaker t))
   takes port t refused x items views h at =
       let w = h.0 in
       let w' = further w (w.settled ++ settle w.last refused) (Some x) in
@@ -304,15 +304,13 @@ module _ {A : Type 0} where
       let same : whole w' items ≡ whole w (x ∷ items) = ap (λ l. l ++ items) now ∙ append_assoc (log_of w) (x ∷ []) items in
       let long : length (log_of w) ≤ length (log_of w') = omega (arith, ap length now, length-append (log_of w) (x ∷ [])) in
       let v' = took refused (AsTaker t) x in
-      let seats' : length (set views port v') ≡ length views = length-set views port v' in (
-        v',
-        (
-          w',
-          far_sound w w' (x ∷ items) items (length views) (length (set views port v')) (omega arith) refl refl refl refl (omega arith) same h.1,
-          subst (λ (l : List (Item A)). AllFit w' l (set views port v')) (sym same) (far_fit w t refused (Some x) t.empties (whole w (x ∷ items)) views port h.2 at long),
-        ),
-        refl,
-      )
+      let seats' : length (set views port v') ≡ length views = length-set views port v' in
+      let stays : Rule items (set views port v') = (
+        w',
+        far_sound w w' (x ∷ items) items (length views) (length (set views port v')) (omega arith) refl refl refl refl (omega arith) same h.1,
+        subst (λ (l : List (Item A)). AllFit w' l (set views port v')) (sym same) (far_fit w t refused (Some x) t.empties (whole w (x ∷ items)) views port h.2 at long),
+      ) in
+      (v', stays, (refl, (items, (set views port v', port, stays, set_here views port v' (within views port (AsTaker t) at)))))
 
   -- the refusal is settled, the count of empty takes becomes any, and there is a new seat
   far_fork : (port : ℕ) (t : TakerView A) (refused : Bool) (empties : ℕ) (r : View A) → ((w : World A) (all : List (Item A)) (j : ℕ) → t.settled ≡ w.settled → t.last ≡ w.last → ((p : ℕ) → has p w.noted ≡ true → w.seat p ≢ j) → Kind (further w (w.settled ++ settle w.last refused) None) all j r) → Forks Rule port (AsTaker t) (AsTaker (record (settled_view refused t) { empties = empties })) r

@@ -7,6 +7,7 @@ use Rattle.hg_queue.specs.declared.view.TakerView.{TakerView}
 use Rattle.hg_queue.specs.declared.view.PutterView.{PutterView}
 use Rattle.hg_queue.specs.declared.view.View.{View}
 use Rattle.hg_queue.specs.declared.view.View.TheVariants.{AsTaker, AsPutter, AsMarked, AsVisitor, Spent}
+use Rattle.hg_queue.specs.Rules.{Stands}
 
 module _ {A : Type 0} where
   -- The Taker of a new queue of that capacity. A queue is made with none, and the first step sets it.
@@ -62,6 +63,10 @@ module _ {A : Type 0} where
   abbrev pub took : Bool → View A → Item A → View A
   took refused (AsTaker t) x = AsTaker (record (settled_view refused t) { last = Some x })
   took refused v x = v
+
+  -- and when the item had left, the rule held beside its new view
+  abbrev pub TakesOne : Bool → View A → Item A → View A → Type 0
+  TakesOne refused v x w = (w ≡ took refused v x) × ((items : List (Item A)) × Stands w items)
 
   -- the Taker found the queue empty, and settled the item taken last
   abbrev pub counted_empty : Bool → View A → View A

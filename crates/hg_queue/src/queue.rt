@@ -1,6 +1,6 @@
 //! The queue, and what its seats do at it. Each exchange is one atomic step of the ruled queue of `crossbeam_queue`; its contract says what the step made of the seat's view.
 
-ghost use Rattle.std.specs.Prelude.{◌≡◌, ◌<◌, ◌≤◌, ◌+◌, ◌++◌, ◌∷◌, [], false, List, None, Some, IfOk, IsOk, MatchResult, MatchOption, length};
+ghost use Rattle.std.specs.Prelude.{◌≡◌, ◌<◌, ◌≤◌, ◌+◌, ◌++◌, ◌∷◌, [], false, List, None, Some, IfOk, IfSome, IsOk, MatchResult, MatchOption, true, length};
 ghost use mathlib.Core.List.{IsPrefix};
 ghost use Rattle.crossbeam_queue.specs.Fifo.{Held};
 ghost use Rattle.crossbeam_queue.specs.Passes.{view, IsPassOf, IsSamePass};
@@ -9,7 +9,7 @@ ghost use Rattle.hg_types.specs.declared.item.What.TheVariants.{Part as a_part};
 ghost use Rattle.hg_queue.specs.declared.view.View.TheVariants.{AsTaker, AsPutter};
 ghost use Rattle.hg_queue.specs.History.{has};
 ghost use Rattle.hg_queue.specs.Rules.{Stands};
-ghost use Rattle.hg_queue.specs.Steps.{fresh, unsized, putter, noted, opened, took, counted_empty, settled, history_note, joined};
+ghost use Rattle.hg_queue.specs.Steps.{fresh, unsized, putter, noted, opened, TakesOne, counted_empty, settled, history_note, joined};
 ghost use Rattle.hg_queue.specs.Words.{taker_of, taker_view, putter_view, claim_at, seen, history, capacity_of, taken, next_item, what_of, IsTakerOf, IsPutterOf, IsMarkedOf, IsVisitorOf};
 
 use crate::rule::{
@@ -150,7 +150,8 @@ impl<A: Allocator> PartQueue<A> {
 
     /// Takes the oldest item. It answers `None`, and the Taker counts it, only where the queue was empty at one moment of the call.
     ///
-    /// What was told of the item before is settled with it.
+    /// What was told of the item before is settled with it. The item's push is one that has a Putter or had one, and the rule
+    /// held beside the Taker's new view when the item had left the queue.
     pub fn take<R: Wait>(&self, rt: &R, taker: &mut Taker<A>) -> Option<Item<A>>
         requires { IsTakerOf self.now taker.old }
         ensures taker { IsTakerOf self.now taker.new }
@@ -158,6 +159,8 @@ impl<A: Allocator> PartQueue<A> {
             ((taker_view taker.new ≡ record (taker_view taker.old) { settled = history taker.old; last = None; empties = (taker_view taker.old).empties + 1 }) × Held 0 (Stands (AsTaker (taker_view taker.old))))
             (λ item. taker_view taker.new ≡ record (taker_view taker.old) { settled = history taker.old; last = Some item }) }
         ensures history { MatchOption result (history taker.new ≡ history taker.old) (λ item. history taker.new ≡ history taker.old ++ taken item false ∷ []) }
+        ensures noted { IfSome result (λ item. has item.push (taker_view taker.new).noted ≡ true) }
+        ensures fact { IfSome result (λ _. (items : List (Item A)) × Stands (AsTaker (taker_view taker.new)) items) }
     {
         let refused = taker.refused;
         taker.refused = false;
@@ -270,7 +273,7 @@ fn take_told<N: Answer, R: Wait, A: Allocator>(
     requires answer { N.answer ≡ refused }
     requires queue { IsPassOf ring.now seat.old × (view seat.old ≡ AsTaker (taker_of (view seat.old))) }
     ensures queue { IsSamePass seat.old seat.new }
-    ensures view { MatchOption result ((view seat.new ≡ counted_empty refused (view seat.old)) × Held 0 (Stands (view seat.old))) (λ item. view seat.new ≡ took refused (view seat.old) item) }
+    ensures view { MatchOption result ((view seat.new ≡ counted_empty refused (view seat.old)) × Held 0 (Stands (view seat.old))) (λ item. TakesOne refused (view seat.old) item (view seat.new)) }
 {
     match ring.pop_as::<Takes<N>, R>(rt, seat) {
         Some(item) => Some(item),

@@ -139,10 +139,9 @@ pub struct Takes<N> {
 }
 
 impl<N: Answer, A: Allocator> Outcome<Item<A>, View<A>> for Takes<N> {
-    ghost use Rattle.std.specs.Prelude.{◌≡◌};
-    ghost use Rattle.hg_queue.specs.Steps.{took};
+    ghost use Rattle.hg_queue.specs.Steps.{TakesOne};
 
-    ghost then = { λ v x w. w ≡ took N.answer v x };
+    ghost then = { TakesOne N.answer };
 }
 
 impl<N: Answer, A: Allocator> Lesson<Item<A>, View<A>> for Takes<N> {

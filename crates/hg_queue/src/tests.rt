@@ -361,3 +361,49 @@ fn memory_is_taken_by_new_alone(rt: HostRuntime) -> Result<(), Fail> {
     assert!(rt; made > 0);
     Ok(())
 }
+
+// How many parts the test of the greatest queue puts.
+const MANY: u32 = 4_097;
+
+// Puts that many parts. It is false where one found the queue full.
+fn put_many<A: Allocator + Copy, R: Wait>(
+    rt: &R,
+    alloc: A,
+    queue: &PartQueue<A>,
+    putter: &mut Putter<A>,
+) -> bool
+    requires { IsPutterOf queue.now putter.old }
+    ensures { IsPutterOf queue.now putter.new }
+{
+    'parts: for index in 0..MANY {
+        if putter.parts() >= 10_000 || queue.try_put(rt, putter, part(alloc, index)).is_err() {
+            return false;
+        }
+    }
+    true
+}
+
+// Takes that many parts of push 0. It is false where another item came.
+fn take_many<A: Allocator, R: Wait>(rt: &R, queue: &PartQueue<A>, taker: &mut Taker<A>) -> bool
+    requires { IsTakerOf queue.now taker.old }
+    ensures { IsTakerOf queue.now taker.new }
+{
+    'parts: for index in 0..MANY {
+        if take_one(rt, queue, taker) != Some((0, index, Kind::Part(index))) {
+            return false;
+        }
+    }
+    true
+}
+
+#[test]
+fn the_greatest_queue(rt: HostRuntime) -> Result<(), Fail> {
+    let heap = LocalHeap::new(rt.alloc(), 1 << 25)?;
+    let (queue, mut taker) = PartQueue::new(&heap, 65_536)?;
+    let mut putter = putter_of(&queue, &mut taker, 0);
+    assert!(rt; put_many(&rt, &heap, &queue, &mut putter));
+    let marked = put_mark(&rt, &queue, putter, Mark::End);
+    assert!(rt; take_many(&rt, &queue, &mut taker));
+    queue.join(&mut taker, marked);
+    Ok(())
+}

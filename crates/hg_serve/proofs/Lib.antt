@@ -1,0 +1,5 @@
+mod Lists
+mod Orders
+mod Closings
+mod Waits
+mod Dones

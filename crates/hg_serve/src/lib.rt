@@ -1,0 +1,23 @@
+//! The server over threads: a book of pushes under one lock, behind the queue of their parts.
+//!
+//! A [`Server`] is shared by reference. Each connection has one value in turn: a [`Client`] between pushes, a
+//! [`Sender`] while its push is open, and an [`Ended`] once its mark was put. Parts are put without the lock.
+//! What was put is taken under it, by whoever waits for an answer or finds the queue full. Under the lock
+//! stands a [`Desk`]: the book, and the taker whose history the book holds. No part is read, no reply is
+//! written and nothing is put while the lock is held.
+#![tactic(auto)]
+
+mod client;
+mod desk;
+mod gate;
+mod naming;
+mod server;
+
+pub use client::{Client, Ended, Sender};
+pub use desk::{Answer, Closed, Desk};
+pub use gate::{Gate, NoGate, Point};
+pub use naming::Naming;
+pub use server::{PutFault, Server};
+
+#[cfg(test)]
+mod tests;

@@ -1,0 +1,27 @@
+//! The name that ties the values of one server together.
+
+use std::marker::Brand;
+
+/// Which queue it is, how many items that holds at most, and which repository was the first. None of the
+/// three has a value when the program runs: who calls a function over a `J: Naming` picks them for that call.
+pub trait Naming {
+    ghost use Rattle.std.specs.Prelude.{ℕ};
+    ghost use Rattle.atomic_table.specs.Seated.{TableId};
+    ghost use Rattle.hg_repo.specs.Repository.{Repository};
+
+    ghost table: { TableId };
+
+    ghost capacity: { ℕ };
+
+    ghost first: { Repository };
+}
+
+impl Naming for Brand {
+    ghost use Rattle.hg_serve.specs.Names.{no_table, no_repository};
+
+    ghost table = { no_table };
+
+    ghost capacity = { 0 };
+
+    ghost first = { no_repository };
+}

@@ -1,0 +1,275 @@
+//! The server: the queue, and a desk under a lock.
+
+ghost use Rattle.std.specs.Prelude.{◌≡◌, ◌≤◌, [], IfOk, IfErr, MatchResult, All, length};
+ghost use mathlib.Core.List.{IsPrefix};
+ghost use Rattle.hg_types.specs.declared.item.What.TheVariants.{Part as a_part, End, Cut};
+ghost use Rattle.hg_queue.specs.History.{of, items_of};
+ghost use Rattle.hg_queue.specs.Steps.{putter};
+ghost use Rattle.hg_queue.specs.Words.{history, what_of};
+ghost use Rattle.hg_serve.specs.Answers.{Answers};
+ghost use Rattle.hg_serve.specs.Clients.{GoesOn, Adds, Ends, TriesPut};
+ghost use Rattle.hg_serve.specs.Desks.{Begins};
+ghost use Rattle.hg_serve.specs.Histories.{serial_run};
+
+use crate::client::{Client, Ended, Sender};
+use crate::desk::{Answer, Closed, Desk};
+use crate::gate::{Gate, Point};
+use crate::naming::Naming;
+use hg_push::OpenFault;
+use hg_queue::{Full, Mark, PartQueue, Taker};
+use hg_repo::Repo;
+use hg_types::{CutReason, Limits, NoMemory, Part};
+use std::alloc::{Allocator, Global};
+use std::fmt;
+use std::hint::spin_loop;
+use std::marker::{Model, PhantomData};
+use std::sync::{Mutex, MutexGuard, Wait};
+use thiserror::Error;
+
+/// How many parts a push has at most.
+const MOST_PARTS: u32 = 10_000;
+
+/// How often a thread looks at the lock before it sleeps.
+const LOOKS: u32 = 100;
+
+/// Why a part was not put. The part comes back.
+#[derive(Drop, Error)]
+pub enum PutFault<A: Allocator = Global> {
+    /// 1: its push has 10,000 parts.
+    #[error("the push has 10,000 parts")]
+    TooMany(Part<A>),
+    /// 2: the queue was full at one moment of the call.
+    #[error("the queue is full")]
+    Full(Part<A>),
+}
+
+impl<A: Allocator> fmt::Debug for PutFault<A> {
+    fn fmt<W: fmt::Write>(&self, f: &mut fmt::Formatter<W>) -> fmt::Result {
+        match self {
+            PutFault::TooMany(_) => f.write_str("TooMany"),
+            PutFault::Full(_) => f.write_str("Full"),
+        }
+    }
+}
+
+/// A queue of parts that threads put to without a lock, and a desk at which they are taken under one.
+pub struct Server<J: Naming, A: Allocator = Global> {
+    queue: PartQueue<A>,
+    desk: Mutex<Desk<J, A>>,
+    limits: Limits,
+}
+
+impl<J: Naming, A: Allocator> Model for Server<J, A> {
+    ghost use Rattle.std.specs.Prelude.{◌≡◌, ◌≤◌};
+    ghost use Rattle.hg_types.specs.Limits.{IsAllowed};
+    ghost use Rattle.hg_types.specs.declared.limits.Limits.{Limits as LimitsValue};
+    ghost use Rattle.hg_serve.specs.Desks.{IsQueueIn};
+
+    ghost Value = { LimitsValue };
+
+    ghost view = { λ s. s.limits };
+
+    ghost invariant = { λ s. IsQueueIn J.table J.capacity s.queue × (J.capacity ≤ 65536)
+        × (s.limits ≡ J.first.settings.limits) × IsAllowed s.limits };
+}
+
+impl<J: Naming, A: Allocator + Copy> Server<J, A> {
+    /// A server of that repository and queue, which are those of its name. The queue and its taker are new.
+    pub fn new(alloc: A, repo: Repo<A>, queue: PartQueue<A>, taker: Taker<A>) -> Server<J, A>
+        requires { Begins J.table J.capacity J.first queue taker repo }
+        ensures { result ≡ repo.settings.limits }
+    {
+        let limits = repo.settings().limits;
+        Server {
+            queue,
+            desk: Mutex::new(Desk::new(alloc, repo, taker)),
+            limits,
+        }
+    }
+
+    /// The lock. A thread looks at it a while before it sleeps, since it is held for short.
+    fn lock<R: Wait>(&self, rt: &R) -> MutexGuard<'_, Desk<J, A>> {
+        for _ in 0..LOOKS {
+            if let Some(desk) = self.desk.try_lock() {
+                return desk;
+            }
+            spin_loop();
+        }
+        self.desk.lock(rt)
+    }
+
+    /// A client that has seen nothing.
+    pub fn client<R: Wait>(&self, rt: &R) -> Result<Client<J, A>, NoMemory>
+        ensures { IfOk result (λ client. client ≡ []) }
+    {
+        let visitor = self.lock(rt).client(&self.queue)?;
+        Ok(Client {
+            visitor,
+            of: PhantomData,
+        })
+    }
+
+    /// Opens a push, of which its client has seen no item. A client that is refused is as it was.
+    pub fn open<R: Wait>(
+        &self,
+        rt: &R,
+        client: Client<J, A>,
+    ) -> Result<Sender<J, A>, (Client<J, A>, OpenFault)>
+        ensures ok { IfOk result (λ sender. (sender.putter ≡ putter J.capacity sender.putter.push)
+            × (sender.history ≡ client) × (of sender.putter.push (items_of client) ≡ [])) }
+        ensures err { IfErr result (λ back. back.0 ≡ client) }
+    {
+        let Client { mut visitor, of } = client;
+        match self.lock(rt).open_for(&self.queue, &mut visitor) {
+            Ok(putter) => Ok(Sender {
+                putter,
+                visitor,
+                of,
+            }),
+            Err(fault) => Err((Client { visitor, of }, fault)),
+        }
+    }
+
+    /// Puts a part, or hands it back: after 10,000 parts, or where the queue was full at one moment of the
+    /// call. It takes no lock.
+    pub fn try_put<R: Wait>(
+        &self,
+        rt: &R,
+        sender: &mut Sender<J, A>,
+        part: Part<A>,
+    ) -> Result<(), PutFault<A>>
+        ensures { TriesPut J.capacity sender.old part result sender.new }
+    {
+        if sender.putter.parts() >= MOST_PARTS {
+            return Err(PutFault::TooMany(part));
+        }
+        match self.queue.try_put(rt, &mut sender.putter, part) {
+            Ok(()) => Ok(()),
+            Err(Full(part)) => Err(PutFault::Full(part)),
+        }
+    }
+
+    /// Puts a part. Where the queue is full it takes one item and tries again. The part comes back after
+    /// 10,000 parts alone.
+    pub fn put<R: Wait, G: Gate>(
+        &self,
+        rt: &R,
+        sender: &mut Sender<J, A>,
+        part: Part<A>,
+        gate: &mut G,
+    ) -> Result<(), Part<A>>
+        ensures { MatchResult result
+            (λ _. Adds sender.old (a_part part) sender.new)
+            (λ back. (back ≡ part) × GoesOn sender.old sender.new sender.old.putter.put
+            × (10000 ≤ length sender.old.putter.put)) }
+    {
+        let mut part = part;
+        'putting: for _ in rt.forever() {
+            match self.try_put(rt, sender, part) {
+                Ok(()) => {
+                    gate.at(Point::Put);
+                    return Ok(());
+                }
+                Err(PutFault::TooMany(back)) => return Err(back),
+                Err(PutFault::Full(back)) => {
+                    part = back;
+                    self.turn(rt, gate);
+                }
+            }
+        }
+        unreachable!()
+    }
+
+    /// Puts the end mark, as [`Server::put`] puts a part.
+    pub fn end<R: Wait, G: Gate>(&self, rt: &R, sender: Sender<J, A>, gate: &mut G) -> Ended<J, A>
+        ensures { Ends sender End result }
+    {
+        self.mark(rt, sender, Mark::End, gate)
+    }
+
+    /// Puts the mark of a push that was cut off.
+    pub fn cut<R: Wait, G: Gate>(
+        &self,
+        rt: &R,
+        sender: Sender<J, A>,
+        reason: CutReason,
+        gate: &mut G,
+    ) -> Ended<J, A>
+        ensures { Ends sender (Cut reason) result }
+    {
+        self.mark(rt, sender, Mark::Cut(reason), gate)
+    }
+
+    fn mark<R: Wait, G: Gate>(
+        &self,
+        rt: &R,
+        sender: Sender<J, A>,
+        mark: Mark,
+        gate: &mut G,
+    ) -> Ended<J, A>
+        ensures { Ends sender (what_of mark) result }
+    {
+        let Sender {
+            mut putter,
+            visitor,
+            of,
+        } = sender;
+        let push = putter.push();
+        'marking: for _ in rt.forever() {
+            match self.queue.try_mark(rt, putter, mark) {
+                Ok(marked) => {
+                    gate.at(Point::Marked);
+                    return Ended {
+                        marked,
+                        visitor,
+                        push,
+                        of,
+                    };
+                }
+                Err((back, _)) => {
+                    putter = back;
+                    self.turn(rt, gate);
+                }
+            }
+        }
+        unreachable!()
+    }
+
+    /// Takes until the push is closed, and tells how it ended. Its client has then seen the whole history,
+    /// by which the push ended so. The lock is held for the takes, and for nothing else.
+    pub fn answer<R: Wait, G: Gate>(
+        &self,
+        rt: &R,
+        ended: Ended<J, A>,
+        gate: &mut G,
+    ) -> (Answer<A>, Client<J, A>)
+        ensures { Answers J.capacity J.first ended.push ended.put ended.history
+            result.0.outcome result.0.takes result.1 }
+    {
+        let answered = self.lock(rt).answer(rt, &self.queue, ended, gate);
+        gate.at(Point::Answered);
+        answered
+    }
+
+    /// Takes one item under the lock, and steps. It is false where there was none.
+    pub fn turn<R: Wait, G: Gate>(&self, rt: &R, gate: &mut G) -> bool {
+        let mut desk = self.lock(rt);
+        gate.at(Point::Locked);
+        desk.turn(rt, &self.queue)
+    }
+
+    /// The repository and the journal of the whole history, which goes on from what each client has seen.
+    /// Items that are still queued are dropped.
+    pub fn close(self, clients: Vec<Client<J, A>, A>) -> Closed<A>
+        ensures serial { serial_run J.first (history result.taker)
+            ≡ record { repo = result.repo; journal = result.journal.items } }
+        ensures earlier { All (λ c. IsPrefix c (history result.taker)) clients.items }
+    {
+        let Server {
+            queue,
+            desk,
+            limits: _,
+        } = self;
+        desk.into_inner().close(&queue, clients)
+    }
+}

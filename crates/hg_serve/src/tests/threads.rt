@@ -1,0 +1,112 @@
+//! Many threads at one server.
+
+ghost use Rattle.std.specs.Prelude.{◌≤◌};
+
+use super::*;
+use std::sync::Mutex;
+use std::thread;
+
+/// How many threads push, and how often each.
+const THREADS: u32 = 8;
+
+const PUSHES: u32 = 200;
+
+/// The second part of a push: every third push was prepared for other heads.
+fn check<R: Abort>(rt: &R, alloc: Global, push: u32) -> Part {
+    let heads: &[u8] = if push % 3 == 0 { b"" } else { &NULL };
+    part(rt, alloc, b"CHECK:HEADS", heads)
+}
+
+fn push_once<J: Naming, R: Wait + Abort>(
+    rt: &R,
+    alloc: Global,
+    server: &Server<J>,
+    client: Client<J>,
+) -> Client<J> {
+    let mut sender = open(rt, server, client);
+    let push = sender.putter.push();
+    put(rt, server, &mut sender, part(rt, alloc, b"REPLYCAPS", b""));
+    put(rt, server, &mut sender, check(rt, alloc, push));
+    let (answer, client) = finish(rt, server, sender);
+    if push % 3 == 0 {
+        assert!(rt; is_race(&answer, 1));
+    } else {
+        assert!(rt; is_done(&answer, 2));
+    }
+    client
+}
+
+/// One thread's pushes. It leaves its client in the list.
+fn push_all<J: Naming, R: Wait + Abort>(
+    rt: &R,
+    alloc: Global,
+    server: &Server<J>,
+    clients: &Mutex<Vec<Client<J>>>,
+) {
+    let mut mine = client(rt, server);
+    for _ in 0..PUSHES {
+        mine = push_once(rt, alloc, server, mine);
+    }
+    let mut list = clients.lock(rt);
+    add(rt, &mut *list, mine);
+}
+
+pub fn pushes<J: Naming + Send + Sync, R: Threads + Wait + Abort + Sync>(
+    rt: &R,
+    alloc: Global,
+    server: &Server<J>,
+) -> Vec<Client<J>> {
+    let clients = Mutex::new(Vec::new(alloc));
+    let list = &clients;
+    thread::scope(thread::scope_env(), rt, |scope| {
+        for _ in 0..THREADS {
+            let started = scope.spawn(move || push_all(rt, alloc, server, list));
+            assert!(rt; started.is_ok());
+        }
+    });
+    clients.into_inner()
+}
+
+/// The repository after the pushes of the journal, run one by one.
+fn replayed<R: Abort>(rt: &R, alloc: Global, journal: &[u32]) -> Repo {
+    let mut repo = Repo::new(alloc, settings(0, 1_024));
+    for push in journal {
+        let caps = part(rt, alloc, b"REPLYCAPS", b"");
+        let parts = [caps, check(rt, alloc, *push)];
+        assert!(rt; repo.run(Source::Push, &parts).is_ok());
+    }
+    repo
+}
+
+/// Every third push was told as raced and is not in the journal. Each other one is there once.
+fn is_each_once(journal: &[u32]) -> bool {
+    for push in 0..THREADS * PUSHES {
+        let times = journal.iter().filter(|p| **p == push).count();
+        if times != usize::from(push % 3 != 0) {
+            return false;
+        }
+    }
+    true
+}
+
+fn serial_at<R: Threads + Wait + Abort + Sync>(rt: &R, alloc: Global, capacity: u32)
+    requires { (1 ≤ capacity) × (capacity ≤ 65536) }
+{
+    let closed = played(rt, alloc, capacity, settings(0, 1_024), Scene::Threads);
+    let journal = closed.journal.as_slice();
+    assert!(rt; is_each_once(journal));
+    assert!(rt; closed.repo.is_same(&replayed(rt, alloc, journal)));
+}
+
+#[test]
+fn eight_threads_at_capacity_one(rt: HostRuntime) -> Result<(), Fail> {
+    serial_at(&rt, rt.alloc(), 1);
+    Ok(())
+}
+
+#[test]
+fn eight_threads_at_more_places(rt: HostRuntime) -> Result<(), Fail> {
+    serial_at(&rt, rt.alloc(), 8);
+    serial_at(&rt, rt.alloc(), 64);
+    Ok(())
+}
