@@ -2,7 +2,7 @@
 #
 #   make run     prove and build the program, and let it answer a small push
 #   make build   leave the program at build/hg_pushd
-#   make test    prove everything from nothing, refuse the wrong bodies, run the tests
+#   make test    prove everything from nothing, refuse the wrong bodies, run the tests, and run the built program
 #   make bench   measure the program; bench/*/run.sh measure the crates below it
 
 PROGRAM := build/hg_pushd
@@ -32,6 +32,9 @@ run: $(PROGRAM)
 test:
 	@echo 'Proving every crate from nothing, trying the wrong bodies, running the tests. This takes a while.'
 	@rt ci
+	@# the program that the gate has just built, or else a new one
+	@if [ -x crates/hg_pushd/out/hg_pushd ]; then mkdir -p build && cp crates/hg_pushd/out/hg_pushd $(PROGRAM); else $(MAKE) --no-print-directory build; fi
+	@bash examples/check.sh $(PROGRAM)
 
 bench: $(PROGRAM)
 	@bash bench/one.sh

@@ -1,5 +1,6 @@
 -- One bundle, from the opening of its push to the status.
-use Rattle.std.proofs.Common.{ℕ, Bool, ◌≡◌, ◌<◌, ◌^◌, List, [], sym, ◌∙◌, ap, subst, arith, length, Option}
+use Rattle.std.proofs.Common.{ℕ, Bool, ◌≡◌, ◌<◌, ◌^◌, List, [], sym, ◌∙◌, ap, subst, arith, length, ◌++◌}
+use Rattle.std.specs.List.{concat}
 use Rattle.hg_types.specs.declared.part.Part.{Part}
 use Rattle.hg_types.specs.Limits.{IsAllowed, standard_limits}
 use Rattle.hg_repo.specs.declared.done.Done.{Done}
@@ -11,6 +12,7 @@ use Rattle.hg_push.specs.Reply.{reply_of}
 use Rattle.hg_push.specs.Run.{RepositoryOf, run_push}
 use Rattle.hg_pushd.specs.declared.ending.Ending.{Ending}
 use Rattle.hg_pushd.specs.declared.send.Sending.{Sending}
+use Rattle.hg_pushd.specs.Devices.{Input, Output}
 use Rattle.hg_pushd.specs.Receiving.{Received, items_of, mark_of, state_at}
 use Rattle.hg_pushd.specs.Taking.{BookOf, Ends, HasTaken}
 use Rattle.hg_pushd.specs.Answering.{Answered, Sends, empty_repository, status_of}
@@ -28,8 +30,8 @@ allowed = record {
   revisions = (omega arith, omega arith);
 }
 
-pub few_received : {A : Type 0} (input left : Option (List ℕ)) (ending : Ending) (parts : List (Part A)) → Received standard_limits input left ending parts → length parts < 2 ^ 32
-few_received input left ending parts r = omega (arith, few (state_at ending) standard_limits r.consumed parts r.tells)
+pub few_received : {A : Type 0} (before after : Input) (ending : Ending) (parts : List (Part A)) → Received standard_limits before after ending parts → length parts < 2 ^ 32
+few_received before after ending parts r = omega (arith, few (state_at ending) standard_limits (concat r.pieces ++ r.taken) parts r.tells)
 
 -- the first push of an empty book has the number 0
 pub opened : {A : Type 0} (publishing : Bool) (repo : RepositoryOf A) (b new : BookOf A) (push : ℕ) → repo ≡ empty_repository publishing → (b.first_push ≡ repo.settings.first_push) × (b.next ≡ repo.settings.first_push) → b.rows ≡ []
@@ -39,10 +41,10 @@ opened {A} publishing repo b new push is numbers rows holds opens still = (
   subst (λ (r : RepositoryOf A). HasTaken {A = A} r push new []) is (begins repo push b new (numbers.1 ∙ sym numbers.0) rows opens (still repo [] holds)),
 )
 
-pub answers : {A : Type 0} (publishing : Bool) (input left before after : Option (List ℕ)) (status push : ℕ) (ending : Ending) (parts : List (Part A)) (how : Outcome (Done A) (Refusal A)) (sending : Sending) → push ≡ 0
-    → Received standard_limits input left ending parts → Ends {A = A} (empty_repository publishing) push (items_of push parts (mark_of ending)) how → Sends sending before after (reply_of how) → status ≡ status_of ending how sending
-    → Answered A publishing input left before after status
-answers {A} publishing input left before after status push ending parts how sending zeroth received ends sent is = record {
+pub answers : {A : Type 0} (publishing : Bool) (input input_after : Input) (output output_after : Output) (status push : ℕ) (ending : Ending) (parts : List (Part A)) (how : Outcome (Done A) (Refusal A)) (sending : Sending) → push ≡ 0
+    → Received standard_limits input input_after ending parts → Ends {A = A} (empty_repository publishing) push (items_of push parts (mark_of ending)) how → Sends sending output output_after (reply_of how) → status ≡ status_of ending how sending
+    → Answered A publishing input input_after output output_after status
+answers {A} publishing input input_after output output_after status push ending parts how sending zeroth received ends sent is = record {
   ending = ending;
   parts = parts;
   received = received;

@@ -86,13 +86,13 @@ mark_stepped {A} law first push b new items item refused of_it mark s t = record
 -- what a book that took the mark hands out
 pub ends_so : {A : Type 0} (first : RepositoryOf A) (push : ℕ) (book : BookOf A) (items : List (Item A)) (reply : Option (Outcome (Done A) (Refusal A))) (how : Outcome (Done A) (Refusal A)) → reply ≡ Some how
     → ((first : RepositoryOf A) (h : History A) → Holds run_push first h book → IsSome (row_of push book.rows) → reply ≡ outcome run_push first push h)
-    → ((first : RepositoryOf A) (h : History A) → Holds run_push first h book → IfSome reply CanBeTold) → Closes first push book items → Ends first push items how
+    → IfSome reply CanBeTold → Closes first push book items → Ends first push items how
 ends_so first push book items reply how is answer told c = record {
   history = c.taken.history;
   items_are = c.taken.items_are;
   legal = c.taken.holds.legal;
   ended = sym (answer first c.taken.history c.taken.holds c.row) ∙ is;
-  told = subst (λ o. IfSome o CanBeTold) is (told first c.taken.history c.taken.holds);
+  told = subst (λ o. IfSome o CanBeTold) is told;
 }
 
 pub has_reply : {A : Type 0} (first : RepositoryOf A) (push : ℕ) (book : BookOf A) (items : List (Item A)) (reply : Option (Outcome (Done A) (Refusal A))) → reply ≡ None

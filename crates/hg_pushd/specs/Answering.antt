@@ -1,6 +1,7 @@
 -- What is answered to a push.
-use Rattle.std.specs.Prelude.{ℕ, ◌≡◌, List, ◌++◌, Option, Bool}
-use Rattle.std.specs.Io.KnownBytes.{Appends, Keeps}
+use Rattle.std.specs.Prelude.{ℕ, ◌≡◌, ◌≢◌, ◌≤◌, ◌⊎◌, List, [], ◌∷◌, ◌++◌, All, drop, length, map, take, Bool}
+use Rattle.std.specs.List.{concat}
+use Rattle.std.specs.Io.KnownBytes.{Appends}
 use Rattle.hg_types.specs.declared.part.Part.{Part}
 use Rattle.hg_types.specs.Limits.{standard_limits}
 use Rattle.hg_repo.specs.declared.done.Done.{Done}
@@ -15,6 +16,7 @@ use Rattle.hg_pushd.specs.declared.ending.Ending.{Ending}
 use Rattle.hg_pushd.specs.declared.ending.Ending.TheVariants.{Fault, ReadFailed}
 use Rattle.hg_pushd.specs.declared.send.Sending.{Sending}
 use Rattle.hg_pushd.specs.declared.send.Sending.TheVariants.{Whole as sent_whole, Broken, NoMemory}
+use Rattle.hg_pushd.specs.Devices.{Input, Output, WriteAnswer, Took, Refused, Flushed, NotFlushed, Adds}
 use Rattle.hg_pushd.specs.Receiving.{Received, items_of, mark_of}
 use Rattle.hg_pushd.specs.Taking.{Ends}
 
@@ -22,11 +24,39 @@ use Rattle.hg_pushd.specs.Taking.{Ends}
 abbrev pub empty_repository : Bool → Repository
 empty_repository publishing = record { settings = record { publishing = publishing; limits = standard_limits; first_push = 0 } }
 
--- all of the reply was written, or the front of it that the writer took, or nothing where memory was refused for it
-abbrev pub Sends : Sending → Option (List ℕ) → Option (List ℕ) → List ℕ → Type 0
-Sends sent_whole before after reply = Appends before after reply
-Sends Broken before after reply = (front rest : List ℕ) × (reply ≡ front ++ rest) × Appends before after front
-Sends NoMemory before after reply = Keeps before after
+-- what was not written, and the last write, where it took none of that or failed
+abbrev pub StopsShort : List ℕ → List WriteAnswer → Type 0
+StopsShort rest last = (rest ≢ []) × ((last ≡ Took [] ∷ []) ⊎ (last ≡ Refused ∷ []))
+
+-- So many of the bytes were written, by these writes, one behind the other. Each of them took some bytes; then all were written, or one
+-- more write took none or failed, and no further one was made.
+pub record Writes (before after : Output) (all : List ℕ) (sent : ℕ) : Type 0 where
+  pub pieces : List (List ℕ)
+  pub last : List WriteAnswer
+  pub each : All (λ piece. 1 ≤ length piece) pieces
+  pub sent_is : concat pieces ≡ take sent all
+  pub bytes : Appends before.taken after.taken (concat pieces)
+  pub uses : Adds before.uses after.uses (map Took pieces ++ last)
+  pub ends : ((sent ≡ length all) × (last ≡ [])) ⊎ ((sent ≤ length all) × StopsShort (drop sent all) last)
+
+-- what was not written, and the last use of the writer
+abbrev pub LastUse : Sending → List (List ℕ) → List ℕ → List WriteAnswer → Type 0
+LastUse sent_whole pieces rest last = (rest ≡ []) × (last ≡ Flushed ∷ [])
+LastUse Broken pieces rest last = StopsShort rest last ⊎ ((rest ≡ []) × (last ≡ NotFlushed ∷ []))
+LastUse NoMemory pieces rest last = (pieces ≡ []) × (last ≡ [])
+
+-- A reply was sent by these writes, one behind the other, of which each took some bytes. Then it was whole and was flushed; or one more
+-- write took none or failed, or the flush failed, and the writer was not used again; or memory was refused for the reply, and the
+-- writer was not used.
+pub record Sends (sending : Sending) (before after : Output) (reply : List ℕ) : Type 0 where
+  pub pieces : List (List ℕ)
+  pub rest : List ℕ
+  pub last : List WriteAnswer
+  pub each : All (λ piece. 1 ≤ length piece) pieces
+  pub reply_is : reply ≡ concat pieces ++ rest
+  pub bytes : Appends before.taken after.taken (concat pieces)
+  pub uses : Adds before.uses after.uses (map Took pieces ++ last)
+  pub ends : LastUse sending pieces rest last
 
 abbrev pub outcome_status : {A : Type 0} → Outcome (Done A) (Refusal A) → ℕ
 outcome_status (done_with done) = 0
@@ -50,20 +80,20 @@ status_of ReadFailed how sending = 3
 status_of (Fault stream_without_memory) how sending = starved_status sending
 status_of ending how sending = sent_status sending how
 
--- One push was run on the empty repository: its items are the parts of the bytes consumed and the mark that they ask for, in a history
+-- One push was run on the empty repository: its items are the parts of the bytes taken and the mark that they ask for, in a history
 -- that says for which of them memory was refused. Its reply was sent, and the status tells how it went.
-pub record Answered (A : Type 0) (publishing : Bool) (input left before after : Option (List ℕ)) (status : ℕ) : Type 0 where
+pub record Answered (A : Type 0) (publishing : Bool) (input input_after : Input) (output output_after : Output) (status : ℕ) : Type 0 where
   pub ending : Ending
   pub parts : List (Part A)
-  pub received : Received standard_limits input left ending parts
+  pub received : Received standard_limits input input_after ending parts
   pub how : Outcome (Done A) (Refusal A)
   pub ends : Ends {A = A} (empty_repository publishing) 0 (items_of 0 parts (mark_of ending)) how
   pub sending : Sending
-  pub sent : Sends sending before after (reply_of how)
+  pub sent : Sends sending output output_after (reply_of how)
   pub status_is : status ≡ status_of ending how sending
 
 -- memory was refused before anything was read
-pub record NotOpened (input left before after : Option (List ℕ)) (status : ℕ) : Type 0 where
-  pub unread : input ≡ left
-  pub unwritten : before ≡ after
+pub record NotOpened (input input_after : Input) (output output_after : Output) (status : ℕ) : Type 0 where
+  pub unread : input ≡ input_after
+  pub unwritten : output ≡ output_after
   pub status_is : status ≡ 4

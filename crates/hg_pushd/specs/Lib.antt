@@ -1,3 +1,4 @@
+pub mod Devices
 pub mod Receiving
 pub mod Taking
 pub mod Answering

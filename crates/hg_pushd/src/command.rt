@@ -3,6 +3,7 @@
 use clap::error::ErrorKind;
 use clap::{Arg, ArgAction, ArgMatches, Command, Error};
 use std::alloc::{AllocError, Global};
+use std::io;
 
 /// What the words ask for.
 #[derive(Clone, Copy, Debug)]
@@ -23,6 +24,7 @@ fn one<'a>(alloc: Global) -> Result<Command<'a>, AllocError> {
 
 fn command<'a>(alloc: Global) -> Result<Command<'a>, AllocError> {
     Command::new(alloc, "hg_pushd")
+        .version("0.1.0")
         .subcommand_required(true)
         .subcommand(one(alloc)?)
 }
@@ -41,7 +43,25 @@ pub fn job_of(alloc: Global, words: &[String]) -> Result<Job, Error> {
     Ok(read(&matches))
 }
 
-/// 4 where memory is wanting, 0 for help that was asked for, and else 2.
+/// Why the words could not be had: memory was refused for them, or one of them is not text.
+pub fn unreadable(alloc: Global, error: &io::Error) -> Error {
+    if error.kind() == io::ErrorKind::OutOfMemory {
+        return Error::from(AllocError);
+    }
+    match not_text(alloc) {
+        Ok(fault) => fault,
+        Err(refused) => Error::from(refused),
+    }
+}
+
+fn not_text(alloc: Global) -> Result<Error, AllocError> {
+    command(alloc)?.error(
+        ErrorKind::InvalidValue,
+        "a word of the command line is not UTF-8",
+    )
+}
+
+/// 4 where memory is wanting, 0 for help or the version that was asked for, and else 2.
 pub fn status_of(error: &Error) -> u8 {
     match error.kind() {
         ErrorKind::OutOfMemory => 4,

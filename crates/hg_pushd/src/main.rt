@@ -1,10 +1,12 @@
 //! The program `hg_pushd`: a push from standard input to its reply on standard output.
 //!
 //! `hg_pushd one` reads a bundle, runs it on the empty repository and writes the reply bundle. [`run::run_one`] is that
-//! from any reader to any writer, proved from the bytes read to the bytes written. `command` has the command line.
+//! from any reader to any writer, proved from the bytes read to the bytes written. `device` says what readers and writers
+//! tell of how they were used, and `command` has the command line.
 #![tactic(auto)]
 
 mod command;
+mod device;
 mod ending;
 mod push;
 mod run;
@@ -12,8 +14,9 @@ mod send;
 #[cfg(test)]
 mod tests;
 
-use crate::command::{Job, job_of, status_of};
+use crate::command::{Job, job_of, status_of, unreadable};
 use crate::run::run_one;
+use clap::Error;
 use std::io;
 use std::process::ExitCode;
 
@@ -45,38 +48,36 @@ fn perform(rt: &HostRuntime, job: &Job) -> u8 {
     }
 }
 
-/// The words of the command line, and what they ask for. An `Err` is the status of a program that has told why it does nothing.
-fn job(rt: &HostRuntime) -> Result<Job, u8> {
-    let Ok(words) = std::env::args(rt) else {
-        tell(rt, 3);
-        return Err(3);
-    };
-    let Ok(words): Result<Vec<String>, _> = words.collect(rt.alloc()) else {
-        tell(rt, 4);
-        return Err(4);
-    };
-    match job_of(rt.alloc(), &words) {
-        Ok(job) => Ok(job),
-        Err(error) => {
-            let status = status_of(&error);
-            if status == 4 {
-                tell(rt, status);
-            } else {
-                let _ = error.print(rt);
-            }
-            Err(status)
-        }
+/// The words of the command line.
+fn words(rt: &HostRuntime) -> Result<Vec<String>, Error> {
+    match std::env::args(rt) {
+        Ok(words) => Ok(words.collect(rt.alloc())?),
+        Err(error) => Err(unreadable(rt.alloc(), &error)),
+    }
+}
+
+/// What the command line asks for.
+fn job(rt: &HostRuntime) -> Result<Job, Error> {
+    job_of(rt.alloc(), &words(rt)?)
+}
+
+/// Prints the help or the version that was asked for, or what is wrong with the words, and gives the status.
+fn explain(rt: &HostRuntime, error: &Error) -> u8 {
+    let status = status_of(error);
+    if status == 4 {
+        return status;
+    }
+    match error.print(rt) {
+        Ok(_) => status,
+        Err(_) => 3,
     }
 }
 
 fn main(rt: HostRuntime) -> ExitCode {
     let status = match job(&rt) {
-        Ok(job) => {
-            let status = perform(&rt, &job);
-            tell(&rt, status);
-            status
-        }
-        Err(status) => status,
+        Ok(job) => perform(&rt, &job),
+        Err(error) => explain(&rt, &error),
     };
+    tell(&rt, status);
     ExitCode::from(status)
 }

@@ -1,12 +1,13 @@
 //! One bundle from any reader, run on the empty repository, and its reply to any writer.
 
-ghost use Rattle.std.specs.Prelude.{◌≡◌, ◌⊎◌, [], ℕ, List};
+ghost use Rattle.std.specs.Prelude.{◌≡◌, ◌⊎◌, []};
 ghost use Rattle.hg_types.specs.Limits.{standard_limits};
 ghost use Rattle.hg_stream.specs.Unbundler.{Holds, limits_of, ready_of, state_of};
 ghost use Rattle.hg_stream.specs.declared.state.State.TheVariants.{Reading};
 ghost use Rattle.hg_pushd.specs.Receiving.{Received};
 ghost use Rattle.hg_pushd.specs.Answering.{Answered, NotOpened, empty_repository, outcome_status, status_of};
 
+use crate::device::{Reader, Writer};
 use crate::ending::Ending;
 use crate::push::end_push;
 use crate::send::{Sending, send_reply};
@@ -15,7 +16,6 @@ use hg_repo::{Done, Refusal, Repo};
 use hg_stream::{State, StreamFault, Unbundler};
 use hg_types::{Limits, Settings};
 use std::alloc::Allocator;
-use std::io::{Read, Write};
 
 /// How many bytes are read at a time, at most.
 const PIECE: usize = 4_096;
@@ -29,14 +29,14 @@ const STREAM: u32 = 268_435_456;
 /// The status is 0 where the push is done, 1 where it was aborted, 3 where the reader or the writer failed, and 4 where
 /// memory was refused; of several, 3 before 4 before 1. A write that takes nothing is a failed one. Bytes behind the end
 /// mark may have been read and are dropped. Nothing is read or written where memory is refused before.
-pub fn run_one<A: Allocator + Copy, R: Read, W: Write>(
+pub fn run_one<A: Allocator + Copy, R: Reader, W: Writer>(
     alloc: A,
     reader: &mut R,
     writer: &mut W,
     publishing: bool,
 ) -> u8
-    ensures { Answered A publishing (R.remaining reader.old) (R.remaining reader.new) (W.contents writer.old) (W.contents writer.new) result
-        ⊎ NotOpened (R.remaining reader.old) (R.remaining reader.new) (W.contents writer.old) (W.contents writer.new) result }
+    ensures { Answered A publishing (R.told reader.old) (R.told reader.new) (W.told writer.old) (W.told writer.new) result
+        ⊎ NotOpened (R.told reader.old) (R.told reader.new) (W.told writer.old) (W.told writer.new) result }
 {
     let mut book = Book::new(alloc, empty_repository(alloc, publishing));
     let Ok(push) = book.open() else {
@@ -65,11 +65,11 @@ fn empty_repository<A: Allocator>(alloc: A, publishing: bool) -> Repo<A>
 }
 
 /// Reads up to the end mark, a fault, the end of the input or a failed read: at least one byte a turn, but for the last.
-fn receive<A: Allocator + Copy, R: Read>(reader: &mut R, bundle: &mut Unbundler<A>) -> Ending
+fn receive<A: Allocator + Copy, R: Reader>(reader: &mut R, bundle: &mut Unbundler<A>) -> Ending
     requires empty { Holds bundle.old [] [] }
     requires reading { state_of bundle.old ≡ Reading }
     requires limits { limits_of bundle.old ≡ standard_limits }
-    ensures { Received standard_limits (R.remaining reader.old) (R.remaining reader.new) result (ready_of bundle.new) }
+    ensures { Received standard_limits (R.told reader.old) (R.told reader.new) result (ready_of bundle.new) }
 {
     let mut buffer = [0u8; PIECE];
     for _turn in 0..=STREAM {

@@ -1,14 +1,12 @@
 //! The reply to a push, sent to any writer.
 
-ghost use Rattle.std.specs.Prelude.{◌≡◌, ◌≤◌, ℕ, length, take, true};
-ghost use Rattle.std.specs.Io.KnownBytes.{Appends};
 ghost use Rattle.hg_push.specs.Reply.{CanBeTold, reply_of};
-ghost use Rattle.hg_pushd.specs.Answering.{Sends};
+ghost use Rattle.hg_pushd.specs.Answering.{Sends, Writes};
 
+use crate::device::Writer;
 use hg_push::{Outcome, reply_bytes};
 use hg_repo::{Done, Refusal};
 use std::alloc::Allocator;
-use std::io::Write;
 
 /// What became of a reply.
 #[derive(Clone, Copy, Debug, PartialEq, Eq)]
@@ -22,13 +20,13 @@ pub enum Sending {
 }
 
 /// Sends the reply to a push that ended so.
-pub fn send_reply<A: Allocator + Copy, W: Write>(
+pub fn send_reply<A: Allocator + Copy, W: Writer>(
     alloc: A,
     writer: &mut W,
     outcome: &Outcome<Done<A>, Refusal<A>>,
 ) -> Sending
     requires { CanBeTold outcome.now }
-    ensures { Sends result (W.contents writer.old) (W.contents writer.new) (reply_of outcome.now) }
+    ensures { Sends result (W.told writer.old) (W.told writer.new) (reply_of outcome.now) }
 {
     let Ok(reply) = reply_bytes(alloc, outcome) else {
         return Sending::NoMemory;
@@ -43,9 +41,8 @@ pub fn send_reply<A: Allocator + Copy, W: Write>(
 }
 
 /// Writes the bytes, and says how many went out: all, unless a write failed or took none.
-fn write_each<W: Write>(writer: &mut W, bytes: &[u8]) -> usize
-    ensures bound { result ≤ length bytes.now }
-    ensures bytes { Appends (W.contents writer.old) (W.contents writer.new) (take result bytes.now) }
+fn write_each<W: Writer>(writer: &mut W, bytes: &[u8]) -> usize
+    ensures { Writes (W.told writer.old) (W.told writer.new) bytes.now result }
 {
     let mut sent = 0;
     while sent < bytes.len() {

@@ -2,6 +2,7 @@
 
 mod devices;
 mod memory;
+mod words;
 
 use crate::run::run_one;
 use crate::tests::devices::{Sink, Source};
@@ -71,13 +72,18 @@ const UNKNOWN_INTERRUPTION_REPLY: &[u8] =
 /// The bundle without parts, and bytes that are dropped.
 const WITH_MORE: &[u8] = b"HG20\0\0\0\0\0\0\0\0 more";
 
-/// Runs the bundle, read at once, byte by byte and in pieces of three bytes, and checks status and reply.
+/// Runs the bundle, read at once, byte by byte and in pieces of three bytes, and checks status and reply. The end of the input
+/// is read once where the bundle is cut short, and else never.
 fn check<A: Allocator + Copy>(rt: &impl Abort, alloc: A, bundle: &[u8], status: u8, reply: &[u8]) {
     for step in [usize::MAX, 1, 3] {
         let mut reader = Source::in_pieces(bundle, step);
         let mut writer = Sink::new(alloc);
         assert_eq!(*rt; run_one(alloc, &mut reader, &mut writer, false), status);
         assert_eq!(*rt; writer.bytes(), reply);
+        let read = bundle.len().saturating_sub(reader.left().len());
+        let pieces = read.div_ceil(step.clamp(1, 4_096));
+        let ends = usize::from(reply == TRUNCATED_REPLY);
+        assert_eq!(*rt; reader.reads(), pieces.saturating_add(ends));
     }
 }
 
@@ -206,31 +212,55 @@ fn a_short_bundle(rt: HostRuntime) {
 #[test]
 fn bytes_after_the_end_mark(rt: HostRuntime) {
     check(&rt, rt.alloc(), WITH_MORE, 0, EMPTY);
+    let mut reader = Source::in_pieces(WITH_MORE, 1);
+    let mut writer = Sink::new(rt.alloc());
+    assert_eq!(rt; run_one(rt.alloc(), &mut reader, &mut writer, false), 0);
+    assert_eq!(rt; reader.left(), b" more".as_slice());
+}
+
+/// `replycaps` with a payload of 70,000 bytes, also read byte by byte.
+#[test]
+fn many_reads_and_a_long_payload(rt: HostRuntime) -> Result<(), Fail> {
+    let mut bundle = Vec::from_slice(
+        rt.alloc(),
+        b"HG20\0\0\0\0\0\0\0\x10\x09REPLYCAPS\0\0\0\0\0\0\0\x01\x11\x70",
+    )?;
+    bundle.extend_from_slice(&[b'a'; 70_000])?;
+    bundle.extend_from_slice(&[0; 8])?;
+    check(&rt, rt.alloc(), &bundle, 0, EMPTY);
+    Ok(())
 }
 
 /// The reply to a push whose reader failed.
 const LOST_REPLY: &[u8] =
     b"HG20\0\0\0\0\0\0\0\x2a\x0bERROR:ABORT\0\0\0\0\x01\0\x07\x0fmessageconnection lost\0\0\0\0\0\0\0\0";
 
-/// The first push in reads of 1 byte to all but one, of which each in turn fails.
+/// The first push in reads of 1 byte to all but one, of which each in turn fails, or gives nothing. The reader would go on and
+/// is not asked again.
 #[test]
 fn a_reader_that_fails(rt: HostRuntime) {
     for step in 1..FIRST_PUSH.len() {
         let reads = FIRST_PUSH.len().div_ceil(step);
         for good in 0..reads {
-            let mut reader = Source::failing(FIRST_PUSH, step, good);
-            let mut writer = Sink::new(rt.alloc());
-            assert_eq!(rt; run_one(rt.alloc(), &mut reader, &mut writer, false), 3);
-            assert_eq!(rt; writer.bytes(), LOST_REPLY);
+            for (fails, status, reply) in [(true, 3, LOST_REPLY), (false, 1, TRUNCATED_REPLY)] {
+                let mut reader = Source::failing(FIRST_PUSH, step, good, fails);
+                let mut writer = Sink::new(rt.alloc());
+                assert_eq!(rt;
+                    run_one(rt.alloc(), &mut reader, &mut writer, false),
+                    status
+                );
+                assert_eq!(rt; writer.bytes(), reply);
+                assert_eq!(rt; reader.reads(), good.saturating_add(1));
+            }
         }
-        let mut reader = Source::failing(FIRST_PUSH, step, reads);
+        let mut reader = Source::failing(FIRST_PUSH, step, reads, true);
         let mut writer = Sink::new(rt.alloc());
         assert_eq!(rt; run_one(rt.alloc(), &mut reader, &mut writer, false), 0);
         assert_eq!(rt; writer.bytes(), EMPTY);
     }
 }
 
-/// A writer that takes some bytes and then fails, or takes none.
+/// A writer that takes some bytes, and then fails or takes none. It would go on and is not asked again.
 #[test]
 fn a_writer_that_fails(rt: HostRuntime) {
     for taken in 0..RACE_REPLY.len() {

@@ -79,7 +79,7 @@ fn a_failed_read_comes_before_want_of_memory(rt: HostRuntime) -> Result<(), Fail
     let mut lost = 0u32;
     for sixteens in 1..256usize {
         let heap = LocalHeap::new(rt.alloc(), sixteens * 16)?;
-        let mut reader = Source::failing(FIRST_PUSH, 4, 2);
+        let mut reader = Source::failing(FIRST_PUSH, 4, 2, true);
         let mut writer = Sink::new(rt.alloc());
         let status = run_one(&heap, &mut reader, &mut writer, false);
         if status == 3 {

@@ -1,12 +1,9 @@
-use Rattle.std.proofs.Common.{◌≤◌, length, take, ◌-◌}
-use Rattle.std.specs.Io.KnownBytes.{Appends}
+use Rattle.std.proofs.Common.{length, ◌-◌}
+use Rattle.hg_pushd.proofs.Sending.{WritesOn}
 use Rattle.hg_pushd.proofs.send.write_each.Given as goal
 
 abbrev pub invariant-loop-sent : goal.invariant-loop-sent
-invariant-loop-sent g l = record {
-  bound : l.sent ≤ length l.bytes;
-  bytes : Appends (g.W.Write.contents l.fn.writer) (g.W.Write.contents l.writer) (take l.sent l.bytes);
-}
+invariant-loop-sent g l = WritesOn (g.W.Writer.told l.fn.writer) (g.W.Writer.told l.writer) l.bytes l.sent
 
 abbrev pub decreases-loop-sent : goal.decreases-loop-sent
 decreases-loop-sent g l = length l.bytes - l.sent

@@ -1,0 +1,38 @@
+#!/usr/bin/env bash
+# Runs the built program, and compares its status, what it writes and what it tells: examples/check.sh PROGRAM.
+set -u
+program=$1
+here=$(cd "$(dirname "$0")" && pwd)
+room=$(mktemp -d)
+trap 'rm -rf "$room"' EXIT
+failed=0
+
+# check NAME STATUS OUTPUT LINE WORDS..: standard input is $room/in; OUTPUT is a file; LINE is the first line on standard error.
+check() {
+    local name=$1 status=$2 output=$3 line=$4 got=0
+    shift 4
+    "$program" "$@" < "$room/in" > "$room/out" 2> "$room/err" || got=$?
+    if [ "$got" != "$status" ] || ! cmp -s "$room/out" "$output" || [ "$(head -n 1 "$room/err")" != "$line" ]; then
+        echo "$name: status $got, not $status, or another output or line than wanted"
+        failed=1
+    fi
+}
+
+: > "$room/nothing"
+printf 'HG20\0\0\0\0\0\0\0\0' > "$room/empty"
+printf 'HG20\0\0\0\0\0\0\0\x2a\x0bERROR:ABORT\0\0\0\0\x01\0\x07\x0fmessagestream fault 10\0\0\0\0\0\0\0\0' > "$room/truncated"
+"$program" --version > "$room/version" || failed=1
+[[ $(cat "$room/version") =~ ^hg_pushd\ [0-9]+\.[0-9]+\.[0-9]+$ ]] || { echo 'the version is not told'; failed=1; }
+
+cp "$here/first-push.hg20" "$room/in"
+check 'the first push' 0 "$room/empty" '' one
+check 'the first push is published' 0 "$room/empty" '' one --publishing
+check 'a missing subcommand' 2 "$room/nothing" "error: 'hg_pushd' requires a subcommand but one was not provided"
+check 'a bad word' 2 "$room/nothing" "error: unrecognized subcommand 'two'" two
+check 'a word that is not text' 2 "$room/nothing" 'error: a word of the command line is not UTF-8' "$(printf '\xff')"
+head -c 80 "$here/first-push.hg20" > "$room/in"
+check 'a bundle that is cut short' 1 "$room/truncated" 'hg_pushd: push aborted' one
+"$program" one < "$here/first-push.hg20" > /dev/full 2> "$room/err"
+[ $? = 3 ] && [ "$(cat "$room/err")" = 'hg_pushd: device fault' ] || { echo 'a full device is not told'; failed=1; }
+[ $failed = 0 ] && echo 'The program: all runs as wanted.'
+exit $failed
