@@ -3,12 +3,12 @@
 use std::time::Instant;
 
 /// The parts of each push.
-const PARTS: u32 = 100;
+const PARTS: [u32; 3] = [2, 12, 100];
 
 /// The pushes of each round.
 const PUSHES: u32 = 1_024;
 
-/// The rounds, of which the fastest counts. In each the numbers of open pushes take turns.
+/// The rounds, of which the fastest counts. In each the numbers of parts and of open pushes take turns.
 const ROUNDS: u32 = 15;
 
 /// How many pushes are open at once.
@@ -46,9 +46,9 @@ fn small_part(id: u32) -> Part {
 }
 
 /// The parts of all pushes, by groups of so many pushes that are open at once; in a group a part of each push in turn.
-fn items_in_turn(open: u32) -> Vec<Item> {
+fn items_in_turn(parts: u32, open: u32) -> Vec<Item> {
     let groups = 0..PUSHES / open;
-    let turns = groups.flat_map(|_| (0..PARTS).flat_map(move |index| (0..open).map(move |push| (push, index))));
+    let turns = groups.flat_map(|_| (0..parts).flat_map(move |index| (0..open).map(move |push| (push, index))));
     turns.map(|(push, index)| Item { push, part: small_part(index) }).collect()
 }
 
@@ -57,13 +57,14 @@ fn step(staged: &mut [Vec<Part>], item: Item) {
     staged[item.push as usize].push(item.part);
 }
 
-fn time_steps(open: u32) -> u128 {
-    let mut items = items_in_turn(open).into_iter();
+/// The nanoseconds of the puts alone, with so many lists at once.
+fn time_steps(parts: u32, open: u32) -> u128 {
+    let mut items = items_in_turn(parts, open).into_iter();
     let mut sum = 0;
     for _ in 0..PUSHES / open {
         let mut staged: Vec<Vec<Part>> = (0..open).map(|_| Vec::new()).collect();
         let start = Instant::now();
-        for item in items.by_ref().take((open * PARTS) as usize) {
+        for item in items.by_ref().take((open * parts) as usize) {
             step(&mut staged, item);
         }
         sum += start.elapsed().as_nanos();
@@ -71,17 +72,34 @@ fn time_steps(open: u32) -> u128 {
     sum
 }
 
-fn main() {
-    let steps = u128::from(PUSHES * PARTS);
-    drop(std::hint::black_box(Vec::<u8>::with_capacity(BLOCK)));
-    let mut least = [u128::MAX; 3];
-    for _ in 0..ROUNDS {
-        for (place, open) in OPEN.into_iter().enumerate() {
-            least[place] = least[place].min(time_steps(open));
+/// The nanoseconds of all lists, each from its making to its end.
+fn time_pushes(parts: u32, open: u32) -> u128 {
+    let mut items = items_in_turn(parts, open).into_iter();
+    let start = Instant::now();
+    for _ in 0..PUSHES / open {
+        let mut staged: Vec<Vec<Part>> = (0..open).map(|_| Vec::new()).collect();
+        for item in items.by_ref().take((open * parts) as usize) {
+            step(&mut staged, item);
         }
     }
-    for (open, least) in OPEN.into_iter().zip(least) {
-        let nanos = least.max(1);
-        println!("plain vectors, {open} open: {} steps a second, {:.1} ns a step", steps * 1_000_000_000 / nanos, nanos as f64 / steps as f64);
+    start.elapsed().as_nanos()
+}
+
+fn main() {
+    drop(std::hint::black_box(Vec::<u8>::with_capacity(BLOCK)));
+    let mut least = [[(u128::MAX, u128::MAX); 3]; 3];
+    for _ in 0..ROUNDS {
+        for (row, parts) in least.iter_mut().zip(PARTS) {
+            for (least, open) in row.iter_mut().zip(OPEN) {
+                *least = (least.0.min(time_steps(parts, open)), least.1.min(time_pushes(parts, open)));
+            }
+        }
+    }
+    for (row, parts) in least.into_iter().zip(PARTS) {
+        for ((steps, whole), open) in row.into_iter().zip(OPEN) {
+            let step = steps as f64 / f64::from(PUSHES * parts);
+            let push = whole / u128::from(PUSHES);
+            println!("plain vectors, {parts} parts, {open} open: {step:.1} ns a step, {push} ns a push");
+        }
     }
 }
