@@ -2,13 +2,15 @@
 use Rattle.std.proofs.Common.{◌≡◌, ◌≢◌, ℕ, zero, suc, ◌+◌, ◌<◌, ◌≤◌, Bool, true, false, not, cond, List}
 use Rattle.std.proofs.Common.{◌∷◌, length, filter, Option, Some, None, AllPairs, Contains, refl, sym, ap}
 use Rattle.std.proofs.Common.{◌∙◌, subst, inl, inr, arith}
-use Rattle.std.specs.Prelude.{nat_eq}
+use Rattle.std.proofs.Common.{IsTrue, ◌↔◌}
+use Rattle.std.specs.Prelude.{nat_eq, nat_lt}
+use Rattle.std.specs.Cmp.{both_ways}
 use Rattle.std.specs.List.{list_any, range_with_len, IsDistinct, AllByRecursion}
 use Rattle.std.specs.Set.{is_member}
 use Rattle.std.proofs.lemmas.Cmp.{nat_eq_equiv}
 use Rattle.std.proofs.lemmas.Bool.Decides.{Decides-eqb}
 use Rattle.std.proofs.lemmas.Bool.{cases_eq, cond_both, or_cases, or_left, or_right, eqb-true, eq-eqb}
-use Rattle.std.proofs.lemmas.Bool.{ne_eqb, not-true, true≢false}
+use Rattle.std.proofs.lemmas.Bool.{ne_eqb, not-true, true≢false, and_from, and_parts, lt-ltb, ltb-true}
 use Rattle.std.proofs.lemmas.Map.Made.{length-le_from_is_member, IsDistinct-from_AllPairs}
 use Rattle.std.proofs.lemmas.Map.Made.{AllPairs-from_IsDistinct, is_member-Decides}
 use Rattle.std.proofs.lemmas.Option.{slice_get_within}
@@ -17,9 +19,9 @@ use Rattle.hg_log.specs.declared.graph.Parents.{Parents}
 use Rattle.hg_log.specs.Changeset.{Changeset}
 use Rattle.hg_log.specs.Rows.{AreLawful}
 use Rattle.hg_log.specs.Ancestors.{IsParent}
-use Rattle.hg_log.specs.Graph.{AreChildless}
+use Rattle.hg_log.specs.Graph.{HasParent, AreChildless}
 use Rattle.hg_log.specs.Parents.{parents_of, IsParentIn}
-use Rattle.hg_log.specs.HeadCount.{is_number, names, is_childless, head_revs}
+use Rattle.hg_log.specs.HeadCount.{is_number, names, is_childless, is_head, head_revs}
 use Rattle.hg_log.specs.Inside.{IsWhole}
 use Rattle.hg_log.proofs.ParentLemmas.{parent_is, is_parent}
 use Rattle.hg_log.proofs.Wholes.{by_number, by_id}
@@ -154,6 +156,19 @@ module _ (rows : List Changeset) (graph : List Parents) (limits : Limits) (whole
     );
     distinct = heads_distinct rows whole.lawful;
   }
+
+  -- a row is a head just where the graph tells that nobody has it as a parent
+  pub head_told : (r : ℕ) (told : Bool) → IsTrue told ↔ ((r < length graph) × ((child : ℕ) → ¬ (HasParent graph r child)))
+      → told ≡ is_head rows r
+  head_told r told is =
+      both_ways told (is_head rows r)
+      (λ yes.
+      let found = is.0 yes in
+      and_from (nat_lt r (length rows)) (is_childless rows r) (lt-ltb r (length rows) (omega (arith, found.0, whole.numbered.as_long)))
+      (freed rows whole.lawful r (λ child parent. found.1 child (by_number rows graph limits whole r child parent))))
+      (λ yes.
+      let both = and_parts (nat_lt r (length rows)) (is_childless rows r) yes in
+      is.1 (omega (arith, ltb-true r (length rows) both.0, whole.numbered.as_long), λ child has. free rows whole.lawful r both.1 child (by_id rows graph limits whole r child has)))
 
   pub count_is : (revs : List ℕ) → AreChildless graph revs → length revs ≡ length (head_revs rows)
   count_is revs childless =

@@ -36,19 +36,19 @@ module _ (rows : List Changeset) (lawful : AreLawful rows) where
   head_in : (node : List ℕ) (head : IsHead rows node) → Contains (head_revs rows) head.rev
   head_in node head = to_heads rows lawful head.rev (has_within rows head.rev node head.has) (freed rows lawful head.rev (no_parent rows head.rev node head.has head.childless))
 
-  id_head : (node : List ℕ) → Contains (map (id_at rows) (head_revs rows)) node → IsHead rows node
+  pub id_head : (node : List ℕ) → Contains (map (id_at rows) (head_revs rows)) node → IsHead rows node
   id_head node found =
       let k_in : found.0 < length (head_revs rows) = omega (arith, found.1, length-map (head_revs rows) (id_at rows)) in
       let id : id_at rows (slice_index (head_revs rows) found.0) ≡ node = sym (get_or-map (id_at rows) (head_revs rows) found.0 0 node k_in) ∙ found.2 in
       subst (IsHead rows) id (is_head (slice_index (head_revs rows) found.0) (Contains-get_or (head_revs rows) found.0 0 k_in))
 
-  head_id : (node : List ℕ) → IsHead rows node → Contains (map (id_at rows) (head_revs rows)) node
+  pub head_id : (node : List ℕ) → IsHead rows node → Contains (map (id_at rows) (head_revs rows)) node
   head_id node head =
       let found = head_in node head in
       let id : id_at rows head.rev ≡ node = ap id_of head.has.row_at ∙ head.has.node_is in
       (found.0, omega (arith, found.1, length-map (head_revs rows) (id_at rows)), get_or-map (id_at rows) (head_revs rows) found.0 head.rev node found.1 ∙ ap (id_at rows) found.2 ∙ id)
 
-  ids_distinct : AllPairs (λ a b. a ≢ b) (map (id_at rows) (head_revs rows))
+  pub ids_distinct : AllPairs (λ a b. a ≢ b) (map (id_at rows) (head_revs rows))
   ids_distinct i j d less j_in same =
       let revs = head_revs rows in
       let j_low : j < length revs = omega (arith, length-map revs (id_at rows)) in
@@ -73,7 +73,7 @@ or_null_some : (ids : List (List ℕ)) → 0 < length ids → or_null ids ≡ id
 or_null_some [] some = absurd (omega (arith, some))
 or_null_some (id ∷ ids) some = refl
 
-ids_shown : (rows : List Changeset) → AreLawful rows → 0 < length rows
+pub ids_shown : (rows : List Changeset) → AreLawful rows → 0 < length rows
     → head_ids rows ≡ map (id_at rows) (head_revs rows)
 unfolding head_ids
 ids_shown rows lawful some = or_null_some (map (id_at rows) (head_revs rows)) (omega (arith, length-map (head_revs rows) (id_at rows), some_head rows lawful some))

@@ -12,6 +12,7 @@ mod HeadCounts
 mod HeadValues
 mod HeadsAfter
 mod HeadLemmas
+mod HeadLists
 mod Outcomes
 mod Answering
 mod AncestorLaws

@@ -6,6 +6,7 @@ use Rattle.std.specs.Prelude.{bytes_eq, nat_lt}
 use Rattle.std.specs.List.{position_or_len}
 use Rattle.std.proofs.lemmas.Bool.{eqb-true, eq-eqb, lt-ltb, ltb-true, and_parts, and_from, cond-true}
 use Rattle.std.proofs.lemmas.Bool.{cond-false}
+use Rattle.std.proofs.lemmas.List.Quantifiers.{position-Some}
 use Rattle.std.proofs.lemmas.List.Sums.{position_or_len_is}
 use Rattle.std.proofs.lemmas.Option.{slice_get_within, get_or_from_slice_get, slice_get-get_or}
 use Rattle.std.proofs.lemmas.Slice.Eq.{bytes_eq-Decides}
@@ -43,6 +44,19 @@ rev_found rows p node lawful has =
     let found : position_or_len (λ row. bytes_eq row.node node) rows ≡ p =
     position_or_len_is (λ row. bytes_eq row.node node) rows p has.row (omega arith) before (λ _. (bytes_eq-Decides (get_or rows p has.row).node node).1 here) in
     ap (λ n. cond (nat_lt n (length rows)) (Some n) None) found ∙ cond-true (nat_lt p (length rows)) (Some p) None (lt-ltb p (length rows) within)
+
+-- what has a number is the id of the row
+pub found_row : (rows : List Changeset) (p : ℕ) (node : List ℕ) → rev_of rows node ≡ Some p
+    → HasNode rows p node
+unfolding rev_of
+found_row [] p node is = absurd cc
+found_row (first ∷ rows) p node is =
+    let at = position-Some (λ (row : Changeset). bytes_eq row.node node) (first ∷ rows) p first is in
+    record {
+      row = get_or (first ∷ rows) p first;
+      row_at = slice_get-get_or (first ∷ rows) p first at.0;
+      node_is = (bytes_eq-Decides (get_or (first ∷ rows) p first).node node).0 at.1;
+    }
 
 -- an id of no row has none
 pub rev_lacks : (rows : List Changeset) (node : List ℕ) → LacksNode rows node → rev_of rows node ≡ None

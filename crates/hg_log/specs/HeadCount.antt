@@ -1,10 +1,10 @@
 -- The heads and their number as values, in the order of the rows.
-use Rattle.std.specs.Prelude.{◌≡◌, ℕ, ◌==◌, Bool, false, not, ◌||◌, if◌then◌else◌, Option, None, Some}
+use Rattle.std.specs.Prelude.{◌≡◌, ℕ, ◌==◌, Bool, false, not, ◌&&◌, ◌||◌, nat_lt, if◌then◌else◌, Option, None, Some}
 use Rattle.std.specs.Prelude.{List, [], ◌∷◌, ◌++◌, length, map, filter, count_by, bytes_eq, slice_get}
 use Rattle.std.specs.List.{list_any, range_with_len}
 use Rattle.hg_types.specs.NullId.{null_id}
 use Rattle.hg_log.specs.Changeset.{Changeset}
-use Rattle.hg_log.specs.Parents.{parents_of}
+use Rattle.hg_log.specs.Parents.{rev_of, parents_of}
 
 abbrev pub is_number : Option ℕ → ℕ → Bool
 is_number None r = false
@@ -16,6 +16,10 @@ names rows r child = is_number (parents_of rows child).0 r || is_number (parents
 
 abbrev pub is_childless : List Changeset → ℕ → Bool
 is_childless rows r = not (list_any (names rows r) (range_with_len 0 (length rows)))
+
+-- the row of that number is nobody's parent; a number that no row has is no head
+abbrev pub is_head : List Changeset → ℕ → Bool
+is_head rows r = nat_lt r (length rows) && is_childless rows r
 
 -- the numbers of the rows that are nobody's parent
 unfoldable pub head_revs : List Changeset → List ℕ
@@ -40,6 +44,15 @@ or_null (id ∷ ids) = id ∷ ids
 -- the ids of the heads, in the order of their rows; the null id alone where there are no rows
 unfoldable pub head_ids : List Changeset → List (List ℕ)
 head_ids rows = or_null (map (id_at rows) (head_revs rows))
+
+-- the id is that of a head, by the number of its row; where there are no rows, it is null
+abbrev pub is_head_at : List Changeset → Option ℕ → Bool
+is_head_at rows None = false
+is_head_at rows (Some r) = is_head rows r
+
+abbrev pub is_head_id : List Changeset → List ℕ → Bool
+is_head_id [] id = bytes_eq id null_id
+is_head_id (row ∷ rows) id = is_head_at (row ∷ rows) (rev_of (row ∷ rows) id)
 
 -- the heads once a row is added: those that it does not name as a parent, and itself
 abbrev pub heads_with : List Changeset → Changeset → List ℕ

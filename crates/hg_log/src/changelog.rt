@@ -8,7 +8,7 @@ ghost use Rattle.hg_log.specs.Changeset.{Log};
 ghost use Rattle.hg_log.specs.NodeId.{node_id_of};
 ghost use Rattle.hg_log.specs.Ancestors.{IsAncestor};
 ghost use Rattle.hg_log.specs.Parents.{parents_of, rev_of, is_ancestor};
-ghost use Rattle.hg_log.specs.HeadCount.{head_count, head_ids, AreSameIds};
+ghost use Rattle.hg_log.specs.HeadCount.{head_count, head_ids, is_head, AreSameIds};
 ghost use Rattle.hg_log.specs.Heads.{AreHeads, ids};
 ghost use Rattle.hg_log.specs.Inside.{IsAt, changeset};
 ghost use Rattle.hg_log.specs.Add.{with_row};
@@ -158,6 +158,7 @@ impl<A: Allocator> Changelog<A> {
     pub fn head_count(&self) -> usize
         ensures count { result ≡ head_count self.now.rows }
         ensures few { result < 2 ^ 32 }
+        ensures lawful { AreLawful self.now.rows }
     {
         let childless = self.graph.childless();
         if childless.is_empty() {
@@ -165,6 +166,14 @@ impl<A: Allocator> Changelog<A> {
         } else {
             childless.len()
         }
+    }
+
+    /// Whether the changeset of that number is nobody's parent. A number that no changeset has is no head. It takes
+    /// no memory and costs the same however many changesets there are.
+    pub fn is_head(&self, rev: u32) -> bool
+        ensures { result ≡ is_head self.now.rows rev }
+    {
+        self.graph.is_childless(rev)
     }
 
     /// Whether one changeset is an ancestor of another, or the same; a number that no changeset has is

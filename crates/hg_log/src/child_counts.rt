@@ -1,6 +1,6 @@
 //! How many children each row has, and which rows have none.
 
-ghost use Rattle.std.specs.Prelude.{◌≡◌, ◌≢◌, ◌↔◌, ℕ, ◌+◌, ◌-◌, ◌<◌, ◌^◌, [], ◌∷◌, ◌++◌, length, take, slice_index, slice_set, OnOk, OnErr, IfSome, Contains, AllPairs};
+ghost use Rattle.std.specs.Prelude.{◌≡◌, ◌≢◌, ◌↔◌, ℕ, ◌+◌, ◌-◌, ◌<◌, ◌^◌, [], ◌∷◌, ◌++◌, length, take, slice_index, slice_set, OnOk, OnErr, IfSome, IsTrue, Contains, AllPairs};
 ghost use Rattle.hg_log.specs.ChildCounts.{one_more, one_less};
 
 use crate::order::Order;
@@ -111,5 +111,11 @@ impl<A: Allocator> ChildCounts<A> {
         ensures distinct { AllPairs (λ a b. a ≢ b) result.now }
     {
         self.order.first(self.childless as usize)
+    }
+    /// Whether a row has no children. A number that no row has is none.
+    pub fn is_childless(&self, row: usize) -> bool
+        ensures { IsTrue result ↔ ((row < length self.now) × (slice_index self.now row ≡ 0)) }
+    {
+        row < self.counts.len() && self.counts[row] == 0
     }
 }

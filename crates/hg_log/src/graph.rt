@@ -2,7 +2,7 @@
 
 ghost use Rattle.std.specs.Prelude.{◌≡◌, ◌⊎◌, ◌↔◌, ℕ, ◌+◌, ◌-◌, ◌<◌, ◌≤◌, ◌^◌, [], ◌∷◌, ◌++◌, length, take};
 ghost use Rattle.std.specs.Prelude.{IfOk, OnOk, OnErr, IfSome, IsTrue, slice_get, Some};
-ghost use Rattle.hg_log.specs.Graph.{AreEarlier, AreChildless, Reaches};
+ghost use Rattle.hg_log.specs.Graph.{AreEarlier, AreChildless, HasParent, Reaches};
 
 use crate::child_counts::ChildCounts;
 use crate::marks::Marks;
@@ -143,5 +143,11 @@ impl<A: Allocator> Graph<A> {
         ensures { AreChildless self.now result.now }
     {
         self.children.childless()
+    }
+    /// Whether a row is one that no row has as a parent. A number that no row has is none.
+    pub fn is_childless(&self, row: u32) -> bool
+        ensures { IsTrue result ↔ ((row < length self.now) × ((child : ℕ) → ¬ (HasParent self.now row child))) }
+    {
+        self.children.is_childless(row as usize)
     }
 }

@@ -169,67 +169,93 @@ fn has_parent_revs(log: &Changelog, rev: u32, p1: Option<u32>, p2: Option<u32>) 
     (rev as usize) < log.len() && log.parent_revs(rev) == (p1, p2)
 }
 
+fn has_a_root(alloc: Global, log: &mut Changelog) -> bool {
+    let added = put(alloc, log, changeset(ROOT, NULL, NULL, b""));
+    let is_there = has_text(log, &ROOT, b"") && log.knows(&ROOT) && log.rev(&ROOT) == Some(0);
+    let is_hash = node_id(&NULL, &NULL, b"") == ROOT;
+    added == Ok(Added::New(0)) && log.len() == 1 && is_there && is_hash
+}
+
 #[test]
 fn a_root_changeset(rt: HostRuntime) -> Result<(), Fail> {
     let mut log = new_log(rt)?;
-    assert_eq!(rt; node_id(&NULL, &NULL, b""), ROOT);
-    assert_eq!(rt;
-        put(rt.alloc(), &mut log, changeset(ROOT, NULL, NULL, b"")),
-        Ok(Added::New(0))
-    );
-    assert_eq!(rt; log.len(), 1);
-    assert_eq!(rt; log.rev(&ROOT), Some(0));
-    assert!(rt; has_text(&log, &ROOT, b""));
-    assert!(rt; log.knows(&ROOT));
+    assert!(rt; has_a_root(rt.alloc(), &mut log));
     Ok(())
+}
+
+fn has_no_rows(alloc: Global, log: &mut Changelog) -> bool {
+    let is_known = log.knows(&NULL) && !log.knows(&OTHER);
+    let has_none = log.rev(&OTHER).is_none() && log.rev(&NULL).is_none();
+    is_known && has_none && has_heads(alloc, log, &[NULL])
 }
 
 #[test]
 fn ids_that_no_row_has(rt: HostRuntime) -> Result<(), Fail> {
-    let log = new_log(rt)?;
-    assert!(rt; log.knows(&NULL));
-    assert!(rt; !log.knows(&OTHER));
-    assert_eq!(rt; log.rev(&OTHER), None);
-    assert_eq!(rt; log.rev(&NULL), None);
-    assert!(rt; has_heads(rt.alloc(), &log, &[NULL]));
+    let mut log = new_log(rt)?;
+    assert!(rt; has_no_rows(rt.alloc(), &mut log));
     Ok(())
+}
+
+/// The three changesets that Mercurial made.
+fn line() -> [Given<'static>; 3] {
+    [
+        changeset(ADD_A, NULL, NULL, TEXT_A),
+        changeset(ADD_B, ADD_A, NULL, TEXT_B),
+        changeset(ADD_C, ADD_B, NULL, TEXT_C),
+    ]
+}
+
+fn has_the_line(alloc: Global, log: &mut Changelog) -> bool {
+    let is_put = put_all(alloc, log, &line());
+    let is_second = log.rev(&ADD_B) == Some(1) && has_text(log, &ADD_B, TEXT_B);
+    let has_parents = has_parents(log, 0, NULL, NULL) && has_parents(log, 2, ADD_B, NULL);
+    let has_heads = has_heads(alloc, log, &[ADD_C]);
+    is_put && is_second && has_parents && has_heads
 }
 
 #[test]
 fn changesets_of_mercurial(rt: HostRuntime) -> Result<(), Fail> {
     let mut log = new_log(rt)?;
-    let rows = [
-        changeset(ADD_A, NULL, NULL, TEXT_A),
-        changeset(ADD_B, ADD_A, NULL, TEXT_B),
-        changeset(ADD_C, ADD_B, NULL, TEXT_C),
-    ];
-    assert!(rt; put_all(rt.alloc(), &mut log, &rows));
-    assert_eq!(rt; log.rev(&ADD_B), Some(1));
-    assert!(rt; has_text(&log, &ADD_B, TEXT_B));
-    assert!(rt; has_parents(&log, 0, NULL, NULL));
-    assert!(rt; has_parents(&log, 2, ADD_B, NULL));
-    assert!(rt; has_heads(rt.alloc(), &log, &[ADD_C]));
+    assert!(rt; has_the_line(rt.alloc(), &mut log));
     Ok(())
 }
 
 #[test]
 fn parents_in_either_order(rt: HostRuntime) {
-    assert_eq!(rt; node_id(&NULL, &ADD_A, TEXT_B), ADD_B);
-    assert_eq!(rt; node_id(&ADD_A, &NULL, TEXT_B), ADD_B);
+    let first = node_id(&NULL, &ADD_A, TEXT_B);
+    let second = node_id(&ADD_A, &NULL, TEXT_B);
+    assert!(rt; first == ADD_B && second == ADD_B);
+}
+
+/// Whether each changeset gets that answer.
+fn are_answered(
+    alloc: Global,
+    log: &mut Changelog,
+    rows: &[Given],
+    answer: Result<Added, AddFault>,
+) -> bool {
+    let mut all = true;
+    for row in rows {
+        all = put(alloc, log, *row) == answer && all;
+    }
+    all
+}
+
+fn knows_it_again(alloc: Global, log: &mut Changelog) -> bool {
+    let is_put = put_all(alloc, log, &[changeset(ROOT, NULL, NULL, b"")]);
+    let again = [
+        changeset(ROOT, NULL, NULL, b""),
+        changeset(ROOT, OTHER, NULL, b"x"),
+        changeset(NULL, OTHER, NULL, b"x"),
+    ];
+    let are_known = are_answered(alloc, log, &again, Ok(Added::Known));
+    is_put && are_known && log.len() == 1
 }
 
 #[test]
 fn the_same_changeset_again(rt: HostRuntime) -> Result<(), Fail> {
     let mut log = new_log(rt)?;
-    assert!(rt; put_all(rt.alloc(), &mut log, &[changeset(ROOT, NULL, NULL, b"")]));
-    for again in [
-        changeset(ROOT, NULL, NULL, b""),
-        changeset(ROOT, OTHER, NULL, b"x"),
-        changeset(NULL, OTHER, NULL, b"x"),
-    ] {
-        assert_eq!(rt; put(rt.alloc(), &mut log, again), Ok(Added::Known));
-    }
-    assert_eq!(rt; log.len(), 1);
+    assert!(rt; knows_it_again(rt.alloc(), &mut log));
     Ok(())
 }
 
@@ -247,40 +273,38 @@ fn put_on_r(alloc: Global, log: &mut Changelog) -> Result<Added, AddFault> {
     })
 }
 
+fn takes_it_as_a_base(alloc: Global, log: &mut Changelog) -> bool {
+    let known = changeset(ROOT_R, NULL, NULL, b"r");
+    let is_put = put_all(alloc, log, &[changeset(ROOT, NULL, NULL, b""), known]);
+    let is_known = put(alloc, log, known) == Ok(Added::Known);
+    let is_new = put_on_r(alloc, log) == Ok(Added::New(2));
+    let has_text = has_text(log, &CHILD_B, b"b");
+    let has_heads = has_heads(alloc, log, &[ROOT_R, CHILD_B]);
+    is_put && is_known && is_new && has_text && has_heads
+}
+
 #[test]
 fn a_known_entry_is_a_base(rt: HostRuntime) -> Result<(), Fail> {
     let mut log = new_log(rt)?;
-    let rows = [
-        changeset(ROOT, NULL, NULL, b""),
-        changeset(ROOT_R, NULL, NULL, b"r"),
-    ];
-    assert!(rt; put_all(rt.alloc(), &mut log, &rows));
-    assert_eq!(rt;
-        put(rt.alloc(), &mut log, changeset(ROOT_R, NULL, NULL, b"r")),
-        Ok(Added::Known)
-    );
-    assert_eq!(rt; put_on_r(rt.alloc(), &mut log), Ok(Added::New(2)));
-    assert!(rt; has_text(&log, &CHILD_B, b"b"));
-    assert!(rt; has_heads(rt.alloc(), &log, &[ROOT_R, CHILD_B]));
+    assert!(rt; takes_it_as_a_base(rt.alloc(), &mut log));
     Ok(())
+}
+
+fn refuses_a_wrong_hash(alloc: Global, log: &mut Changelog) -> bool {
+    let mut wrong = ROOT;
+    wrong.0[19] = 0xdc;
+    let rows = [
+        changeset(wrong, NULL, NULL, b""),
+        changeset(ROOT, NULL, NULL, b"x"),
+    ];
+    let are_refused = are_answered(alloc, log, &rows, Err(AddFault::HashMismatch));
+    are_refused && log.len() == 0 && !log.knows(&wrong)
 }
 
 #[test]
 fn a_wrong_hash(rt: HostRuntime) -> Result<(), Fail> {
     let mut log = new_log(rt)?;
-    let mut wrong = ROOT;
-    wrong.0[19] = 0xdc;
-    for other in [
-        changeset(wrong, NULL, NULL, b""),
-        changeset(ROOT, NULL, NULL, b"x"),
-    ] {
-        assert_eq!(rt;
-            put(rt.alloc(), &mut log, other),
-            Err(AddFault::HashMismatch)
-        );
-    }
-    assert_eq!(rt; log.len(), 0);
-    assert!(rt; !log.knows(&wrong));
+    assert!(rt; refuses_a_wrong_hash(rt.alloc(), &mut log));
     Ok(())
 }
 
@@ -295,36 +319,45 @@ fn merged() -> [Given<'static>; 5] {
     ]
 }
 
+fn tells_heads(alloc: Global, log: &mut Changelog) -> bool {
+    let rows = merged();
+    let is_put = put_all(alloc, log, &rows[..4]);
+    let has_three = has_heads(alloc, log, &[THIRD, FIRST, SECOND]);
+    let is_merged = put_all(alloc, log, &rows[4..]);
+    let has_two = has_heads(alloc, log, &[THIRD, MERGE]);
+    is_put && has_three && is_merged && has_two
+}
+
 #[test]
 fn the_heads_before_a_merge_and_after_it(rt: HostRuntime) -> Result<(), Fail> {
     let mut log = new_log(rt)?;
-    let rows = merged();
-    assert!(rt; put_all(rt.alloc(), &mut log, &rows[..4]));
-    assert!(rt; has_heads(rt.alloc(), &log, &[THIRD, FIRST, SECOND]));
-    assert!(rt; put_all(rt.alloc(), &mut log, &rows[4..]));
-    assert!(rt; has_heads(rt.alloc(), &log, &[THIRD, MERGE]));
+    assert!(rt; tells_heads(rt.alloc(), &mut log));
     Ok(())
+}
+
+/// Whether all these are so: that the first is an ancestor of the second, or that it is none.
+fn are_ancestors(log: &Changelog, pairs: &[(u32, u32)], is: bool) -> bool {
+    let mut all = true;
+    for pair in pairs {
+        all = log.is_ancestor(pair.0, pair.1) == Ok(is) && all;
+    }
+    all
+}
+
+fn tells_ancestors(alloc: Global, log: &mut Changelog) -> bool {
+    let is_put = put_all(alloc, log, &merged());
+    let are = are_ancestors(log, &[(0, 4), (1, 4), (2, 4), (4, 4)], true);
+    let others = [(3, 4), (5, 4), (4, 1), (0, 5), (5, 5), (7, 9)];
+    let are_none = are_ancestors(log, &others, false);
+    let of_merge = has_parent_revs(log, 4, Some(1), Some(2));
+    let of_others = has_parent_revs(log, 3, Some(0), None) && has_parent_revs(log, 0, None, None);
+    is_put && are && are_none && of_merge && of_others
 }
 
 #[test]
 fn the_ancestors_of_a_merge(rt: HostRuntime) -> Result<(), Fail> {
     let mut log = new_log(rt)?;
-    assert!(rt; put_all(rt.alloc(), &mut log, &merged()));
-    for (rev, is) in [
-        (0, true),
-        (1, true),
-        (2, true),
-        (3, false),
-        (4, true),
-        (5, false),
-    ] {
-        assert_eq!(rt; log.is_ancestor(rev, 4), Ok(is), "row {rev}");
-    }
-    for (ancestor, rev) in [(4, 1), (0, 5), (5, 5), (7, 9)] {
-        assert_eq!(rt; log.is_ancestor(ancestor, rev), Ok(false), "row {rev}");
-    }
-    assert!(rt; has_parent_revs(&log, 4, Some(1), Some(2)));
-    assert!(rt; has_parent_revs(&log, 3, Some(0), None) && has_parent_revs(&log, 0, None, None));
+    assert!(rt; tells_ancestors(rt.alloc(), &mut log));
     Ok(())
 }
 
@@ -335,41 +368,44 @@ fn cut(log: &mut Changelog, len: usize) {
     }
 }
 
+fn is_cut_back(alloc: Global, log: &mut Changelog) -> bool {
+    let rows = merged();
+    let is_put = put_all(alloc, log, &rows);
+    cut(log, 2);
+    let is_cut = log.len() == 2 && log.rev(&SECOND).is_none() && !log.knows(&MERGE);
+    let has_one = has_heads(alloc, log, &[FIRST]);
+    let has_more = put_all(alloc, log, &rows[2..3]);
+    let has_two = has_heads(alloc, log, &[FIRST, SECOND]);
+    is_put && is_cut && has_one && has_more && has_two
+}
+
 #[test]
 fn a_cut_back(rt: HostRuntime) -> Result<(), Fail> {
     let mut log = new_log(rt)?;
-    let rows = merged();
-    assert!(rt; put_all(rt.alloc(), &mut log, &rows));
-    cut(&mut log, 2);
-    assert_eq!(rt; log.len(), 2);
-    assert_eq!(rt; log.rev(&SECOND), None);
-    assert!(rt; !log.knows(&MERGE));
-    assert!(rt; has_heads(rt.alloc(), &log, &[FIRST]));
-    assert!(rt; put_all(rt.alloc(), &mut log, &rows[2..3]));
-    assert!(rt; has_heads(rt.alloc(), &log, &[FIRST, SECOND]));
+    assert!(rt; is_cut_back(rt.alloc(), &mut log));
     Ok(())
+}
+
+/// Whether a copy of the first two rows of a line takes the third.
+fn a_copy_grows(alloc: Global, log: &Changelog) -> bool {
+    let Ok(mut copy) = log.try_clone(alloc) else {
+        return false;
+    };
+    let is_put = put_all(alloc, &mut copy, &line()[2..]);
+    let has_first = has_text(&copy, &ADD_A, TEXT_A) && copy.rev(&ADD_B) == Some(1);
+    is_put && has_first && copy.is_ancestor(0, 2) == Ok(true)
+}
+
+fn is_cloned(alloc: Global, log: &mut Changelog) -> bool {
+    let is_put = put_all(alloc, log, &line()[..2]);
+    let has_grown = a_copy_grows(alloc, log);
+    is_put && has_grown && log.len() == 2
 }
 
 #[test]
 fn a_clone(rt: HostRuntime) -> Result<(), Fail> {
     let mut log = new_log(rt)?;
-    let rows = [
-        changeset(ADD_A, NULL, NULL, TEXT_A),
-        changeset(ADD_B, ADD_A, NULL, TEXT_B),
-    ];
-    assert!(rt; put_all(rt.alloc(), &mut log, &rows));
-    let mut copy = log.try_clone(rt.alloc()).ok().ok_or("a clone")?;
-    assert!(rt;
-        put_all(
-            rt.alloc(),
-            &mut copy,
-            &[changeset(ADD_C, ADD_B, NULL, TEXT_C)]
-        )
-    );
-    assert!(rt; has_text(&copy, &ADD_A, TEXT_A));
-    assert_eq!(rt; copy.rev(&ADD_B), Some(1));
-    assert_eq!(rt; copy.is_ancestor(0, 2), Ok(true));
-    assert_eq!(rt; log.len(), 2);
+    assert!(rt; is_cloned(rt.alloc(), &mut log));
     Ok(())
 }
 
@@ -393,18 +429,23 @@ fn put_short(
     })
 }
 
-#[test]
-fn an_unknown_parent_before_an_unknown_base(rt: HostRuntime) -> Result<(), Fail> {
-    let mut log = new_log(rt)?;
+fn tells_the_first_fault(alloc: Global, log: &mut Changelog) -> bool {
+    let mut all = true;
     for (p1, p2, base, fault) in [
         (NULL, OTHER, OTHER, AddFault::UnknownParent),
         (OTHER, NULL, OTHER, AddFault::UnknownParent),
         (NULL, NULL, OTHER, AddFault::UnknownBase),
         (NULL, NULL, NULL, AddFault::Delta(DeltaFault::Short)),
     ] {
-        assert_eq!(rt; put_short(rt.alloc(), &mut log, p1, p2, base), Err(fault));
+        all = put_short(alloc, log, p1, p2, base) == Err(fault) && all;
     }
-    assert_eq!(rt; log.len(), 0);
+    all && log.len() == 0
+}
+
+#[test]
+fn an_unknown_parent_before_an_unknown_base(rt: HostRuntime) -> Result<(), Fail> {
+    let mut log = new_log(rt)?;
+    assert!(rt; tells_the_first_fault(rt.alloc(), &mut log));
     Ok(())
 }
 
@@ -422,36 +463,33 @@ fn small_log(rt: HostRuntime) -> Result<Changelog, Fail> {
     Ok(Changelog::new(rt.alloc(), RandomState::new(&rt)?, limits))
 }
 
+fn refuses_a_long_text(alloc: Global, log: &mut Changelog) -> bool {
+    let is_put = put_all(alloc, log, &[changeset(ROOT_R, NULL, NULL, b"r")]);
+    let long = put(alloc, log, changeset(ROOT, NULL, NULL, b"rr"));
+    let is_refused = long == Err(AddFault::Delta(DeltaFault::TooLong));
+    is_put && is_refused && log.len() == 1
+}
+
 #[test]
 fn a_text_at_its_limit_and_past_it(rt: HostRuntime) -> Result<(), Fail> {
     let mut log = small_log(rt)?;
-    assert!(rt; put_all(rt.alloc(), &mut log, &[changeset(ROOT_R, NULL, NULL, b"r")]));
-    assert_eq!(rt;
-        put(rt.alloc(), &mut log, changeset(ROOT, NULL, NULL, b"rr")),
-        Err(AddFault::Delta(DeltaFault::TooLong))
-    );
-    assert_eq!(rt; log.len(), 1);
+    assert!(rt; refuses_a_long_text(rt.alloc(), &mut log));
     Ok(())
+}
+
+fn refuses_a_row(alloc: Global, log: &mut Changelog) -> bool {
+    let root = changeset(ROOT, NULL, NULL, b"");
+    let is_put = put_all(alloc, log, &[root, changeset(ROOT_R, NULL, NULL, b"r")]);
+    let other = put(alloc, log, changeset(CHILD_B, ROOT, NULL, b"c"));
+    let more = put(alloc, log, changeset(CHILD_B, ROOT, NULL, b"b"));
+    let known = put(alloc, log, root);
+    let are_refused = other == Err(AddFault::HashMismatch) && more == Err(AddFault::TooMany);
+    is_put && are_refused && known == Ok(Added::Known) && log.len() == 2
 }
 
 #[test]
 fn as_many_rows_as_are_allowed_and_one_more(rt: HostRuntime) -> Result<(), Fail> {
     let mut log = small_log(rt)?;
-    let rows = [
-        changeset(ROOT, NULL, NULL, b""),
-        changeset(ROOT_R, NULL, NULL, b"r"),
-    ];
-    assert!(rt; put_all(rt.alloc(), &mut log, &rows));
-    for (more, answer) in [
-        (
-            changeset(CHILD_B, ROOT, NULL, b"c"),
-            Err(AddFault::HashMismatch),
-        ),
-        (changeset(CHILD_B, ROOT, NULL, b"b"), Err(AddFault::TooMany)),
-        (changeset(ROOT, NULL, NULL, b""), Ok(Added::Known)),
-    ] {
-        assert_eq!(rt; put(rt.alloc(), &mut log, more), answer);
-    }
-    assert_eq!(rt; log.len(), 2);
+    assert!(rt; refuses_a_row(rt.alloc(), &mut log));
     Ok(())
 }

@@ -4,12 +4,13 @@ use Rattle.std.proofs.lemmas.List.{length_push}
 use Rattle.std.proofs.lemmas.List.FromFn.{length-map-range_with_len}
 use Rattle.hg_types.specs.declared.phase.Phase.{Phase}
 use Rattle.hg_types.specs.declared.phase.Phase.TheVariants.{Public, Draft, Secret}
+use Rattle.hg_types.specs.Phase.{number_of}
 use Rattle.hg_log.specs.Ancestors.{IsAncestor}
 use Rattle.hg_log.specs.Changeset.{Changeset}
 use Rattle.hg_log.specs.Rows.{AreLawful as AreLawfulRows}
 use Rattle.hg_log.specs.Parents.{parents_of}
 use Rattle.hg_log.proofs.CallerLemmas.{parents_kept, ordered, ancestor_leads}
-use Rattle.hg_phases.specs.Order.{rank, greater, phase_at, phase_of, phase_above}
+use Rattle.hg_phases.specs.Order.{greater, phase_at, phase_of, phase_above}
 use Rattle.hg_phases.specs.Roots.{begins, is_root, roots_from, roots, HasRoot}
 use Rattle.hg_phases.specs.Phases.{registered, advanced, advanced_at, Phasing, no_rows, AreFor, AreForSame}
 use Rattle.hg_phases.proofs.Ranges.{filter_same}
@@ -31,7 +32,7 @@ roots_kept old new phases t lawful within front few =
 pub for_more : (old new : List Changeset) (kept : Phasing) → AreLawfulRows new → length old ≤ length new → take (length old) new ≡ old → AreFor old kept → AreFor new kept
 for_more old new kept lawful within front fits = record {
   few = omega (arith, fits.few);
-  lawful = λ r low. omega (arith, fits.lawful r low, ap rank (above_kept old new kept.phases r lawful within front (omega (arith, fits.few))));
+  lawful = λ r low. omega (arith, fits.lawful r low, ap number_of (above_kept old new kept.phases r lawful within front (omega (arith, fits.few))));
   draft = fits.draft ∙ roots_kept old new kept.phases Draft lawful within front fits.few;
   secret = fits.secret ∙ roots_kept old new kept.phases Secret lawful within front fits.few;
 }
@@ -46,17 +47,17 @@ unfolding advanced
 length_advanced parents target heads phases = length-map-range_with_len (advanced_at parents target heads phases) 0 (length phases)
 
 -- no row is in a lower phase than an ancestor of it
-pub no_ancestor_above : (rows : List Changeset) (kept : Phasing) (a r : ℕ) → AreLawfulRows rows → AreFor rows kept → r < length kept.phases → IsAncestor rows a r → rank (phase_at kept.phases a) ≤ rank (phase_at kept.phases r)
+pub no_ancestor_above : (rows : List Changeset) (kept : Phasing) (a r : ℕ) → AreLawfulRows rows → AreFor rows kept → r < length kept.phases → IsAncestor rows a r → number_of (phase_at kept.phases a) ≤ number_of (phase_at kept.phases r)
 no_ancestor_above rows kept a r lawful fits within is = rises (parents_of rows) (ordered rows lawful) kept.phases fits.lawful a r within (ancestor_leads rows lawful a r is)
 
-above_public : (target : Phase) → target ≢ Public → 0 < rank target
+above_public : (target : Phase) → target ≢ Public → 0 < number_of target
 above_public Public not = absurd (not refl)
 above_public Draft not = omega arith
 above_public Secret not = omega arith
 
 -- a row is of at least that phase where a root of it is among its ancestors and itself
 pub roots_tell : (rows : List Changeset) (kept : Phasing) (target : Phase) (r : ℕ) → AreLawfulRows rows → AreFor rows kept → target ≢ Public → r < length kept.phases
-    → (rank target ≤ rank (phase_at kept.phases r)) ↔ HasRoot (parents_of rows) (roots (parents_of rows) kept.phases target) r
+    → (number_of target ≤ number_of (phase_at kept.phases r)) ↔ HasRoot (parents_of rows) (roots (parents_of rows) kept.phases target) r
 roots_tell rows kept target r lawful fits not within = root_tells (parents_of rows) (ordered rows lawful) kept.phases target (above_public target not) fits.lawful r within
 
 -- phases of as many rows with the same roots are the same

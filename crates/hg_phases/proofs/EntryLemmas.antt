@@ -14,9 +14,10 @@ use Rattle.hg_types.specs.Bytes.{IsBytes}
 use Rattle.hg_types.specs.declared.node.Node.{Node}
 use Rattle.hg_types.specs.declared.phase.Phase.{Phase}
 use Rattle.hg_types.specs.declared.phase.Phase.TheVariants.{Public, Draft, Secret}
+use Rattle.hg_types.specs.Phase.{number_of}
 use Rattle.hg_phases.specs.declared.fault.EntryFault.{EntryFault}
 use Rattle.hg_phases.specs.declared.fault.EntryFault.TheVariants.{Short, BadPhase}
-use Rattle.hg_phases.specs.Order.{rank, phase_from}
+use Rattle.hg_phases.specs.Order.{phase_from}
 use Rattle.hg_phases.specs.Entries.{entry_bytes, AreEntries, phase_in, node_in, entry_in, is_entry, entries_in, entries_of, Gives}
 
 -- ---- one entry
@@ -31,14 +32,14 @@ IsBytes-take n bytes fits i = elim (cases_lt i n) [
 ]
 
 -- a phase has the number that it was made from
-rank_from : (n : ℕ) (phase : Phase) → phase_from n ≡ Some phase → rank phase ≡ n
-rank_from n phase =
-    cond_both (eqb n 0) (Some Public) (cond (eqb n 1) (Some Draft) (cond (eqb n 2) (Some Secret) None)) (λ o. o ≡ Some phase → rank phase ≡ n)
-    (λ h e. let is : Public ≡ phase = cc in ap rank (sym is) ∙ sym (eqb-true n 0 h))
-    (λ not_public. cond_both (eqb n 1) (Some Draft) (cond (eqb n 2) (Some Secret) None) (λ o. o ≡ Some phase → rank phase ≡ n)
-    (λ h e. let is : Draft ≡ phase = cc in ap rank (sym is) ∙ sym (eqb-true n 1 h))
-    (λ not_draft. cond_both (eqb n 2) (Some Secret) None (λ o. o ≡ Some phase → rank phase ≡ n)
-    (λ h e. let is : Secret ≡ phase = cc in ap rank (sym is) ∙ sym (eqb-true n 2 h))
+number_from : (n : ℕ) (phase : Phase) → phase_from n ≡ Some phase → number_of phase ≡ n
+number_from n phase =
+    cond_both (eqb n 0) (Some Public) (cond (eqb n 1) (Some Draft) (cond (eqb n 2) (Some Secret) None)) (λ o. o ≡ Some phase → number_of phase ≡ n)
+    (λ h e. let is : Public ≡ phase = cc in ap number_of (sym is) ∙ sym (eqb-true n 0 h))
+    (λ not_public. cond_both (eqb n 1) (Some Draft) (cond (eqb n 2) (Some Secret) None) (λ o. o ≡ Some phase → number_of phase ≡ n)
+    (λ h e. let is : Draft ≡ phase = cc in ap number_of (sym is) ∙ sym (eqb-true n 1 h))
+    (λ not_draft. cond_both (eqb n 2) (Some Secret) None (λ o. o ≡ Some phase → number_of phase ≡ n)
+    (λ h e. let is : Secret ≡ phase = cc in ap number_of (sym is) ∙ sym (eqb-true n 2 h))
     (λ none e. absurd cc)))
 
 spelled_by : (piece : List ℕ) (entry : Phase × Node) (o : Option Phase) → length piece ≡ 24 → IsBytes piece → phase_in piece ≡ o → option_map (λ phase. (phase, node_in piece)) o ≡ Some entry → entry_bytes entry ≡ piece
@@ -48,7 +49,7 @@ spelled_by piece entry (Some phase) len fits is e =
     let first : length (take 4 piece) ≡ 4 = omega (arith, length-take 4 piece) in
     let id : take 20 (drop 4 piece) ≡ drop 4 piece = take_all 20 (drop 4 piece) (omega (arith, length-drop 4 piece)) in
     subst (λ (x : Phase × Node). entry_bytes x ≡ piece) same (
-    ap (λ (k : ℕ). to_be_bytes w32 k ++ take 20 (drop 4 piece)) (rank_from (from_be_bytes w32 (take 4 piece)) phase is)
+    ap (λ (k : ℕ). to_be_bytes w32 k ++ take 20 (drop 4 piece)) (number_from (from_be_bytes w32 (take 4 piece)) phase is)
     ∙ ap (λ (bs : List ℕ). bs ++ take 20 (drop 4 piece)) (be_bytes_4 (take 4 piece) (from_be_bytes w32 (take 4 piece)) first (IsBytes-take 4 piece fits) refl)
     ∙ ap (λ (bs : List ℕ). take 4 piece ++ bs) id
     ∙ take-append-drop 4 piece

@@ -1,4 +1,4 @@
-mod Ranks
+mod Numbers
 mod Ranges
 mod Rising
 mod Kept

@@ -6,13 +6,14 @@ use Rattle.std.specs.Int.{w32, to_be_bytes, from_be_bytes}
 use Rattle.std.specs.Simd.{first_chunks}
 use Rattle.hg_types.specs.declared.node.Node.{Node}
 use Rattle.hg_types.specs.declared.phase.Phase.{Phase}
+use Rattle.hg_types.specs.Phase.{number_of}
 use Rattle.hg_phases.specs.declared.fault.EntryFault.{EntryFault}
 use Rattle.hg_phases.specs.declared.fault.EntryFault.TheVariants.{Short, BadPhase, NoMemory}
-use Rattle.hg_phases.specs.Order.{rank, phase_from}
+use Rattle.hg_phases.specs.Order.{phase_from}
 
 -- the number of the phase in four bytes, the most significant first, and the id
 abbrev pub entry_bytes : Phase × Node → List ℕ
-entry_bytes entry = to_be_bytes w32 (rank entry.0) ++ entry.1.0
+entry_bytes entry = to_be_bytes w32 (number_of entry.0) ++ entry.1.0
 
 -- the bytes are those of these entries, joined
 abbrev pub AreEntries : List ℕ → List (Phase × Node) → Type 0

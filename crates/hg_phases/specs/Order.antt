@@ -2,12 +2,7 @@
 use Rattle.std.specs.Prelude.{ℕ, List, Option, None, Some, nat_le, ◌==◌, if◌then◌else◌, slice_index_or}
 use Rattle.hg_types.specs.declared.phase.Phase.{Phase}
 use Rattle.hg_types.specs.declared.phase.Phase.TheVariants.{Public, Draft, Secret}
-
--- the number of a phase
-abbrev pub rank : Phase → ℕ
-rank Public = 0
-rank Draft = 1
-rank Secret = 2
+use Rattle.hg_types.specs.Phase.{number_of}
 
 -- the phase of a number
 abbrev pub phase_from : ℕ → Option Phase
@@ -16,10 +11,10 @@ phase_from number =
     else (if number == 1 then Some Draft else (if number == 2 then Some Secret else None))
 
 abbrev pub lesser : Phase → Phase → Phase
-lesser a b = if nat_le (rank a) (rank b) then a else b
+lesser a b = if nat_le (number_of a) (number_of b) then a else b
 
 abbrev pub greater : Phase → Phase → Phase
-greater a b = if nat_le (rank a) (rank b) then b else a
+greater a b = if nat_le (number_of a) (number_of b) then b else a
 
 -- the phase of a row; one that has none counts as public
 abbrev pub phase_at : List Phase → ℕ → Phase

@@ -3,10 +3,11 @@ use Rattle.std.specs.Prelude.{◌≡◌, ℕ, ◌<◌, ◌≤◌, Bool, List, []
 use Rattle.std.specs.List.{list_any, range_with_len}
 use Rattle.hg_types.specs.declared.phase.Phase.{Phase}
 use Rattle.hg_types.specs.declared.phase.Phase.TheVariants.{Draft, Secret}
+use Rattle.hg_types.specs.Phase.{number_of}
 use Rattle.hg_log.specs.Changeset.{Changeset}
 use Rattle.hg_log.specs.Parents.{parents_of, leads}
 use Rattle.hg_log.specs.Rows.{AreLawful as AreLawfulRows}
-use Rattle.hg_phases.specs.Order.{rank, lesser, greater, phase_at, phase_above}
+use Rattle.hg_phases.specs.Order.{lesser, greater, phase_at, phase_above}
 use Rattle.hg_phases.specs.Roots.{roots}
 
 -- the next row gets the greatest of the target and its parents' phases
@@ -29,7 +30,7 @@ advanced parents target heads phases =
 -- no row is in a lower phase than a parent
 abbrev pub AreLawful : (ℕ → Option ℕ × Option ℕ) → List Phase → Type 0
 AreLawful parents phases =
-    (r : ℕ) → r < length phases → rank (phase_above parents phases r) ≤ rank (phase_at phases r)
+    (r : ℕ) → r < length phases → number_of (phase_above parents phases r) ≤ number_of (phase_at phases r)
 
 -- What is kept of the rows that have a phase: the phase of each, and the roots of draft and of secret.
 pub record Phasing : Type 0 where

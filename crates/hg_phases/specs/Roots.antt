@@ -3,12 +3,14 @@
 use Rattle.std.specs.Prelude.{ℕ, Bool, ◌&&◌, List, length, filter, Contains, Option, nat_le, nat_lt}
 use Rattle.std.specs.List.{range_with_len}
 use Rattle.hg_types.specs.declared.phase.Phase.{Phase}
+use Rattle.hg_types.specs.Phase.{number_of}
 use Rattle.hg_log.specs.Parents.{Leads}
-use Rattle.hg_phases.specs.Order.{rank, phase_at, phase_above}
+use Rattle.hg_phases.specs.Order.{phase_at, phase_above}
 
 -- a row of that phase, under parents of that greatest phase, is a root of the target
 abbrev pub begins : Phase → Phase → Phase → Bool
-begins target above phase = nat_lt (rank above) (rank target) && nat_le (rank target) (rank phase)
+begins target above phase =
+    nat_lt (number_of above) (number_of target) && nat_le (number_of target) (number_of phase)
 
 abbrev pub is_root : (ℕ → Option ℕ × Option ℕ) → List Phase → Phase → ℕ → Bool
 is_root parents phases target r = begins target (phase_above parents phases r) (phase_at phases r)

@@ -3,7 +3,8 @@ use Rattle.std.specs.Prelude.{◌≡◌, ◌⊎◌, ◌↔◌, ℕ, ◌-◌, ◌
 use Rattle.std.specs.Prelude.{Option, Some, slice_index_or, map, if◌then◌else◌}
 use Rattle.std.specs.List.{range_with_len}
 use Rattle.hg_types.specs.declared.phase.Phase.{Phase}
-use Rattle.hg_phases.specs.Order.{rank, phase_at}
+use Rattle.hg_types.specs.Phase.{number_of}
+use Rattle.hg_phases.specs.Order.{phase_at}
 use Rattle.hg_phases.specs.Phases.{is_reached}
 
 -- of n rows, row r is marked
@@ -14,7 +15,7 @@ pub record IsMarked (n : ℕ) (marks : List Bool) (r : ℕ) : Type 0 where
 -- the row is there, and above the target
 pub record IsAbove (target : Phase) (phases : List Phase) (row : Option ℕ) (r : ℕ) : Type 0 where
   pub here : row ≡ Some r
-  pub above : rank target < rank (phase_at phases r)
+  pub above : number_of target < number_of (phase_at phases r)
 
 -- one row more is marked, where it is above the target
 pub record AreMarked (target : Phase) (phases : List Phase) (row : Option ℕ) (old new : List Bool)
@@ -30,7 +31,7 @@ pub record AreLowered (parents : ℕ → Option ℕ × Option ℕ) (target : Pha
   pub few : length marks ≤ length phases
   pub each : (r : ℕ) → r < length phases
       → IsMarked (length phases) marks r
-      ↔ ((is_reached parents heads r ≡ true) × (rank target < rank (phase_at phases r)))
+      ↔ ((is_reached parents heads r ≡ true) × (number_of target < number_of (phase_at phases r)))
 
 -- the new phase of a row
 abbrev pub lowered_at : Phase → List Phase → List Bool → ℕ → Phase

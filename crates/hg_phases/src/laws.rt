@@ -3,11 +3,12 @@
 ghost use Rattle.std.specs.Prelude.{◌≢◌, ◌↔◌, ℕ, ◌<◌, ◌≤◌, List, length};
 ghost use Rattle.hg_types.specs.declared.phase.Phase.{Phase};
 ghost use Rattle.hg_types.specs.declared.phase.Phase.TheVariants.{Public};
+ghost use Rattle.hg_types.specs.Phase.{number_of};
 ghost use Rattle.hg_log.specs.Ancestors.{IsAncestor};
 ghost use Rattle.hg_log.specs.Changeset.{Changeset};
 ghost use Rattle.hg_log.specs.Parents.{parents_of};
 ghost use Rattle.hg_log.specs.Rows.{AreLawful as AreLawfulRows};
-ghost use Rattle.hg_phases.specs.Order.{rank, phase_at};
+ghost use Rattle.hg_phases.specs.Order.{phase_at};
 ghost use Rattle.hg_phases.specs.Phases.{Phasing, AreFor};
 ghost use Rattle.hg_phases.specs.Roots.{HasRoot, roots};
 
@@ -15,7 +16,7 @@ ghost use Rattle.hg_phases.specs.Roots.{HasRoot, roots};
 pub fn no_row_is_below_an_ancestor()
     ensures { (rows : List Changeset) (kept : Phasing) (a r : ℕ)
         → AreLawfulRows rows → AreFor rows kept → r < length kept.phases → IsAncestor rows a r
-        → rank (phase_at kept.phases a) ≤ rank (phase_at kept.phases r) }
+        → number_of (phase_at kept.phases a) ≤ number_of (phase_at kept.phases r) }
 {}
 
 /// The roots tell the phases: a changeset is draft or secret exactly where a root of draft is among its
@@ -23,6 +24,6 @@ pub fn no_row_is_below_an_ancestor()
 pub fn roots_tell_phases()
     ensures { (rows : List Changeset) (kept : Phasing) (target : Phase) (r : ℕ)
         → AreLawfulRows rows → AreFor rows kept → target ≢ Public → r < length kept.phases
-        → (rank target ≤ rank (phase_at kept.phases r))
+        → (number_of target ≤ number_of (phase_at kept.phases r))
         ↔ HasRoot (parents_of rows) (roots (parents_of rows) kept.phases target) r }
 {}

@@ -1,20 +1,9 @@
 //! The order of phases.
 
 ghost use Rattle.std.specs.Prelude.{◌≡◌, ◌<◌, IfSome, length};
-ghost use Rattle.hg_phases.specs.Order.{rank, greater, phase_of, phase_from};
+ghost use Rattle.hg_phases.specs.Order.{greater, phase_of, phase_from};
 
 use hg_types::Phase;
-
-/// The number of a phase.
-pub fn rank(phase: Phase) -> u8
-    ensures { result ≡ rank phase }
-{
-    match phase {
-        Phase::Public => 0,
-        Phase::Draft => 1,
-        Phase::Secret => 2,
-    }
-}
 
 /// The phase of a number.
 pub fn phase_from(number: u32) -> Option<Phase>
@@ -31,7 +20,7 @@ pub fn phase_from(number: u32) -> Option<Phase>
 pub fn greater(a: Phase, b: Phase) -> Phase
     ensures { result ≡ greater a b }
 {
-    if rank(a) <= rank(b) { b } else { a }
+    if a.number() <= b.number() { b } else { a }
 }
 
 /// The phase of a parent among those of rows. Where there is no parent, it is public.

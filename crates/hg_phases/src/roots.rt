@@ -5,7 +5,7 @@ ghost use Rattle.hg_log.specs.Parents.{parents_of};
 ghost use Rattle.hg_phases.specs.Order.{phase_at, phase_of};
 ghost use Rattle.hg_phases.specs.Roots.{begins, is_root, roots_from};
 
-use crate::order::{greater, rank};
+use crate::order::greater;
 use hg_log::Changelog;
 use hg_types::Phase;
 use std::alloc::{AllocError, Allocator};
@@ -14,7 +14,7 @@ use std::alloc::{AllocError, Allocator};
 pub fn begins(target: Phase, above: Phase, phase: Phase) -> bool
     ensures { result ≡ begins target above phase }
 {
-    rank(above) < rank(target) && rank(target) <= rank(phase)
+    above.number() < target.number() && target.number() <= phase.number()
 }
 
 /// The phase of a row, where the phases of the rows are two lists one behind the other.

@@ -7,7 +7,7 @@ use super::*;
 use hg_log::{Added, Changelog, node_id};
 use hg_types::{Entry, Limits, Node, Phase, Seq};
 use linked_list_allocator::LocalHeap;
-use std::alloc::{Allocator, Global};
+use std::alloc::{AllocError, Allocator, Global};
 use std::hash::RandomState;
 use std::test::*;
 
@@ -46,6 +46,13 @@ fn put<A: Allocator + Copy>(
     }
 }
 
+/// A root and its child.
+fn put_child<A: Allocator + Copy>(alloc: A, log: &mut Changelog<A>) -> Option<()> {
+    let root = put(alloc, log, NULL, NULL, 0)?;
+    put(alloc, log, root, NULL, 1)?;
+    Some(())
+}
+
 /// A root, two children of it, the merge of these, a child of the merge, and a root of its own.
 fn put_merged<A: Allocator + Copy>(alloc: A, log: &mut Changelog<A>) -> Option<()> {
     let root = put(alloc, log, NULL, NULL, 0)?;
@@ -69,6 +76,23 @@ fn no_phases<A: Allocator + Copy>(alloc: A, log: &Changelog<A>) -> Phases<A>
     Phases::new(alloc)
 }
 
+/// Registers the next row at that phase, where there is one and there is memory.
+fn register_next<A: Allocator + Copy>(
+    phases: &mut Phases<A>,
+    log: &Changelog<A>,
+    target: Phase,
+) -> bool
+    requires { AreFor log.now.rows phases.old.current }
+    ensures fits { AreFor log.now.rows phases.new.current }
+    ensures marked { phases.new.marked ≡ phases.old.marked }
+{
+    let rev = phases.len();
+    if rev >= log.len() {
+        return false;
+    }
+    phases.register(log, rev as u32, target).is_ok()
+}
+
 /// Registers the next rows at these phases, as far as there are rows and memory.
 fn register_all<A: Allocator + Copy>(
     phases: &mut Phases<A>,
@@ -80,11 +104,26 @@ fn register_all<A: Allocator + Copy>(
     ensures marked { phases.new.marked ≡ phases.old.marked }
 {
     for target in targets {
-        let rev = phases.len();
-        if rev >= log.len() {
+        if !register_next(phases, log, *target) {
             return false;
         }
-        if phases.register(log, rev as u32, *target).is_err() {
+    }
+    true
+}
+
+/// Registers so many rows at one phase.
+fn register_many<A: Allocator + Copy>(
+    phases: &mut Phases<A>,
+    log: &Changelog<A>,
+    count: usize,
+    target: Phase,
+) -> bool
+    requires { AreFor log.now.rows phases.old.current }
+    ensures fits { AreFor log.now.rows phases.new.current }
+    ensures marked { phases.new.marked ≡ phases.old.marked }
+{
+    'rows: for _ in 0..count {
+        if !register_next(phases, log, target) {
             return false;
         }
     }
@@ -143,70 +182,131 @@ fn are<A: Allocator>(phases: &Phases<A>, wanted: &[Phase]) -> bool {
     true
 }
 
+/// An advance, and the phases after it.
+#[derive(Clone, Copy)]
+struct Step<'t> {
+    target: Phase,
+    heads: &'t [u32],
+    after: &'t [Phase],
+}
+
+fn to<'t>(target: Phase, heads: &'t [u32], after: &'t [Phase]) -> Step<'t> {
+    Step {
+        target,
+        heads,
+        after,
+    }
+}
+
+/// Whether these advances, one behind the other, give those phases.
+fn advance_each<A: Allocator + Copy>(
+    alloc: A,
+    phases: &mut Phases<A>,
+    log: &Changelog<A>,
+    steps: &[Step],
+) -> bool
+    requires { AreFor log.now.rows phases.old.current }
+    ensures fits { AreFor log.now.rows phases.new.current }
+    ensures marked { phases.new.marked ≡ phases.old.marked }
+{
+    let mut all = true;
+    for step in steps {
+        let is_done = advance(alloc, phases, log, step.target, step.heads);
+        all = all && is_done && are(phases, step.after);
+    }
+    all
+}
+
 /// A secret changeset, a draft child that is secret by it, and heads of `phase-heads` on a publishing server.
+fn a_seed_is_told(alloc: Global, log: &mut Changelog) -> bool {
+    let is_put = put_child(alloc, log).is_some();
+    let mut phases = no_phases(alloc, log);
+    let is_registered = register_all(&mut phases, log, &[S, D]);
+    let are_secret = are(&phases, &[S, S]);
+    let steps = [
+        to(D, &[1], &[D, D]),
+        to(P, &[0], &[P, D]),
+        to(D, &[0], &[P, D]),
+    ];
+    let is_advanced = advance_each(alloc, &mut phases, log, &steps);
+    is_put & is_registered & are_secret & is_advanced
+}
+
 #[test]
 fn a_secret_seed_and_its_child(rt: HostRuntime) -> Result<(), Fail> {
-    let alloc = rt.alloc();
     let mut log = new_log(rt)?;
-    let seed = put(alloc, &mut log, NULL, NULL, 0).ok_or("the seed")?;
-    put(alloc, &mut log, seed, NULL, 1).ok_or("its child")?;
-    let mut phases = no_phases(alloc, &log);
-    assert!(rt; register_all(&mut phases, &log, &[S, D]));
-    assert!(rt; are(&phases, &[S, S]));
-    assert!(rt; advance(alloc, &mut phases, &log, D, &[1]));
-    assert!(rt; are(&phases, &[D, D]));
-    assert!(rt; advance(alloc, &mut phases, &log, P, &[0]));
-    assert!(rt; are(&phases, &[P, D]));
-    assert!(rt; advance(alloc, &mut phases, &log, D, &[0]));
-    assert!(rt; are(&phases, &[P, D]));
+    assert!(rt; a_seed_is_told(rt.alloc(), &mut log));
     Ok(())
 }
 
 /// A merge of a draft and a secret parent, advances over its diamond, and the way back from all of them.
+fn a_merge_is_told(alloc: Global, log: &mut Changelog) -> bool {
+    let is_put = put_merged(alloc, log).is_some();
+    let mut phases = no_phases(alloc, log);
+    let is_registered = register_all(&mut phases, log, &[D, P, S, P, P, P]);
+    let are_registered = are(&phases, &REGISTERED);
+    let marked = mark(&mut phases, log);
+    let steps = [
+        to(P, &[1], &[P, P, S, S, S, P]),
+        to(D, &[3], &[P, P, D, D, S, P]),
+        to(D, &[0, 5], &[P, P, D, D, S, P]),
+        to(P, &[4, 2], &[P, P, P, P, P, P]),
+    ];
+    let is_advanced = advance_each(alloc, &mut phases, log, &steps);
+    phases.back_to(marked);
+    let is_back = are(&phases, &REGISTERED);
+    is_put & is_registered & are_registered & is_advanced & is_back
+}
+
 #[test]
 fn a_merge_and_its_diamond(rt: HostRuntime) -> Result<(), Fail> {
-    let alloc = rt.alloc();
     let mut log = new_log(rt)?;
-    put_merged(alloc, &mut log).ok_or("six rows")?;
-    let mut phases = no_phases(alloc, &log);
-    assert!(rt; register_all(&mut phases, &log, &[D, P, S, P, P, P]));
-    assert!(rt; are(&phases, &[D, D, S, S, S, P]));
-    let marked = mark(&mut phases, &log);
-    assert!(rt; advance(alloc, &mut phases, &log, P, &[1]));
-    assert!(rt; are(&phases, &[P, P, S, S, S, P]));
-    assert!(rt; advance(alloc, &mut phases, &log, D, &[3]));
-    assert!(rt; are(&phases, &[P, P, D, D, S, P]));
-    assert!(rt; advance(alloc, &mut phases, &log, D, &[0, 5]));
-    assert!(rt; are(&phases, &[P, P, D, D, S, P]));
-    assert!(rt; advance(alloc, &mut phases, &log, P, &[4, 2]));
-    assert!(rt; are(&phases, &[P, P, P, P, P, P]));
-    phases.back_to(marked);
-    assert!(rt; are(&phases, &[D, D, S, S, S, P]));
+    assert!(rt; a_merge_is_told(rt.alloc(), &mut log));
     Ok(())
 }
 
+/// Whether phases that were registered alone are those of all rows, until a row of them is lowered.
+fn is_same_until_lowered(alloc: Global, log: &Changelog, phases: &Phases) -> bool
+    requires { AreFor log.now.rows phases.now.current }
+{
+    let mut other = no_phases(alloc, log);
+    let is_registered = register_all(&mut other, log, &[D, D, D, D, P]);
+    let was_same = is_same(log, phases, &other);
+    let is_advanced = advance(alloc, &mut other, log, P, &[2]);
+    let is_other = !is_same(log, phases, &other);
+    is_registered & was_same & is_advanced & is_other
+}
+
+/// Whether there is a copy, of these phases.
+fn is_copied<A: Allocator + Copy>(alloc: A, phases: &Phases<A>, wanted: &[Phase]) -> Option<bool> {
+    match phases.try_clone(alloc) {
+        Ok(copy) => Some(are(&copy, wanted)),
+        Err(_) => None,
+    }
+}
+
 /// Rows registered behind a mark, an advance of them and of rows before it, and back.
+fn rows_behind_a_mark_are_told(alloc: Global, log: &mut Changelog) -> bool {
+    let is_put = put_merged(alloc, log).is_some();
+    let mut phases = no_phases(alloc, log);
+    let is_registered = register_all(&mut phases, log, &[S, S, S]);
+    let marked = mark(&mut phases, log);
+    let has_more = register_all(&mut phases, log, &[D]);
+    let is_advanced = advance(alloc, &mut phases, log, D, &[3]);
+    let has_last = register_all(&mut phases, log, &[P]);
+    let are_draft = are(&phases, &[D, D, D, D, D]);
+    let is_compared = is_same_until_lowered(alloc, log, &phases);
+    phases.back_to(marked);
+    let is_back = are(&phases, &[S, S, S]);
+    let is_copied = is_copied(alloc, &phases, &[S, S, S]) == Some(true);
+    let is_changed = is_put & is_registered & has_more & is_advanced & has_last;
+    is_changed & are_draft & is_compared & is_back & is_copied
+}
+
 #[test]
 fn rows_that_come_behind_a_mark(rt: HostRuntime) -> Result<(), Fail> {
-    let alloc = rt.alloc();
     let mut log = new_log(rt)?;
-    put_merged(alloc, &mut log).ok_or("six rows")?;
-    let mut phases = no_phases(alloc, &log);
-    assert!(rt; register_all(&mut phases, &log, &[S, S, S]));
-    let marked = mark(&mut phases, &log);
-    assert!(rt; register_all(&mut phases, &log, &[D]));
-    assert!(rt; advance(alloc, &mut phases, &log, D, &[3]));
-    assert!(rt; register_all(&mut phases, &log, &[P]));
-    assert!(rt; are(&phases, &[D, D, D, D, D]));
-    let mut other = no_phases(alloc, &log);
-    assert!(rt; register_all(&mut other, &log, &[D, D, D, D, P]));
-    assert!(rt; is_same(&log, &phases, &other));
-    assert!(rt; advance(alloc, &mut other, &log, P, &[2]));
-    assert!(rt; !is_same(&log, &phases, &other));
-    phases.back_to(marked);
-    assert!(rt; are(&phases, &[S, S, S]));
-    let copy = phases.try_clone(alloc)?;
-    assert!(rt; are(&copy, &[S, S, S]));
+    assert!(rt; rows_behind_a_mark_are_told(rt.alloc(), &mut log));
     Ok(())
 }
 
@@ -217,9 +317,29 @@ const TWO: [u8; 48] = [
 ];
 
 /// How many entries are read.
-fn count(alloc: Global, bytes: &[u8]) -> Result<usize, EntryFault> {
+fn count<A: Allocator + Copy>(alloc: A, bytes: &[u8]) -> Result<usize, EntryFault> {
     let entries = read_entries(alloc, bytes)?;
     Ok(entries.len())
+}
+
+/// Whether the two entries are read.
+fn two_are_read(alloc: Global) -> bool {
+    match read_entries(alloc, &TWO) {
+        Ok(entries) => {
+            entries.as_slice() == [(P, Node([17; 20])), (S, Node([34; 20]))].as_slice()
+        }
+        Err(_) => false,
+    }
+}
+
+/// What the first bytes of the two give.
+fn of_length(len: usize) -> Result<usize, EntryFault> {
+    match len {
+        0 => Ok(0),
+        24 => Ok(1),
+        48 => Ok(2),
+        _ => Err(EntryFault::Short),
+    }
 }
 
 /// The same two, where the second has that phase.
@@ -231,31 +351,39 @@ fn with_phase(number: [u8; 4]) -> [u8; 48] {
     bytes
 }
 
+/// Whether the second phase is bad, with that number, and an entry short without the last byte.
+fn is_bad(alloc: Global, number: [u8; 4]) -> bool {
+    let bytes = with_phase(number);
+    match bytes.split_last() {
+        Some((_, front)) => {
+            let is_short = count(alloc, front) == Err(EntryFault::Short);
+            count(alloc, &bytes) == Err(EntryFault::BadPhase) && is_short
+        }
+        None => false,
+    }
+}
+
 #[test]
-fn entries_by_their_bytes(rt: HostRuntime) -> Result<(), Fail> {
-    let entries = read_entries(rt.alloc(), &TWO)?;
-    assert!(rt; entries.as_slice() == [(P, Node([17; 20])), (S, Node([34; 20]))].as_slice());
+fn entries_by_their_bytes(rt: HostRuntime) {
+    let alloc = rt.alloc();
+    assert!(rt; two_are_read(alloc));
     for len in 0..49usize {
-        let read = match len {
-            0 => Ok(0),
-            24 => Ok(1),
-            48 => Ok(2),
-            _ => Err(EntryFault::Short),
-        };
-        assert!(rt; count(rt.alloc(), &TWO[..len]) == read, "of {len} bytes");
+        assert!(rt;
+            count(alloc, &TWO[..len]) == of_length(len),
+            "of {len} bytes"
+        );
     }
     // The bytes of the second phase: 3, 256, 65538 and -2147483646.
     for number in [[0, 0, 0, 3], [0, 0, 1, 0], [0, 1, 0, 2], [128, 0, 0, 2]] {
-        let bytes = with_phase(number);
-        assert!(rt; count(rt.alloc(), &bytes) == Err(EntryFault::BadPhase));
-        let (_, front) = bytes.split_last().ok_or("48 bytes")?;
-        assert!(rt; count(rt.alloc(), front) == Err(EntryFault::Short));
+        assert!(rt; is_bad(alloc, number), "of {number:?}");
     }
-    Ok(())
 }
 
 /// How many rows the long log has.
 const MANY: usize = 4096;
+
+/// The last of them.
+const LAST: u32 = 4095;
 
 /// Rows of which each second one is the child of the row before it, and the others are roots.
 fn put_pairs<A: Allocator + Copy>(alloc: A, log: &mut Changelog<A>) -> Option<()> {
@@ -267,101 +395,166 @@ fn put_pairs<A: Allocator + Copy>(alloc: A, log: &mut Changelog<A>) -> Option<()
     Some(())
 }
 
-/// Over an ample heap nothing is refused with thousands of rows, roots, heads and entries, the memory is in
-/// proportion to them, and the calls that take none take none.
+/// The numbers of their children.
+fn children(alloc: Global) -> Result<Vec<u32>, AllocError> {
+    (0..MANY as u32).filter(|row| *row % 2 == 1).collect(alloc)
+}
+
+/// Whether each of the many rows has that phase.
+fn are_all<A: Allocator>(phases: &Phases<A>, wanted: Phase) -> bool {
+    let mut all = phases.len() == MANY;
+    for row in 0..MANY {
+        all = all && row < phases.len() && phases.phase(row as u32) == wanted;
+    }
+    all
+}
+
+/// The same phases in a heap: nothing is refused, the memory is in proportion to the rows, an advance of the
+/// last of them keeps little for the way back, and the calls that take none take none.
+fn many_are_told<'h>(heap: &'h LocalHeap, log: &Changelog<&'h LocalHeap>, heads: &[u32]) -> bool {
+    let before = heap.used();
+    let mut phases = no_phases(heap, log);
+    let is_new = heap.used() == before;
+    let is_registered = register_many(&mut phases, log, MANY, D);
+    let registered = heap.used().saturating_sub(before);
+    let marked = mark(&mut phases, log);
+    let is_marked = heap.used().saturating_sub(before) == registered;
+    let is_lowered = advance(heap, &mut phases, log, P, &[LAST]);
+    let lowered = heap.used().saturating_sub(before);
+    let is_advanced = advance(heap, &mut phases, log, P, heads);
+    let are_public = are_all(&phases, P);
+    let advanced = heap.used().saturating_sub(before);
+    let is_itself = is_same(log, &phases, &phases);
+    phases.back_to(marked);
+    let are_draft = are_all(&phases, D);
+    let is_back = heap.used().saturating_sub(before) == advanced;
+    let is_small = registered <= 16 * MANY && advanced <= 48 * MANY;
+    let is_little = lowered <= registered.saturating_add(256);
+    let takes_none = is_new & is_marked & is_back;
+    let is_done = is_registered & is_lowered & is_advanced & are_public & is_itself & are_draft;
+    is_done & is_small & is_little & takes_none
+}
+
+/// Over an ample heap, with thousands of rows, roots and heads.
+fn many_over(heap: &LocalHeap, heads: &[u32], state: RandomState) -> bool {
+    let mut log = Changelog::new(heap, state, Limits::standard());
+    let is_put = put_pairs(heap, &mut log).is_some();
+    is_put & many_are_told(heap, &log, heads)
+}
+
+/// As many entries.
+fn many_are_read(alloc: Global) -> bool {
+    match vec![in alloc; 0u8; 24 * MANY] {
+        Ok(bytes) => count(alloc, bytes.as_slice()) == Ok(MANY),
+        Err(_) => false,
+    }
+}
+
 #[test]
 fn many_rows(rt: HostRuntime) -> Result<(), Fail> {
-    let rows = LocalHeap::new(rt.alloc(), 4 * 1024 * 1024)?;
-    let mut log = Changelog::new(&rows, RandomState::new(&rt)?, Limits::standard());
-    put_pairs(&rows, &mut log).ok_or("many rows")?;
-    let before = rows.used();
-    let mut phases = no_phases(&rows, &log);
-    assert!(rt; rows.used() == before);
-    assert!(rt; register_all(&mut phases, &log, &[D; MANY]));
-    let registered = rows.used();
-    assert!(rt; registered.saturating_sub(before) <= 16 * MANY);
-    let marked = mark(&mut phases, &log);
-    let mut heads = Vec::new(rt.alloc());
-    for number in 0..MANY {
-        if number % 2 == 1 {
-            heads.push(number as u32)?;
-        }
-    }
-    assert!(rt; rows.used() == registered);
-    assert!(rt; advance(&rows, &mut phases, &log, P, heads.as_slice()));
-    assert!(rt; are(&phases, &[P; MANY]));
-    let advanced = rows.used();
-    assert!(rt; advanced.saturating_sub(before) <= 48 * MANY);
-    assert!(rt; is_same(&log, &phases, &phases));
-    phases.back_to(marked);
-    assert!(rt; are(&phases, &[D; MANY]));
-    assert!(rt; rows.used() == advanced);
-    assert_eq!(rt; count(rt.alloc(), &[0; 24 * MANY]), Ok(MANY));
+    let state = RandomState::new(&rt)?;
+    let heads = children(rt.alloc())?;
+    let heap = LocalHeap::new(rt.alloc(), 4 * 1024 * 1024)?;
+    assert!(rt; many_over(&heap, &heads, state));
+    assert!(rt; many_are_read(rt.alloc()));
     Ok(())
 }
 
-/// How far phases over a small heap came, where each refusal left them as they were.
+/// What became of a step over a small heap.
 #[derive(Clone, Copy, PartialEq, Eq)]
-enum Reached {
-    Registering,
-    Copying,
-    Reading,
-    Advancing,
-    End,
+enum Outcome {
+    NotTried,
+    /// Memory was refused, and the phases are as before.
+    Refused,
+    Done,
     Wrong,
 }
 
-/// Registers rows, copies, reads entries, marks, advances and goes back, until memory is refused.
-fn reach<'h>(heap: &'h LocalHeap, log: &Changelog<&'h LocalHeap>) -> Reached {
-    let registered = [D, D, S, S, S, P];
-    let mut phases = no_phases(heap, log);
-    if !register_all(&mut phases, log, &[D, P, S, P, P, P]) {
-        let len = phases.len();
-        let front = len < 6 && are(&phases, &registered[..len]);
-        return if front {
-            Reached::Registering
-        } else {
-            Reached::Wrong
-        };
+fn outcome_of(is_right: bool, is_done: bool) -> Outcome {
+    if !is_right {
+        return Outcome::Wrong;
     }
-    let Ok(copy) = phases.try_clone(heap) else {
-        return Reached::Copying
-    };
-    if !are(&copy, &registered) {
-        return Reached::Wrong;
-    }
-    match read_entries(heap, &TWO) {
-        Ok(entries) if entries.len() == 2 => {}
-        Err(EntryFault::NoMemory) => return Reached::Reading,
-        _ => return Reached::Wrong,
-    }
-    let marked = mark(&mut phases, log);
-    let lowered = advance(heap, &mut phases, log, D, &[4]);
-    let after = if lowered {
-        [D, D, D, D, D, P]
+    if is_done {
+        Outcome::Done
     } else {
-        registered
-    };
-    if !are(&phases, &after) {
-        return Reached::Wrong;
-    }
-    phases.back_to(marked);
-    if !are(&phases, &registered) {
-        return Reached::Wrong;
-    }
-    if lowered {
-        Reached::End
-    } else {
-        Reached::Advancing
+        Outcome::Refused
     }
 }
 
-/// The same over the six rows, which are in a heap of their own.
-fn reach_new<'h>(heap: &'h LocalHeap, rows: &'h LocalHeap, state: RandomState) -> Reached {
+/// The phases that the six rows get.
+const REGISTERED: [Phase; 6] = [D, D, S, S, S, P];
+
+/// Registers the six rows, where a refusal leaves the phases of the rows before.
+fn registering<A: Allocator + Copy>(phases: &mut Phases<A>, log: &Changelog<A>) -> Outcome
+    requires { AreFor log.now.rows phases.old.current }
+    ensures fits { AreFor log.now.rows phases.new.current }
+{
+    let is_done = register_all(phases, log, &[D, P, S, P, P, P]);
+    let is_right = are(phases, &REGISTERED[..phases.len().min(6)]);
+    outcome_of(is_right, is_done && phases.len() == 6)
+}
+
+/// Copies the phases of the six rows.
+fn copying<A: Allocator + Copy>(alloc: A, phases: &Phases<A>) -> Outcome {
+    let copied = is_copied(alloc, phases, &REGISTERED);
+    outcome_of(copied != Some(false), copied == Some(true))
+}
+
+/// Reads the two entries.
+fn reading<A: Allocator + Copy>(alloc: A) -> Outcome {
+    let read = count(alloc, &TWO);
+    let is_done = read == Ok(2);
+    outcome_of(is_done || read == Err(EntryFault::NoMemory), is_done)
+}
+
+/// Marks the phases of the six rows, advances and goes back.
+fn advancing<A: Allocator + Copy>(alloc: A, phases: &mut Phases<A>, log: &Changelog<A>) -> Outcome
+    requires { AreFor log.now.rows phases.old.current }
+{
+    let marked = mark(phases, log);
+    let is_done = advance(alloc, phases, log, D, &[4]);
+    let after = if is_done {
+        [D, D, D, D, D, P]
+    } else {
+        REGISTERED
+    };
+    let is_right = are(phases, &after);
+    phases.back_to(marked);
+    let is_back = are(phases, &REGISTERED);
+    outcome_of(is_right && is_back, is_done)
+}
+
+/// What becomes of registering, copying, reading and advancing.
+fn steps<'h>(heap: &'h LocalHeap, log: &Changelog<&'h LocalHeap>) -> [Outcome; 4] {
+    let mut phases = no_phases(heap, log);
+    let registered = registering(&mut phases, log);
+    if registered == Outcome::Done {
+        let copied = copying(heap, &phases);
+        let read = reading(heap);
+        [registered, copied, read, advancing(heap, &mut phases, log)]
+    } else {
+        [
+            registered,
+            Outcome::NotTried,
+            Outcome::NotTried,
+            Outcome::NotTried,
+        ]
+    }
+}
+
+/// The same over a heap of that size, with the six rows in a heap of their own.
+fn steps_over(alloc: Global, size: usize, rows: &LocalHeap, state: RandomState) -> [Outcome; 4] {
+    match LocalHeap::new(alloc, size) {
+        Ok(heap) => steps_of_new(&heap, rows, state),
+        Err(_) => [Outcome::Wrong; 4],
+    }
+}
+
+fn steps_of_new<'h>(heap: &'h LocalHeap, rows: &'h LocalHeap, state: RandomState) -> [Outcome; 4] {
     let mut log = Changelog::new(rows, state, Limits::standard());
     match put_merged(rows, &mut log) {
-        Some(()) => reach(heap, &log),
-        None => Reached::Wrong,
+        Some(()) => steps(heap, &log),
+        None => [Outcome::Wrong; 4],
     }
 }
 
@@ -370,20 +563,15 @@ fn reach_new<'h>(heap: &'h LocalHeap, rows: &'h LocalHeap, state: RandomState) -
 fn each_growth_refused(rt: HostRuntime) -> Result<(), Fail> {
     let state = RandomState::new(&rt)?;
     let rows = LocalHeap::new(rt.alloc(), 65536)?;
-    let mut seen = [false; 5];
+    let (mut refused, mut done, mut right) = ([false; 4], [false; 4], true);
     for sixteens in 0..96usize {
-        let heap = LocalHeap::new(rt.alloc(), sixteens * 16)?;
-        match reach_new(&heap, &rows, state) {
-            Reached::Registering => seen[0] = true,
-            Reached::Copying => seen[1] = true,
-            Reached::Reading => seen[2] = true,
-            Reached::Advancing => seen[3] = true,
-            Reached::End => seen[4] = true,
-            Reached::Wrong => assert!(rt; false, "with {sixteens} times 16 bytes"),
+        let outcomes = steps_over(rt.alloc(), sixteens * 16, &rows, state);
+        for step in 0..4usize {
+            refused[step] = refused[step] || outcomes[step] == Outcome::Refused;
+            done[step] = done[step] || outcomes[step] == Outcome::Done;
+            right = right && outcomes[step] != Outcome::Wrong;
         }
     }
-    for (step, was) in seen.iter().enumerate() {
-        assert!(rt; *was, "refused at step {step}");
-    }
+    assert!(rt; right && refused == [true; 4] && done == [true; 4]);
     Ok(())
 }

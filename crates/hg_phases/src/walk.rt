@@ -5,7 +5,7 @@ ghost use Rattle.hg_log.specs.Parents.{parents_of};
 ghost use Rattle.hg_phases.specs.Phases.{AreLawful};
 ghost use Rattle.hg_phases.specs.Walk.{AreMarked, AreLowered, lowered_from};
 
-use crate::order::{phase_of, rank};
+use crate::order::phase_of;
 use hg_log::Changelog;
 use hg_types::Phase;
 use std::alloc::{AllocError, Allocator};
@@ -37,7 +37,7 @@ fn mark_above<A: Allocator>(
     ensures { OnOk result (AreMarked target phases.now row marks.old.items marks.new.items) }
 {
     let Some(rev) = row else { return Ok(()) };
-    if rank(phase_of(phases, row)) <= rank(target) {
+    if phase_of(phases, row).number() <= target.number() {
         return Ok(());
     }
     mark_place(marks, phases.len() - 1 - rev as usize)

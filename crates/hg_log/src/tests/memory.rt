@@ -1,5 +1,7 @@
 //! Memory: refused at each growth, enough of it, and none taken in silence.
 
+ghost use Rattle.std.specs.Prelude.{◌<◌};
+
 use super::*;
 use linked_list_allocator::LocalHeap;
 
@@ -90,42 +92,55 @@ fn are_refused<'h>(heap: &'h LocalHeap, log: &Changelog<&'h LocalHeap>) -> bool 
     is_full && heads && copy && log.is_ancestor(0, 4).is_err()
 }
 
-/// Over a heap with nothing left, the other looks and a cut want nothing.
-#[test]
-fn no_memory_for_looking_and_cutting(rt: HostRuntime) -> Result<(), Fail> {
-    let heap = LocalHeap::new(rt.alloc(), 8192)?;
-    let mut log = Changelog::new(&heap, RandomState::new(&rt)?, Limits::standard());
-    let rows = merged();
-    let mut all = true;
-    for row in rows {
-        all = put(&heap, &mut log, row).is_ok() && all;
-    }
-    let _taken = take_all(rt.alloc(), &heap)?;
-    all = are_refused(&heap, &log) && all;
-    all = log.is_ancestor(4, 0) == Ok(false) && has_rows(&log, &rows) && all;
-    all = has_parents(&log, 4, FIRST, SECOND) && looks(&log, 4) && all;
+/// There the other looks and a cut want nothing.
+fn are_told_and_cut<A: Allocator + Copy>(log: &mut Changelog<A>, rows: &[Given]) -> bool {
+    let is_none = log.is_ancestor(4, 0) == Ok(false);
+    let are_told = has_rows(log, rows) && has_parents(log, 4, FIRST, SECOND) && looks(log, 4);
     if log.len() > 2 {
         log.cut_back(2);
     }
-    assert!(rt; all && has_rows(&log, &rows[..2]) && !log.knows(&SECOND));
+    is_none && are_told && log.len() == 2 && !log.knows(&SECOND)
+}
+
+/// Fills a log over a heap, takes what the heap has left, and looks and cuts.
+fn is_told_without_memory(alloc: Global, heap: &LocalHeap, state: RandomState) -> bool {
+    let mut log = Changelog::new(heap, state, Limits::standard());
+    let rows = merged();
+    let is_put = fill(heap, heap, &mut log, &rows) == Reached::End;
+    let Ok(_taken) = take_all(alloc, heap) else {
+        return false;
+    };
+    let are_refused = are_refused(heap, &log);
+    let are_told = are_told_and_cut(&mut log, &rows);
+    is_put && are_refused && are_told && has_rows(&log, &rows[..2])
+}
+
+#[test]
+fn no_memory_for_looking_and_cutting(rt: HostRuntime) -> Result<(), Fail> {
+    let state = RandomState::new(&rt)?;
+    let heap = LocalHeap::new(rt.alloc(), 8192)?;
+    assert!(rt; is_told_without_memory(rt.alloc(), &heap, state));
     Ok(())
 }
 
-/// Puts a root, and so many rows behind it: a line of every second one, and the others are children of the
-/// root. Tells the last row of the line, where each answer was the next number and the heap has given no more
-/// than the texts want and 300 bytes a row, beside 1,024 at first.
+/// Puts so many rows: a root, its children, whose numbers are multiples of `every`, and a line of all others.
+/// Tells the last row of the line, where each answer was the next number and the heap has given no more than
+/// the texts want and 300 bytes a row, beside 1,024 at first.
 fn put_many<'h>(
     heap: &'h LocalHeap,
     deltas: &'h LocalHeap,
     log: &mut Changelog<&'h LocalHeap>,
     count: u32,
-) -> Option<u32> {
+    every: u32,
+) -> Option<u32>
+    requires { 0 < every }
+{
     let mut line = ROOT;
     let mut last = None;
     for number in 0..count {
         let text = number.to_be_bytes();
         let root = changeset(ROOT, NULL, NULL, b"");
-        let parent = if number % 2 == 0 { ROOT } else { line };
+        let parent = if number % every == 0 { ROOT } else { line };
         let child = changeset(node_id(&parent, &NULL, &text), parent, NULL, &text);
         let given = if number == 0 { root } else { child };
         match put(deltas, log, given) {
@@ -133,7 +148,7 @@ fn put_many<'h>(
                 if rev == number && heap.used() <= 1024 + 300 * (rev as usize + 1) => {}
             _ => return None,
         }
-        if number % 2 == 1 {
+        if number % every != 0 {
             line = given.node;
             last = Some(number);
         }
@@ -174,7 +189,7 @@ fn a_copy_takes_as_much<'h>(heap: &'h LocalHeap, log: &Changelog<&'h LocalHeap>)
     }
 }
 
-/// A text of 200,000 bytes takes about as many, and a cut gives them back.
+/// A text of 200,000 bytes takes about as many, is copied, and a cut gives them back.
 fn a_long_text_comes_and_goes<'h>(
     heap: &'h LocalHeap,
     deltas: &'h LocalHeap,
@@ -185,11 +200,26 @@ fn a_long_text_comes_and_goes<'h>(
     let before = heap.used();
     let is_new = put(deltas, log, long) == Ok(Added::New(1200));
     let with_text = heap.used();
+    let is_copied = log.try_clone(heap).is_ok();
     if log.len() > 600 {
         log.cut_back(600);
     }
     let is_back = log.len() == 600 && heap.used().saturating_add(200_000) <= with_text;
-    is_new && with_text <= before.saturating_add(204_800) && is_back
+    is_new && is_copied && with_text <= before.saturating_add(204_800) && is_back
+}
+
+/// The one head of 400 rows takes what one id wants, and not more by the number of rows.
+fn one_head_takes_little(heap: &LocalHeap, deltas: &LocalHeap, state: RandomState) -> bool {
+    let mut log = Changelog::new(heap, state, Limits::standard());
+    let is_put = put_many(heap, deltas, &mut log, 400, 400) == Some(399);
+    let before = heap.used();
+    match log.heads(heap) {
+        Ok(heads) => {
+            let is_small = heap.used() <= before.saturating_add(256);
+            is_put && is_small && heads.as_slice().len() == 1
+        }
+        Err(_) => false,
+    }
 }
 
 #[test]
@@ -197,9 +227,11 @@ fn enough_memory(rt: HostRuntime) -> Result<(), Fail> {
     let heap = LocalHeap::new(rt.alloc(), 4 << 20)?;
     let deltas = LocalHeap::new(rt.alloc(), 1 << 20)?;
     let text = vec![in rt.alloc(); b'x'; 200_000]?;
-    let mut log = Changelog::new(&heap, RandomState::new(&rt)?, Limits::standard());
-    let mut all = heap.used() == 0;
-    all = put_many(&heap, &deltas, &mut log, 1200) == Some(1199) && all;
+    let state = RandomState::new(&rt)?;
+    let mut all = one_head_takes_little(&heap, &deltas, state);
+    let mut log = Changelog::new(&heap, state, Limits::standard());
+    all = heap.used() == 0 && all;
+    all = put_many(&heap, &deltas, &mut log, 1200, 2) == Some(1199) && all;
     all = many_are_told(&heap, &log) && a_copy_takes_as_much(&heap, &log) && all;
     all = a_long_text_comes_and_goes(&heap, &deltas, &mut log, &text) && all;
     assert!(rt; all);
@@ -241,26 +273,57 @@ fn heads_told<'h>(
     }
 }
 
-/// What is left of a heap is taken and then given back block by block: of each growth on the way the heads and
-/// an ancestor are refused, and once they are told they stay so.
-#[test]
-fn memory_of_rising_size_for_looking(rt: HostRuntime) -> Result<(), Fail> {
-    let heap = LocalHeap::new(rt.alloc(), 1 << 16)?;
-    let deltas = LocalHeap::new(rt.alloc(), 1024)?;
-    let mut log = Changelog::new(&heap, RandomState::new(&rt)?, Limits::standard());
-    let is_put = put_many(&heap, &deltas, &mut log, 100) == Some(99);
-    let mut blocks = Vec::new(rt.alloc());
+/// What is left of a heap, in blocks of 16 bytes.
+fn take_blocks<'h>(
+    alloc: Global,
+    heap: &'h LocalHeap,
+) -> Result<Vec<Vec<u8, &'h LocalHeap>>, AllocError> {
+    let mut blocks = Vec::new(alloc);
     for _ in 0..heap.size() / 16 {
-        if let Ok(block) = Vec::<u8, _>::with_capacity(&heap, 16) {
+        if let Ok(block) = Vec::<u8, _>::with_capacity(heap, 16) {
             blocks.push(block)?;
         }
     }
-    let (mut heads, mut ancestor) = (Told::Nothing, Told::Nothing);
+    Ok(blocks)
+}
+
+/// What is left is given back block by block: of each growth on the way the heads and an ancestor are refused,
+/// and once they are told they stay so. One block is enough for the parent of a row, however far it is.
+fn are_told_with_more<'h>(
+    heap: &'h LocalHeap,
+    log: &Changelog<&'h LocalHeap>,
+    blocks: Vec<Vec<u8, &'h LocalHeap>>,
+) -> bool {
+    let (mut heads, mut ancestor, mut child) = (Told::Nothing, Told::Nothing, true);
     for block in blocks {
-        heads = heads.after(heads_told(&heap, &log, 50));
+        heads = heads.after(heads_told(heap, log, 50));
         ancestor = ancestor.after(log.is_ancestor(0, 99).ok());
         drop(block);
+        child = log.is_ancestor(0, 98) == Ok(true) && child;
     }
-    assert!(rt; is_put && heads == Told::Answer && ancestor == Told::Answer);
+    heads == Told::Answer && ancestor == Told::Answer && child
+}
+
+/// Of 100 rows, over a heap of which nothing is left.
+fn looks_want_little(
+    alloc: Global,
+    heap: &LocalHeap,
+    deltas: &LocalHeap,
+    state: RandomState,
+) -> bool {
+    let mut log = Changelog::new(heap, state, Limits::standard());
+    let is_put = put_many(heap, deltas, &mut log, 100, 2) == Some(99);
+    match take_blocks(alloc, heap) {
+        Ok(blocks) => are_told_with_more(heap, &log, blocks) && is_put,
+        Err(_) => false,
+    }
+}
+
+#[test]
+fn memory_of_rising_size_for_looking(rt: HostRuntime) -> Result<(), Fail> {
+    let state = RandomState::new(&rt)?;
+    let heap = LocalHeap::new(rt.alloc(), 1 << 16)?;
+    let deltas = LocalHeap::new(rt.alloc(), 1024)?;
+    assert!(rt; looks_want_little(rt.alloc(), &heap, &deltas, state));
     Ok(())
 }
