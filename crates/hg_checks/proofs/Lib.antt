@@ -1,2 +1,3 @@
-mod Ascending
 mod SameIds
+mod Distinct
+mod HeadTests

@@ -1,12 +1,11 @@
 //! `check:bookmarks`: the bookmarks that the client saw.
 
 ghost use Rattle.std.specs.Prelude.{◌≡◌};
-ghost use Rattle.hg_keys.specs.PushKey.{are_same as same_test, is_known_target as known_target_test};
 ghost use Rattle.hg_checks.specs.Checked.{Gives, all_checked};
 ghost use Rattle.hg_checks.specs.Bookmarks.{bookmark_checked, bookmarks_checked};
 
 use crate::fault::CheckFault;
-use hg_keys::{Bookmarks, is_known, read_bookmarks};
+use hg_keys::{Bookmarks, are_same, is_known_target, read_bookmarks};
 use hg_log::Changelog;
 use hg_types::{Node, Seq};
 use std::alloc::Allocator;
@@ -53,32 +52,11 @@ fn check_entry<A: Allocator>(
 ) -> Result<(), CheckFault>
     ensures { result ≡ bookmark_checked log.now.rows bookmarks.now.current (seen, name.now) }
 {
-    if !is_known_or_none(log, seen) {
+    if !is_known_target(log, seen) {
         return Err(CheckFault::UnknownNode);
     }
     if !are_same(bookmarks.get(name), seen) {
         return Err(CheckFault::Raced);
     }
     Ok(())
-}
-
-/// Whether there is no changeset, or a known one.
-fn is_known_or_none<A: Allocator>(log: &Changelog<A>, node: Option<Node>) -> bool
-    ensures { result ≡ known_target_test log.now.rows node }
-{
-    match node {
-        Some(node) => is_known(log, &node),
-        None => true,
-    }
-}
-
-/// Whether both are the same changeset, or none.
-fn are_same(node: Option<Node>, other: Option<Node>) -> bool
-    ensures { result ≡ same_test node other }
-{
-    match (node, other) {
-        (Some(node), Some(other)) => node.0 == other.0,
-        (None, None) => true,
-        _ => false,
-    }
 }

@@ -5,3 +5,6 @@ pub mod Lists
 pub mod PairLemmas
 pub mod ChangeLemmas
 pub mod PayloadLemmas
+pub mod CallerLemmas
+pub mod GrammarLemmas
+pub mod SetLemmas

@@ -1,5 +1,5 @@
 -- What a log and its phases tell of an id. The null id is known everywhere, and public.
-use Rattle.std.specs.Prelude.{ℕ, Bool, ◌||◌, List, Option, Some, option_map, is_some, bytes_eq, if◌then◌else◌}
+use Rattle.std.specs.Prelude.{◌≡◌, ℕ, Bool, true, ◌||◌, List, All, Option, Some, option_map, is_some, bytes_eq, if◌then◌else◌}
 use Rattle.hg_types.specs.NullId.{null_id}
 use Rattle.hg_types.specs.declared.node.Node.{Node}
 use Rattle.hg_types.specs.declared.phase.Phase.{Phase}
@@ -7,6 +7,7 @@ use Rattle.hg_types.specs.declared.phase.Phase.TheVariants.{Public}
 use Rattle.hg_log.specs.Changeset.{Changeset}
 use Rattle.hg_log.specs.Parents.{rev_of}
 use Rattle.hg_phases.specs.Order.{phase_at}
+use Rattle.hg_keys.specs.Bookmarks.{Pairs}
 
 abbrev pub is_null : Node → Bool
 is_null node = bytes_eq node.0 null_id
@@ -17,3 +18,7 @@ is_known rows node = is_null node || is_some (rev_of rows node.0)
 -- the phase of a known id
 abbrev pub phase_of_node : List Changeset → List Phase → Node → Option Phase
 phase_of_node rows phases node = if is_null node then Some Public else option_map (phase_at phases) (rev_of rows node.0)
+
+-- every bookmark is on a known changeset
+abbrev pub AreOnKnown : List Changeset → Pairs → Type 0
+AreOnKnown rows pairs = All (λ pair. is_known rows pair.1 ≡ true) pairs

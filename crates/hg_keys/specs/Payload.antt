@@ -1,7 +1,8 @@
 -- The payload of the parts `bookmarks` and `check:bookmarks`: its entries, read from left to right.
-use Rattle.std.specs.Prelude.{◌≡◌, ◌<◌, ◌^◌, ◌⊎◌, ℕ, zero, suc, List, [], ◌∷◌, ◌++◌, length, take, drop, replicate, Option, Some, None, Result, Ok, Err, MatchResult, nat_lt, bytes_eq, if◌then◌else◌}
-use Rattle.std.specs.List.{flat_map}
+use Rattle.std.specs.Prelude.{◌≡◌, ◌≢◌, ◌↔◌, ◌<◌, ◌^◌, ◌⊎◌, ℕ, zero, suc, List, [], ◌∷◌, ◌++◌, length, take, drop, replicate, Option, Some, None, Result, Ok, Err, MatchResult, nat_lt, bytes_eq, if◌then◌else◌}
+use Rattle.std.specs.List.{flat_map, AllByRecursion}
 use Rattle.std.specs.Int.{w16, to_be_bytes, from_be_bytes}
+use Rattle.hg_types.specs.Bytes.{IsBytes}
 use Rattle.hg_types.specs.declared.node.Node.{Node}
 use Rattle.hg_keys.specs.declared.fault.BookmarkFault.{BookmarkFault}
 use Rattle.hg_keys.specs.declared.fault.BookmarkFault.TheVariants.{Short, NoMemory}
@@ -25,6 +26,15 @@ entry_bytes entry = target_bytes entry.0 ++ (to_be_bytes w16 (length entry.1) ++
 -- the bytes are those of these entries, joined
 abbrev pub AreEntries : List ℕ → List Entry → Type 0
 AreEntries bytes entries = bytes ≡ flat_map entry_bytes entries
+
+-- what an entry may be: an id of 20 bytes that is not the one of none, and a name whose size two bytes hold
+abbrev pub IsTarget : Option Node → Type 0
+IsTarget None = Unit {0}
+IsTarget (Some node) = (length node.0 ≡ 20) × (node.0 ≢ no_node)
+
+pub record IsEntry (entry : Entry) : Type 0 where
+  pub id : IsTarget entry.0
+  pub name : length entry.1 < 2 ^ 16
 
 abbrev pub target_in : List ℕ → Option Node
 target_in id = if bytes_eq id no_node then None else Some (record { 0 = id })
@@ -59,6 +69,11 @@ entries_within (suc most) (byte ∷ bytes) = and_then (entry_at (byte ∷ bytes)
 -- the entries of a payload, unless it ends inside one; none is empty, so there are no more of them than bytes
 unfoldable pub entries_of : List ℕ → Option (List Entry)
 entries_of bytes = entries_within (length bytes) bytes
+
+-- reading gives a list of entries just where the payload is their bytes, joined, and each may be one
+abbrev pub ReadingIsGrammar : Type 0
+ReadingIsGrammar =
+    (bytes : List ℕ) (entries : List Entry) → IsBytes bytes → (entries_of bytes ≡ Some entries) ↔ (AreEntries bytes entries × AllByRecursion IsEntry entries)
 
 -- what a function returned is what reading gives, unless memory was refused
 abbrev pub Gives : Result (List Entry) BookmarkFault → Option (List Entry) → Type 0

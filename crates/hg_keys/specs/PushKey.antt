@@ -4,12 +4,12 @@ use Rattle.std.specs.Option.{option_to_list}
 use Rattle.std.specs.List.{list_any, starts_with, ends_with}
 use Rattle.hex.specs.Hex.{decode_sized, encode_lower}
 use Rattle.hex.specs.declared.error.FromHexError.{FromHexError}
+use Rattle.hg_types.specs.Phase.{number_of}
 use Rattle.hg_types.specs.declared.node.Node.{Node}
 use Rattle.hg_types.specs.declared.phase.Phase.{Phase}
 use Rattle.hg_types.specs.declared.phase.Phase.TheVariants.{Public, Draft, Secret}
 use Rattle.hg_log.specs.Changeset.{Changeset}
 use Rattle.hg_log.specs.Parents.{rev_of, parents_of}
-use Rattle.hg_phases.specs.Order.{rank}
 use Rattle.hg_phases.specs.Phases.{advanced}
 use Rattle.hg_obs.specs.declared.marker.Marker.{Marker}
 use Rattle.hg_obs.specs.declared.fault.MarkerFault.{MarkerFault}
@@ -53,9 +53,9 @@ target_in_text (byte ∷ bytes) = option_map (λ node. Some node) (node_in_hex (
 -- the digits name a phase below the present one, which is as the client thinks: the changeset and its ancestors are advanced
 abbrev pub moved_from : List Changeset → List Phase → Node → Phase → Phase → Phase → List Phase × Bool
 moved_from rows phases node old new current =
-    if (rank current == rank old) && nat_lt (rank new) (rank old)
+    if (number_of current == number_of old) && nat_lt (number_of new) (number_of old)
     then (advanced (parents_of rows) new (option_to_list (rev_of rows node.0)) phases, true)
-    else (phases, rank current == rank new)
+    else (phases, number_of current == number_of new)
 
 abbrev pub moved_known : List Changeset → List Phase → Node → Phase → Phase → Option Phase → List Phase × Bool
 moved_known rows phases node old new None = (phases, false)

@@ -1,7 +1,6 @@
 //! The text of keys and values: hexadecimal ids, and phases as digits.
 
 ghost use Rattle.std.specs.Prelude.{◌≡◌, bytes_eq};
-ghost use Rattle.hg_phases.specs.Order.{rank as rank_of};
 ghost use Rattle.hg_keys.specs.PushKey.{are_same as same_test, is_divergent as divergent_test, is_known_target as known_target_test, node_in_hex as hex_node, phase_in_text as text_phase, target_in_text as text_target, value_of};
 
 use crate::known::is_known;
@@ -35,17 +34,6 @@ pub fn phase_in_text(text: &[u8]) -> Option<Phase>
         return Some(Phase::Secret);
     }
     None
-}
-
-/// The number of a phase.
-pub fn rank(phase: Phase) -> u8
-    ensures { result ≡ rank_of phase }
-{
-    match phase {
-        Phase::Public => 0,
-        Phase::Draft => 1,
-        Phase::Secret => 2,
-    }
 }
 
 /// Whether a text is the value of a bookmark: the id in lower case, or nothing.

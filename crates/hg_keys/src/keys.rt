@@ -1,20 +1,21 @@
 //! Pushkey: a key of a namespace is set to a new value.
 
-ghost use Rattle.std.specs.Prelude.{◌≡◌, ◌⊎◌, ◌≤◌, length, false, Ok, Err, IfOk, IfErr, OnErr, MatchResult};
+ghost use Rattle.std.specs.Prelude.{◌≡◌, ◌⊎◌, ◌≤◌, length, false, Ok, Err, IfOk, IfErr, OnErr, MatchResult, take};
 ghost use Rattle.hg_phases.specs.Phases.{AreFor};
+ghost use Rattle.hg_obs.specs.Markers.{AreLawful};
 ghost use Rattle.hg_keys.specs.declared.fault.KeyFault.TheVariants.{NoMemory as Refused};
+ghost use Rattle.hg_keys.specs.Known.{AreOnKnown};
 ghost use Rattle.hg_keys.specs.PushKey.{bookmark_pushed, is_settable as settable_test, key_pushed, markers_pushed, moved_from, phase_pushed};
 
 use crate::base85::base85_decode;
 use crate::bookmarks::Bookmarks;
 use crate::fault::KeyFault;
 use crate::key_text::{
-    are_same, is_divergent, is_known_target, is_value, node_in_hex, phase_in_text, rank,
-    target_in_text,
+    are_same, is_divergent, is_known_target, is_value, node_in_hex, phase_in_text, target_in_text,
 };
 use crate::known::phase_of_node;
 use hg_log::Changelog;
-use hg_obs::{Markers, read_markers};
+use hg_obs::{Markers, markers_stay_lawful, read_markers};
 use hg_phases::Phases;
 use hg_types::{NoMemory, Node, Phase, Seq};
 use std::alloc::{Allocator, Global};
@@ -54,6 +55,11 @@ pub fn push_key<A: Allocator + Copy>(
     ensures count { length phases.new.current.phases ≡ length log.now.rows }
     ensures phases_marked { phases.new.marked ≡ phases.old.marked }
     ensures bookmarks_marked { bookmarks.new.marked ≡ bookmarks.old.marked }
+    // Lawful markers stay so, and bookmarks on known changesets. Markers come at the end.
+    ensures lawful { AreLawful markers.old → AreLawful markers.new }
+    ensures within { length markers.old ≤ length markers.new }
+    ensures front { take (length markers.old) markers.new ≡ markers.old }
+    ensures known { AreOnKnown log.now.rows bookmarks.old.current → AreOnKnown log.now.rows bookmarks.new.current }
 {
     let namespace = call.namespace.as_slice();
     let (key, old, new) = (
@@ -128,14 +134,14 @@ fn move_from<A: Allocator + Copy>(
     ensures count { length phases.new.current.phases ≡ length log.now.rows }
     ensures marked { phases.new.marked ≡ phases.old.marked }
 {
-    if rank(current) == rank(old) && rank(new) < rank(old) {
+    if current.number() == old.number() && new.number() < old.number() {
         match log.rev(node) {
             Some(rev) => phases.advance(alloc, log, new, &[rev])?,
             None => phases.advance(alloc, log, new, &[])?,
         }
         return Ok(true);
     }
-    Ok(rank(current) == rank(new))
+    Ok(current.number() == new.number())
 }
 
 /// Sets a bookmark, or deletes it.
@@ -151,6 +157,7 @@ fn push_bookmark<A: Allocator + Copy>(
     ensures stays { IfOk result (λ done. done ≡ false → bookmarks.new ≡ bookmarks.old) }
     ensures err { OnErr result (bookmarks.new ≡ bookmarks.old) }
     ensures marked { bookmarks.new.marked ≡ bookmarks.old.marked }
+    ensures known { AreOnKnown log.now.rows bookmarks.old.current → AreOnKnown log.now.rows bookmarks.new.current }
 {
     if is_divergent(key) {
         return Ok(false);
@@ -189,12 +196,16 @@ fn push_markers<A: Allocator + Copy>(
     ensures fault { IfErr result (λ fault. (fault ≡ Refused) ⊎ (markers_pushed markers.old key.now old.now new.now ≡ Err fault)) }
     ensures stays { IfOk result (λ done. done ≡ false → markers.new ≡ markers.old) }
     ensures err { OnErr result (markers.new ≡ markers.old) }
+    ensures lawful { AreLawful markers.old → AreLawful markers.new }
+    ensures within { length markers.old ≤ length markers.new }
+    ensures front { take (length markers.old) markers.new ≡ markers.old }
 {
     if !key.starts_with(b"dump".as_slice()) || !old.is_empty() {
         return Ok(false);
     }
     let bytes = base85_decode(alloc, new)?;
     let added = read_markers(alloc, bytes.as_slice())?;
+    markers_stay_lawful::<A>();
     markers.merge(added)?;
     Ok(true)
 }

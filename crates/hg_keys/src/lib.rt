@@ -33,18 +33,23 @@ mod fault;
 mod key_text;
 mod keys;
 mod known;
-mod law;
+mod laws;
 mod payload;
 
 pub use base85::{base85_decode, base85_encode};
 pub use bookmarks::{BookmarkMark, Bookmarks};
 pub use fault::{Base85Fault, BookmarkFault, KeyFault};
+pub use key_text::{are_same, is_known_target};
 pub use keys::{KeyCall, push_key};
 pub use known::{is_known, phase_of_node};
-pub use law::decoding_gives_back;
+pub use laws::{a_set_name_is_found, decoding_gives_back, reading_is_the_grammar};
 pub use payload::read_bookmarks;
 
 #[cfg(test)]
 mod bookmarks_tests;
+#[cfg(test)]
+mod payload_tests;
+#[cfg(test)]
+mod push_tests;
 #[cfg(test)]
 mod tests;
