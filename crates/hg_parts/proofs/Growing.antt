@@ -1,0 +1,176 @@
+-- Stores that grew, what stays sound in them, and the way back.
+use Rattle.std.proofs.Common.{◌≡◌, ℕ, zero, suc, ◌≤◌, List, [], ◌∷◌, length, take, Some, None, All, refl}
+use Rattle.std.proofs.Common.{sym, ap, ◌∙◌, subst, arith}
+use Rattle.std.proofs.Math.Seq.{take-length}
+use Rattle.hg_types.specs.declared.limits.Settings.{Settings}
+use Rattle.hg_phases.specs.Phases.{AreFor, Phasing, Marked as MarkedPhases}
+use Rattle.hg_phases.proofs.CallerLemmas.{for_none}
+use Rattle.hg_obs.specs.declared.marker.Marker.{Marker}
+use Rattle.hg_obs.specs.Markers.{AreLawful as AreLawfulMarkers}
+use Rattle.hg_keys.specs.Bookmarks.{Pairs, Marked as MarkedBookmarks}
+use Rattle.hg_parts.specs.declared.store.Store.{Store}
+use Rattle.hg_parts.specs.declared.store.StoreMark.{StoreMark}
+use Rattle.hg_keys.specs.Known.{AreOnKnown}
+use Rattle.hg_parts.specs.Store.{IsSound, IsGrown, empty_store, with_marks, without_marks, CanGoBack}
+
+take_less : {X : Type 0} (n m : ℕ) (xs : List X) → n ≤ m → take n (take m xs) ≡ take n xs
+take_less {X} zero m xs low = refl
+take_less {X} (suc n) zero xs low = absurd (omega (arith, low))
+take_less {X} (suc n) (suc m) [] low = refl
+take_less {X} (suc n) (suc m) (x ∷ xs) low = ap (λ (ys : List X). x ∷ ys) (take_less n m xs (omega (arith, low)))
+
+front_on : {X : Type 0} (xs ys zs : List X) → length xs ≤ length ys → take (length xs) ys ≡ xs
+    → take (length ys) zs ≡ ys → take (length xs) zs ≡ xs
+front_on xs ys zs within one two = sym (take_less (length xs) (length ys) zs within) ∙ ap (take (length xs)) two ∙ one
+
+module _ {A : Type 0} where
+  -- ---- growing
+
+  pub grown_same : (store : Store A) → IsGrown store store
+  grown_same store = record {
+    rows_within = omega arith;
+    rows_front = take-length store.log.rows;
+    limits = refl;
+    markers_within = omega arith;
+    markers_front = take-length store.markers;
+    phases_marked = refl;
+    bookmarks_marked = refl;
+  }
+
+  -- growing twice
+  pub grown_on : (old middle new : Store A) → IsGrown old middle → IsGrown middle new → IsGrown old new
+  grown_on old middle new one two = record {
+    rows_within = omega (arith, one.rows_within, two.rows_within);
+    rows_front = front_on old.log.rows middle.log.rows new.log.rows one.rows_within one.rows_front two.rows_front;
+    limits = two.limits ∙ one.limits;
+    markers_within = omega (arith, one.markers_within, two.markers_within);
+    markers_front = front_on old.markers middle.markers new.markers one.markers_within one.markers_front two.markers_front;
+    phases_marked = two.phases_marked ∙ one.phases_marked;
+    bookmarks_marked = two.bookmarks_marked ∙ one.bookmarks_marked;
+  }
+
+  -- the phases alone changed, with the same mark
+  pub grown_phases : (old : Store A) (phases : MarkedPhases) → phases.marked ≡ old.phases.marked
+      → IsGrown old (record old { phases = phases })
+  grown_phases old phases same = record {
+    rows_within = omega arith;
+    rows_front = take-length old.log.rows;
+    limits = refl;
+    markers_within = omega arith;
+    markers_front = take-length old.markers;
+    phases_marked = same;
+    bookmarks_marked = refl;
+  }
+
+  -- markers alone came
+  pub grown_markers : (old : Store A) (markers : List (Marker A)) → length old.markers ≤ length markers
+      → take (length old.markers) markers ≡ old.markers → IsGrown old (record old { markers = markers })
+  grown_markers old markers within front = record {
+    rows_within = omega arith;
+    rows_front = take-length old.log.rows;
+    limits = refl;
+    markers_within = within;
+    markers_front = front;
+    phases_marked = refl;
+    bookmarks_marked = refl;
+  }
+
+  -- the bookmarks alone changed, with the same mark
+  pub grown_bookmarks : (old : Store A) (bookmarks : MarkedBookmarks)
+      → bookmarks.marked ≡ old.bookmarks.marked → IsGrown old (record old { bookmarks = bookmarks })
+  grown_bookmarks old bookmarks same = record {
+    rows_within = omega arith;
+    rows_front = take-length old.log.rows;
+    limits = refl;
+    markers_within = omega arith;
+    markers_front = take-length old.markers;
+    phases_marked = refl;
+    bookmarks_marked = same;
+  }
+
+  -- ---- what stays sound
+
+  pub sound_phases : (settings : Settings) (old : Store A) (phases : MarkedPhases) → IsSound settings old
+      → AreFor old.log.rows phases.current → length phases.current.phases ≡ length old.log.rows
+      → IsSound settings (record old { phases = phases })
+  sound_phases settings old phases sound fits count = record {
+    fits = fits;
+    count = count;
+    limits = sound.limits;
+    markers = sound.markers;
+    bookmarks = sound.bookmarks;
+  }
+
+  pub sound_markers : (settings : Settings) (old : Store A) (markers : List (Marker A))
+      → IsSound settings old → AreLawfulMarkers markers
+      → IsSound settings (record old { markers = markers })
+  sound_markers settings old markers sound lawful = record {
+    fits = sound.fits;
+    count = sound.count;
+    limits = sound.limits;
+    markers = lawful;
+    bookmarks = sound.bookmarks;
+  }
+
+  pub sound_bookmarks : (settings : Settings) (old : Store A) (bookmarks : MarkedBookmarks)
+      → IsSound settings old → AreOnKnown old.log.rows bookmarks.current
+      → IsSound settings (record old { bookmarks = bookmarks })
+  sound_bookmarks settings old bookmarks sound known = record {
+    fits = sound.fits;
+    count = sound.count;
+    limits = sound.limits;
+    markers = sound.markers;
+    bookmarks = known;
+  }
+
+  pub sound_marked : (settings : Settings) (store : Store A) → IsSound settings store
+      → IsSound settings (with_marks store)
+  sound_marked settings store sound = record {
+    fits = sound.fits;
+    count = sound.count;
+    limits = sound.limits;
+    markers = sound.markers;
+    bookmarks = sound.bookmarks;
+  }
+
+  pub sound_unmarked : (settings : Settings) (store : Store A) → IsSound settings store
+      → IsSound settings (without_marks store)
+  sound_unmarked settings store sound = record {
+    fits = sound.fits;
+    count = sound.count;
+    limits = sound.limits;
+    markers = sound.markers;
+    bookmarks = sound.bookmarks;
+  }
+
+  -- nothing is sound
+  pub sound_none : (settings : Settings) → IsSound settings (empty_store {A = A} settings.limits)
+  sound_none settings = record {
+    fits = for_none [];
+    count = refl;
+    limits = refl;
+    markers = record {
+      distinct = λ i j d less within. absurd (omega (arith, within));
+      each = tt;
+    };
+    bookmarks = λ k d low. absurd (omega (arith, low));
+  }
+
+  -- ---- the way back
+
+  pub can_go_back : (before : Store A) (mark : StoreMark) → mark.rows ≡ length before.log.rows
+      → mark.markers ≡ length before.markers → CanGoBack before mark (with_marks before)
+  can_go_back before mark rows markers = record {
+    rows = rows;
+    markers = markers;
+    grown = grown_same (with_marks before);
+  }
+
+  -- it has grown since
+  pub can_go_back_on : (before : Store A) (mark : StoreMark) (now next : Store A)
+      → CanGoBack before mark now → IsGrown now next → CanGoBack before mark next
+  can_go_back_on before mark now next can grown = record {
+    rows = can.rows;
+    markers = can.markers;
+    grown = grown_on (with_marks before) now next can.grown grown;
+  }

@@ -1,0 +1,76 @@
+-- The numbers of a changegroup's changesets, and the text of its reply.
+use Rattle.std.proofs.Common.{◌≡◌, ◌≢◌, ℕ, ◌+◌, ◌-◌, ◌<◌, ◌≤◌, ◌^◌, List, [], ◌∷◌, ◌++◌, length, take}
+use Rattle.std.proofs.Common.{get_or, All, Option, Some, None, IfSome, inl, inr, Bool, true, false, nat_le}
+use Rattle.std.proofs.Common.{codes, decimal, refl, sym, ap, ◌∙◌, subst, arith}
+use Rattle.std.proofs.lemmas.Bool.{cases_lt, cond_both}
+use Rattle.std.proofs.lemmas.Fmt.{length-decimal-le}
+use Rattle.std.proofs.lemmas.List.{length_push, take_more, append-nil, get_or_append_left, get_or_push}
+use Rattle.std.proofs.lemmas.List.Elements.{filter_map-append}
+use Rattle.std.proofs.lemmas.Option.{slice_get_within}
+use Rattle.std.specs.List.{filter_map, cons_option}
+use Rattle.std.specs.Option.{option_to_list}
+use Rattle.hg_types.specs.declared.entry.Entry.{Entry}
+use Rattle.hg_log.specs.Rows.{HasNode}
+use Rattle.hg_log.specs.Changeset.{Changeset}
+use Rattle.hg_log.specs.Parents.{rev_of}
+use Rattle.hg_types.specs.declared.part.Part.{Part}
+use Rattle.hg_parts.specs.Replies.{reply_where, CanReply}
+use Rattle.hg_parts.specs.parts.Changegroup.{revs_of, result_text}
+
+some_more : {X Y : Type 0} (h : X → Option Y) (xs : List X) (i : ℕ) (d : X) → i < length xs
+    → filter_map h (take (i + 1) xs) ≡ filter_map h (take i xs) ++ option_to_list (h (get_or xs i d))
+some_more {X} {Y} h xs i d within = ap (filter_map h) (take_more xs i d within) ∙ filter_map-append h (take i xs) (get_or xs i d ∷ []) ∙ ap (λ (ys : List Y). filter_map h (take i xs) ++ ys) (one (h (get_or xs i d)))
+  where
+    one : (o : Option Y) → cons_option o [] ≡ option_to_list o
+    one None = refl
+    one (Some y) = refl
+
+-- the numbers of one entry more
+pub revs_more : {A : Type 0} (rows : List Changeset) (entries : List (Entry A)) (i : ℕ) (entry : Entry A)
+    → i < length entries → entry ≡ get_or entries i entry
+    → revs_of rows (take (i + 1) entries) ≡ revs_of rows (take i entries) ++ option_to_list (rev_of rows entry.node.0)
+unfolding revs_of
+revs_more {A} rows entries i entry within here = some_more (λ (e : Entry A). rev_of rows e.node.0) entries i entry within ∙ ap (λ (e : Entry A). revs_of rows (take i entries) ++ option_to_list (rev_of rows e.node.0)) (sym here)
+
+pub within_more : (n : ℕ) (xs : List ℕ) (o : Option ℕ) → All (λ x. x < n) xs
+    → ((x : ℕ) → o ≡ Some x → x < n) → All (λ x. x < n) (xs ++ option_to_list o)
+within_more n xs None all some = subst (λ ys. All (λ x. x < n) ys) (sym (append-nil xs)) all
+within_more n xs (Some v) all some = λ k d low. elim (cases_lt k (length xs)) [
+  | inl less ↦ subst (λ (x : ℕ). x < n) (sym (get_or_append_left xs (v ∷ []) d k less)) (all k d less)
+  | inr more ↦ subst (λ (x : ℕ). x < n) (sym (get_or_push xs v d k (omega (arith, length_push xs v)))) (some v refl)
+]
+
+pub rev_within : (rows : List Changeset) (node : List ℕ) (o : Option ℕ)
+    → IfSome o (λ rev. HasNode rows rev node) → (x : ℕ) → o ≡ Some x → x < length rows
+rev_within rows node None found x is = absurd cc
+rev_within rows node (Some r) found x is = let same : r ≡ x = cc in subst (λ k. k < length rows) same (slice_get_within rows r found.row found.row_at)
+
+-- ---- the reply
+
+short : (n : ℕ) → n < 10 ^ 10 → n < 2 ^ 64 → length (decimal n) ≤ 10
+short n few fits = length-decimal-le 10 n (omega arith) few fits
+
+text_short : (before after : ℕ) → before < 2 ^ 32 → after < 2 ^ 32 → length (result_text before after) < 256
+unfolding result_text
+text_short before after before_few after_few =
+    cond_both (nat_le before after) (decimal (after - before + 1)) (codes "-" ++ decimal (before - after + 1)) (λ (text : List ℕ). length text < 256)
+    (λ more. let s = short (after - before + 1) (omega arith) (omega arith) in omega arith)
+    (λ fewer. let s = short (before - after + 1) (omega arith) (omega arith) in omega arith)
+
+pub can_reply : (before after : ℕ) → before < 2 ^ 32 → after < 2 ^ 32
+    → CanReply (codes "reply:changegroup") (codes "return") (result_text before after)
+can_reply before after before_few after_few = record {
+  kind_is = refl;
+  kind_fits = omega arith;
+  key_fits = omega arith;
+  key_differs = differs;
+  value_fits = text_short before after before_few after_few;
+}
+  where
+    differs : codes "in-reply-to" ≢ codes "return"
+    differs same = cc
+
+pub replied : {A : Type 0} (replying : Bool) (reply made : Part A) → replying ≡ true → reply ≡ made
+    → Some reply ≡ reply_where replying made
+replied true reply made on is = ap Some is
+replied false reply made on is = absurd cc

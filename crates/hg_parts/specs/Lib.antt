@@ -1,0 +1,10 @@
+pub mod Repository
+pub mod Refusal
+pub mod Store
+pub mod Handled
+pub mod Params
+pub mod Replies
+pub mod PartTypes
+pub mod Table
+pub mod parts
+pub mod Handle

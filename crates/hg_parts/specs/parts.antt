@@ -1,0 +1,10 @@
+pub mod Unsupported
+pub mod Checks
+pub mod Changegroup
+pub mod CheckHeads
+pub mod CheckPhases
+pub mod CheckBookmarks
+pub mod PhaseHeads
+pub mod Bookmarks
+pub mod Obsmarkers
+pub mod Pushkey

@@ -1,0 +1,32 @@
+-- The part `bookmarks`: names, and the changeset that each is to be on, or none.
+use Rattle.std.specs.Prelude.{ℕ, Bool, List, [], ◌∷◌, Option, Some, None, Ok, Err, if◌then◌else◌}
+use Rattle.std.specs.List.{list_all}
+use Rattle.hg_types.specs.declared.part.Part.{Part}
+use Rattle.hg_log.specs.Changeset.{Changeset}
+use Rattle.hg_keys.specs.Bookmarks.{Pairs, with_bookmark}
+use Rattle.hg_keys.specs.Payload.{Entry, entries_of}
+use Rattle.hg_keys.specs.PushKey.{is_known_target}
+use Rattle.hg_parts.specs.declared.refusal.Refusal.TheVariants.{BadPart, UnknownNode}
+use Rattle.hg_parts.specs.Repository.{Repository}
+use Rattle.hg_parts.specs.Handled.{Outcome}
+
+abbrev pub are_known : List Changeset → List Entry → Bool
+are_known rows entries = list_all (λ entry. is_known_target rows entry.0) entries
+
+-- each name is set or deleted, in order
+abbrev pub set_each : List Entry → Pairs → Pairs
+set_each [] pairs = pairs
+set_each (entry ∷ entries) pairs = set_each entries (with_bookmark pairs entry.1 entry.0)
+
+abbrev pub handle_entries : {A : Type 0} → Repository A → ℕ → List Entry → Outcome A
+handle_entries repo place entries =
+    if are_known repo.rows entries
+    then Ok (record { repo = record repo { bookmarks = set_each entries repo.bookmarks }; reply = None })
+    else Err (UnknownNode place)
+
+abbrev pub handle_read : {A : Type 0} → Repository A → ℕ → Option (List Entry) → Outcome A
+handle_read repo place (Some entries) = handle_entries repo place entries
+handle_read repo place None = Err (BadPart place)
+
+abbrev pub handle_bookmarks : {A : Type 0} → Repository A → ℕ → Part A → Outcome A
+handle_bookmarks repo place part = handle_read repo place (entries_of part.payload)

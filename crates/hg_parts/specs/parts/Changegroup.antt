@@ -1,0 +1,157 @@
+-- The part `changegroup`: its entries become rows, in order, and the phases follow.
+use Rattle.std.specs.Prelude.{◌≡◌, ◌⊎◌, MatchResult, ℕ, ◌+◌, ◌-◌, Bool, List, [], ◌∷◌, ◌++◌, codes}
+use Rattle.std.specs.Prelude.{decimal, Option, Some, None, unwrap_or, Result, Ok, Err, bytes_eq, nat_le}
+use Rattle.std.specs.Prelude.{if◌then◌else◌}
+use Rattle.std.specs.List.{filter_map}
+use Rattle.hg_types.specs.declared.entry.Entry.{Entry}
+use Rattle.hg_types.specs.declared.limits.Limits.{Limits}
+use Rattle.hg_types.specs.declared.limits.Settings.{Settings}
+use Rattle.hg_types.specs.declared.part.Part.{Part}
+use Rattle.hg_types.specs.declared.part.Param.{Param}
+use Rattle.hg_types.specs.declared.phase.Phase.{Phase}
+use Rattle.hg_types.specs.declared.phase.Phase.TheVariants.{Public, Draft, Secret}
+use Rattle.hg_cgroup.specs.Outcome.{outcome_of}
+use Rattle.hg_log.specs.declared.add.Added.{Added}
+use Rattle.hg_log.specs.declared.add.Added.TheVariants.{New, Known}
+use Rattle.hg_log.specs.declared.add.AddFault.{AddFault}
+use Rattle.hg_log.specs.declared.add.AddFault.TheVariants.{NoMemory}
+use Rattle.hg_log.specs.Changeset.{Changeset, Log}
+use Rattle.hg_log.specs.Parents.{parents_of, rev_of}
+use Rattle.hg_log.specs.HeadCount.{head_count}
+use Rattle.hg_log.specs.Answer.{answer_of}
+use Rattle.hg_phases.specs.Phases.{registered, advanced}
+use Rattle.hg_parts.specs.declared.store.Store.{Store}
+use Rattle.hg_parts.specs.declared.source.Source.{Source}
+use Rattle.hg_parts.specs.declared.source.Source.TheVariants.{Push, Seed}
+use Rattle.hg_parts.specs.declared.refusal.Refusal.{Refusal}
+use Rattle.hg_parts.specs.declared.refusal.Refusal.TheVariants.{BadPart, BadChangeset}
+use Rattle.hg_parts.specs.declared.refusal.Refusal.TheVariants.{NoMemory as OutOfMemory}
+use Rattle.hg_parts.specs.Repository.{Repository}
+use Rattle.hg_parts.specs.Handled.{Handled, Outcome}
+use Rattle.hg_parts.specs.Params.{value_of}
+use Rattle.hg_parts.specs.Replies.{reply_part, reply_where}
+
+-- ---- its parameters
+
+abbrev pub phase_named : List ℕ → Option Phase
+phase_named value =
+    if bytes_eq value (codes "0") then Some Public else
+    if bytes_eq value (codes "1") then Some Draft else
+    if bytes_eq value (codes "2") then Some Secret else None
+
+-- the phase that `targetphase` names: draft where it is absent, and none where it names no phase
+abbrev pub target_in : Option (List ℕ) → Option Phase
+target_in None = Some Draft
+target_in (Some value) = phase_named value
+
+unfoldable pub target_of : {A : Type 0} → List (Param A) → Option Phase
+target_of params = target_in (value_of (codes "targetphase") params)
+
+unfoldable pub version_of : {A : Type 0} → List (Param A) → List ℕ
+version_of params = unwrap_or (value_of (codes "version") params) (codes "01")
+
+-- the phase that new changesets are registered at: a push has the server's, a seed its own
+abbrev pub phase_for : Source → Settings → Phase → Phase
+phase_for Push settings target = if settings.publishing then Public else Draft
+phase_for Seed settings target = target
+
+-- ---- its entries
+
+-- rows, and the phase of each
+pub record Grown : Type 0 where
+  pub rows : List Changeset
+  pub phases : List Phase
+
+-- what becomes of them where an entry has that answer
+abbrev pub grown_by : Phase → List Phase → Result Added AddFault × Log → Result Grown AddFault
+grown_by t phases (Ok (New rev), log) =
+    Ok (record { rows = log.rows; phases = registered (parents_of log.rows) t phases })
+grown_by t phases (Ok Known, log) = Ok (record { rows = log.rows; phases = phases })
+grown_by t phases (Err fault, log) = Err fault
+
+abbrev pub then_grow : Result Grown AddFault → (Grown → Result Grown AddFault) → Result Grown AddFault
+then_grow (Ok grown) next = next grown
+then_grow (Err fault) next = Err fault
+
+-- the entries are added in order, and the first fault is the answer
+unfoldable pub add_each : {A : Type 0} → Limits → Phase → List (Entry A) → Grown → Result Grown AddFault
+add_each limits t [] grown = Ok grown
+add_each limits t (entry ∷ entries) grown =
+    then_grow (grown_by t grown.phases (answer_of (record { rows = grown.rows; limits = limits }) entry))
+    (add_each limits t entries)
+
+-- the numbers of the changesets of a group, those that were known too; the null id has none
+unfoldable pub revs_of : {A : Type 0} → List Changeset → List (Entry A) → List ℕ
+revs_of rows entries = filter_map (λ entry. rev_of rows entry.node.0) entries
+
+-- a push advances all changesets of the group, a seed none
+abbrev pub phases_after : {A : Type 0} → Source → Phase → List (Entry A) → Grown → List Phase
+phases_after Push t entries grown =
+    advanced (parents_of grown.rows) t (revs_of grown.rows entries) grown.phases
+phases_after Seed t entries grown = grown.phases
+
+-- ---- the part
+
+-- one more than the heads that came, or, where heads went, less than their number below zero
+unfoldable pub result_text : ℕ → ℕ → List ℕ
+result_text before after =
+    if nat_le before after then decimal (after - before + 1) else (codes "-" ++ decimal (before - after + 1))
+
+abbrev pub reply_to_group : {A : Type 0} → Bool → ℕ → ℕ → ℕ → Option (Part A)
+reply_to_group replying id before after =
+    reply_where replying
+    (reply_part (codes "reply:changegroup") id (codes "return") (result_text before after))
+
+abbrev pub handled_of : {A : Type 0} → Source → Repository A → Bool → Part A → Phase → List (Entry A)
+    → Grown → Handled A
+handled_of source repo replying part t entries grown = record {
+  repo = record repo { rows = grown.rows; phases = phases_after source t entries grown };
+  reply = reply_to_group replying part.id (head_count repo.rows) (head_count grown.rows);
+}
+
+abbrev pub handled_by : {A : Type 0} → (Grown → Handled A) → ℕ → Result Grown AddFault → Outcome A
+handled_by done place (Ok grown) = Ok (done grown)
+handled_by done place (Err fault) = Err (BadChangeset place fault)
+
+unfoldable pub handle_entries : {A : Type 0} → Source → Repository A → Bool → ℕ → Part A → Phase
+    → List (Entry A) → Outcome A
+handle_entries source repo replying place part t entries =
+    handled_by (handled_of source repo replying part t entries) place
+    (add_each repo.settings.limits t entries (record { rows = repo.rows; phases = repo.phases }))
+
+abbrev pub handle_decoded : {A E : Type 0} → Source → Repository A → Bool → ℕ → Part A → Phase
+    → Result (List (Entry A)) E → Outcome A
+handle_decoded source repo replying place part target (Ok entries) =
+    handle_entries source repo replying place part (phase_for source repo.settings target) entries
+handle_decoded source repo replying place part target (Err fault) = Err (BadPart place)
+
+abbrev pub handle_target : {A : Type 0} → Source → Repository A → Bool → ℕ → Part A → Option Phase → Outcome A
+handle_target source repo replying place part (Some target) =
+    handle_decoded source repo replying place part target (outcome_of (version_of part.params) part.payload)
+handle_target source repo replying place part None = Err (BadPart place)
+
+-- first the faults of the format, then those against the repository
+abbrev pub handle_changegroup : {A : Type 0} → Source → Repository A → Bool → ℕ → Part A → Outcome A
+handle_changegroup source repo replying place part =
+    handle_target source repo replying place part (target_of part.params)
+
+-- ---- the code
+
+-- a fault as the refusal of its part; want of memory is told as such
+abbrev pub refusal_for : {A : Type 0} → ℕ → AddFault → Refusal A
+refusal_for place NoMemory = OutOfMemory
+refusal_for place fault = BadChangeset place fault
+
+-- What adding by code may answer and leave: what the definition says, or that memory was refused.
+abbrev pub AddGives : Result Grown AddFault → Grown → Result (Unit {0}) AddFault → Type 0
+AddGives given new result =
+    MatchResult result (λ done. given ≡ Ok new) (λ fault. (fault ≡ NoMemory) ⊎ (given ≡ Err fault))
+
+-- a store's rows and their phases
+abbrev pub grown_of : {A : Type 0} → Store A → Grown
+grown_of store = record { rows = store.log.rows; phases = store.phases.current.phases }
+
+-- markers and bookmarks are as they were
+pub record AreOthersSame {A : Type 0} (old new : Store A) : Type 0 where
+  pub markers : new.markers ≡ old.markers
+  pub bookmarks : new.bookmarks ≡ old.bookmarks

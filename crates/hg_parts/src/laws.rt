@@ -1,0 +1,39 @@
+//! What holds of stores. Each function changes nothing: what it ensures is a theorem, and a caller that
+//! calls it may rest on it.
+
+ghost use Rattle.hg_types.specs.declared.limits.Settings.{Settings as AnySettings};
+ghost use Rattle.hg_parts.specs.declared.store.Store.{Store as AnyStore};
+ghost use Rattle.hg_parts.specs.declared.store.StoreMark.{StoreMark as AnyMark};
+ghost use Rattle.hg_parts.specs.Repository.{IsLawful};
+ghost use Rattle.hg_parts.specs.Store.{repository_of, empty_store, with_marks, without_marks, CanGoBack};
+ghost use Rattle.hg_parts.specs.Store.{IsGrown, IsSound};
+
+use crate::store::Store;
+use hg_types::Settings;
+use std::alloc::Allocator;
+
+/// A store that has grown and grows on has grown, so a mark stays one to which it can go back.
+pub fn growing_adds_up<A: Allocator>()
+    ensures same { (store : AnyStore A) → IsGrown store store }
+    ensures on { (old middle new : AnyStore A) → IsGrown old middle → IsGrown middle new → IsGrown old new }
+    ensures back { (before : AnyStore A) (mark : AnyMark) (now next : AnyStore A)
+        → CanGoBack before mark now → IsGrown now next → CanGoBack before mark next }
+{}
+
+/// The empty store is sound, and a mark changes nothing of that.
+pub fn marks_keep_stores_sound<A: Allocator>()
+    ensures none { (settings : AnySettings) → IsSound settings (empty_store {A = A} settings.limits) }
+    ensures marked { (settings : AnySettings) (store : AnyStore A)
+        → IsSound settings store → IsSound settings (with_marks store) }
+    ensures unmarked { (settings : AnySettings) (store : AnyStore A)
+        → IsSound settings store → IsSound settings (without_marks store) }
+{}
+
+/// A sound store holds a lawful repository.
+pub fn sound_stores_are_lawful<A: Allocator>(settings: &Settings, store: &Store<A>)
+    requires { IsSound settings.now store.now }
+    ensures { IsLawful (repository_of settings.now store.now) }
+{
+    let _rows = store.log.len();
+    let _names = store.bookmarks.len();
+}

@@ -1,0 +1,29 @@
+//! What each type of part asks of a repository.
+//!
+//! A [`Store`] is what parts change in place: the changelog, the phases, the markers and the bookmarks.
+//! [`handle_part`] handles one part on it, and gives its reply, if it has one, or the [`Refusal`] of its
+//! push. [`Store::mark`] and [`Store::back_to`] take back what a push did. Contracts see a repository as a
+//! value, the record `Repository`, and handling as the function `handle` on it.
+//!
+//! Each type of part is a module of `parts`, with its definition beside it in `specs/parts`. Nothing here
+//! starts a thread or waits.
+#![tactic(auto)]
+
+mod handle;
+pub mod laws;
+mod params;
+mod parts;
+mod refusal;
+mod replies;
+mod source;
+mod store;
+mod table;
+
+pub use handle::handle_part;
+pub use refusal::{RaceText, Refusal};
+pub use source::Source;
+pub use store::{Store, StoreMark};
+pub use table::starts_replies;
+
+#[cfg(test)]
+mod tests;

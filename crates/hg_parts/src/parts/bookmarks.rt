@@ -1,0 +1,83 @@
+//! `bookmarks`: names, and the changeset that each is to be on.
+//!
+//! The payload is entries of an id of 20 bytes, the size of a name in two bytes, the most significant first, and the name
+//! (Mercurial's `internals.bundles`); the id of 20 bytes ff deletes the name. A payload that ends inside an entry is a fault
+//! of format. Every changeset has to be known. Then each name is set or deleted, in order, whatever it is.
+
+ghost use Rattle.std.specs.Prelude.{◌≡◌, true, OnOk};
+ghost use Rattle.hg_keys.specs.PushKey.{is_known_target as known_target_test};
+ghost use Rattle.hg_parts.specs.Handled.{NothingGives};
+ghost use Rattle.hg_keys.specs.Known.{AreOnKnown};
+ghost use Rattle.hg_parts.specs.Store.{repository_of, IsSound, IsGrown};
+ghost use Rattle.hg_parts.specs.parts.Bookmarks.{are_known, set_each, handle_bookmarks};
+
+use crate::refusal::Refusal;
+use crate::store::Store;
+use hg_keys::{BookmarkFault, Bookmarks, is_known, read_bookmarks};
+use hg_log::Changelog;
+use hg_types::{NoMemory, Node, Part, Seq, Settings};
+use std::alloc::Allocator;
+
+/// Sets the bookmarks in the payload.
+///
+/// Refused are a payload that is no entries (`BadPart`), and then a changeset that is not known (`UnknownNode`).
+pub fn handle_bookmarks<A: Allocator + Copy>(
+    alloc: A,
+    store: &mut Store<A>,
+    settings: &Settings,
+    place: u32,
+    part: &Part<A>,
+) -> Result<(), Refusal<A>>
+    requires { IsSound settings.now store.old }
+    ensures sound { OnOk result (IsSound settings.now store.new) }
+    ensures grown { IsGrown store.old store.new }
+    ensures gives { NothingGives (handle_bookmarks (repository_of settings.now store.old) place part.now)
+        (repository_of settings.now store.new) result }
+{
+    let entries = match read_bookmarks(alloc, part.payload.as_slice()) {
+        Ok(entries) => entries,
+        Err(BookmarkFault::NoMemory) => return Err(Refusal::NoMemory),
+        Err(BookmarkFault::Short) => return Err(Refusal::BadPart { place }),
+    };
+    if !are_known(&store.log, entries.as_slice()) {
+        return Err(Refusal::UnknownNode { place });
+    }
+    set_each(alloc, &store.log, &mut store.bookmarks, entries.as_slice())?;
+    Ok(())
+}
+
+/// Whether the changeset of each entry is known.
+fn are_known<A: Allocator>(log: &Changelog<A>, entries: &[(Option<Node>, Seq<u8, A>)]) -> bool
+    ensures { result ≡ are_known log.now.rows entries.now }
+{
+    entries.iter().all(|entry| is_known_or_none(log, entry.0))
+}
+
+/// Whether there is no changeset, or a known one.
+fn is_known_or_none<A: Allocator>(log: &Changelog<A>, node: Option<Node>) -> bool
+    ensures { result ≡ known_target_test log.now.rows node }
+{
+    match node {
+        Some(node) => is_known(log, &node),
+        None => true,
+    }
+}
+
+/// Sets or deletes the names of the entries, whose changesets are known.
+fn set_each<A: Allocator + Copy>(
+    alloc: A,
+    log: &Changelog<A>,
+    bookmarks: &mut Bookmarks<A>,
+    entries: &[(Option<Node>, Seq<u8, A>)],
+) -> Result<(), NoMemory>
+    requires entries { are_known log.now.rows entries.now ≡ true }
+    requires pairs { AreOnKnown log.now.rows bookmarks.old.current }
+    ensures ok { OnOk result (bookmarks.new.current ≡ set_each entries.now bookmarks.old.current) }
+    ensures pairs { AreOnKnown log.now.rows bookmarks.new.current }
+    ensures marked { bookmarks.new.marked ≡ bookmarks.old.marked }
+{
+    for entry in entries {
+        bookmarks.set(alloc, entry.1.as_slice(), entry.0)?;
+    }
+    Ok(())
+}

@@ -1,0 +1,322 @@
+//! `changegroup`: changesets that join the changelog.
+//!
+//! The payload is a changegroup of version 01 or 02 (Mercurial's `internals.changegroups`). Three
+//! parameters are known.
+//!
+//! | name | value |
+//! |---|---|
+//! | `version` | `01` or `02`; `01` where it is absent |
+//! | `targetphase` | the phase that a seed registers at, `0`, `1` or `2`; draft where it is absent |
+//! | `nbchanges` | not looked at |
+//!
+//! Its entries are added in order, and each new row is registered at the phase of its source: a push has
+//! that of the server, public where it publishes and draft else. A push then advances all changesets of the
+//! group to that phase, those that were known too. The reply `reply:changegroup` tells in `return` one more
+//! than the heads that came, or, where heads went, one less than their number below zero.
+
+ghost use Rattle.std.specs.Prelude.{◌≡◌, ◌<◌, ◌^◌, ◌++◌, All, length, string_bytes, IfOk, IfSome, OnOk};
+ghost use Rattle.std.specs.Option.{option_to_list};
+ghost use Rattle.hg_log.specs.Answer.{answer_of};
+ghost use Rattle.hg_phases.specs.Phases.{AreFor};
+ghost use Rattle.hg_parts.specs.Handled.{HandleGives};
+ghost use Rattle.hg_parts.specs.Replies.{IsReply};
+ghost use Rattle.hg_parts.specs.Store.{repository_of, IsSound, IsGrown};
+ghost use Rattle.hg_parts.specs.parts.Changegroup.{phase_named, target_of, version_of, phase_for, grown_by};
+ghost use Rattle.hg_parts.specs.parts.Changegroup.{grown_of, add_each, revs_of, phases_after, result_text};
+ghost use Rattle.hg_parts.specs.parts.Changegroup.{reply_to_group, refusal_for, handle_entries};
+ghost use Rattle.hg_parts.specs.parts.Changegroup.{handle_changegroup, AddGives, AreOthersSame};
+
+use crate::params::value_of;
+use crate::refusal::Refusal;
+use crate::replies::reply_part;
+use crate::source::Source;
+use crate::store::Store;
+use hg_cgroup::{GroupFault, decode};
+use hg_log::{AddFault, Added, Changelog};
+use hg_phases::Phases;
+use hg_types::{Entry, NoMemory, Param, Part, Phase, Settings};
+use std::alloc::Allocator;
+
+/// Adds the changesets of the payload.
+///
+/// Refused are another version, another `targetphase` and a payload that is no changegroup (`BadPart`), and
+/// then the first changeset that the changelog doesn't add (`BadChangeset`).
+pub fn handle_changegroup<A: Allocator + Copy>(
+    alloc: A,
+    store: &mut Store<A>,
+    settings: &Settings,
+    source: Source,
+    replying: bool,
+    place: u32,
+    part: &Part<A>,
+) -> Result<Option<Part<A>>, Refusal<A>>
+    requires { IsSound settings.now store.old }
+    ensures sound { OnOk result (IsSound settings.now store.new) }
+    ensures grown { IsGrown store.old store.new }
+    ensures reply { IfOk result (λ reply. IfSome reply IsReply) }
+    ensures gives { HandleGives
+        (handle_changegroup source (repository_of settings.now store.old) replying place part.now)
+        (repository_of settings.now store.new) result }
+{
+    let Some(target) = target_of(part.params.as_slice()) else {
+        return Err(Refusal::BadPart { place });
+    };
+    let version = version_of(part.params.as_slice());
+    let entries = match decode(alloc, version, part.payload.as_slice()) {
+        Ok(entries) => entries,
+        Err(GroupFault::NoMemory) => return Err(Refusal::NoMemory),
+        Err(_) => return Err(Refusal::BadPart { place }),
+    };
+    let t = phase_for(source, settings, target);
+    handle_entries(
+        alloc,
+        store,
+        settings,
+        source,
+        replying,
+        place,
+        part,
+        t,
+        entries.as_slice(),
+    )
+}
+
+/// Adds the entries at that phase, and gives the reply.
+fn handle_entries<A: Allocator + Copy>(
+    alloc: A,
+    store: &mut Store<A>,
+    settings: &Settings,
+    source: Source,
+    replying: bool,
+    place: u32,
+    part: &Part<A>,
+    t: Phase,
+    entries: &[Entry<A>],
+) -> Result<Option<Part<A>>, Refusal<A>>
+    requires { IsSound settings.now store.old }
+    ensures sound { OnOk result (IsSound settings.now store.new) }
+    ensures grown { IsGrown store.old store.new }
+    ensures reply { IfOk result (λ reply. IfSome reply IsReply) }
+    ensures gives { HandleGives
+        (handle_entries source (repository_of settings.now store.old) replying place part.now t entries.now)
+        (repository_of settings.now store.new) result }
+{
+    let before = store.log.head_count();
+    match add_each(store, settings, t, entries) {
+        Err(fault) => return Err(refusal_for(place, fault)),
+        Ok(()) => (),
+    }
+    advance_group(alloc, &store.log, &mut store.phases, source, t, entries)?;
+    let reply = reply_to_group(alloc, replying, part.id, before, store.log.head_count())?;
+    Ok(reply)
+}
+
+/// The refusal of an entry that is not added.
+fn refusal_for<A: Allocator>(place: u32, fault: AddFault) -> Refusal<A>
+    ensures { result ≡ refusal_for place fault }
+{
+    match fault {
+        AddFault::NoMemory => Refusal::NoMemory,
+        fault => Refusal::BadChangeset { place, fault },
+    }
+}
+
+/// Advances the changesets of a group that was pushed, those that were known too.
+fn advance_group<A: Allocator + Copy>(
+    alloc: A,
+    log: &Changelog<A>,
+    phases: &mut Phases<A>,
+    source: Source,
+    t: Phase,
+    entries: &[Entry<A>],
+) -> Result<(), NoMemory>
+    requires fits { AreFor log.now.rows phases.old.current }
+    requires count { length phases.old.current.phases ≡ length log.now.rows }
+    ensures ok { OnOk result
+        (phases.new.current.phases
+        ≡ phases_after source t entries.now
+        (record { rows = log.now.rows; phases = phases.old.current.phases })) }
+    ensures fits { AreFor log.now.rows phases.new.current }
+    ensures count { OnOk result (length phases.new.current.phases ≡ length log.now.rows) }
+    ensures marked { phases.new.marked ≡ phases.old.marked }
+{
+    match source {
+        Source::Seed => Ok(()),
+        Source::Push => {
+            let revs = revs_of(alloc, log, entries)?;
+            phases.advance(alloc, log, t, revs.as_slice())?;
+            Ok(())
+        }
+    }
+}
+
+/// Adds the entries in order, and registers each new row.
+fn add_each<A: Allocator + Copy>(
+    store: &mut Store<A>,
+    settings: &Settings,
+    t: Phase,
+    entries: &[Entry<A>],
+) -> Result<(), AddFault>
+    requires { IsSound settings.now store.old }
+    ensures grown { IsGrown store.old store.new }
+    ensures sound { OnOk result (IsSound settings.now store.new) }
+    ensures others { OnOk result (AreOthersSame store.old store.new) }
+    ensures gives { AddGives
+        (add_each settings.now.limits t entries.now (grown_of store.old)) (grown_of store.new) result }
+{
+    for entry in entries {
+        add_one(store, settings, t, entry)?;
+    }
+    Ok(())
+}
+
+/// Adds one entry, and registers it where it is a new row.
+fn add_one<A: Allocator + Copy>(
+    store: &mut Store<A>,
+    settings: &Settings,
+    t: Phase,
+    entry: &Entry<A>,
+) -> Result<(), AddFault>
+    requires { IsSound settings.now store.old }
+    ensures grown { IsGrown store.old store.new }
+    ensures sound { OnOk result (IsSound settings.now store.new) }
+    ensures others { OnOk result (AreOthersSame store.old store.new) }
+    ensures gives { AddGives
+        (grown_by t store.old.phases.current.phases (answer_of store.old.log entry.now))
+        (grown_of store.new) result }
+{
+    match store.log.add(entry) {
+        Err(fault) => Err(fault),
+        Ok(Added::Known) => Ok(()),
+        Ok(Added::New(rev)) => {
+            let _lawful = store.log.len();
+            match store.phases.register(&store.log, rev, t) {
+                Ok(()) => Ok(()),
+                Err(NoMemory) => Err(AddFault::NoMemory),
+            }
+        }
+    }
+}
+
+/// The numbers of the changesets of a group.
+#[tactic(auto, unfolding(crate::specs::parts::Changegroup::revs_of))]
+fn revs_of<A: Allocator + Copy>(
+    alloc: A,
+    log: &Changelog<A>,
+    entries: &[Entry<A>],
+) -> Result<Vec<u32, A>, NoMemory>
+    ensures revs { IfOk result (λ revs. revs.items ≡ revs_of log.now.rows entries.now) }
+    ensures within { IfOk result (λ revs. All (λ rev. rev < length log.now.rows) revs.items) }
+{
+    let mut revs = Vec::new(alloc);
+    for entry in entries {
+        let rev = log.rev(&entry.node);
+        push_some(&mut revs, rev)?;
+    }
+    Ok(revs)
+}
+
+/// Adds a number, where there is one.
+fn push_some<A: Allocator>(numbers: &mut Vec<u32, A>, number: Option<u32>) -> Result<(), NoMemory>
+    ensures { OnOk result (numbers.new.items ≡ numbers.old.items ++ option_to_list number) }
+{
+    if let Some(number) = number {
+        numbers.push(number)?;
+    }
+    Ok(())
+}
+
+/// The phase that `targetphase` names.
+#[tactic(auto, unfolding(crate::specs::parts::Changegroup::target_of))]
+fn target_of<A: Allocator>(params: &[Param<A>]) -> Option<Phase>
+    ensures { result ≡ target_of params.now }
+{
+    match value_of(params, b"targetphase") {
+        None => Some(Phase::Draft),
+        Some(value) => phase_named(value),
+    }
+}
+
+fn phase_named(value: &[u8]) -> Option<Phase>
+    ensures { result ≡ phase_named value.now }
+{
+    if value == b"0".as_slice() {
+        return Some(Phase::Public);
+    }
+    if value == b"1".as_slice() {
+        return Some(Phase::Draft);
+    }
+    if value == b"2".as_slice() {
+        return Some(Phase::Secret);
+    }
+    None
+}
+
+/// The version of the changegroup.
+#[tactic(auto, unfolding(crate::specs::parts::Changegroup::version_of))]
+fn version_of<'p, A: Allocator>(params: &'p [Param<A>]) -> &'p [u8]
+    ensures { result.now ≡ version_of params.now }
+{
+    match value_of(params, b"version") {
+        Some(version) => version,
+        None => b"01",
+    }
+}
+
+/// The phase that new changesets are registered at.
+fn phase_for(source: Source, settings: &Settings, target: Phase) -> Phase
+    ensures { result ≡ phase_for source settings.now target }
+{
+    match source {
+        Source::Push => {
+            if settings.publishing {
+                Phase::Public
+            } else {
+                Phase::Draft
+            }
+        }
+        Source::Seed => target,
+    }
+}
+
+/// What the reply tells of the numbers of heads before and after.
+#[tactic(auto, unfolding(crate::specs::parts::Changegroup::result_text))]
+fn result_text<A: Allocator + Copy>(
+    alloc: A,
+    before: usize,
+    after: usize,
+) -> Result<String<A>, NoMemory>
+    requires before { before < 2 ^ 32 }
+    requires after { after < 2 ^ 32 }
+    ensures { IfOk result (λ text. string_bytes text ≡ result_text before after) }
+{
+    let text = if before <= after {
+        let more = after - before + 1;
+        format!(in alloc; "{more}")?
+    } else {
+        let fewer = before - after + 1;
+        format!(in alloc; "-{fewer}")?
+    };
+    Ok(text)
+}
+
+/// The reply, where the client reads one.
+fn reply_to_group<A: Allocator + Copy>(
+    alloc: A,
+    replying: bool,
+    id: u32,
+    before: usize,
+    after: usize,
+) -> Result<Option<Part<A>>, NoMemory>
+    requires before { before < 2 ^ 32 }
+    requires after { after < 2 ^ 32 }
+    ensures value { IfOk result (λ reply. reply ≡ reply_to_group replying id before after) }
+    ensures reply { IfOk result (λ reply. IfSome reply IsReply) }
+{
+    if !replying {
+        return Ok(None);
+    }
+    let text = result_text(alloc, before, after)?;
+    let reply = reply_part(alloc, b"reply:changegroup", id, b"return", text.as_bytes())?;
+    Ok(Some(reply))
+}

@@ -1,0 +1,95 @@
+//! `phase-heads`: changesets that are in a lower phase at the client.
+//!
+//! The payload is entries of 24 bytes: the number of a phase in four bytes, the most significant first, and an id (Mercurial's
+//! `internals.bundles`, and its `phases`). Another length or phase is a fault of format. Every changeset has to be known. Then
+//! each and its ancestors are advanced to its phase, in order: none gets a higher one.
+
+ghost use Rattle.std.specs.Prelude.{◌≡◌, length, OnOk};
+ghost use Rattle.hg_phases.specs.Phases.{AreFor};
+ghost use Rattle.hg_parts.specs.Handled.{NothingGives};
+ghost use Rattle.hg_parts.specs.Store.{repository_of, IsSound, IsGrown};
+ghost use Rattle.hg_parts.specs.parts.PhaseHeads.{are_known, advanced_by, advance_each, handle_phase_heads};
+
+use crate::refusal::Refusal;
+use crate::store::Store;
+use hg_keys::is_known;
+use hg_log::Changelog;
+use hg_phases::{EntryFault, Phases, read_entries};
+use hg_types::{NoMemory, Node, Part, Phase, Settings};
+use std::alloc::Allocator;
+
+/// Advances the changesets in the payload.
+///
+/// Refused are a payload that is no entries (`BadPart`), and then a changeset that is not known (`UnknownNode`).
+pub fn handle_phase_heads<A: Allocator + Copy>(
+    alloc: A,
+    store: &mut Store<A>,
+    settings: &Settings,
+    place: u32,
+    part: &Part<A>,
+) -> Result<(), Refusal<A>>
+    requires { IsSound settings.now store.old }
+    ensures sound { OnOk result (IsSound settings.now store.new) }
+    ensures grown { IsGrown store.old store.new }
+    ensures gives { NothingGives (handle_phase_heads (repository_of settings.now store.old) place part.now)
+        (repository_of settings.now store.new) result }
+{
+    let entries = match read_entries(alloc, part.payload.as_slice()) {
+        Ok(entries) => entries,
+        Err(EntryFault::NoMemory) => return Err(Refusal::NoMemory),
+        Err(EntryFault::Short | EntryFault::BadPhase) => return Err(Refusal::BadPart { place }),
+    };
+    if !are_known(&store.log, entries.as_slice()) {
+        return Err(Refusal::UnknownNode { place });
+    }
+    advance_each(alloc, &store.log, &mut store.phases, entries.as_slice())?;
+    Ok(())
+}
+
+/// Whether the changeset of each entry is known.
+fn are_known<A: Allocator>(log: &Changelog<A>, entries: &[(Phase, Node)]) -> bool
+    ensures { result ≡ are_known log.now.rows entries.now }
+{
+    entries.iter().all(|entry| is_known(log, &entry.1))
+}
+
+/// Advances the changesets of the entries, in order.
+fn advance_each<A: Allocator + Copy>(
+    alloc: A,
+    log: &Changelog<A>,
+    phases: &mut Phases<A>,
+    entries: &[(Phase, Node)],
+) -> Result<(), NoMemory>
+    requires fits { AreFor log.now.rows phases.old.current }
+    requires count { length phases.old.current.phases ≡ length log.now.rows }
+    ensures ok { OnOk result (phases.new.current.phases ≡ advance_each log.now.rows entries.now phases.old.current.phases) }
+    ensures fits { AreFor log.now.rows phases.new.current }
+    ensures count { length phases.new.current.phases ≡ length log.now.rows }
+    ensures marked { phases.new.marked ≡ phases.old.marked }
+{
+    for entry in entries {
+        advance_one(alloc, log, phases, entry)?;
+    }
+    Ok(())
+}
+
+/// Advances a changeset and its ancestors. The null id has no row.
+fn advance_one<A: Allocator + Copy>(
+    alloc: A,
+    log: &Changelog<A>,
+    phases: &mut Phases<A>,
+    entry: &(Phase, Node),
+) -> Result<(), NoMemory>
+    requires fits { AreFor log.now.rows phases.old.current }
+    requires count { length phases.old.current.phases ≡ length log.now.rows }
+    ensures ok { OnOk result (phases.new.current.phases ≡ advanced_by log.now.rows phases.old.current.phases entry.now) }
+    ensures fits { AreFor log.now.rows phases.new.current }
+    ensures count { length phases.new.current.phases ≡ length log.now.rows }
+    ensures marked { phases.new.marked ≡ phases.old.marked }
+{
+    match log.rev(&entry.1) {
+        Some(rev) => phases.advance(alloc, log, entry.0, &[rev])?,
+        None => phases.advance(alloc, log, entry.0, &[])?,
+    }
+    Ok(())
+}

@@ -1,0 +1,100 @@
+//! What parts change in place.
+
+ghost use Rattle.std.specs.Prelude.{◌≡◌, IfOk};
+ghost use Rattle.hg_types.specs.Limits.{IsAllowed};
+ghost use Rattle.hg_parts.specs.declared.store.Store.{Store as AnyStore};
+ghost use Rattle.hg_parts.specs.Store.{empty_store, with_marks, without_marks, CanGoBack};
+
+use hg_keys::{BookmarkMark, Bookmarks};
+use hg_log::Changelog;
+use hg_obs::Markers;
+use hg_phases::{Mark, Phases};
+use hg_types::{Limits, NoMemory, TryClone};
+use std::alloc::{Allocator, Global};
+use std::hash::RandomState;
+
+/// The changesets, their phases, the markers and the bookmarks of a repository. Each part of a push changes
+/// them in place, and a push that is refused goes back to its mark.
+#[derive(Drop)]
+pub struct Store<A: Allocator = Global> {
+    pub log: Changelog<A>,
+    pub phases: Phases<A>,
+    pub markers: Markers<A>,
+    pub bookmarks: Bookmarks<A>,
+}
+
+/// A moment to which a store can go back.
+#[derive(Drop)]
+pub struct StoreMark {
+    /// How many changesets there were.
+    rows: usize,
+    /// How many markers there were.
+    markers: usize,
+    phases: Mark,
+    bookmarks: BookmarkMark,
+}
+
+impl<A: Allocator + Copy> Store<A> {
+    /// The empty store, which takes no memory. The state hashes ids and markers for look-ups: strangers
+    /// choose them, so it is to be random.
+    pub fn new(alloc: A, state: RandomState, limits: Limits) -> Self
+        requires { IsAllowed limits }
+        ensures { result ≡ empty_store limits }
+    {
+        Store {
+            log: Changelog::new(alloc, state, limits),
+            phases: Phases::new(alloc),
+            markers: Markers::new(alloc, state),
+            bookmarks: Bookmarks::new(alloc),
+        }
+    }
+
+    /// The same without a mark.
+    pub fn try_clone(&self, alloc: A) -> Result<Self, NoMemory>
+        ensures { IfOk result (λ copy. copy ≡ without_marks self.now) }
+    {
+        let log = self.log.try_clone(alloc)?;
+        let phases = self.phases.try_clone(alloc)?;
+        let markers = self.markers.try_clone(alloc)?;
+        let bookmarks = self.bookmarks.try_clone(alloc)?;
+        Ok(Store {
+            log,
+            phases,
+            markers,
+            bookmarks,
+        })
+    }
+}
+
+impl<A: Allocator> Store<A> {
+    /// Marks the store as it is. It takes no memory, and an earlier mark is gone.
+    pub fn mark(&mut self) -> StoreMark
+        ensures store { self.new ≡ with_marks self.old }
+        ensures mark { CanGoBack self.old result self.new }
+    {
+        StoreMark {
+            rows: self.log.len(),
+            markers: self.markers.list().len(),
+            phases: self.phases.mark(),
+            bookmarks: self.bookmarks.mark(),
+        }
+    }
+
+    /// Goes back to the store of the moment of the mark, whatever parts have changed since. It takes no
+    /// memory.
+    pub fn back_to(&mut self, mark: StoreMark)
+        requires { (before : AnyStore A) × CanGoBack before mark self.old }
+        ensures { (before : AnyStore A) → CanGoBack before mark self.old → self.new ≡ without_marks before }
+    {
+        let StoreMark {
+            rows,
+            markers,
+            phases,
+            bookmarks,
+        } = mark;
+        self.log.cut_back(rows);
+        self.markers.cut_back(markers);
+        self.phases.back_to(phases);
+        self.bookmarks.back_to(bookmarks);
+    }
+}
