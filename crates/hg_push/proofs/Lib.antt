@@ -17,3 +17,4 @@ mod EachRow
 mod Leaving
 mod Turns
 pub mod CallerLemmas
+mod Beginning

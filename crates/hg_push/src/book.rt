@@ -49,7 +49,7 @@ impl<A: Allocator> Model for Book<A> {
     ghost use Rattle.std.specs.Prelude.{◌+◌, ◌≤◌, ℕ, List, vec_len, vec_capacity};
     ghost use Rattle.std.specs.List.{count_by, AllByRecursion};
     ghost use Rattle.hg_repo.specs.declared.done.Done.{Done as DoneValue};
-    ghost use Rattle.hg_repo.specs.declared.refusal.Refusal.{Refusal as RefusalValue};
+    ghost use Rattle.hg_parts.specs.declared.refusal.Refusal.{Refusal as RefusalValue};
     ghost use Rattle.hg_push.specs.Run.{RepositoryOf};
     ghost use Rattle.hg_push.specs.Book.{Book as BookValue, AreRows, is_between};
     ghost use Rattle.hg_push.specs.Rows.{is_open};

@@ -14,11 +14,14 @@ ghost use Rattle.hg_push.specs.History.{History, IsClosing, IsHistory, decided, 
 ghost use Rattle.hg_push.specs.Changed.{OneByOne, RanInTurn, is_done, trimmed, without};
 ghost use Rattle.hg_push.specs.World.{Event, World, all_parts, happens, has_opened, items_in, items_of, next_item, run_all, start};
 ghost use Rattle.hg_push.specs.Complete.{IsComplete, IsOrderly};
+ghost use Rattle.hg_parts.specs.Repository.{IsLawful};
 ghost use Rattle.hg_repo.specs.declared.done.Done.{Done};
+ghost use Rattle.hg_push.specs.Book.{Holds};
 ghost use Rattle.hg_push.specs.Run.{RepositoryOf, run_push};
 
+use crate::book::Book;
 use crate::outcome::Outcome;
-use hg_repo::laws::done_runs_handle_all;
+use hg_repo::laws::{done_runs_handle_all, every_repository_is_lawful};
 use std::alloc::Allocator;
 
 /// Each item of a push is taken at most once, in the order in which it was put.
@@ -96,6 +99,14 @@ pub fn done_pushes_ran_in_turn<A: Allocator>()
         outcome run_push first p h ≡ Some (Outcome.Done done) →
         RanInTurn run_push (λ q. parts q h) first (serial run_push first h).journal (serial run_push first h).repo p done }
 {}
+
+/// The repository that the done pushes of a book's history gave is lawful: ids agree with their hash, no changeset is in a
+/// lower phase than a parent, markers have their format, and each bookmark is on a known changeset.
+pub fn the_repository_is_lawful<A: Allocator + Copy>(book: &Book<A>)
+    ensures { (first : RepositoryOf A) (h : History A) → Holds run_push first h book.now → IsLawful (serial run_push first h).repo }
+{
+    every_repository_is_lawful(book.repo());
+}
 
 /// A push that is not done changes nothing. What is left out is all its items, and no other.
 pub fn aborted_changes_nothing<A: Allocator>()

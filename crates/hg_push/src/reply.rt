@@ -2,9 +2,10 @@
 
 ghost use Rattle.std.specs.Prelude.{◌≡◌, ◌≢◌, [], ◌∷◌, take, IfOk};
 ghost use Rattle.std.specs.List.{join_with_byte};
-ghost use Rattle.hg_push.specs.Reply.{CanBeTold, abort_part, cut_part, error_part, race_part, reason_part, refusal_part, reply_of, telling, unknown_params, unsupported_part};
+ghost use Rattle.hg_push.specs.Reply.{CanBeTold, abort_part, cut_part, error_part, key_part, race_part, reason_part, refusal_part, reply_of, telling, unknown_params, unsupported_part};
 
 use crate::outcome::{Outcome, Reason};
+use hg_keys::KeyCall;
 use hg_repo::{Done, Refusal};
 use hg_stream::write_bundle;
 use hg_types::{CutReason, NoMemory, Param, Part, Seq};
@@ -69,8 +70,17 @@ fn refusal_part<A: Allocator + Copy>(alloc: A, refusal: &Refusal<A>) -> Result<P
             params.as_slice(),
         ),
         Refusal::Raced { text, .. } => race_part(alloc, text.message()),
+        Refusal::KeyFailed { id, call, .. } => key_part(alloc, *id, call),
         Refusal::BadPart { place } => {
             let message = format!(in alloc; "part {place} is malformed")?;
+            abort_part(alloc, message.as_bytes())
+        }
+        Refusal::BadChangeset { place, .. } => {
+            let message = format!(in alloc; "part {place} holds a bad changeset")?;
+            abort_part(alloc, message.as_bytes())
+        }
+        Refusal::UnknownNode { place } => {
+            let message = format!(in alloc; "part {place} names an unknown node")?;
             abort_part(alloc, message.as_bytes())
         }
         Refusal::ClientAbort { .. } => abort_part(alloc, b"client aborted"),
@@ -103,6 +113,19 @@ fn race_part<A: Allocator + Copy>(alloc: A, message: &[u8]) -> Result<Part<A>, N
 {
     let params = one_param(alloc, b"message", message)?;
     error_part(alloc, b"ERROR:PUSHRACED", params)
+}
+
+/// The key that was not set: the id of the part, and what it asked.
+fn key_part<A: Allocator + Copy>(alloc: A, id: u32, call: &KeyCall<A>) -> Result<Part<A>, NoMemory>
+    ensures { IfOk result (λ part. part ≡ key_part id call.now) }
+{
+    let id_text = format!(in alloc; "{id}")?;
+    let mut params = one_param(alloc, b"in-reply-to", id_text.as_bytes())?;
+    params.push(telling(alloc, b"namespace", call.namespace.as_slice())?)?;
+    params.push(telling(alloc, b"key", call.key.as_slice())?)?;
+    params.push(telling(alloc, b"new", call.new.as_slice())?)?;
+    params.push(telling(alloc, b"old", call.old.as_slice())?)?;
+    error_part(alloc, b"ERROR:PUSHKEY", params)
 }
 
 fn unsupported_part<A: Allocator + Copy>(

@@ -1,22 +1,24 @@
 -- One bundle, from the opening of its push to the status.
-use Rattle.std.proofs.Common.{ℕ, Bool, ◌≡◌, ◌<◌, ◌^◌, List, [], sym, ◌∙◌, ap, subst, arith, length, ◌++◌}
+use Rattle.std.proofs.Common.{ℕ, Bool, ◌≡◌, ◌≤◌, ◌<◌, ◌^◌, List, [], sym, ◌∙◌, ap, subst, arith, length, ◌++◌}
 use Rattle.std.specs.List.{concat}
 use Rattle.hg_types.specs.declared.part.Part.{Part}
+use Rattle.hg_types.specs.declared.limits.Limits.{Limits}
 use Rattle.hg_types.specs.Limits.{IsAllowed, standard_limits}
 use Rattle.hg_repo.specs.declared.done.Done.{Done}
-use Rattle.hg_repo.specs.declared.refusal.Refusal.{Refusal}
+use Rattle.hg_parts.specs.declared.refusal.Refusal.{Refusal}
 use Rattle.hg_push.specs.declared.outcome.Outcome.{Outcome}
 use Rattle.hg_push.specs.Book.{Holds, Opens}
 use Rattle.hg_push.specs.History.{History}
 use Rattle.hg_push.specs.Reply.{reply_of}
 use Rattle.hg_push.specs.Run.{RepositoryOf, run_push}
+use Rattle.hg_stream.specs.declared.state.State.{State}
+use Rattle.hg_stream.specs.Faults.{Tells}
 use Rattle.hg_pushd.specs.declared.ending.Ending.{Ending}
 use Rattle.hg_pushd.specs.declared.send.Sending.{Sending}
 use Rattle.hg_pushd.specs.Devices.{Input, Output}
 use Rattle.hg_pushd.specs.Receiving.{Received, items_of, mark_of, state_at}
 use Rattle.hg_pushd.specs.Taking.{BookOf, Ends, HasTaken}
 use Rattle.hg_pushd.specs.Answering.{Answered, Sends, empty_repository, status_of}
-use Rattle.hg_pushd.proofs.Few.{few}
 use Rattle.hg_pushd.proofs.Items.{begins}
 
 pub allowed : IsAllowed standard_limits
@@ -30,8 +32,12 @@ allowed = record {
   revisions = (omega arith, omega arith);
 }
 
-pub few_received : {A : Type 0} (before after : Input) (ending : Ending) (parts : List (Part A)) → Received standard_limits before after ending parts → length parts < 2 ^ 32
-few_received before after ending parts r = omega (arith, few (state_at ending) standard_limits (concat r.pieces ++ r.taken) parts r.tells)
+-- the law `parts_are_few`
+abbrev pub PartsAreFew : Type 0 → Type 0
+PartsAreFew A = (limits : Limits) (state : State) (bytes : List ℕ) (parts : List (Part A)) → Tells state limits bytes parts → length parts ≤ limits.parts
+
+pub few_received : {A : Type 0} → PartsAreFew A → (before after : Input) (ending : Ending) (parts : List (Part A)) → Received standard_limits before after ending parts → length parts < 2 ^ 32
+few_received law before after ending parts r = omega (arith, law standard_limits (state_at ending) (concat r.pieces ++ r.taken) parts r.tells)
 
 -- the first push of an empty book has the number 0
 pub opened : {A : Type 0} (publishing : Bool) (repo : RepositoryOf A) (b new : BookOf A) (push : ℕ) → repo ≡ empty_repository publishing → (b.first_push ≡ repo.settings.first_push) × (b.next ≡ repo.settings.first_push) → b.rows ≡ []

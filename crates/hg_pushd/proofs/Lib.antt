@@ -1,5 +1,4 @@
 mod Devices
-pub mod Few
 pub mod Reading
 pub mod Items
 pub mod Sending

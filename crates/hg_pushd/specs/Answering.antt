@@ -5,8 +5,8 @@ use Rattle.std.specs.Io.KnownBytes.{Appends}
 use Rattle.hg_types.specs.declared.part.Part.{Part}
 use Rattle.hg_types.specs.Limits.{standard_limits}
 use Rattle.hg_repo.specs.declared.done.Done.{Done}
-use Rattle.hg_repo.specs.declared.refusal.Refusal.{Refusal}
-use Rattle.hg_repo.specs.Repository.{Repository}
+use Rattle.hg_parts.specs.declared.refusal.Refusal.{Refusal}
+use Rattle.hg_parts.specs.Repository.{Repository, empty_with}
 use Rattle.hg_stream.specs.declared.fault.StreamFault.TheVariants.{NoMemory as stream_without_memory}
 use Rattle.hg_push.specs.declared.outcome.Outcome.{Outcome}
 use Rattle.hg_push.specs.declared.outcome.Outcome.TheVariants.{Done as done_with, Aborted}
@@ -21,8 +21,8 @@ use Rattle.hg_pushd.specs.Receiving.{Received, items_of, mark_of}
 use Rattle.hg_pushd.specs.Taking.{Ends}
 
 -- the repository without changesets
-abbrev pub empty_repository : Bool → Repository
-empty_repository publishing = record { settings = record { publishing = publishing; limits = standard_limits; first_push = 0 } }
+abbrev pub empty_repository : {A : Type 0} → Bool → Repository A
+empty_repository publishing = empty_with (record { publishing = publishing; limits = standard_limits; first_push = 0 })
 
 -- what was not written, and the last write, where it took none of that or failed
 abbrev pub StopsShort : List ℕ → List WriteAnswer → Type 0

@@ -17,6 +17,7 @@ mod tests;
 use crate::command::{Job, job_of, status_of, unreadable};
 use crate::run::run_one;
 use clap::Error;
+use std::hash::RandomState;
 use std::io;
 use std::process::ExitCode;
 
@@ -37,10 +38,15 @@ fn tell(rt: &HostRuntime, status: u8) {
     }
 }
 
+/// Does what was asked for, and gives the status. A system that gives no random bytes is a device that failed.
 fn perform(rt: &HostRuntime, job: &Job) -> u8 {
+    let Ok(state) = RandomState::new(rt) else {
+        return 3;
+    };
     match job {
         Job::One { publishing } => run_one(
             rt.alloc(),
+            state,
             &mut rt.reader(),
             &mut io::writer(rt),
             *publishing,

@@ -13,9 +13,11 @@ use crate::push::end_push;
 use crate::send::{Sending, send_reply};
 use hg_push::{Book, Outcome, Reason};
 use hg_repo::{Done, Refusal, Repo};
+use hg_stream::laws::parts_are_few;
 use hg_stream::{State, StreamFault, Unbundler};
 use hg_types::{Limits, Settings};
 use std::alloc::Allocator;
+use std::hash::RandomState;
 
 /// How many bytes are read at a time, at most.
 const PIECE: usize = 4_096;
@@ -28,9 +30,11 @@ const STREAM: u32 = 268_435_456;
 ///
 /// The status is 0 where the push is done, 1 where it was aborted, 3 where the reader or the writer failed, and 4 where
 /// memory was refused; of several, 3 before 4 before 1. A write that takes nothing is a failed one. Bytes behind the end
-/// mark may have been read and are dropped. Nothing is read or written where memory is refused before.
+/// mark may have been read and are dropped. Nothing is read or written where memory is refused before. The state hashes what
+/// strangers chose, so it is to be random.
 pub fn run_one<A: Allocator + Copy, R: Reader, W: Writer>(
     alloc: A,
+    state: RandomState,
     reader: &mut R,
     writer: &mut W,
     publishing: bool,
@@ -38,19 +42,21 @@ pub fn run_one<A: Allocator + Copy, R: Reader, W: Writer>(
     ensures { Answered A publishing (R.told reader.old) (R.told reader.new) (W.told writer.old) (W.told writer.new) result
         ⊎ NotOpened (R.told reader.old) (R.told reader.new) (W.told writer.old) (W.told writer.new) result }
 {
-    let mut book = Book::new(alloc, empty_repository(alloc, publishing));
+    let mut book = Book::new(alloc, empty_repository(alloc, state, publishing));
     let Ok(push) = book.open() else {
         return 4;
     };
     let mut bundle = Unbundler::new(alloc, Limits::standard());
     let ending = receive(reader, &mut bundle);
+    // so the push has few parts
+    parts_are_few::<A>();
     let outcome = end_push(book, push, &mut bundle, ending);
     let sending = send_reply(alloc, writer, &outcome);
     status_of(ending, &outcome, sending)
 }
 
 /// The repository without changesets.
-fn empty_repository<A: Allocator>(alloc: A, publishing: bool) -> Repo<A>
+fn empty_repository<A: Allocator + Copy>(alloc: A, state: RandomState, publishing: bool) -> Repo<A>
     ensures { result ≡ empty_repository publishing }
 {
     let limits = Limits::standard();
@@ -61,6 +67,7 @@ fn empty_repository<A: Allocator>(alloc: A, publishing: bool) -> Repo<A>
             limits,
             first_push: 0,
         },
+        state,
     )
 }
 

@@ -2,12 +2,16 @@
 
 mod devices;
 mod memory;
+mod telling;
+mod uses;
 mod words;
 
 use crate::run::run_one;
 use crate::tests::devices::{Sink, Source};
 use std::alloc::Allocator;
+use std::hash::RandomState;
 use std::process::Abort;
+use std::random::RandomSource;
 use std::test::*;
 
 /// The bundle without parts.
@@ -72,13 +76,29 @@ const UNKNOWN_INTERRUPTION_REPLY: &[u8] =
 /// The bundle without parts, and bytes that are dropped.
 const WITH_MORE: &[u8] = b"HG20\0\0\0\0\0\0\0\0 more";
 
+fn state<R: RandomSource + Abort>(rt: &R) -> RandomState {
+    match RandomState::new(rt) {
+        Ok(state) => state,
+        Err(_) => panic!(*rt; "no random bytes"),
+    }
+}
+
 /// Runs the bundle, read at once, byte by byte and in pieces of three bytes, and checks status and reply. The end of the input
 /// is read once where the bundle is cut short, and else never.
-fn check<A: Allocator + Copy>(rt: &impl Abort, alloc: A, bundle: &[u8], status: u8, reply: &[u8]) {
+fn check<A: Allocator + Copy, R: RandomSource + Abort>(
+    rt: &R,
+    alloc: A,
+    bundle: &[u8],
+    status: u8,
+    reply: &[u8],
+) {
     for step in [usize::MAX, 1, 3] {
         let mut reader = Source::in_pieces(bundle, step);
         let mut writer = Sink::new(alloc);
-        assert_eq!(*rt; run_one(alloc, &mut reader, &mut writer, false), status);
+        assert_eq!(*rt;
+            run_one(alloc, state(rt), &mut reader, &mut writer, false),
+            status
+        );
         assert_eq!(*rt; writer.bytes(), reply);
         let read = bundle.len().saturating_sub(reader.left().len());
         let pieces = read.div_ceil(step.clamp(1, 4_096));
@@ -103,7 +123,10 @@ fn the_first_push_with_checks(rt: HostRuntime) {
 fn the_first_push_is_published(rt: HostRuntime) {
     let mut reader = Source::new(FIRST_PUSH);
     let mut writer = Sink::new(rt.alloc());
-    assert_eq!(rt; run_one(rt.alloc(), &mut reader, &mut writer, true), 0);
+    assert_eq!(rt;
+        run_one(rt.alloc(), state(&rt), &mut reader, &mut writer, true),
+        0
+    );
     assert_eq!(rt; writer.bytes(), EMPTY);
 }
 
@@ -214,7 +237,10 @@ fn bytes_after_the_end_mark(rt: HostRuntime) {
     check(&rt, rt.alloc(), WITH_MORE, 0, EMPTY);
     let mut reader = Source::in_pieces(WITH_MORE, 1);
     let mut writer = Sink::new(rt.alloc());
-    assert_eq!(rt; run_one(rt.alloc(), &mut reader, &mut writer, false), 0);
+    assert_eq!(rt;
+        run_one(rt.alloc(), state(&rt), &mut reader, &mut writer, false),
+        0
+    );
     assert_eq!(rt; reader.left(), b" more".as_slice());
 }
 
@@ -246,7 +272,7 @@ fn a_reader_that_fails(rt: HostRuntime) {
                 let mut reader = Source::failing(FIRST_PUSH, step, good, fails);
                 let mut writer = Sink::new(rt.alloc());
                 assert_eq!(rt;
-                    run_one(rt.alloc(), &mut reader, &mut writer, false),
+                    run_one(rt.alloc(), state(&rt), &mut reader, &mut writer, false),
                     status
                 );
                 assert_eq!(rt; writer.bytes(), reply);
@@ -255,7 +281,10 @@ fn a_reader_that_fails(rt: HostRuntime) {
         }
         let mut reader = Source::failing(FIRST_PUSH, step, reads, true);
         let mut writer = Sink::new(rt.alloc());
-        assert_eq!(rt; run_one(rt.alloc(), &mut reader, &mut writer, false), 0);
+        assert_eq!(rt;
+            run_one(rt.alloc(), state(&rt), &mut reader, &mut writer, false),
+            0
+        );
         assert_eq!(rt; writer.bytes(), EMPTY);
     }
 }
@@ -267,13 +296,19 @@ fn a_writer_that_fails(rt: HostRuntime) {
         for fails in [false, true] {
             let mut reader = Source::new(RACE);
             let mut writer = Sink::failing(rt.alloc(), taken, fails);
-            assert_eq!(rt; run_one(rt.alloc(), &mut reader, &mut writer, false), 3);
+            assert_eq!(rt;
+                run_one(rt.alloc(), state(&rt), &mut reader, &mut writer, false),
+                3
+            );
             assert_eq!(rt; writer.bytes(), &RACE_REPLY[..taken]);
         }
     }
     let mut reader = Source::new(RACE);
     let mut writer = Sink::failing(rt.alloc(), RACE_REPLY.len(), true);
-    assert_eq!(rt; run_one(rt.alloc(), &mut reader, &mut writer, false), 1);
+    assert_eq!(rt;
+        run_one(rt.alloc(), state(&rt), &mut reader, &mut writer, false),
+        1
+    );
     assert_eq!(rt; writer.bytes(), RACE_REPLY);
 }
 
@@ -282,6 +317,9 @@ fn a_writer_that_fails(rt: HostRuntime) {
 fn a_flush_that_fails(rt: HostRuntime) {
     let mut reader = Source::new(FIRST_PUSH);
     let mut writer = Sink::without_flush(rt.alloc());
-    assert_eq!(rt; run_one(rt.alloc(), &mut reader, &mut writer, false), 3);
+    assert_eq!(rt;
+        run_one(rt.alloc(), state(&rt), &mut reader, &mut writer, false),
+        3
+    );
     assert_eq!(rt; writer.bytes(), EMPTY);
 }

@@ -1,6 +1,5 @@
-mod Ascending
-mod Mandatory
 mod Ranges
 mod Runs
-mod SameIds
-mod Tables
+mod Replies
+mod SameItems
+mod Reading

@@ -1,9 +1,3 @@
-pub mod Repository
-pub mod Refusal
-pub mod PartTypes
-pub mod Table
-pub mod Handled
-pub mod CheckHeads
-pub mod Handle
+pub mod Reading
 pub mod Run
 pub mod Replies

@@ -3,21 +3,21 @@ use Rattle.std.specs.Prelude.{ℕ, ◌≡◌, Bool, false, ◌||◌, ◌+◌, �
 use Rattle.std.specs.List.{range_with_len}
 use Rattle.hg_types.specs.declared.part.Part.{Part}
 use Rattle.hg_repo.specs.declared.done.Done.{Done}
-use Rattle.hg_repo.specs.declared.done.Source.{Source}
-use Rattle.hg_repo.specs.declared.refusal.Refusal.{Refusal}
-use Rattle.hg_repo.specs.declared.refusal.Refusal.TheVariants.{NoMemory}
-use Rattle.hg_repo.specs.Repository.{Repository}
-use Rattle.hg_repo.specs.Handled.{Handled}
-use Rattle.hg_repo.specs.PartTypes.{support_of, is_reply_caps}
-use Rattle.hg_repo.specs.Handle.{handle}
+use Rattle.hg_parts.specs.declared.refusal.Refusal.{Refusal}
+use Rattle.hg_parts.specs.declared.refusal.Refusal.TheVariants.{NoMemory}
+use Rattle.hg_parts.specs.declared.source.Source.{Source}
+use Rattle.hg_parts.specs.Repository.{Repository}
+use Rattle.hg_parts.specs.Handled.{Handled}
+use Rattle.hg_parts.specs.PartTypes.{support_of, is_reply_caps}
+use Rattle.hg_parts.specs.Handle.{handle}
 
 -- How far a run has come: the repository so far, whether parts leave replies, and the replies so far.
 pub record Progress (A : Type 0) : Type 0 where
-  pub repo : Repository
+  pub repo : Repository A
   pub replying : Bool
   pub replies : List (Part A)
 
-abbrev pub start : {A : Type 0} → Repository → Progress A
+abbrev pub start : {A : Type 0} → Repository A → Progress A
 start repo = record { repo = repo; replying = false; replies = [] }
 
 -- a reply has its place among the replies as its id
@@ -44,18 +44,18 @@ run_from source place progress [] = Ok progress
 run_from source place progress (part ∷ parts) =
     and_then (handle source progress.repo progress.replying place part) (λ given. run_from source (place + 1) (progress_after progress part given) parts)
 
-abbrev pub done_by : {A : Type 0} → ℕ → Result (Progress A) (Refusal A) → Result (Repository × Done A) (Refusal A)
+abbrev pub done_by : {A : Type 0} → ℕ → Result (Progress A) (Refusal A) → Result (Repository A × Done A) (Refusal A)
 done_by count (Ok progress) = Ok (progress.repo, record { replies = progress.replies; handled = range_with_len 0 count })
 done_by count (Err refusal) = Err refusal
 
 -- The run of the parts on the repository: the repository after them, the replies and the places, or the first refusal.
-unfoldable pub run_of : {A : Type 0} → Source → Repository → List (Part A) → Result (Repository × Done A) (Refusal A)
+unfoldable pub run_of : {A : Type 0} → Source → Repository A → List (Part A) → Result (Repository A × Done A) (Refusal A)
 run_of source repo parts = done_by (length parts) (run_from source 0 (start repo) parts)
 
 -- What a run of code may answer and leave: what the definition says, or that memory was refused, and then nothing changed.
 abbrev pub RunGives : {A R P D : Type 0} → (R → P → Result (R × D) (Refusal A)) → R → P → Result D (Refusal A) → R → Type 0
 RunGives run old parts result new = MatchResult result (λ done. run old parts ≡ Ok (new, done)) (λ refusal. (new ≡ old) × ((refusal ≡ NoMemory) ⊎ (run old parts ≡ Err refusal)))
 
--- What code may answer that handles the parts in turn, where none changes the repository or leaves a reply.
-abbrev pub HandlesEach : {A : Type 0} → (Repository → List (Part A) → Result (Repository × Done A) (Refusal A)) → Repository → List (Part A) → Result (Unit {0}) (Refusal A) → Type 0
-HandlesEach run repo parts result = MatchResult result (λ done. run repo parts ≡ Ok (repo, record { replies = []; handled = range_with_len 0 (length parts) })) (λ refusal. (refusal ≡ NoMemory) ⊎ (run repo parts ≡ Err refusal))
+-- The same of code that may leave what it changed where a part is refused.
+abbrev pub PartsGive : {A R D : Type 0} → Result (R × D) (Refusal A) → R → Result D (Refusal A) → Type 0
+PartsGive given new result = MatchResult result (λ done. given ≡ Ok (new, done)) (λ refusal. (refusal ≡ NoMemory) ⊎ (given ≡ Err refusal))

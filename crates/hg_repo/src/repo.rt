@@ -1,42 +1,49 @@
 //! The repository, and the calls that read it.
 
 ghost use Rattle.std.specs.Prelude.{◌≡◌, ◌<◌, ◌^◌, length, IfOk, IsTrue, ◌↔◌, IsSorted};
-ghost use Rattle.std.specs.List.{range_with_len};
-ghost use Rattle.hg_repo.specs.Repository.{heads_of, IsSame};
-ghost use Rattle.hg_repo.specs.Run.{run_of, HandlesEach, RunGives};
+ghost use Rattle.hg_types.specs.Limits.{IsAllowed};
+ghost use Rattle.hg_log.specs.Heads.{AreHeads, ids};
+ghost use Rattle.hg_log.specs.HeadCount.{head_ids, AreSameIds};
+ghost use Rattle.hg_keys.specs.Bookmarks.{node_of};
+ghost use Rattle.hg_keys.specs.Known.{phase_of_node};
+ghost use Rattle.hg_parts.specs.Repository.{empty_with, IsLawful};
+ghost use Rattle.hg_repo.specs.Reading.{can_be_obsolete, is_obsolete, is_predecessor, IsSame};
+ghost use Rattle.hg_repo.specs.Run.{run_of, RunGives};
 ghost use Rattle.hg_repo.specs.Replies.{AreReplies};
-ghost use Rattle.hg_repo.specs.declared.done.Source.{Source};
 
-use crate::done::{Done, Source};
-use crate::handle::handle;
-use crate::refusal::Refusal;
-use hg_types::{NoMemory, Node, Part, Seq, Settings, TryClone};
+use crate::done::Done;
+use crate::run::run_parts;
+use crate::same::are_same;
+use hg_keys::phase_of_node;
+use hg_obs::{Marker, Markers};
+use hg_parts::laws::sound_stores_are_lawful;
+use hg_parts::{Refusal, Source, Store};
+use hg_types::{NoMemory, Node, Part, Phase, Seq, Settings, TryClone};
 use std::alloc::{Allocator, Global};
+use std::hash::RandomState;
 use std::marker::Model;
 
-/// A repository: its settings, and no changeset yet.
+/// A repository: its settings, its changesets with the phase of each, its markers and its bookmarks. Contracts
+/// see the record of them, which is lawful: the law `every_repository_is_lawful` tells so.
 #[derive(Drop)]
 pub struct Repo<A: Allocator = Global> {
     settings: Settings,
+    store: Store<A>,
     alloc: A,
 }
 
 impl<A: Allocator> Model for Repo<A> {
-    ghost use Rattle.hg_repo.specs.Repository.{Repository};
+    ghost use Rattle.hg_parts.specs.Repository.{Repository};
+    ghost use Rattle.hg_parts.specs.Store.{repository_of, IsSound};
 
-    ghost Value = { Repository };
+    ghost Value = { Repository A };
 
-    ghost view = { λ r. record { settings = r.settings } };
+    ghost view = { λ r. repository_of r.settings r.store };
+
+    ghost invariant = { λ r. IsSound r.settings r.store };
 }
 
 impl<A: Allocator> Repo<A> {
-    /// The empty repository, which takes no memory.
-    pub fn new(alloc: A, settings: Settings) -> Self
-        ensures { result ≡ record { settings = settings } }
-    {
-        Repo { settings, alloc }
-    }
-
     /// How it is set up.
     pub fn settings(&self) -> &Settings
         ensures { result.now ≡ self.now.settings }
@@ -44,72 +51,123 @@ impl<A: Allocator> Repo<A> {
         &self.settings
     }
 
-    /// Whether both hold the same.
+    /// It changes nothing: every repository is lawful.
+    pub(crate) fn lawful(&self)
+        ensures { IsLawful self.now }
+    {
+        sound_stores_are_lawful(&self.settings, &self.store);
+    }
+
+    /// The phase of a changeset, if it is known. The null id is known, and public. It takes no memory.
+    pub fn phase_of(&self, node: &Node) -> Option<Phase>
+        ensures { result ≡ phase_of_node self.now.rows self.now.phases node.now }
+    {
+        phase_of_node(&self.store.log, &self.store.phases, node)
+    }
+
+    /// The changeset that the bookmark of that name is on, if there is one. It takes no memory.
+    pub fn bookmark(&self, name: &[u8]) -> Option<Node>
+        ensures { result ≡ node_of self.now.bookmarks name.now }
+    {
+        self.store.bookmarks.get(name)
+    }
+
+    /// The markers, in the order in which they came. It takes no memory.
+    pub fn markers(&self) -> &[Marker<A>]
+        ensures { result.now ≡ self.now.markers }
+    {
+        self.store.markers.list()
+    }
+
+    /// Whether the changeset is obsolete: it is known, not null, not public, and the predecessor of a marker. It
+    /// takes no memory.
+    pub fn is_obsolete(&self, node: &Node) -> bool
+        ensures { result ≡ is_obsolete self.now node.now }
+    {
+        can_be_obsolete(self.phase_of(node)) && is_predecessor(&self.store.markers, node)
+    }
+
+    /// Whether both hold the same: their changesets, phases, markers and bookmarks are equal, and their settings
+    /// may differ. It takes no memory.
     pub fn is_same(&self, other: &Repo<A>) -> bool
         ensures { IsTrue result ↔ IsSame self.now other.now }
     {
-        true
+        are_same(&self.store, &other.store)
     }
 }
 
 impl<A: Allocator + Copy> Repo<A> {
+    /// The empty repository, which takes no memory. The state hashes ids and markers for look-ups: strangers choose
+    /// them, so it is to be random.
+    pub fn new(alloc: A, settings: Settings, state: RandomState) -> Self
+        requires { IsAllowed settings.limits }
+        ensures { result ≡ empty_with settings }
+    {
+        let store = Store::new(alloc, state, settings.limits);
+        Repo {
+            settings,
+            store,
+            alloc,
+        }
+    }
+
     /// The ids of the changesets that are nobody's parent, in ascending order, or the null id alone where
     /// there is no changeset.
     pub fn heads(&self) -> Result<Seq<Node, A>, NoMemory>
-        ensures heads { IfOk result (λ heads. heads ≡ heads_of self.now) }
+        ensures heads { IfOk result (λ heads. AreHeads self.now.rows (ids heads)) }
+        ensures value { IfOk result (λ heads. AreSameIds (ids heads) (head_ids self.now.rows)) }
         ensures ascending { IfOk result (λ heads. IsSorted ⟦<Node as Ord>⟧.cmp heads) }
     {
-        let mut heads = Seq::new(self.alloc);
-        heads.push(Node::NULL)?;
-        Ok(heads)
+        self.store.log.heads(self.alloc)
     }
 
     /// Runs the parts in order, as `run_of` says: all of them, or none and nothing is changed.
     /// `NoMemory` stands in place of that answer where a growth was refused, and nothing is changed. The
     /// replies of a run that is done can be written: at most one for each part, none with a payload.
+    ///
+    /// Parts change the repository in place. Where one is refused, it goes back to what it was before the
+    /// first, for which it takes no memory.
     pub fn run(&mut self, source: Source, parts: &[Part<A>]) -> Result<Done<A>, Refusal<A>>
         requires { length parts.now < 2 ^ 32 }
         ensures gives { RunGives (run_of source) self.old parts.now result self.new }
         ensures replies { IfOk result (λ done. AreReplies (length parts.now) done.replies) }
     {
-        handle_each(self.alloc, self, parts)?;
-        let replies = Seq::new(self.alloc);
-        let handled = places(self.alloc, parts.len())?;
-        Ok(Done { replies, handled })
+        let mark = self.store.mark();
+        match run_parts(self.alloc, &mut self.store, &self.settings, source, parts) {
+            Ok(done) => Ok(done),
+            Err(refusal) => {
+                self.store.back_to(mark);
+                Err(refusal)
+            }
+        }
     }
-}
-
-/// Handles the parts in order, up to the first that is refused.
-fn handle_each<A: Allocator + Copy>(
-    alloc: A,
-    repo: &Repo<A>,
-    parts: &[Part<A>],
-) -> Result<(), Refusal<A>>
-    requires { length parts.now < 2 ^ 32 }
-    ensures { (source : Source) → HandlesEach (run_of source) repo.now parts.now result }
-{
-    for (place, part) in parts.iter().enumerate() {
-        handle(alloc, repo, place as u32, part)?;
-    }
-    Ok(())
-}
-
-/// The places of that many parts.
-#[tactic(auto, using(crate::proofs::Ranges::range_more))]
-fn places<A: Allocator>(alloc: A, count: usize) -> Result<Seq<u32, A>, NoMemory>
-    requires { count < 2 ^ 32 }
-    ensures { IfOk result (λ places. places ≡ range_with_len 0 count) }
-{
-    let mut places = Vec::with_capacity(alloc, count)?;
-    for place in 0..count {
-        places.push_reserved(place as u32);
-    }
-    Ok(Seq::from_vec(places))
 }
 
 impl<A: Allocator + Copy> TryClone<A> for Repo<A> {
     fn try_clone(&self, alloc: A) -> Result<Self, NoMemory> {
         let settings = self.settings;
-        Ok(Repo { settings, alloc })
+        let store = self.store.try_clone(alloc)?;
+        Ok(Repo {
+            settings,
+            store,
+            alloc,
+        })
     }
+}
+
+/// Whether a changeset in that phase, if it is known, may be obsolete.
+fn can_be_obsolete(phase: Option<Phase>) -> bool
+    ensures { result ≡ can_be_obsolete phase }
+{
+    match phase {
+        None | Some(Phase::Public) => false,
+        Some(Phase::Draft | Phase::Secret) => true,
+    }
+}
+
+/// Whether the id is the predecessor of a marker.
+fn is_predecessor<A: Allocator>(markers: &Markers<A>, node: &Node) -> bool
+    ensures { result ≡ is_predecessor markers.now node.now }
+{
+    markers.is_predecessor(node)
 }

@@ -1,17 +1,21 @@
 //! Worked examples of a run, and each of them with memory refused at one growth after another.
 
 ghost use Rattle.std.specs.Prelude.{IfOk, length, ◌≤◌};
+ghost use Rattle.hg_types.specs.Limits.{IsAllowed};
 
 use crate::{Done, RaceText, Refusal, Repo, Source};
 use hg_types::{Limits, NoMemory, Node, Param, Part, Seq, Settings, TryClone};
 use linked_list_allocator::LocalHeap;
-use std::alloc::Allocator;
+use std::alloc::{AllocError, Allocator, Global};
+use std::hash::RandomState;
 use std::test::Fail;
 
 /// The null id, as a payload has it.
 const NULL: [u8; 20] = [0; 20];
 
-fn settings() -> Settings {
+fn settings() -> Settings
+    ensures { IsAllowed result.limits }
+{
     Settings {
         publishing: false,
         limits: Limits::standard(),
@@ -91,48 +95,52 @@ fn is_one_name<A: Allocator>(names: &[Seq<u8, A>], name: &[u8]) -> bool {
     }
 }
 
+/// Whether that part is refused as expected.
+fn is_unsupported<A: Allocator>(
+    place: u32,
+    kind: &[u8],
+    params: &[Seq<u8, A>],
+    expected: Expected,
+) -> bool {
+    match expected {
+        Expected::Unsupported(at, name, param) => {
+            place == at && kind == name && is_one_name(params, param)
+        }
+        Expected::UnknownNames(count) => place == 0 && params.len() == count,
+        _ => false,
+    }
+}
+
+/// Whether the refusal is what is expected, or None where memory was refused.
+fn is_refused<A: Allocator>(refusal: &Refusal<A>, expected: Expected) -> Option<bool> {
+    match refusal {
+        Refusal::NoMemory => None,
+        Refusal::Unsupported {
+            place,
+            kind,
+            params,
+        } => Some(is_unsupported(*place, kind.as_slice(), params.as_slice(), expected)),
+        Refusal::Raced { place, text } => Some(
+            *text == RaceText::HeadsChanged && expected == Expected::Raced(*place),
+        ),
+        Refusal::BadPart { place } => Some(expected == Expected::BadPart(*place)),
+        Refusal::ClientAbort { place } => Some(expected == Expected::ClientAbort(*place)),
+        _ => Some(false),
+    }
+}
+
 /// Whether the answer is what is expected, or None where memory was refused.
 fn is_expected<A: Allocator>(
     answer: &Result<Done<A>, Refusal<A>>,
     expected: Expected,
 ) -> Option<bool> {
-    let same = match (answer, expected) {
-        (Err(Refusal::NoMemory), _) => return None,
-        (Ok(done), Expected::Done(count)) => is_done(done, count),
-        (
-            Err(
-                Refusal::Unsupported {
-                    place,
-                    kind,
-                    params,
-                },
-            ),
-            Expected::Unsupported(at, name, param),
-        ) => *place == at && kind.as_slice() == name && is_one_name(params.as_slice(), param),
-        (
-            Err(
-                Refusal::Unsupported {
-                    place: 0,
-                    params,
-                    ..
-                },
-            ),
-            Expected::UnknownNames(count),
-        ) => params.len() == count,
-        (
-            Err(
-                Refusal::Raced {
-                    place,
-                    text: RaceText::HeadsChanged,
-                },
-            ),
-            Expected::Raced(at),
-        ) => *place == at,
-        (Err(Refusal::BadPart { place }), Expected::BadPart(at)) => *place == at,
-        (Err(Refusal::ClientAbort { place }), Expected::ClientAbort(at)) => *place == at,
-        _ => false,
-    };
-    Some(same)
+    match answer {
+        Ok(done) => match expected {
+            Expected::Done(count) => Some(is_done(done, count)),
+            _ => Some(false),
+        },
+        Err(refusal) => is_refused(refusal, expected),
+    }
 }
 
 /// The worked examples.
@@ -240,74 +248,142 @@ fn parts_of<A: Allocator + Copy>(alloc: A, example: Example) -> Result<Seq<Part<
     list(alloc, first, second)
 }
 
+/// Whether a run of these parts on the empty repository answers as expected, or None where memory was refused.
+fn answer_in<A: Allocator + Copy>(
+    alloc: A,
+    state: RandomState,
+    example: Example,
+    parts: &[Part<A>],
+) -> Option<bool>
+    requires { length parts.now ≤ 2 }
+{
+    let mut repo = Repo::new(alloc, settings(), state);
+    let answer = repo.run(Source::Push, parts);
+    is_expected(&answer, answer_to(example))
+}
+
+/// Runs an example, and tells whether its answer is as expected. The inner None says that memory was refused in the
+/// run, the outer one that it was refused for the parts.
+fn run_in<A: Allocator + Copy>(
+    alloc: A,
+    state: RandomState,
+    example: Example,
+) -> Option<Option<bool>> {
+    match parts_of(alloc, example) {
+        Ok(parts) => Some(answer_in(alloc, state, example, parts.as_slice())),
+        Err(NoMemory) => None,
+    }
+}
+
 #[test]
 fn worked_examples(rt: HostRuntime) -> Result<(), Fail> {
+    let state = RandomState::new(&rt)?;
     for example in EXAMPLES {
-        let parts = parts_of(rt.alloc(), example)?;
-        let mut repo = Repo::new(rt.alloc(), settings());
-        let answer = repo.run(Source::Push, parts.as_slice());
+        let same = run_in(rt.alloc(), state, example) == Some(Some(true));
+        assert!(rt; same, "{example:?}");
+    }
+    Ok(())
+}
+
+/// How often an example was answered, how often memory was refused in its run, and whether all answers were as
+/// expected.
+#[derive(Clone, Copy)]
+struct Tally {
+    answered: u32,
+    refused: u32,
+    same: bool,
+}
+
+/// Runs an example over heaps of every size.
+fn count_answers(alloc: Global, state: RandomState, example: Example) -> Result<Tally, AllocError> {
+    let mut told = Tally {
+        answered: 0,
+        refused: 0,
+        same: true,
+    };
+    for sixteens in 1..64usize {
+        let heap = LocalHeap::new(alloc, sixteens * 16)?;
+        match run_in(&heap, state, example) {
+            Some(Some(same)) => {
+                told.answered = told.answered.saturating_add(1);
+                told.same = told.same & same;
+            }
+            Some(None) => told.refused = told.refused.saturating_add(1),
+            None => {}
+        }
+    }
+    Ok(told)
+}
+
+/// Whether the run takes no memory: a race told without sorting, a fault of format, an abort.
+fn takes_none(example: Example) -> bool {
+    matches!(
+        example,
+        Example::NoParts
+            | Example::RaceOnHeads
+            | Example::RaceAtPlaceOne
+            | Example::TwiceTheNullId
+            | Example::RaceBeforeUnsupported
+            | Example::ShortIds
+            | Example::KnownParameters
+            | Example::ClientAbort
+    )
+}
+
+// Each growth is refused in turn: the answer, or want of memory, and no third. An example whose run takes no
+// memory meets none.
+#[test]
+fn memory_refused_in_turn(rt: HostRuntime) -> Result<(), Fail> {
+    let state = RandomState::new(&rt)?;
+    for example in EXAMPLES {
+        let told = count_answers(rt.alloc(), state, example)?;
+        let none = told.refused == 0;
         assert!(rt;
-            is_expected(&answer, answer_to(example)) == Some(true),
+            told.same & (told.answered > 0) & (none == takes_none(example)),
             "{example:?}"
         );
     }
     Ok(())
 }
 
-/// Runs an example over a heap, and tells whether its answer is as expected. The inner None says that memory
-/// was refused in the run, the outer one that it was refused for the parts.
-fn run_in(heap: &LocalHeap, example: Example) -> Option<Option<bool>> {
-    let parts = parts_of(heap, example).ok()?;
-    let mut repo = Repo::new(heap, settings());
-    let answer = repo.run(Source::Push, parts.as_slice());
-    Some(is_expected(&answer, answer_to(example)))
+fn has_null_head(repo: &Repo) -> bool {
+    match repo.heads() {
+        Ok(heads) => heads.as_slice() == [Node(NULL)].as_slice(),
+        Err(NoMemory) => false,
+    }
 }
 
-// Over heaps of every size, so that each growth is refused in turn: the answer, or want of memory, and no
-// third. An example whose run takes no memory meets none.
-#[test]
-fn memory_refused_in_turn(rt: HostRuntime) -> Result<(), Fail> {
-    for example in EXAMPLES {
-        let mut refused = 0u32;
-        let mut answered = 0u32;
-        for sixteens in 1..64usize {
-            let heap = LocalHeap::new(rt.alloc(), sixteens * 16)?;
-            match run_in(&heap, example) {
-                Some(Some(same)) => {
-                    assert!(rt; same, "{example:?} in {sixteens}");
-                    answered = answered.saturating_add(1);
-                }
-                Some(None) => refused = refused.saturating_add(1),
-                None => {}
-            }
-        }
-        let takes_none = matches!(
-            example,
-            Example::NoParts | Example::ShortIds | Example::KnownParameters | Example::ClientAbort
-        );
-        assert!(rt; answered > 0, "{example:?}");
-        assert!(rt; (refused == 0) == takes_none, "{example:?}");
-    }
-    Ok(())
+fn has_nothing(repo: &Repo, copy: &Repo) -> bool {
+    has_null_head(copy) & (*copy.settings() == settings()) & repo.is_same(copy)
 }
 
 #[test]
 fn the_empty_repository(rt: HostRuntime) -> Result<(), Fail> {
-    let repo = Repo::new(rt.alloc(), settings());
-    let copy = repo.try_clone(rt.alloc())?;
-    let heads = copy.heads()?;
-    assert!(rt; heads.as_slice() == [Node(NULL)].as_slice());
-    assert!(rt; *copy.settings() == settings());
-    assert!(rt; repo.is_same(&copy));
-    assert!(rt; RaceText::HeadsChanged.message() == b"heads changed".as_slice());
+    let state = RandomState::new(&rt)?;
+    let repo = Repo::new(rt.alloc(), settings(), state);
+    let is = match repo.try_clone(rt.alloc()) {
+        Ok(copy) => has_nothing(&repo, &copy),
+        Err(NoMemory) => false,
+    };
+    assert!(rt; is);
     Ok(())
 }
 
 #[test]
+fn a_race_has_its_text(rt: HostRuntime) {
+    assert!(rt; RaceText::HeadsChanged.message() == b"heads changed".as_slice());
+}
+
+fn no_heads(heap: &LocalHeap, state: RandomState) -> bool {
+    Repo::new(heap, settings(), state).heads().is_err()
+}
+
+#[test]
 fn heads_over_a_full_heap(rt: HostRuntime) -> Result<(), Fail> {
+    let state = RandomState::new(&rt)?;
     let heap = LocalHeap::new(rt.alloc(), 16)?;
-    let repo = Repo::new(&heap, settings());
-    assert!(rt; repo.heads().is_err());
+    let refused = no_heads(&heap, state);
+    assert!(rt; refused);
     Ok(())
 }
 
@@ -316,46 +392,110 @@ fn answers<A: Allocator + Copy>(repo: &mut Repo<A>, parts: &[Part<A>], expected:
     parts.len() <= 1_000 && is_expected(&repo.run(Source::Push, parts), expected) == Some(true)
 }
 
-/// Many parts, parameters, names and heads, over a heap of which half is never used: no growth is refused, so none is
-/// told.
+fn many_parts<A: Allocator + Copy>(alloc: A) -> Result<Seq<Part<A>, A>, NoMemory> {
+    let mut parts = Seq::new(alloc);
+    for id in 0..300 {
+        parts.push(part(alloc, b"frob", id, b"")?)?;
+    }
+    Ok(parts)
+}
+
+fn many_names<A: Allocator + Copy>(alloc: A) -> Result<Seq<Part<A>, A>, NoMemory> {
+    let mut named = part(alloc, b"OUTPUT", 0, b"")?;
+    for name in 0..100u8 {
+        named = with_param(alloc, named, true, &[name])?;
+    }
+    list(alloc, named, None)
+}
+
+fn many_heads<A: Allocator + Copy>(alloc: A) -> Result<Seq<Part<A>, A>, NoMemory> {
+    let heads = part(alloc, b"CHECK:HEADS", 0, &[0; 4_000])?;
+    list(alloc, heads, None)
+}
+
+/// Whether runs of these parts, of these names and of these heads answer what is expected.
+fn all_answer<A: Allocator + Copy>(
+    repo: &mut Repo<A>,
+    parts: &[Part<A>],
+    named: &[Part<A>],
+    heads: &[Part<A>],
+) -> bool {
+    let done = answers(repo, parts, Expected::Done(300));
+    let unsupported = answers(repo, named, Expected::UnknownNames(100));
+    let raced = answers(repo, heads, Expected::Raced(0));
+    done & unsupported & raced
+}
+
+fn all_answered(heap: &LocalHeap, state: RandomState) -> Option<bool> {
+    let parts = many_parts(heap).ok()?;
+    let named = many_names(heap).ok()?;
+    let heads = many_heads(heap).ok()?;
+    let mut repo = Repo::new(heap, settings(), state);
+    let is = all_answer(
+        &mut repo,
+        parts.as_slice(),
+        named.as_slice(),
+        heads.as_slice(),
+    );
+    Some(is & (heap.free() > 1 << 17))
+}
+
+/// Many parts, names and heads, over a heap of which half is never used: no growth is refused, so none is told.
 #[test]
 fn near_the_limits(rt: HostRuntime) -> Result<(), Fail> {
+    let state = RandomState::new(&rt)?;
     let heap = LocalHeap::new(rt.alloc(), 1 << 18)?;
-    let mut repo = Repo::new(&heap, settings());
-    let mut parts = Seq::new(&heap);
-    for id in 0..300 {
-        parts.push(part(&heap, b"frob", id, b"")?)?;
-    }
-    assert!(rt; answers(&mut repo, parts.as_slice(), Expected::Done(300)));
-    let mut named = part(&heap, b"OUTPUT", 0, b"")?;
-    for name in 0..100u8 {
-        named = with_param(&heap, named, true, &[name])?;
-    }
-    assert!(rt; answers(&mut repo, &[named], Expected::UnknownNames(100)));
-    let heads = part(&heap, b"CHECK:HEADS", 0, &[0; 4_000])?;
-    assert!(rt; answers(&mut repo, &[heads], Expected::Raced(0)));
-    assert!(rt; heap.free() > 1 << 17);
+    let is = all_answered(&heap, state) == Some(true);
+    assert!(rt; is);
     Ok(())
+}
+
+/// What a run of these parts takes of the heap, where its answer is as expected and the repository stays as it was.
+fn taken_by<'a>(
+    heap: &'a LocalHeap,
+    state: RandomState,
+    example: Example,
+    parts: &[Part<&'a LocalHeap>],
+) -> Option<usize>
+    requires { length parts.now ≤ 2 }
+{
+    let free = heap.free();
+    let mut repo = Repo::new(heap, settings(), state);
+    let answer = repo.run(Source::Push, parts);
+    let same = is_expected(&answer, answer_to(example)) == Some(true);
+    let left = repo.is_same(&Repo::new(heap, settings(), state));
+    let taken = free.saturating_sub(heap.free());
+    if same & left { Some(taken) } else { None }
+}
+
+/// The same of an example.
+fn taken(heap: &LocalHeap, state: RandomState, example: Example) -> Option<usize> {
+    match parts_of(heap, example) {
+        Ok(parts) => taken_by(heap, state, example, parts.as_slice()),
+        Err(NoMemory) => None,
+    }
+}
+
+fn leaves_all(heap: &LocalHeap, state: RandomState) -> bool {
+    let nothing = taken(heap, state, Example::NoParts) == Some(0);
+    let short = taken(heap, state, Example::ShortIds) == Some(0);
+    let aborted = taken(heap, state, Example::ClientAbort) == Some(0);
+    nothing & short & aborted
+}
+
+fn takes_little(heap: &LocalHeap, state: RandomState) -> bool {
+    match taken(heap, state, Example::UnknownAdvisory) {
+        Some(bytes) => bytes <= 16,
+        None => false,
+    }
 }
 
 /// Where memory is to spare, what takes none leaves it, and a run that is done takes four bytes a part.
 #[test]
 fn memory_is_left(rt: HostRuntime) -> Result<(), Fail> {
+    let state = RandomState::new(&rt)?;
     let heap = LocalHeap::new(rt.alloc(), 1 << 12)?;
-    for example in [Example::NoParts, Example::ShortIds, Example::ClientAbort] {
-        let parts = parts_of(&heap, example)?;
-        let free = heap.free();
-        let mut repo = Repo::new(&heap, settings());
-        let copy = repo.try_clone(&heap)?;
-        let answer = repo.run(Source::Push, parts.as_slice());
-        assert!(rt; is_expected(&answer, answer_to(example)) == Some(true));
-        assert!(rt; repo.is_same(&copy));
-        assert_eq!(rt; heap.free(), free);
-    }
-    let parts = parts_of(&heap, Example::UnknownAdvisory)?;
-    let free = heap.free();
-    let answer = Repo::new(&heap, settings()).run(Source::Push, parts.as_slice());
-    assert!(rt; free.saturating_sub(heap.free()) <= 16);
-    assert!(rt; is_expected(&answer, Expected::Done(1)) == Some(true));
+    let is = leaves_all(&heap, state) & takes_little(&heap, state);
+    assert!(rt; is);
     Ok(())
 }

@@ -8,7 +8,7 @@ use Rattle.hg_types.specs.declared.item.What.{What}
 use Rattle.hg_types.specs.declared.item.What.TheVariants.{Part as a_part, End, Cut}
 use Rattle.hg_types.specs.declared.item.Taken.{Taken}
 use Rattle.hg_repo.specs.declared.done.Done.{Done}
-use Rattle.hg_repo.specs.declared.refusal.Refusal.{Refusal}
+use Rattle.hg_parts.specs.declared.refusal.Refusal.{Refusal}
 use Rattle.hg_queue.specs.History.{is_part, of, items_of, IsOrderly}
 use Rattle.hg_push.specs.declared.outcome.Outcome.{Outcome}
 use Rattle.hg_push.specs.declared.outcome.Outcome.TheVariants.{Done as done_with}

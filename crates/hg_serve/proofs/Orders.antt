@@ -5,10 +5,12 @@ use Rattle.std.proofs.lemmas.Bool.Decides.{nat_tests}
 use Rattle.atomic_table.specs.Seated.{TableId}
 use Rattle.hg_types.specs.declared.item.Item.{Item}
 use Rattle.hg_repo.specs.declared.done.Done.{Done}
-use Rattle.hg_repo.specs.declared.refusal.Refusal.{Refusal}
+use Rattle.hg_parts.specs.declared.refusal.Refusal.{Refusal}
 use Rattle.hg_queue.specs.declared.seat.Taker.{Taker}
 use Rattle.hg_types.specs.declared.item.Taken.{Taken}
 use Rattle.hg_queue.specs.History.{has, items_of}
+use Rattle.hg_queue.specs.declared.view.TakerView.{TakerView}
+use Rattle.hg_queue.specs.Steps.{fresh}
 use Rattle.hg_queue.specs.Words.{taker_view, history, taken, IsTakerIn}
 use Rattle.hg_queue.proofs.CallerLemmas.{items_settle, has_here}
 use Rattle.hg_push.specs.declared.outcome.Outcome.{Outcome}
@@ -42,6 +44,18 @@ same_again a b c one two = record {
   noted = two.noted ∙ one.noted;
   joined = two.joined ∙ one.joined;
   awaited = two.awaited ∙ one.awaited;
+}
+
+-- a desk at which nothing was taken, over a book that holds nothing
+pub in_order_new : {A : Type 0} (id : TableId) (capacity : ℕ) (first repo : RepositoryOf A) (b : BookOf A) (t : Taker A)
+    → IsTakerIn id capacity t → taker_view t ≡ fresh capacity → history t ≡ [] → repo ≡ first → Holds run_push repo [] b → IsInOrder id capacity first b t None
+in_order_new {A} id capacity first repo b t taker view empty named holds = record {
+  taker = taker;
+  held = subst (λ (r : RepositoryOf A). Holds run_push r (newest_first (history t)) b) named
+      (subst (λ (h : List (Taken A)). Holds run_push repo (newest_first h) b) (sym empty) holds);
+  opened = λ p noted. absurd (true≢false (sym noted ∙ ap (λ (v : TakerView A). has p v.noted) view));
+  row = λ p noted joined. absurd (true≢false (sym noted ∙ ap (λ (v : TakerView A). has p v.noted) view));
+  spare = λ n none. absurd cc;
 }
 
 -- the same pushes are opened

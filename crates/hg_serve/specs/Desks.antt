@@ -5,7 +5,7 @@ use Rattle.hg_types.specs.declared.item.Item.{Item}
 use Rattle.hg_types.specs.declared.item.Taken.{Taken}
 use Rattle.hg_types.specs.Limits.{IsAllowed}
 use Rattle.hg_repo.specs.declared.done.Done.{Done}
-use Rattle.hg_repo.specs.declared.refusal.Refusal.{Refusal}
+use Rattle.hg_parts.specs.declared.refusal.Refusal.{Refusal}
 use Rattle.hg_queue.specs.declared.queue.PartQueue.{PartQueue}
 use Rattle.hg_queue.specs.declared.seat.Taker.{Taker}
 use Rattle.hg_queue.specs.declared.view.Claim.{Claim}

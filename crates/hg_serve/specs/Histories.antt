@@ -2,7 +2,7 @@
 use Rattle.std.specs.Prelude.{◌≡◌, ℕ, List, [], ◌∷◌, ◌++◌, reverse, Option, None}
 use Rattle.hg_types.specs.declared.item.Taken.{Taken}
 use Rattle.hg_repo.specs.declared.done.Done.{Done}
-use Rattle.hg_repo.specs.declared.refusal.Refusal.{Refusal}
+use Rattle.hg_parts.specs.declared.refusal.Refusal.{Refusal}
 use Rattle.hg_push.specs.declared.outcome.Outcome.{Outcome}
 use Rattle.hg_push.specs.History.{History, Serial, serial, outcome}
 use Rattle.hg_push.specs.Run.{RepositoryOf, run_push}

@@ -7,12 +7,12 @@ use std::marker::{Model, PhantomData};
 
 /// A connection between pushes. Contracts see the history that it has seen. An opening spends it, or the
 /// server's end.
-pub struct Client<J: Naming, A: Allocator = Global> {
+pub struct Client<J: Naming<A>, A: Allocator = Global> {
     pub(crate) visitor: Visitor<A>,
     pub(crate) of: PhantomData<J>,
 }
 
-impl<J: Naming, A: Allocator> Model for Client<J, A> {
+impl<J: Naming<A>, A: Allocator> Model for Client<J, A> {
     ghost use Rattle.std.specs.Prelude.{List};
     ghost use Rattle.hg_types.specs.declared.item.Taken.{Taken};
     ghost use Rattle.hg_queue.specs.Words.{seen, IsVisitorIn};
@@ -26,13 +26,13 @@ impl<J: Naming, A: Allocator> Model for Client<J, A> {
 
 /// A connection whose push is open. Contracts see what its push put, and the history that its client had
 /// seen. Its mark spends it.
-pub struct Sender<J: Naming, A: Allocator = Global> {
+pub struct Sender<J: Naming<A>, A: Allocator = Global> {
     pub(crate) putter: Putter<A>,
     pub(crate) visitor: Visitor<A>,
     pub(crate) of: PhantomData<J>,
 }
 
-impl<J: Naming, A: Allocator> Model for Sender<J, A> {
+impl<J: Naming<A>, A: Allocator> Model for Sender<J, A> {
     ghost use Rattle.hg_queue.specs.Words.{putter_view, seen, IsPutterIn, IsVisitorIn};
     ghost use Rattle.hg_serve.specs.Clients.{SenderView};
 
@@ -45,14 +45,14 @@ impl<J: Naming, A: Allocator> Model for Sender<J, A> {
 
 /// A connection whose push has its mark. Contracts see all that its push put, and the history that its
 /// client had seen. Its answer spends it.
-pub struct Ended<J: Naming, A: Allocator = Global> {
+pub struct Ended<J: Naming<A>, A: Allocator = Global> {
     pub(crate) marked: Marked<A>,
     pub(crate) visitor: Visitor<A>,
     pub(crate) push: u32,
     pub(crate) of: PhantomData<J>,
 }
 
-impl<J: Naming, A: Allocator> Model for Ended<J, A> {
+impl<J: Naming<A>, A: Allocator> Model for Ended<J, A> {
     ghost use Rattle.std.specs.Prelude.{◌≡◌};
     ghost use Rattle.hg_queue.specs.Words.{claim_at, seen, IsMarkedIn, IsVisitorIn};
     ghost use Rattle.hg_serve.specs.Clients.{EndedView};

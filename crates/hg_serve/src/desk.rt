@@ -45,14 +45,14 @@ pub struct Closed<A: Allocator = Global> {
 
 /// The book of pushes, the taker of the queue, and a number that is opened and has no putter yet, if there
 /// is one. What holds of the three is `IsInOrder`; it holds each time the lock is got.
-pub struct Desk<J: Naming, A: Allocator = Global> {
+pub struct Desk<J: Naming<A>, A: Allocator = Global> {
     book: Book<A>,
     taker: Taker<A>,
     kept: Option<u32>,
     of: PhantomData<J>,
 }
 
-impl<J: Naming, A: Allocator> Model for Desk<J, A> {
+impl<J: Naming<A>, A: Allocator> Model for Desk<J, A> {
     ghost use Rattle.hg_serve.specs.Desks.{DeskView, desk_view, IsInOrder};
 
     ghost Value = { DeskView A };
@@ -62,7 +62,7 @@ impl<J: Naming, A: Allocator> Model for Desk<J, A> {
     ghost invariant = { λ d. IsInOrder J.table J.capacity J.first d.book d.taker d.kept };
 }
 
-impl<J: Naming, A: Allocator + Copy> Desk<J, A> {
+impl<J: Naming<A>, A: Allocator + Copy> Desk<J, A> {
     /// A desk over that repository, at which nothing was taken. The repository and the taker are those of
     /// the desk's name, and the taker is new.
     pub fn new(alloc: A, repo: Repo<A>, taker: Taker<A>) -> Desk<J, A>

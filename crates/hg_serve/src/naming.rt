@@ -1,22 +1,24 @@
 //! The name that ties the values of one server together.
 
+use std::alloc::{Allocator, Global};
 use std::marker::Brand;
 
 /// Which queue it is, how many items that holds at most, and which repository was the first. None of the
 /// three has a value when the program runs: who calls a function over a `J: Naming` picks them for that call.
-pub trait Naming {
+pub trait Naming<A: Allocator> {
     ghost use Rattle.std.specs.Prelude.{ℕ};
     ghost use Rattle.atomic_table.specs.Seated.{TableId};
-    ghost use Rattle.hg_repo.specs.Repository.{Repository};
+    ghost use Rattle.hg_parts.specs.Repository.{Repository};
 
     ghost table: { TableId };
 
     ghost capacity: { ℕ };
 
-    ghost first: { Repository };
+    ghost first: { Repository A };
 }
 
-impl Naming for Brand {
+/// The names of servers over the global allocator.
+impl Naming<Global> for Brand {
     ghost use Rattle.hg_serve.specs.Names.{no_table, no_repository};
 
     ghost table = { no_table };

@@ -2,6 +2,7 @@
 
 ghost use Rattle.std.specs.Prelude.{◌≡◌, ◌≤◌, [], IfOk, IfErr, MatchResult, All, length};
 ghost use mathlib.Core.List.{IsPrefix};
+ghost use Rattle.hg_types.specs.Limits.{IsAllowed};
 ghost use Rattle.hg_types.specs.declared.item.What.TheVariants.{Part as a_part, End, Cut};
 ghost use Rattle.hg_queue.specs.History.{of, items_of};
 ghost use Rattle.hg_queue.specs.Steps.{putter};
@@ -53,13 +54,13 @@ impl<A: Allocator> fmt::Debug for PutFault<A> {
 }
 
 /// A queue of parts that threads put to without a lock, and a desk at which they are taken under one.
-pub struct Server<J: Naming, A: Allocator = Global> {
+pub struct Server<J: Naming<A>, A: Allocator = Global> {
     queue: PartQueue<A>,
     desk: Mutex<Desk<J, A>>,
     limits: Limits,
 }
 
-impl<J: Naming, A: Allocator> Model for Server<J, A> {
+impl<J: Naming<A>, A: Allocator> Model for Server<J, A> {
     ghost use Rattle.std.specs.Prelude.{◌≡◌, ◌≤◌};
     ghost use Rattle.hg_types.specs.Limits.{IsAllowed};
     ghost use Rattle.hg_types.specs.declared.limits.Limits.{Limits as LimitsValue};
@@ -73,7 +74,7 @@ impl<J: Naming, A: Allocator> Model for Server<J, A> {
         × (s.limits ≡ J.first.settings.limits) × IsAllowed s.limits };
 }
 
-impl<J: Naming, A: Allocator + Copy> Server<J, A> {
+impl<J: Naming<A>, A: Allocator + Copy> Server<J, A> {
     /// A server of that repository and queue, which are those of its name. The queue and its taker are new.
     pub fn new(alloc: A, repo: Repo<A>, queue: PartQueue<A>, taker: Taker<A>) -> Server<J, A>
         requires { Begins J.table J.capacity J.first queue taker repo }
@@ -85,6 +86,15 @@ impl<J: Naming, A: Allocator + Copy> Server<J, A> {
             desk: Mutex::new(Desk::new(alloc, repo, taker)),
             limits,
         }
+    }
+
+    /// The limits of the first repository's settings.
+    pub fn limits(&self) -> &Limits
+        ensures value { result.now ≡ self.now }
+        ensures first { self.now ≡ J.first.settings.limits }
+        ensures allowed { IsAllowed self.now }
+    {
+        &self.limits
     }
 
     /// The lock. A thread looks at it a while before it sleeps, since it is held for short.

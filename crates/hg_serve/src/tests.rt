@@ -8,7 +8,6 @@ ghost use Rattle.hg_serve.specs.Desks.{Begins};
 mod bound;
 mod limits;
 mod locked;
-mod memory;
 mod order;
 mod threads;
 
@@ -18,8 +17,10 @@ use hg_queue::{PartQueue, Taker};
 use hg_repo::{Refusal, Repo, Source};
 use hg_types::{CutReason, Limits, NoMemory, Part, Seq, Settings};
 use std::alloc::{AllocFailed, Allocator, Global};
+use std::hash::RandomState;
 use std::marker::Brand;
 use std::process::Abort;
+use std::random::RandomSource;
 use std::sync::Wait;
 use std::test::*;
 use std::thread::Threads;
@@ -60,7 +61,7 @@ fn part<A: Allocator + Copy, R: Abort>(rt: &R, alloc: A, kind: &[u8], payload: &
     }
 }
 
-fn client<J: Naming, A: Allocator + Copy, R: Wait + Abort>(
+fn client<J: Naming<A>, A: Allocator + Copy, R: Wait + Abort>(
     rt: &R,
     server: &Server<J, A>,
 ) -> Client<J, A> {
@@ -70,7 +71,7 @@ fn client<J: Naming, A: Allocator + Copy, R: Wait + Abort>(
     }
 }
 
-fn open<J: Naming, A: Allocator + Copy, R: Wait + Abort>(
+fn open<J: Naming<A>, A: Allocator + Copy, R: Wait + Abort>(
     rt: &R,
     server: &Server<J, A>,
     client: Client<J, A>,
@@ -81,7 +82,7 @@ fn open<J: Naming, A: Allocator + Copy, R: Wait + Abort>(
     }
 }
 
-fn put<J: Naming, A: Allocator + Copy, R: Wait + Abort>(
+fn put<J: Naming<A>, A: Allocator + Copy, R: Wait + Abort>(
     rt: &R,
     server: &Server<J, A>,
     sender: &mut Sender<J, A>,
@@ -91,7 +92,7 @@ fn put<J: Naming, A: Allocator + Copy, R: Wait + Abort>(
 }
 
 /// Ends the push and waits for its answer.
-fn finish<J: Naming, A: Allocator + Copy, R: Wait>(
+fn finish<J: Naming<A>, A: Allocator + Copy, R: Wait>(
     rt: &R,
     server: &Server<J, A>,
     sender: Sender<J, A>,
@@ -100,7 +101,7 @@ fn finish<J: Naming, A: Allocator + Copy, R: Wait>(
     server.answer(rt, ended, &mut NoGate)
 }
 
-fn add<J: Naming, A: Allocator, R: Abort>(
+fn add<J: Naming<A>, A: Allocator, R: Abort>(
     rt: &R,
     clients: &mut Vec<Client<J, A>, A>,
     client: Client<J, A>,
@@ -140,7 +141,7 @@ enum Scene {
 }
 
 /// Plays on a server of that name, and closes it.
-fn play<J: Naming + Send + Sync, R: Threads + Wait + Abort + Sync>(
+fn play<J: Naming<Global> + Send + Sync, R: Threads + Wait + Abort + Sync>(
     rt: &R,
     alloc: Global,
     queue: PartQueue,
@@ -165,8 +166,15 @@ fn play<J: Naming + Send + Sync, R: Threads + Wait + Abort + Sync>(
     server.close(clients)
 }
 
+fn state<R: RandomSource + Abort>(rt: &R) -> RandomState {
+    match RandomState::new(rt) {
+        Ok(state) => state,
+        Err(_) => panic!(*rt; "no random bytes"),
+    }
+}
+
 /// Plays on a server over an empty repository, and closes it.
-fn played<R: Threads + Wait + Abort + Sync>(
+fn played<R: Threads + Wait + RandomSource + Abort + Sync>(
     rt: &R,
     alloc: Global,
     capacity: u32,
@@ -177,7 +185,14 @@ fn played<R: Threads + Wait + Abort + Sync>(
 {
     match PartQueue::new(alloc, capacity) {
         Ok((queue, taker)) => {
-            play::<Brand, R>(rt, alloc, queue, taker, Repo::new(alloc, settings), scene)
+            play::<Brand, R>(
+                rt,
+                alloc,
+                queue,
+                taker,
+                Repo::new(alloc, settings, state(rt)),
+                scene,
+            )
         }
         Err(_) => panic!(rt; "no memory for a queue"),
     }

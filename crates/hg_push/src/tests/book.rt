@@ -3,165 +3,174 @@
 use super::*;
 use crate::calls::{Answer, Call, make_calls};
 use crate::{OpenFault, Standing};
-use hg_types::{CutReason, TryClone};
+use hg_types::TryClone;
 use std::test::*;
 
-/// A0 B0 A1 B1 B end A end, where the second part of A is a race on heads, and that of B is none. The items are clones, and an advisory parameter of B's first part is ignored.
+/// Puts a clone of the part's item, where the part was made. It is false where memory was refused.
+fn put_clone<A: Allocator + Copy>(
+    alloc: A,
+    book: &mut Book<A>,
+    push: u32,
+    index: u32,
+    part: Result<Part<A>, NoMemory>,
+) -> bool {
+    match part {
+        Ok(part) => match a_part(push, index, part).try_clone(alloc) {
+            Ok(item) => !book.step(item),
+            Err(NoMemory) => false,
+        },
+        Err(NoMemory) => false,
+    }
+}
+
+/// Whether the journal names these pushes.
+fn has_journal<A: Allocator + Copy>(book: &Book<A>, pushes: &[u32]) -> bool {
+    book.journal() == pushes
+}
+
+/// Whether the first push is aborted and the second is done.
+fn second_is_done<A: Allocator + Copy>(book: &Book<A>) -> bool {
+    book.standing(0) == Standing::Aborted && book.standing(1) == Standing::Done
+}
+
+/// Whether the book hands out the repository and a journal of that push alone.
+fn is_handed_out<A: Allocator + Copy>(book: Book<A>, push: u32) -> bool {
+    let (repo, journal) = book.into_parts();
+    journal.as_slice() == [push].as_slice() && !repo.settings().publishing
+}
+
+/// A0 B0 A1 B1 B end A end, where the second part of A is a race on heads, and that of B is none. The items are clones, and
+/// an advisory parameter of B's first part is ignored.
 #[test]
 fn two_pushes_interleaved(rt: HostRuntime) -> Result<(), Fail> {
+    let state = RandomState::new(&rt)?;
     let alloc = rt.alloc();
-    let mut book = empty_book(alloc);
-    let (a, b) = (book.open()?, book.open()?);
-    assert_eq!(rt; (a, b), (0, 1));
-    let items = [
-        a_part(a, 0, part(alloc, b"REPLYCAPS", b"")?),
-        a_part(b, 0, part_with(alloc, b"REPLYCAPS", false, b"x", b"1")?),
-        a_part(a, 1, part(alloc, b"CHECK:HEADS", b"")?),
-        a_part(b, 1, part(alloc, b"CHECK:HEADS", &NULL)?),
-        an_end(b, 2),
-        an_end(a, 2),
-    ];
-    for item in &items {
-        let refused = book.step(item.try_clone(alloc)?);
-        assert!(rt; !refused);
-    }
-    assert_eq!(rt; book.journal(), [1].as_slice());
-    assert_eq!(rt;
-        (book.standing(a), book.standing(b)),
-        (Standing::Aborted, Standing::Done)
-    );
-    let (of_a, of_b) = (book.take_reply(a), book.take_reply(b));
-    assert!(rt; is_race(&of_a, 1));
-    assert!(rt; is_done(&of_b, 2));
-    assert_eq!(rt;
-        (book.standing(a), book.standing(b)),
-        (Standing::Aborted, Standing::Done)
-    );
-    assert!(rt; book.take_reply(a).is_none());
-    let (repo, journal) = book.into_parts();
-    assert_eq!(rt; journal.as_slice(), [1].as_slice());
-    assert!(rt; !repo.settings().publishing);
+    let mut book = empty_book(alloc, state);
+    let opened = book.open() == Ok(0) && book.open() == Ok(1);
+    let (caps, heads) = (b"REPLYCAPS".as_slice(), b"CHECK:HEADS".as_slice());
+    let ignored = part_with(alloc, caps, false, b"x", b"1");
+    let first = put_clone(alloc, &mut book, 0, 0, part(alloc, caps, b""))
+        && put_clone(alloc, &mut book, 1, 0, ignored);
+    let second = put_clone(alloc, &mut book, 0, 1, part(alloc, heads, b""))
+        && put_clone(alloc, &mut book, 1, 1, part(alloc, heads, &NULL));
+    let ended = end(&mut book, 1, 2) && end(&mut book, 0, 2);
+    assert!(rt; opened && first && second && ended);
+    let before = has_journal(&book, &[1]) && second_is_done(&book);
+    let told = tells_race(&mut book, 0, 1) && tells_done(&mut book, 1, 2);
+    let after = second_is_done(&book) && tells_nothing(&mut book, 0);
+    assert!(rt; before && told && after && is_handed_out(book, 1));
     Ok(())
 }
 
 /// The empty bundle is a push without parts.
 #[test]
 fn empty_bundle(rt: HostRuntime) -> Result<(), Fail> {
-    let alloc = rt.alloc();
-    let mut book = empty_book(alloc);
-    let push = book.open()?;
-    assert_eq!(rt; book.standing(push), Standing::Open);
-    assert!(rt; book.take_reply(push).is_none());
-    assert!(rt; !book.step(an_end(push, 0)));
-    assert!(rt; is_done(&book.take_reply(push), 0));
-    assert_eq!(rt; book.journal(), [0].as_slice());
+    let state = RandomState::new(&rt)?;
+    let mut book = empty_book(rt.alloc(), state);
+    let opened = book.open() == Ok(0) && book.standing(0) == Standing::Open;
+    let ended = tells_nothing(&mut book, 0) && end(&mut book, 0, 0);
+    let told = tells_done(&mut book, 0, 0) && has_journal(&book, &[0]);
+    assert!(rt; opened && ended && told);
     Ok(())
 }
 
 #[test]
 fn race_on_heads(rt: HostRuntime) -> Result<(), Fail> {
+    let state = RandomState::new(&rt)?;
     let alloc = rt.alloc();
-    let mut book = empty_book(alloc);
-    let push = book.open()?;
-    assert!(rt; !book.step(a_part(push, 0, part(alloc, b"CHECK:HEADS", b"")?)));
-    assert!(rt; !book.step(an_end(push, 1)));
-    assert!(rt; is_race(&book.take_reply(push), 0));
-    assert_eq!(rt; book.journal(), [0; 0].as_slice());
-    assert!(rt; book.repo().is_same(&Repo::new(alloc, settings(0, 1))));
+    let mut book = empty_book(alloc, state);
+    let opened = book.open() == Ok(0);
+    let put = put(&mut book, 0, 0, part(alloc, b"CHECK:HEADS", b"")) && end(&mut book, 0, 1);
+    let told = tells_race(&mut book, 0, 0) && has_journal(&book, &[]);
+    let other = Repo::new(alloc, settings(0, 1), state);
+    assert!(rt; opened && put && told && book.repo().is_same(&other));
     Ok(())
 }
 
 #[test]
 fn too_many_rows(rt: HostRuntime) -> Result<(), Fail> {
-    let mut book = book_from(rt.alloc(), 0, 1);
-    assert_eq!(rt; book.open(), Ok(0));
-    assert_eq!(rt; book.open(), Err(OpenFault::TooManyOpen));
+    let state = RandomState::new(&rt)?;
+    let mut book = book_from(rt.alloc(), state, 0, 1);
+    assert!(rt; book.open() == Ok(0) && book.open() == Err(OpenFault::TooManyOpen));
     Ok(())
 }
 
 /// A row is free again once its reply was taken, and the numbers end.
 #[test]
 fn last_push_number(rt: HostRuntime) -> Result<(), Fail> {
-    let mut book = book_from(rt.alloc(), 4_294_967_294, 1);
-    assert_eq!(rt; book.open(), Ok(4_294_967_294));
-    assert!(rt; !book.step(an_end(4_294_967_294, 0)));
-    assert!(rt; is_done(&book.take_reply(4_294_967_294), 0));
-    assert_eq!(rt; book.open(), Err(OpenFault::Exhausted));
+    let state = RandomState::new(&rt)?;
+    let last = 4_294_967_294;
+    let mut book = book_from(rt.alloc(), state, last, 1);
+    let ended = book.open() == Ok(last) && end(&mut book, last, 0);
+    let told = tells_done(&mut book, last, 0);
+    assert!(rt; ended && told && book.open() == Err(OpenFault::Exhausted));
     Ok(())
 }
 
 /// An end mark that counts too many parts, then items of a push that is closed and of one that was never opened.
 #[test]
 fn items_by_hand(rt: HostRuntime) -> Result<(), Fail> {
+    let state = RandomState::new(&rt)?;
     let alloc = rt.alloc();
-    let mut book = empty_book(alloc);
-    let push = book.open()?;
-    assert!(rt; !book.step(a_part(push, 0, part(alloc, b"output", b"")?)));
-    assert!(rt; !book.step(an_end(push, 2)));
-    assert_eq!(rt; book.standing(push), Standing::Aborted);
-    assert!(rt; !book.step(a_part(push, 1, part(alloc, b"output", b"")?)));
-    assert!(rt; !book.step(a_part(9, 0, part(alloc, b"output", b"")?)));
-    assert_eq!(rt; book.standing(9), Standing::Unknown);
-    assert!(rt;
-        matches!(
-            book.take_reply(push),
-            Some(Outcome::Aborted(Reason::WrongIndex))
-        )
-    );
-    assert!(rt; book.take_reply(9).is_none());
+    let mut book = empty_book(alloc, state);
+    let opened = book.open() == Ok(0);
+    let closed = put(&mut book, 0, 0, part(alloc, b"output", b"")) && end(&mut book, 0, 2);
+    let aborted = book.standing(0) == Standing::Aborted;
+    let late = put(&mut book, 0, 1, part(alloc, b"output", b""));
+    let stray = put(&mut book, 9, 0, part(alloc, b"output", b""));
+    let unknown = book.standing(9) == Standing::Unknown;
+    let told = tells_wrong_index(&mut book, 0) && tells_nothing(&mut book, 9);
+    assert!(rt; opened && closed && aborted && late && stray && unknown && told);
     Ok(())
 }
 
 /// Parts that come after a cut are dropped, and so is a later end mark.
 #[test]
 fn parts_after_a_cut(rt: HostRuntime) -> Result<(), Fail> {
+    let state = RandomState::new(&rt)?;
     let alloc = rt.alloc();
-    let mut book = empty_book(alloc);
-    let push = book.open()?;
-    let cut = Item {
-        push,
-        index: 0,
-        what: What::Cut(CutReason::ReadFailed),
-    };
-    assert!(rt; !book.step(cut));
-    assert!(rt; !book.step(a_part(push, 0, part(alloc, b"output", b"")?)));
-    assert!(rt; !book.step(an_end(push, 1)));
-    assert!(rt;
-        matches!(
-            book.take_reply(push),
-            Some(Outcome::Aborted(Reason::Cut(CutReason::ReadFailed)))
-        )
-    );
-    assert_eq!(rt; book.journal(), [0; 0].as_slice());
+    let mut book = empty_book(alloc, state);
+    let opened = book.open() == Ok(0) && cut(&mut book, 0, 0, CutReason::ReadFailed);
+    let late = put(&mut book, 0, 0, part(alloc, b"output", b"")) && end(&mut book, 0, 1);
+    let told = tells_cut(&mut book, 0, CutReason::ReadFailed) && has_journal(&book, &[]);
+    assert!(rt; opened && late && told);
     Ok(())
 }
 
-#[test]
-fn a_list_of_calls(rt: HostRuntime) -> Result<(), Fail> {
-    let alloc = rt.alloc();
-    let mut book = book_from(alloc, 7, 1);
+/// Two openings in a book of one row that begins at 7, a reply too early, an end mark, and the reply.
+fn five_calls<A: Allocator + Copy>(alloc: A) -> Result<Vec<Call<A>, A>, NoMemory> {
     let mut calls = Vec::new(alloc);
     calls.push(Call::Open)?;
     calls.push(Call::Open)?;
     calls.push(Call::TakeReply(7))?;
     calls.push(Call::Step(an_end(7, 0)))?;
     calls.push(Call::TakeReply(7))?;
-    let answers = make_calls(alloc, &mut book, calls)?;
-    match answers.as_slice() {
+    Ok(calls)
+}
+
+fn are_answered<A: Allocator>(answers: &[Answer<Done<A>, Refusal<A>>]) -> bool {
+    match answers {
         [
-            Answer::Opened(Ok(push)),
-            Answer::Opened(Err(fault)),
+            Answer::Opened(Ok(7)),
+            Answer::Opened(Err(OpenFault::TooManyOpen)),
             Answer::Reply(None),
-            Answer::Stepped(refused),
+            Answer::Stepped(false),
             Answer::Reply(reply),
-        ] => {
-            assert_eq!(rt;
-                (*push, *fault, *refused),
-                (7, OpenFault::TooManyOpen, false)
-            );
-            assert!(rt; is_done(reply, 0));
-        }
-        _ => panic!(rt; "other answers"),
+        ] => is_done(reply, 0),
+        _ => false,
     }
+}
+
+#[test]
+fn a_list_of_calls(rt: HostRuntime) -> Result<(), Fail> {
+    let state = RandomState::new(&rt)?;
+    let alloc = rt.alloc();
+    let calls = five_calls(alloc)?;
+    let mut book = book_from(alloc, state, 7, 1);
+    let all = match make_calls(alloc, &mut book, calls) {
+        Ok(answers) => are_answered(answers.as_slice()),
+        Err(NoMemory) => false,
+    };
+    assert!(rt; all);
     Ok(())
 }

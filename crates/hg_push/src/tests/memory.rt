@@ -2,84 +2,69 @@
 
 use super::*;
 use crate::{OpenFault, Standing, reply_bytes};
-use hg_types::CutReason;
 use linked_list_allocator::LocalHeap;
 use std::alloc::Global;
-use std::process::Abort;
 use std::test::*;
 
-/// What came of the push whose first part may be refused.
+/// What came of two pushes over a small heap.
 #[derive(Clone, Copy, PartialEq, Eq)]
 enum First {
+    /// The first part was not put.
+    Early,
     Taken,
     Refused,
+    /// The first part was refused, and then something else came than should.
+    Wrong,
+}
+
+fn output<A: Allocator + Copy>(alloc: A) -> Result<Part<A>, NoMemory> {
+    part(alloc, b"output", b"")
+}
+
+fn two_parts<A: Allocator + Copy>(alloc: A) -> Result<(Part<A>, Part<A>), NoMemory> {
+    let first = output(alloc)?;
+    let second = output(alloc)?;
+    Ok((first, second))
 }
 
 /// Two pushes. Where memory is refused for the first part of one, it is aborted, its later items are dropped, and the other is done.
-fn first_part<'a>(rt: &impl Abort, heap: &'a LocalHeap) -> Option<First> {
-    let mut book = empty_book(heap);
-    let a = book.open().ok()?;
-    let b = book.open().ok()?;
-    let first = part(heap, b"output", b"").ok()?;
-    let second = part(heap, b"output", b"").ok()?;
-    if !book.step(a_part(a, 0, first)) {
-        return Some(First::Taken);
+fn first_part(heap: &LocalHeap, state: RandomState) -> First {
+    let mut book = empty_book(heap, state);
+    if book.open() != Ok(0) || book.open() != Ok(1) {
+        return First::Early;
     }
-    assert_eq!(*rt; book.standing(a), Standing::Aborted);
-    assert!(*rt; !book.step(a_part(a, 1, second)));
-    assert!(*rt; !book.step(an_end(a, 2)));
-    let of_a = book.take_reply(a);
-    assert!(*rt; is_without_memory(&of_a));
-    assert!(*rt; !book.step(an_end(b, 0)));
-    let of_b = book.take_reply(b);
-    assert!(*rt; is_done(&of_b, 0));
-    assert_eq!(*rt; book.journal(), [b].as_slice());
-    Some(First::Refused)
+    let Ok((first, second)) = two_parts(heap) else {
+        return First::Early;
+    };
+    if put(&mut book, 0, 0, Ok(first)) {
+        return First::Taken;
+    }
+    let aborted = book.standing(0) == Standing::Aborted;
+    let dropped = put(&mut book, 0, 1, Ok(second)) && end(&mut book, 0, 2);
+    let told = tells_no_memory(&mut book, 0) && end(&mut book, 1, 0);
+    let done = tells_done(&mut book, 1, 0) && book.journal() == [1].as_slice();
+    if aborted && dropped && told && done {
+        First::Refused
+    } else {
+        First::Wrong
+    }
 }
 
 #[test]
 fn the_first_part_is_refused(rt: HostRuntime) -> Result<(), Fail> {
-    let mut taken = 0u32;
-    let mut refused = 0u32;
+    let state = RandomState::new(&rt)?;
+    let mut seen = [false; 2];
     for sixteens in 1..256usize {
         let heap = LocalHeap::new(rt.alloc(), sixteens * 16)?;
-        match first_part(&rt, &heap) {
-            Some(First::Taken) => taken = taken.saturating_add(1),
-            Some(First::Refused) => refused = refused.saturating_add(1),
-            None => {}
+        match first_part(&heap, state) {
+            First::Early => {}
+            First::Taken => seen[0] = true,
+            First::Refused => seen[1] = true,
+            First::Wrong => assert!(rt; false, "with {sixteens} times 16 bytes"),
         }
     }
-    assert!(rt; taken > 0);
-    assert!(rt; refused > 0);
+    assert!(rt; seen == [true; 2]);
     Ok(())
-}
-
-/// A growth or an opening was refused.
-#[derive(Clone, Copy, Debug, PartialEq, Eq)]
-struct Refused;
-
-impl From<NoMemory> for Refused {
-    fn from(_e: NoMemory) -> Self {
-        Refused
-    }
-}
-
-impl From<OpenFault> for Refused {
-    fn from(_e: OpenFault) -> Self {
-        Refused
-    }
-}
-
-/// Whether the push was closed by that mark.
-fn is_closed_by<A: Allocator>(
-    outcome: &Option<Outcome<Done<A>, Refusal<A>>>,
-    mark: What<A>,
-) -> bool {
-    match (outcome, mark) {
-        (Some(Outcome::Aborted(Reason::Cut(reason))), What::Cut(asked)) => *reason == asked,
-        (Some(Outcome::Aborted(Reason::WrongIndex)), What::End) => true,
-        _ => false,
-    }
 }
 
 /// Blocks of a heap.
@@ -89,6 +74,12 @@ struct Blocks<'a> {
 }
 
 impl<'a> Blocks<'a> {
+    fn new(alloc: Global) -> Blocks<'a> {
+        Blocks {
+            blocks: Vec::new(alloc),
+        }
+    }
+
     /// Takes a block of 16 bytes, and says whether there was one.
     fn take(&mut self, heap: &'a LocalHeap) -> bool {
         match Vec::with_capacity(heap, 1) {
@@ -107,165 +98,166 @@ impl<'a> Blocks<'a> {
     }
 }
 
-/// A book over a heap that has no memory left. Push 0 is done, push 1 has one part, push 2 has none.
-#[derive(Drop)]
-struct Full<'a> {
-    book: Book<&'a LocalHeap>,
-    blocks: Blocks<'a>,
+/// Opens three pushes, ends the first, and puts a part into the second: push 0 is done, push 1 has one part, push 2 has
+/// none. It is false where memory was refused.
+fn begin<'a>(book: &mut Book<&'a LocalHeap>, heap: &'a LocalHeap) -> bool {
+    let opened = book.open() == Ok(0) && book.open() == Ok(1) && book.open() == Ok(2);
+    opened && end(book, 0, 0) && put(book, 1, 0, output(heap))
 }
 
-/// Opens three pushes, ends the first, and puts a part into the second.
-fn begin<'a>(book: &mut Book<&'a LocalHeap>, heap: &'a LocalHeap) -> Result<(), Refused> {
-    for _ in 0..3 {
-        book.open()?;
-    }
-    book.step(an_end(0, 0));
-    book.step(a_part(1, 0, part(heap, b"output", b"")?));
-    Ok(())
-}
-
-fn full_book<'a>(alloc: Global, heap: &'a LocalHeap) -> Result<Full<'a>, Refused> {
-    let mut book = empty_book(heap);
-    begin(&mut book, heap)?;
-    let mut blocks = Blocks {
-        blocks: Vec::new(alloc),
-    };
+/// The same, and takes what memory is left.
+fn begin_full<'a>(
+    book: &mut Book<&'a LocalHeap>,
+    blocks: &mut Blocks<'a>,
+    heap: &'a LocalHeap,
+) -> bool {
+    let begun = begin(book, heap);
     blocks.fill(heap);
-    Ok(Full { book, blocks })
+    begun && heap.free() == 0
 }
 
 /// Where every growth is refused, a cut and a wrong end mark are answered as ever.
 #[test]
 fn closing_takes_no_memory(rt: HostRuntime) -> Result<(), Fail> {
+    let state = RandomState::new(&rt)?;
     let heap = LocalHeap::new(rt.alloc(), 1 << 14)?;
-    let mut full = full_book(rt.alloc(), &heap).expect(&rt, "memory");
-    assert_eq!(rt; heap.free(), 0);
-    assert!(rt; !full.book.step(an_end(2, 1)));
-    assert!(rt;
-        !full.book.step(Item {
-            push: 1,
-            index: 1,
-            what: What::Cut(CutReason::GaveUp)
-        })
-    );
-    full.blocks.fill(&heap);
-    assert!(rt; is_closed_by(&full.book.take_reply(1), What::Cut(CutReason::GaveUp)));
-    assert!(rt; is_closed_by(&full.book.take_reply(2), What::End));
+    let mut book = empty_book(&heap, state);
+    let mut blocks = Blocks::new(rt.alloc());
+    let full = begin_full(&mut book, &mut blocks, &heap);
+    let closed = end(&mut book, 2, 1) && cut(&mut book, 1, 1, CutReason::GaveUp);
+    blocks.fill(&heap);
+    let told = tells_cut(&mut book, 1, CutReason::GaveUp) && tells_wrong_index(&mut book, 2);
+    assert!(rt; full && closed && told);
     Ok(())
+}
+
+/// Whether the book has the first push as done, and hands it out.
+fn is_told<A: Allocator + Copy>(book: Book<A>) -> bool {
+    let mut book = book;
+    let standings = book.standing(0) == Standing::Done
+        && book.standing(1) == Standing::Open
+        && book.standing(9) == Standing::Unknown;
+    let replies = tells_nothing(&mut book, 1) && tells_done(&mut book, 0, 0);
+    let after = book.standing(0) == Standing::Done && book.journal() == [0].as_slice();
+    let publishes = book.repo().settings().publishing;
+    let (_, journal) = book.into_parts();
+    standings && replies && after && !publishes && journal.as_slice() == [0].as_slice()
 }
 
 /// A book over a full heap tells what it holds, and hands it out.
 #[test]
 fn telling_takes_no_memory(rt: HostRuntime) -> Result<(), Fail> {
+    let state = RandomState::new(&rt)?;
     let heap = LocalHeap::new(rt.alloc(), 1 << 14)?;
-    let Full { mut book, blocks } = full_book(rt.alloc(), &heap).expect(&rt, "memory");
-    assert_eq!(rt;
-        (book.standing(0), book.standing(1), book.standing(9)),
-        (Standing::Done, Standing::Open, Standing::Unknown)
-    );
-    assert!(rt; book.take_reply(1).is_none());
-    assert!(rt; is_done(&book.take_reply(0), 0));
-    assert_eq!(rt; book.standing(0), Standing::Done);
-    assert_eq!(rt; book.journal(), [0].as_slice());
-    assert!(rt; !book.repo().settings().publishing);
-    let (_, journal) = book.into_parts();
-    assert_eq!(rt; journal.as_slice(), [0].as_slice());
-    drop(blocks);
+    let mut book = empty_book(&heap, state);
+    let mut blocks = Blocks::new(rt.alloc());
+    let full = begin_full(&mut book, &mut blocks, &heap);
+    assert!(rt; full && is_told(book));
     Ok(())
 }
 
 /// Over a full heap an item that is dropped is answered as ever.
 #[test]
 fn dropping_takes_no_memory(rt: HostRuntime) -> Result<(), Fail> {
+    let state = RandomState::new(&rt)?;
     let heap = LocalHeap::new(rt.alloc(), 1 << 14)?;
-    let (late, stray) = (a_part(0, 1, part(&heap, b"output", b"")?), an_end(9, 0));
-    let mut full = full_book(rt.alloc(), &heap).expect(&rt, "memory");
-    assert!(rt; !full.book.step(late));
-    full.blocks.fill(&heap);
-    assert!(rt; !full.book.step(stray));
+    let late = output(&heap);
+    let mut book = empty_book(&heap, state);
+    let mut blocks = Blocks::new(rt.alloc());
+    let full = begin_full(&mut book, &mut blocks, &heap);
+    let dropped = put(&mut book, 0, 1, late);
+    blocks.fill(&heap);
+    assert!(rt; full && dropped && end(&mut book, 9, 0));
     Ok(())
 }
 
 /// An opening, a part and a run that memory is refused for. The opening uses no number.
 #[test]
 fn growths_are_refused(rt: HostRuntime) -> Result<(), Fail> {
+    let state = RandomState::new(&rt)?;
     let heap = LocalHeap::new(rt.alloc(), 1 << 14)?;
-    let first = a_part(2, 0, part(&heap, b"output", b"")?);
-    let Full {
-        mut book,
-        mut blocks,
-    } = full_book(rt.alloc(), &heap).expect(&rt, "memory");
-    assert_eq!(rt; book.open(), Err(OpenFault::NoMemory));
-    assert!(rt; book.step(an_end(1, 1)));
-    assert!(rt; is_without_memory(&book.take_reply(1)));
+    let first = output(&heap);
+    let was_made = first.is_ok();
+    let mut book = empty_book(&heap, state);
+    let mut blocks = Blocks::new(rt.alloc());
+    let full = begin_full(&mut book, &mut blocks, &heap);
+    let unopened = book.open() == Err(OpenFault::NoMemory);
+    let unrun = !end(&mut book, 1, 1) && tells_no_memory(&mut book, 1);
     blocks.fill(&heap);
-    assert!(rt; book.step(first));
-    assert!(rt; is_without_memory(&book.take_reply(2)));
+    let unstaged = !put(&mut book, 2, 0, first) && tells_no_memory(&mut book, 2);
     drop(blocks);
-    assert_eq!(rt; book.open(), Ok(3));
+    assert!(rt; was_made && full && unopened && unrun && unstaged && book.open() == Ok(3));
     Ok(())
 }
 
 /// A reply is its bytes, or want of memory.
 #[test]
 fn a_reply_is_refused(rt: HostRuntime) -> Result<(), Fail> {
-    let (mut told, mut refused) = (0u32, 0u32);
+    let mut seen = [false; 2];
     for sixteens in 1..512usize {
         let heap = LocalHeap::new(rt.alloc(), sixteens * 16)?;
         match reply_bytes(&heap, &Outcome::Aborted(Reason::WrongIndex)) {
-            Ok(reply) => {
-                assert_eq!(rt; reply.len(), 59);
-                told = told.saturating_add(1);
-            }
-            Err(NoMemory) => refused = refused.saturating_add(1),
+            Ok(reply) => seen[0] = seen[0] || reply.len() == 59,
+            Err(NoMemory) => seen[1] = true,
         }
     }
-    assert!(rt; told > 0);
-    assert!(rt; refused > 0);
+    assert!(rt; seen == [true; 2]);
     Ok(())
 }
 
+/// Opens as many pushes as the limit allows.
+fn open_all<A: Allocator + Copy>(book: &mut Book<A>) -> bool {
+    let mut all = true;
+    for push in 0..1_024 {
+        all = book.open() == Ok(push) && all;
+    }
+    all && book.open() == Err(OpenFault::TooManyOpen)
+}
+
+/// Puts 1,000 parts into a push. A staged part takes at most twice its 104 bytes, and 16 of its own.
+fn put_many<'a>(book: &mut Book<&'a LocalHeap>, heap: &'a LocalHeap, push: u32) -> bool {
+    let free = heap.free();
+    let mut all = true;
+    for index in 0..1_000 {
+        all = put(book, push, index, output(heap)) && all;
+    }
+    all && free.saturating_sub(heap.free()) <= 224_000
+}
+
 /// As many open pushes as the limit allows, and one of them with 1,000 parts, over a heap of which half is never used:
-/// no growth is refused, so none is told. A staged part takes at most twice its 104 bytes, and 16 of its own.
+/// no growth is refused, so none is told.
 #[test]
 fn near_the_limits(rt: HostRuntime) -> Result<(), Fail> {
+    let state = RandomState::new(&rt)?;
     let heap = LocalHeap::new(rt.alloc(), 1 << 21)?;
-    let mut book = empty_book(&heap);
-    for push in 0..1_024 {
-        assert_eq!(rt; book.open(), Ok(push));
-    }
-    assert_eq!(rt; book.open(), Err(OpenFault::TooManyOpen));
-    let free = heap.free();
-    for index in 0..1_000 {
-        assert!(rt; !book.step(a_part(7, index, part(&heap, b"output", b"")?)));
-    }
-    assert!(rt; free.saturating_sub(heap.free()) <= 224_000);
-    assert!(rt; !book.step(an_end(7, 1_000)));
-    assert!(rt; is_done(&book.take_reply(7), 1_000));
-    assert!(rt; heap.free() > 1 << 20);
+    let mut book = empty_book(&heap, state);
+    let put = open_all(&mut book) && put_many(&mut book, &heap, 7) && end(&mut book, 7, 1_000);
+    let told = tells_done(&mut book, 7, 1_000);
+    assert!(rt; put && told && heap.free() > 1 << 20);
     Ok(())
+}
+
+/// Whether items that are dropped, closings and all that is asked leave the memory that is there.
+fn leaves_memory<'a>(book: &mut Book<&'a LocalHeap>, heap: &'a LocalHeap) -> bool {
+    let free = heap.free();
+    let dropped = end(book, 9, 0) && book.standing(1) == Standing::Open && tells_nothing(book, 1);
+    let as_before = heap.free() == free;
+    let closed = end(book, 1, 2) && end(book, 1, 2) && tells_wrong_index(book, 1);
+    dropped && as_before && closed && tells_done(book, 0, 0) && heap.free() >= free
 }
 
 /// Where memory is to spare, what takes none leaves it: items that are dropped, closings and all that is asked. The
 /// first part of a push takes room for 12, of 104 bytes each over this heap.
 #[test]
 fn memory_is_left(rt: HostRuntime) -> Result<(), Fail> {
+    let state = RandomState::new(&rt)?;
     let heap = LocalHeap::new(rt.alloc(), 1 << 14)?;
-    let mut book = empty_book(&heap);
-    begin(&mut book, &heap).expect(&rt, "memory");
-    let first = a_part(2, 0, part(&heap, b"output", b"")?);
+    let first = output(&heap);
+    let mut book = empty_book(&heap, state);
+    let begun = begin(&mut book, &heap);
     let free = heap.free();
-    assert!(rt; !book.step(first));
-    assert!(rt; free.saturating_sub(heap.free()) <= 12 * 104);
-    let free = heap.free();
-    assert!(rt; !book.step(an_end(9, 0)));
-    assert_eq!(rt; book.standing(1), Standing::Open);
-    assert!(rt; book.take_reply(1).is_none());
-    assert_eq!(rt; heap.free(), free);
-    assert!(rt; !book.step(an_end(1, 2)));
-    assert!(rt; !book.step(an_end(1, 2)));
-    assert!(rt; is_closed_by(&book.take_reply(1), What::End));
-    assert!(rt; is_done(&book.take_reply(0), 0));
-    assert!(rt; heap.free() >= free);
+    let taken = put(&mut book, 2, 0, first);
+    let room = free.saturating_sub(heap.free());
+    assert!(rt; begun && taken && room <= 12 * 104 && leaves_memory(&mut book, &heap));
     Ok(())
 }

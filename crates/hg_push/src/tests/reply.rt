@@ -2,13 +2,17 @@
 
 use super::*;
 use crate::reply_bytes;
+use hg_keys::KeyCall;
 use hg_repo::RaceText;
-use hg_types::CutReason;
 use std::alloc::Global;
 use std::test::*;
 
-fn aborted(alloc: Global, reason: Reason<Refusal>) -> Result<Vec<u8>, NoMemory> {
-    reply_bytes(alloc, &Outcome::Aborted(reason))
+/// Whether an aborted push is told by these bytes.
+fn is_told_as(alloc: Global, reason: Reason<Refusal>, bytes: &[u8]) -> bool {
+    match reply_bytes(alloc, &Outcome::Aborted(reason)) {
+        Ok(reply) => reply.as_slice() == bytes,
+        Err(NoMemory) => false,
+    }
 }
 
 /// A bundle without parts.
@@ -22,25 +26,19 @@ fn done_without_replies(rt: HostRuntime) -> Result<(), Fail> {
         handled: Seq::new(alloc),
     };
     let reply = reply_bytes(alloc, &Outcome::Done(done))?;
-    assert_eq!(rt; reply.as_slice(), NOTHING.as_slice());
+    assert!(rt; reply.as_slice() == NOTHING.as_slice());
     Ok(())
 }
 
 #[test]
-fn race_on_heads(rt: HostRuntime) -> Result<(), Fail> {
-    let alloc = rt.alloc();
-    let reply = aborted(
-        alloc,
-        Reason::Refused(Refusal::Raced {
-            place: 0,
-            text: RaceText::HeadsChanged,
-        }),
-    )?;
-    assert_eq!(rt;
-        reply.as_slice(),
-        b"HG20\0\0\0\0\0\0\0\x2c\x0fERROR:PUSHRACED\0\0\0\0\x01\0\x07\x0dmessageheads changed\0\0\0\0\0\0\0\0".as_slice()
-    );
-    Ok(())
+fn race_on_heads(rt: HostRuntime) {
+    let race = Refusal::Raced {
+        place: 0,
+        text: RaceText::HeadsChanged,
+    };
+    let bytes: &[u8] =
+        b"HG20\0\0\0\0\0\0\0\x2c\x0fERROR:PUSHRACED\0\0\0\0\x01\0\x07\x0dmessageheads changed\0\0\0\0\0\0\0\0";
+    assert!(rt; is_told_as(rt.alloc(), Reason::Refused(race), bytes));
 }
 
 /// The reply of one `error:abort` part with that message, which is short.
@@ -56,110 +54,115 @@ fn abort_reply(alloc: Global, message: &[u8]) -> Result<Vec<u8>, NoMemory> {
     Ok(reply)
 }
 
-#[test]
-fn each_reason_that_aborts(rt: HostRuntime) -> Result<(), Fail> {
-    let alloc = rt.alloc();
-    let reasons: [(Reason<Refusal>, &[u8], usize); 9] = [
-        (
-            Reason::Refused(Refusal::BadPart { place: 1 }),
-            b"part 1 is malformed",
-            66,
-        ),
-        (
-            Reason::Refused(Refusal::ClientAbort { place: 0 }),
-            b"client aborted",
-            61,
-        ),
-        (Reason::Cut(CutReason::Stream(1)), b"stream fault 1", 61),
-        (Reason::Cut(CutReason::Stream(10)), b"stream fault 10", 62),
-        (Reason::Cut(CutReason::ReadFailed), b"connection lost", 62),
-        (Reason::Cut(CutReason::GaveUp), b"push dropped", 59),
-        (Reason::WrongIndex, b"bad end mark", 59),
-        (Reason::NoMemory, b"out of memory", 60),
-        (
-            Reason::Refused(Refusal::BadPart {
-                place: 4_294_967_295,
-            }),
-            b"part 4294967295 is malformed",
-            75,
-        ),
-    ];
-    for (reason, message, size) in reasons {
-        let reply = aborted(alloc, reason)?;
-        assert_eq!(rt; reply.as_slice(), abort_reply(alloc, message)?.as_slice());
-        assert_eq!(rt; reply.len(), size);
+/// Whether an aborted push is told by that message, in so many bytes.
+fn has_message(alloc: Global, reason: Reason<Refusal>, message: &[u8], size: usize) -> bool {
+    match abort_reply(alloc, message) {
+        Ok(bytes) => bytes.len() == size && is_told_as(alloc, reason, bytes.as_slice()),
+        Err(NoMemory) => false,
     }
-    Ok(())
+}
+
+/// The same of a push that was cut off.
+fn cut_has_message(alloc: Global, reason: CutReason, message: &[u8], size: usize) -> bool {
+    has_message(alloc, Reason::Cut(reason), message, size)
+}
+
+#[test]
+fn each_reason_that_aborts(rt: HostRuntime) {
+    let alloc = rt.alloc();
+    let first = Reason::Refused(Refusal::BadPart { place: 1 });
+    let client = Reason::Refused(Refusal::ClientAbort { place: 0 });
+    let last = Reason::Refused(Refusal::BadPart {
+        place: 4_294_967_295,
+    });
+    let unknown = Reason::Refused(Refusal::UnknownNode { place: 2 });
+    let refused = has_message(alloc, unknown, b"part 2 names an unknown node", 75)
+        && has_message(alloc, first, b"part 1 is malformed", 66)
+        && has_message(alloc, last, b"part 4294967295 is malformed", 75)
+        && has_message(alloc, client, b"client aborted", 61);
+    let cut = cut_has_message(alloc, CutReason::Stream(1), b"stream fault 1", 61)
+        && cut_has_message(alloc, CutReason::Stream(10), b"stream fault 10", 62)
+        && cut_has_message(alloc, CutReason::ReadFailed, b"connection lost", 62)
+        && cut_has_message(alloc, CutReason::GaveUp, b"push dropped", 59);
+    let index = has_message(alloc, Reason::WrongIndex, b"bad end mark", 59);
+    let memory = has_message(alloc, Reason::NoMemory, b"out of memory", 60);
+    assert!(rt; refused && cut && index && memory);
+}
+
+/// A part of that type is not supported, for the parameters of these names.
+fn unsupported(alloc: Global, kind: &[u8], names: &[&[u8]]) -> Result<Reason<Refusal>, NoMemory> {
+    let mut params = Seq::new(alloc);
+    for name in names {
+        params.push(Seq::copy_of(alloc, *name)?)?;
+    }
+    Ok(Reason::Refused(Refusal::Unsupported {
+        place: 0,
+        kind: Seq::copy_of(alloc, kind)?,
+        params,
+    }))
 }
 
 #[test]
 fn unknown_mandatory_part(rt: HostRuntime) -> Result<(), Fail> {
-    let alloc = rt.alloc();
-    let kind = Seq::copy_of(alloc, b"frob")?;
-    let reply = aborted(
-        alloc,
-        Reason::Refused(Refusal::Unsupported {
-            place: 0,
-            kind,
-            params: Seq::new(alloc),
-        }),
-    )?;
-    assert_eq!(rt;
-        reply.as_slice(),
-        b"HG20\0\0\0\0\0\0\0\x2d\x18ERROR:UNSUPPORTEDCONTENT\0\0\0\0\x01\0\x08\x04parttypefrob\0\0\0\0\0\0\0\0".as_slice()
-    );
+    let reason = unsupported(rt.alloc(), b"frob", &[])?;
+    let bytes: &[u8] =
+        b"HG20\0\0\0\0\0\0\0\x2d\x18ERROR:UNSUPPORTEDCONTENT\0\0\0\0\x01\0\x08\x04parttypefrob\0\0\0\0\0\0\0\0";
+    assert!(rt; is_told_as(rt.alloc(), reason, bytes));
     Ok(())
+}
+
+/// The reply to `replycaps` with two unknown parameters, of 200 times `a` and of `b`.
+fn cut_names(alloc: Global) -> Result<Vec<u8>, NoMemory> {
+    let front: &[u8] =
+        b"HG20\0\0\0\0\0\0\x01\x39\x18ERROR:UNSUPPORTEDCONTENT\0\0\0\0\x02\0\x08\x09\x06\xffparttypereplycapsparams";
+    let mut bytes = Vec::from_slice(alloc, front)?;
+    bytes.extend_from_slice(&[b'a'; 200])?;
+    bytes.push(0)?;
+    bytes.extend_from_slice(&[b'b'; 54])?;
+    bytes.extend_from_slice(&[0; 8])?;
+    Ok(bytes)
 }
 
 /// The names of two unknown mandatory parameters, of 200 bytes each, are joined by NUL and cut after 255 bytes.
 #[test]
 fn long_names_are_cut(rt: HostRuntime) -> Result<(), Fail> {
-    let alloc = rt.alloc();
-    let kind = Seq::copy_of(alloc, b"replycaps")?;
-    let mut params = Seq::new(alloc);
-    params.push(Seq::copy_of(alloc, &[b'a'; 200])?)?;
-    params.push(Seq::copy_of(alloc, &[b'b'; 200])?)?;
-    let reply = aborted(
-        alloc,
-        Reason::Refused(Refusal::Unsupported {
-            place: 0,
-            kind,
-            params,
-        }),
-    )?;
-    let mut expected = Vec::from_slice(
-        alloc,
-        b"HG20\0\0\0\0\0\0\x01\x39\x18ERROR:UNSUPPORTEDCONTENT\0\0\0\0\x02\0\x08\x09\x06\xffparttypereplycapsparams",
-    )?;
-    expected.extend_from_slice(&[b'a'; 200])?;
-    expected.push(0)?;
-    expected.extend_from_slice(&[b'b'; 54])?;
-    expected.extend_from_slice(&[0; 8])?;
-    assert_eq!(rt; reply.as_slice(), expected.as_slice());
-    assert_eq!(rt; reply.len(), 333);
+    let bytes = cut_names(rt.alloc())?;
+    let reason = unsupported(rt.alloc(), b"replycaps", &[&[b'a'; 200], &[b'b'; 200]])?;
+    assert!(rt; bytes.len() == 333 && is_told_as(rt.alloc(), reason, bytes.as_slice()));
     Ok(())
 }
 
 /// An empty name counts among those that are joined.
 #[test]
 fn an_empty_name(rt: HostRuntime) -> Result<(), Fail> {
+    let reason = unsupported(rt.alloc(), b"output", &[b"", b"x"])?;
+    let bytes: &[u8] =
+        b"HG20\0\0\0\0\0\0\0\x39\x18ERROR:UNSUPPORTEDCONTENT\0\0\0\0\x02\0\x08\x06\x06\x02parttypeoutputparams\0x\0\0\0\0\0\0\0\0";
+    assert!(rt; is_told_as(rt.alloc(), reason, bytes));
+    Ok(())
+}
+
+fn a_call(alloc: Global) -> Result<KeyCall, NoMemory> {
+    Ok(KeyCall {
+        namespace: Seq::copy_of(alloc, b"phases")?,
+        key: Seq::copy_of(alloc, b"k")?,
+        old: Seq::copy_of(alloc, b"0")?,
+        new: Seq::copy_of(alloc, b"1")?,
+    })
+}
+
+/// The reply tells the part's id, and what it asked: the new value before the old one.
+#[test]
+fn a_key_that_was_not_set(rt: HostRuntime) -> Result<(), Fail> {
     let alloc = rt.alloc();
-    let kind = Seq::copy_of(alloc, b"output")?;
-    let mut params = Seq::new(alloc);
-    params.push(Seq::new(alloc))?;
-    params.push(Seq::copy_of(alloc, b"x")?)?;
-    let reply = aborted(
-        alloc,
-        Reason::Refused(Refusal::Unsupported {
-            place: 0,
-            kind,
-            params,
-        }),
-    )?;
-    assert!(rt;
-        reply
-            .as_slice()
-            .ends_with(b"outputparams\0x\0\0\0\0\0\0\0\0")
-    );
+    let call = a_call(alloc)?;
+    let refused = Refusal::KeyFailed {
+        place: 3,
+        id: 7,
+        call,
+    };
+    let bytes: &[u8] =
+        b"HG20\0\0\0\0\0\0\0\x45\x0dERROR:PUSHKEY\0\0\0\0\x05\0\x0b\x01\x09\x06\x03\x01\x03\x01\x03\x01in-reply-to7namespacephaseskeyknew1old0\0\0\0\0\0\0\0\0";
+    assert!(rt; is_told_as(alloc, Reason::Refused(refused), bytes));
     Ok(())
 }

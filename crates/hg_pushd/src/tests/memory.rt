@@ -18,8 +18,8 @@ fn tells_want_of_memory(bytes: &[u8]) -> bool {
 }
 
 /// One growth after another is refused, until none is. The answer comes or memory is wanting: there is no third.
-fn grows(
-    rt: &impl Abort,
+fn grows<R: RandomSource + Abort>(
+    rt: &R,
     alloc: Global,
     bundle: &[u8],
     status: u8,
@@ -30,7 +30,7 @@ fn grows(
         let heap = LocalHeap::new(alloc, sixteens * 16)?;
         let mut reader = Source::new(bundle);
         let mut writer = Sink::new(alloc);
-        let answer = run_one(&heap, &mut reader, &mut writer, false);
+        let answer = run_one(&heap, state(rt), &mut reader, &mut writer, false);
         if answer == 4 {
             assert!(*rt; tells_want_of_memory(writer.bytes()));
             refused = refused.saturating_add(1);
@@ -81,7 +81,7 @@ fn a_failed_read_comes_before_want_of_memory(rt: HostRuntime) -> Result<(), Fail
         let heap = LocalHeap::new(rt.alloc(), sixteens * 16)?;
         let mut reader = Source::failing(FIRST_PUSH, 4, 2, true);
         let mut writer = Sink::new(rt.alloc());
-        let status = run_one(&heap, &mut reader, &mut writer, false);
+        let status = run_one(&heap, state(&rt), &mut reader, &mut writer, false);
         if status == 3 {
             lost = lost.saturating_add(1);
         } else {

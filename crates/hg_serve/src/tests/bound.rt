@@ -17,7 +17,7 @@ impl Gate for Counts {
 }
 
 /// Behind that many parts of another push and after that many turns, the answer to a push without parts takes so many items.
-pub fn takes<J: Naming, R: Wait + Abort>(
+pub fn takes<J: Naming<Global>, R: Wait + Abort>(
     rt: &R,
     alloc: Global,
     server: &Server<J>,
@@ -59,7 +59,7 @@ fn as_many_takes_as_the_queue_has_places(rt: HostRuntime) -> Result<(), Fail> {
 
 /// At each take it puts a part of another push.
 #[derive(Drop)]
-struct Puts<'a, J: Naming, R: Wait + Abort> {
+struct Puts<'a, J: Naming<Global>, R: Wait + Abort> {
     rt: &'a R,
     alloc: Global,
     server: &'a Server<J>,
@@ -67,7 +67,7 @@ struct Puts<'a, J: Naming, R: Wait + Abort> {
     locked: u32,
 }
 
-impl<J: Naming, R: Wait + Abort> Gate for Puts<'_, J, R> {
+impl<J: Naming<Global>, R: Wait + Abort> Gate for Puts<'_, J, R> {
     fn at(&mut self, point: Point) {
         if point == Point::Locked {
             self.locked = self.locked.saturating_add(1);
@@ -78,7 +78,7 @@ impl<J: Naming, R: Wait + Abort> Gate for Puts<'_, J, R> {
 }
 
 /// Another push goes on while the answer takes: the answer stops at its own mark, and leaves the other's parts in the queue.
-pub fn puts_meanwhile<J: Naming, R: Wait + Abort>(
+pub fn puts_meanwhile<J: Naming<Global>, R: Wait + Abort>(
     rt: &R,
     alloc: Global,
     server: &Server<J>,

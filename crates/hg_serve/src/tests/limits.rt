@@ -3,7 +3,7 @@
 use super::*;
 
 /// Opens a push that is refused, and gives the client back.
-fn refused_as<J: Naming, R: Wait + Abort>(
+fn refused_as<J: Naming<Global>, R: Wait + Abort>(
     rt: &R,
     server: &Server<J>,
     client: Client<J>,
@@ -20,7 +20,7 @@ fn refused_as<J: Naming, R: Wait + Abort>(
 
 /// With one row, a second opening is refused until the first push is answered. Then the last number is given,
 /// and behind it none is left.
-pub fn refused<J: Naming, R: Wait + Abort>(
+pub fn refused<J: Naming<Global>, R: Wait + Abort>(
     rt: &R,
     alloc: Global,
     server: &Server<J>,

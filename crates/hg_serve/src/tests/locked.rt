@@ -28,7 +28,7 @@ impl Gate for HoldsBack<'_> {
 }
 
 /// Puts three parts, and then lets the other go. It is false where one was not put.
-fn put_three<J: Naming, R: Wait + Abort>(
+fn put_three<J: Naming<Global>, R: Wait + Abort>(
     rt: &R,
     alloc: Global,
     server: &Server<J>,
@@ -49,7 +49,7 @@ fn put_three<J: Naming, R: Wait + Abort>(
 }
 
 /// A turn stands inside the lock until another thread's three puts have returned, and then takes the first.
-pub fn held<J: Naming + Send + Sync, R: Threads + Wait + Abort + Sync>(
+pub fn held<J: Naming<Global> + Send + Sync, R: Threads + Wait + Abort + Sync>(
     rt: &R,
     alloc: Global,
     server: &Server<J>,

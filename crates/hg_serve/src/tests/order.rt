@@ -4,7 +4,7 @@ use super::*;
 use hg_push::reply_bytes;
 
 /// Puts a part after one turn, since the queue of one place is full.
-fn put_behind<J: Naming, R: Wait + Abort>(
+fn put_behind<J: Naming<Global>, R: Wait + Abort>(
     rt: &R,
     server: &Server<J>,
     sender: &mut Sender<J>,
@@ -20,7 +20,7 @@ fn put_behind<J: Naming, R: Wait + Abort>(
 }
 
 /// A0 B0 A1 B1, B's end mark, A's end mark. Both clients have seen the other's items then.
-pub fn alternating<J: Naming, R: Wait + Abort>(
+pub fn alternating<J: Naming<Global>, R: Wait + Abort>(
     rt: &R,
     alloc: Global,
     server: &Server<J>,
@@ -55,7 +55,7 @@ fn two_pushes_at_capacity_one(rt: HostRuntime) -> Result<(), Fail> {
 }
 
 /// A is cut off after its third part. B is done as without it, and so is a push of the client that got B's answer.
-pub fn dropped<J: Naming, R: Wait + Abort>(
+pub fn dropped<J: Naming<Global>, R: Wait + Abort>(
     rt: &R,
     alloc: Global,
     server: &Server<J>,

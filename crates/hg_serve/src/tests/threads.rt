@@ -17,7 +17,7 @@ fn check<R: Abort>(rt: &R, alloc: Global, push: u32) -> Part {
     part(rt, alloc, b"CHECK:HEADS", heads)
 }
 
-fn push_once<J: Naming, R: Wait + Abort>(
+fn push_once<J: Naming<Global>, R: Wait + Abort>(
     rt: &R,
     alloc: Global,
     server: &Server<J>,
@@ -37,7 +37,7 @@ fn push_once<J: Naming, R: Wait + Abort>(
 }
 
 /// One thread's pushes. It leaves its client in the list.
-fn push_all<J: Naming, R: Wait + Abort>(
+fn push_all<J: Naming<Global>, R: Wait + Abort>(
     rt: &R,
     alloc: Global,
     server: &Server<J>,
@@ -51,7 +51,7 @@ fn push_all<J: Naming, R: Wait + Abort>(
     add(rt, &mut *list, mine);
 }
 
-pub fn pushes<J: Naming + Send + Sync, R: Threads + Wait + Abort + Sync>(
+pub fn pushes<J: Naming<Global> + Send + Sync, R: Threads + Wait + Abort + Sync>(
     rt: &R,
     alloc: Global,
     server: &Server<J>,
@@ -68,8 +68,8 @@ pub fn pushes<J: Naming + Send + Sync, R: Threads + Wait + Abort + Sync>(
 }
 
 /// The repository after the pushes of the journal, run one by one.
-fn replayed<R: Abort>(rt: &R, alloc: Global, journal: &[u32]) -> Repo {
-    let mut repo = Repo::new(alloc, settings(0, 1_024));
+fn replayed<R: RandomSource + Abort>(rt: &R, alloc: Global, journal: &[u32]) -> Repo {
+    let mut repo = Repo::new(alloc, settings(0, 1_024), state(rt));
     for push in journal {
         let caps = part(rt, alloc, b"REPLYCAPS", b"");
         let parts = [caps, check(rt, alloc, *push)];
@@ -89,7 +89,7 @@ fn is_each_once(journal: &[u32]) -> bool {
     true
 }
 
-fn serial_at<R: Threads + Wait + Abort + Sync>(rt: &R, alloc: Global, capacity: u32)
+fn serial_at<R: Threads + Wait + RandomSource + Abort + Sync>(rt: &R, alloc: Global, capacity: u32)
     requires { (1 ≤ capacity) × (capacity ≤ 65536) }
 {
     let closed = played(rt, alloc, capacity, settings(0, 1_024), Scene::Threads);

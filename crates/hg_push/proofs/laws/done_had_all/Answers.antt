@@ -1,6 +1,6 @@
 use Rattle.std.proofs.Common.{ap, length, ◌∙◌}
 use Rattle.std.specs.List.{range_with_len}
-use Rattle.hg_repo.specs.declared.done.Source.TheVariants.{Push}
+use Rattle.hg_parts.specs.declared.source.Source.TheVariants.{Push}
 use Rattle.hg_push.specs.Run.{run_push}
 use Rattle.hg_push.specs.World.{run_all, start}
 use Rattle.hg_push.proofs.Completing.{all_complete, done_in}

@@ -1,6 +1,6 @@
 use Rattle.std.proofs.Common.{ap, length, ◌∙◌}
 use Rattle.std.specs.List.{range_with_len}
-use Rattle.hg_repo.specs.declared.done.Source.TheVariants.{Push}
+use Rattle.hg_parts.specs.declared.source.Source.TheVariants.{Push}
 use Rattle.hg_push.specs.Run.{run_push}
 use Rattle.hg_push.specs.World.{items_in, items_of}
 use Rattle.hg_push.proofs.Completing.{complete_of, done_in, orderly_list, whole_list}

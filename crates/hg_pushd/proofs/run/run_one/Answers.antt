@@ -1,8 +1,11 @@
 use Rattle.std.proofs.Common.{inl}
 use Rattle.hg_stream.specs.Unbundler.{ready_of}
 use Rattle.hg_pushd.specs.Answering.{empty_repository}
-use Rattle.hg_pushd.proofs.Answered.{answers, opened}
+use Rattle.hg_pushd.proofs.Answered.{answers, few_received, opened}
 use Rattle.hg_pushd.proofs.run.run_one.Goals as goal
+
+pub end_push-outcome-requires-clause-few : goal.end_push-outcome-requires-clause-few
+end_push-outcome-requires-clause-few g c = few_received c.parts_are_few.ensures _ _ _ _ c.receive-ending.ensures
 
 pub end_push-outcome-requires-clause-taken : goal.end_push-outcome-requires-clause-taken
 end_push-outcome-requires-clause-taken g c =

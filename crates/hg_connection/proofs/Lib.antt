@@ -1,0 +1,5 @@
+mod Waiting
+mod Putting
+mod Receivings
+mod Exchanges
+mod Chains

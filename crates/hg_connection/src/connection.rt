@@ -1,0 +1,192 @@
+//! A connection: bundles from any reader, and their replies to any writer.
+
+ghost use Rattle.std.specs.Prelude.{◌≡◌, ◌≤◌, [], ℕ, List};
+ghost use Rattle.hg_types.specs.declared.part.Part.{Part as AnyPart};
+ghost use Rattle.hg_stream.specs.Unbundler.{limits_of, ready_of, state_of};
+ghost use Rattle.hg_stream.specs.declared.state.State.TheVariants.{Ended as at_end_mark};
+ghost use Rattle.hg_queue.specs.History.{of, items_of};
+ghost use Rattle.hg_serve.specs.Clients.{GoesOn};
+ghost use Rattle.hg_connection.specs.declared.ending.Ending.TheVariants.{Whole};
+ghost use Rattle.hg_connection.specs.Receiving.{Carries, Feeds, IsFresh, Receives};
+ghost use Rattle.hg_connection.specs.Connections.{Connects, Exchange, Serves, TellsOf};
+
+use crate::ending::{Ending, mark};
+use crate::inbox::{Inbox, Next, next_bundle};
+use crate::reply::send_reply;
+use crate::served::{ConnFault, Round, Served};
+use hg_devices::{Reader, Writer};
+use hg_serve::{Client, Gate, Naming, Point, Sender, Server};
+use hg_stream::laws::{parts_are_few, streams_are_settled_once};
+use hg_stream::{State, Unbundler};
+use std::alloc::Allocator;
+use std::sync::Wait;
+
+/// Feeds the bytes that wait.
+fn feed_waiting<A: Allocator + Copy>(bundle: &mut Unbundler<A>, inbox: &mut Inbox)
+    ensures { Feeds bundle.old bundle.new inbox.old inbox.new }
+{
+    if let Ok(count) = bundle.feed(inbox.pending()) {
+        inbox.skip(count);
+    }
+}
+
+/// Puts the parts that the bundle has finished.
+fn put_ready<J: Naming<A>, A: Allocator + Copy, R: Wait, G: Gate>(
+    server: &Server<J, A>,
+    rt: &R,
+    sender: &mut Sender<J, A>,
+    bundle: &mut Unbundler<A>,
+    gate: &mut G,
+)
+    requires { (bytes : List ℕ) × (given : List (AnyPart A))
+        × Carries server.now sender.old bundle.old bytes given }
+    ensures put { (bytes : List ℕ) (given : List (AnyPart A))
+        → Carries server.now sender.old bundle.old bytes given
+        → (all : List (AnyPart A)) × Carries server.now sender.new bundle.new bytes all }
+    ensures sender { GoesOn sender.old sender.new sender.new.putter.put }
+    ensures bundle { (state_of bundle.new ≡ state_of bundle.old) × (ready_of bundle.new ≡ []) }
+    ensures limits { limits_of bundle.new ≡ limits_of bundle.old }
+{
+    parts_are_few::<A>();
+    let _limits = server.limits();
+    'parts: while let Some(part) = bundle.next_part() {
+        match server.put(rt, sender, part, gate) {
+            Ok(()) => {}
+            // the reader of bundles refuses more parts than a push may have
+            Err(_) => unreachable!(),
+        }
+    }
+}
+
+/// Receives a bundle up to its end mark, a fault, the end of the input or a failed read, and puts its parts.
+/// Where no byte waits, a turn reads up to 4,096 bytes.
+fn receive<J: Naming<A>, A: Allocator + Copy, R: Wait, I: Reader, G: Gate>(
+    server: &Server<J, A>,
+    rt: &R,
+    sender: &mut Sender<J, A>,
+    bundle: &mut Unbundler<A>,
+    inbox: &mut Inbox,
+    reader: &mut I,
+    gate: &mut G,
+) -> Ending
+    requires bundle { IsFresh server.now bundle.old }
+    requires sender { sender.old.putter.put ≡ [] }
+    ensures received { Receives server.now inbox.old inbox.new (I.told reader.old) (I.told reader.new)
+        sender.old sender.new result }
+    ensures whole { result ≡ Whole → (state_of bundle.new ≡ at_end_mark) × (ready_of bundle.new ≡ []) }
+    ensures limits { limits_of bundle.new ≡ limits_of bundle.old }
+{
+    let most = server.limits().stream;
+    'turns: for _turn in 0..=most {
+        let _waiting = match inbox.fill(reader) {
+            None => return Ending::ReadFailed,
+            Some(0) => return Ending::InputEnded,
+            Some(count) => count,
+        };
+        feed_waiting(bundle, inbox);
+        put_ready(server, rt, sender, bundle, gate);
+        match bundle.state() {
+            State::Reading => {}
+            State::Ended => return Ending::Whole,
+            State::Failed(fault) => return Ending::Fault(fault),
+        }
+    }
+    unreachable!()
+}
+
+/// Serves one bundle on a push that was opened: receives it, puts its mark, waits for its answer and sends
+/// the reply.
+fn serve_bundle<J: Naming<A>, A: Allocator + Copy, R: Wait, I: Reader, W: Writer, G: Gate>(
+    server: &Server<J, A>,
+    rt: &R,
+    alloc: A,
+    mut sender: Sender<J, A>,
+    bundle: &mut Unbundler<A>,
+    inbox: &mut Inbox,
+    reader: &mut I,
+    writer: &mut W,
+    gate: &mut G,
+) -> (Client<J, A>, Round<A>)
+    requires bundle { IsFresh server.now bundle.old }
+    requires sender { (sender.putter.put ≡ []) × (of sender.putter.push (items_of sender.history) ≡ []) }
+    ensures served { (x : Exchange A)
+        × Serves server.now J.capacity J.first inbox.old inbox.new (I.told reader.old) (I.told reader.new)
+        (W.told writer.old) (W.told writer.new) sender.history x
+        × TellsOf x result.1.ending result.1.answer.outcome result.1.answer.takes result.1.sending
+        result.1.written result.0 }
+    ensures whole { result.1.ending ≡ Whole
+        → (state_of bundle.new ≡ at_end_mark) × (ready_of bundle.new ≡ []) }
+    ensures limits { limits_of bundle.new ≡ limits_of bundle.old }
+{
+    let ending = receive(server, rt, &mut sender, bundle, inbox, reader, gate);
+    let ended = mark(server, rt, sender, ending, gate);
+    let (answer, client) = server.answer(rt, ended, gate);
+    let (sending, written) = send_reply(alloc, writer, &answer.outcome);
+    let round = Round {
+        answer,
+        ending,
+        sending,
+        written,
+    };
+    (client, round)
+}
+
+/// Serves a connection: up to `most` bundles, one behind the other. Each is answered, and its reply written
+/// and flushed, before a byte behind its end mark is fed or a further one read. Bytes that were read behind
+/// an end mark begin the next bundle.
+///
+/// The first push is opened before anything is read, each later one when a byte of its bundle is there. The
+/// connection ends behind `most` bundles, at an end of the input with no byte of a next bundle, and at the
+/// first [`ConnFault`]. A push that the repository refuses is answered as any other. A bundle that holds a
+/// fault, and one that a read broke, is answered too, and its reply sent.
+pub fn serve_connection<J: Naming<A>, A: Allocator + Copy, R: Wait, I: Reader, W: Writer, G: Gate>(
+    server: &Server<J, A>,
+    rt: &R,
+    alloc: A,
+    client: Client<J, A>,
+    reader: &mut I,
+    writer: &mut W,
+    most: u32,
+    gate: &mut G,
+) -> (Client<J, A>, Served<A>)
+    requires { (1 ≤ most) × (most ≤ 10000) }
+    ensures { Connects server.now J.capacity J.first most (I.told reader.old) (I.told reader.new)
+        (W.told writer.old) (W.told writer.new) client result.0 result.1 }
+{
+    streams_are_settled_once::<A>();
+    let mut bundle = Unbundler::new(alloc, *server.limits());
+    let mut client = client;
+    let mut served = Served::new();
+    let mut inbox = Inbox::new();
+    'bundles: for number in 0..most {
+        match next_bundle(number, &mut inbox, reader) {
+            Next::Comes => {}
+            Next::Ends => return (client, served),
+            Next::Fails => return (client, served.failed(ConnFault::ReadFailed)),
+        }
+        let sender = match server.open(rt, client) {
+            Ok(sender) => sender,
+            Err((back, fault)) => return (back, served.failed(ConnFault::Open(fault))),
+        };
+        gate.at(Point::Opened);
+        let (seen, round) = serve_bundle(
+            server,
+            rt,
+            alloc,
+            sender,
+            &mut bundle,
+            &mut inbox,
+            reader,
+            writer,
+            gate,
+        );
+        client = seen;
+        served = served.more(number, round);
+        if served.fault.is_some() {
+            return (client, served);
+        }
+        bundle.restart();
+    }
+    let _waiting = inbox.pending();
+    (client, served)
+}

@@ -1,0 +1,55 @@
+//! Writers that fail.
+
+use super::*;
+
+/// Whether the first reply breaks off after so many bytes: the writer is not used again, no more is read, and
+/// the push is done.
+fn breaks<R: RandomSource + Wait + Abort>(
+    rt: &R,
+    alloc: Global,
+    writer: &mut Sink<Global>,
+    taken: usize,
+) -> bool {
+    let mut reader = Source::in_pieces(b"HG20\0\0\0\0\0\0\0\0HG20\0\0\0\0\0\0\0\0", 12);
+    let told = connected(rt, alloc, &mut reader, writer, 9);
+    let fault = Some(ConnFault::WriteFailed);
+    let is = Told {
+        bundles: 1,
+        written: taken as u64,
+        fault,
+        done: 1,
+    };
+    told == is && writer.bytes().len() == taken && reader.reads() == 1
+}
+
+/// After each number of bytes a write fails, or takes nothing; or the flush fails.
+#[test]
+fn a_writer_fails_after_some_bytes(rt: HostRuntime) {
+    let mut right = true;
+    for taken in 0..EMPTY.len() {
+        let mut fails = Sink::failing(rt.alloc(), taken, true);
+        let mut stops = Sink::failing(rt.alloc(), taken, false);
+        right = right
+            && breaks(&rt, rt.alloc(), &mut fails, taken)
+            && breaks(&rt, rt.alloc(), &mut stops, taken);
+    }
+    let mut unflushed = Sink::without_flush(rt.alloc());
+    assert!(rt; right && breaks(&rt, rt.alloc(), &mut unflushed, EMPTY.len()));
+}
+
+/// The fault that came first is told: that of the bytes, though the writer failed as well.
+#[test]
+fn the_first_fault_is_told(rt: HostRuntime) {
+    let mut reader = Source::new(b"HG10");
+    let mut writer = Sink::failing(rt.alloc(), 5, true);
+    let told = connected(&rt, rt.alloc(), &mut reader, &mut writer, 9);
+    let fault = Some(ConnFault::Stream(StreamFault::BadMagic));
+    assert!(rt;
+        told == Told {
+            bundles: 1,
+            written: 5,
+            fault,
+            done: 0
+        }
+    );
+}

@@ -1,0 +1,70 @@
+//! The run of a push's parts on a store, in place.
+
+ghost use Rattle.std.specs.Prelude.{◌≡◌, ◌<◌, ◌≤◌, ◌+◌, ◌^◌, length, IfOk, OnOk};
+ghost use Rattle.std.specs.List.{range_with_len};
+ghost use Rattle.hg_parts.specs.Store.{repository_of, IsSound, IsGrown};
+ghost use Rattle.hg_repo.specs.Run.{run_of, with_reply, PartsGive};
+ghost use Rattle.hg_repo.specs.Replies.{AreReplies};
+
+use crate::done::Done;
+use hg_parts::{Refusal, Source, Store, handle_part, starts_replies};
+use hg_types::{NoMemory, Part, Seq, Settings};
+use std::alloc::Allocator;
+
+/// Runs the parts in order, up to the first that is refused. Then its changes, and those of the parts before it, may
+/// be there: the caller goes back.
+pub fn run_parts<A: Allocator + Copy>(
+    alloc: A,
+    store: &mut Store<A>,
+    settings: &Settings,
+    source: Source,
+    parts: &[Part<A>],
+) -> Result<Done<A>, Refusal<A>>
+    requires sound { IsSound settings.now store.old }
+    requires few { length parts.now < 2 ^ 32 }
+    ensures sound { OnOk result (IsSound settings.now store.new) }
+    ensures grown { IsGrown store.old store.new }
+    ensures replies { IfOk result (λ done. AreReplies (length parts.now) done.replies) }
+    ensures gives { PartsGive (run_of source (repository_of settings.now store.old) parts.now) (repository_of settings.now store.new) result }
+{
+    let mut replies = Seq::new(alloc);
+    let mut replying = false;
+    for (place, part) in parts.iter().enumerate() {
+        let reply = handle_part(alloc, store, settings, source, replying, place as u32, part)?;
+        keep_reply(&mut replies, reply)?;
+        replying = replying || starts_replies(part);
+    }
+    let handled = places(alloc, parts.len())?;
+    Ok(Done { replies, handled })
+}
+
+/// Keeps the reply of a part, where it has one, with its place among the replies as its id.
+fn keep_reply<A: Allocator>(
+    replies: &mut Seq<Part<A>, A>,
+    reply: Option<Part<A>>,
+) -> Result<(), NoMemory>
+    requires { length replies.old < 2 ^ 32 }
+    ensures kept { OnOk result (replies.new ≡ with_reply replies.old reply) }
+    ensures few { length replies.new ≤ length replies.old + 1 }
+{
+    match reply {
+        None => Ok(()),
+        Some(mut reply) => {
+            reply.id = replies.len() as u32;
+            replies.push(reply)
+        }
+    }
+}
+
+/// The places of that many parts.
+#[tactic(auto, using(crate::proofs::Ranges::range_more))]
+fn places<A: Allocator>(alloc: A, count: usize) -> Result<Seq<u32, A>, NoMemory>
+    requires { count < 2 ^ 32 }
+    ensures { IfOk result (λ places. places ≡ range_with_len 0 count) }
+{
+    let mut places = Vec::with_capacity(alloc, count)?;
+    for place in 0..count {
+        places.push_reserved(place as u32);
+    }
+    Ok(Seq::from_vec(places))
+}
