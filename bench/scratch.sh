@@ -5,9 +5,11 @@ top=$(cd "$(dirname "$0")/../.." && pwd)
 scratch=$(mktemp -d)
 trap 'rm -rf "$scratch"' EXIT
 
-# scratch_program FOLDER NAME "CRATES": the program of bench/FOLDER as the crate NAME over these crates; leaves the shell in its folder
+# scratch_program FOLDER NAME "CRATES": the program of bench/FOLDER as the crate NAME over these crates; leaves the shell in its folder.
+# A crate that was built in this clone, and is as it was then, need not be proved again: what was built is taken over.
 scratch_program() {
     git -C "$top" archive HEAD HANDLES crates.txt crates | tar -x -C "$scratch"
+    (cd "$top" && find crates -path '*/out/rlib' -prune -print0 | tar -c --null -T -) | tar -x -C "$scratch"
     cp -r "$top/bench/$1/program" "$scratch/crates/$2"
     find "$scratch/crates/$2" -name '*.txt' | while read -r file; do mv "$file" "${file%.txt}"; done
     echo "$2: $3" >> "$scratch/crates.txt"

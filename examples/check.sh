@@ -34,5 +34,23 @@ head -c 80 "$here/first-push.hg20" > "$room/in"
 check 'a bundle that is cut short' 1 "$room/truncated" 'hg_pushd: push aborted' one
 "$program" one < "$here/first-push.hg20" > /dev/full 2> "$room/err"
 [ $? = 3 ] && [ "$(cat "$room/err")" = 'hg_pushd: device fault' ] || { echo 'a full device is not told'; failed=1; }
+
+# Pushes that Mercurial sent: the first of each row onto the empty repository is done, and the second, which rests on the first,
+# is refused there. A reply tells of changesets that have one head more, or of none.
+printf 'HG20\0\0\0\0\0\0\0\x2f\x11reply:changegroup\0\0\0\0\0\x02\x0b\x01\x06\x01in-reply-to2return1\0\0\0\0\0\0\0\0' > "$room/changesets"
+cp "$here/pushes/first-changesets/01.hg20" "$room/in"
+check 'the first changesets' 0 "$room/changesets" '' one
+for row in "$here"/pushes/*/; do
+    words=(one)
+    [ -e "$row/publishing" ] && words+=(--publishing)
+    for push in 01 02; do
+        [ -e "$row/$push.hg20" ] || continue
+        wanted=1
+        [ $push = 01 ] && wanted=$(head -n 1 "$row/statuses")
+        got=0
+        "$program" "${words[@]}" < "$row/$push.hg20" > "$room/out" 2> "$room/err" || got=$?
+        [ "$got" = "$wanted" ] && [ "$(head -c 4 "$room/out")" = HG20 ] || { echo "$row$push: status $got, not $wanted, or no reply"; failed=1; }
+    done
+done
 [ $failed = 0 ] && echo 'The program: all runs as wanted.'
 exit $failed
