@@ -8,6 +8,7 @@ mod Feeding
 mod HeaderSizes
 mod Writing
 mod WrittenBundles
+mod Lengths
 mod OneBundle
 mod Runs
 mod Fronts

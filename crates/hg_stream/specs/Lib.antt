@@ -5,6 +5,7 @@ pub mod Places
 pub mod Faults
 pub mod Unbundler
 pub mod Written
+pub mod Lengths
 pub mod Number
 pub mod Told
 pub mod Going

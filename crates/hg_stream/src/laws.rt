@@ -5,6 +5,7 @@ ghost use Rattle.hg_types.specs.declared.limits.Limits.{Limits as AnyLimits};
 ghost use Rattle.hg_types.specs.declared.part.Part.{Part as AnyPart};
 ghost use Rattle.hg_stream.specs.declared.state.State.{State};
 ghost use Rattle.hg_stream.specs.Faults.{Tells};
+ghost use Rattle.hg_stream.specs.Lengths.{AreShortIfBare};
 ghost use Rattle.hg_stream.specs.Laws.{IsReadBack, IsWithinAsPartsAre, AreReadInOneWay, AreSettledOnce, IsReadOrSettled, HasOneVerdict, IsReadOrJudged};
 
 use std::alloc::Allocator;
@@ -17,6 +18,12 @@ pub fn what_is_written_is_a_bundle<A: Allocator>()
 /// Of parts that can be written, what is written is within the limits exactly where the parts are.
 pub fn what_is_written_is_within_as_its_parts_are<A: Allocator>()
     ensures { (limits : AnyLimits) (parts : List (AnyPart A)) → IsWithinAsPartsAre limits parts }
+{}
+
+/// A bundle of parts that can be written and have no payload has at most 261,390 bytes for each of them, and 12 around
+/// them.
+pub fn bundles_of_bare_parts_are_short<A: Allocator>()
+    ensures { (parts : List (AnyPart A)) → AreShortIfBare parts }
 {}
 
 /// Bytes begin with one whole bundle at most, and it has one list of parts.

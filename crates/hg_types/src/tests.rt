@@ -238,6 +238,15 @@ fn large_part<A: Allocator + Copy>(alloc: A) -> Result<Part<A>, NoMemory> {
     })
 }
 
+/// A copy of bytes takes their number and no more, but for what the heap rounds up.
+#[test]
+fn a_copy_takes_what_came(rt: HostRuntime) -> Result<(), Fail> {
+    let heap = LocalHeap::new(rt.alloc(), 1 << 20)?;
+    let copy = Seq::copy_of(&heap, &[7; 70_000])?;
+    assert!(rt; copy.len() == 70_000 && heap.used() <= 70_032);
+    Ok(())
+}
+
 /// Over an ample heap a clone is not refused, however large its source is, and it takes at most as much; to look at a part
 /// takes nothing.
 #[test]
