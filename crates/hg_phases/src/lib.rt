@@ -21,6 +21,7 @@ mod laws;
 mod order;
 mod phases;
 mod roots;
+mod standing;
 mod tape;
 mod walk;
 

@@ -1,7 +1,7 @@
 //! The order of phases.
 
-ghost use Rattle.std.specs.Prelude.{◌≡◌, ◌<◌, IfSome, length};
-ghost use Rattle.hg_phases.specs.Order.{greater, phase_of, phase_from};
+ghost use Rattle.std.specs.Prelude.{◌≡◌};
+ghost use Rattle.hg_phases.specs.Order.{greater, phase_from};
 
 use hg_types::Phase;
 
@@ -21,15 +21,4 @@ pub fn greater(a: Phase, b: Phase) -> Phase
     ensures { result ≡ greater a b }
 {
     if a.number() <= b.number() { b } else { a }
-}
-
-/// The phase of a parent among those of rows. Where there is no parent, it is public.
-pub fn phase_of(phases: &[Phase], parent: Option<u32>) -> Phase
-    requires { IfSome parent (λ r. r < length phases.now) }
-    ensures { result ≡ phase_of phases.now parent }
-{
-    match parent {
-        Some(row) => phases[row as usize],
-        None => Phase::Public,
-    }
 }

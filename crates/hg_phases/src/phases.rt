@@ -1,12 +1,13 @@
 //! The phases of a changelog's rows.
 
-ghost use Rattle.std.specs.Prelude.{◌≡◌, ◌≢◌, ◌↔◌, ◌<◌, All, length, Some, None, IsTrue, IfOk, OnOk, OnErr};
+ghost use Rattle.std.specs.Prelude.{◌≡◌, ◌≢◌, ◌↔◌, ◌<◌, [], ◌∷◌, ◌++◌, All, length, vec_len, vec_capacity, Some, None, IsTrue, IfOk, OnOk, OnErr, if◌then◌else◌};
 ghost use Rattle.hg_log.specs.Parents.{parents_of};
 ghost use Rattle.hg_phases.specs.Order.{phase_at};
 ghost use Rattle.hg_phases.specs.Phases.{registered, advanced, no_rows, AreFor, AreForSame};
 
-use crate::order::{greater, phase_of};
-use crate::roots::{are_same, begins, count_below, roots_of_tail};
+use crate::order::greater;
+use crate::roots::{are_same, make_room, tell};
+use crate::standing::{Standing, phase_at, phase_of};
 use crate::tape::Tape;
 use crate::walk::{lowered, lowered_tail};
 use hg_log::Changelog;
@@ -21,33 +22,42 @@ pub struct Mark {
 }
 
 /// The phase of each row: one byte each, and beside them the roots of draft and of secret.
+///
+/// The byte of a row also tells whether it is a root, so the roots of a mark are told by the rows of the mark,
+/// and what is kept for the way back is a number and a byte for each row that changed.
 #[derive(Drop)]
 pub struct Phases<A: Allocator = Global> {
-    index: Tape<Phase, A>,
-    draft: Tape<u32, A>,
-    secret: Tape<u32, A>,
+    index: Tape<A>,
+    draft: Vec<u32, A>,
+    secret: Vec<u32, A>,
     is_marked: bool,
 }
 
 impl<A: Allocator> Model for Phases<A> {
-    ghost use Rattle.std.specs.Prelude.{Some, None, if◌then◌else◌};
-    ghost use Rattle.hg_phases.specs.Tape.{base_of};
+    ghost use Rattle.std.specs.Prelude.{Some, None, if◌then◌else◌, vec_capacity};
+    ghost use Rattle.hg_types.specs.declared.phase.Phase.TheVariants.{Draft, Secret};
     ghost use Rattle.hg_phases.specs.Phases.{Marked};
 
     ghost Value = { Marked };
 
+    ghost use Rattle.hg_phases.specs.Standing.{phases_told, told};
+    ghost use Rattle.hg_phases.specs.Tape.{base_of, IsSound};
+
     ghost view = { λ p. record {
       current = record {
-        phases = p.index.items.items;
-        draft = p.draft.items.items;
-        secret = p.secret.items.items;
+        phases = phases_told p.index.rows.items;
+        draft = p.draft.items;
+        secret = p.secret.items;
       };
       marked = if p.is_marked then Some (record {
-        phases = base_of p.index.shared p.index.items.items p.index.kept.items;
-        draft = base_of p.draft.shared p.draft.items.items p.draft.kept.items;
-        secret = base_of p.secret.shared p.secret.items.items p.secret.kept.items;
+        phases = phases_told (base_of p.index.marked p.index.rows.items p.index.kept.items);
+        draft = told Draft (base_of p.index.marked p.index.rows.items p.index.kept.items);
+        secret = told Secret (base_of p.index.marked p.index.rows.items p.index.kept.items);
       }) else None;
     } };
+
+    ghost invariant = { λ p. IsSound p.index.rows.items p.index.kept.items p.index.marked
+        p.draft.items p.secret.items (vec_capacity p.draft) (vec_capacity p.secret) };
 }
 
 impl<A: Allocator + Copy> Phases<A> {
@@ -57,8 +67,8 @@ impl<A: Allocator + Copy> Phases<A> {
     {
         Phases {
             index: Tape::new(alloc),
-            draft: Tape::new(alloc),
-            secret: Tape::new(alloc),
+            draft: Vec::new(alloc),
+            secret: Vec::new(alloc),
             is_marked: false,
         }
     }
@@ -68,8 +78,8 @@ impl<A: Allocator + Copy> Phases<A> {
         ensures { IfOk result (λ copy. copy ≡ record { current = self.now.current; marked = None }) }
     {
         let index = self.index.copy(alloc)?;
-        let draft = self.draft.copy(alloc)?;
-        let secret = self.secret.copy(alloc)?;
+        let draft = Vec::from_slice(alloc, self.draft.as_slice())?;
+        let secret = Vec::from_slice(alloc, self.secret.as_slice())?;
         let is_marked = false;
         Ok(Phases {
             index,
@@ -95,15 +105,15 @@ impl<A: Allocator + Copy> Phases<A> {
     {
         let _lawful = log.len();
         let (p1, p2) = log.parent_revs(rev);
-        let phases = self.index.items.as_slice();
-        let above = greater(phase_of(phases, p1), phase_of(phases, p2));
-        let phase = greater(target, above);
-        self.index.reserve(1)?;
+        let rows = self.index.rows.as_slice();
+        let above = greater(phase_of(rows, p1), phase_of(rows, p2));
+        let row = Standing::of(greater(target, above), above);
+        self.index.rows.reserve(1)?;
         self.draft.reserve(1)?;
         self.secret.reserve(1)?;
-        self.index.add(phase);
-        self.draft.add_if(begins(Phase::Draft, above, phase), rev);
-        self.secret.add_if(begins(Phase::Secret, above, phase), rev);
+        self.index.rows.push_reserved(row);
+        push_if(&mut self.draft, row.is_root(Phase::Draft), rev);
+        push_if(&mut self.secret, row.is_root(Phase::Secret), rev);
         Ok(())
     }
 
@@ -129,23 +139,27 @@ impl<A: Allocator + Copy> Phases<A> {
         ensures err { OnErr result (self.new ≡ self.old) }
     {
         let _lawful = log.len();
-        let phases = self.index.items.as_slice();
-        let marks = lowered(alloc, log, phases, target, heads)?;
-        let low = phases.len() - marks.len();
-        let tail = lowered_tail(alloc, phases, marks.as_slice(), target)?;
-        let front = &phases[..low];
-        let draft = roots_of_tail(alloc, log, front, tail.as_slice(), Phase::Draft)?;
-        let secret = roots_of_tail(alloc, log, front, tail.as_slice(), Phase::Secret)?;
-        let draft_low = count_below(self.draft.items.as_slice(), low);
-        let secret_low = count_below(self.secret.items.as_slice(), low);
-        self.index.keep(low)?;
-        self.draft.reserve(draft.len())?;
-        self.draft.keep(draft_low)?;
-        self.secret.reserve(secret.len())?;
-        self.secret.keep(secret_low)?;
-        self.index.put(low, tail.as_slice());
-        self.draft.put(draft_low, draft.as_slice());
-        self.secret.put(secret_low, secret.as_slice());
+        let rows = self.index.rows.as_slice();
+        let marks = lowered(alloc, log, rows, target, heads)?;
+        let low = rows.len() - marks.len();
+        let tail = lowered_tail(alloc, log, rows, marks.as_slice(), target)?;
+        let new = tail.as_slice();
+        make_room(&mut self.draft, Phase::Draft, rows, low, new)?;
+        make_room(&mut self.secret, Phase::Secret, rows, low, new)?;
+        self.index.keep(low, new)?;
+        self.index.put(low, new);
+        tell(
+            &mut self.draft,
+            Phase::Draft,
+            low,
+            self.index.rows.as_slice(),
+        );
+        tell(
+            &mut self.secret,
+            Phase::Secret,
+            low,
+            self.index.rows.as_slice(),
+        );
         Ok(())
     }
 }
@@ -155,7 +169,7 @@ impl<A: Allocator> Phases<A> {
     pub fn len(&self) -> usize
         ensures { result ≡ length self.now.current.phases }
     {
-        self.index.items.len()
+        self.index.rows.len()
     }
 
     /// The phase of a row. It costs the same however many rows there are.
@@ -163,7 +177,7 @@ impl<A: Allocator> Phases<A> {
         requires { rev < length self.now.current.phases }
         ensures { result ≡ phase_at self.now.current.phases rev }
     {
-        self.index.items[rev as usize]
+        phase_at(self.index.rows.as_slice(), rev as usize)
     }
 
     /// Whether both have the same phases, where both are for the same rows. It compares their roots.
@@ -172,8 +186,8 @@ impl<A: Allocator> Phases<A> {
         ensures { IsTrue result ↔ (self.now.current.phases ≡ other.now.current.phases) }
     {
         self.len() == other.len()
-            && are_same(self.draft.items.as_slice(), other.draft.items.as_slice())
-            && are_same(self.secret.items.as_slice(), other.secret.items.as_slice())
+            && are_same(self.draft.as_slice(), other.draft.as_slice())
+            && are_same(self.secret.as_slice(), other.secret.as_slice())
     }
 
     /// Marks the phases as they are. It takes no memory, and an earlier mark is gone.
@@ -181,8 +195,6 @@ impl<A: Allocator> Phases<A> {
         ensures { self.new ≡ record { current = self.old.current; marked = Some self.old.current } }
     {
         self.index.mark();
-        self.draft.mark();
-        self.secret.mark();
         self.is_marked = true;
         Mark { _private: () }
     }
@@ -194,9 +206,30 @@ impl<A: Allocator> Phases<A> {
         ensures gone { self.new.marked ≡ None }
     {
         let Mark { _private } = mark;
-        self.index.back();
-        self.draft.back();
-        self.secret.back();
+        let from = self.index.back();
+        tell(
+            &mut self.draft,
+            Phase::Draft,
+            from,
+            self.index.rows.as_slice(),
+        );
+        tell(
+            &mut self.secret,
+            Phase::Secret,
+            from,
+            self.index.rows.as_slice(),
+        );
         self.is_marked = false;
+    }
+}
+
+/// Adds a number at the end where that is so, for which there is room.
+fn push_if<A: Allocator>(numbers: &mut Vec<u32, A>, test: bool, number: u32)
+    requires { vec_len numbers.old < vec_capacity numbers.old }
+    ensures items { numbers.new.items ≡ numbers.old.items ++ (if test then number ∷ [] else []) }
+    ensures room { vec_capacity numbers.new ≡ vec_capacity numbers.old }
+{
+    if test {
+        numbers.push_reserved(number);
     }
 }

@@ -1,139 +1,130 @@
-//! A list that can go back to what it was at a mark, without memory.
+//! The rows that have a phase, which can go back to what they were at a mark, without memory.
 
-ghost use Rattle.std.specs.Prelude.{◌≡◌, ◌+◌, ◌<◌, ◌≤◌, [], ◌∷◌, ◌++◌, take, length, vec_len, vec_capacity, IfOk, OnOk, if◌then◌else◌};
+ghost use Rattle.std.specs.Prelude.{◌≡◌, ℕ, ◌+◌, ◌<◌, ◌≤◌, ◌^◌, [], ◌∷◌, ◌++◌, All, take, length, vec_len, vec_capacity, IfOk, OnOk};
 ghost use Rattle.hg_phases.specs.Tape.{base_of};
 
+use crate::standing::Standing;
 use std::alloc::{AllocError, Allocator, Global};
 
-/// A list, and what was cut off of it since its mark.
-#[derive(Drop)]
-pub struct Tape<T, A: Allocator = Global> {
-    pub items: Vec<T, A>,
-    /// The items at the mark that were cut off, the last first.
-    pub kept: Vec<T, A>,
-    /// How many of the first items are there as at the mark. Where there is no mark, it is 0.
-    pub shared: usize,
-    ghost within: { shared ≤ vec_len items },
-    ghost room: { shared + vec_len kept ≤ vec_capacity items },
+/// What a row was before a change.
+#[derive(Clone, Copy, Drop)]
+pub struct Replaced {
+    pub row: u32,
+    pub standing: Standing,
 }
 
-impl<T, A: Allocator + Copy> Tape<T, A> {
-    /// The empty list without a mark, which takes no memory.
+/// The rows, and what was replaced in those of the mark.
+#[derive(Drop)]
+pub struct Tape<A: Allocator = Global> {
+    pub rows: Vec<Standing, A>,
+    /// What was replaced since the mark, the last at the end.
+    pub kept: Vec<Replaced, A>,
+    /// How many rows there were at the mark. Where there is no mark, it is 0.
+    pub marked: usize,
+}
+
+impl<A: Allocator + Copy> Tape<A> {
+    /// No rows, and no mark. It takes no memory.
     pub fn new(alloc: A) -> Self
-        ensures items { result.items.items ≡ [] }
-        ensures shared { result.shared ≡ 0 }
+        ensures rows { result.rows.items ≡ [] }
+        ensures kept { result.kept.items ≡ [] }
+        ensures marked { result.marked ≡ 0 }
     {
         Tape {
-            items: Vec::new(alloc),
+            rows: Vec::new(alloc),
             kept: Vec::new(alloc),
-            shared: 0,
+            marked: 0,
         }
     }
 
-    /// The same items without a mark.
+    /// The same rows without a mark.
     pub fn copy(&self, alloc: A) -> Result<Self, AllocError>
-    where
-        T: Copy,
-        ensures { IfOk result (λ copy. copy.items.items ≡ self.now.items.items) }
+        ensures rows { IfOk result (λ copy. copy.rows.items ≡ self.now.rows.items) }
+        ensures kept { IfOk result (λ copy. copy.kept.items ≡ []) }
+        ensures marked { IfOk result (λ copy. copy.marked ≡ 0) }
     {
-        let items = Vec::from_slice(alloc, self.items.as_slice())?;
+        let rows = Vec::from_slice(alloc, self.rows.as_slice())?;
         Ok(Tape {
-            items,
+            rows,
             kept: Vec::new(alloc),
-            shared: 0,
+            marked: 0,
         })
     }
 }
 
-impl<T: Copy + Drop, A: Allocator> Tape<T, A> {
-    /// Makes room for that many items more.
-    pub fn reserve(&mut self, count: usize) -> Result<(), AllocError>
-        ensures items { self.new.items.items ≡ self.old.items.items }
-        ensures base { base_of self.new.shared self.new.items.items self.new.kept.items
-            ≡ base_of self.old.shared self.old.items.items self.old.kept.items }
-        ensures shared { self.new.shared ≡ self.old.shared }
-        ensures room { OnOk result (vec_len self.new.items + count ≤ vec_capacity self.new.items) }
+impl<A: Allocator> Tape<A> {
+    /// Keeps what rows of the mark are, from that one on, where they are not what is to come.
+    ///
+    /// What is kept is a number and a standing for each row that changes. Where memory is refused, what was
+    /// kept until then stays, and changes nothing of the way back.
+    pub fn keep(&mut self, low: usize, tail: &[Standing]) -> Result<(), AllocError>
+        requires marked { self.old.marked ≤ vec_len self.old.rows }
+        requires within { low + length tail.now ≡ vec_len self.old.rows }
+        requires few { vec_len self.old.rows ≤ 2 ^ 32 }
+        requires replaced { All (λ change. change.row < self.old.marked) self.old.kept.items }
+        ensures rows { self.new.rows ≡ self.old.rows }
+        ensures marked { self.new.marked ≡ self.old.marked }
+        ensures replaced { All (λ change. change.row < self.new.marked) self.new.kept.items }
+        ensures base { base_of self.new.marked self.new.rows.items self.new.kept.items
+            ≡ base_of self.old.marked self.old.rows.items self.old.kept.items }
+        ensures ready { OnOk result
+            (base_of self.new.marked (take low self.old.rows.items ++ tail.now) self.new.kept.items
+            ≡ base_of self.old.marked self.old.rows.items self.old.kept.items) }
     {
-        self.items.reserve(count)
-    }
-
-    /// Adds an item at the end, for which there is room.
-    pub fn add(&mut self, item: T)
-        requires { vec_len self.old.items < vec_capacity self.old.items }
-        ensures items { self.new.items.items ≡ self.old.items.items ++ item ∷ [] }
-        ensures base { base_of self.new.shared self.new.items.items self.new.kept.items
-            ≡ base_of self.old.shared self.old.items.items self.old.kept.items }
-        ensures shared { self.new.shared ≡ self.old.shared }
-    {
-        self.items.push_reserved(item);
-    }
-
-    /// Adds an item at the end where that is so, for which there is room.
-    pub fn add_if(&mut self, test: bool, item: T)
-        requires { vec_len self.old.items < vec_capacity self.old.items }
-        ensures items { self.new.items.items
-            ≡ self.old.items.items ++ (if test then item ∷ [] else []) }
-        ensures base { base_of self.new.shared self.new.items.items self.new.kept.items
-            ≡ base_of self.old.shared self.old.items.items self.old.kept.items }
-        ensures shared { self.new.shared ≡ self.old.shared }
-    {
-        if test {
-            self.add(item);
-        }
-    }
-
-    /// Keeps the items from that place on that are there as at the mark, so that they can be replaced.
-    pub fn keep(&mut self, at: usize) -> Result<(), AllocError>
-        ensures items { self.new.items.items ≡ self.old.items.items }
-        ensures base { base_of self.new.shared self.new.items.items self.new.kept.items
-            ≡ base_of self.old.shared self.old.items.items self.old.kept.items }
-        ensures shared { OnOk result (self.new.shared ≤ at) }
-        ensures room { vec_capacity self.old.items ≡ vec_capacity self.new.items }
-    {
-        if self.shared <= at {
-            return Ok(());
-        }
-        self.kept.reserve(self.shared - at)?;
-        'keeping: while self.shared > at {
-            let item = self.items[self.shared - 1];
-            self.shared -= 1;
-            self.kept.push_reserved(item);
+        for place in 0..self.marked.saturating_sub(low) {
+            let row = low + place;
+            let standing = self.rows[row];
+            if !standing.is_same(tail[place]) {
+                self.kept.push(Replaced {
+                    row: row as u32,
+                    standing,
+                })?;
+            }
         }
         Ok(())
     }
 
-    /// Replaces the items from that place on, which are kept where they are of the mark.
-    pub fn put(&mut self, at: usize, tail: &[T])
-        requires shared { self.old.shared ≤ at }
-        requires within { at ≤ vec_len self.old.items }
-        requires room { at + length tail.now ≤ vec_capacity self.old.items }
-        ensures items { self.new.items.items ≡ take at self.old.items.items ++ tail.now }
-        ensures base { base_of self.new.shared self.new.items.items self.new.kept.items
-            ≡ base_of self.old.shared self.old.items.items self.old.kept.items }
+    /// Replaces the rows from that one on by as many.
+    pub fn put(&mut self, low: usize, tail: &[Standing])
+        requires { low + length tail.now ≡ vec_len self.old.rows }
+        ensures rows { self.new.rows.items ≡ take low self.old.rows.items ++ tail.now }
+        ensures kept { self.new.kept ≡ self.old.kept }
+        ensures marked { self.new.marked ≡ self.old.marked }
     {
-        self.items.truncate(at);
-        let _put = self.items.extend_from_slice(tail);
+        self.rows.truncate(low);
+        let _put = self.rows.extend_from_slice(tail);
     }
 
-    /// Marks the list as it is.
+    /// Marks the rows as they are.
     pub fn mark(&mut self)
-        ensures items { self.new.items.items ≡ self.old.items.items }
-        ensures base { base_of self.new.shared self.new.items.items self.new.kept.items
-            ≡ self.old.items.items }
+        ensures rows { self.new.rows ≡ self.old.rows }
+        ensures kept { self.new.kept.items ≡ [] }
+        ensures marked { self.new.marked ≡ vec_len self.old.rows }
     {
         self.kept.clear();
-        self.shared = self.items.len();
+        self.marked = self.rows.len();
     }
 
-    /// Goes back to what the list was at the mark, which is gone then.
-    pub fn back(&mut self)
-        ensures items { self.new.items.items
-            ≡ base_of self.old.shared self.old.items.items self.old.kept.items }
+    /// Goes back to what the rows were at the mark, which is gone then, and tells a row below which none has
+    /// changed.
+    pub fn back(&mut self) -> usize
+        requires marked { self.old.marked ≤ vec_len self.old.rows }
+        requires replaced { All (λ change. change.row < self.old.marked) self.old.kept.items }
+        ensures rows { self.new.rows.items
+            ≡ base_of self.old.marked self.old.rows.items self.old.kept.items }
+        ensures kept { self.new.kept.items ≡ [] }
+        ensures marked { self.new.marked ≡ 0 }
+        ensures within { result ≤ vec_len self.new.rows }
+        ensures front { take result self.new.rows.items ≡ take result self.old.rows.items }
     {
-        self.items.truncate(self.shared);
-        self.shared = 0;
-        'back: while let Some(item) = self.kept.pop() {
-            self.items.push_reserved(item);
+        let mut low = self.marked;
+        'back: while let Some(change) = self.kept.pop() {
+            let row = change.row as usize;
+            low = low.min(row);
+            self.rows[row] = change.standing;
         }
+        self.rows.truncate(self.marked);
+        self.marked = 0;
+        low
     }
 }

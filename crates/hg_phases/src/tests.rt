@@ -380,10 +380,10 @@ fn entries_by_their_bytes(rt: HostRuntime) {
 }
 
 /// How many rows the long log has.
-const MANY: usize = 4096;
+const MANY: usize = 10_000;
 
 /// The last of them.
-const LAST: u32 = 4095;
+const LAST: u32 = 9_999;
 
 /// Rows of which each second one is the child of the row before it, and the others are roots.
 fn put_pairs<A: Allocator + Copy>(alloc: A, log: &mut Changelog<A>) -> Option<()> {
@@ -410,7 +410,7 @@ fn are_all<A: Allocator>(phases: &Phases<A>, wanted: Phase) -> bool {
 }
 
 /// The same phases in a heap: nothing is refused, the memory is in proportion to the rows, an advance of the
-/// last of them keeps little for the way back, and the calls that take none take none.
+/// last of them and one of the first keep little for the way back, and the calls that take none take none.
 fn many_are_told<'h>(heap: &'h LocalHeap, log: &Changelog<&'h LocalHeap>, heads: &[u32]) -> bool {
     let before = heap.used();
     let mut phases = no_phases(heap, log);
@@ -421,6 +421,8 @@ fn many_are_told<'h>(heap: &'h LocalHeap, log: &Changelog<&'h LocalHeap>, heads:
     let is_marked = heap.used().saturating_sub(before) == registered;
     let is_lowered = advance(heap, &mut phases, log, P, &[LAST]);
     let lowered = heap.used().saturating_sub(before);
+    let is_first = advance(heap, &mut phases, log, P, &[0]);
+    let first = heap.used().saturating_sub(before);
     let is_advanced = advance(heap, &mut phases, log, P, heads);
     let are_public = are_all(&phases, P);
     let advanced = heap.used().saturating_sub(before);
@@ -429,8 +431,10 @@ fn many_are_told<'h>(heap: &'h LocalHeap, log: &Changelog<&'h LocalHeap>, heads:
     let are_draft = are_all(&phases, D);
     let is_back = heap.used().saturating_sub(before) == advanced;
     let is_small = registered <= 16 * MANY && advanced <= 48 * MANY;
-    let is_little = lowered <= registered.saturating_add(256);
+    let is_little = lowered <= registered.saturating_add(256)
+        && first <= registered.saturating_add(256);
     let takes_none = is_new & is_marked & is_back;
+    let is_lowered = is_lowered & is_first;
     let is_done = is_registered & is_lowered & is_advanced & are_public & is_itself & are_draft;
     is_done & is_small & is_little & takes_none
 }
@@ -454,7 +458,7 @@ fn many_are_read(alloc: Global) -> bool {
 fn many_rows(rt: HostRuntime) -> Result<(), Fail> {
     let state = RandomState::new(&rt)?;
     let heads = children(rt.alloc())?;
-    let heap = LocalHeap::new(rt.alloc(), 4 * 1024 * 1024)?;
+    let heap = LocalHeap::new(rt.alloc(), 16 * 1024 * 1024)?;
     assert!(rt; many_over(&heap, &heads, state));
     assert!(rt; many_are_read(rt.alloc()));
     Ok(())

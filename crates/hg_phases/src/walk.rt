@@ -3,9 +3,11 @@
 ghost use Rattle.std.specs.Prelude.{◌≡◌, ◌≢◌, ℕ, ◌+◌, ◌-◌, ◌<◌, ◌≤◌, All, length, slice_index_or, true, false, IfSome, IfOk, OnOk};
 ghost use Rattle.hg_log.specs.Parents.{parents_of};
 ghost use Rattle.hg_phases.specs.Phases.{AreLawful};
-ghost use Rattle.hg_phases.specs.Walk.{AreMarked, AreLowered, lowered_from};
+ghost use Rattle.hg_phases.specs.Standing.{phases_told};
+ghost use Rattle.hg_phases.specs.Walk.{AreMarked, AreLowered, lowered_at, lowered_of, lowered_row, lowered_rows};
 
-use crate::order::phase_of;
+use crate::order::greater;
+use crate::standing::{Standing, phase_at, phase_of};
 use hg_log::Changelog;
 use hg_types::Phase;
 use std::alloc::{AllocError, Allocator};
@@ -29,18 +31,18 @@ fn mark_place<A: Allocator>(marks: &mut Vec<bool, A>, place: usize) -> Result<()
 /// Marks a row, where there is one and it is above the target.
 fn mark_above<A: Allocator>(
     marks: &mut Vec<bool, A>,
-    phases: &[Phase],
+    rows: &[Standing],
     target: Phase,
     row: Option<u32>,
 ) -> Result<(), AllocError>
-    requires { IfSome row (λ r. r < length phases.now) }
-    ensures { OnOk result (AreMarked target phases.now row marks.old.items marks.new.items) }
+    requires { IfSome row (λ r. r < length rows.now) }
+    ensures { OnOk result (AreMarked target (phases_told rows.now) row marks.old.items marks.new.items) }
 {
     let Some(rev) = row else { return Ok(()) };
-    if phase_of(phases, row).number() <= target.number() {
+    if phase_of(rows, row).number() <= target.number() {
         return Ok(());
     }
-    mark_place(marks, phases.len() - 1 - rev as usize)
+    mark_place(marks, rows.len() - 1 - rev as usize)
 }
 
 /// Marks the rows that an advance lowers.
@@ -50,57 +52,98 @@ fn mark_above<A: Allocator>(
 pub fn lowered<A: Allocator + Copy>(
     alloc: A,
     log: &Changelog<A>,
-    phases: &[Phase],
+    rows: &[Standing],
     target: Phase,
     heads: &[u32],
 ) -> Result<Vec<bool, A>, AllocError>
-    requires heads { All (λ head. head < length phases.now) heads.now }
-    requires rows { length phases.now ≤ length log.now.rows }
-    requires lawful { AreLawful (parents_of log.now.rows) phases.now }
+    requires heads { All (λ head. head < length rows.now) heads.now }
+    requires rows { length rows.now ≤ length log.now.rows }
+    requires lawful { AreLawful (parents_of log.now.rows) (phases_told rows.now) }
     ensures { IfOk result
-        (λ marks. AreLowered (parents_of log.now.rows) target heads.now phases.now marks.items) }
+        (λ marks. AreLowered (parents_of log.now.rows) target heads.now (phases_told rows.now) marks.items) }
 {
     let _few = log.len();
     let mut marks = Vec::new(alloc);
     for head in heads {
-        mark_above(&mut marks, phases, target, Some(*head))?;
+        mark_above(&mut marks, rows, target, Some(*head))?;
     }
     let mut place = 0;
     'down: while place < marks.len() {
         if marks[place] {
-            let row = phases.len() - 1 - place;
+            let row = rows.len() - 1 - place;
             let (p1, p2) = log.parent_revs(row as u32);
-            mark_above(&mut marks, phases, target, p1)?;
-            mark_above(&mut marks, phases, target, p2)?;
+            mark_above(&mut marks, rows, target, p1)?;
+            mark_above(&mut marks, rows, target, p2)?;
         }
         place += 1;
     }
     Ok(marks)
 }
 
-/// The phases that an advance gives to the rows from the lowest that is lowered on.
-pub fn lowered_tail<A: Allocator + Copy>(
-    alloc: A,
-    phases: &[Phase],
+/// The phase that an advance gives to a row.
+fn lowered_at(rows: &[Standing], marks: &[bool], target: Phase, row: usize) -> Phase
+    requires { row < length rows.now }
+    ensures { result ≡ lowered_at target (phases_told rows.now) marks.now row }
+{
+    let place = rows.len() - 1 - row;
+    if place < marks.len() && marks[place] {
+        target
+    } else {
+        phase_at(rows, row)
+    }
+}
+
+/// The phase that an advance gives to a parent. Where there is no parent, it is public.
+fn lowered_of(rows: &[Standing], marks: &[bool], target: Phase, parent: Option<u32>) -> Phase
+    requires { IfSome parent (λ r. r < length rows.now) }
+    ensures { result ≡ lowered_of target (phases_told rows.now) marks.now parent }
+{
+    match parent {
+        Some(row) => lowered_at(rows, marks, target, row as usize),
+        None => Phase::Public,
+    }
+}
+
+/// What an advance makes of a row.
+fn lowered_row<A: Allocator>(
+    log: &Changelog<A>,
+    rows: &[Standing],
     marks: &[bool],
     target: Phase,
-) -> Result<Vec<Phase, A>, AllocError>
-    requires { length marks.now ≤ length phases.now }
-    ensures tail { IfOk result
+    row: usize,
+) -> Standing
+    requires row { row < length rows.now }
+    requires rows { length rows.now ≤ length log.now.rows }
+    ensures { result ≡ lowered_row (parents_of log.now.rows) target (phases_told rows.now) marks.now row }
+{
+    let _few = log.len();
+    let (p1, p2) = log.parent_revs(row as u32);
+    let above = greater(
+        lowered_of(rows, marks, target, p1),
+        lowered_of(rows, marks, target, p2),
+    );
+    Standing::of(lowered_at(rows, marks, target, row), above)
+}
+
+/// What an advance makes of the rows from the lowest that is lowered on.
+pub fn lowered_tail<A: Allocator + Copy>(
+    alloc: A,
+    log: &Changelog<A>,
+    rows: &[Standing],
+    marks: &[bool],
+    target: Phase,
+) -> Result<Vec<Standing, A>, AllocError>
+    requires marks { length marks.now ≤ length rows.now }
+    requires rows { length rows.now ≤ length log.now.rows }
+    ensures { IfOk result
         (λ tail. tail.items
-        ≡ lowered_from target phases.now marks.now
-        (length phases.now - length marks.now) (length marks.now)) }
-    ensures len { IfOk result (λ tail. length tail.items ≡ length marks.now) }
+        ≡ lowered_rows (parents_of log.now.rows) target (phases_told rows.now) marks.now
+        (length rows.now - length marks.now) (length marks.now)) }
 {
     let mut tail = Vec::with_capacity(alloc, marks.len())?;
     for place in 0..marks.len() {
-        let row = phases.len() - marks.len() + place;
-        let phase = if marks[marks.len() - 1 - place] {
-            target
-        } else {
-            phases[row]
-        };
-        tail.push_reserved(phase);
+        let row = rows.len() - marks.len() + place;
+        tail.push_reserved(lowered_row(log, rows, marks, target, row));
     }
     Ok(tail)
 }

@@ -1,89 +1,324 @@
-use Rattle.std.proofs.Common.{◌≡◌, ◌∙◌, ◌+◌, ◌-◌, ◌≤◌, ◌++◌, ℕ, List, take, length, ap, subst, arith}
-use Rattle.std.proofs.lemmas.List.{length-take-le}
-use Rattle.hg_types.specs.declared.phase.Phase.{Phase}
+use Rattle.std.proofs.Common.{◌≡◌, ◌∙◌, ℕ, ◌+◌, ◌-◌, ◌<◌, ◌≤◌, ◌^◌, ◌++◌, Bool, List, Vec, take, length, sym, ap, subst, arith, length-append}
+use Rattle.std.specs.List.{All}
+use Rattle.std.specs.Vec.{vec_capacity}
+use Rattle.std.proofs.lemmas.List.{length-map, length-take-le, take_at}
+use Rattle.std.proofs.lemmas.List.Elements.{All-same}
 use Rattle.hg_types.specs.declared.phase.Phase.TheVariants.{Draft, Secret}
 use Rattle.hg_log.specs.Parents.{parents_of}
 use Rattle.hg_log.proofs.CallerLemmas.{ordered}
-use Rattle.hg_phases.specs.Roots.{roots_from}
-use Rattle.hg_phases.specs.Phases.{Phasing, AreFor}
-use Rattle.hg_phases.specs.Walk.{AreLowered, lowered_from}
-use Rattle.hg_phases.proofs.Kept.{IsCount, advanced_new, advanced_for}
+use Rattle.hg_phases.specs.declared.standing.Standing.{Standing}
+use Rattle.hg_phases.specs.declared.tape.Replaced.{Replaced}
+use Rattle.hg_phases.specs.Phases.{AreFor}
+use Rattle.hg_phases.specs.Standing.{phase_told, phases_told, told}
+use Rattle.hg_phases.specs.Tape.{base_of}
+use Rattle.hg_phases.specs.Walk.{AreLowered, lowered_rows}
+use Rattle.hg_phases.proofs.Lowering.{rows_length, phases_advanced, told_for}
+use Rattle.hg_phases.proofs.Soundness.{sound_changed, for_parts}
 use Rattle.hg_phases.proofs.phases.Phases.advance.Goals as goal
+
+pub keep-requires-clause-within : goal.keep-requires-clause-within
+keep-requires-clause-within g c =
+    let rows = c.args.log.now.rows in
+    let t = c.args.target in
+    let heads = c.args.heads.now in
+    let old = c.self.inside in
+    let was = old.index.rows.items in
+    let slice_is : c.as_slice-rows.result.now ≡ was = c.as_slice-rows.ensures.value in
+    let marks = c.in_ok-marks.marks.items in
+    let ok = c.in_ok-marks.marks.ok in
+    let are : AreLowered (parents_of rows) t heads (phases_told was) marks = subst (λ (xs : List Standing). AreLowered (parents_of rows) t heads (phases_told xs) marks) slice_is c.in_ok-marks.ensures in
+    let count : c.len.result ≡ length marks = omega (arith, c.len.ensures) in
+    let few : length marks ≤ length was = omega (arith, are.few, length-map was phase_told) in
+    let seen : c.as_slice.result.now ≡ marks = c.as_slice.ensures.value in
+    let low = length c.as_slice-rows.result.now - c.len.result in
+    let low_is : low + length marks ≡ length was = omega (arith, ap length slice_is, count, few) in
+    let place : length was - length marks ≡ low = omega (arith, low_is) in
+    let new = c.as_slice-new.result.now in
+    let tail_is : new ≡ lowered_rows (parents_of rows) t (phases_told was) marks low (length marks) =
+    c.as_slice-new.ensures.value ∙ c.in_ok-tail.ensures
+    ∙ ap (λ (xs : List Standing). lowered_rows (parents_of rows) t (phases_told xs) c.as_slice.result.now (length xs - length c.as_slice.result.now) (length c.as_slice.result.now)) slice_is
+    ∙ ap (λ (ms : List Bool). lowered_rows (parents_of rows) t (phases_told was) ms (length was - length ms) (length ms)) seen
+    ∙ ap (λ (n : ℕ). lowered_rows (parents_of rows) t (phases_told was) marks n (length marks)) place in
+    let size : length new ≡ length marks = ap length tail_is ∙ rows_length (parents_of rows) t (phases_told was) marks low (length marks) in
+    let ok_rows = old.index.rows.ok in
+    omega (arith, size, low_is)
+
+pub put-requires : goal.put-requires
+put-requires g c =
+    let rows = c.args.log.now.rows in
+    let t = c.args.target in
+    let heads = c.args.heads.now in
+    let old = c.self.inside in
+    let was = old.index.rows.items in
+    let slice_is : c.as_slice-rows.result.now ≡ was = c.as_slice-rows.ensures.value in
+    let marks = c.in_ok-marks.marks.items in
+    let ok = c.in_ok-marks.marks.ok in
+    let are : AreLowered (parents_of rows) t heads (phases_told was) marks = subst (λ (xs : List Standing). AreLowered (parents_of rows) t heads (phases_told xs) marks) slice_is c.in_ok-marks.ensures in
+    let count : c.len.result ≡ length marks = omega (arith, c.len.ensures) in
+    let few : length marks ≤ length was = omega (arith, are.few, length-map was phase_told) in
+    let seen : c.as_slice.result.now ≡ marks = c.as_slice.ensures.value in
+    let low = length c.as_slice-rows.result.now - c.len.result in
+    let low_is : low + length marks ≡ length was = omega (arith, ap length slice_is, count, few) in
+    let place : length was - length marks ≡ low = omega (arith, low_is) in
+    let new = c.as_slice-new.result.now in
+    let tail_is : new ≡ lowered_rows (parents_of rows) t (phases_told was) marks low (length marks) =
+    c.as_slice-new.ensures.value ∙ c.in_ok-tail.ensures
+    ∙ ap (λ (xs : List Standing). lowered_rows (parents_of rows) t (phases_told xs) c.as_slice.result.now (length xs - length c.as_slice.result.now) (length c.as_slice.result.now)) slice_is
+    ∙ ap (λ (ms : List Bool). lowered_rows (parents_of rows) t (phases_told was) ms (length was - length ms) (length ms)) seen
+    ∙ ap (λ (n : ℕ). lowered_rows (parents_of rows) t (phases_told was) marks n (length marks)) place in
+    let size : length new ≡ length marks = ap length tail_is ∙ rows_length (parents_of rows) t (phases_told was) marks low (length marks) in
+    let ok_rows = c.keep.new.self.rows.ok in
+    omega (arith, size, low_is, ap (λ (v : Vec Standing g.row.A.Denot). length v.items) c.keep.ensures.rows)
+
+pub make_room-requires-clause-few_more : goal.make_room-requires-clause-few_more
+make_room-requires-clause-few_more g c =
+    let rows = c.args.log.now.rows in
+    let t = c.args.target in
+    let heads = c.args.heads.now in
+    let old = c.self.inside in
+    let was = old.index.rows.items in
+    let slice_is : c.as_slice-rows.result.now ≡ was = c.as_slice-rows.ensures.value in
+    let marks = c.in_ok-marks.marks.items in
+    let ok = c.in_ok-marks.marks.ok in
+    let are : AreLowered (parents_of rows) t heads (phases_told was) marks = subst (λ (xs : List Standing). AreLowered (parents_of rows) t heads (phases_told xs) marks) slice_is c.in_ok-marks.ensures in
+    let count : c.len.result ≡ length marks = omega (arith, c.len.ensures) in
+    let few : length marks ≤ length was = omega (arith, are.few, length-map was phase_told) in
+    let seen : c.as_slice.result.now ≡ marks = c.as_slice.ensures.value in
+    let low = length c.as_slice-rows.result.now - c.len.result in
+    let low_is : low + length marks ≡ length was = omega (arith, ap length slice_is, count, few) in
+    let place : length was - length marks ≡ low = omega (arith, low_is) in
+    let new = c.as_slice-new.result.now in
+    let tail_is : new ≡ lowered_rows (parents_of rows) t (phases_told was) marks low (length marks) =
+    c.as_slice-new.ensures.value ∙ c.in_ok-tail.ensures
+    ∙ ap (λ (xs : List Standing). lowered_rows (parents_of rows) t (phases_told xs) c.as_slice.result.now (length xs - length c.as_slice.result.now) (length c.as_slice.result.now)) slice_is
+    ∙ ap (λ (ms : List Bool). lowered_rows (parents_of rows) t (phases_told was) ms (length was - length ms) (length ms)) seen
+    ∙ ap (λ (n : ℕ). lowered_rows (parents_of rows) t (phases_told was) marks n (length marks)) place in
+    let size : length new ≡ length marks = ap length tail_is ∙ rows_length (parents_of rows) t (phases_told was) marks low (length marks) in
+    omega (arith, size, few, c.self.invariant.few)
+
+pub make_room-requires-2-clause-few_more : goal.make_room-requires-2-clause-few_more
+make_room-requires-2-clause-few_more g c =
+    let rows = c.args.log.now.rows in
+    let t = c.args.target in
+    let heads = c.args.heads.now in
+    let old = c.self.inside in
+    let was = old.index.rows.items in
+    let slice_is : c.as_slice-rows.result.now ≡ was = c.as_slice-rows.ensures.value in
+    let marks = c.in_ok-marks.marks.items in
+    let ok = c.in_ok-marks.marks.ok in
+    let are : AreLowered (parents_of rows) t heads (phases_told was) marks = subst (λ (xs : List Standing). AreLowered (parents_of rows) t heads (phases_told xs) marks) slice_is c.in_ok-marks.ensures in
+    let count : c.len.result ≡ length marks = omega (arith, c.len.ensures) in
+    let few : length marks ≤ length was = omega (arith, are.few, length-map was phase_told) in
+    let seen : c.as_slice.result.now ≡ marks = c.as_slice.ensures.value in
+    let low = length c.as_slice-rows.result.now - c.len.result in
+    let low_is : low + length marks ≡ length was = omega (arith, ap length slice_is, count, few) in
+    let place : length was - length marks ≡ low = omega (arith, low_is) in
+    let new = c.as_slice-new.result.now in
+    let tail_is : new ≡ lowered_rows (parents_of rows) t (phases_told was) marks low (length marks) =
+    c.as_slice-new.ensures.value ∙ c.in_ok-tail.ensures
+    ∙ ap (λ (xs : List Standing). lowered_rows (parents_of rows) t (phases_told xs) c.as_slice.result.now (length xs - length c.as_slice.result.now) (length c.as_slice.result.now)) slice_is
+    ∙ ap (λ (ms : List Bool). lowered_rows (parents_of rows) t (phases_told was) ms (length was - length ms) (length ms)) seen
+    ∙ ap (λ (n : ℕ). lowered_rows (parents_of rows) t (phases_told was) marks n (length marks)) place in
+    let size : length new ≡ length marks = ap length tail_is ∙ rows_length (parents_of rows) t (phases_told was) marks low (length marks) in
+    omega (arith, size, few, c.self.invariant.few)
+
+pub tell-requires : goal.tell-requires
+tell-requires g c =
+    let rows = c.args.log.now.rows in
+    let t = c.args.target in
+    let heads = c.args.heads.now in
+    let old = c.self.inside in
+    let was = old.index.rows.items in
+    let slice_is : c.as_slice-rows.result.now ≡ was = c.as_slice-rows.ensures.value in
+    let marks = c.in_ok-marks.marks.items in
+    let ok = c.in_ok-marks.marks.ok in
+    let are : AreLowered (parents_of rows) t heads (phases_told was) marks = subst (λ (xs : List Standing). AreLowered (parents_of rows) t heads (phases_told xs) marks) slice_is c.in_ok-marks.ensures in
+    let count : c.len.result ≡ length marks = omega (arith, c.len.ensures) in
+    let few : length marks ≤ length was = omega (arith, are.few, length-map was phase_told) in
+    let seen : c.as_slice.result.now ≡ marks = c.as_slice.ensures.value in
+    let low = length c.as_slice-rows.result.now - c.len.result in
+    let low_is : low + length marks ≡ length was = omega (arith, ap length slice_is, count, few) in
+    let place : length was - length marks ≡ low = omega (arith, low_is) in
+    let new = c.as_slice-new.result.now in
+    let tail_is : new ≡ lowered_rows (parents_of rows) t (phases_told was) marks low (length marks) =
+    c.as_slice-new.ensures.value ∙ c.in_ok-tail.ensures
+    ∙ ap (λ (xs : List Standing). lowered_rows (parents_of rows) t (phases_told xs) c.as_slice.result.now (length xs - length c.as_slice.result.now) (length c.as_slice.result.now)) slice_is
+    ∙ ap (λ (ms : List Bool). lowered_rows (parents_of rows) t (phases_told was) ms (length was - length ms) (length ms)) seen
+    ∙ ap (λ (n : ℕ). lowered_rows (parents_of rows) t (phases_told was) marks n (length marks)) place in
+    let size : length new ≡ length marks = ap length tail_is ∙ rows_length (parents_of rows) t (phases_told was) marks low (length marks) in
+    let front : length (take low was) ≡ low = length-take-le low was (omega (arith, low_is)) in
+    let keep_rows : c.keep.new.self.rows.items ≡ was = ap (λ (v : Vec Standing g.row.A.Denot). v.items) c.keep.ensures.rows in
+    let now = take low was ++ new in
+    let put_is : c.put.new.self.rows.items ≡ now = c.put.ensures.rows ∙ ap (λ (xs : List Standing). take low xs ++ new) keep_rows in
+    let now_len : length now ≡ length was = omega (arith, length-append (take low was) new, front, size, low_is) in
+    let shown : c.as_slice-2.result.now ≡ now = c.as_slice-2.ensures.value ∙ put_is in
+    record {
+      told = record {
+        was = was;
+        told = c.make_room.ensures.items ∙ c.self.invariant.draft;
+        front = sym (ap (take low) shown ∙ take_at (take low was) new low front);
+        within = omega (arith, ap length shown, now_len, low_is);
+        within_was = omega (arith, low_is);
+      };
+      room = omega (arith, ap (λ (xs : List Standing). length (told Draft xs)) shown, c.in_ok-make_room.ensures.room, ap (λ (xs : List Standing). length (told Draft (take low xs ++ new))) slice_is);
+      few = omega (arith, ap length shown, now_len, c.self.invariant.few);
+    }
+
+pub tell-requires-2 : goal.tell-requires-2
+tell-requires-2 g c =
+    let rows = c.args.log.now.rows in
+    let t = c.args.target in
+    let heads = c.args.heads.now in
+    let old = c.self.inside in
+    let was = old.index.rows.items in
+    let slice_is : c.as_slice-rows.result.now ≡ was = c.as_slice-rows.ensures.value in
+    let marks = c.in_ok-marks.marks.items in
+    let ok = c.in_ok-marks.marks.ok in
+    let are : AreLowered (parents_of rows) t heads (phases_told was) marks = subst (λ (xs : List Standing). AreLowered (parents_of rows) t heads (phases_told xs) marks) slice_is c.in_ok-marks.ensures in
+    let count : c.len.result ≡ length marks = omega (arith, c.len.ensures) in
+    let few : length marks ≤ length was = omega (arith, are.few, length-map was phase_told) in
+    let seen : c.as_slice.result.now ≡ marks = c.as_slice.ensures.value in
+    let low = length c.as_slice-rows.result.now - c.len.result in
+    let low_is : low + length marks ≡ length was = omega (arith, ap length slice_is, count, few) in
+    let place : length was - length marks ≡ low = omega (arith, low_is) in
+    let new = c.as_slice-new.result.now in
+    let tail_is : new ≡ lowered_rows (parents_of rows) t (phases_told was) marks low (length marks) =
+    c.as_slice-new.ensures.value ∙ c.in_ok-tail.ensures
+    ∙ ap (λ (xs : List Standing). lowered_rows (parents_of rows) t (phases_told xs) c.as_slice.result.now (length xs - length c.as_slice.result.now) (length c.as_slice.result.now)) slice_is
+    ∙ ap (λ (ms : List Bool). lowered_rows (parents_of rows) t (phases_told was) ms (length was - length ms) (length ms)) seen
+    ∙ ap (λ (n : ℕ). lowered_rows (parents_of rows) t (phases_told was) marks n (length marks)) place in
+    let size : length new ≡ length marks = ap length tail_is ∙ rows_length (parents_of rows) t (phases_told was) marks low (length marks) in
+    let front : length (take low was) ≡ low = length-take-le low was (omega (arith, low_is)) in
+    let keep_rows : c.keep.new.self.rows.items ≡ was = ap (λ (v : Vec Standing g.row.A.Denot). v.items) c.keep.ensures.rows in
+    let now = take low was ++ new in
+    let put_is : c.put.new.self.rows.items ≡ now = c.put.ensures.rows ∙ ap (λ (xs : List Standing). take low xs ++ new) keep_rows in
+    let now_len : length now ≡ length was = omega (arith, length-append (take low was) new, front, size, low_is) in
+    let shown : c.as_slice-3.result.now ≡ now = c.as_slice-3.ensures.value ∙ put_is in
+    record {
+      told = record {
+        was = was;
+        told = c.make_room-2.ensures.items ∙ c.self.invariant.secret;
+        front = sym (ap (take low) shown ∙ take_at (take low was) new low front);
+        within = omega (arith, ap length shown, now_len, low_is);
+        within_was = omega (arith, low_is);
+      };
+      room = omega (arith, ap (λ (xs : List Standing). length (told Secret xs)) shown, c.in_ok-make_room-2.ensures.room, ap (λ (xs : List Standing). length (told Secret (take low xs ++ new))) slice_is);
+      few = omega (arith, ap length shown, now_len, c.self.invariant.few);
+    }
+
+pub invariant_of-self-2 : goal.invariant_of-self-2
+invariant_of-self-2 g c =
+    let rows = c.args.log.now.rows in
+    let t = c.args.target in
+    let heads = c.args.heads.now in
+    let old = c.self.inside in
+    let was = old.index.rows.items in
+    let slice_is : c.as_slice-rows.result.now ≡ was = c.as_slice-rows.ensures.value in
+    let marks = c.in_ok-marks.marks.items in
+    let ok = c.in_ok-marks.marks.ok in
+    let are : AreLowered (parents_of rows) t heads (phases_told was) marks = subst (λ (xs : List Standing). AreLowered (parents_of rows) t heads (phases_told xs) marks) slice_is c.in_ok-marks.ensures in
+    let count : c.len.result ≡ length marks = omega (arith, c.len.ensures) in
+    let few : length marks ≤ length was = omega (arith, are.few, length-map was phase_told) in
+    let seen : c.as_slice.result.now ≡ marks = c.as_slice.ensures.value in
+    let low = length c.as_slice-rows.result.now - c.len.result in
+    let low_is : low + length marks ≡ length was = omega (arith, ap length slice_is, count, few) in
+    let place : length was - length marks ≡ low = omega (arith, low_is) in
+    let new = c.as_slice-new.result.now in
+    let tail_is : new ≡ lowered_rows (parents_of rows) t (phases_told was) marks low (length marks) =
+    c.as_slice-new.ensures.value ∙ c.in_ok-tail.ensures
+    ∙ ap (λ (xs : List Standing). lowered_rows (parents_of rows) t (phases_told xs) c.as_slice.result.now (length xs - length c.as_slice.result.now) (length c.as_slice.result.now)) slice_is
+    ∙ ap (λ (ms : List Bool). lowered_rows (parents_of rows) t (phases_told was) ms (length was - length ms) (length ms)) seen
+    ∙ ap (λ (n : ℕ). lowered_rows (parents_of rows) t (phases_told was) marks n (length marks)) place in
+    let size : length new ≡ length marks = ap length tail_is ∙ rows_length (parents_of rows) t (phases_told was) marks low (length marks) in
+    let front : length (take low was) ≡ low = length-take-le low was (omega (arith, low_is)) in
+    let keep_rows : c.keep.new.self.rows.items ≡ was = ap (λ (v : Vec Standing g.row.A.Denot). v.items) c.keep.ensures.rows in
+    let now = take low was ++ new in
+    let put_is : c.put.new.self.rows.items ≡ now = c.put.ensures.rows ∙ ap (λ (xs : List Standing). take low xs ++ new) keep_rows in
+    let now_len : length now ≡ length was = omega (arith, length-append (take low was) new, front, size, low_is) in
+    let kept_is : c.put.new.self.kept.items ≡ c.keep.new.self.kept.items = ap (λ (v : Vec Replaced g.row.A.Denot). v.items) c.put.ensures.kept in
+    let mark_is : c.put.new.self.marked ≡ c.keep.new.self.marked = c.put.ensures.marked in
+    let base : base_of c.put.new.self.marked c.put.new.self.rows.items c.put.new.self.kept.items ≡ base_of old.index.marked was old.index.kept.items =
+    ap (λ m. base_of m c.put.new.self.rows.items c.put.new.self.kept.items) mark_is
+    ∙ ap (λ ks. base_of c.keep.new.self.marked c.put.new.self.rows.items ks) kept_is
+    ∙ ap (λ xs. base_of c.keep.new.self.marked xs c.keep.new.self.kept.items) put_is
+    ∙ c.in_ok-keep.ensures.ready in
+    let replaced : All (λ (r : Replaced). r.row < c.put.new.self.marked) c.put.new.self.kept.items =
+    subst (λ m. All (λ (r : Replaced). r.row < m) c.put.new.self.kept.items) (sym mark_is)
+    (All-same (λ (r : Replaced). r.row < c.keep.new.self.marked) c.put.new.self.kept.items c.keep.new.self.kept.items kept_is c.keep.ensures.replaced) in
+    sound_changed was c.put.new.self.rows.items old.index.kept.items c.put.new.self.kept.items old.index.marked c.put.new.self.marked old.draft.items old.secret.items c.tell.new.roots.items c.tell-2.new.roots.items
+    (vec_capacity old.draft) (vec_capacity old.secret) (vec_capacity c.tell.new.roots) (vec_capacity c.tell-2.new.roots) c.self.invariant
+    (omega (arith, ap length put_is, now_len, c.self.invariant.few)) (omega (arith, ap length put_is, now_len)) (mark_is ∙ c.keep.ensures.marked) replaced base
+    (c.tell.ensures.told ∙ ap (told Draft) c.as_slice-2.ensures.value) (c.tell-2.ensures.told ∙ ap (told Secret) c.as_slice-3.ensures.value)
+    (omega (arith, c.make_room.ensures.more, c.tell.ensures.room)) (omega (arith, c.make_room-2.ensures.more, c.tell-2.ensures.room))
 
 pub returns-clause-ok : goal.returns-clause-ok
 returns-clause-ok g c =
     let rows = c.args.log.now.rows in
     let t = c.args.target in
     let heads = c.args.heads.now in
-    let kept : Phasing = record { phases = c.self.inside.index.items.items; draft = c.self.inside.draft.items.items; secret = c.self.inside.secret.items.items } in
-    let fits : AreFor rows kept = rw (← c.self.view_is) at c.requires.fits in
-    let phases = c.as_slice-phases.result.now in
-    let ps : phases ≡ kept.phases = c.as_slice-phases.ensures.value in
+    let old = c.self.inside in
+    let was = old.index.rows.items in
+    let slice_is : c.as_slice-rows.result.now ≡ was = c.as_slice-rows.ensures.value in
     let marks = c.in_ok-marks.marks.items in
     let ok = c.in_ok-marks.marks.ok in
-    let are : AreLowered (parents_of rows) t heads kept.phases marks = subst (λ xs. AreLowered (parents_of rows) t heads xs marks) ps c.in_ok-marks.ensures in
-    let few : length marks ≤ length kept.phases = are.few in
+    let are : AreLowered (parents_of rows) t heads (phases_told was) marks = subst (λ (xs : List Standing). AreLowered (parents_of rows) t heads (phases_told xs) marks) slice_is c.in_ok-marks.ensures in
     let count : c.len.result ≡ length marks = omega (arith, c.len.ensures) in
-    let low = length phases - c.len.result in
-    let low_is : low + length marks ≡ length kept.phases = omega (arith, ap length ps) in
+    let few : length marks ≤ length was = omega (arith, are.few, length-map was phase_told) in
     let seen : c.as_slice.result.now ≡ marks = c.as_slice.ensures.value in
-    let place : length phases - length c.as_slice.result.now ≡ low = omega (arith, ap length seen) in
-    let tail : c.as_slice-6.result.now ≡ lowered_from t kept.phases marks low (length marks) =
-    c.as_slice-6.ensures.value ∙ c.in_ok-tail.ensures.tail ∙ ap (λ (xs : List Phase). lowered_from t xs c.as_slice.result.now (length phases - length c.as_slice.result.now) (length c.as_slice.result.now)) ps
-    ∙ ap (λ n. lowered_from t kept.phases c.as_slice.result.now n (length c.as_slice.result.now)) place ∙ ap (λ ms. lowered_from t kept.phases ms low (length ms)) seen in
-    let index : c.put.new.self.items.items ≡ take low kept.phases ++ lowered_from t kept.phases marks low (length marks) =
-    c.put.ensures.items ∙ ap (λ (xs : List Phase). take low xs ++ c.as_slice-6.result.now) c.in_ok-keep.ensures.items ∙ ap (λ (xs : List Phase). take low kept.phases ++ xs) tail in
-    rw (← c.self.view_is) (index ∙ advanced_new rows kept t heads marks low (ordered rows c.len-lawful.ensures.lawful) fits are low_is)
+    let low = length c.as_slice-rows.result.now - c.len.result in
+    let low_is : low + length marks ≡ length was = omega (arith, ap length slice_is, count, few) in
+    let place : length was - length marks ≡ low = omega (arith, low_is) in
+    let new = c.as_slice-new.result.now in
+    let tail_is : new ≡ lowered_rows (parents_of rows) t (phases_told was) marks low (length marks) =
+    c.as_slice-new.ensures.value ∙ c.in_ok-tail.ensures
+    ∙ ap (λ (xs : List Standing). lowered_rows (parents_of rows) t (phases_told xs) c.as_slice.result.now (length xs - length c.as_slice.result.now) (length c.as_slice.result.now)) slice_is
+    ∙ ap (λ (ms : List Bool). lowered_rows (parents_of rows) t (phases_told was) ms (length was - length ms) (length ms)) seen
+    ∙ ap (λ (n : ℕ). lowered_rows (parents_of rows) t (phases_told was) marks n (length marks)) place in
+    let size : length new ≡ length marks = ap length tail_is ∙ rows_length (parents_of rows) t (phases_told was) marks low (length marks) in
+    let front : length (take low was) ≡ low = length-take-le low was (omega (arith, low_is)) in
+    let keep_rows : c.keep.new.self.rows.items ≡ was = ap (λ (v : Vec Standing g.row.A.Denot). v.items) c.keep.ensures.rows in
+    let now = take low was ++ new in
+    let put_is : c.put.new.self.rows.items ≡ now = c.put.ensures.rows ∙ ap (λ (xs : List Standing). take low xs ++ new) keep_rows in
+    let now_len : length now ≡ length was = omega (arith, length-append (take low was) new, front, size, low_is) in
+    let fits_old : AreFor rows (record { phases = phases_told was; draft = old.draft.items; secret = old.secret.items }) = rw (← c.self.view_is) at c.requires.fits in
+    let fits : AreFor rows (record { phases = phases_told was; draft = told Draft was; secret = told Secret was }) =
+    subst (λ (ks : List ℕ). AreFor rows (record { phases = phases_told was; draft = told Draft was; secret = ks })) c.self.invariant.secret
+    (subst (λ (ks : List ℕ). AreFor rows (record { phases = phases_told was; draft = ks; secret = old.secret.items })) c.self.invariant.draft fits_old) in
+    rw (← c.self.view_is) (ap phases_told put_is ∙ phases_advanced rows was t heads marks low (ordered rows c.len-lawful.ensures.lawful) fits are low_is new tail_is)
 
 pub returns-clause-fits : goal.returns-clause-fits
 returns-clause-fits g c =
     let rows = c.args.log.now.rows in
     let t = c.args.target in
     let heads = c.args.heads.now in
-    let kept : Phasing = record { phases = c.self.inside.index.items.items; draft = c.self.inside.draft.items.items; secret = c.self.inside.secret.items.items } in
-    let fits : AreFor rows kept = rw (← c.self.view_is) at c.requires.fits in
-    let phases = c.as_slice-phases.result.now in
-    let ps : phases ≡ kept.phases = c.as_slice-phases.ensures.value in
+    let old = c.self.inside in
+    let was = old.index.rows.items in
+    let slice_is : c.as_slice-rows.result.now ≡ was = c.as_slice-rows.ensures.value in
     let marks = c.in_ok-marks.marks.items in
     let ok = c.in_ok-marks.marks.ok in
-    let are : AreLowered (parents_of rows) t heads kept.phases marks = subst (λ xs. AreLowered (parents_of rows) t heads xs marks) ps c.in_ok-marks.ensures in
-    let few : length marks ≤ length kept.phases = are.few in
+    let are : AreLowered (parents_of rows) t heads (phases_told was) marks = subst (λ (xs : List Standing). AreLowered (parents_of rows) t heads (phases_told xs) marks) slice_is c.in_ok-marks.ensures in
     let count : c.len.result ≡ length marks = omega (arith, c.len.ensures) in
-    let low = length phases - c.len.result in
-    let low_is : low + length marks ≡ length kept.phases = omega (arith, ap length ps) in
+    let few : length marks ≤ length was = omega (arith, are.few, length-map was phase_told) in
     let seen : c.as_slice.result.now ≡ marks = c.as_slice.ensures.value in
-    let place : length phases - length c.as_slice.result.now ≡ low = omega (arith, ap length seen) in
-    let made : c.in_ok-tail.tail.items ≡ lowered_from t kept.phases marks low (length marks) =
-    c.in_ok-tail.ensures.tail ∙ ap (λ (xs : List Phase). lowered_from t xs c.as_slice.result.now (length phases - length c.as_slice.result.now) (length c.as_slice.result.now)) ps
-    ∙ ap (λ n. lowered_from t kept.phases c.as_slice.result.now n (length c.as_slice.result.now)) place ∙ ap (λ ms. lowered_from t kept.phases ms low (length ms)) seen in
-    let size : length c.in_ok-tail.tail.items ≡ length marks = c.in_ok-tail.ensures.len ∙ ap length seen in
-    let new = take low kept.phases ++ lowered_from t kept.phases marks low (length marks) in
-    let index : c.put.new.self.items.items ≡ new =
-    c.put.ensures.items ∙ ap (λ (xs : List Phase). take low xs ++ c.as_slice-6.result.now) c.in_ok-keep.ensures.items ∙ ap (λ (xs : List Phase). take low kept.phases ++ xs) (c.as_slice-6.ensures.value ∙ made) in
-    let front : take low phases ≡ take low kept.phases = ap (take low) ps in
-    let front_size : length (take low phases) ≡ low = length-take-le low phases (omega arith) in
-    let at_draft : IsCount kept.draft low c.count_below-draft_low.result =
-    subst (λ xs. IsCount xs low c.count_below-draft_low.result) c.as_slice-4.ensures.value (record { within = c.count_below-draft_low.ensures.within; from = c.count_below-draft_low.ensures.from; before = c.count_below-draft_low.ensures.before }) in
-    let at_secret : IsCount kept.secret low c.count_below-secret_low.result =
-    subst (λ xs. IsCount xs low c.count_below-secret_low.result) c.as_slice-5.ensures.value (record { within = c.count_below-secret_low.ensures.within; from = c.count_below-secret_low.ensures.from; before = c.count_below-secret_low.ensures.before }) in
-    let found_draft : c.in_ok-draft.draft.items ≡ roots_from (parents_of rows) new Draft low (length marks) =
-    c.in_ok-draft.ensures
-    ∙ ap (λ xs. roots_from (parents_of rows) (take low phases ++ xs) Draft (length (take low phases)) (length xs)) c.as_slice-2.ensures.value
-    ∙ ap (λ n. roots_from (parents_of rows) (take low phases ++ c.in_ok-tail.tail.items) Draft (length (take low phases)) n) size
-    ∙ ap (λ n. roots_from (parents_of rows) (take low phases ++ c.in_ok-tail.tail.items) Draft n (length marks)) front_size
-    ∙ ap (λ xs. roots_from (parents_of rows) (xs ++ c.in_ok-tail.tail.items) Draft low (length marks)) front
-    ∙ ap (λ xs. roots_from (parents_of rows) (take low kept.phases ++ xs) Draft low (length marks)) made in
-    let found_secret : c.in_ok-secret.secret.items ≡ roots_from (parents_of rows) new Secret low (length marks) =
-    c.in_ok-secret.ensures
-    ∙ ap (λ xs. roots_from (parents_of rows) (take low phases ++ xs) Secret (length (take low phases)) (length xs)) c.as_slice-3.ensures.value
-    ∙ ap (λ n. roots_from (parents_of rows) (take low phases ++ c.in_ok-tail.tail.items) Secret (length (take low phases)) n) size
-    ∙ ap (λ n. roots_from (parents_of rows) (take low phases ++ c.in_ok-tail.tail.items) Secret n (length marks)) front_size
-    ∙ ap (λ xs. roots_from (parents_of rows) (xs ++ c.in_ok-tail.tail.items) Secret low (length marks)) front
-    ∙ ap (λ xs. roots_from (parents_of rows) (take low kept.phases ++ xs) Secret low (length marks)) made in
-    let draft : c.put-2.new.self.items.items ≡ take c.count_below-draft_low.result kept.draft ++ roots_from (parents_of rows) new Draft low (length marks) =
-    c.put-2.ensures.items ∙ ap (λ (xs : List ℕ). take c.count_below-draft_low.result xs ++ c.as_slice-7.result.now) (c.in_ok-keep-2.ensures.items ∙ c.in_ok-reserve.ensures.items)
-    ∙ ap (λ (xs : List ℕ). take c.count_below-draft_low.result kept.draft ++ xs) (c.as_slice-7.ensures.value ∙ found_draft) in
-    let secret : c.put-3.new.self.items.items ≡ take c.count_below-secret_low.result kept.secret ++ roots_from (parents_of rows) new Secret low (length marks) =
-    c.put-3.ensures.items ∙ ap (λ (xs : List ℕ). take c.count_below-secret_low.result xs ++ c.as_slice-8.result.now) (c.in_ok-keep-3.ensures.items ∙ c.in_ok-reserve-2.ensures.items)
-    ∙ ap (λ (xs : List ℕ). take c.count_below-secret_low.result kept.secret ++ xs) (c.as_slice-8.ensures.value ∙ found_secret) in
-    rw (index, draft, secret) (advanced_for rows kept t heads marks low (ordered rows c.len-lawful.ensures.lawful) fits are low_is c.count_below-draft_low.result c.count_below-secret_low.result at_draft at_secret)
+    let low = length c.as_slice-rows.result.now - c.len.result in
+    let low_is : low + length marks ≡ length was = omega (arith, ap length slice_is, count, few) in
+    let place : length was - length marks ≡ low = omega (arith, low_is) in
+    let new = c.as_slice-new.result.now in
+    let tail_is : new ≡ lowered_rows (parents_of rows) t (phases_told was) marks low (length marks) =
+    c.as_slice-new.ensures.value ∙ c.in_ok-tail.ensures
+    ∙ ap (λ (xs : List Standing). lowered_rows (parents_of rows) t (phases_told xs) c.as_slice.result.now (length xs - length c.as_slice.result.now) (length c.as_slice.result.now)) slice_is
+    ∙ ap (λ (ms : List Bool). lowered_rows (parents_of rows) t (phases_told was) ms (length was - length ms) (length ms)) seen
+    ∙ ap (λ (n : ℕ). lowered_rows (parents_of rows) t (phases_told was) marks n (length marks)) place in
+    let size : length new ≡ length marks = ap length tail_is ∙ rows_length (parents_of rows) t (phases_told was) marks low (length marks) in
+    let front : length (take low was) ≡ low = length-take-le low was (omega (arith, low_is)) in
+    let keep_rows : c.keep.new.self.rows.items ≡ was = ap (λ (v : Vec Standing g.row.A.Denot). v.items) c.keep.ensures.rows in
+    let now = take low was ++ new in
+    let put_is : c.put.new.self.rows.items ≡ now = c.put.ensures.rows ∙ ap (λ (xs : List Standing). take low xs ++ new) keep_rows in
+    let now_len : length now ≡ length was = omega (arith, length-append (take low was) new, front, size, low_is) in
+    let fits_old : AreFor rows (record { phases = phases_told was; draft = old.draft.items; secret = old.secret.items }) = rw (← c.self.view_is) at c.requires.fits in
+    let fits : AreFor rows (record { phases = phases_told was; draft = told Draft was; secret = told Secret was }) =
+    subst (λ (ks : List ℕ). AreFor rows (record { phases = phases_told was; draft = told Draft was; secret = ks })) c.self.invariant.secret
+    (subst (λ (ks : List ℕ). AreFor rows (record { phases = phases_told was; draft = ks; secret = old.secret.items })) c.self.invariant.draft fits_old) in
+    for_parts rows (phases_told c.put.new.self.rows.items) (phases_told now) c.tell.new.roots.items (told Draft now) c.tell-2.new.roots.items (told Secret now)
+    (ap phases_told put_is) (c.tell.ensures.told ∙ ap (told Draft) (c.as_slice-2.ensures.value ∙ put_is)) (c.tell-2.ensures.told ∙ ap (told Secret) (c.as_slice-3.ensures.value ∙ put_is))
+    (told_for rows was t heads marks low (ordered rows c.len-lawful.ensures.lawful) fits are low_is new tail_is)

@@ -1,13 +1,14 @@
 use Rattle.std.proofs.Common.{◌≡◌, ◌∙◌, length, sym, eqb-true}
 use Rattle.hg_phases.specs.Phases.{Phasing, AreForSame}
+use Rattle.hg_phases.specs.Standing.{phases_told}
 use Rattle.hg_phases.proofs.CallerLemmas.{same_by_roots, roots_by_phases}
 use Rattle.hg_phases.proofs.phases.Phases.is_same.Goals as goal
 use Rattle.hg_phases.proofs.phases.Phases.is_same.Goals.{then-len, else-len}
 
 pub returns-then-are_same : goal.returns-then-are_same
 returns-then-are_same g c =
-    let kept : Phasing = record { phases = c.self.inside.index.items.items; draft = c.self.inside.draft.items.items; secret = c.self.inside.secret.items.items } in
-    let other : Phasing = record { phases = c.other.inside.index.items.items; draft = c.other.inside.draft.items.items; secret = c.other.inside.secret.items.items } in
+    let kept : Phasing = record { phases = phases_told c.self.inside.index.rows.items; draft = c.self.inside.draft.items; secret = c.self.inside.secret.items } in
+    let other : Phasing = record { phases = phases_told c.other.inside.index.rows.items; draft = c.other.inside.draft.items; secret = c.other.inside.secret.items } in
     let fits : AreForSame kept other = rw (← c.self.view_is, ← c.other.view_is) at c.requires in
     let first : c.len.result ≡ length kept.phases = rw (← c.self.view_is) at c.len.ensures in
     let second : c.len-2.result ≡ length other.phases = rw (← c.other.view_is) at c.len-2.ensures in
