@@ -8,6 +8,7 @@ use hg_keys::Bookmarks;
 use hg_log::{Added, Changelog, node_id};
 use hg_phases::Phases;
 use hg_types::{Entry, Limits, Node, Phase, Seq};
+use linked_list_allocator::LocalHeap;
 use std::alloc::{AllocError, Allocator};
 use std::hash::RandomState;
 use std::test::*;
@@ -304,5 +305,258 @@ fn bookmarks_on_a_changeset(rt: HostRuntime) -> Result<(), Fail> {
         (&[(root, b"x"), (OTHER, b"m")], 0, RACED),
     ];
     assert!(rt; all_bookmarks(alloc, &log, &bookmarks, &cases));
+    Ok(())
+}
+
+/// What became of a check that is content where memory is there.
+#[derive(Clone, Copy, PartialEq, Eq)]
+enum Outcome {
+    Refused,
+    Content,
+    Wrong,
+}
+
+fn outcome_of(answer: Answer) -> Outcome {
+    match answer {
+        Ok(()) => Outcome::Content,
+        Err(CheckFault::NoMemory) => Outcome::Refused,
+        Err(_) => Outcome::Wrong,
+    }
+}
+
+/// The payloads that the three checks are content with.
+#[derive(Clone, Copy)]
+struct Payloads<'t> {
+    heads: &'t [u8],
+    phases: &'t [u8],
+    bookmarks: &'t [u8],
+}
+
+/// The checks over a heap, against what is in an ample one.
+fn outcomes_of<'h>(
+    heap: &'h LocalHeap,
+    log: &Changelog<&'h LocalHeap>,
+    phases: &Phases<&'h LocalHeap>,
+    bookmarks: &Bookmarks<&'h LocalHeap>,
+    payloads: &Payloads,
+) -> [Outcome; 3]
+    requires { length log.now.rows ≤ length phases.now.current.phases }
+{
+    [
+        outcome_of(check_heads(heap, log, payloads.heads)),
+        outcome_of(check_phases(heap, log, phases, payloads.phases)),
+        outcome_of(check_bookmarks(heap, log, bookmarks, payloads.bookmarks)),
+    ]
+}
+
+/// The same for a log of one draft, which the bookmark `m` is on.
+fn one_draft_over<'h>(
+    heap: &'h LocalHeap,
+    ample: &'h LocalHeap,
+    state: RandomState,
+    payloads: &Payloads,
+) -> [Outcome; 3] {
+    let mut log = Changelog::new(ample, state, Limits::standard());
+    let node = put(ample, &mut log, NULL, NULL, 0);
+    let mut bookmarks = Bookmarks::new(ample);
+    let is_set = bookmarks.set(ample, b"m", node).is_ok();
+    match one_draft(ample, &log) {
+        Some(phases) => {
+            if node.is_some() && is_set {
+                outcomes_of(heap, &log, &phases, &bookmarks, payloads)
+            } else {
+                [Outcome::Wrong; 3]
+            }
+        }
+        None => [Outcome::Wrong; 3],
+    }
+}
+
+/// The id of the one changeset, alone, behind the number of draft, and before the name `m`.
+fn one_head() -> [u8; 20] {
+    node_id(&NULL, &NULL, &[0]).0
+}
+
+fn one_phase() -> [u8; 24] {
+    let mut bytes = [0u8; 24];
+    bytes[3] = 1;
+    for place in 0..20usize {
+        bytes[4 + place] = one_head()[place];
+    }
+    bytes
+}
+
+fn one_bookmark() -> [u8; 23] {
+    let mut bytes = [0u8; 23];
+    for place in 0..20usize {
+        bytes[place] = one_head()[place];
+    }
+    bytes[21] = 1;
+    bytes[22] = b'm';
+    bytes
+}
+
+/// Over heaps of each multiple of 16 bytes, so that each growth is refused in turn: a check is content or
+/// tells want of memory, and nothing else.
+#[test]
+fn each_growth_of_a_check_refused(rt: HostRuntime) -> Result<(), Fail> {
+    let state = RandomState::new(&rt)?;
+    let (heads, phases, bookmarks) = (one_head(), one_phase(), one_bookmark());
+    let payloads = Payloads {
+        heads: &heads,
+        phases: &phases,
+        bookmarks: &bookmarks,
+    };
+    let (mut refused, mut content, mut right) = ([false; 3], [false; 3], true);
+    for sixteens in 0..24usize {
+        let ample = LocalHeap::new(rt.alloc(), 65536)?;
+        let heap = LocalHeap::new(rt.alloc(), sixteens * 16)?;
+        let outcomes = one_draft_over(&heap, &ample, state, &payloads);
+        right = right && heap.used() == 0;
+        for check in 0..3usize {
+            refused[check] = refused[check] || outcomes[check] == Outcome::Refused;
+            content[check] = content[check] || outcomes[check] == Outcome::Content;
+            right = right && outcomes[check] != Outcome::Wrong;
+        }
+    }
+    assert!(rt; right && refused == [true; 3] && content == [true; 3]);
+    Ok(())
+}
+
+/// How many heads the large log has, and how many bookmarks there are beside it.
+const MANY: u16 = 5_000;
+
+/// That many changesets without parents, and their ids, the last first.
+fn many_heads<'h>(
+    heap: &'h LocalHeap,
+    log: &mut Changelog<&'h LocalHeap>,
+) -> Option<Vec<u8, &'h LocalHeap>> {
+    let mut payload = Vec::new(heap);
+    for number in 0..MANY {
+        let node = put_number(heap, log, MANY - number)?;
+        if payload.extend_from_slice(&node.0).is_err() {
+            return None;
+        }
+    }
+    Some(payload)
+}
+
+/// Adds a changeset without parents whose text is that number, and gives its id.
+fn put_number<A: Allocator + Copy>(alloc: A, log: &mut Changelog<A>, number: u16) -> Option<Node> {
+    let text = number.to_be_bytes();
+    let node = node_id(&NULL, &NULL, &text);
+    let delta = [0, 0, 0, 0, 0, 0, 0, 0, 0, 0, 0, 2, text[0], text[1]];
+    let Ok(delta) = Seq::copy_of(alloc, &delta) else {
+        return None
+    };
+    let entry = Entry {
+        node,
+        p1: NULL,
+        p2: NULL,
+        base: NULL,
+        delta,
+    };
+    match log.add(&entry) {
+        Ok(Added::New(_)) => Some(node),
+        _ => None,
+    }
+}
+
+/// As many zeros: a payload of the null id, over and over.
+fn zeros<A: Allocator>(alloc: A, len: usize) -> Option<Vec<u8, A>> {
+    match vec![in alloc; 0u8; len] {
+        Ok(zeros) => Some(zeros),
+        Err(_) => None,
+    }
+}
+
+/// Whether each of three large payloads has the answer that is right, over a heap with room for much more:
+/// the heads of many changesets, and payloads of 4 MiB that name the null id, which is public, and the
+/// bookmark without a name on it.
+fn large_payloads_over(heap: &LocalHeap, state: RandomState) -> bool {
+    let mut log = Changelog::new(heap, state, Limits::standard());
+    let heads = match many_heads(heap, &mut log) {
+        Some(payload) => check_heads(heap, &log, payload.as_slice()),
+        None => SHORT,
+    };
+    heads == CONTENT
+}
+
+/// Names of two bytes, on the null id.
+fn set_many<A: Allocator + Copy>(alloc: A, bookmarks: &mut Bookmarks<A>) -> bool {
+    let mut all = true;
+    for number in 0..MANY {
+        let is_set = bookmarks
+            .set(alloc, &number.to_be_bytes(), Some(NULL))
+            .is_ok();
+        all = all && is_set;
+    }
+    all
+}
+
+/// The other two, for no changesets.
+fn large_entries_over(heap: &LocalHeap, state: RandomState) -> bool {
+    let log = Changelog::new(heap, state, Limits::standard());
+    let phases = no_phases(heap, &log);
+    let mut bookmarks = Bookmarks::new(heap);
+    let is_set = bookmarks.set(heap, b"", Some(NULL)).is_ok();
+    let are_set = set_many(heap, &mut bookmarks);
+    let phases = match zeros(heap, 24 * 174_760) {
+        Some(payload) => check_phases(heap, &log, &phases, payload.as_slice()),
+        None => SHORT,
+    };
+    let bookmarks = match zeros(heap, 22 * 190_650) {
+        Some(payload) => check_bookmarks(heap, &log, &bookmarks, payload.as_slice()),
+        None => SHORT,
+    };
+    is_set && are_set && phases == CONTENT && bookmarks == CONTENT
+}
+
+/// Payloads of up to 4 MiB over a heap that never refuses: nobody tells want of memory.
+#[test]
+fn large_payloads(rt: HostRuntime) -> Result<(), Fail> {
+    let state = RandomState::new(&rt)?;
+    let heap = LocalHeap::new(rt.alloc(), 16 * 1024 * 1024)?;
+    assert!(rt; large_payloads_over(&heap, state));
+    let heap = LocalHeap::new(rt.alloc(), 64 * 1024 * 1024)?;
+    assert!(rt; large_entries_over(&heap, state));
+    Ok(())
+}
+
+/// What a check takes no memory for, over a heap that has none: payloads that are short, ids that are not as
+/// many as the heads, or not all heads', and no entries.
+fn without_memory<'h>(
+    none: &'h LocalHeap,
+    log: &Changelog<&'h LocalHeap>,
+    phases: &Phases<&'h LocalHeap>,
+    bookmarks: &Bookmarks<&'h LocalHeap>,
+) -> bool
+    requires { length log.now.rows ≤ length phases.now.current.phases }
+{
+    let short = check_heads(none, log, &[0; 19]) == SHORT;
+    let short = short && check_phases(none, log, phases, &[0; 23]) == SHORT;
+    let other = check_heads(none, log, &[0; 20]) == RACED && check_heads(none, log, &[]) == RACED;
+    let empty = check_phases(none, log, phases, &[]) == CONTENT;
+    let empty = empty && check_bookmarks(none, log, bookmarks, &[]) == CONTENT;
+    short && other && empty
+}
+
+/// The same for a log of one draft.
+fn without_memory_over<'h>(none: &'h LocalHeap, ample: &'h LocalHeap, state: RandomState) -> bool {
+    let mut log = Changelog::new(ample, state, Limits::standard());
+    let node = put(ample, &mut log, NULL, NULL, 0);
+    let bookmarks = Bookmarks::new(ample);
+    match one_draft(ample, &log) {
+        Some(phases) => node.is_some() && without_memory(none, &log, &phases, &bookmarks),
+        None => false,
+    }
+}
+
+#[test]
+fn no_memory_where_none_is_needed(rt: HostRuntime) -> Result<(), Fail> {
+    let state = RandomState::new(&rt)?;
+    let none = LocalHeap::new(rt.alloc(), 0)?;
+    let ample = LocalHeap::new(rt.alloc(), 65536)?;
+    assert!(rt; without_memory_over(&none, &ample, state));
     Ok(())
 }

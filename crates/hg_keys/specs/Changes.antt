@@ -1,6 +1,6 @@
 -- The way back: what takes back each change, by the place at which it was made.
 use Rattle.std.specs.Option.{option_to_list}
-use Rattle.std.specs.Prelude.{◌≡◌, ◌++◌, Option, if◌then◌else◌, ℕ, suc, Bool, true, ◌&&◌, nat_lt, nat_le, List, [], ◌∷◌, length, reverse, insert, remove, slice_index_or, slice_set}
+use Rattle.std.specs.Prelude.{◌≡◌, ◌++◌, Option, if◌then◌else◌, ℕ, Bool, true, ◌&&◌, nat_lt, nat_le, List, [], ◌∷◌, length, reverse, insert, remove, slice_index_or, slice_set}
 use Rattle.hg_types.specs.declared.node.Node.{Node}
 use Rattle.hg_keys.specs.declared.bookmarks.Change.{Change}
 use Rattle.hg_keys.specs.declared.bookmarks.Change.TheVariants.{Added, Moved, Removed}

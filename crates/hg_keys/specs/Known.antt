@@ -1,5 +1,5 @@
 -- What a log and its phases tell of an id. The null id is known everywhere, and public.
-use Rattle.std.specs.Prelude.{◌≡◌, ℕ, Bool, true, ◌||◌, List, All, Option, Some, option_map, is_some, bytes_eq, if◌then◌else◌}
+use Rattle.std.specs.Prelude.{◌≡◌, Bool, true, ◌||◌, List, All, Option, Some, option_map, is_some, bytes_eq, if◌then◌else◌}
 use Rattle.hg_types.specs.NullId.{null_id}
 use Rattle.hg_types.specs.declared.node.Node.{Node}
 use Rattle.hg_types.specs.declared.phase.Phase.{Phase}

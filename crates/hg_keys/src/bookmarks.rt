@@ -71,10 +71,11 @@ impl<A: Allocator + Copy> Bookmarks<A> {
         ensures { IfOk result (λ copy. copy ≡ record { current = self.now.current; marked = None }) }
     {
         let pairs = copies(alloc, self.pairs.as_slice())?;
+        let is_marked = false;
         Ok(Bookmarks {
             pairs,
             changes: Vec::new(alloc),
-            is_marked: false,
+            is_marked,
         })
     }
 

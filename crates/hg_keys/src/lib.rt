@@ -48,6 +48,8 @@ pub use payload::read_bookmarks;
 #[cfg(test)]
 mod bookmarks_tests;
 #[cfg(test)]
+mod many_tests;
+#[cfg(test)]
 mod payload_tests;
 #[cfg(test)]
 mod push_tests;

@@ -9,7 +9,7 @@ use hg_obs::{MarkerFault, Markers};
 use hg_phases::Phases;
 use hg_types::{Entry, Limits, NoMemory, Node, Phase, Seq};
 use linked_list_allocator::LocalHeap;
-use std::alloc::Allocator;
+use std::alloc::{Allocator, Global};
 use std::hash::RandomState;
 use std::test::*;
 
@@ -305,6 +305,71 @@ fn dumps_of_markers(rt: HostRuntime) -> Result<(), Fail> {
         on: None,
     };
     assert!(rt; after(rt.alloc(), RandomState::new(&rt)?, &cases) == Some(wanted));
+    Ok(())
+}
+
+/// As many bookmarks, each of which a call sets.
+fn push_names<A: Allocator + Copy>(
+    alloc: A,
+    log: &Changelog<A>,
+    keys: &mut Keys<A>,
+    count: u16,
+) -> bool
+    requires fits { AreFor log.now.rows keys.old.phases.current }
+    requires count { length keys.old.phases.current.phases ≡ length log.now.rows }
+    ensures fits { AreFor log.now.rows keys.new.phases.current }
+    ensures count { length keys.new.phases.current.phases ≡ length log.now.rows }
+{
+    let mut all = true;
+    for number in 0..count {
+        let texts: [&[u8]; 4] = [b"bookmarks", &number.to_be_bytes(), b"", LOWER];
+        let is_set = push(alloc, alloc, log, keys, texts) == Ok(true);
+        all = all && is_set;
+    }
+    all
+}
+
+/// Calls among many bookmarks, with memory in plenty.
+fn after_many<A: Allocator + Copy>(alloc: A, state: RandomState, cases: &[Case]) -> Option<Told> {
+    let mut log = Changelog::new(alloc, state, Limits::standard());
+    let is_there = put_root(alloc, &mut log);
+    match new_keys(alloc, state, &log) {
+        Some(mut keys) => {
+            let all = push_names(alloc, &log, &mut keys, 3_000);
+            let all = all & push_all(alloc, &log, &mut keys, cases);
+            Some(told_of(all && is_there, &log, &keys))
+        }
+        None => None,
+    }
+}
+
+/// Marker data with one marker over and over, as text.
+fn dump_of(alloc: Global, times: usize) -> Result<Vec<u8>, NoMemory> {
+    let mut bytes = vec![in alloc; 0u8; 1]?;
+    for _ in 0..times {
+        bytes.extend_from_slice(&[0; 6])?;
+        bytes.extend_from_slice(&[17; 20])?;
+    }
+    base85_encode(alloc, bytes.as_slice())
+}
+
+/// A dump of 10,000 markers that are the same one, a bookmark and a phase, among 3,000 bookmarks.
+#[test]
+fn calls_with_much_there(rt: HostRuntime) -> Result<(), Fail> {
+    let text = dump_of(rt.alloc(), 10_000)?;
+    let cases: [Case; 3] = [
+        ([b"obsolete", b"dump0", b"", text.as_slice()], Ok(true)),
+        ([b"bookmarks", b"m", b"", UPPER], Ok(true)),
+        ([b"phases", LOWER, b"1", b"0"], Ok(true)),
+    ];
+    let wanted = Told {
+        all: true,
+        phase: Some(Phase::Public),
+        markers: 1,
+        bookmarks: 3_001,
+        on: Some(ROOT),
+    };
+    assert!(rt; after_many(rt.alloc(), RandomState::new(&rt)?, &cases) == Some(wanted));
     Ok(())
 }
 
