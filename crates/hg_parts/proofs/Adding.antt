@@ -1,7 +1,7 @@
 -- Entries of a changegroup that are added: what an answer leaves of the log, what follows for the store,
 -- and how far a group has come.
-use Rattle.std.proofs.Common.{◌≡◌, ◌⊎◌, ℕ, suc, ◌+◌, ◌<◌, ◌≤◌, Bool, true, false, not, ◌||◌, List, [], ◌∷◌}
-use Rattle.std.proofs.Common.{◌++◌, length, take, drop, get_or, All, Option, Some, None, is_some, nat_lt}
+use Rattle.std.proofs.Common.{◌≡◌, ◌⊎◌, ℕ, ◌+◌, ◌<◌, Bool, true, false, not, ◌||◌, List, [], ◌∷◌}
+use Rattle.std.proofs.Common.{◌++◌, length, take, drop, get_or, Option, Some, None, is_some, nat_lt}
 use Rattle.std.proofs.Common.{bytes_eq, cond, Result, Ok, Err, inl, inr, refl, sym, ap, ◌∙◌, subst, arith}
 use Rattle.std.proofs.lemmas.Bool.{ltb-true, lt-ltb}
 use Rattle.std.proofs.lemmas.List.{take-append-le, length-append, length_push, drop_more}

@@ -1,13 +1,13 @@
 -- Stores that grew, what stays sound in them, and the way back.
-use Rattle.std.proofs.Common.{◌≡◌, ℕ, zero, suc, ◌≤◌, List, [], ◌∷◌, length, take, Some, None, All, refl}
-use Rattle.std.proofs.Common.{sym, ap, ◌∙◌, subst, arith}
+use Rattle.std.proofs.Common.{◌≡◌, ℕ, zero, suc, ◌≤◌, List, [], ◌∷◌, length, take, refl}
+use Rattle.std.proofs.Common.{sym, ap, ◌∙◌, arith}
 use Rattle.std.proofs.Math.Seq.{take-length}
 use Rattle.hg_types.specs.declared.limits.Settings.{Settings}
-use Rattle.hg_phases.specs.Phases.{AreFor, Phasing, Marked as MarkedPhases}
+use Rattle.hg_phases.specs.Phases.{AreFor, Marked as MarkedPhases}
 use Rattle.hg_phases.proofs.CallerLemmas.{for_none}
 use Rattle.hg_obs.specs.declared.marker.Marker.{Marker}
 use Rattle.hg_obs.specs.Markers.{AreLawful as AreLawfulMarkers}
-use Rattle.hg_keys.specs.Bookmarks.{Pairs, Marked as MarkedBookmarks}
+use Rattle.hg_keys.specs.Bookmarks.{Marked as MarkedBookmarks}
 use Rattle.hg_parts.specs.declared.store.Store.{Store}
 use Rattle.hg_parts.specs.declared.store.StoreMark.{StoreMark}
 use Rattle.hg_keys.specs.Known.{AreOnKnown}

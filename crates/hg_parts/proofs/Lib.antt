@@ -2,8 +2,10 @@ mod Mandatory
 mod Tables
 mod Growing
 mod Writable
+mod Bare
 mod Numbers
 mod Setting
 mod Adding
 mod Revs
+mod Preparing
 pub mod CallerLemmas

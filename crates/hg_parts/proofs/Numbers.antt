@@ -1,5 +1,5 @@
 -- Replies that tell a number, and those to a call of pushkey.
-use Rattle.std.proofs.Common.{◌≡◌, ◌≢◌, ℕ, ◌<◌, ◌^◌, Bool, true, false, List, length, codes, decimal, Option, Some, Result, Ok, Err, cond, refl, sym, ap, ◌∙◌, arith}
+use Rattle.std.proofs.Common.{◌≡◌, ℕ, ◌<◌, ◌^◌, Bool, true, false, length, decimal, Option, Some, Result, Ok, Err, cond, sym, ap, ◌∙◌, arith}
 use Rattle.std.proofs.lemmas.Fmt.{length-decimal-le}
 use Rattle.hg_types.specs.declared.part.Part.{Part}
 use Rattle.hg_keys.specs.declared.keys.KeyCall.{KeyCall}

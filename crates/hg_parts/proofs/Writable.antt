@@ -1,11 +1,10 @@
 -- The parts of a reply can be written.
-use Rattle.std.proofs.Common.{◌≢◌, ℕ, ◌<◌, ◌≤◌, ◌^◌, List, [], ◌∷◌, length, All, codes, decimal, refl, arith}
+use Rattle.std.proofs.Common.{ℕ, ◌<◌, ◌^◌, List, [], ◌∷◌, length, All, codes, decimal, refl, arith}
 use Rattle.std.proofs.lemmas.Fmt.{length-decimal-le}
 use Rattle.std.proofs.lemmas.List.Elements.{All-push}
-use Rattle.hg_types.specs.declared.part.Part.{Part}
 use Rattle.hg_types.specs.declared.part.Param.{Param}
 use Rattle.hg_params.specs.Header.{AreDistinct}
-use Rattle.hg_params.specs.Writing.{IsWritable, FitsParam}
+use Rattle.hg_params.specs.Writing.{FitsParam}
 use Rattle.hg_parts.specs.Replies.{answering, reply_part, IsReply, CanReply}
 
 no_params : {A : Type 0} → All (FitsParam {A = A}) []

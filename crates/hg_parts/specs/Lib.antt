@@ -8,3 +8,4 @@ pub mod PartTypes
 pub mod Table
 pub mod parts
 pub mod Handle
+pub mod Prepared

@@ -1,10 +1,9 @@
 -- What parts change in place, the moment to which it can go back, and what every part keeps of it.
-use Rattle.std.specs.Prelude.{◌≡◌, ◌≤◌, List, [], take, length, Some, None}
+use Rattle.std.specs.Prelude.{◌≡◌, ◌≤◌, [], take, length, Some, None}
 use Rattle.hg_types.specs.declared.limits.Limits.{Limits}
 use Rattle.hg_types.specs.declared.limits.Settings.{Settings}
-use Rattle.hg_phases.specs.Phases.{AreFor, no_rows, Marked as MarkedPhases}
+use Rattle.hg_phases.specs.Phases.{AreFor, no_rows}
 use Rattle.hg_obs.specs.Markers.{AreLawful as AreLawfulMarkers}
-use Rattle.hg_keys.specs.Bookmarks.{Marked as MarkedBookmarks}
 use Rattle.hg_parts.specs.declared.store.Store.{Store}
 use Rattle.hg_parts.specs.declared.store.StoreMark.{StoreMark}
 use Rattle.hg_parts.specs.Repository.{Repository}

@@ -1,16 +1,28 @@
 //! What holds of stores. Each function changes nothing: what it ensures is a theorem, and a caller that
 //! calls it may rest on it.
 
+ghost use Rattle.std.specs.Prelude.{◌≡◌, [], ℕ, Bool, Ok, IfSome};
 ghost use Rattle.hg_types.specs.declared.limits.Settings.{Settings as AnySettings};
+ghost use Rattle.hg_types.specs.declared.part.Part.{Part as AnyPart};
+ghost use Rattle.hg_parts.specs.declared.source.Source.{Source as AnySource};
 ghost use Rattle.hg_parts.specs.declared.store.Store.{Store as AnyStore};
 ghost use Rattle.hg_parts.specs.declared.store.StoreMark.{StoreMark as AnyMark};
-ghost use Rattle.hg_parts.specs.Repository.{IsLawful};
+ghost use Rattle.hg_parts.specs.Repository.{IsLawful, Repository};
+ghost use Rattle.hg_parts.specs.Handle.{handle};
+ghost use Rattle.hg_parts.specs.Handled.{Handled};
 ghost use Rattle.hg_parts.specs.Store.{repository_of, empty_store, with_marks, without_marks, CanGoBack};
 ghost use Rattle.hg_parts.specs.Store.{IsGrown, IsSound};
 
 use crate::store::Store;
 use hg_types::Settings;
 use std::alloc::Allocator;
+
+/// The reply that a part leaves, if it leaves one, has no payload.
+pub fn replies_have_no_payload<A: Allocator>()
+    ensures { (source : AnySource) (repo : Repository A) (replying : Bool) (place : ℕ) (part : AnyPart A)
+        (given : Handled A) → handle source repo replying place part ≡ Ok given
+        → IfSome given.reply (λ reply. reply.payload ≡ []) }
+{}
 
 /// A store that has grown and grows on has grown, so a mark stays one to which it can go back.
 pub fn growing_adds_up<A: Allocator>()

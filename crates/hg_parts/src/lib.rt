@@ -13,13 +13,15 @@ mod handle;
 pub mod laws;
 mod params;
 mod parts;
+mod prepared;
 mod refusal;
 mod replies;
 mod source;
 mod store;
 mod table;
 
-pub use handle::handle_part;
+pub use handle::{handle_part, handle_prepared};
+pub use prepared::{Prepared, prepare};
 pub use refusal::{RaceText, Refusal};
 pub use source::Source;
 pub use store::{Store, StoreMark};

@@ -21,6 +21,8 @@ use Rattle.hg_log.specs.HeadCount.{head_count}
 use Rattle.hg_log.specs.Answer.{answer_of}
 use Rattle.hg_phases.specs.Phases.{registered, advanced}
 use Rattle.hg_parts.specs.declared.store.Store.{Store}
+use Rattle.hg_parts.specs.declared.prepared.Reading.{Reading}
+use Rattle.hg_parts.specs.declared.prepared.Reading.TheVariants.{ChangeGroup, Malformed}
 use Rattle.hg_parts.specs.declared.source.Source.{Source}
 use Rattle.hg_parts.specs.declared.source.Source.TheVariants.{Push, Seed}
 use Rattle.hg_parts.specs.declared.refusal.Refusal.{Refusal}
@@ -129,6 +131,21 @@ abbrev pub handle_target : {A : Type 0} → Source → Repository A → Bool →
 handle_target source repo replying place part (Some target) =
     handle_decoded source repo replying place part target (outcome_of (version_of part.params) part.payload)
 handle_target source repo replying place part None = Err (BadPart place)
+
+-- what it tells without the repository: the phase that is named and its entries, or that its format has a fault
+abbrev pub reading_in : {A E : Type 0} → Option Phase → Result (List (Entry A)) E → Reading A
+reading_in (Some target) (Ok entries) = ChangeGroup target entries
+reading_in (Some target) (Err fault) = Malformed
+reading_in None decoded = Malformed
+
+abbrev pub read_changegroup : {A : Type 0} → Part A → Reading A
+read_changegroup part = reading_in (target_of part.params) (outcome_of (version_of part.params) part.payload)
+
+-- what was read meets the repository
+abbrev pub handle_group : {A : Type 0} → Source → Repository A → Bool → ℕ → Part A → Phase → List (Entry A)
+    → Outcome A
+handle_group source repo replying place part target entries =
+    handle_entries source repo replying place part (phase_for source repo.settings target) entries
 
 -- first the faults of the format, then those against the repository
 abbrev pub handle_changegroup : {A : Type 0} → Source → Repository A → Bool → ℕ → Part A → Outcome A

@@ -1,5 +1,5 @@
 -- The check parts: what a check answers, told of its part. None changes the repository or leaves a reply.
-use Rattle.std.specs.Prelude.{ℕ, Result, Ok, Err}
+use Rattle.std.specs.Prelude.{ℕ, Ok, Err}
 use Rattle.hg_checks.specs.declared.fault.CheckFault.{CheckFault}
 use Rattle.hg_checks.specs.declared.fault.CheckFault.TheVariants as check
 use Rattle.hg_checks.specs.Checked.{Answer}

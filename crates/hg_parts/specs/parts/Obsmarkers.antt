@@ -2,12 +2,12 @@
 use Rattle.std.specs.Prelude.{ℕ, Bool, List, length, codes, decimal, Result, Ok, Err}
 use Rattle.hg_types.specs.declared.part.Part.{Part}
 use Rattle.hg_obs.specs.declared.fault.MarkerFault.{MarkerFault}
-use Rattle.hg_obs.specs.declared.fault.MarkerFault.TheVariants.{NoMemory}
 use Rattle.hg_obs.specs.declared.marker.Marker.{Marker}
 use Rattle.hg_obs.specs.Markers.{fresh, merged}
 use Rattle.hg_obs.specs.Reading.{markers_of}
-use Rattle.hg_parts.specs.declared.refusal.Refusal.{Refusal}
-use Rattle.hg_parts.specs.declared.refusal.Refusal.TheVariants.{BadPart, NoMemory as OutOfMemory}
+use Rattle.hg_parts.specs.declared.prepared.Reading.{Reading}
+use Rattle.hg_parts.specs.declared.prepared.Reading.TheVariants.{Obsmarkers, Malformed}
+use Rattle.hg_parts.specs.declared.refusal.Refusal.TheVariants.{BadPart}
 use Rattle.hg_parts.specs.Repository.{Repository}
 use Rattle.hg_parts.specs.Handled.{Outcome}
 use Rattle.hg_parts.specs.Replies.{reply_part, reply_where}
@@ -23,10 +23,17 @@ handle_read repo replying place part (Ok added) = Ok (record {
 })
 handle_read repo replying place part (Err fault) = Err (BadPart place)
 
+-- what it tells without the repository: its markers, or that its format has a fault
+abbrev pub reading_in : {A : Type 0} → Result (List (Marker A)) MarkerFault → Reading A
+reading_in (Ok added) = Obsmarkers added
+reading_in (Err fault) = Malformed
+
+abbrev pub read_obsmarkers : {A : Type 0} → Part A → Reading A
+read_obsmarkers part = reading_in (markers_of part.payload)
+
+-- what was read meets the repository
+abbrev pub handle_markers : {A : Type 0} → Repository A → Bool → ℕ → Part A → List (Marker A) → Outcome A
+handle_markers repo replying place part added = handle_read repo replying place part (Ok added)
+
 abbrev pub handle_obsmarkers : {A : Type 0} → Repository A → Bool → ℕ → Part A → Outcome A
 handle_obsmarkers repo replying place part = handle_read repo replying place part (markers_of part.payload)
-
--- a fault as the refusal of its part; want of memory is told as such
-abbrev pub refusal_of : {A : Type 0} → ℕ → MarkerFault → Refusal A
-refusal_of place NoMemory = OutOfMemory
-refusal_of place fault = BadPart place

@@ -11,6 +11,8 @@ use Rattle.hg_phases.specs.declared.fault.EntryFault.{EntryFault}
 use Rattle.hg_phases.specs.Entries.{entries_of}
 use Rattle.hg_phases.specs.Phases.{advanced}
 use Rattle.hg_keys.specs.Known.{is_known}
+use Rattle.hg_parts.specs.declared.prepared.Reading.{Reading}
+use Rattle.hg_parts.specs.declared.prepared.Reading.TheVariants.{PhaseHeads, Malformed}
 use Rattle.hg_parts.specs.declared.refusal.Refusal.TheVariants.{BadPart, UnknownNode}
 use Rattle.hg_parts.specs.Repository.{Repository}
 use Rattle.hg_parts.specs.Handled.{Outcome}
@@ -36,6 +38,14 @@ handle_entries repo place entries =
 abbrev pub handle_read : {A : Type 0} → Repository A → ℕ → Result (List (Phase × Node)) EntryFault → Outcome A
 handle_read repo place (Ok entries) = handle_entries repo place entries
 handle_read repo place (Err fault) = Err (BadPart place)
+
+-- what it tells without the repository: its entries, or that its format has a fault
+abbrev pub reading_in : {A : Type 0} → Result (List (Phase × Node)) EntryFault → Reading A
+reading_in (Ok entries) = PhaseHeads entries
+reading_in (Err fault) = Malformed
+
+abbrev pub read_phase_heads : {A : Type 0} → Part A → Reading A
+read_phase_heads part = reading_in (entries_of part.payload)
 
 abbrev pub handle_phase_heads : {A : Type 0} → Repository A → ℕ → Part A → Outcome A
 handle_phase_heads repo place part = handle_read repo place (entries_of part.payload)

@@ -5,7 +5,6 @@
 //! of format. Every changeset has to be known. Then each name is set or deleted, in order, whatever it is.
 
 ghost use Rattle.std.specs.Prelude.{◌≡◌, true, OnOk};
-ghost use Rattle.hg_keys.specs.PushKey.{is_known_target as known_target_test};
 ghost use Rattle.hg_parts.specs.Handled.{NothingGives};
 ghost use Rattle.hg_keys.specs.Known.{AreOnKnown};
 ghost use Rattle.hg_parts.specs.Store.{repository_of, IsSound, IsGrown};
@@ -13,7 +12,7 @@ ghost use Rattle.hg_parts.specs.parts.Bookmarks.{are_known, set_each, handle_boo
 
 use crate::refusal::Refusal;
 use crate::store::Store;
-use hg_keys::{BookmarkFault, Bookmarks, is_known, read_bookmarks};
+use hg_keys::{BookmarkFault, Bookmarks, is_known_target, read_bookmarks};
 use hg_log::Changelog;
 use hg_types::{NoMemory, Node, Part, Seq, Settings};
 use std::alloc::Allocator;
@@ -50,17 +49,7 @@ pub fn handle_bookmarks<A: Allocator + Copy>(
 fn are_known<A: Allocator>(log: &Changelog<A>, entries: &[(Option<Node>, Seq<u8, A>)]) -> bool
     ensures { result ≡ are_known log.now.rows entries.now }
 {
-    entries.iter().all(|entry| is_known_or_none(log, entry.0))
-}
-
-/// Whether there is no changeset, or a known one.
-fn is_known_or_none<A: Allocator>(log: &Changelog<A>, node: Option<Node>) -> bool
-    ensures { result ≡ known_target_test log.now.rows node }
-{
-    match node {
-        Some(node) => is_known(log, &node),
-        None => true,
-    }
+    entries.iter().all(|entry| is_known_target(log, entry.0))
 }
 
 /// Sets or deletes the names of the entries, whose changesets are known.

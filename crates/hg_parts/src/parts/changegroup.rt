@@ -24,9 +24,10 @@ ghost use Rattle.hg_parts.specs.Store.{repository_of, IsSound, IsGrown};
 ghost use Rattle.hg_parts.specs.parts.Changegroup.{phase_named, target_of, version_of, phase_for, grown_by};
 ghost use Rattle.hg_parts.specs.parts.Changegroup.{grown_of, add_each, revs_of, phases_after, result_text};
 ghost use Rattle.hg_parts.specs.parts.Changegroup.{reply_to_group, refusal_for, handle_entries};
-ghost use Rattle.hg_parts.specs.parts.Changegroup.{handle_changegroup, AddGives, AreOthersSame};
+ghost use Rattle.hg_parts.specs.parts.Changegroup.{read_changegroup, handle_group, AddGives, AreOthersSame};
 
 use crate::params::value_of;
+use crate::prepared::Reading;
 use crate::refusal::Refusal;
 use crate::replies::reply_part;
 use crate::source::Source;
@@ -37,11 +38,28 @@ use hg_phases::Phases;
 use hg_types::{Entry, NoMemory, Param, Part, Phase, Settings};
 use std::alloc::Allocator;
 
-/// Adds the changesets of the payload.
-///
-/// Refused are another version, another `targetphase` and a payload that is no changegroup (`BadPart`), and
-/// then the first changeset that the changelog doesn't add (`BadChangeset`).
-pub fn handle_changegroup<A: Allocator + Copy>(
+/// Reads the payload and the parameters. Faults of the format are another version, another `targetphase` and
+/// a payload that is no changegroup.
+pub fn read_changegroup<A: Allocator + Copy>(
+    alloc: A,
+    part: &Part<A>,
+) -> Result<Reading<A>, NoMemory>
+    ensures { IfOk result (λ reading. reading ≡ read_changegroup part.now) }
+{
+    let Some(target) = target_of(part.params.as_slice()) else {
+        return Ok(Reading::Malformed);
+    };
+    let version = version_of(part.params.as_slice());
+    match decode(alloc, version, part.payload.as_slice()) {
+        Ok(entries) => Ok(Reading::ChangeGroup { target, entries }),
+        Err(GroupFault::NoMemory) => Err(NoMemory),
+        Err(_) => Ok(Reading::Malformed),
+    }
+}
+
+/// Adds the changesets that were read, and gives the reply. Refused is the first that the changelog doesn't
+/// add (`BadChangeset`).
+pub fn handle_group<A: Allocator + Copy>(
     alloc: A,
     store: &mut Store<A>,
     settings: &Settings,
@@ -49,35 +67,20 @@ pub fn handle_changegroup<A: Allocator + Copy>(
     replying: bool,
     place: u32,
     part: &Part<A>,
+    target: Phase,
+    entries: &[Entry<A>],
 ) -> Result<Option<Part<A>>, Refusal<A>>
     requires { IsSound settings.now store.old }
     ensures sound { OnOk result (IsSound settings.now store.new) }
     ensures grown { IsGrown store.old store.new }
     ensures reply { IfOk result (λ reply. IfSome reply IsReply) }
     ensures gives { HandleGives
-        (handle_changegroup source (repository_of settings.now store.old) replying place part.now)
+        (handle_group source (repository_of settings.now store.old) replying place part.now target entries.now)
         (repository_of settings.now store.new) result }
 {
-    let Some(target) = target_of(part.params.as_slice()) else {
-        return Err(Refusal::BadPart { place });
-    };
-    let version = version_of(part.params.as_slice());
-    let entries = match decode(alloc, version, part.payload.as_slice()) {
-        Ok(entries) => entries,
-        Err(GroupFault::NoMemory) => return Err(Refusal::NoMemory),
-        Err(_) => return Err(Refusal::BadPart { place }),
-    };
     let t = phase_for(source, settings, target);
     handle_entries(
-        alloc,
-        store,
-        settings,
-        source,
-        replying,
-        place,
-        part,
-        t,
-        entries.as_slice(),
+        alloc, store, settings, source, replying, place, part, t, entries,
     )
 }
 

@@ -7,54 +7,77 @@ ghost use Rattle.std.specs.Prelude.{◌≡◌, IfOk, IfSome, OnOk};
 ghost use Rattle.hg_parts.specs.Handled.{HandleGives};
 ghost use Rattle.hg_parts.specs.Replies.{reply_where, IsReply};
 ghost use Rattle.hg_parts.specs.Store.{repository_of, IsSound, IsGrown};
-ghost use Rattle.hg_parts.specs.parts.Obsmarkers.{refusal_of, reply_to_markers, handle_obsmarkers};
+ghost use Rattle.hg_parts.specs.parts.Obsmarkers.{reply_to_markers, read_obsmarkers, handle_markers};
 
+use crate::prepared::Reading;
 use crate::refusal::Refusal;
 use crate::replies::reply_part;
 use crate::store::Store;
-use hg_obs::{MarkerFault, markers_stay_lawful, read_markers};
-use hg_types::{NoMemory, Part, Settings};
-use std::alloc::Allocator;
+use hg_obs::{Marker, MarkerFault, markers_stay_lawful, read_markers};
+use hg_types::{NoMemory, Part, Seq, Settings};
+use std::alloc::{Allocator, Global};
+use std::marker::Model;
 
-/// Merges the markers in the payload.
-///
-/// Refused is a payload that is no marker data (`BadPart`).
-pub fn handle_obsmarkers<A: Allocator + Copy>(
+/// Markers that marker data may have, which contracts see as their list.
+#[derive(Drop)]
+pub struct MarkerData<A: Allocator = Global> {
+    list: Seq<Marker<A>, A>,
+}
+
+impl<A: Allocator> Model for MarkerData<A> {
+    ghost use Rattle.std.specs.Prelude.{List};
+    ghost use Rattle.std.specs.List.{AllByRecursion};
+    ghost use Rattle.hg_obs.specs.declared.marker.Marker.{Marker as MarkerValue};
+    ghost use Rattle.hg_obs.specs.Marker.{IsMarker};
+
+    ghost Value = { List (MarkerValue A) };
+
+    ghost view = { λ m. m.list };
+
+    ghost invariant = { λ m. AllByRecursion IsMarker m.list };
+}
+
+/// Reads the payload. One that is no marker data is a fault of the format.
+pub fn read_obsmarkers<A: Allocator + Copy>(
+    alloc: A,
+    part: &Part<A>,
+) -> Result<Reading<A>, NoMemory>
+    ensures { IfOk result (λ reading. reading ≡ read_obsmarkers part.now) }
+{
+    match read_markers(alloc, part.payload.as_slice()) {
+        Ok(list) => Ok(Reading::Obsmarkers(MarkerData { list })),
+        Err(MarkerFault::NoMemory) => Err(NoMemory),
+        Err(
+            MarkerFault::BadVersion
+            | MarkerFault::Short
+            | MarkerFault::BadMetadata
+            | MarkerFault::NullSuccessor,
+        ) => Ok(Reading::Malformed),
+    }
+}
+
+/// Merges the markers that were read, and gives the reply.
+pub fn handle_markers<A: Allocator + Copy>(
     alloc: A,
     store: &mut Store<A>,
     settings: &Settings,
     replying: bool,
     place: u32,
     part: &Part<A>,
+    markers: MarkerData<A>,
 ) -> Result<Option<Part<A>>, Refusal<A>>
     requires { IsSound settings.now store.old }
     ensures sound { OnOk result (IsSound settings.now store.new) }
     ensures grown { IsGrown store.old store.new }
     ensures reply { IfOk result (λ reply. IfSome reply IsReply) }
-    ensures gives { HandleGives (handle_obsmarkers (repository_of settings.now store.old) replying place part.now)
+    ensures gives { HandleGives (handle_markers (repository_of settings.now store.old) replying place part.now markers)
         (repository_of settings.now store.new) result }
 {
-    let added = match read_markers(alloc, part.payload.as_slice()) {
-        Ok(added) => added,
-        Err(fault) => return Err(refusal_of(place, fault)),
-    };
     markers_stay_lawful::<A>();
-    let count = store.markers.merge(added)?;
+    let MarkerData { list } = markers;
+    let count = store.markers.merge(list)?;
     let reply = reply_to_markers(alloc, replying, part.id, count)?;
     Ok(reply)
-}
-
-/// The refusal of a payload that is no marker data.
-fn refusal_of<A: Allocator>(place: u32, fault: MarkerFault) -> Refusal<A>
-    ensures { result ≡ refusal_of place fault }
-{
-    match fault {
-        MarkerFault::NoMemory => Refusal::NoMemory,
-        MarkerFault::BadVersion
-        | MarkerFault::Short
-        | MarkerFault::BadMetadata
-        | MarkerFault::NullSuccessor => Refusal::BadPart { place },
-    }
 }
 
 /// The reply, where the client reads one.

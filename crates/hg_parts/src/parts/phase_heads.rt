@@ -4,12 +4,13 @@
 //! `internals.bundles`, and its `phases`). Another length or phase is a fault of format. Every changeset has to be known. Then
 //! each and its ancestors are advanced to its phase, in order: none gets a higher one.
 
-ghost use Rattle.std.specs.Prelude.{◌≡◌, length, OnOk};
+ghost use Rattle.std.specs.Prelude.{◌≡◌, length, IfOk, OnOk};
 ghost use Rattle.hg_phases.specs.Phases.{AreFor};
 ghost use Rattle.hg_parts.specs.Handled.{NothingGives};
 ghost use Rattle.hg_parts.specs.Store.{repository_of, IsSound, IsGrown};
-ghost use Rattle.hg_parts.specs.parts.PhaseHeads.{are_known, advanced_by, advance_each, handle_phase_heads};
+ghost use Rattle.hg_parts.specs.parts.PhaseHeads.{are_known, advanced_by, advance_each, handle_entries, read_phase_heads};
 
+use crate::prepared::Reading;
 use crate::refusal::Refusal;
 use crate::store::Store;
 use hg_keys::is_known;
@@ -18,31 +19,38 @@ use hg_phases::{EntryFault, Phases, read_entries};
 use hg_types::{NoMemory, Node, Part, Phase, Settings};
 use std::alloc::Allocator;
 
-/// Advances the changesets in the payload.
-///
-/// Refused are a payload that is no entries (`BadPart`), and then a changeset that is not known (`UnknownNode`).
+/// Reads the payload. One that is no entries is a fault of the format.
+pub fn read_phase_heads<A: Allocator + Copy>(
+    alloc: A,
+    part: &Part<A>,
+) -> Result<Reading<A>, NoMemory>
+    ensures { IfOk result (λ reading. reading ≡ read_phase_heads part.now) }
+{
+    match read_entries(alloc, part.payload.as_slice()) {
+        Ok(entries) => Ok(Reading::PhaseHeads(entries)),
+        Err(EntryFault::NoMemory) => Err(NoMemory),
+        Err(EntryFault::Short | EntryFault::BadPhase) => Ok(Reading::Malformed),
+    }
+}
+
+/// Advances the changesets of the entries that were read. Refused is one that is not known (`UnknownNode`).
 pub fn handle_phase_heads<A: Allocator + Copy>(
     alloc: A,
     store: &mut Store<A>,
     settings: &Settings,
     place: u32,
-    part: &Part<A>,
+    entries: &[(Phase, Node)],
 ) -> Result<(), Refusal<A>>
     requires { IsSound settings.now store.old }
     ensures sound { OnOk result (IsSound settings.now store.new) }
     ensures grown { IsGrown store.old store.new }
-    ensures gives { NothingGives (handle_phase_heads (repository_of settings.now store.old) place part.now)
+    ensures gives { NothingGives (handle_entries (repository_of settings.now store.old) place entries.now)
         (repository_of settings.now store.new) result }
 {
-    let entries = match read_entries(alloc, part.payload.as_slice()) {
-        Ok(entries) => entries,
-        Err(EntryFault::NoMemory) => return Err(Refusal::NoMemory),
-        Err(EntryFault::Short | EntryFault::BadPhase) => return Err(Refusal::BadPart { place }),
-    };
-    if !are_known(&store.log, entries.as_slice()) {
+    if !are_known(&store.log, entries) {
         return Err(Refusal::UnknownNode { place });
     }
-    advance_each(alloc, &store.log, &mut store.phases, entries.as_slice())?;
+    advance_each(alloc, &store.log, &mut store.phases, entries)?;
     Ok(())
 }
 

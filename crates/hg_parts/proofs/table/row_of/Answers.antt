@@ -1,4 +1,4 @@
-use Rattle.std.proofs.Common.{◌≡◌, ◌∙◌, find, option_copied, List, ap}
+use Rattle.std.proofs.Common.{◌∙◌, find, option_copied, List, ap}
 use Rattle.std.specs.Str.{str_eq_ignore_ascii_case}
 use Rattle.hg_parts.specs.PartTypes.{Row, row_of}
 use Rattle.hg_parts.specs.Table.{row_value}

@@ -1,4 +1,4 @@
-use Rattle.std.proofs.Common.{◌≡◌, ◌∙◌, Bool, not, ◌&&◌, sym, ap}
+use Rattle.std.proofs.Common.{◌∙◌, Bool, not, ◌&&◌, sym, ap}
 use Rattle.hg_parts.specs.PartTypes.{is_mandatory}
 use Rattle.hg_parts.proofs.Mandatory.{mandatory_test}
 use Rattle.hg_parts.proofs.parts.pushkey.is_refused.Goals as goal

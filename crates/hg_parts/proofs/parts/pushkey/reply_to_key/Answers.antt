@@ -1,5 +1,4 @@
-use Rattle.std.proofs.Common.{◌≡◌, ◌∙◌, List, ℕ, codes, ap}
-use Rattle.hg_types.specs.declared.part.Part.{Part}
+use Rattle.std.proofs.Common.{◌∙◌, List, ℕ, codes, ap}
 use Rattle.hg_parts.specs.Replies.{reply_part}
 use Rattle.hg_parts.specs.parts.Pushkey.{reply_to_key}
 use Rattle.hg_parts.proofs.Numbers.{replied}

@@ -1,0 +1,130 @@
+//! Parts that are read before their turn.
+//!
+//! What a part's bytes tell without the repository is read when the part comes: whether it is supported, and
+//! the payloads of `changegroup`, `phase-heads` and `obsmarkers`. A payload that was read is dropped, and the
+//! content of manifests and files with it. What is left is a [`Prepared`]. A fault that reading finds is kept
+//! there, and told when the part's turn comes: a part before it may refuse the push for another reason.
+
+ghost use Rattle.std.specs.Prelude.{◌≡◌, IfOk};
+ghost use Rattle.hg_types.specs.declared.part.Part.{Part as AnyPart};
+ghost use Rattle.hg_parts.specs.PartTypes.{is_reply_caps, support_of};
+ghost use Rattle.hg_parts.specs.Prepared.{is_read, is_replycaps, kept_with, reading_of, IsMadeOf};
+
+use crate::parts::changegroup::read_changegroup;
+use crate::parts::obsmarkers::{MarkerData, read_obsmarkers};
+use crate::parts::phase_heads::read_phase_heads;
+use crate::table::{PartType, supported_type};
+use hg_types::{Entry, NoMemory, Node, Part, Phase, Seq};
+use std::alloc::{Allocator, Global};
+
+/// What a part tells without the repository. A type of part that is named alone is read in its turn.
+#[derive(Drop)]
+pub enum Reading<A: Allocator = Global> {
+    /// Its type is not known, or a mandatory parameter of it is not.
+    Unsupported,
+    /// Its bytes do not have the format of its type.
+    Malformed,
+    ReplyCaps,
+    CheckHeads,
+    CheckPhases,
+    CheckBookmarks,
+    /// The changesets of `phase-heads`, each behind its phase.
+    PhaseHeads(Seq<(Phase, Node), A>),
+    Bookmarks,
+    /// The markers of `obsmarkers`.
+    Obsmarkers(MarkerData<A>),
+    /// The changesets of `changegroup`, and the phase that its `targetphase` names.
+    ChangeGroup {
+        target: Phase,
+        entries: Seq<Entry<A>, A>,
+    },
+    Pushkey,
+    Output,
+    ErrorAbort,
+}
+
+/// A part that waits for its turn: what it told without the repository, and what else is wanted of it.
+#[derive(Drop)]
+pub struct Prepared<A: Allocator = Global> {
+    pub(crate) reading: Reading<A>,
+    /// Without its payload, where that was read or is not looked at.
+    pub(crate) part: Part<A>,
+}
+
+/// Reads a part as far as that goes without the repository, and drops what was read.
+#[tactic(auto, unfolding(crate::specs::Prepared::IsMadeOf))]
+pub fn prepare<A: Allocator + Copy>(alloc: A, part: Part<A>) -> Result<Prepared<A>, NoMemory>
+    ensures { IfOk result (λ prepared. IsMadeOf part prepared) }
+{
+    let reading = read_part(alloc, &part)?;
+    Ok(keep(alloc, part, reading))
+}
+
+impl<A: Allocator> Prepared<A> {
+    /// Whether parts leave replies after this one.
+    pub fn starts_replies(&self) -> bool
+        ensures { (part : AnyPart A) → IsMadeOf part self.now → result ≡ is_reply_caps (support_of part) }
+    {
+        is_replycaps(&self.reading)
+    }
+}
+
+/// What is kept of a part that was read so.
+fn keep<A: Allocator>(alloc: A, mut part: Part<A>, reading: Reading<A>) -> Prepared<A>
+    ensures { result ≡ kept_with part reading }
+{
+    if is_read(&reading) {
+        part.payload = Seq::new(alloc);
+    }
+    Prepared { reading, part }
+}
+
+/// Whether the payload is wanted no more.
+fn is_read<A: Allocator>(reading: &Reading<A>) -> bool
+    ensures { result ≡ is_read reading.now }
+{
+    match reading {
+        Reading::Unsupported
+        | Reading::Malformed
+        | Reading::PhaseHeads(_)
+        | Reading::Obsmarkers(_)
+        | Reading::ChangeGroup { .. } => true,
+        Reading::ReplyCaps
+        | Reading::CheckHeads
+        | Reading::CheckPhases
+        | Reading::CheckBookmarks
+        | Reading::Bookmarks
+        | Reading::Pushkey
+        | Reading::Output
+        | Reading::ErrorAbort => false,
+    }
+}
+
+/// Whether the part is a `replycaps` that is supported.
+fn is_replycaps<A: Allocator>(reading: &Reading<A>) -> bool
+    ensures { result ≡ is_replycaps reading.now }
+{
+    matches!(reading, Reading::ReplyCaps)
+}
+
+/// What a part tells without the repository.
+pub fn read_part<A: Allocator + Copy>(alloc: A, part: &Part<A>) -> Result<Reading<A>, NoMemory>
+    ensures { IfOk result (λ reading. reading ≡ reading_of part.now) }
+{
+    let Some(part_type) = supported_type(part) else {
+        return Ok(Reading::Unsupported);
+    };
+    match part_type {
+        PartType::ReplyCaps => Ok(Reading::ReplyCaps),
+        PartType::CheckHeads => Ok(Reading::CheckHeads),
+        PartType::CheckPhases => Ok(Reading::CheckPhases),
+        PartType::CheckBookmarks => Ok(Reading::CheckBookmarks),
+        PartType::PhaseHeads => read_phase_heads(alloc, part),
+        PartType::Bookmarks => Ok(Reading::Bookmarks),
+        PartType::Obsmarkers => read_obsmarkers(alloc, part),
+        PartType::ChangeGroup => read_changegroup(alloc, part),
+        PartType::Pushkey => Ok(Reading::Pushkey),
+        PartType::Output => Ok(Reading::Output),
+        PartType::ErrorAbort => Ok(Reading::ErrorAbort),
+    }
+}
