@@ -1,5 +1,9 @@
 mod Ranges
 mod Runs
 mod Replies
+mod FewReplies
+mod PreparedRuns
 mod SameItems
 mod Reading
+mod Escapes
+mod Lines

@@ -1,23 +1,29 @@
 //! The repository, and the calls that read it.
 
-ghost use Rattle.std.specs.Prelude.{◌≡◌, ◌<◌, ◌^◌, length, IfOk, IsTrue, ◌↔◌, IsSorted};
+ghost use Rattle.std.specs.Prelude.{List, ◌≡◌, ◌<◌, ◌^◌, length, IfOk, OnErr, IsTrue, ◌↔◌, IsSorted};
 ghost use Rattle.hg_types.specs.Limits.{IsAllowed};
 ghost use Rattle.hg_log.specs.Heads.{AreHeads, ids};
 ghost use Rattle.hg_log.specs.HeadCount.{head_ids, AreSameIds};
 ghost use Rattle.hg_keys.specs.Bookmarks.{node_of};
 ghost use Rattle.hg_keys.specs.Known.{phase_of_node};
+ghost use Rattle.hg_phases.specs.Order.{phase_at};
+ghost use Rattle.hg_types.specs.declared.part.Part.{Part as AnyPart};
+ghost use Rattle.hg_parts.specs.Prepared.{AreMadeOf};
 ghost use Rattle.hg_parts.specs.Repository.{empty_with, IsLawful};
 ghost use Rattle.hg_repo.specs.Reading.{can_be_obsolete, is_obsolete, is_predecessor, IsSame};
+ghost use Rattle.hg_repo.specs.Report.{report_of};
 ghost use Rattle.hg_repo.specs.Run.{run_of, RunGives};
 ghost use Rattle.hg_repo.specs.Replies.{AreReplies};
 
 use crate::done::Done;
-use crate::run::run_parts;
+use crate::report::{write_bookmarks, write_changesets, write_markers};
+use crate::run::{run_parts, run_prepared};
 use crate::same::are_same;
 use hg_keys::phase_of_node;
+use hg_log::Changelog;
 use hg_obs::{Marker, Markers};
 use hg_parts::laws::sound_stores_are_lawful;
-use hg_parts::{Refusal, Source, Store};
+use hg_parts::{Prepared, Refusal, Source, Store};
 use hg_types::{NoMemory, Node, Part, Phase, Seq, Settings, TryClone};
 use std::alloc::{Allocator, Global};
 use std::hash::RandomState;
@@ -56,6 +62,21 @@ impl<A: Allocator> Repo<A> {
         ensures { IsLawful self.now }
     {
         sound_stores_are_lawful(&self.settings, &self.store);
+    }
+
+    /// The changesets.
+    pub(crate) fn log(&self) -> &Changelog<A>
+        ensures { result.now.rows ≡ self.now.rows }
+    {
+        &self.store.log
+    }
+
+    /// The phase of the changeset of that number.
+    pub(crate) fn phase_at(&self, rev: u32) -> Phase
+        requires { rev < length self.now.rows }
+        ensures { result ≡ phase_at self.now.phases rev }
+    {
+        self.store.phases.phase(rev)
     }
 
     /// The phase of a changeset, if it is known. The null id is known, and public. It takes no memory.
@@ -121,6 +142,22 @@ impl<A: Allocator + Copy> Repo<A> {
         self.store.log.heads(self.alloc)
     }
 
+    /// What the repository holds, as lines of text. First `C rev node phase obsolete` for each changeset in
+    /// the order of their numbers, where `obsolete` is 1 or 0; then `B node name` for each bookmark in the
+    /// order of the names' bytes, where every byte of the name but ASCII letters and digits is written `%` and
+    /// two upper case hexadecimal digits; then `O` and the bytes for each marker in the order in which they
+    /// came. Ids and bytes are lower case hexadecimal digits.
+    pub fn report(&self) -> Result<Vec<u8, A>, NoMemory>
+        ensures { IfOk result (λ text. text.items ≡ report_of self.now) }
+    {
+        self.lawful();
+        let mut text = String::new(self.alloc);
+        write_changesets(self.alloc, &mut text, self)?;
+        write_bookmarks(self.alloc, &mut text, &self.store.bookmarks)?;
+        write_markers(self.alloc, &mut text, self.store.markers.list())?;
+        Ok(text.into_bytes())
+    }
+
     /// Runs the parts in order, as `run_of` says: all of them, or none and nothing is changed.
     /// `NoMemory` stands in place of that answer where a growth was refused, and nothing is changed. The
     /// replies of a run that is done can be written: at most one for each part, none with a payload.
@@ -131,12 +168,44 @@ impl<A: Allocator + Copy> Repo<A> {
         requires { length parts.now < 2 ^ 32 }
         ensures gives { RunGives (run_of source) self.old parts.now result self.new }
         ensures replies { IfOk result (λ done. AreReplies (length parts.now) done.replies) }
+        ensures settings { self.new.settings ≡ self.old.settings }
     {
         let mark = self.store.mark();
         match run_parts(self.alloc, &mut self.store, &self.settings, source, parts) {
             Ok(done) => Ok(done),
             Err(refusal) => {
                 self.store.back_to(mark);
+                Err(refusal)
+            }
+        }
+    }
+
+    /// Runs parts that were prepared, in order: the run of every list of parts that they may have been made of,
+    /// with the first refusal in their order, also where an earlier reading found a fault in a later part.
+    /// `NoMemory` stands in place of that answer where a growth was refused. Nothing is changed where the answer
+    /// is a refusal.
+    pub fn run_prepared(
+        &mut self,
+        source: Source,
+        prepared: Vec<Prepared<A>, A>,
+    ) -> Result<Done<A>, Refusal<A>>
+        requires { length prepared.items < 2 ^ 32 }
+        ensures gives { (parts : List (AnyPart A)) → AreMadeOf parts prepared.items →
+            RunGives (run_of source) self.old parts result self.new }
+        ensures err { OnErr result (self.new ≡ self.old) }
+        ensures replies { IfOk result (λ done. AreReplies (length prepared.items) done.replies) }
+    {
+        let before = self.store.mark();
+        match run_prepared(
+            self.alloc,
+            &mut self.store,
+            &self.settings,
+            source,
+            prepared,
+        ) {
+            Ok(done) => Ok(done),
+            Err(refusal) => {
+                self.store.back_to(before);
                 Err(refusal)
             }
         }

@@ -1,13 +1,15 @@
 //! The run of a push's parts on a store, in place.
 
-ghost use Rattle.std.specs.Prelude.{◌≡◌, ◌<◌, ◌≤◌, ◌+◌, ◌^◌, length, IfOk, OnOk};
+ghost use Rattle.std.specs.Prelude.{List, ◌≡◌, ◌<◌, ◌≤◌, ◌+◌, ◌^◌, length, IfOk, OnOk};
 ghost use Rattle.std.specs.List.{range_with_len};
+ghost use Rattle.hg_types.specs.declared.part.Part.{Part as AnyPart};
+ghost use Rattle.hg_parts.specs.Prepared.{AreMadeOf};
 ghost use Rattle.hg_parts.specs.Store.{repository_of, IsSound, IsGrown};
 ghost use Rattle.hg_repo.specs.Run.{run_of, with_reply, PartsGive};
 ghost use Rattle.hg_repo.specs.Replies.{AreReplies};
 
 use crate::done::Done;
-use hg_parts::{Refusal, Source, Store, handle_part, starts_replies};
+use hg_parts::{Prepared, Refusal, Source, Store, handle_part, handle_prepared, starts_replies};
 use hg_types::{NoMemory, Part, Seq, Settings};
 use std::alloc::Allocator;
 
@@ -35,6 +37,37 @@ pub fn run_parts<A: Allocator + Copy>(
         replying = replying || starts_replies(part);
     }
     let handled = places(alloc, parts.len())?;
+    Ok(Done { replies, handled })
+}
+
+/// Runs parts that were prepared, as [`run_parts`] runs each list of parts that they may have been made of.
+pub fn run_prepared<A: Allocator + Copy>(
+    alloc: A,
+    store: &mut Store<A>,
+    settings: &Settings,
+    source: Source,
+    prepared: Vec<Prepared<A>, A>,
+) -> Result<Done<A>, Refusal<A>>
+    requires sound { IsSound settings.now store.old }
+    requires few { length prepared.items < 2 ^ 32 }
+    ensures sound { OnOk result (IsSound settings.now store.new) }
+    ensures grown { IsGrown store.old store.new }
+    ensures replies { IfOk result (λ done. AreReplies (length prepared.items) done.replies) }
+    ensures gives { (parts : List (AnyPart A)) → AreMadeOf parts prepared.items →
+        PartsGive (run_of source (repository_of settings.now store.old) parts) (repository_of settings.now store.new) result }
+{
+    let count = prepared.len();
+    let mut replies = Seq::new(alloc);
+    let mut replying = false;
+    let mut place = 0;
+    for part in prepared {
+        let starts = part.starts_replies();
+        let reply = handle_prepared(alloc, store, settings, source, replying, place, part)?;
+        keep_reply(&mut replies, reply)?;
+        replying = replying || starts;
+        place += 1;
+    }
+    let handled = places(alloc, count)?;
     Ok(Done { replies, handled })
 }
 

@@ -1,5 +1,9 @@
 //! Worked examples of a run, and each of them with memory refused at one growth after another.
 
+mod growths;
+mod prepared;
+mod pushes;
+
 ghost use Rattle.std.specs.Prelude.{IfOk, length, ◌≤◌};
 ghost use Rattle.hg_types.specs.Limits.{IsAllowed};
 
@@ -402,14 +406,15 @@ fn many_parts<A: Allocator + Copy>(alloc: A) -> Result<Seq<Part<A>, A>, NoMemory
 
 fn many_names<A: Allocator + Copy>(alloc: A) -> Result<Seq<Part<A>, A>, NoMemory> {
     let mut named = part(alloc, b"OUTPUT", 0, b"")?;
-    for name in 0..100u8 {
+    for name in 0..255u8 {
         named = with_param(alloc, named, true, &[name])?;
     }
     list(alloc, named, None)
 }
 
 fn many_heads<A: Allocator + Copy>(alloc: A) -> Result<Seq<Part<A>, A>, NoMemory> {
-    let heads = part(alloc, b"CHECK:HEADS", 0, &[0; 4_000])?;
+    let mut heads = part(alloc, b"CHECK:HEADS", 0, b"")?;
+    heads.payload = Seq::from_vec(vec![in alloc; 0; 80_000]?);
     list(alloc, heads, None)
 }
 
@@ -421,7 +426,7 @@ fn all_answer<A: Allocator + Copy>(
     heads: &[Part<A>],
 ) -> bool {
     let done = answers(repo, parts, Expected::Done(300));
-    let unsupported = answers(repo, named, Expected::UnknownNames(100));
+    let unsupported = answers(repo, named, Expected::UnknownNames(255));
     let raced = answers(repo, heads, Expected::Raced(0));
     done & unsupported & raced
 }
@@ -437,14 +442,14 @@ fn all_answered(heap: &LocalHeap, state: RandomState) -> Option<bool> {
         named.as_slice(),
         heads.as_slice(),
     );
-    Some(is & (heap.free() > 1 << 17))
+    Some(is & (heap.free() > 1 << 18))
 }
 
 /// Many parts, names and heads, over a heap of which half is never used: no growth is refused, so none is told.
 #[test]
 fn near_the_limits(rt: HostRuntime) -> Result<(), Fail> {
     let state = RandomState::new(&rt)?;
-    let heap = LocalHeap::new(rt.alloc(), 1 << 18)?;
+    let heap = LocalHeap::new(rt.alloc(), 1 << 19)?;
     let is = all_answered(&heap, state) == Some(true);
     assert!(rt; is);
     Ok(())
@@ -483,18 +488,26 @@ fn leaves_all(heap: &LocalHeap, state: RandomState) -> bool {
     nothing & short & aborted
 }
 
-fn takes_little(heap: &LocalHeap, state: RandomState) -> bool {
-    match taken(heap, state, Example::UnknownAdvisory) {
-        Some(bytes) => bytes <= 16,
+/// Whether the example takes at most so many bytes.
+fn takes_at_most(heap: &LocalHeap, state: RandomState, example: Example, most: usize) -> bool {
+    match taken(heap, state, example) {
+        Some(bytes) => bytes <= most,
         None => false,
     }
 }
 
-/// Where memory is to spare, what takes none leaves it, and a run that is done takes four bytes a part.
+fn takes_little(heap: &LocalHeap, state: RandomState) -> bool {
+    let done = takes_at_most(heap, state, Example::UnknownAdvisory, 16);
+    let named = takes_at_most(heap, state, Example::UnknownParameter, 256);
+    done & named
+}
+
+/// Where memory is to spare, what takes none leaves it. A run that is done takes four bytes a part, and the
+/// refusal of an unknown parameter little more than its name.
 #[test]
 fn memory_is_left(rt: HostRuntime) -> Result<(), Fail> {
     let state = RandomState::new(&rt)?;
-    let heap = LocalHeap::new(rt.alloc(), 1 << 12)?;
+    let heap = LocalHeap::new(rt.alloc(), 1 << 16)?;
     let is = leaves_all(&heap, state) & takes_little(&heap, state);
     assert!(rt; is);
     Ok(())

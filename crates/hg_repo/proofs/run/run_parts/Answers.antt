@@ -1,15 +1,15 @@
-use Rattle.std.proofs.Common.{rules, ◌≡◌, ◌∙◌, ◌+◌, ℕ, List, length, inl, inr, Ok, Err, refl, sym, ap, subst, arith, ◌||◌}
+use Rattle.std.proofs.Common.{rules, ◌≡◌, ◌∙◌, ◌+◌, ℕ, List, length, inl, inr, Ok, Err, sym, ap, subst, arith, ◌||◌}
 use Rattle.std.proofs.lemmas.Bool.{or_left}
 use Rattle.hg_types.specs.declared.part.Part.{Part}
 use Rattle.hg_parts.specs.Repository.{Repository}
 use Rattle.hg_parts.specs.PartTypes.{is_reply_caps, support_of}
 use Rattle.hg_parts.specs.Handled.{Handled}
 use Rattle.hg_parts.specs.Store.{repository_of}
-use Rattle.hg_parts.proofs.CallerLemmas.{grown_same, grown_on}
+use Rattle.hg_parts.proofs.CallerLemmas.{grown_on}
 use Rattle.hg_repo.specs.Run.{Progress, run_of, PartsGive}
 use Rattle.hg_repo.specs.Replies.{AreReplies}
 use Rattle.hg_repo.proofs.Runs.{IsReached, reached_more, reached_refused, reached_end}
-use Rattle.hg_repo.proofs.Replies.{no_replies, one_more}
+use Rattle.hg_repo.proofs.Replies.{one_more}
 use Rattle.hg_repo.proofs.run.run_parts.Goals as goal
 use Rattle.hg_repo.proofs.run.run_parts.Goals.{then-replying, else-replying}
 

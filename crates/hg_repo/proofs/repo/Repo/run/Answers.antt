@@ -2,7 +2,7 @@ use Rattle.std.proofs.Common.{◌≡◌, ◌∙◌, ◌⊎◌, Err, ap, subst}
 use Rattle.hg_parts.specs.declared.refusal.Refusal.TheVariants.{NoMemory}
 use Rattle.hg_parts.specs.declared.store.Store.{Store}
 use Rattle.hg_parts.specs.Repository.{Repository}
-use Rattle.hg_parts.specs.Store.{repository_of, without_marks}
+use Rattle.hg_parts.specs.Store.{repository_of}
 use Rattle.hg_parts.proofs.CallerLemmas.{sound_unmarked, can_go_back_on}
 use Rattle.hg_repo.specs.Run.{run_of}
 use Rattle.hg_repo.proofs.repo.Repo.run.Goals as goal
