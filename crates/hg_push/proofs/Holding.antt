@@ -14,8 +14,8 @@ use Rattle.hg_push.specs.declared.outcome.Outcome.{Outcome}
 use Rattle.hg_push.specs.declared.row.Row.{Row}
 use Rattle.hg_push.specs.declared.row.State.{State}
 use Rattle.hg_push.specs.declared.row.State.TheVariants.{Open, Closed}
-use Rattle.hg_push.specs.History.{History, Running, is_of, closes, is_closed, parts, parts_after, serial, outcome, decided, decided_by, is_mark, told}
-use Rattle.hg_push.specs.Rows.{row_of, is_open, staged_in, Tells, TellsState, StepsRow}
+use Rattle.hg_push.specs.History.{History, Running, is_of, closes, is_closed, kept, parts, parts_after, serial, outcome, decided, decided_by, is_mark, told}
+use Rattle.hg_push.specs.Rows.{row_of, is_open, staged_in, Stages, Tells, TellsState, StepsRow}
 use Rattle.hg_push.specs.Book.{Book, Holds, is_opened, stepped}
 use Rattle.hg_push.proofs.Trims.{either_way}
 use Rattle.hg_push.proofs.Withouts.{outcome_open}
@@ -70,7 +70,7 @@ closed_tells : {A D E : Type 0} (ps : List (Part A)) (how : Option (Outcome D E)
 closed_tells ps how (Open staged) shut tells = cc
 closed_tells ps how (Closed ending) shut tells = rw tells refl
 
-open_tells : {A D E : Type 0} (ps : List (Part A)) (how : Option (Outcome D E)) (state : State D E A) → is_open state ≡ true → TellsState ps how state → (how ≡ None) × (staged_in state ≡ ps)
+open_tells : {A D E : Type 0} (ps : List (Part A)) (how : Option (Outcome D E)) (state : State D E A) → is_open state ≡ true → TellsState ps how state → (how ≡ None) × Stages (staged_in state) ps
 open_tells ps how (Open staged) ready tells = tells
 open_tells ps how (Closed ending) ready tells = cc
 
@@ -117,14 +117,15 @@ holds_stepped {A} {R} {D} {E} run first h b new x r r' holds opened row own read
     let tells = open_tells (parts x.item.push h) (outcome run first x.item.push h) r.state ready mine in
     let o : is_closed x.item.push h ≡ false = unended_open run first x.item.push h tells.0 in
     let repo : (serial run first h).repo ≡ b.repo = ap (λ s. s.repo) holds.state in
+    let with_parts = steps.steps (parts x.item.push h) tells.1 in
     let it : is_of x.item.push x ≡ true = grind (arith, nat_tests) in
     record {
-      state = rw (o, holds.state, ← tells.1, ← own) (sym steps.state);
-      legal = (λ t. rw (o, ← tells.1) (steps.may t), holds.legal);
+      state = rw (o, holds.state) (sym (with_parts.state ∙ ap (λ (n : ℕ). kept (record { repo = b.repo; journal = b.journal }) n (decided run b.repo (parts x.item.push h) x)) own));
+      legal = (λ t. rw o (with_parts.may t), holds.legal);
       opened = (same x.item.push ∙ opened, all_same _ _ same h holds.opened);
       rows = λ p q.
           either_way (p == x.item.push)
-          (λ t. let e : p ≡ x.item.push = grind (arith, nat_tests) in let P : ℕ → Type 0 = λ n. Tells (parts n (x ∷ h)) (outcome run first n (x ∷ h)) (row_of n new.rows) in subst P (sym e) (rw (it, o, repo, row') (rw tells.1 at steps.told)))
+          (λ t. let e : p ≡ x.item.push = grind (arith, nat_tests) in let P : ℕ → Type 0 = λ n. Tells (parts n (x ∷ h)) (outcome run first n (x ∷ h)) (row_of n new.rows) in subst P (sym e) (rw (it, o, repo, row') with_parts.told))
           (λ f. let other : p ≢ x.item.push = grind (arith, nat_tests) in let late = other_place p x h other in rw (parts_same p x h late, outcome_same run first p x h late, others p other) (holds.rows p (sym (same p) ∙ q)));
     }
 

@@ -10,11 +10,13 @@ mod Standings
 mod Taking
 mod Replying
 mod Sending
+mod Shortness
 mod Completing
 mod Calling
 mod Searching
 mod EachRow
 mod Leaving
+mod Staging
 mod Turns
 pub mod CallerLemmas
 mod Beginning

@@ -65,7 +65,7 @@ holds_opened {A} {R} {D} {E} run first h b new order are opens holds =
           let e : p ≡ b.next = grind (arith, nat_tests) in
           let P : ℕ → Type 0 = λ n. Tells (parts n h) (outcome run first n h) (row_of n (b.rows ++ row ∷ [])) in
           let here : row_of b.next (b.rows ++ row ∷ []) ≡ Some row = find-append (λ r. r.push == b.next) b.rows (row ∷ []) ∙ rw (none, own) in
-          subst P (sym e) (rw (fresh_parts (is_opened b) b.next h fresh holds.opened, fresh_outcome run first (is_opened b) b.next h fresh holds.opened, here) (refl, refl)))
+          subst P (sym e) (rw (fresh_parts (is_opened b) b.next h fresh holds.opened, fresh_outcome run first (is_opened b) b.next h fresh holds.opened, here) (refl, tt)))
           (λ f.
           let was : is_opened b p ≡ true = either_way (is_opened b p) (λ y. y) (λ n. let z = sym (next_opened b.first_push b.next p order) ∙ q in let w : false ≡ true = rw (n, f) at z in cc) in
           let away : (b.next == p) ≡ false = grind (arith, nat_tests) in

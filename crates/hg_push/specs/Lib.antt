@@ -6,4 +6,5 @@ pub mod Book
 pub mod World
 pub mod Calls
 pub mod Reply
+pub mod Lengths
 pub mod Complete

@@ -3,6 +3,8 @@ use Rattle.std.specs.Prelude.{ℕ, Bool, true, false, ◌≡◌, ◌≢◌, ◌=
 use Rattle.std.specs.List.{AllByRecursion}
 use Rattle.hg_types.specs.declared.part.Part.{Part}
 use Rattle.hg_types.specs.declared.item.Taken.{Taken}
+use Rattle.hg_parts.specs.declared.prepared.Prepared.{Prepared}
+use Rattle.hg_parts.specs.Prepared.{AreMadeOf}
 use Rattle.hg_push.specs.declared.outcome.Reason.{Reason}
 use Rattle.hg_push.specs.declared.outcome.Reason.TheVariants.{Refused, Cut, WrongIndex, NoMemory}
 use Rattle.hg_push.specs.declared.outcome.Outcome.{Outcome}
@@ -22,7 +24,7 @@ abbrev pub is_open : {A D E : Type 0} → State D E A → Bool
 is_open (Open staged) = true
 is_open (Closed outcome) = false
 
-abbrev pub staged_in : {A D E : Type 0} → State D E A → List (Part A)
+abbrev pub staged_in : {A D E : Type 0} → State D E A → List (Prepared A)
 staged_in (Open staged) = staged
 staged_in (Closed outcome) = []
 
@@ -34,9 +36,9 @@ IsShut {A} {D} {E} p rows = (r : Row D E A) → row_of p rows ≡ Some r → is_
 abbrev pub IsOpenAt : {A D E : Type 0} → ℕ → List (Row D E A) → ℕ → Type 0
 IsOpenAt {A} {D} {E} p rows i = (position (λ r. r.push == p) rows ≡ Some i) × ((r : Row D E A) → r ≡ slice_index_or rows i r → is_open r.state ≡ true)
 
--- the list that is staged of a push stands for these parts: it is them
-abbrev pub Stages : {A : Type 0} → List (Part A) → List (Part A) → Type 0
-Stages staged parts = staged ≡ parts
+-- the list that is staged of a push stands for these parts: each may have been made of the one in its place
+abbrev pub Stages : {A : Type 0} → List (Prepared A) → List (Part A) → Type 0
+Stages staged parts = AreMadeOf parts staged
 
 -- what is kept of a push tells its parts while it is open, and how it ended
 abbrev pub TellsState : {A D E : Type 0} → List (Part A) → Option (Outcome D E) → State D E A → Type 0
@@ -48,6 +50,12 @@ abbrev pub Tells : {A D E : Type 0} → List (Part A) → Option (Outcome D E) �
 Tells ps how None = IsSome how
 Tells ps how (Some row) = TellsState ps how row.state
 
+abbrev pub is_no_memory : {E : Type 0} → Reason E → Bool
+is_no_memory NoMemory = true
+is_no_memory (Refused e) = false
+is_no_memory WrongIndex = false
+is_no_memory (Cut reason) = false
+
 -- how a push with these parts ends at an end mark with this index, and what it leaves of the repository
 abbrev pub EndsAs : {A R D E : Type 0} → Running A R D E → R → List (Part A) → ℕ → Result D (Reason E) → R → Type 0
 EndsAs run old ps index (Ok done) new = (index ≡ length ps) × (run old ps ≡ Ok (new, done))
@@ -56,12 +64,16 @@ EndsAs run old ps index (Err (Refused e)) new = (index ≡ length ps) × (run ol
 EndsAs run old ps index (Err WrongIndex) new = (index ≢ length ps) × (new ≡ old)
 EndsAs run old ps index (Err (Cut reason)) new = ⊥
 
--- What a place does to its row, which is open, and to the state.
+-- What a place does to its row, which is open with these parts, and to the state.
+pub record StepsWith {A R D E : Type 0} (run : Running A R D E) (old : Serial R) (row : Row D E A) (ps : List (Part A)) (x : Taken A) (new : Serial R) (row' : Row D E A) : Type 0 where
+  pub may : x.refused ≡ true → takes_memory (length ps) x.item.index x.item.what ≡ true
+  pub state : new ≡ kept old row.push (decided run old.repo ps x)
+  pub told : TellsState (parts_after ps x) (told (decided run old.repo ps x)) row'.state
+
+-- The same, whatever parts the staged list stands for.
 pub record StepsRow {A R D E : Type 0} (run : Running A R D E) (old : Serial R) (row : Row D E A) (x : Taken A) (new : Serial R) (row' : Row D E A) : Type 0 where
   pub push : row'.push ≡ row.push
-  pub may : x.refused ≡ true → takes_memory (length (staged_in row.state)) x.item.index x.item.what ≡ true
-  pub state : new ≡ kept old row.push (decided run old.repo (staged_in row.state) x)
-  pub told : TellsState (parts_after (staged_in row.state) x) (told (decided run old.repo (staged_in row.state) x)) row'.state
+  pub steps : (ps : List (Part A)) → Stages (staged_in row.state) ps → StepsWith run old row ps x new row'
 
 -- the standing of an opened push that ended so, or not yet
 abbrev pub standing_of : {D E : Type 0} → Option (Outcome D E) → Standing

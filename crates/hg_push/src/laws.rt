@@ -2,7 +2,7 @@
 //! the definitions that `Book` is proved to keep. A law on the world or on a history without some of its places
 //! also says what these definitions do, so that none of them can be empty.
 
-ghost use Rattle.std.specs.Prelude.{◌≡◌, ◌≢◌, ◌<◌, ◌≤◌, ◌++◌, ◌∷◌, ◌&&◌, ◌↔◌, [], ℕ, Bool, List, Some, IsSome, IsTrue, count_by, length, ◌==◌, true, false, if◌then◌else◌};
+ghost use Rattle.std.specs.Prelude.{◌≡◌, ◌≢◌, ◌<◌, ◌≤◌, ◌^◌, ◌++◌, ◌∷◌, ◌&&◌, ◌↔◌, [], ℕ, Bool, List, Some, IsSome, IsTrue, count_by, length, ◌==◌, true, false, if◌then◌else◌};
 ghost use Rattle.std.specs.List.{AllByRecursion, range_with_len};
 ghost use mathlib.Core.List.{IsPrefix};
 ghost use Rattle.hg_types.specs.declared.item.CutReason.{CutReason};
@@ -14,14 +14,21 @@ ghost use Rattle.hg_push.specs.History.{History, IsClosing, IsHistory, decided, 
 ghost use Rattle.hg_push.specs.Changed.{OneByOne, RanInTurn, is_done, trimmed, without};
 ghost use Rattle.hg_push.specs.World.{Event, World, all_parts, happens, has_opened, items_in, items_of, next_item, run_all, start};
 ghost use Rattle.hg_push.specs.Complete.{IsComplete, IsOrderly};
+ghost use Rattle.hg_parts.specs.declared.refusal.Refusal.{Refusal as AnyRefusal};
 ghost use Rattle.hg_parts.specs.Repository.{IsLawful};
 ghost use Rattle.hg_repo.specs.declared.done.Done.{Done};
 ghost use Rattle.hg_push.specs.Book.{Holds};
+ghost use Rattle.hg_push.specs.Lengths.{greatest_reply, most_parts};
+ghost use Rattle.hg_push.specs.Reply.{CanBeTold, reply_of};
 ghost use Rattle.hg_push.specs.Run.{RepositoryOf, run_push};
+ghost use Rattle.hg_push.specs.declared.outcome.Reason.{Reason as AnyReason};
 
 use crate::book::Book;
 use crate::outcome::Outcome;
-use hg_repo::laws::{done_runs_handle_all, every_repository_is_lawful};
+use hg_repo::laws::{
+    done_runs_handle_all, done_runs_leave_few_replies, every_repository_is_lawful,
+};
+use hg_stream::laws::bundles_of_bare_parts_are_short;
 use std::alloc::Allocator;
 
 /// Each item of a push is taken at most once, in the order in which it was put.
@@ -81,6 +88,20 @@ pub fn answered_where_closed<A: Allocator>()
     ensures { (first : RepositoryOf A) (p : ℕ) (late before : History A) (x : TakenItem A) → IsClosing p x before →
         outcome run_push first p (late ++ x ∷ before) ≡ told (decided run_push (serial run_push first before).repo (parts p before) x) }
 {}
+
+/// The reply to a push has fewer than 2^32 bytes, where the push has at most 10,000 parts. A push that is done left at
+/// most one reply for each of its parts, without a payload; that these can be written is what `Book::take_reply` says of
+/// an outcome that it hands out. The reply to an aborted push is one part without a payload, whatever parts the push had.
+pub fn replies_are_short<A: Allocator>()
+    ensures done { (first : RepositoryOf A) (p : ℕ) (h : History A) (done : Done A) →
+        outcome run_push first p h ≡ Some (Outcome.Done done) → CanBeTold (Outcome.Done done) →
+        length (parts p h) ≤ most_parts → length (reply_of (Outcome.Done done)) ≤ greatest_reply }
+    ensures aborted { (reason : AnyReason (AnyRefusal A)) → length (reply_of (Outcome.Aborted reason)) ≤ greatest_reply }
+    ensures fits { greatest_reply < 2 ^ 32 }
+{
+    done_runs_leave_few_replies::<A>();
+    bundles_of_bare_parts_are_short::<A>();
+}
 
 /// The pushes of the journal, run one by one, lead to the repository, and to no other.
 pub fn one_by_one<A: Allocator>()

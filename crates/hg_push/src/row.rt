@@ -1,13 +1,15 @@
 //! What a book keeps of a push.
 
 use crate::outcome::Outcome;
-use hg_types::{Part, Seq};
+use hg_repo::Prepared;
+use hg_types::Seq;
 use std::alloc::{Allocator, Global};
 
 /// What is kept of a push until its reply is taken.
 #[derive(Drop)]
 pub enum State<D, E, A: Allocator = Global> {
-    Open(Seq<Part<A>, A>),
+    /// It has these parts so far, each read as far as that goes before its turn.
+    Open(Seq<Prepared<A>, A>),
     Closed(Outcome<D, E>),
 }
 

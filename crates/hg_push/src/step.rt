@@ -1,19 +1,23 @@
 //! One step: what an item does to the row of its push, to the repository and to the journal. What stages a part is written into
 //! its callers, and what closes a push is not: most items are parts.
 
-ghost use Rattle.std.specs.Prelude.{◌≡◌, ◌≢◌, ◌<◌, ◌+◌, ◌≤◌, ◌^◌, ◌==◌, ◌++◌, ◌∷◌, [], length, true, position, IfNone, IfOk, IfSome, IsTrue, IsNone, None, Some, cond, vec_len, vec_capacity};
+ghost use Rattle.std.specs.Prelude.{List, ◌≡◌, ◌≢◌, ◌<◌, ◌+◌, ◌≤◌, ◌^◌, ◌==◌, ◌++◌, ◌∷◌, [], length, true, position, IfNone, IfOk, IfSome, IsTrue, IsNone, None, Some, cond, vec_len, vec_capacity};
 ghost use Rattle.std.specs.Bool.{OnTrue, OnFalse};
 ghost use Rattle.std.specs.List.{list_any};
 ghost use Rattle.std.specs.Prelude.{if◌then◌else◌, false};
-ghost use Rattle.hg_push.specs.Rows.{AreInOrder, EndsAs, IsClosedAt, IsOpenAt, IsShut, StepsRow, is_open, reply_in, row_of, staged_in, standing_in};
-ghost use Rattle.hg_push.specs.Run.{run_push};
+ghost use Rattle.hg_types.specs.declared.part.Part.{Part as AnyPart};
+ghost use Rattle.hg_push.specs.History.{Serial};
+ghost use Rattle.hg_push.specs.Rows.{AreInOrder, EndsAs, IsClosedAt, IsOpenAt, IsShut, Stages, StepsRow, is_no_memory, is_open};
+ghost use Rattle.hg_push.specs.Rows.{reply_in, row_of, staged_in, standing_in};
+ghost use Rattle.hg_push.specs.Run.{RepositoryOf, run_push};
 ghost use Rattle.hg_push.specs.Reply.{CanBeSent, KeepsTellable};
 
 use crate::outcome::{Outcome, Reason, Standing};
 use crate::row::{Row, State};
-use hg_repo::{Done, Refusal, Repo, Source};
-use hg_types::{Part, What};
+use hg_repo::{Done, Prepared, Refusal, Repo, Source, prepare};
+use hg_types::{NoMemory, Part, Seq, What};
 use std::alloc::Allocator;
+use std::mem;
 
 /// The place of the push's row, among rows in the order of their numbers. Where no row between the first one and the push's
 /// was taken away, it is the distance of their numbers; else it is searched by halves.
@@ -100,19 +104,20 @@ pub fn outcome_of<D, E, A: Allocator>(row: Row<D, E, A>) -> Outcome<D, E>
     }
 }
 
-/// Runs the parts at an end mark with this index.
+/// Runs the staged parts at an end mark with this index.
+#[tactic(auto, using(crate::proofs::Staging::staged_count, crate::proofs::Staging::can_be_sent))]
 pub fn end<A: Allocator + Copy>(
     repo: &mut Repo<A>,
-    staged: &[Part<A>],
+    staged: Seq<Prepared<A>, A>,
     index: u32,
 ) -> Result<Done<A>, Reason<Refusal<A>>>
-    ensures ends { EndsAs run_push repo.old staged.now index result repo.new }
+    ensures ends { (parts : List (AnyPart A)) → Stages staged parts → EndsAs run_push repo.old parts index result repo.new }
     ensures sent { IfOk result (λ done. CanBeSent done.replies) }
 {
     if index as usize != staged.len() {
         return Err(Reason::WrongIndex);
     }
-    match repo.run(Source::Push, staged) {
+    match repo.run_prepared(Source::Push, staged.into_vec()) {
         Ok(done) => Ok(done),
         Err(Refusal::NoMemory) => Err(Reason::NoMemory),
         Err(refusal) => Err(Reason::Refused(refusal)),
@@ -128,21 +133,44 @@ fn close<D: Drop, E: Drop, A: Allocator>(row: &mut Row<D, E, A>, outcome: Outcom
     row.state = State::Closed(outcome);
 }
 
-/// How many parts a staged list asks for room for with its first one: as many as most pushes have, so that their
-/// lists are not moved while they grow. A part takes 80 bytes there, and so little room is given back fast.
-const FIRST_ROOM: usize = 12;
+/// How many parts a staged list asks for room for with its first one: about as many as most pushes have, so that their
+/// lists are moved seldom while they grow. A part takes 112 bytes there, and so little room is given back fast.
+const FIRST_ROOM: usize = 9;
 
-/// Adds a part to an open push, or aborts the push where memory is refused.
+/// Prepares a part and adds it to an open push, or aborts the push where memory is refused for either.
 #[inline(always)]
-fn stage<A: Allocator + Copy>(row: &mut Row<Done<A>, Refusal<A>, A>, part: Part<A>) -> bool
+#[tactic(auto, using(crate::proofs::Staging::part_taken, crate::proofs::Staging::part_refused))]
+fn stage<A: Allocator + Copy>(
+    alloc: A,
+    row: &mut Row<Done<A>, Refusal<A>, A>,
+    index: u32,
+    part: Part<A>,
+) -> bool
+    requires { is_open row.old.state ≡ true }
+    ensures steps { (old : Serial (RepositoryOf A)) → StepsRow run_push old row.old
+        (record { item = record { push = row.old.push; index = index; what = What.Part part }; refused = result }) old row.new }
+    ensures told { KeepsTellable row.new.state }
+{
+    match prepare(alloc, part) {
+        Ok(prepared) => add(row, prepared),
+        Err(NoMemory) => {
+            close(row, Outcome::Aborted(Reason::NoMemory));
+            true
+        }
+    }
+}
+
+/// Adds a prepared part to an open push, or aborts the push where memory is refused.
+#[inline(always)]
+fn add<A: Allocator + Copy>(row: &mut Row<Done<A>, Refusal<A>, A>, prepared: Prepared<A>) -> bool
     requires { is_open row.old.state ≡ true }
     ensures push { row.new.push ≡ row.old.push }
-    ensures ok { OnFalse result (row.new.state ≡ State.Open (staged_in row.old.state ++ part ∷ [])) }
+    ensures ok { OnFalse result (row.new.state ≡ State.Open (staged_in row.old.state ++ prepared ∷ [])) }
     ensures err { OnTrue result (row.new.state ≡ State.Closed (Outcome.Aborted Reason.NoMemory)) }
     ensures told { KeepsTellable row.new.state }
 {
     let refused = match &mut row.state {
-        State::Open(staged) => staged.push_with_room(part, FIRST_ROOM).is_err(),
+        State::Open(staged) => staged.push_with_room(prepared, FIRST_ROOM).is_err(),
         State::Closed(_) => unreachable!(),
     };
     if refused {
@@ -151,8 +179,28 @@ fn stage<A: Allocator + Copy>(row: &mut Row<Done<A>, Refusal<A>, A>, part: Part<
     refused
 }
 
+/// Takes the staged parts of an open push out of its row, which is closed next.
+fn take_staged<A: Allocator>(alloc: A, row: &mut Row<Done<A>, Refusal<A>, A>) -> Seq<Prepared<A>, A>
+    requires { is_open row.old.state ≡ true }
+    ensures staged { result ≡ staged_in row.old.state }
+    ensures push { row.new.push ≡ row.old.push }
+{
+    match &mut row.state {
+        State::Open(staged) => mem::replace(staged, Seq::new(alloc)),
+        State::Closed(_) => unreachable!(),
+    }
+}
+
+/// Whether memory was refused.
+fn is_no_memory<A: Allocator>(reason: &Reason<Refusal<A>>) -> bool
+    ensures { result ≡ is_no_memory reason.now }
+{
+    matches!(reason, Reason::NoMemory)
+}
+
 /// Ends an open push at an end mark.
 #[inline(never)]
+#[tactic(auto, using(crate::proofs::Staging::push_done, crate::proofs::Staging::push_aborted))]
 fn finish<A: Allocator + Copy>(
     repo: &mut Repo<A>,
     journal: &mut Vec<u32, A>,
@@ -169,10 +217,8 @@ fn finish<A: Allocator + Copy>(
     ensures room { vec_len journal.new ≤ vec_len journal.old + 1 }
     ensures capacity { vec_capacity journal.new ≡ vec_capacity journal.old }
 {
-    let ended = match &row.state {
-        State::Open(staged) => end(repo, staged.as_slice(), index),
-        State::Closed(_) => unreachable!(),
-    };
+    let staged = take_staged(*journal.allocator(), row);
+    let ended = end(repo, staged, index);
     match ended {
         Ok(done) => {
             journal.push_reserved(row.push);
@@ -180,7 +226,7 @@ fn finish<A: Allocator + Copy>(
             false
         }
         Err(reason) => {
-            let refused = matches!(&reason, Reason::NoMemory);
+            let refused = is_no_memory(&reason);
             close(row, Outcome::Aborted(reason));
             refused
         }
@@ -189,6 +235,7 @@ fn finish<A: Allocator + Copy>(
 
 /// Takes an item of an open push, and says whether memory was refused.
 #[inline(always)]
+#[tactic(auto, using(crate::proofs::Staging::push_cut))]
 pub fn step_row<A: Allocator + Copy>(
     repo: &mut Repo<A>,
     journal: &mut Vec<u32, A>,
@@ -206,7 +253,7 @@ pub fn step_row<A: Allocator + Copy>(
     ensures capacity { vec_capacity journal.new ≡ vec_capacity journal.old }
 {
     match what {
-        What::Part(part) => stage(row, part),
+        What::Part(part) => stage(*journal.allocator(), row, index, part),
         What::Cut(reason) => {
             close(row, Outcome::Aborted(Reason::Cut(reason)));
             false

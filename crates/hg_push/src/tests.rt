@@ -2,6 +2,7 @@
 
 mod book;
 mod memory;
+mod prepared;
 mod reply;
 
 ghost use Rattle.std.specs.Prelude.{◌≤◌};

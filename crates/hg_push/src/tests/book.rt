@@ -174,3 +174,42 @@ fn a_list_of_calls(rt: HostRuntime) -> Result<(), Fail> {
     assert!(rt; all);
     Ok(())
 }
+
+fn a_thousand_openings<A: Allocator + Copy>(alloc: A) -> Result<Vec<Call<A>, A>, NoMemory> {
+    let mut calls = Vec::new(alloc);
+    for _ in 0..1_000 {
+        calls.push(Call::Open)?;
+    }
+    Ok(calls)
+}
+
+fn has_opened<A: Allocator>(answer: &Answer<Done<A>, Refusal<A>>, push: usize) -> bool {
+    match answer {
+        Answer::Opened(Ok(opened)) => *opened as usize == push,
+        _ => false,
+    }
+}
+
+/// Whether the answers tell the pushes from that number on.
+fn have_opened<A: Allocator>(answers: &[Answer<Done<A>, Refusal<A>>], first: usize) -> bool {
+    let mut all = answers.len() == 1_000;
+    for (place, answer) in answers.iter().enumerate() {
+        all = has_opened(answer, first.wrapping_add(place)) && all;
+    }
+    all
+}
+
+/// A thousand calls have a thousand answers, where memory is ample.
+#[test]
+fn a_long_list_of_calls(rt: HostRuntime) -> Result<(), Fail> {
+    let state = RandomState::new(&rt)?;
+    let alloc = rt.alloc();
+    let calls = a_thousand_openings(alloc)?;
+    let mut book = book_from(alloc, state, 7, 1_024);
+    let all = match make_calls(alloc, &mut book, calls) {
+        Ok(answers) => have_opened(answers.as_slice(), 7),
+        Err(NoMemory) => false,
+    };
+    assert!(rt; all);
+    Ok(())
+}

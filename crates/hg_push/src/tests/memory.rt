@@ -98,11 +98,11 @@ impl<'a> Blocks<'a> {
     }
 }
 
-/// Opens three pushes, ends the first, and puts a part into the second: push 0 is done, push 1 has one part, push 2 has
-/// none. It is false where memory was refused.
+/// Opens three pushes, ends the first, and puts a part into the second: push 0 is done, push 1 has one part, of a type that is
+/// not known, push 2 has none. It is false where memory was refused.
 fn begin<'a>(book: &mut Book<&'a LocalHeap>, heap: &'a LocalHeap) -> bool {
     let opened = book.open() == Ok(0) && book.open() == Ok(1) && book.open() == Ok(2);
-    opened && end(book, 0, 0) && put(book, 1, 0, output(heap))
+    opened && end(book, 0, 0) && put(book, 1, 0, part(heap, b"FROB", b""))
 }
 
 /// The same, and takes what memory is left.
@@ -214,7 +214,7 @@ fn open_all<A: Allocator + Copy>(book: &mut Book<A>) -> bool {
     all && book.open() == Err(OpenFault::TooManyOpen)
 }
 
-/// Puts 1,000 parts into a push. A staged part takes at most twice its 104 bytes, and 16 of its own.
+/// Puts 1,000 parts into a push. A staged part takes less than twice its 144 bytes, with those of its own.
 fn put_many<'a>(book: &mut Book<&'a LocalHeap>, heap: &'a LocalHeap, push: u32) -> bool {
     let free = heap.free();
     let mut all = true;
@@ -247,17 +247,17 @@ fn leaves_memory<'a>(book: &mut Book<&'a LocalHeap>, heap: &'a LocalHeap) -> boo
 }
 
 /// Where memory is to spare, what takes none leaves it: items that are dropped, closings and all that is asked. The
-/// first part of a push takes room for 12, of 104 bytes each over this heap.
+/// first part of a push takes room for 9, of 144 bytes each over this heap.
 #[test]
 fn memory_is_left(rt: HostRuntime) -> Result<(), Fail> {
     let state = RandomState::new(&rt)?;
-    let heap = LocalHeap::new(rt.alloc(), 1 << 14)?;
+    let heap = LocalHeap::new(rt.alloc(), 1 << 16)?;
     let first = output(&heap);
     let mut book = empty_book(&heap, state);
     let begun = begin(&mut book, &heap);
     let free = heap.free();
     let taken = put(&mut book, 2, 0, first);
     let room = free.saturating_sub(heap.free());
-    assert!(rt; begun && taken && room <= 12 * 104 && leaves_memory(&mut book, &heap));
+    assert!(rt; begun && taken && room <= 9 * 144 && leaves_memory(&mut book, &heap));
     Ok(())
 }

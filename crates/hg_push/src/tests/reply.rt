@@ -111,24 +111,50 @@ fn unknown_mandatory_part(rt: HostRuntime) -> Result<(), Fail> {
     Ok(())
 }
 
-/// The reply to `replycaps` with two unknown parameters, of 200 times `a` and of `b`.
-fn cut_names(alloc: Global) -> Result<Vec<u8>, NoMemory> {
+/// The reply to `replycaps` with unknown parameters whose joined names begin with these 255 bytes.
+fn cut_names(alloc: Global, names: &[u8; 255]) -> Result<Vec<u8>, NoMemory> {
     let front: &[u8] =
         b"HG20\0\0\0\0\0\0\x01\x39\x18ERROR:UNSUPPORTEDCONTENT\0\0\0\0\x02\0\x08\x09\x06\xffparttypereplycapsparams";
     let mut bytes = Vec::from_slice(alloc, front)?;
-    bytes.extend_from_slice(&[b'a'; 200])?;
-    bytes.push(0)?;
-    bytes.extend_from_slice(&[b'b'; 54])?;
+    bytes.extend_from_slice(names)?;
     bytes.extend_from_slice(&[0; 8])?;
     Ok(bytes)
+}
+
+/// 200 times `a`, a NUL and 54 times `b`.
+fn two_long_names() -> [u8; 255] {
+    let mut names = [b'a'; 255];
+    names[200] = 0;
+    for place in 201..255 {
+        names[place] = b'b';
+    }
+    names
+}
+
+/// 128 times `x`, with a NUL between each two.
+fn many_short_names() -> [u8; 255] {
+    let mut names = [0; 255];
+    for place in 0..128 {
+        names[2 * place] = b'x';
+    }
+    names
 }
 
 /// The names of two unknown mandatory parameters, of 200 bytes each, are joined by NUL and cut after 255 bytes.
 #[test]
 fn long_names_are_cut(rt: HostRuntime) -> Result<(), Fail> {
-    let bytes = cut_names(rt.alloc())?;
+    let bytes = cut_names(rt.alloc(), &two_long_names())?;
     let reason = unsupported(rt.alloc(), b"replycaps", &[&[b'a'; 200], &[b'b'; 200]])?;
     assert!(rt; bytes.len() == 333 && is_told_as(rt.alloc(), reason, bytes.as_slice()));
+    Ok(())
+}
+
+/// Of 300 names the first 128 are told, where memory is ample.
+#[test]
+fn many_names_are_cut(rt: HostRuntime) -> Result<(), Fail> {
+    let bytes = cut_names(rt.alloc(), &many_short_names())?;
+    let reason = unsupported(rt.alloc(), b"replycaps", &[b"x".as_slice(); 300])?;
+    assert!(rt; is_told_as(rt.alloc(), reason, bytes.as_slice()));
     Ok(())
 }
 

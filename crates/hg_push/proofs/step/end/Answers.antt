@@ -1,0 +1,9 @@
+use Rattle.std.proofs.Common.{◌<◌, ◌^◌, length, ap, arith}
+use Rattle.std.proofs.lemmas.Bool.Decides.{nat_tests}
+use Rattle.hg_push.proofs.Staging.{can_be_sent}
+use Rattle.hg_push.proofs.step.end.Goals as goal
+
+pub returns-in-Ok-clause-sent : goal.returns-in-Ok-clause-sent
+returns-in-Ok-clause-sent g c =
+    let few : length c.into_vec.result.items < 2 ^ 32 = grind (arith, nat_tests, c.ranges.index.fits, c.if-index-len.false, c.len.ensures, c.into_vec.ensures) in
+    can_be_sent (length c.into_vec.result.items) c.in-Ok.done.replies c.in-Ok.ensures.replies few
