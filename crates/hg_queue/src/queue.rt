@@ -177,6 +177,22 @@ impl<A: Allocator> PartQueue<A> {
         self.ring.absorb::<Joins>(&mut taker.seat, seat);
     }
 
+    /// Gives a Visitor the history of all that this Taker took. What was told of the item taken last is settled first.
+    ///
+    /// Nothing is looked at: a caller that wants to know that the Visitor has seen no less than before lets the Taker hear it, now
+    /// or earlier.
+    pub fn copy_history(&self, taker: &mut Taker<A>, visitor: &mut Visitor<A>)
+        requires { IsTakerOf self.now taker.old × IsVisitorOf self.now visitor.old }
+        ensures taker { IsTakerOf self.now taker.new × (history taker.new ≡ history taker.old) }
+        ensures view { taker_view taker.new ≡ record (taker_view taker.old) { settled = history taker.old; last = None } }
+        ensures visitor { IsVisitorOf self.now visitor.new × (seen visitor.new ≡ history taker.old) }
+    {
+        let refused = taker.refused;
+        taker.refused = false;
+        let note = settle_seat::<Brand, A>(&self.ring, &mut taker.seat, refused);
+        self.ring.absorb::<Copies>(&mut visitor.seat, note);
+    }
+
     /// Shows a Visitor all that this Taker took. What was told of the item taken last is settled first.
     pub fn show(&self, taker: &mut Taker<A>, visitor: &mut Visitor<A>)
         requires { IsTakerOf self.now taker.old × IsVisitorOf self.now visitor.old }
@@ -186,10 +202,7 @@ impl<A: Allocator> PartQueue<A> {
         ensures later { IsPrefix (seen visitor.old) (seen visitor.new) }
     {
         self.hear(taker, visitor);
-        let refused = taker.refused;
-        taker.refused = false;
-        let note = settle_seat::<Brand, A>(&self.ring, &mut taker.seat, refused);
-        self.ring.absorb::<Copies>(&mut visitor.seat, note);
+        self.copy_history(taker, visitor);
     }
 
     /// Takes in a push whose mark was put, and gives the Visitor back, which has seen all that this Taker took.
@@ -217,6 +230,7 @@ impl<A: Allocator> PartQueue<A> {
         ensures view { taker_view taker.new ≡ record (taker_view taker.old) { heard = seen visitor.old } }
         ensures visitor { IsVisitorOf self.now visitor.new × (seen visitor.new ≡ seen visitor.old) }
         ensures earlier { IsPrefix (seen visitor.old) (taker_view taker.new).settled }
+        ensures fact { (items : List (Item A)) × Stands (AsTaker (taker_view taker.new)) items }
     {
         let note = self.ring.another::<Notes>(&mut visitor.seat);
         self.ring.absorb::<Hears>(&mut taker.seat, note);

@@ -1,5 +1,6 @@
 -- What a desk keeps.
-use Rattle.std.proofs.Common.{◌≡◌, ◌≢◌, ℕ, ◌+◌, ◌≤◌, ◌==◌, ◌||◌, not, ◌∷◌, ◌++◌, [], List, Bool, true, false, true≢false, Option, Some, None, sym, ap, ◌∙◌, subst, refl, length, map, arith, cond, ne_eqb}
+use Rattle.std.proofs.Common.{◌≡◌, ◌≢◌, ℕ, ◌+◌, ◌≤◌, ◌==◌, ◌||◌, not, ◌∷◌, ◌++◌, [], List, Bool, true, false, true≢false, Option, Some, None, sym, ap, ◌∙◌, subst, refl, length, map, arith, cond, ne_eqb, append_assoc}
+use mathlib.Core.List.{IsPrefix}
 use Rattle.std.specs.Prelude.{option_to_list, IfNone, IfSome, IsSome, if◌then◌else◌}
 use Rattle.std.proofs.lemmas.Bool.Decides.{nat_tests}
 use Rattle.atomic_table.specs.Seated.{TableId}
@@ -33,6 +34,10 @@ taker_named id name capacity size t is are = subst (λ (y : TableId × ℕ). IsT
 pub empty_front : {X : Type 0} (xs ys : List X) → length xs ≡ 0 → xs ++ ys ≡ ys
 empty_front [] ys e = refl
 empty_front (x ∷ xs) ys e = absurd (omega arith)
+
+-- what begins a beginning begins the whole
+pub prefix_again : {X : Type 0} (xs ys zs : List X) → IsPrefix xs ys → IsPrefix ys zs → IsPrefix xs zs
+prefix_again xs ys zs p q = (p.0 ++ q.0, sym (append_assoc xs p.0 q.0) ∙ (ap (λ l. l ++ q.0) p.1 ∙ q.1))
 
 -- two turns leave what each leaves
 pub same_again : {A : Type 0} (a b c : DeskView A) → IsSameBut a b → IsSameBut b c → IsSameBut a c

@@ -45,7 +45,12 @@ pub struct Closed<A: Allocator = Global> {
 
 /// The book of pushes, the taker of the queue, and a number that is opened and has no putter yet, if there
 /// is one. What holds of the three is `IsInOrder`; it holds each time the lock is got.
+///
+/// Unused bytes stand before them, so that no thread that looks at the lock's word takes a line of the book's
+/// from the processor of the one that has the lock.
+#[repr(C)]
 pub struct Desk<J: Naming<A>, A: Allocator = Global> {
+    before: [u64; 8],
     book: Book<A>,
     taker: Taker<A>,
     kept: Option<u32>,
@@ -75,6 +80,7 @@ impl<J: Naming<A>, A: Allocator + Copy> Desk<J, A> {
         ensures numbers { result.next ≡ repo.settings.first_push }
     {
         Desk {
+            before: [0; 8],
             book: Book::new(alloc, repo),
             taker,
             kept: None,
@@ -85,6 +91,7 @@ impl<J: Naming<A>, A: Allocator + Copy> Desk<J, A> {
     /// A visitor that has seen nothing.
     pub(crate) fn client(&mut self, queue: &PartQueue<A>) -> Result<Visitor<A>, NoMemory>
         requires queue { IsQueueIn J.table J.capacity queue.now }
+        ensures made { IsOk result }
         ensures same { self.new ≡ self.old }
         ensures visitor { IfOk result (λ v. IsVisitorIn J.table v × (seen v ≡ [])) }
     {
@@ -164,10 +171,14 @@ impl<J: Naming<A>, A: Allocator + Copy> Desk<J, A> {
         }
     }
 
-    /// Takes in a push whose mark was put. Its row is still there.
-    fn begin(&mut self, queue: &PartQueue<A>, marked: Marked<A>)
+    /// Takes in a push whose mark was put. Its row is still there. The taker hears what the push's client has
+    /// seen: a beginning of the history.
+    fn begin(&mut self, queue: &PartQueue<A>, marked: Marked<A>, visitor: &mut Visitor<A>)
         requires queue { IsQueueIn J.table J.capacity queue.now }
         requires marked { IsMarkedIn J.table marked }
+        requires visitor { IsVisitorIn J.table visitor.old }
+        ensures visitor { IsVisitorIn J.table visitor.new }
+        ensures earlier { IsPrefix (seen visitor.old) self.new.history }
         ensures same { (self.new.history ≡ self.old.history) × (self.new.rows ≡ self.old.rows) }
         ensures awaits { self.new.taker.awaited ≡ Some (claim_at marked) }
         ensures row { has (claim_at marked).push self.new.rows ≡ true }
@@ -176,7 +187,7 @@ impl<J: Naming<A>, A: Allocator + Copy> Desk<J, A> {
         ensures known { IsKnown J.capacity self.new }
     {
         queue.join(&mut self.taker, marked);
-        queue.learn(&mut self.taker);
+        queue.hear(&mut self.taker, visitor);
     }
 
     /// Whether the push is unfinished.
@@ -206,6 +217,7 @@ impl<J: Naming<A>, A: Allocator + Copy> Desk<J, A> {
         ensures closed { is_none (ending J.first push self.new.history) ≡ false }
         ensures takes { result ≤ J.capacity }
         ensures last { 0 < result → ClosesLast J.first push self.new.history }
+        ensures later { IsPrefix self.old.history self.new.history }
         ensures same { IsSameBut self.old self.new }
         ensures known { IsKnown J.capacity self.new }
     {
@@ -245,9 +257,8 @@ impl<J: Naming<A>, A: Allocator + Copy> Desk<J, A> {
         requires visitor { IsVisitorIn J.table visitor.old }
         ensures same { self.new.history ≡ self.old.history }
         ensures visitor { IsVisitorIn J.table visitor.new × (seen visitor.new ≡ self.old.history) }
-        ensures later { IsPrefix (seen visitor.old) (seen visitor.new) }
     {
-        queue.show(&mut self.taker, visitor);
+        queue.copy_history(&mut self.taker, visitor);
     }
 
     /// Takes until the push is closed, and hands out its outcome. Its client has then seen the whole
@@ -271,7 +282,7 @@ impl<J: Naming<A>, A: Allocator + Copy> Desk<J, A> {
         } = ended;
         closed_pushes_have_ended::<A>();
         done_had_all_of_its_list::<A>();
-        self.begin(queue, marked);
+        self.begin(queue, marked, &mut visitor);
         let takes = self.finish(rt, queue, push, gate);
         let outcome = self.reply(push);
         self.show(queue, &mut visitor);
@@ -288,7 +299,6 @@ impl<J: Naming<A>, A: Allocator + Copy> Desk<J, A> {
         ensures known { IsKnown J.capacity self.new }
     {
         queue.hear(&mut self.taker, visitor);
-        queue.learn(&mut self.taker);
     }
 
     /// A putter for one who has seen this history, in which its push has no item.
@@ -317,6 +327,7 @@ impl<J: Naming<A>, A: Allocator + Copy> Desk<J, A> {
         ensures taker { IsTakerIn J.table J.capacity result.taker }
     {
         let Desk {
+            before: _,
             book,
             mut taker,
             kept: _,

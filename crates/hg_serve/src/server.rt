@@ -1,6 +1,6 @@
 //! The server: the queue, and a desk under a lock.
 
-ghost use Rattle.std.specs.Prelude.{◌≡◌, ◌≤◌, [], IfOk, IfErr, MatchResult, All, length};
+ghost use Rattle.std.specs.Prelude.{◌≡◌, ◌≤◌, [], IfOk, IfErr, IsOk, MatchResult, All, length};
 ghost use mathlib.Core.List.{IsPrefix};
 ghost use Rattle.hg_types.specs.Limits.{IsAllowed};
 ghost use Rattle.hg_types.specs.declared.item.What.TheVariants.{Part as a_part, End, Cut};
@@ -54,10 +54,16 @@ impl<A: Allocator> fmt::Debug for PutFault<A> {
 }
 
 /// A queue of parts that threads put to without a lock, and a desk at which they are taken under one.
+///
+/// What each put reads of the queue, and the limits, stand apart from the lock, so that a thread that takes or
+/// gives back the lock takes no line of theirs from the processors of those that put.
+#[repr(C)]
 pub struct Server<J: Naming<A>, A: Allocator = Global> {
     queue: PartQueue<A>,
-    desk: Mutex<Desk<J, A>>,
     limits: Limits,
+    between: [u64; 16],
+    desk: Mutex<Desk<J, A>>,
+    behind: [u64; 8],
 }
 
 impl<J: Naming<A>, A: Allocator> Model for Server<J, A> {
@@ -83,8 +89,10 @@ impl<J: Naming<A>, A: Allocator + Copy> Server<J, A> {
         let limits = repo.settings().limits;
         Server {
             queue,
-            desk: Mutex::new(Desk::new(alloc, repo, taker)),
             limits,
+            between: [0; 16],
+            desk: Mutex::new(Desk::new(alloc, repo, taker)),
+            behind: [0; 8],
         }
     }
 
@@ -108,9 +116,10 @@ impl<J: Naming<A>, A: Allocator + Copy> Server<J, A> {
         self.desk.lock(rt)
     }
 
-    /// A client that has seen nothing.
+    /// A client that has seen nothing. A seat at the queue takes no memory, so it is never refused.
     pub fn client<R: Wait>(&self, rt: &R) -> Result<Client<J, A>, NoMemory>
-        ensures { IfOk result (λ client. client ≡ []) }
+        ensures made { IsOk result }
+        ensures empty { IfOk result (λ client. client ≡ []) }
     {
         let visitor = self.lock(rt).client(&self.queue)?;
         Ok(Client {
@@ -277,8 +286,10 @@ impl<J: Naming<A>, A: Allocator + Copy> Server<J, A> {
     {
         let Server {
             queue,
-            desk,
             limits: _,
+            between: _,
+            desk,
+            behind: _,
         } = self;
         desk.into_inner().close(&queue, clients)
     }

@@ -8,6 +8,7 @@ ghost use Rattle.hg_serve.specs.Desks.{Begins};
 mod bound;
 mod limits;
 mod locked;
+mod memory;
 mod order;
 mod threads;
 

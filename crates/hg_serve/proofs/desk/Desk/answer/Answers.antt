@@ -10,6 +10,7 @@ use Rattle.hg_serve.specs.Answers.{Answers}
 use Rattle.hg_serve.specs.Clients.{EndedView}
 use Rattle.hg_serve.specs.Histories.{newest_first, ending, ClosesLast}
 use Rattle.hg_serve.proofs.Dones.{ran_all, handled_all}
+use Rattle.hg_serve.proofs.Orders.{prefix_again}
 use Rattle.hg_serve.proofs.Waits.{put_prefix, put_all, put_orderly}
 use Rattle.hg_serve.proofs.desk.Desk.answer.Goals as goal
 
@@ -32,7 +33,7 @@ returns g c =
     let orderly' = put_orderly g.J.Naming.capacity c.finish-takes.new.self push claim awaits mine f.known in
     let law = c.done_had_all_of_its_list.ensures in
     let inner : Answers g.J.Naming.capacity first push claim.put (seen c.ended.inside.visitor) how c.finish-takes.result after = record {
-      earlier = c.show.ensures.later;
+      earlier = subst (IsPrefix (seen c.ended.inside.visitor)) same (prefix_again _ _ _ c.begin.ensures.earlier f.later);
       taken = taken';
       all = λ isnt. subst Q same (put_all c.closed_pushes_have_ended.ensures first g.J.Naming.capacity c.finish-takes.new.self push claim awaits mine f.known f.closed
           (λ o. (let both : Some how ≡ Some (Aborted NoMemory) = sym r.outcome ∙ o in let is : how ≡ Aborted NoMemory = cc in isnt is)));

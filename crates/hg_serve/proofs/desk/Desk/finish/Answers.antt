@@ -1,4 +1,6 @@
-use Rattle.std.proofs.Common.{◌<◌, ◌+◌, ◌-◌, ◌∷◌, [], length, ap, sym, ◌∙◌, arith, length-append}
+use Rattle.std.proofs.Common.{◌<◌, ◌+◌, ◌-◌, ◌∷◌, [], length, ap, sym, subst, ◌∙◌, arith, length-append}
+use mathlib.Core.List.{IsPrefix}
+use Rattle.hg_queue.proofs.CallerLemmas.{prefix_longer}
 use Rattle.hg_serve.specs.Desks.{mark_place}
 use Rattle.hg_serve.proofs.Orders.{same_again}
 use Rattle.hg_serve.proofs.Waits.{waits, not_empty, near, none_of}
@@ -47,5 +49,6 @@ closing-preserved g c =
       counted = omega arith;
       bound = omega arith;
       last = λ _. (c.closing.self.history, t.0, t.1, none_of _ (sym c.is_open.ensures ∙ c.closing-test.true));
+      later = subst (IsPrefix c.args.self.now.history) (sym t.1) (prefix_longer _ _ (t.0 ∷ []) i.later);
       known = c.if-not-turn.ensures.known;
     }

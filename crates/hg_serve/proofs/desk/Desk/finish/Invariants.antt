@@ -1,4 +1,5 @@
 use Rattle.std.proofs.Common.{◌<◌, ◌≡◌, ◌≤◌, ◌+◌, ◌-◌, length}
+use mathlib.Core.List.{IsPrefix}
 use Rattle.hg_serve.specs.Histories.{ClosesLast}
 use Rattle.hg_serve.specs.Desks.{IsKnown, IsSameBut, mark_place}
 use Rattle.hg_serve.proofs.desk.Desk.finish.Given as goal
@@ -9,6 +10,7 @@ invariant-closing g l = record {
   counted : l.takes + length l.initial.self.history ≡ length l.self.history;
   bound : l.takes ≤ g.J.Naming.capacity;
   last : 0 < l.takes → ClosesLast g.J.Naming.first l.fn.push l.self.history;
+  later : IsPrefix l.initial.self.history l.self.history;
   known : IsKnown g.J.Naming.capacity l.self;
 }
 

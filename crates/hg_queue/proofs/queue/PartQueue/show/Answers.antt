@@ -1,7 +1,0 @@
-use Rattle.std.proofs.Common.{ap, ◌∙◌}
-use Rattle.hg_queue.specs.Steps.{history_note}
-use Rattle.hg_queue.proofs.Moves.{copies_as}
-use Rattle.hg_queue.proofs.queue.PartQueue.show.Goals as goal
-
-pub absorb-requires-clause-rule : goal.absorb-requires-clause-rule
-absorb-requires-clause-rule g c = copies_as _ _ _ _ _ _ c.hear.ensures.visitor.0.role (c.settle_seat-note.ensures.view.1 ∙ ap (history_note c.hear.new.taker.refused) c.hear.ensures.taker.0.role)
