@@ -1,15 +1,16 @@
 -- One more bundle of a connection.
-use Rattle.std.proofs.Common.{true, false, true≢false, ℕ, ◌≡◌, ◌≢◌, ◌≤◌, ◌<◌, ◌+◌, ◌*◌, List, [], ◌∷◌, ◌++◌, refl, sym, ◌∙◌, ap, subst, inl, inr, arith, length, append_assoc, Option, Some, None}
+use Rattle.std.proofs.Common.{true, false, true≢false, ℕ, ◌≡◌, ◌≢◌, ◌≤◌, ◌<◌, ◌+◌, ◌*◌, ◌^◌, List, [], ◌∷◌, ◌++◌, refl, sym, ◌∙◌, ap, subst, inl, inr, arith, length, append_assoc, Option, Some, None}
 use Rattle.std.proofs.lemmas.List.{append-nil, length-append, flat_map_more}
 use Rattle.std.proofs.Math.Nat.{mul-le-mul_right}
 use Rattle.std.proofs.KnownBytes.{Consumes-trans, Consumes-nil, Appends-nil, Appends-trans}
-use Rattle.std.specs.Prelude.{min, is_some}
+use Rattle.std.specs.Prelude.{is_some}
 use Rattle.std.specs.Io.KnownBytes.{Consumes, Appends}
 use Rattle.hg_types.specs.declared.limits.Limits.{Limits}
 use Rattle.hg_types.specs.declared.item.Taken.{Taken}
 use Rattle.hg_repo.specs.declared.done.Done.{Done}
 use Rattle.hg_parts.specs.declared.refusal.Refusal.{Refusal}
 use Rattle.hg_push.specs.declared.outcome.Outcome.{Outcome}
+use Rattle.hg_push.specs.Lengths.{greatest_reply}
 use Rattle.hg_push.specs.Reply.{reply_of}
 use Rattle.hg_push.specs.Run.{RepositoryOf}
 use Rattle.hg_push.specs.declared.book.OpenFault.{OpenFault}
@@ -50,7 +51,8 @@ pub record Goes {A : Type 0} (limits : Limits) (capacity : ℕ) (first : Reposit
   pub bytes : length (bytes_of whole) ≤ number * limits.stream
   pub none : number ≡ 0 → waiting ≡ []
   pub went : Appends out.taken sent.taken (replies_of whole)
-  pub written : served.written ≡ min (length (replies_of whole)) 18446744073709551615
+  pub written : served.written ≡ length (replies_of whole)
+  pub short : length (replies_of whole) ≤ number * greatest_reply
   pub fault : served.fault ≡ None
 
 module _ {A : Type 0} (limits : Limits) (capacity : ℕ) (first : RepositoryOf A) where
@@ -93,6 +95,26 @@ mul_more n s = grind (arith)
 within : (n m s : ℕ) → n ≤ m → n * s ≤ m * s
 within n m s le = mul-le-mul_right s le
 
+-- what went out of one reply more can be added: the replies to so few bundles are short together
+pub can_add : {A : Type 0} (limits : Limits) (capacity : ℕ) (first : RepositoryOf A)
+    (input mid begun left : Input) (out way sent : Output) (before now history after : List (Taken A))
+    (waiting waited waits : List ℕ) (served : Served A) (number : ℕ) (x : Exchange A) (ending : Ending)
+    (how : Outcome (Done A) (Refusal A)) (takes : ℕ) (sending : Sending) (written : ℕ)
+    → Goes limits capacity first input mid out way before now waiting served number
+    → Serves limits capacity first waited waits begun left way sent history x
+    → TellsOf x ending how takes sending written after → number < 10000
+    → served.written + written < 2 ^ 64
+can_add limits capacity first input mid begun left out way sent before now history after waiting waited
+    waits served number x ending how takes sending written g v t less =
+    let so_far = g.written in
+    let bound = g.short in
+    let most = within number 10000 greatest_reply (omega (arith, less)) in
+    let went = t.written_is in
+    let reply = v.short in
+    let parted = ap (λ (l : List ℕ). length l) v.is.sent.reply_is in
+    let both = length-append x.gone v.is.sent.rest in
+    omega (arith, so_far, bound, most, went, reply, parted, both)
+
 -- nothing was served yet
 pub starts : {A : Type 0} (limits : Limits) (capacity : ℕ) (first : RepositoryOf A) (input : Input) (out : Output) (before : List (Taken A)) (waiting : List ℕ) (served : Served A) → waiting ≡ []
     → (served.bundles ≡ 0) × (served.last ≡ None) × (served.written ≡ 0) × (served.fault ≡ None) → Goes limits capacity first input input out out before before waiting served 0
@@ -111,6 +133,7 @@ starts {A} limits capacity first input out before waiting served none s = record
   none = λ _. none;
   went = Appends-nil out.taken;
   written = s.2;
+  short = omega arith;
   fault = s.3;
 }
 
@@ -227,7 +250,7 @@ tells_own {A} x own ending how takes sending written after same t = record {
 module _ {A : Type 0} (limits : Limits) (capacity : ℕ) (first : RepositoryOf A) (input mid left : Input) (out way sent : Output) (before now history now' : List (Taken A)) (waiting waits : List ℕ) (served told : Served A) (number : ℕ) (answer : Answer A) (ending : Ending) (sending : Sending) (written : ℕ)
     (g : Goes limits capacity first input mid out way before now waiting served number) (same : history ≡ now) (x : Exchange A)
     (v : Serves limits capacity first waiting waits mid left way sent history x) (t : TellsOf x ending answer.outcome answer.takes sending written now')
-    (s : (told.bundles ≡ number + 1) × (told.last ≡ Some answer) × (told.written ≡ min (served.written + written) 18446744073709551615) × (told.fault ≡ fault_of ending sending)) where
+    (s : (told.bundles ≡ number + 1) × (told.last ≡ Some answer) × (told.written ≡ served.written + written) × (told.fault ≡ fault_of ending sending)) where
   chained : AreExchanges limits capacity first before [] (g.whole ++ x ∷ []) now'
   chained =
       subst (λ (h : List (Taken A)). AreExchanges limits capacity first before [] (g.whole ++ x ∷ []) h) t.after_is
@@ -258,12 +281,19 @@ module _ {A : Type 0} (limits : Limits) (capacity : ℕ) (first : RepositoryOf A
   went_out : Appends out.taken sent.taken (replies_of g.whole ++ x.gone)
   went_out = Appends-trans out.taken way.taken sent.taken (replies_of g.whole) x.gone g.went v.went
 
-  was_written : told.written ≡ min (length (replies_of g.whole ++ x.gone)) 18446744073709551615
+  was_written : told.written ≡ length (replies_of g.whole ++ x.gone)
   was_written =
       let w = g.written in
       let a = s.2 in
       let n = t.written_is in
       omega (arith, w, a, n, length-append (replies_of g.whole) x.gone)
+
+  short_on : length (replies_of (g.whole ++ x ∷ [])) ≤ (number + 1) * greatest_reply
+  short_on =
+      let before = g.short in
+      let more = v.short in
+      let long = ap (λ (l : List ℕ). length l) (sym (replies_more g.whole x)) in
+      omega (arith, before, more, long, length-append (replies_of g.whole) (reply_of x.how))
 
   counted_one : told.bundles ≡ length (g.whole ++ x ∷ [])
   counted_one = let a = s.0 in let c = g.count in omega (arith, a, c, length-append g.whole (x ∷ []))
@@ -326,6 +356,7 @@ module _ {A : Type 0} (limits : Limits) (capacity : ℕ) (first : RepositoryOf A
         bytes = omega (arith, long, sum, b, c, mul_more number limits.stream);
         none = λ z. absurd (omega (arith, z));
         went = subst (λ (l : List ℕ). Appends out.taken sent.taken l) gone went_out;
-        written = was_written ∙ ap (λ (l : List ℕ). min (length l) 18446744073709551615) gone;
+        written = was_written ∙ ap (λ (l : List ℕ). length l) gone;
+        short = short_on;
         fault = none_of told.fault none;
       }

@@ -3,6 +3,7 @@ use Rattle.std.proofs.Common.{ℕ, ◌≡◌, inl, inr, List, [], ◌∷◌, ◌
 use Rattle.std.proofs.lemmas.List.Elements.{All-cons}
 use Rattle.std.proofs.KnownBytes.{Consumes-trans}
 use Rattle.hg_types.specs.declared.limits.Limits.{Limits}
+use Rattle.hg_types.specs.Limits.{IsAllowed}
 use Rattle.hg_types.specs.declared.part.Part.{Part}
 use Rattle.hg_types.specs.declared.item.Item.{Item}
 use Rattle.hg_types.specs.declared.item.Taken.{Taken}
@@ -23,7 +24,8 @@ use Rattle.hg_connection.specs.declared.ending.Ending.{Ending}
 use Rattle.hg_connection.specs.declared.ending.Ending.TheVariants.{Whole, Fault, InputEnded, ReadFailed}
 use Rattle.hg_connection.specs.Receiving.{Arrives, IsPiece, IsReceived, Receives, Stops, StopsIn, mark_of, push_items}
 use Rattle.hg_connection.specs.Connections.{Exchange, Serves}
-use Rattle.hg_connection.proofs.Putting.{items_length}
+use Rattle.hg_connection.proofs.Putting.{PartsAreFew, items_length}
+use Rattle.hg_connection.proofs.Shortness.{AbortedAreShort, DoneAreShort, reply_short}
 
 module _ {A : Type 0} (limits : Limits) (capacity : ℕ) (first : RepositoryOf A) (waited waiting : List ℕ) (input left : Input) (out sent : Output) (s new : SenderView A) (ending : Ending) (e : EndedView A)
     (how : Outcome (Done A) (Refusal A)) (takes : ℕ) (after : List (Taken A)) (sending : Sending) (written : ℕ) (r : Receives limits waited waiting input left s new ending) (m : Ends new (mark_of ending) e)
@@ -37,8 +39,10 @@ module _ {A : Type 0} (limits : Limits) (capacity : ℕ) (first : RepositoryOf A
       let history' : e.history ≡ s.history = m.history ∙ r.put.history in
       subst (λ (y : ℕ × List (Item A) × List (Taken A)). Answers capacity first y.0 y.1 y.2 how takes after) (λ i. (push' i, put' i, history' i)) a
 
-  pub serves : of s.putter.push (items_of s.history) ≡ [] → Serves limits capacity first waited waiting input left out sent s.history (record { reads = r.reads; consumed = r.consumed; rest = r.rest; ending = ending; parts = r.parts; push = s.putter.push; how = how; takes = takes; uses = w.uses; sending = sending; gone = w.gone; after = after })
-  serves fresh = record {
+  pub serves : of s.putter.push (items_of s.history) ≡ [] → DoneAreShort A → AbortedAreShort A → PartsAreFew A
+      → IsAllowed limits
+      → Serves limits capacity first waited waiting input left out sent s.history (record { reads = r.reads; consumed = r.consumed; rest = r.rest; ending = ending; parts = r.parts; push = s.putter.push; how = how; takes = takes; uses = w.uses; sending = sending; gone = w.gone; after = after })
+  serves fresh done_short aborted_short few allowed = record {
     is = record { received = r.received; fresh = fresh; answers = answered; sent = w.sent };
     more = r.more;
     spelled = r.spelled;
@@ -48,6 +52,8 @@ module _ {A : Type 0} (limits : Limits) (capacity : ℕ) (first : RepositoryOf A
     ran = r.ran;
     went = w.bytes;
     used = w.told;
+    short = reply_short done_short aborted_short few limits capacity first waited r.reads ending r.parts r.consumed
+        r.rest s.putter.push s.history how takes after allowed r.received answered;
   }
 
 -- the bytes that were fed last were read, if not before the others then as the first
@@ -110,6 +116,7 @@ comes {A} limits capacity first waited piece waiting input mid left out sent bef
       ran = v.ran;
       went = v.went;
       used = v.used;
+      short = v.short;
     });
     same = refl;
   }

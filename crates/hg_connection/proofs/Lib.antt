@@ -1,5 +1,6 @@
 mod Waiting
 mod Putting
 mod Receivings
+mod Shortness
 mod Exchanges
 mod Chains

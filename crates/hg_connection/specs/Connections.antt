@@ -1,5 +1,5 @@
 -- What a connection did: its bundles, one after another.
-use Rattle.std.specs.Prelude.{ℕ, ◌≡◌, ◌≢◌, ◌⊎◌, ◌≤◌, ◌+◌, ◌*◌, min, ⊤, List, [], ◌∷◌, ◌++◌, length, option_to_list, Option, Some, None}
+use Rattle.std.specs.Prelude.{ℕ, ◌≡◌, ◌≢◌, ◌⊎◌, ◌≤◌, ◌+◌, ◌*◌, ⊤, List, [], ◌∷◌, ◌++◌, length, option_to_list, Option, Some, None}
 use Rattle.std.specs.List.{flat_map}
 use Rattle.std.specs.Io.KnownBytes.{Consumes, Appends, IsAtEnd}
 use Rattle.hg_types.specs.declared.part.Part.{Part}
@@ -9,6 +9,7 @@ use Rattle.hg_repo.specs.declared.done.Done.{Done}
 use Rattle.hg_parts.specs.declared.refusal.Refusal.{Refusal}
 use Rattle.hg_queue.specs.History.{of, items_of}
 use Rattle.hg_push.specs.declared.outcome.Outcome.{Outcome}
+use Rattle.hg_push.specs.Lengths.{greatest_reply}
 use Rattle.hg_push.specs.Reply.{reply_of}
 use Rattle.hg_push.specs.Run.{RepositoryOf}
 use Rattle.hg_stream.specs.declared.fault.StreamFault.TheVariants.{Truncated}
@@ -51,7 +52,7 @@ pub record IsExchange {A : Type 0} (limits : Limits) (capacity : ℕ) (first : R
   pub answers : Answers capacity first x.push (push_items x.push x.parts (mark_of x.ending)) before x.how x.takes x.after
   pub sent : IsSent x.sending x.gone x.uses (reply_of x.how)
 
--- one bundle was served by that reader and that writer
+-- one bundle was served by that reader and that writer, and its reply is no longer than a reply can be
 pub record Serves {A : Type 0} (limits : Limits) (capacity : ℕ) (first : RepositoryOf A) (waited waiting : List ℕ) (input left : Input) (out sent : Output) (before : List (Taken A)) (x : Exchange A) : Type 0 where
   pub is : IsExchange limits capacity first before waited x
   pub more : List ℕ
@@ -62,6 +63,7 @@ pub record Serves {A : Type 0} (limits : Limits) (capacity : ℕ) (first : Repos
   pub ran : Ran x.ending left
   pub went : Appends out.taken sent.taken x.gone
   pub used : Adds out.uses sent.uses x.uses
+  pub short : length (reply_of x.how) ≤ greatest_reply
 
 -- what the call tells of the bundle
 pub record TellsOf {A : Type 0} (x : Exchange A) (ending : Ending) (how : Outcome (Done A) (Refusal A)) (takes : ℕ) (sending : Sending) (written : ℕ) (after : List (Taken A)) : Type 0 where
@@ -142,6 +144,6 @@ pub record Connects {A : Type 0} (limits : Limits) (capacity : ℕ) (first : Rep
   pub kept : List ℕ
   pub replies : replies_of (whole ++ option_to_list last) ≡ gone ++ kept
   pub went : Appends out.taken sent.taken gone
-  pub written : served.written ≡ min (length gone) 18446744073709551615
+  pub written : served.written ≡ length gone
   pub all : served.fault ≡ None → kept ≡ []
   pub end : EndsBy most whole last final dropped left served.fault

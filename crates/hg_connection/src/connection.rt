@@ -15,6 +15,7 @@ use crate::inbox::{Inbox, Next, next_bundle};
 use crate::reply::send_reply;
 use crate::served::{ConnFault, Round, Served};
 use hg_devices::{Reader, Writer};
+use hg_push::laws::replies_are_short;
 use hg_serve::{Client, Gate, Naming, Point, Sender, Server};
 use hg_stream::laws::{parts_are_few, streams_are_settled_once};
 use hg_stream::{State, Unbundler};
@@ -118,6 +119,9 @@ fn serve_bundle<J: Naming<A>, A: Allocator + Copy, R: Wait, I: Reader, W: Writer
         → (state_of bundle.new ≡ at_end_mark) × (ready_of bundle.new ≡ []) }
     ensures limits { limits_of bundle.new ≡ limits_of bundle.old }
 {
+    parts_are_few::<A>();
+    replies_are_short::<A>();
+    let _limits = server.limits();
     let ending = receive(server, rt, &mut sender, bundle, inbox, reader, gate);
     let ended = mark(server, rt, sender, ending, gate);
     let (answer, client) = server.answer(rt, ended, gate);

@@ -1,6 +1,6 @@
 //! What became of a connection.
 
-ghost use Rattle.std.specs.Prelude.{◌≡◌, ◌<◌, ◌+◌, min, None, Some};
+ghost use Rattle.std.specs.Prelude.{◌≡◌, ◌<◌, ◌^◌, ◌+◌, None, Some};
 ghost use Rattle.hg_connection.specs.Connections.{fault_of};
 
 use crate::ending::Ending;
@@ -89,9 +89,10 @@ impl<A: Allocator> Served<A> {
 
     /// The same, with the bundle of this number, counted from 0.
     pub fn more(self, number: u32, round: Round<A>) -> Served<A>
-        requires { number < 10000 }
+        requires number { number < 10000 }
+        requires fits { self.written + round.written < 2 ^ 64 }
         ensures { (result.bundles ≡ number + 1) × (result.last ≡ Some round.answer)
-            × (result.written ≡ min (self.written + round.written) 18446744073709551615)
+            × (result.written ≡ self.written + round.written)
             × (result.fault ≡ fault_of round.ending round.sending) }
     {
         let Round {
@@ -103,7 +104,7 @@ impl<A: Allocator> Served<A> {
         Served {
             bundles: number + 1,
             last: Some(answer),
-            written: self.written.saturating_add(written as u64),
+            written: self.written + written as u64,
             fault: fault_of(ending, sending),
         }
     }

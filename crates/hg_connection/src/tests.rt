@@ -1,4 +1,5 @@
-//! What no contract says: whole replies over devices in memory, and that a reply comes before a further read.
+//! What no contract says: whole replies over devices in memory, that a reply comes before a further read, that a
+//! connection waits for no other, and what comes of openings and replies that are refused.
 
 ghost use Rattle.std.specs.Prelude.{◌≤◌};
 ghost use Rattle.hg_types.specs.Limits.{IsAllowed};
@@ -7,6 +8,9 @@ ghost use Rattle.hg_serve.specs.Desks.{Begins};
 mod bundles;
 mod cut;
 mod devices;
+mod held;
+mod openings;
+mod replies;
 mod writers;
 
 use crate::tests::devices::{Asker, Counter, Sink, Source};
@@ -46,13 +50,13 @@ struct Told {
     done: usize,
 }
 
-fn settings() -> Settings
+fn settings(first_push: u32) -> Settings
     ensures { IsAllowed result.limits }
 {
     Settings {
         publishing: false,
         limits: Limits::standard(),
-        first_push: 0,
+        first_push,
     }
 }
 
@@ -121,10 +125,11 @@ fn connect<J: Naming<Global>, R: RandomSource + Wait + Abort, I: Reader, W: Writ
     }
 }
 
-/// Serves one connection on a server of an empty repository.
-fn connected<R: RandomSource + Wait + Abort, I: Reader, W: Writer>(
+/// Serves one connection on a server of an empty repository, whose pushes are numbered from there on.
+fn connected_from<R: RandomSource + Wait + Abort, I: Reader, W: Writer>(
     rt: &R,
     alloc: Global,
+    first_push: u32,
     reader: &mut I,
     writer: &mut W,
     most: u32,
@@ -137,11 +142,24 @@ fn connected<R: RandomSource + Wait + Abort, I: Reader, W: Writer>(
             alloc,
             queue,
             taker,
-            Repo::new(alloc, settings(), state(rt)),
+            Repo::new(alloc, settings(first_push), state(rt)),
             reader,
             writer,
             most,
         ),
         Err(_) => panic!(rt; "no memory for a queue"),
     }
+}
+
+/// Serves one connection on a server of an empty repository.
+fn connected<R: RandomSource + Wait + Abort, I: Reader, W: Writer>(
+    rt: &R,
+    alloc: Global,
+    reader: &mut I,
+    writer: &mut W,
+    most: u32,
+) -> Told
+    requires { (1 ≤ most) × (most ≤ 10000) }
+{
+    connected_from(rt, alloc, 0, reader, writer, most)
 }

@@ -1,6 +1,6 @@
 use Rattle.std.proofs.Common.{◌∙◌, refl, sym, arith}
 use Rattle.hg_connection.proofs.Exchanges.{comes}
-use Rattle.hg_connection.proofs.Chains.{starts, at_end, at_failure, at_opening, at_most, at_fault, goes_on, tells_own, ended_whole}
+use Rattle.hg_connection.proofs.Chains.{starts, can_add, at_end, at_failure, at_opening, at_most, at_fault, goes_on, tells_own, ended_whole}
 use Rattle.hg_connection.proofs.Receivings.{fresh}
 use Rattle.hg_connection.proofs.connection.serve_connection.Goals as goal
 
@@ -46,3 +46,11 @@ restart-requires-clause-ended g c = (c.serve_bundle-seen.ensures.whole (ended_wh
 
 pub restart-requires-clause-given : goal.restart-requires-clause-given
 restart-requires-clause-given g c = (c.serve_bundle-seen.ensures.whole (ended_whole c.serve_bundle-seen.result.1.ending c.serve_bundle-seen.result.1.sending c.more-served.result.fault (sym c.more-served.ensures.3) (sym c.is_some.ensures ∙ c.if-is_some.false))).1
+
+pub more-served-requires-clause-fits : goal.more-served-requires-clause-fits
+more-served-requires-clause-fits g c =
+    let e = c.serve_bundle-seen.ensures.served in
+    can_add c.args.server.now g.J.Naming.capacity g.J.Naming.first _ _ _ _ _ _ _ c.args.client c.bundles.client
+    c.in-Ok.sender.history c.serve_bundle-seen.result.0 c.bundles.inbox c.next_bundle.new.inbox
+    c.serve_bundle-seen.new.inbox c.bundles.served c.bundles.number e.0 _ _ _ _ _ c.bundles.invariant.goes e.1 e.2
+    (omega (arith, c.bundles-test.true, c.requires))
