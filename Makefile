@@ -1,6 +1,6 @@
 # hg_pushd: build, run, test, measure.
 #
-#   make run     prove and build the program, and let it answer a small push
+#   make run     prove and build the program, and let it take a push that Mercurial sent
 #   make build   leave the program at build/hg_pushd
 #   make test    prove everything from nothing, refuse the wrong bodies, run the tests, and run the built program
 #   make bench   measure the program; bench/*/run.sh measure the crates below it
@@ -10,6 +10,9 @@ SOURCES := crates.txt $(shell find crates -name out -prune -o -type f \( -name '
 
 # The program keeps payloads in memory: with this the C library asks the system for huge pages to keep them in.
 HUGE_PAGES := GLIBC_TUNABLES=glibc.malloc.hugetlb=1
+
+# a push that `hg push` sent
+PUSHED := examples/pushes/first-changesets/01.hg20
 
 .PHONY: build run test bench clean
 
@@ -24,17 +27,21 @@ $(PROGRAM): $(SOURCES)
 	@echo 'The program is at $(PROGRAM).'
 
 run: $(PROGRAM)
-	@echo 'A push: reply capabilities, and a check that the only head is the null id.'
-	@od -A d -c examples/first-push.hg20
-	@$(HUGE_PAGES) $(PROGRAM) one < examples/first-push.hg20 > build/reply.hg20 && echo 'Status 0: the push is done. The reply: a bundle without parts.'
+	@echo 'A push that Mercurial sent: three changesets onto the empty repository.'
+	@$(HUGE_PAGES) $(PROGRAM) one < $(PUSHED) > build/reply.hg20 && echo 'Status 0: the push is done. The reply: one head more.'
 	@od -A d -c build/reply.hg20
+	@echo 'What the repository then holds. A line for each changeset: its number, its id, its phase, whether it is obsolete.'
+	@$(HUGE_PAGES) $(PROGRAM) replay $(PUSHED)
+	@bash examples/serve-demo.sh $(PROGRAM)
 
 test:
+	@python3 tools/index.py --check
 	@echo 'Proving every crate from nothing, trying the wrong bodies, running the tests. This takes a while.'
 	@rt ci
 	@# the program that the gate has just built, or else a new one
 	@if [ -x crates/hg_pushd/out/hg_pushd ]; then mkdir -p build && cp crates/hg_pushd/out/hg_pushd $(PROGRAM); else $(MAKE) --no-print-directory build; fi
 	@bash examples/check.sh $(PROGRAM)
+	@bash examples/serve.sh $(PROGRAM)
 
 bench: $(PROGRAM)
 	@bash bench/one.sh

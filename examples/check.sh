@@ -35,10 +35,11 @@ check 'a bundle that is cut short' 1 "$room/truncated" 'hg_pushd: push aborted' 
 "$program" one < "$here/first-push.hg20" > /dev/full 2> "$room/err"
 [ $? = 3 ] && [ "$(cat "$room/err")" = 'hg_pushd: device fault' ] || { echo 'a full device is not told'; failed=1; }
 
-# Pushes that Mercurial sent: the first of each row onto the empty repository is done, and the second, which rests on the first,
-# is refused there. A reply tells of changesets that have one head more, or of none.
+# Pushes that Mercurial sent, one by one: the first of each row onto the empty repository is done, and the second, which rests on
+# the first, is refused there. A reply tells of changesets that have one head more, or of none.
 printf 'HG20\0\0\0\0\0\0\0\x2f\x11reply:changegroup\0\0\0\0\0\x02\x0b\x01\x06\x01in-reply-to2return1\0\0\0\0\0\0\0\0' > "$room/changesets"
-cp "$here/pushes/first-changesets/01.hg20" "$room/in"
+first="$here/pushes/first-changesets"
+cp "$first/01.hg20" "$room/in"
 check 'the first changesets' 0 "$room/changesets" '' one
 for row in "$here"/pushes/*/; do
     words=(one)
@@ -52,5 +53,23 @@ for row in "$here"/pushes/*/; do
         [ "$got" = "$wanted" ] && [ "$(head -c 4 "$room/out")" = HG20 ] || { echo "$row$push: status $got, not $wanted, or no reply"; failed=1; }
     done
 done
+
+# The same pushes, each row whole: the report is what Mercurial's server held behind them. The status is 1 where it refused one.
+: > "$room/in"
+for row in "$here"/pushes/*/; do
+    words=(replay)
+    [ -e "$row/publishing" ] && words+=(--publishing)
+    wanted=0 line=''
+    if grep -qx 1 "$row/statuses"; then wanted=1 line='hg_pushd: push aborted'; fi
+    check "the row $(basename "$row")" $wanted "$row/report" "$line" "${words[@]}" "$row"*.hg20
+done
+
+# Files that do not open, and one that opens and cannot be read: its push is cut, and the others follow.
+check 'a replay of nothing' 2 "$room/nothing" 'error: the following required arguments were not provided:' replay
+check 'a missing file' 3 "$room/nothing" 'hg_pushd: device fault' replay "$first/01.hg20" "$room/missing"
+check 'a folder' 3 "$first/report" 'hg_pushd: device fault' replay "$room" "$first/01.hg20"
+check 'a push that was cut short' 1 "$first/report" 'hg_pushd: push aborted' replay "$room/truncated" "$first/01.hg20"
+"$program" replay "$first/01.hg20" > /dev/full 2> "$room/err"
+[ $? = 3 ] && [ "$(cat "$room/err")" = 'hg_pushd: device fault' ] || { echo 'a full device is not told of a report'; failed=1; }
 [ $failed = 0 ] && echo 'The program: all runs as wanted.'
 exit $failed

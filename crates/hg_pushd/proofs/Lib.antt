@@ -1,5 +1,7 @@
-mod Devices
+pub mod Sending
 pub mod Reading
 pub mod Items
-pub mod Sending
 pub mod Answered
+pub mod Shortness
+pub mod Replays
+mod Growing

@@ -17,11 +17,11 @@ use Rattle.hg_stream.specs.declared.state.State.TheVariants.{Reading as going, F
 use Rattle.hg_stream.specs.declared.unbundler.Unbundler.{Unbundler}
 use Rattle.hg_stream.specs.Unbundler.{Holds, limits_of, ready_of, state_of}
 use Rattle.hg_stream.specs.Faults.{Tells}
-use Rattle.hg_pushd.specs.Devices.{Input, ReadAnswer, Gave, Adds, Reads, given_by}
+use Rattle.hg_devices.specs.Devices.{Input, ReadAnswer, Gave, Adds, Reads, given_by}
 use Rattle.hg_pushd.specs.declared.ending.Ending.{Ending}
 use Rattle.hg_pushd.specs.declared.ending.Ending.TheVariants.{Fault}
 use Rattle.hg_pushd.specs.Receiving.{IsPiece, LastRead, Received, state_at}
-use Rattle.hg_pushd.proofs.Devices.{Adds-nil, Adds-trans}
+use Rattle.hg_devices.proofs.CallerLemmas.{Adds-nil, Adds-trans}
 
 -- all that was read was fed, at least a byte a turn, and the bundle goes on
 pub record ReadsOn {A : Type 0} (before now : Input) (u : Unbundler A) (turn : ℕ) : Type 0 where

@@ -1,158 +1,29 @@
--- One more write of a reply, and its flush.
-use Rattle.std.proofs.Common.{ℕ, ◌≡◌, ◌≢◌, ◌≤◌, ◌<◌, ◌+◌, ◌-◌, ◌⊎◌, inl, inr, List, [], ◌∷◌, ◌++◌, All, refl, sym, ◌∙◌, ap, subst, arith, rules, length, map, take, drop, take-append-drop, length-drop}
-use Rattle.std.specs.List.{concat}
-use Rattle.std.proofs.lemmas.List.{append-nil, length-take, map-append, take_all, drop_all}
-use Rattle.std.proofs.lemmas.List.Elements.{All-append, All-cons}
-use Rattle.std.proofs.lemmas.List.Folds.{concat-append}
-use Rattle.std.proofs.Math.Seq.{take-add, take-length}
-use Rattle.std.proofs.KnownBytes.{Appends-nil, Appends-trans}
-use Rattle.std.specs.Io.KnownBytes.{Appends}
-use Rattle.hg_pushd.specs.Devices.{Output, WriteAnswer, Took, Refused, Flushed, NotFlushed, Adds, Uses, taken_by}
-use Rattle.hg_pushd.specs.declared.send.Sending.TheVariants.{Whole, Broken, NoMemory}
-use Rattle.hg_pushd.specs.Answering.{Sends, Writes}
-use Rattle.hg_pushd.proofs.Devices.{Adds-nil, Adds-trans}
+-- Nothing was sent: memory was refused.
+use Rattle.std.proofs.Common.{ℕ, List, [], refl, rules}
+use Rattle.std.proofs.KnownBytes.{Appends-nil}
+use Rattle.hg_devices.specs.declared.sending.Sending.TheVariants.{NoMemory}
+use Rattle.hg_devices.specs.Devices.{Output}
+use Rattle.hg_devices.proofs.CallerLemmas.{Adds-nil}
+use Rattle.hg_pushd.specs.Answering.{IsSentTo}
 
--- so many bytes were written, some at each write
-pub record WritesOn (before now : Output) (all : List ℕ) (sent : ℕ) : Type 0 where
-  pub pieces : List (List ℕ)
-  pub each : All (λ piece. 1 ≤ length piece) pieces
-  pub sent_is : concat pieces ≡ take sent all
-  pub bound : sent ≤ length all
-  pub bytes : Appends before.taken now.taken (concat pieces)
-  pub uses : Adds before.uses now.uses (map Took pieces)
-
-pub starts : (writer : Output) (bytes : List ℕ) → WritesOn writer writer bytes 0
-starts writer bytes = record {
-  pieces = [];
-  each = search rules;
-  sent_is = refl;
-  bound = omega arith;
-  bytes = Appends-nil writer.taken;
-  uses = Adds-nil writer.uses;
-}
-
-joined_more : (pieces : List (List ℕ)) (piece : List ℕ) → concat (pieces ++ piece ∷ []) ≡ concat pieces ++ piece
-joined_more pieces piece = concat-append pieces (piece ∷ []) ∙ ap (λ l. concat pieces ++ l) (append-nil piece)
-
--- what a write is given
-rest_of : (bytes : List ℕ) (sent : ℕ) → take (length bytes - sent) (drop sent bytes) ≡ drop sent bytes
-rest_of bytes sent = ap (λ (k : ℕ). take k (drop sent bytes)) (sym (length-drop sent bytes)) ∙ take-length (drop sent bytes)
-
--- after a write of n bytes more
-pub more_sent : (before mid now : Output) (bytes : List ℕ) (sent n : ℕ) → WritesOn before mid bytes sent → 1 ≤ n → n ≤ length (take (length bytes - sent) (drop sent bytes))
-    → Uses mid now (Took (take n (take (length bytes - sent) (drop sent bytes)))) → WritesOn before now bytes (sent + n)
-more_sent before mid now bytes sent n w some bound step =
-    let piece = take n (drop sent bytes) in
-    let left : take n (take (length bytes - sent) (drop sent bytes)) ≡ piece = ap (λ (l : List ℕ). take n l) (rest_of bytes sent) in
-    let used : Uses mid now (Took piece) = subst (λ (l : List ℕ). Uses mid now (Took l)) left step in
-    let joined = joined_more w.pieces piece in
-    let few : n ≤ length (drop sent bytes) = omega (arith, bound, ap (λ (l : List ℕ). length l) (rest_of bytes sent)) in record {
-      pieces = w.pieces ++ piece ∷ [];
-      each = All-append (λ p. 1 ≤ length p) w.pieces (piece ∷ []) w.each (All-cons (λ p. 1 ≤ length p) piece [] (omega (arith, some, few, length-take n (drop sent bytes))) (search rules));
-      sent_is = joined ∙ ap (λ l. l ++ piece) w.sent_is ∙ sym (take-add sent n bytes);
-      bound = omega (arith, w.bound, few, length-drop sent bytes);
-      bytes = subst (Appends before.taken now.taken) (sym joined) (Appends-trans before.taken mid.taken now.taken (concat w.pieces) piece w.bytes used.bytes);
-      uses = subst (Adds before.uses now.uses) (sym (map-append Took w.pieces (piece ∷ []))) (Adds-trans before.uses mid.uses now.uses (map Took w.pieces) (Took piece ∷ []) w.uses used.told);
-    }
-
--- all was written
-pub all_written : (before now : Output) (bytes : List ℕ) (sent : ℕ) → WritesOn before now bytes sent → length bytes ≤ sent → Writes before now bytes sent
-all_written before now bytes sent w all = record {
-  pieces = w.pieces;
-  last = [];
-  each = w.each;
-  sent_is = w.sent_is;
-  bytes = w.bytes;
-  uses = subst (Adds before.uses now.uses) (sym (append-nil (map Took w.pieces))) w.uses;
-  ends = inl (omega (arith, w.bound, all), refl);
-}
-
-is_left : (bytes : List ℕ) (sent : ℕ) → sent < length bytes → drop sent bytes ≢ []
-is_left bytes sent less = λ e. (let none : length (drop sent bytes) ≡ 0 = ap (λ (l : List ℕ). length l) e in absurd (omega (arith, none, less, length-drop sent bytes)))
-
--- a write took nothing, or failed
-pub stops : (before mid after : Output) (bytes : List ℕ) (sent : ℕ) (answer : WriteAnswer) → WritesOn before mid bytes sent → sent < length bytes → Uses mid after answer → (answer ≡ Took []) ⊎ (answer ≡ Refused)
-    → Writes before after bytes sent
-stops before mid after bytes sent answer w less step how =
-    let none : taken_by answer ≡ [] = elim how [ inl took ↦ ap taken_by took | inr refused ↦ ap taken_by refused ] in record {
-      pieces = w.pieces;
-      last = answer ∷ [];
-      each = w.each;
-      sent_is = w.sent_is;
-      bytes = subst (Appends before.taken after.taken) (ap (λ l. concat w.pieces ++ l) none ∙ append-nil (concat w.pieces)) (Appends-trans before.taken mid.taken after.taken (concat w.pieces) (taken_by answer) w.bytes step.bytes);
-      uses = Adds-trans before.uses mid.uses after.uses (map Took w.pieces) (answer ∷ []) w.uses step.told;
-      ends = inr (omega (arith, less), (is_left bytes sent less, elim how [ inl took ↦ inl (ap (λ a. a ∷ []) took) | inr refused ↦ inr (ap (λ a. a ∷ []) refused) ]));
-    }
-
--- memory was refused for the reply
-pub unsent : (writer : Output) (reply : List ℕ) → Sends NoMemory writer writer reply
-unsent writer reply = record {
-  pieces = [];
-  rest = reply;
-  last = [];
-  each = search rules;
-  reply_is = refl;
-  bytes = Appends-nil writer.taken;
-  uses = Adds-nil writer.uses;
-  ends = (refl, refl);
-}
-
-parted : (bytes reply : List ℕ) (sent : ℕ) (pieces : List (List ℕ)) → bytes ≡ reply → concat pieces ≡ take sent bytes → reply ≡ concat pieces ++ drop sent bytes
-parted bytes reply sent pieces is sent_is = sym is ∙ sym (take-append-drop sent bytes) ∙ ap (λ l. l ++ drop sent bytes) (sym sent_is)
-
--- the writer took a front of the reply and no more
-pub breaks_off : (before after : Output) (bytes reply : List ℕ) (sent : ℕ) → bytes ≡ reply → Writes before after bytes sent → sent < length bytes → Sends Broken before after reply
-breaks_off before after bytes reply sent is w less = record {
-  pieces = w.pieces;
-  rest = drop sent bytes;
-  last = w.last;
-  each = w.each;
-  reply_is = parted bytes reply sent w.pieces is w.sent_is;
-  bytes = w.bytes;
-  uses = w.uses;
-  ends = inl (elim w.ends [ inl whole ↦ absurd (omega (arith, less, whole.0)) | inr short ↦ short.1 ]);
-}
-
--- a reply of which all was written, and one use more
-pub record Finishes (before after : Output) (bytes : List ℕ) (answer : WriteAnswer) : Type 0 where
-  pub pieces : List (List ℕ)
-  pub each : All (λ piece. 1 ≤ length piece) pieces
-  pub whole : concat pieces ≡ bytes
-  pub taken : Appends before.taken after.taken (concat pieces)
-  pub uses : Adds before.uses after.uses (map Took pieces ++ answer ∷ [])
-
-pub finishes : (before mid after : Output) (bytes reply : List ℕ) (sent : ℕ) (answer : WriteAnswer) → bytes ≡ reply → Writes before mid bytes sent → length bytes ≤ sent → Uses mid after answer → taken_by answer ≡ []
-    → Finishes before after reply answer
-finishes before mid after bytes reply sent answer is w all step none =
-    let nothing : w.last ≡ [] = elim w.ends [ inl whole ↦ whole.1 | inr short ↦ absurd (short.1.0 (drop_all sent bytes all)) ] in
-    let wrote : Adds before.uses mid.uses (map Took w.pieces) = subst (Adds before.uses mid.uses) (ap (λ l. map Took w.pieces ++ l) nothing ∙ append-nil (map Took w.pieces)) w.uses in record {
-      pieces = w.pieces;
-      each = w.each;
-      whole = w.sent_is ∙ take_all sent bytes all ∙ is;
-      taken = subst (Appends before.taken after.taken) (ap (λ l. concat w.pieces ++ l) none ∙ append-nil (concat w.pieces)) (Appends-trans before.taken mid.taken after.taken (concat w.pieces) (taken_by answer) w.bytes step.bytes);
-      uses = Adds-trans before.uses mid.uses after.uses (map Took w.pieces) (answer ∷ []) wrote step.told;
-    }
-
-pub flushed : (before after : Output) (reply : List ℕ) → Finishes before after reply Flushed → Sends Whole before after reply
-flushed before after reply f = record {
-  pieces = f.pieces;
-  rest = [];
-  last = Flushed ∷ [];
-  each = f.each;
-  reply_is = sym f.whole ∙ sym (append-nil (concat f.pieces));
-  bytes = f.taken;
-  uses = f.uses;
-  ends = (refl, refl);
-}
-
-pub unflushed : (before after : Output) (reply : List ℕ) → Finishes before after reply NotFlushed → Sends Broken before after reply
-unflushed before after reply f = record {
-  pieces = f.pieces;
-  rest = [];
-  last = NotFlushed ∷ [];
-  each = f.each;
-  reply_is = sym f.whole ∙ sym (append-nil (concat f.pieces));
-  bytes = f.taken;
-  uses = f.uses;
-  ends = inr (refl, refl);
-}
+pub unsent : (writer : Output) (bytes : List ℕ) → IsSentTo NoMemory writer writer bytes
+unsent writer bytes = (
+  0,
+  record {
+    gone = [];
+    uses = [];
+    sent = record {
+      pieces = [];
+      rest = bytes;
+      last = [];
+      each = search rules;
+      gone_is = refl;
+      uses_are = refl;
+      reply_is = refl;
+      ends = (refl, refl);
+    };
+    count_is = refl;
+    bytes = Appends-nil writer.taken;
+    told = Adds-nil writer.uses;
+  },
+)

@@ -1,7 +1,5 @@
 -- What is answered to a push.
-use Rattle.std.specs.Prelude.{ℕ, ◌≡◌, ◌≢◌, ◌≤◌, ◌⊎◌, List, [], ◌∷◌, ◌++◌, All, drop, length, map, take, Bool}
-use Rattle.std.specs.List.{concat}
-use Rattle.std.specs.Io.KnownBytes.{Appends}
+use Rattle.std.specs.Prelude.{ℕ, ◌≡◌, ◌≤◌, List, [], Bool, length}
 use Rattle.hg_types.specs.declared.part.Part.{Part}
 use Rattle.hg_types.specs.Limits.{standard_limits}
 use Rattle.hg_repo.specs.declared.done.Done.{Done}
@@ -11,12 +9,14 @@ use Rattle.hg_stream.specs.declared.fault.StreamFault.TheVariants.{NoMemory as s
 use Rattle.hg_push.specs.declared.outcome.Outcome.{Outcome}
 use Rattle.hg_push.specs.declared.outcome.Outcome.TheVariants.{Done as done_with, Aborted}
 use Rattle.hg_push.specs.declared.outcome.Reason.TheVariants.{NoMemory as without_memory}
+use Rattle.hg_push.specs.Lengths.{greatest_reply}
 use Rattle.hg_push.specs.Reply.{reply_of}
 use Rattle.hg_pushd.specs.declared.ending.Ending.{Ending}
 use Rattle.hg_pushd.specs.declared.ending.Ending.TheVariants.{Fault, ReadFailed}
-use Rattle.hg_pushd.specs.declared.send.Sending.{Sending}
-use Rattle.hg_pushd.specs.declared.send.Sending.TheVariants.{Whole as sent_whole, Broken, NoMemory}
-use Rattle.hg_pushd.specs.Devices.{Input, Output, WriteAnswer, Took, Refused, Flushed, NotFlushed, Adds}
+use Rattle.hg_devices.specs.declared.sending.Sending.{Sending}
+use Rattle.hg_devices.specs.declared.sending.Sending.TheVariants.{Whole as sent_whole, Broken, NoMemory}
+use Rattle.hg_devices.specs.Devices.{Input, Output}
+use Rattle.hg_devices.specs.Sent.{Sends}
 use Rattle.hg_pushd.specs.Receiving.{Received, items_of, mark_of}
 use Rattle.hg_pushd.specs.Taking.{Ends}
 
@@ -24,39 +24,9 @@ use Rattle.hg_pushd.specs.Taking.{Ends}
 abbrev pub empty_repository : {A : Type 0} → Bool → Repository A
 empty_repository publishing = empty_with (record { publishing = publishing; limits = standard_limits; first_push = 0 })
 
--- what was not written, and the last write, where it took none of that or failed
-abbrev pub StopsShort : List ℕ → List WriteAnswer → Type 0
-StopsShort rest last = (rest ≢ []) × ((last ≡ Took [] ∷ []) ⊎ (last ≡ Refused ∷ []))
-
--- So many of the bytes were written, by these writes, one behind the other. Each of them took some bytes; then all were written, or one
--- more write took none or failed, and no further one was made.
-pub record Writes (before after : Output) (all : List ℕ) (sent : ℕ) : Type 0 where
-  pub pieces : List (List ℕ)
-  pub last : List WriteAnswer
-  pub each : All (λ piece. 1 ≤ length piece) pieces
-  pub sent_is : concat pieces ≡ take sent all
-  pub bytes : Appends before.taken after.taken (concat pieces)
-  pub uses : Adds before.uses after.uses (map Took pieces ++ last)
-  pub ends : ((sent ≡ length all) × (last ≡ [])) ⊎ ((sent ≤ length all) × StopsShort (drop sent all) last)
-
--- what was not written, and the last use of the writer
-abbrev pub LastUse : Sending → List (List ℕ) → List ℕ → List WriteAnswer → Type 0
-LastUse sent_whole pieces rest last = (rest ≡ []) × (last ≡ Flushed ∷ [])
-LastUse Broken pieces rest last = StopsShort rest last ⊎ ((rest ≡ []) × (last ≡ NotFlushed ∷ []))
-LastUse NoMemory pieces rest last = (pieces ≡ []) × (last ≡ [])
-
--- A reply was sent by these writes, one behind the other, of which each took some bytes. Then it was whole and was flushed; or one more
--- write took none or failed, or the flush failed, and the writer was not used again; or memory was refused for the reply, and the
--- writer was not used.
-pub record Sends (sending : Sending) (before after : Output) (reply : List ℕ) : Type 0 where
-  pub pieces : List (List ℕ)
-  pub rest : List ℕ
-  pub last : List WriteAnswer
-  pub each : All (λ piece. 1 ≤ length piece) pieces
-  pub reply_is : reply ≡ concat pieces ++ rest
-  pub bytes : Appends before.taken after.taken (concat pieces)
-  pub uses : Adds before.uses after.uses (map Took pieces ++ last)
-  pub ends : LastUse sending pieces rest last
+-- A reply was sent so: what went out of it, and by which uses of the writer.
+abbrev pub IsSentTo : Sending → Output → Output → List ℕ → Type 0
+IsSentTo sending before after reply = (count : ℕ) × Sends sending count before after reply
 
 abbrev pub outcome_status : {A : Type 0} → Outcome (Done A) (Refusal A) → ℕ
 outcome_status (done_with done) = 0
@@ -80,16 +50,19 @@ status_of ReadFailed how sending = 3
 status_of (Fault stream_without_memory) how sending = starved_status sending
 status_of ending how sending = sent_status sending how
 
--- One push was run on the empty repository: its items are the parts of the bytes taken and the mark that they ask for, in a history
--- that says for which of them memory was refused. Its reply was sent, and the status tells how it went.
-pub record Answered (A : Type 0) (publishing : Bool) (input input_after : Input) (output output_after : Output) (status : ℕ) : Type 0 where
+-- One push was run on the empty repository: its items are the parts of the bytes taken and the mark that they
+-- ask for, in a history that says for which of them memory was refused. Its reply, which has fewer than 2^32
+-- bytes, was sent, and the status tells how it went.
+pub record Answered (A : Type 0) (publishing : Bool) (input input_after : Input) (output output_after : Output)
+    (status : ℕ) : Type 0 where
   pub ending : Ending
   pub parts : List (Part A)
   pub received : Received standard_limits input input_after ending parts
   pub how : Outcome (Done A) (Refusal A)
-  pub ends : Ends {A = A} (empty_repository publishing) 0 (items_of 0 parts (mark_of ending)) how
+  pub ends : Ends {A = A} (empty_repository publishing) [] 0 (items_of 0 parts (mark_of ending)) how
+  pub short : length (reply_of how) ≤ greatest_reply
   pub sending : Sending
-  pub sent : Sends sending output output_after (reply_of how)
+  pub sent : IsSentTo sending output output_after (reply_of how)
   pub status_is : status ≡ status_of ending how sending
 
 -- memory was refused before anything was read

@@ -1,4 +1,6 @@
-pub mod Devices
 pub mod Receiving
 pub mod Taking
 pub mod Answering
+pub mod Replaying
+pub mod Seeding
+pub mod Serving

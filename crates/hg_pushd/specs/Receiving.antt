@@ -13,7 +13,7 @@ use Rattle.hg_stream.specs.declared.state.State.{State}
 use Rattle.hg_stream.specs.declared.state.State.TheVariants.{Reading, Ended, Failed as stream_failed}
 use Rattle.hg_stream.specs.Number.{number_of}
 use Rattle.hg_stream.specs.Faults.{Tells}
-use Rattle.hg_pushd.specs.Devices.{Input, ReadAnswer, Gave, Failed, Adds}
+use Rattle.hg_devices.specs.Devices.{Input, ReadAnswer, Gave, Failed, Adds}
 use Rattle.hg_pushd.specs.declared.ending.Ending.{Ending}
 use Rattle.hg_pushd.specs.declared.ending.Ending.TheVariants.{Whole, Fault, InputEnded, ReadFailed}
 

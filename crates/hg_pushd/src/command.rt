@@ -1,46 +1,89 @@
 //! The command line.
 
+use crate::serving::{Serving, read_serving, serve};
 use clap::error::ErrorKind;
 use clap::{Arg, ArgAction, ArgMatches, Command, Error};
 use std::alloc::{AllocError, Global};
 use std::io;
 
 /// What the words ask for.
-#[derive(Clone, Copy, Debug)]
-pub enum Job {
-    /// One bundle from standard input to standard output.
-    One { publishing: bool },
+#[derive(Drop)]
+pub enum Job<'a> {
+    /// One bundle from standard input, and its reply to standard output.
+    One {
+        publishing: bool,
+    },
+    /// The pushes of these files, one behind the other, and a report to standard output.
+    Replay {
+        publishing: bool,
+        files: Vec<&'a str>,
+    },
+    /// Connections, each on a thread.
+    Serve(Serving<'a>),
+}
+
+/// Whether the server publishes.
+pub fn publishing<'a>(alloc: Global) -> Arg<'a> {
+    Arg::new(alloc, "publishing")
+        .long("publishing")
+        .help("What is pushed becomes public")
+        .action(ArgAction::SetTrue)
 }
 
 fn one<'a>(alloc: Global) -> Result<Command<'a>, AllocError> {
-    let publishing = Arg::new(alloc, "publishing")
-        .long("publishing")
-        .help("What is pushed becomes public")
-        .action(ArgAction::SetTrue);
     Command::new(alloc, "one")
         .about("Runs a bundle from standard input on the empty repository, and writes its reply")
-        .arg(publishing)
+        .arg(publishing(alloc))
+}
+
+fn replay<'a>(alloc: Global) -> Result<Command<'a>, AllocError> {
+    let files = Arg::new(alloc, "FILES")
+        .required(true)
+        .num_args(1..)
+        .help("Bundles, in the order in which they are pushed")
+        .action(ArgAction::Append);
+    let command = Command::new(alloc, "replay")
+        .about("Runs bundles from files onto the empty repository, and reports what it then holds")
+        .arg(publishing(alloc))?;
+    command.arg(files)
 }
 
 fn command<'a>(alloc: Global) -> Result<Command<'a>, AllocError> {
-    Command::new(alloc, "hg_pushd")
+    let command = Command::new(alloc, "hg_pushd")
         .version("0.1.0")
         .subcommand_required(true)
-        .subcommand(one(alloc)?)
+        .subcommand(one(alloc)?)?;
+    command
+        .subcommand(replay(alloc)?)?
+        .subcommand(serve(alloc)?)
 }
 
-fn read(matches: &ArgMatches) -> Job {
-    let publishing = match matches.subcommand() {
-        Some(("one", inner)) => inner.get_flag("publishing"),
-        _ => false,
-    };
-    Job::One { publishing }
+/// The files that are named.
+fn files_of<'a>(alloc: Global, matches: &ArgMatches<'a>) -> Result<Vec<&'a str>, AllocError> {
+    match matches.get_strs("FILES") {
+        Some(files) => Vec::from_slice(alloc, files),
+        None => Ok(Vec::new(alloc)),
+    }
+}
+
+fn read<'a>(alloc: Global, matches: &ArgMatches<'a>) -> Result<Job<'a>, AllocError> {
+    match matches.subcommand() {
+        Some(("replay", inner)) => Ok(Job::Replay {
+            publishing: inner.get_flag("publishing"),
+            files: files_of(alloc, inner)?,
+        }),
+        Some(("serve", inner)) => Ok(Job::Serve(read_serving(inner))),
+        Some((_, inner)) => Ok(Job::One {
+            publishing: inner.get_flag("publishing"),
+        }),
+        None => Ok(Job::One { publishing: false }),
+    }
 }
 
 /// Reads the words. An error has the text that goes to the user.
-pub fn job_of(alloc: Global, words: &[String]) -> Result<Job, Error> {
+pub fn job_of<'a>(alloc: Global, words: &'a [String]) -> Result<Job<'a>, Error> {
     let matches = command(alloc)?.try_get_matches_from(words)?;
-    Ok(read(&matches))
+    Ok(read(alloc, &matches)?)
 }
 
 /// Why the words could not be had: memory was refused for them, or one of them is not text.

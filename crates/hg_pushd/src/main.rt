@@ -1,25 +1,44 @@
-//! The program `hg_pushd`: a push from standard input to its reply on standard output.
+//! The program `hg_pushd`: pushes onto a repository that is empty at first.
 //!
-//! `hg_pushd one` reads a bundle, runs it on the empty repository and writes the reply bundle. [`run::run_one`] is that
-//! from any reader to any writer, proved from the bytes read to the bytes written. `device` says what readers and writers
-//! tell of how they were used, and `command` has the command line.
+//! `hg_pushd one` reads a bundle from standard input, runs it and writes the reply bundle to standard output.
+//! `hg_pushd replay` runs the bundles of files, one behind the other, and writes a report of what the
+//! repository then holds. [`run::run_one`] and [`replay::run_replay`] are these from any readers to any
+//! writer, proved from the bytes read to the bytes written. `hg_pushd serve` accepts connections and serves
+//! each on a thread: [`serve::serve_on`] is that, from its seed to its report, over `hg_server`. What readers
+//! and writers tell of how they were used is said by `hg_devices`, and `command` has the command line.
 #![tactic(auto)]
 
 mod command;
-mod device;
 mod ending;
 mod push;
+mod receiving;
+mod replay;
+mod report;
 mod run;
+mod seed;
 mod send;
+mod serve;
+mod serving;
+mod status;
 #[cfg(test)]
 mod tests;
 
 use crate::command::{Job, job_of, status_of, unreadable};
+use crate::replay::run_replay;
 use crate::run::run_one;
+use crate::serve::serve_on;
+use crate::serving::Serving;
 use clap::Error;
+use std::fs::{File, Files};
 use std::hash::RandomState;
 use std::io;
+use std::io::Input;
+use std::net::{Net, TcpListener, TcpStream};
 use std::process::ExitCode;
+use std::random::RandomSource;
+use std::sync::Wait;
+use std::thread::Threads;
+use std::time::Clock;
 
 /// The line that tells a status.
 fn line_of(status: u8) -> Option<&'static str> {
@@ -38,19 +57,94 @@ fn tell(rt: &HostRuntime, status: u8) {
     }
 }
 
-/// Does what was asked for, and gives the status. A system that gives no random bytes is a device that failed.
-fn perform(rt: &HostRuntime, job: &Job) -> u8 {
-    let Ok(state) = RandomState::new(rt) else {
-        return 3;
-    };
-    match job {
-        Job::One { publishing } => run_one(
+/// The files of these names, opened in their order. Of one that does not open the status is told.
+fn open_all<R: Files<File = File> + AllocGlobal>(rt: &R, names: &[&str]) -> Result<Vec<File>, u8> {
+    let mut files = Vec::new(rt.alloc());
+    for name in names {
+        let file = open(rt, name)?;
+        if let Err(_) = files.push(file) {
+            return Err(4);
+        }
+    }
+    Ok(files)
+}
+
+fn open<R: Files<File = File>>(rt: &R, name: &str) -> Result<File, u8> {
+    match File::open(rt, name) {
+        Ok(file) => Ok(file),
+        Err(error) => Err(device_status(&error)),
+    }
+}
+
+/// The status where a file or a socket could not be had.
+fn device_status(error: &io::Error) -> u8 {
+    match error.kind() {
+        io::ErrorKind::OutOfMemory => 4,
+        _ => 3,
+    }
+}
+
+/// Replays the pushes of these files. Where one does not open, nothing is run.
+fn replay_files<R: Files<File = File> + AllocGlobal + Print>(
+    rt: &R,
+    state: RandomState,
+    publishing: bool,
+    names: &[&str],
+) -> u8 {
+    match open_all(rt, names) {
+        Ok(mut files) => run_replay(
             rt.alloc(),
             state,
-            &mut rt.reader(),
+            &mut files,
             &mut io::writer(rt),
-            *publishing,
+            publishing,
         ),
+        Err(status) => status,
+    }
+}
+
+/// Opens the seed, binds, and creates the report, in this order; then serves. Where the system is to pick the
+/// port, the address is told on standard output. What fails before is the error.
+fn serve_files<R>(rt: &R, state: RandomState, serving: &Serving<'_>) -> io::Result<u8>
+where
+    R: Files<File = File>
+        + Print
+        + AllocGlobal
+        + Net<Listener = TcpListener, Stream = TcpStream>
+        + Threads
+        + Wait
+        + Clock
+        + Sync,
+{
+    let mut seed = match serving.seed {
+        Some(path) => Some(File::open(rt, path)?),
+        None => None,
+    };
+    let listener = TcpListener::bind(rt, serving.listen)?;
+    let mut report = File::create(rt, serving.report)?;
+    if asks_for_a_port(serving.listen) {
+        let bound = listener.local_addr()?;
+        println!(rt; "listening on {bound}")?;
+    }
+    Ok(serve_on(
+        rt,
+        rt.alloc(),
+        state,
+        listener,
+        serving.connections,
+        serving.capacity,
+        serving.bundles,
+        serving.publishing,
+        seed.as_mut(),
+        &mut report,
+    ))
+}
+
+/// Whether the system is to pick the port.
+fn asks_for_a_port(address: &str) -> bool {
+    match address.rsplit_once(':') {
+        Some((_, port)) => matches!(port.parse::<u16>(), Ok(0)),
+        None => false,
     }
 }
 
@@ -62,13 +156,8 @@ fn words(rt: &HostRuntime) -> Result<Vec<String>, Error> {
     }
 }
 
-/// What the command line asks for.
-fn job(rt: &HostRuntime) -> Result<Job, Error> {
-    job_of(rt.alloc(), &words(rt)?)
-}
-
 /// Prints the help or the version that was asked for, or what is wrong with the words, and gives the status.
-fn explain(rt: &HostRuntime, error: &Error) -> u8 {
+fn explain<R: Print + Eprint>(rt: &R, error: &Error) -> u8 {
     let status = status_of(error);
     if status == 4 {
         return status;
@@ -79,9 +168,48 @@ fn explain(rt: &HostRuntime, error: &Error) -> u8 {
     }
 }
 
+/// Does what these words ask for, and gives the status. A system that gives no random bytes is a device that
+/// failed.
+fn obey<R>(rt: &R, words: &[String]) -> u8
+where
+    R: RandomSource
+        + Files<File = File>
+        + Input
+        + Print
+        + Eprint
+        + AllocGlobal
+        + Net<Listener = TcpListener, Stream = TcpStream>
+        + Threads
+        + Wait
+        + Clock
+        + Sync,
+{
+    let job = match job_of(rt.alloc(), words) {
+        Ok(job) => job,
+        Err(error) => return explain(rt, &error),
+    };
+    let Ok(state) = RandomState::new(rt) else {
+        return 3;
+    };
+    match &job {
+        Job::One { publishing } => run_one(
+            rt.alloc(),
+            state,
+            &mut rt.reader(),
+            &mut io::writer(rt),
+            *publishing,
+        ),
+        Job::Replay { publishing, files } => replay_files(rt, state, *publishing, files),
+        Job::Serve(serving) => match serve_files(rt, state, serving) {
+            Ok(status) => status,
+            Err(error) => device_status(&error),
+        },
+    }
+}
+
 fn main(rt: HostRuntime) -> ExitCode {
-    let status = match job(&rt) {
-        Ok(job) => perform(&rt, &job),
+    let status = match words(&rt) {
+        Ok(words) => obey(&rt, &words),
         Err(error) => explain(&rt, &error),
     };
     tell(&rt, status);

@@ -2,6 +2,8 @@
 
 mod devices;
 mod memory;
+mod replay;
+mod seeds;
 mod telling;
 mod uses;
 mod words;

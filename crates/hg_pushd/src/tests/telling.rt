@@ -2,10 +2,10 @@
 //! `run_one` says of reads and writes is said of these. Where memory for what they tell is refused, the process ends.
 
 ghost use Rattle.std.specs.Prelude.{◌≡◌, ◌++◌, ◌∷◌, [], Some, None, map, option_map, unwrap_or};
-ghost use Rattle.hg_pushd.specs.Devices.{Gave, Failed, Took, Refused, Flushed, NotFlushed};
+ghost use Rattle.hg_devices.specs.Devices.{Gave, Failed, Took, Refused, Flushed, NotFlushed};
 ghost use Rattle.hg_pushd.specs.declared.tests.telling.Use.TheVariants.{Took as a_write, Refused as a_failed_write, Flushed as a_flush, NotFlushed as a_failed_flush};
 
-use crate::device::{Reader, Writer};
+use hg_devices::{Reader, Writer};
 use std::alloc::Global;
 use std::io::{Error, ErrorKind, Result};
 use std::process::Abort;

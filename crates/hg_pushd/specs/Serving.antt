@@ -1,0 +1,31 @@
+-- A repository that is served, from its seed to its report.
+use Rattle.std.specs.Prelude.{ℕ, ◌≡◌, Bool, Option, Some, None, Result, Ok, Err}
+use Rattle.hg_parts.specs.Repository.{Repository}
+use Rattle.hg_devices.specs.Devices.{Input, Output}
+use Rattle.hg_server.specs.Closing.{Ends}
+use Rattle.hg_pushd.specs.declared.seed.SeedFault.{SeedFault}
+use Rattle.hg_pushd.specs.declared.seed.SeedFault.TheVariants.{Aborted, ReadFailed, NoMemory}
+use Rattle.hg_pushd.specs.Answering.{empty_repository}
+use Rattle.hg_pushd.specs.Seeding.{Seeds}
+
+-- the repository before the first connection: the one that the seed gives, or the empty one
+abbrev pub Begins : {A : Type 0} → Bool → Option Input → Result (Repository A) SeedFault → Type 0
+Begins publishing None first = first ≡ Ok (empty_repository publishing)
+Begins publishing (Some input) first = (left : Input) × Seeds publishing input left first
+
+abbrev pub fault_status : SeedFault → ℕ
+fault_status Aborted = 1
+fault_status ReadFailed = 3
+fault_status NoMemory = 4
+
+-- Without a repository nothing is written, and the status says why. With one, it is served.
+abbrev pub EndsFrom : {A : Type 0} → Result (Repository A) SeedFault → Output → Output → ℕ → Type 0
+EndsFrom (Ok first) before after status = Ends first before after status
+EndsFrom (Err fault) before after status = (after ≡ before) × (status ≡ fault_status fault)
+
+-- A service from that seed, if there is one, wrote that report and has that status.
+pub record Serves (A : Type 0) (publishing : Bool) (seed : Option Input) (before after : Output)
+    (status : ℕ) : Type 0 where
+  pub first : Result (Repository A) SeedFault
+  pub begins : Begins publishing seed first
+  pub ends : EndsFrom first before after status

@@ -1,0 +1,56 @@
+//! What is told of a closed server: its report, and the journal.
+
+ghost use Rattle.std.specs.Prelude.{◌≡◌, ◌++◌, IfOk, OnOk};
+ghost use Rattle.std.specs.List.{flat_map};
+ghost use Rattle.hg_devices.specs.Sent.{Sends};
+ghost use Rattle.hg_server.specs.Closing.{closing_text, journal_line};
+
+use hg_devices::{Sending, Writer, send};
+use hg_repo::Repo;
+use hg_types::NoMemory;
+use std::alloc::Global;
+
+/// Writes the report of the repository, and behind it a line `J n` for each push of the journal. Says what
+/// became of it, and how many bytes the writer took.
+pub fn tell_closing<W: Writer>(
+    alloc: Global,
+    repo: &Repo,
+    journal: &[u32],
+    writer: &mut W,
+) -> (Sending, usize)
+    ensures { Sends result.0 result.1 (W.told writer.old) (W.told writer.new)
+        (closing_text repo.now journal.now) }
+{
+    match closing_text(alloc, repo, journal) {
+        Ok(text) => send(writer, &text),
+        Err(_) => (Sending::NoMemory, 0),
+    }
+}
+
+/// The report, and the lines of the journal.
+fn closing_text(alloc: Global, repo: &Repo, journal: &[u32]) -> Result<Vec<u8>, NoMemory>
+    ensures { IfOk result (λ text. text.items ≡ closing_text repo.now journal.now) }
+{
+    let mut text = repo.report()?;
+    add_lines(alloc, &mut text, journal)?;
+    Ok(text)
+}
+
+/// Adds a line for each push.
+fn add_lines(alloc: Global, text: &mut Vec<u8>, journal: &[u32]) -> Result<(), NoMemory>
+    ensures { OnOk result (text.new.items ≡ text.old.items ++ flat_map journal_line journal.now) }
+{
+    for push in journal {
+        add_line(alloc, text, *push)?;
+    }
+    Ok(())
+}
+
+/// Adds the line of a push.
+fn add_line(alloc: Global, text: &mut Vec<u8>, push: u32) -> Result<(), NoMemory>
+    ensures { OnOk result (text.new.items ≡ text.old.items ++ journal_line push) }
+{
+    let line = format!(in alloc; "J {push}\n")?;
+    text.extend_from_slice(line.as_bytes())?;
+    Ok(())
+}

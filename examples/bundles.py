@@ -1,0 +1,72 @@
+"""Bundles as a client of Mercurial's writes them, and the replies that the server writes to them."""
+import hashlib
+
+NULL = bytes(20)
+EMPTY = b"HG20" + bytes(8)
+
+
+def number(value):
+    return value.to_bytes(4, "big", signed=True)
+
+
+def part(kind, place, params=(), payload=b""):
+    """A part with mandatory parameters where its type is in capitals, and with advisory ones where not."""
+    count = bytes([len(params), 0]) if kind.isupper() else bytes([0, len(params)])
+    sizes = b"".join(bytes([len(key), len(value)]) for key, value in params)
+    texts = b"".join(key + value for key, value in params)
+    header = bytes([len(kind)]) + kind + number(place) + count + sizes + texts
+    chunk = number(len(payload)) + payload if payload else b""
+    return number(len(header)) + header + chunk + number(0)
+
+
+def bundle(*parts):
+    """The bundle of such parts, given without their places."""
+    numbered = (part(kind, place, params, payload) for place, (kind, params, payload) in enumerate(parts))
+    return b"HG20" + number(0) + b"".join(numbered) + number(0)
+
+
+def node_of(text, first=NULL, second=NULL):
+    return hashlib.sha1(min(first, second) + max(first, second) + text).digest()
+
+
+CAPS = (b"REPLYCAPS", (), b"")
+
+
+def heads(*nodes):
+    return (b"CHECK:HEADS", (), b"".join(nodes))
+
+
+def group(*entries):
+    """A changegroup of version 02. An entry is a changeset's text, a delta on null, and its first parent."""
+    chunks = b""
+    for text, parent in entries:
+        delta = number(0) + number(0) + number(len(text)) + text if text else b""
+        body = node_of(text, parent) + parent + NULL + NULL + node_of(text, parent) + delta
+        chunks += number(len(body) + 4) + body
+    return (b"CHANGEGROUP", ((b"version", b"02"),), chunks + bytes(12))
+
+
+def reply(kind, *params):
+    return bundle((kind, params, b""))
+
+
+def changesets(place, result):
+    """The reply to a changegroup at that place."""
+    return reply(b"reply:changegroup", (b"in-reply-to", b"%d" % place), (b"return", b"%d" % result))
+
+
+def aborted(message):
+    return reply(b"ERROR:ABORT", (b"message", message))
+
+
+RACED = reply(b"ERROR:PUSHRACED", (b"message", b"heads changed"))
+TRUNCATED = aborted(b"stream fault 10")
+FOREIGN = aborted(b"stream fault 1")
+
+ROOT = node_of(b"")
+FIRST_PUSH = bundle(CAPS, heads(NULL))
+NO_HEADS = bundle(heads())
+ROOT_PUSH = bundle(CAPS, group((b"", NULL)))
+ROOT_REPLY = changesets(1, 1)
+WRONG_HASH = ROOT_PUSH.replace(ROOT + NULL + NULL, ROOT[:-1] + b"\xdc" + NULL + NULL, 1)
+WRONG_REPLY = aborted(b"part 1 holds a bad changeset")
