@@ -1,0 +1,286 @@
+#!/usr/bin/env python3
+"""From a clause to all that stands behind it: prints docs/index.md from the sources.
+
+For each crate a table of the public functions, with the wrong bodies that turn each and the tests that run it;
+and one of the words that their clauses use: where a word is defined, which heading of the public standard its
+module states, and the functions that are promised by it.
+
+`index.py --check` compares docs/index.md with what it would print, and fails on a public function without a wrong
+body that no line of docs/index-exceptions.txt tells of, and on a word without a sentence in docs/definitions.md.
+"""
+
+import os
+import re
+import sys
+from collections import defaultdict
+
+ROOT = os.path.dirname(os.path.dirname(os.path.abspath(__file__)))
+
+FUNCTION = re.compile(r"^(\s*)(pub(?:\([a-z]+\))? )?(?:const )?fn (\w+)")
+WORD = re.compile(r"[A-Za-z_][\w']*")
+GHOST = re.compile(r"ghost use Rattle\.(hg_\w+)\.specs\.([\w.]+)\.\{([^}]*)\}")
+
+
+def read(path):
+    with open(path, encoding="utf-8") as file:
+        return file.read()
+
+
+def crates():
+    for line in read(f"{ROOT}/crates.txt").splitlines():
+        if line.strip() and not line.startswith("#"):
+            yield re.split(r"[ :]", line)[0]
+
+
+def files(folder, suffix):
+    for place, _, names in sorted(os.walk(folder)):
+        for name in sorted(names):
+            if name.endswith(suffix) and "/out/" not in f"{place}/":
+                yield os.path.join(place, name)
+
+
+class Function:
+    """A function of a crate: its signature with its clauses, and its body."""
+
+    def __init__(self, crate, path, name, public, head, body, start, end):
+        self.crate, self.path, self.name, self.public = crate, path, name, public
+        self.head, self.body, self.start, self.end = head, body, start, end
+        self.called = set(re.findall(r"\b[a-z]\w*\b", body))
+        self.is_test, self.is_given, self.of = False, False, ""
+
+    def is_law(self):
+        """Whether it does nothing but call other laws."""
+        inner = re.sub(r"//[^\n]*", "", self.body[self.body.find("{") + 1:self.body.rfind("}")])
+        return re.sub(r"\w+(::<[^()]*>)?\([^()]*\);?", "", inner).strip() == "" and self.clauses() != ""
+
+    def clauses(self):
+        """What stands behind `requires` and `ensures`."""
+        found = re.search(r"^\s*(requires|ensures)\b", self.head, re.M)
+        return self.head[found.start():] if found else ""
+
+
+def functions_of(crate, path):
+    """The functions of a file, in their order."""
+    text = read(path)
+    lines = text.split("\n")
+    offsets, place = [], 0
+    for line in lines:
+        offsets.append(place)
+        place += len(line) + 1
+    number, of = 0, ""
+    while number < len(lines):
+        if re.match(r"(unsafe )?impl\b", lines[number]):
+            named = lines[number].split(" for ")[-1].removeprefix("impl")
+            named = re.sub(r"^<.*?>+ (?=\w)", "", named.strip())
+            of = (re.search(r"\b([A-Z]\w*)", named) or [""])[0]
+        elif lines[number].startswith("}"):
+            of = ""
+        found = FUNCTION.match(lines[number])
+        if not found:
+            number += 1
+            continue
+        indent, first = found.group(1), number
+        # the body begins with the first line that ends with a brace at the signature's own depth
+        begin = first
+        while begin < len(lines) and not re.match(rf"^{indent}(\{{.*|.*[^=] \{{|.*\{{\}}|.*;)$", lines[begin]):
+            begin += 1
+        end = begin
+        if begin < len(lines) and not lines[begin].rstrip().endswith(("{}", "}", ";")):
+            while end + 1 < len(lines) and lines[end + 1] != f"{indent}}}":
+                end += 1
+            end += 1
+        head = "\n".join(lines[first:begin + 1])
+        body = "\n".join(lines[begin:end + 1])
+        stop = offsets[end + 1] if end + 1 < len(lines) else len(text)
+        function = Function(
+            crate, path, found.group(3), (found.group(2) or "").strip() == "pub", head, body, offsets[first], stop
+        )
+        function.of = of if indent else ""
+        function.is_test = any("#[test]" in line for line in lines[max(0, first - 3):first])
+        yield function
+        number = end + 1
+
+
+def edits_of(crate):
+    """The wrong bodies of a crate: name, file and the text that each replaces."""
+    folder = f"{ROOT}/crates/{crate}/must-fail"
+    for path in files(folder, ".edit"):
+        file, name = None, os.path.basename(path)[:-5]
+        text = read(path)
+        for part in re.split(r"^(?=file: |old: |new: )", text, flags=re.M):
+            if part.startswith("file: "):
+                file = part[6:].strip()
+            elif part.startswith("old: "):
+                yield name, f"{ROOT}/crates/{crate}/{file}", part[5:].rstrip("\n")
+
+
+def reached(function, by_name, seen=None):
+    """The function, and those that it calls and that its crate gives to nobody."""
+    seen = set() if seen is None else seen
+    if id(function) in seen:
+        return []
+    seen.add(id(function))
+    all_of_it = [function]
+    for name in sorted(function.called):
+        for callee in by_name.get(name, []):
+            if not callee.is_given and "/tests" not in callee.path:
+                all_of_it += reached(callee, by_name, seen)
+    return all_of_it
+
+
+def api(crate):
+    """The names that a crate gives out, and the modules that are open."""
+    text = ""
+    for name in ("lib.rt", "main.rt"):
+        if os.path.exists(f"{ROOT}/crates/{crate}/src/{name}"):
+            text += read(f"{ROOT}/crates/{crate}/src/{name}")
+    given = set()
+    for _, group in re.findall(r"^pub use ([\w:]*?)(\w+|\{[^}]*\});", text, re.M):
+        given |= set(re.findall(r"\w+", group))
+    return given, set(re.findall(r"^pub mod (\w+);", text, re.M)), "main.rt" in os.listdir(f"{ROOT}/crates/{crate}/src")
+
+
+def definitions(crate):
+    """Where each word of a crate's specs/ is defined: its module and the first sentence that stands before it."""
+    found = {}
+    for path in files(f"{ROOT}/crates/{crate}/specs", ".antt"):
+        module = os.path.relpath(path, f"{ROOT}/crates/{crate}/specs")[:-5].replace("/", ".")
+        before = []
+        for line in read(path).split("\n"):
+            line = line.strip()
+            if line.startswith("-- ") or line == "--":
+                before.append(line[3:])
+                continue
+            word = re.match(r"(?:abbrev |unfoldable )?pub (?:record |data )?([\w']+)|record pub ([\w']+)", line)
+            word = word and (word.group(1) or word.group(2))
+            if word and word not in ("mod", "record", "data", "unfoldable", "abbrev"):
+                found.setdefault(word, (module, " ".join(before)))
+            before = []
+    return found
+
+
+def standard():
+    """The heading of the public standard that each module of specs/ states."""
+    told = {}
+    for line in read(f"{ROOT}/tools/standard.txt").splitlines():
+        if line.strip() and not line.startswith("#"):
+            module, _, heading = line.partition(": ")
+            told[module.strip()] = heading.strip()
+    return told
+
+
+def exceptions():
+    told = {}
+    for line in read(f"{ROOT}/docs/index-exceptions.txt").splitlines():
+        if line.strip() and not line.startswith("#"):
+            function, _, why = line.partition(": ")
+            told[function.strip()] = why.strip()
+    return told
+
+
+def listed(names, most=3):
+    names = list(dict.fromkeys(names))
+    more = f" and {len(names) - most} more" if len(names) > most else ""
+    return ", ".join(f"`{name}`" for name in names[:most]) + more
+
+
+def main():
+    headings, excused, told_words = standard(), exceptions(), read(f"{ROOT}/docs/definitions.md")
+    out, missing = [], []
+    say = out.append
+    say("# From a clause to all that stands behind it")
+    say("")
+    say("Made by `tools/index.py` from the sources; `make test` compares it with them. For each crate the public")
+    say("functions, with the wrong bodies that turn each and the tests that run it; and the words that their clauses")
+    say("use, with the module of `specs/` that defines each, and the heading of the public standard that this module")
+    say("states. `docs/definitions.md` has a sentence on each word, `docs/wrong-bodies.md` one on each wrong body, and")
+    say("`docs/worked-examples.md` one on each example.")
+    known = {crate: definitions(crate) for crate in crates()}
+    for crate in crates():
+        every, imports = [], {}
+        for path in files(f"{ROOT}/crates/{crate}/src", ".rt"):
+            imports[path] = {}
+            for below, module, group in GHOST.findall(read(path)):
+                for entry in group.split(","):
+                    name, _, renamed = entry.strip().partition(" as ")
+                    if ".declared." not in f".{module}.":
+                        imports[path][(renamed or name).strip()] = (below, name.strip())
+            every += functions_of(crate, path)
+        by_name = defaultdict(list)
+        for function in every:
+            by_name[function.name].append(function)
+        turned = defaultdict(list)
+        for name, path, old in edits_of(crate):
+            place = read(path).find(old)
+            here = [function for function in every if function.path == path]
+            within = [function for function in here if function.start <= place < function.end]
+            # a constant or a type is turned for the whole file
+            for function in within or here:
+                turned[id(function)].append(name)
+        in_tests = [f for f in every if "/tests" in f.path]
+        runs = defaultdict(list)
+        for test in (f for f in in_tests if f.is_test):
+            called, left = set(), [test]
+            seen = {id(test)}
+            while left:
+                one = left.pop()
+                called |= one.called & set(by_name)
+                for name in one.called & set(by_name):
+                    for helper in by_name[name]:
+                        if "/tests" in helper.path and id(helper) not in seen:
+                            seen.add(id(helper))
+                            left.append(helper)
+            for name in called:
+                runs[name].append(test.name)
+        given, opened, is_program = api(crate)
+        public = []
+        for function in every:
+            module = os.path.relpath(function.path, f"{ROOT}/crates/{crate}/src").split("/")[0].removesuffix(".rt")
+            is_given = (function.of or function.name) in given or module in opened
+            function.is_given = function.public and "/tests" not in function.path and (is_given or is_program)
+            if function.is_given:
+                public.append(function)
+        say("")
+        say(f"## {crate}")
+        say("")
+        say("| function | wrong bodies | tests |")
+        say("|---|---|---|")
+        used = defaultdict(list)
+        for function in public:
+            names = [name for one in reached(function, by_name) for name in turned[id(one)]]
+            where = os.path.relpath(function.path, f"{ROOT}/crates/{crate}/src")
+            shown = f"{function.of}::{function.name}" if function.of else function.name
+            key = f"{crate} {shown}"
+            is_law = function.is_law() or where in ("law.rt", "laws.rt")
+            bodies = listed(names) or ("a law" if is_law else excused.get(key, ""))
+            if not bodies:
+                missing.append(f"{key} ({where}): no wrong body turns it")
+            say(f"| `{shown}` (`{where}`) | {bodies} | {listed(runs[function.name])} |")
+            for word in dict.fromkeys(WORD.findall(function.clauses())):
+                if word in imports[function.path]:
+                    used[imports[function.path][word]].append(shown)
+        if used:
+            say("")
+            say("| word | defined in | public standard | promises of |")
+            say("|---|---|---|---|")
+        for (below, word), names in sorted(used.items()):
+            module = known[below].get(word, ("", ""))[0]
+            heading = headings.get(f"{below} {module}", headings.get(below, ""))
+            if not re.search(rf"(?<![\w']){re.escape(word)}(?![\w'])", told_words):
+                missing.append(f"{below} {word} ({module}): no sentence in docs/definitions.md")
+            say(f"| `{word}` | `{below}` {module} | {heading} | {listed(names)} |")
+    text = "\n".join(out) + "\n"
+    if "--check" not in sys.argv[1:]:
+        print(text, end="")
+        print("\n".join(missing), file=sys.stderr)
+        return 0
+    for line in missing:
+        print(f"index: {line}")
+    is_same = read(f"{ROOT}/docs/index.md") == text
+    if not is_same:
+        print("index: docs/index.md is not what the sources give: python3 tools/index.py > docs/index.md")
+    return 0 if is_same and not missing else 1
+
+
+if __name__ == "__main__":
+    sys.exit(main())
