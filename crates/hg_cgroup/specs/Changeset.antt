@@ -25,7 +25,8 @@ header_size V02 = 100
 -- 01: node, p1, p2, link. 02: node, p1, p2, base, link. Then the delta data.
 abbrev pub changeset_bytes : {A : Type 0} → Version → Changeset A → List ℕ
 changeset_bytes V01 c = c.entry.node.0 ++ (c.entry.p1.0 ++ (c.entry.p2.0 ++ (c.link ++ c.entry.delta)))
-changeset_bytes V02 c = c.entry.node.0 ++ (c.entry.p1.0 ++ (c.entry.p2.0 ++ (c.entry.base.0 ++ (c.link ++ c.entry.delta))))
+changeset_bytes V02 c =
+    c.entry.node.0 ++ (c.entry.p1.0 ++ (c.entry.p2.0 ++ (c.entry.base.0 ++ (c.link ++ c.entry.delta))))
 
 -- the ids have twenty bytes, and all fits into a chunk
 pub record IsChangeset {A : Type 0} (version : Version) (c : Changeset A) : Type 0 where
@@ -60,13 +61,15 @@ IsBase V01 before entry = entry.base ≡ unwrap_or before entry.p1
 IsBase V02 before entry = Unit {0}
 
 -- whole changeset chunks, one after the other, and then that rest
-pub record AreChangesets {A : Type 0} (version : Version) (bytes : List ℕ) (changesets : List (Changeset A)) (rest : List ℕ) : Type 0 where
+pub record AreChangesets {A : Type 0} (version : Version) (bytes : List ℕ) (changesets : List (Changeset A))
+    (rest : List ℕ) : Type 0 where
   pub each : AllByRecursion (IsChangeset version) changesets
   pub bases : HasBases version (entries_of changesets)
   pub spelled : bytes ≡ flat_map chunk_bytes (map (changeset_bytes version) changesets) ++ rest
 
 -- the content spells that entry, behind one with that node where there is one
-pub record IsSpelled {A : Type 0} (version : Version) (before : Option Node) (content : List ℕ) (entry : Entry A) : Type 0 where
+pub record IsSpelled {A : Type 0} (version : Version) (before : Option Node) (content : List ℕ)
+    (entry : Entry A) : Type 0 where
   pub link : List ℕ
   pub node : length entry.node.0 ≡ 20
   pub p1 : length entry.p1.0 ≡ 20

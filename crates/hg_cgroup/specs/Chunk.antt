@@ -3,7 +3,8 @@ use Rattle.std.specs.Prelude.{◌≡◌, ◌⊎◌, ℕ, ℤ, pos, negsuc, ◌�
 use Rattle.std.specs.List.{AllByRecursion, flat_map}
 use Rattle.std.specs.Int.{w32, to_be_bytes, cast_unsigned}
 use Rattle.hg_cgroup.specs.declared.fault.GroupFault.{GroupFault}
-use Rattle.hg_cgroup.specs.declared.fault.GroupFault.TheVariants.{UnknownVersion, BadLength, ShortHeader, Truncated, Leftover, NoMemory}
+use Rattle.hg_cgroup.specs.declared.fault.GroupFault.TheVariants.{UnknownVersion, BadLength, ShortHeader}
+use Rattle.hg_cgroup.specs.declared.fault.GroupFault.TheVariants.{Truncated, Leftover, NoMemory}
 
 -- a signed number of 32 bits, its most significant byte first
 unfoldable pub length_bytes : ℤ → List ℕ

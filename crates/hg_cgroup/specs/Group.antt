@@ -28,7 +28,8 @@ pub record AreFiles (bytes : List ℕ) (files : List File) (rest : List ℕ) : T
   pub spelled : bytes ≡ flat_map file_bytes files ++ rest
 
 -- the payload is the changeset group, the manifest group, the files, one empty chunk, and then that rest
-pub record IsGroup {A : Type 0} (version : Version) (payload : List ℕ) (entries : List (Entry A)) (rest : List ℕ) : Type 0 where
+pub record IsGroup {A : Type 0} (version : Version) (payload : List ℕ) (entries : List (Entry A))
+    (rest : List ℕ) : Type 0 where
   pub changesets : List (Changeset A)
   pub manifests : List (List ℕ)
   pub files : List File
@@ -36,7 +37,8 @@ pub record IsGroup {A : Type 0} (version : Version) (payload : List ℕ) (entrie
   pub bases : HasBases version (entries_of changesets)
   pub each_manifest : AllByRecursion IsContent manifests
   pub each_file : AllByRecursion IsFile files
-  pub spelled : payload ≡ delta_group (map (changeset_bytes version) changesets) ++ (delta_group manifests ++ (flat_map file_bytes files ++ (empty_chunk ++ rest)))
+  pub spelled : payload ≡ delta_group (map (changeset_bytes version) changesets)
+      ++ (delta_group manifests ++ (flat_map file_bytes files ++ (empty_chunk ++ rest)))
   pub entries_are : entries ≡ entries_of changesets
 
 -- the bytes are the manifest group, the files, one empty chunk, and then that rest

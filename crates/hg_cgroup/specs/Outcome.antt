@@ -1,11 +1,13 @@
 -- A changegroup, read from left to right: its entries, or its first fault.
-use Rattle.std.specs.Prelude.{ℕ, zero, suc, ℤ, pos, negsuc, ◌-◌, List, [], ◌∷◌, length, take, drop, Option, Some, None, unwrap_or, Result, Ok, Err, nat_lt, nat_le, ◌==◌, if◌then◌else◌}
+use Rattle.std.specs.Prelude.{ℕ, zero, suc, ℤ, pos, negsuc, ◌-◌, List, [], ◌∷◌, length, take, drop, Option}
+use Rattle.std.specs.Prelude.{Some, None, unwrap_or, Result, Ok, Err, nat_lt, nat_le, ◌==◌, if◌then◌else◌}
 use Rattle.std.specs.Int.{w32, from_be_bytes, cast_signed}
 use Rattle.std.specs.Str.{bytes_eq}
 use Rattle.hg_types.specs.declared.node.Node.{Node}
 use Rattle.hg_types.specs.declared.entry.Entry.{Entry}
 use Rattle.hg_cgroup.specs.declared.fault.GroupFault.{GroupFault}
-use Rattle.hg_cgroup.specs.declared.fault.GroupFault.TheVariants.{UnknownVersion, BadLength, ShortHeader, Truncated, Leftover}
+use Rattle.hg_cgroup.specs.declared.fault.GroupFault.TheVariants.{UnknownVersion, BadLength, ShortHeader}
+use Rattle.hg_cgroup.specs.declared.fault.GroupFault.TheVariants.{Truncated, Leftover}
 use Rattle.hg_cgroup.specs.declared.version.Version.{Version}
 use Rattle.hg_cgroup.specs.declared.version.Version.TheVariants.{V01, V02}
 use Rattle.hg_cgroup.specs.Changeset.{name_of, header_size}
@@ -21,15 +23,18 @@ ReadChunk = Option (List ℕ) × List ℕ
 
 -- a content of that size, which is to have at least so many bytes
 unfoldable pub content_at : ℕ → ℕ → List ℕ → Result ReadChunk GroupFault
-content_at least size bytes = if nat_lt size least then Err ShortHeader else (if nat_lt (length bytes) size then Err Truncated else Ok (Some (take size bytes), drop size bytes))
+content_at least size bytes = if nat_lt size least then Err ShortHeader
+    else (if nat_lt (length bytes) size then Err Truncated else Ok (Some (take size bytes), drop size bytes))
 
 -- what is behind that length
 unfoldable pub sized_at : ℕ → ℤ → List ℕ → Result ReadChunk GroupFault
-sized_at least (pos size) bytes = if size == 0 then Ok (None, bytes) else (if nat_le size 4 then Err BadLength else content_at least (size - 4) bytes)
+sized_at least (pos size) bytes = if size == 0 then Ok (None, bytes)
+    else (if nat_le size 4 then Err BadLength else content_at least (size - 4) bytes)
 sized_at least (negsuc below) bytes = Err BadLength
 
 unfoldable pub chunk_at : ℕ → List ℕ → Result ReadChunk GroupFault
-chunk_at least bytes = if nat_lt (length bytes) 4 then Err Truncated else sized_at least (cast_signed w32 (from_be_bytes w32 (take 4 bytes))) (drop 4 bytes)
+chunk_at least bytes = if nat_lt (length bytes) 4 then Err Truncated
+    else sized_at least (cast_signed w32 (from_be_bytes w32 (take 4 bytes))) (drop 4 bytes)
 
 -- A group is the contents of its chunks, and the bytes behind the empty one.
 abbrev pub ReadGroup : Type 0
@@ -43,7 +48,8 @@ after_chunk (Some content, rest) others = others >>= λ group. Ok (content ∷ g
 -- of at most so many chunks
 unfoldable pub group_within : ℕ → ℕ → List ℕ → Result ReadGroup GroupFault
 group_within zero least bytes = Err Truncated
-group_within (suc most) least bytes = chunk_at least bytes >>= λ chunk. after_chunk chunk (group_within most least chunk.1)
+group_within (suc most) least bytes =
+    chunk_at least bytes >>= λ chunk. after_chunk chunk (group_within most least chunk.1)
 
 -- no chunk has fewer than four bytes, so there are no more of them than bytes
 unfoldable pub group_at : ℕ → List ℕ → Result ReadGroup GroupFault
@@ -57,7 +63,8 @@ after_name (Some name, rest) others = others
 -- the bytes behind at most so many files and the closing chunk
 unfoldable pub files_within : ℕ → List ℕ → Result (List ℕ) GroupFault
 files_within zero bytes = Err Truncated
-files_within (suc most) bytes = chunk_at 1 bytes >>= λ name. after_name name (group_at 1 name.1 >>= λ group. files_within most group.1)
+files_within (suc most) bytes =
+    chunk_at 1 bytes >>= λ name. after_name name (group_at 1 name.1 >>= λ group. files_within most group.1)
 
 unfoldable pub files_at : List ℕ → Result (List ℕ) GroupFault
 files_at bytes = files_within (length bytes) bytes
@@ -84,7 +91,8 @@ entry_of version before content = record {
 -- the entries of these contents, in order
 abbrev pub entries_behind : {A : Type 0} → Version → Option Node → List (List ℕ) → List (Entry A)
 entries_behind version before [] = []
-entries_behind version before (content ∷ contents) = entry_of version before content ∷ entries_behind version (Some (id_at 0 content)) contents
+entries_behind version before (content ∷ contents) =
+    entry_of version before content ∷ entries_behind version (Some (id_at 0 content)) contents
 
 -- the value, where the bytes have ended
 abbrev pub ended : {X : Type 0} → List ℕ → X → Result X GroupFault
@@ -100,7 +108,8 @@ entries_at version payload = do
   ended rest (entries_behind version None changesets.0)
 
 unfoldable pub version_at : List ℕ → Result Version GroupFault
-version_at name = if bytes_eq name (name_of V01) then Ok V01 else (if bytes_eq name (name_of V02) then Ok V02 else Err UnknownVersion)
+version_at name = if bytes_eq name (name_of V01) then Ok V01
+    else (if bytes_eq name (name_of V02) then Ok V02 else Err UnknownVersion)
 
 -- the entries of a changegroup, or its first fault
 unfoldable pub outcome_of : {A : Type 0} → List ℕ → List ℕ → Result (List (Entry A)) GroupFault

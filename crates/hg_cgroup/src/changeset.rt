@@ -1,6 +1,7 @@
 //! Changesets: a delta header, and delta data.
 
-ghost use Rattle.std.specs.Prelude.{◌≡◌, ◌≢◌, ◌≤◌, ◌<◌, ◌+◌, ◌++◌, List, ℕ, Option, length, map, IfOk, IfErr, unwrap_or};
+ghost use Rattle.std.specs.Prelude.{◌≡◌, ◌≢◌, ◌≤◌, ◌<◌, ◌+◌, ◌++◌, List, ℕ, Option, length, map, IfOk, IfErr};
+ghost use Rattle.std.specs.Prelude.{unwrap_or};
 ghost use Rattle.hg_types.specs.declared.node.Node.{Node};
 ghost use Rattle.hg_cgroup.specs.Chunk.{IsContent, empty_chunk, IsChunkFault};
 ghost use Rattle.hg_cgroup.specs.Changeset.{Changeset, AreChangesets, IsSpelled, entries_of, header_size};
@@ -60,8 +61,12 @@ pub fn read_changesets<A: Allocator + Copy>(
     version: Version,
     payload: &[u8],
 ) -> Result<(Seq<Entry<A>, A>, &[u8]), GroupFault>
-    ensures ok { IfOk result (λ read. (changesets : List (Changeset A)) × AreChangesets version payload.now changesets (empty_chunk ++ read.1.now) × (read.0 ≡ entries_of changesets)) }
-    ensures fault { IfErr result (λ fault. fault ≢ GroupFault.NoMemory → (changesets : List (Changeset A)) × (rest : List ℕ) × AreChangesets version payload.now changesets rest × IsChunkFault fault (header_size version) rest) }
+    ensures ok { IfOk result (λ read. (changesets : List (Changeset A))
+        × AreChangesets version payload.now changesets (empty_chunk ++ read.1.now)
+        × (read.0 ≡ entries_of changesets)) }
+    ensures fault { IfErr result (λ fault. fault ≢ GroupFault.NoMemory → (changesets : List (Changeset A))
+        × (rest : List ℕ) × AreChangesets version payload.now changesets rest
+        × IsChunkFault fault (header_size version) rest) }
 {
     let mut entries = Vec::new(alloc);
     let mut before = None;

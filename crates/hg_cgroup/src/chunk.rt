@@ -2,7 +2,7 @@
 
 ghost use Rattle.std.specs.Prelude.{◌≡◌, ◌≤◌, ◌<◌, ◌+◌, ◌++◌, ◌↔◌, length, IsSome, IfSome, IfOk, IfErr};
 ghost use Rattle.hg_cgroup.specs.Chunk.{length_bytes, empty_chunk, IsChunkFault};
-ghost use Rattle.hg_cgroup.specs.Read.{IsRead};
+ghost use Rattle.hg_cgroup.specs.code.Read.{IsRead};
 
 use crate::fault::GroupFault;
 
@@ -28,7 +28,8 @@ fn read_length(bytes: &[u8]) -> Option<(i32, &[u8])>
     Some((i32::from_be_bytes(*length), rest))
 }
 
-/// The chunk at the front, and the bytes behind it. A content is to have at least `least` bytes, else it is `ShortHeader`.
+/// The chunk at the front, and the bytes behind it. A content is to have at least `least` bytes, else it is
+/// `ShortHeader`.
 pub fn read_chunk(least: usize, bytes: &[u8]) -> Result<(Chunk<'_>, &[u8]), GroupFault>
     ensures chunk { IfOk result (λ read. IsRead least bytes.now read.0 read.1.now) }
     ensures shorter { IfOk result (λ read. length read.1.now < length bytes.now) }

@@ -6,8 +6,8 @@ ghost use Rattle.hg_cgroup.specs.declared.fault.GroupFault.TheVariants.{NoMemory
 use std::alloc::{AllocError, AllocFailed};
 use thiserror::Error;
 
-/// Why a changegroup gives no entries. After `UnknownVersion` the first faulty chunk decides, and of several faults of one chunk
-/// the lower number.
+/// Why a changegroup gives no entries. After `UnknownVersion` the first faulty chunk decides, and of several
+/// faults of one chunk the lower number.
 #[derive(Clone, Copy, Debug, PartialEq, Eq, Error)]
 pub enum GroupFault {
     /// 1: the version is neither `01` nor `02`.
@@ -16,7 +16,8 @@ pub enum GroupFault {
     /// 2: a chunk's length is 1 to 4, or negative.
     #[error("a chunk of the changegroup has a bad length")]
     BadLength,
-    /// 3: a changeset chunk's length gives fewer bytes than its header has, whether or not they are all there.
+    /// 3: a changeset chunk's length gives fewer bytes than its header has, whether or not they are all
+    /// there.
     #[error("a changeset of the changegroup is shorter than its header")]
     ShortHeader,
     /// 4: the bytes end before the closing chunk.

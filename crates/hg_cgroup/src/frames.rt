@@ -10,9 +10,11 @@ use crate::fault::GroupFault;
 
 /// The bytes behind a group.
 fn skip_group(bytes: &[u8]) -> Result<&[u8], GroupFault>
-    ensures ok { IfOk result (λ rest. (chunks : List (List ℕ)) × AreChunks bytes.now chunks (empty_chunk ++ rest.now)) }
+    ensures ok { IfOk result (λ rest. (chunks : List (List ℕ))
+        × AreChunks bytes.now chunks (empty_chunk ++ rest.now)) }
     ensures shorter { IfOk result (λ rest. length rest.now < length bytes.now) }
-    ensures fault { IfErr result (λ fault. (chunks : List (List ℕ)) × (rest : List ℕ) × AreChunks bytes.now chunks rest × IsChunkFault fault 1 rest) }
+    ensures fault { IfErr result (λ fault. (chunks : List (List ℕ)) × (rest : List ℕ)
+        × AreChunks bytes.now chunks rest × IsChunkFault fault 1 rest) }
 {
     let mut rest = bytes;
     loop {
@@ -25,7 +27,8 @@ fn skip_group(bytes: &[u8]) -> Result<&[u8], GroupFault>
 
 /// The bytes behind the files and the closing chunk.
 fn skip_files(bytes: &[u8]) -> Result<&[u8], GroupFault>
-    ensures ok { IfOk result (λ rest. (files : List File) × AreFiles bytes.now files (empty_chunk ++ rest.now)) }
+    ensures ok { IfOk result (λ rest. (files : List File)
+        × AreFiles bytes.now files (empty_chunk ++ rest.now)) }
     ensures fault { IfErr result (λ fault. BreaksAtFile bytes.now fault) }
 {
     let mut rest = bytes;

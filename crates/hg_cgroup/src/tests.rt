@@ -149,7 +149,8 @@ fn short_header(rt: HostRuntime) -> Result<(), Fail> {
     Ok(())
 }
 
-// In version 01 the first base is the first parent, and the next one the node before, whatever its own parent is.
+// In version 01 the first base is the first parent, and the next one the node before, whatever its own parent
+// is.
 #[test]
 fn bases_in_order(rt: HostRuntime) -> Result<(), Fail> {
     let payload = two_in_order(rt.alloc())?;
@@ -283,7 +284,8 @@ fn count_in<H: Allocator + Copy>(alloc: H, payload: &[u8]) -> Option<usize> {
     Some(entries.len())
 }
 
-// With manifests and files of more bytes than any of the heaps has, and without them: the same heaps are enough.
+// With manifests and files of more bytes than any of the heaps has, and without them: the same heaps are
+// enough.
 #[test]
 fn manifests_and_files_take_no_memory(rt: HostRuntime) -> Result<(), Fail> {
     let root = root(rt.alloc())?;
@@ -318,7 +320,8 @@ fn manifests_and_files_take_no_memory(rt: HostRuntime) -> Result<(), Fail> {
     Ok(())
 }
 
-// Over an ample heap memory is not refused, however many changesets come, and it keeps at most four times what came.
+// Over an ample heap memory is not refused, however many changesets come, and it keeps at most four times
+// what came.
 #[test]
 fn many_changesets_over_an_ample_heap(rt: HostRuntime) -> Result<(), Fail> {
     let heap = LocalHeap::new(rt.alloc(), 1 << 20)?;

@@ -9,7 +9,8 @@ use Rattle.hg_chunks.specs.declared.payload.Stage.{Stage}
 use Rattle.hg_chunks.specs.declared.payload.Stage.TheVariants as stage
 use Rattle.hg_chunks.specs.declared.payload.PayloadIn.{PayloadIn}
 use Rattle.hg_chunks.specs.Size.{size_bytes}
-use Rattle.hg_chunks.specs.Payload.{Item, item_bytes, item_data, IsItem, chunk_bytes, IsChunk, interruption, closing, IsOpen, IsBadSize, IsTooLarge}
+use Rattle.hg_chunks.specs.Payload.{Item, item_bytes, item_data, IsItem, chunk_bytes, IsChunk, interruption}
+use Rattle.hg_chunks.specs.Payload.{closing, IsOpen, IsBadSize, IsTooLarge}
 
 -- inside a chunk of which `left` bytes are still to come
 pub record IsInside (limit : ℕ) (got whole rest : List ℕ) (left : ℕ) : Type 0 where
@@ -22,7 +23,8 @@ pub record IsInside (limit : ℕ) (got whole rest : List ℕ) (left : ℕ) : Typ
   pub spelled : rest ≡ size_bytes (pos size) ++ part
   pub got_is : got ≡ whole ++ part
 
--- what stands at the end of the bytes where that fault is told; where memory is refused, the payload might have gone on
+-- what stands at the end of the bytes where that fault is told; where memory is refused, the payload might
+-- have gone on
 abbrev pub IsFault : ChunkFault → ℕ → List ℕ → List ℕ → Type 0
 IsFault BadSize limit whole rest = IsBadSize rest
 IsFault TooLarge limit whole rest = IsTooLarge limit whole rest
@@ -42,7 +44,8 @@ limit_of p = p.limit
 
 -- the reader has taken items with the data `whole`, and then `rest`, which begins with no whole item
 abbrev pub Holds : {A : Type 0} → PayloadIn A → List ℕ → List ℕ → Type 0
-Holds p whole rest = (length whole ≤ limit_of p) × (length p.size < 4) × IsAt p.stage (limit_of p) p.«data».items p.size whole rest
+Holds p whole rest = (length whole ≤ limit_of p) × (length p.size < 4)
+    × IsAt p.stage (limit_of p) p.«data».items p.size whole rest
 
 -- the bytes that the reader has taken in all: whole items, and then a rest that begins with no whole item
 pub record HasRead {A : Type 0} (p : PayloadIn A) (bytes : List ℕ) : Type 0 where
@@ -81,18 +84,22 @@ StopsAt More limit whole tail rest = (tail ≡ []) × IsOpen limit whole rest
 StopsAt Interrupt limit whole tail rest = (tail ≡ interruption) × (rest ≡ [])
 StopsAt Done limit whole tail rest = (tail ≡ []) × (rest ≡ closing)
 
--- From items with the data `whole` and then `rest` and `bytes`, the reader took these chunks and `tail`, and is left so.
-pub record Takes {A : Type 0} (p : PayloadIn A) (whole rest bytes tail after : List ℕ) (chunks : List (List ℕ)) : Type 0 where
+-- From items with the data `whole` and then `rest` and `bytes`, the reader took these chunks and `tail`, and
+-- is left so.
+pub record Takes {A : Type 0} (p : PayloadIn A) (whole rest bytes tail after : List ℕ)
+    (chunks : List (List ℕ)) : Type 0 where
   pub spelled : rest ++ bytes ≡ flat_map chunk_bytes chunks ++ (tail ++ after)
   pub each : AllByRecursion IsChunk chunks
   pub holds : Holds p (whole ++ flat_map (λ chunk. chunk) chunks) after
 
 -- the same, and it stopped there
 abbrev pub Stops : {A : Type 0} → Step → PayloadIn A → List ℕ → List ℕ → List ℕ → Type 0
-Stops step p whole rest bytes = (chunks : List (List ℕ)) × (tail : List ℕ) × (after : List ℕ) × Takes p whole rest bytes tail after chunks
+Stops step p whole rest bytes = (chunks : List (List ℕ)) × (tail : List ℕ) × (after : List ℕ)
+    × Takes p whole rest bytes tail after chunks
     × StopsAt step (limit_of p) (whole ++ flat_map (λ chunk. chunk) chunks) tail after
 
 -- the same, and it met a fault there
 abbrev pub Fails : {A : Type 0} → ChunkFault → PayloadIn A → List ℕ → List ℕ → List ℕ → Type 0
-Fails fault p whole rest bytes = (chunks : List (List ℕ)) × (after : List ℕ) × Takes p whole rest bytes [] after chunks
+Fails fault p whole rest bytes = (chunks : List (List ℕ)) × (after : List ℕ)
+    × Takes p whole rest bytes [] after chunks
     × IsFault fault (limit_of p) (whole ++ flat_map (λ chunk. chunk) chunks) after

@@ -2,13 +2,15 @@
 
 use thiserror::Error;
 
-/// What is wrong with a payload, at the first place where something is. The numbers are part of the interface.
+/// What is wrong with a payload, at the first place where something is. The numbers are part of the
+/// interface.
 #[derive(Clone, Copy, Debug, PartialEq, Eq, Error)]
 pub enum ChunkFault {
     /// A negative size that is not -1. It is told at the fourth byte of the size.
     #[error("a negative chunk size")]
     BadSize = 1,
-    /// The data so far and the new chunk together pass the limit. It is told at the fourth byte of the chunk's size.
+    /// The data so far and the new chunk together pass the limit. It is told at the fourth byte of the
+    /// chunk's size.
     #[error("a payload above its limit")]
     TooLarge = 2,
     /// A growth was refused, and the bytes that it was for were not taken.

@@ -14,7 +14,8 @@ pub fn one_size()
 
 /// Bytes are items and a rest in one way.
 pub fn one_reading()
-    ensures { (bytes : List ℕ) (a b : List Item) (x y : List ℕ) → Reads bytes a x → Reads bytes b y → (a ≡ b) × (x ≡ y) }
+    ensures { (bytes : List ℕ) (a b : List Item) (x y : List ℕ) → Reads bytes a x → Reads bytes b y → (a ≡ b)
+        × (x ≡ y) }
 {}
 
 /// Bytes begin with one whole payload at most, and it has one data.
@@ -30,5 +31,6 @@ pub fn what_is_written_is_a_payload()
 
 /// Any bytes are items and a rest that begins with no whole item.
 pub fn every_reading()
-    ensures { (bytes : List ℕ) → All (λ byte. byte < 256) bytes → (items : List Item) × (rest : List ℕ) × Reads bytes items rest }
+    ensures { (bytes : List ℕ) → All (λ byte. byte < 256) bytes → (items : List Item) × (rest : List ℕ)
+        × Reads bytes items rest }
 {}

@@ -1,6 +1,7 @@
 //! The reader of a payload, which takes the bytes in pieces, however they are cut.
 
-ghost use Rattle.std.specs.Prelude.{◌≡◌, ℕ, ◌+◌, ◌<◌, ◌≤◌, ◌++◌, ◌∷◌, [], List, length, take, Ok, Err, IfOk, IfErr};
+ghost use Rattle.std.specs.Prelude.{◌≡◌, ℕ, ◌+◌, ◌<◌, ◌≤◌, ◌++◌, ◌∷◌, [], List, length, take, Ok, Err, IfOk};
+ghost use Rattle.std.specs.Prelude.{IfErr};
 
 use crate::fault::{ChunkFault, Step};
 use crate::size::SizeField;
@@ -43,7 +44,8 @@ pub struct PayloadIn<A: Allocator = Global> {
 
 impl<A: Allocator + Copy> PayloadIn<A> {
     ghost use Rattle.hg_chunks.specs.Payload.{IsPayload};
-    ghost use Rattle.hg_chunks.specs.PayloadIn.{HasRead, Holds, Stops, Fails, Reading, Ended, HandedOut, Broken, phase_of, phase_after, limit_of};
+    ghost use Rattle.hg_chunks.specs.PayloadIn.{HasRead, Holds, Stops, Fails, Reading, Ended, HandedOut};
+    ghost use Rattle.hg_chunks.specs.PayloadIn.{Broken, phase_of, phase_after, limit_of};
 
     /// A reader that has taken nothing, of a payload with at most `limit` bytes of data. It takes no memory.
     pub fn new(alloc: A, limit: u32) -> Self
@@ -71,17 +73,23 @@ impl<A: Allocator + Copy> PayloadIn<A> {
         ensures some { IfOk result (λ r. phase_of self.old ≡ Reading → 0 < length piece.now → 0 < r.0) }
 
         // What was taken, and what the bytes hold where it stopped.
-        ensures ok { IfOk result (λ r. (whole rest : List ℕ) → Holds self.old whole rest → Stops r.1 self.new whole rest (take r.0 piece.now)) }
+        ensures ok { IfOk result (λ r. (whole rest : List ℕ) → Holds self.old whole rest →
+            Stops r.1 self.new whole rest (take r.0 piece.now)) }
         ensures err { IfErr result (λ fault. (place : ℕ) × (place ≤ length piece.now)
-            × ((whole rest : List ℕ) → Holds self.old whole rest → Fails fault self.new whole rest (take place piece.now))) }
-        ensures read { IfOk result (λ r. (bytes : List ℕ) → HasRead self.old bytes → HasRead self.new (bytes ++ take r.0 piece.now)) }
+            × ((whole rest : List ℕ) → Holds self.old whole rest →
+            Fails fault self.new whole rest (take place piece.now))) }
+        ensures read { IfOk result (λ r. (bytes : List ℕ) → HasRead self.old bytes →
+            HasRead self.new (bytes ++ take r.0 piece.now)) }
 
         // A fault stays, and so does the end.
         ensures phase { IfOk result (λ r. phase_of self.old ≡ Reading → phase_of self.new ≡ phase_after r.1) }
         ensures broken { IfErr result (λ fault. phase_of self.new ≡ Broken fault) }
-        ensures still_broken { (fault : ChunkFault) → phase_of self.old ≡ Broken fault → (result ≡ Err fault) × (self.new ≡ self.old) }
-        ensures still_ended { phase_of self.old ≡ Ended → (result ≡ Ok (0, Step.Done)) × (self.new ≡ self.old) }
-        ensures handed_out { phase_of self.old ≡ HandedOut → (result ≡ Ok (0, Step.Done)) × (self.new ≡ self.old) }
+        ensures still_broken { (fault : ChunkFault) → phase_of self.old ≡ Broken fault → (result ≡ Err fault)
+            × (self.new ≡ self.old) }
+        ensures still_ended { phase_of self.old ≡ Ended → (result ≡ Ok (0, Step.Done))
+            × (self.new ≡ self.old) }
+        ensures handed_out { phase_of self.old ≡ HandedOut → (result ≡ Ok (0, Step.Done))
+            × (self.new ≡ self.old) }
         ensures limit { limit_of self.new ≡ limit_of self.old }
     {
         match self.stage {
@@ -111,8 +119,10 @@ impl<A: Allocator + Copy> PayloadIn<A> {
     /// Takes a byte of a size, where the reader is at one.
     fn take_size_byte(&mut self, byte: u8) -> Result<Step, ChunkFault>
         requires { self.old.stage ≡ Stage.Size }
-        ensures ok { IfOk result (λ step. (whole rest : List ℕ) → Holds self.old whole rest → Stops step self.new whole rest (byte ∷ [])) }
-        ensures err { IfErr result (λ fault. (whole rest : List ℕ) → Holds self.old whole rest → Fails fault self.new whole rest (byte ∷ [])) }
+        ensures ok { IfOk result (λ step. (whole rest : List ℕ) → Holds self.old whole rest →
+            Stops step self.new whole rest (byte ∷ [])) }
+        ensures err { IfErr result (λ fault. (whole rest : List ℕ) → Holds self.old whole rest →
+            Fails fault self.new whole rest (byte ∷ [])) }
         ensures phase { IfOk result (λ step. phase_of self.new ≡ phase_after step) }
         ensures broken { IfErr result (λ fault. phase_of self.new ≡ Broken fault) }
         ensures limit { limit_of self.new ≡ limit_of self.old }
@@ -144,8 +154,10 @@ impl<A: Allocator + Copy> PayloadIn<A> {
     fn take_data(&mut self, left: Left, bytes: &[u8]) -> Result<(), ChunkFault>
         requires stage { self.old.stage ≡ Stage.Chunk left }
         requires within { length bytes.now ≤ left.bytes }
-        ensures ok { IfOk result (λ _. (whole rest : List ℕ) → Holds self.old whole rest → Stops Step.More self.new whole rest bytes.now) }
-        ensures err { IfErr result (λ fault. (whole rest : List ℕ) → Holds self.old whole rest → Fails fault self.new whole rest []) }
+        ensures ok { IfOk result (λ _. (whole rest : List ℕ) → Holds self.old whole rest →
+            Stops Step.More self.new whole rest bytes.now) }
+        ensures err { IfErr result (λ fault. (whole rest : List ℕ) → Holds self.old whole rest →
+            Fails fault self.new whole rest []) }
         ensures phase { IfOk result (λ _. phase_of self.new ≡ Reading) }
         ensures broken { IfErr result (λ fault. phase_of self.new ≡ Broken fault) }
         ensures limit { limit_of self.new ≡ limit_of self.old }
@@ -166,7 +178,8 @@ impl<A: Allocator + Copy> PayloadIn<A> {
     /// Hands out the data of the chunks, joined. The payload has ended, and it was not handed out before.
     pub fn take_payload(&mut self) -> Seq<u8, A>
         requires { phase_of self.old ≡ Ended }
-        ensures data { (whole rest : List ℕ) → Holds self.old whole rest → (result ≡ whole) × Holds self.new whole rest }
+        ensures data { (whole rest : List ℕ) → Holds self.old whole rest → (result ≡ whole)
+            × Holds self.new whole rest }
         ensures payload { (bytes : List ℕ) → HasRead self.old bytes → IsPayload bytes result }
         ensures phase { phase_of self.new ≡ HandedOut }
         ensures limit { limit_of self.new ≡ limit_of self.old }

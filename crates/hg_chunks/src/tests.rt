@@ -90,7 +90,8 @@ fn interrupted_payload_in_pieces(rt: HostRuntime) -> Result<(), Fail> {
     Ok(())
 }
 
-// The interrupted payload, cut into two at each place: where the first piece stops, and where the second does.
+// The interrupted payload, cut into two at each place: where the first piece stops, and where the second
+// does.
 #[test]
 fn interrupted_payload_cut_in_two(rt: HostRuntime) {
     for cut in 0..16usize {
@@ -224,7 +225,8 @@ struct Tally {
     ample: u32,
 }
 
-// The interrupted payload, byte by byte and whole, over heaps of every size: its data, or want of memory for good.
+// The interrupted payload, byte by byte and whole, over heaps of every size: its data, or want of memory for
+// good.
 #[test]
 fn memory_refused_to_the_reader(rt: HostRuntime) -> Result<(), Fail> {
     let mut tally = Tally {
@@ -321,8 +323,8 @@ fn greatest_payload(rt: HostRuntime) -> Result<(), Fail> {
     Ok(())
 }
 
-// Where memory is ample, a size takes none, whatever it announces, and data takes little more than came. A writer takes
-// little more than it writes.
+// Where memory is ample, a size takes none, whatever it announces, and data takes little more than came. A
+// writer takes little more than it writes.
 #[test]
 fn memory_follows_the_bytes(rt: HostRuntime) -> Result<(), Fail> {
     let heap = LocalHeap::new(rt.alloc(), 134_217_728)?;

@@ -1,6 +1,7 @@
 //! Sizes and payloads as bytes.
 
-ghost use Rattle.std.specs.Prelude.{◌≡◌, ◌<◌, ◌≤◌, ◌^◌, ◌++◌, ℕ, List, length, take, IfSome, IsSome, ◌↔◌, OnOk, OnErr};
+ghost use Rattle.std.specs.Prelude.{◌≡◌, ◌<◌, ◌≤◌, ◌^◌, ◌++◌, ℕ, List, length, take, IfSome, IsSome, ◌↔◌};
+ghost use Rattle.std.specs.Prelude.{OnOk, OnErr};
 ghost use Rattle.hg_chunks.specs.Size.{size_bytes};
 ghost use Rattle.hg_chunks.specs.Payload.{payload_bytes};
 
@@ -27,7 +28,8 @@ pub fn read_i32(bytes: &[u8]) -> Option<i32>
     }
 }
 
-/// Appends a payload of that data: one chunk where there is any, and the closing size. Where memory is refused, `out` is as before.
+/// Appends a payload of that data: one chunk where there is any, and the closing size. Where memory is
+/// refused, `out` is as before.
 pub fn write_payload<A: Allocator>(out: &mut Vec<u8, A>, bytes: &[u8]) -> Result<(), NoMemory>
     requires { length bytes.now < 2 ^ 31 }
     ensures ok { OnOk result (out.new.items ≡ out.old.items ++ payload_bytes bytes.now) }

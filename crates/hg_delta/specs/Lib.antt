@@ -1,4 +1,4 @@
 pub mod Delta
 pub mod Faults
 pub mod Outcome
-pub mod View
+pub mod code

@@ -1,5 +1,6 @@
 -- A delta, read from left to right: its text, or its first fault.
-use Rattle.std.specs.Prelude.{◌≡◌, ℕ, zero, suc, List, [], ◌∷◌, ◌++◌, length, take, drop, Result, Ok, Err, nat_lt, if◌then◌else◌}
+use Rattle.std.specs.Prelude.{◌≡◌, ℕ, zero, suc, List, [], ◌∷◌, ◌++◌, length, take, drop, Result, Ok, Err}
+use Rattle.std.specs.Prelude.{nat_lt, if◌then◌else◌}
 use Rattle.std.specs.Int.{w32, from_be_bytes}
 use Rattle.hg_delta.specs.declared.fault.DeltaFault.{DeltaFault}
 use Rattle.hg_delta.specs.declared.fault.DeltaFault.TheVariants.{Short, Backwards, PastEnd, TooLong, NoMemory}
@@ -14,7 +15,8 @@ abbrev pub ◌>>=◌ : {X Y : Type 0} → Result X DeltaFault → (X → Result 
 abbrev pub number_at : ℕ → List ℕ → ℕ
 number_at place bytes = from_be_bytes w32 (take 4 (drop place bytes))
 
--- Behind a header of these numbers: the hunk and the bytes behind it, in a base of that size and behind a hunk that ends at `before`.
+-- Behind a header of these numbers: the hunk and the bytes behind it, in a base of that size and behind a
+-- hunk that ends at `before`.
 unfoldable pub hunk_headed : ℕ → ℕ → ℕ → ℕ → ℕ → List ℕ → Result (Hunk × List ℕ) DeltaFault
 hunk_headed size before start end wanted more =
     if nat_lt start before then Err Backwards else
@@ -38,7 +40,8 @@ text_within (suc most) base before (byte ∷ bytes) = do
   text ← text_within most base x.0.end x.1
   Ok (piece_of base (before, x.0) ++ text)
 
--- What a delta gives of a base, where the text may have `most` bytes. No hunk is without bytes, so there are no more hunks than bytes.
+-- What a delta gives of a base, where the text may have `most` bytes. No hunk is without bytes, so there are
+-- no more hunks than bytes.
 unfoldable pub outcome_of : List ℕ → List ℕ → ℕ → Result (List ℕ) DeltaFault
 outcome_of base delta most = do
   text ← text_within (length delta) base 0 delta

@@ -3,7 +3,7 @@
 ghost use Rattle.std.specs.Prelude.{◌≡◌, ◌≤◌, ◌<◌, ◌++◌, ◌+◌, ◌↔◌, length, IfOk, IfErr, IfSome, IsSome};
 ghost use Rattle.hg_delta.specs.Delta.{number_bytes, hunk_bytes, IsPlaced};
 ghost use Rattle.hg_delta.specs.Faults.{HasHeader, IsHunkFault};
-ghost use Rattle.hg_delta.specs.View.{view};
+ghost use Rattle.hg_delta.specs.code.View.{view};
 
 use crate::fault::DeltaFault;
 
@@ -36,7 +36,8 @@ fn read_number(bytes: &[u8]) -> Option<(u32, &[u8])>
 /// The header that the first twelve bytes are, and the bytes behind it.
 fn read_header(bytes: &[u8]) -> Option<(Header, &[u8])>
     ensures some { IsSome result ↔ (12 ≤ length bytes.now) }
-    ensures header { IfSome result (λ read. HasHeader bytes.now read.0.start read.0.end read.0.length read.1.now) }
+    ensures header { IfSome result
+        (λ read. HasHeader bytes.now read.0.start read.0.end read.0.length read.1.now) }
     ensures length { IfSome result (λ read. length bytes.now ≡ 12 + length read.1.now) }
 {
     let (start, rest) = read_number(bytes)?;
@@ -50,8 +51,8 @@ fn read_header(bytes: &[u8]) -> Option<(Header, &[u8])>
     Some((header, rest))
 }
 
-/// The hunk at the front of what is left of a delta, and the bytes behind it. It lies in a base of `size` bytes, behind a hunk
-/// that ends at `before`.
+/// The hunk at the front of what is left of a delta, and the bytes behind it. It lies in a base of `size`
+/// bytes, behind a hunk that ends at `before`.
 pub fn read_hunk(size: usize, before: usize, delta: &[u8]) -> Result<(Hunk<'_>, &[u8]), DeltaFault>
     requires { 0 < length delta.now }
     ensures placed { IfOk result (λ read. IsPlaced size before (view read.0)) }

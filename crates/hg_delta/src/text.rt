@@ -1,6 +1,7 @@
 //! The text that a delta makes of a base.
 
-ghost use Rattle.std.specs.Prelude.{ℕ, ◌≡◌, ◌≢◌, ◌≤◌, List, [], ◌++◌, length, IfOk, IfErr, IsErrOf, OnOk, Result};
+ghost use Rattle.std.specs.Prelude.{ℕ, ◌≡◌, ◌≢◌, ◌≤◌, List, [], ◌++◌, length, IfOk, IfErr, IsErrOf, OnOk};
+ghost use Rattle.std.specs.Prelude.{Result};
 ghost use Rattle.hg_types.specs.Bytes.{IsBytes};
 ghost use Rattle.hg_delta.specs.declared.fault.DeltaFault.{DeltaFault};
 ghost use Rattle.hg_delta.specs.Delta.{Applies};
@@ -13,7 +14,8 @@ use std::alloc::Allocator;
 
 /// How long the text is.
 fn text_length(base: &[u8], delta: &[u8]) -> Result<usize, DeltaFault>
-    ensures length { IfOk result (λ n. (text : List ℕ) × Applies base.now delta.now text × (n ≡ length text)) }
+    ensures length { IfOk result (λ n. (text : List ℕ) × Applies base.now delta.now text
+        × (n ≡ length text)) }
     ensures fault { IfErr result (λ fault. BreaksAt fault base.now delta.now) }
 {
     let mut length = 0;
@@ -54,9 +56,9 @@ fn write_text<A: Allocator + Copy>(
 /// The text that the delta makes of the base: the kept pieces of the base and the contents of the hunks, in
 /// order. The text may have up to `max` bytes.
 ///
-/// The first faulty hunk decides a fault; within it, of several, the one that comes first of: a header that is short,
-/// `Backwards`, `PastEnd`, a content that is short. `TooLong` is answered only where every hunk is well formed, and
-/// no memory is asked for before that is known.
+/// The first faulty hunk decides a fault; within it, of several, the one that comes first of: a header that
+/// is short, `Backwards`, `PastEnd`, a content that is short. `TooLong` is answered only where every hunk is
+/// well formed, and no memory is asked for before that is known.
 pub fn apply<A: Allocator + Copy>(
     alloc: A,
     base: &[u8],
@@ -66,7 +68,8 @@ pub fn apply<A: Allocator + Copy>(
     ensures text { IfOk result (λ text. Applies base.now delta.now text.items) }
     ensures fits { IfOk result (λ text. length text.items ≤ max) }
     ensures short { IsErrOf result DeltaFault.Short → BreaksAt DeltaFault.Short base.now delta.now }
-    ensures backwards { IsErrOf result DeltaFault.Backwards → BreaksAt DeltaFault.Backwards base.now delta.now }
+    ensures backwards { IsErrOf result DeltaFault.Backwards →
+        BreaksAt DeltaFault.Backwards base.now delta.now }
     ensures past_end { IsErrOf result DeltaFault.PastEnd → BreaksAt DeltaFault.PastEnd base.now delta.now }
     ensures too_long { IsErrOf result DeltaFault.TooLong → GivesTooMuch base.now delta.now max }
     // So it is what reading from left to right gives, unless memory is refused.
@@ -81,12 +84,15 @@ pub fn apply<A: Allocator + Copy>(
     Ok(text)
 }
 
-/// A delta gives one text of a base, or has one fault: whatever is an outcome of it by the definitions is the same.
+/// A delta gives one text of a base, or has one fault: whatever is an outcome of it by the definitions is the
+/// same.
 pub fn one_outcome()
-    ensures { (base delta : List ℕ) (most : ℕ) (a b : Result (List ℕ) DeltaFault) → IsOutcome base delta most a → IsOutcome base delta most b → a ≡ b }
+    ensures { (base delta : List ℕ) (most : ℕ) (a b : Result (List ℕ) DeltaFault) →
+        IsOutcome base delta most a → IsOutcome base delta most b → a ≡ b }
 {}
 
 /// A delta of bytes has an outcome: what reading it from left to right gives. So that is the one it has.
 pub fn every_delta_has_an_outcome()
-    ensures { (base delta : List ℕ) (most : ℕ) → IsBytes delta → IsOutcome base delta most (outcome_of base delta most) }
+    ensures { (base delta : List ℕ) (most : ℕ) → IsBytes delta →
+        IsOutcome base delta most (outcome_of base delta most) }
 {}

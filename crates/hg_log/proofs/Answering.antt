@@ -104,7 +104,7 @@ unknown_is rows node unknown = by (text_by_id rows node) (text_tells rows node)
     by (Some text) tells = absurd (unknown (base_known rows node text tells))
     by None tells = refl
 
-is_known-Decides : (rows : List Changeset) (node : List ℕ) → Decides (is_known rows node) (IsKnown rows node)
+pub is_known-Decides : (rows : List Changeset) (node : List ℕ) → Decides (is_known rows node) (IsKnown rows node)
 is_known-Decides rows node = by (text_by_id rows node) (text_tells rows node)
   where
     by : (o : Option (List ℕ)) → TellsBase rows node o → Decides (is_some o) (IsKnown rows node)

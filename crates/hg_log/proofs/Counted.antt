@@ -5,8 +5,8 @@ use Rattle.std.proofs.lemmas.List.Sums.{sum_by-cons, sum_by_push}
 use Rattle.std.proofs.lemmas.Bool.{cases_eq, eq-eqb, ne_eqb, cases_Bool}
 use Rattle.std.proofs.lemmas.Option.{slice_get_within}
 use Rattle.hg_log.specs.declared.graph.Parents.{Parents}
-use Rattle.hg_log.specs.Graph.{HasParent, AreEarlier, AllAreEarlier, AreCounted, is_named, times_named}
-use Rattle.hg_log.specs.ChildCounts.{one_more, one_less}
+use Rattle.hg_log.specs.code.Graph.{HasParent, AreEarlier, AllAreEarlier, AreCounted, is_named, times_named}
+use Rattle.hg_log.specs.code.ChildCounts.{one_more, one_less}
 use Rattle.hg_log.proofs.Lists.{slice_get_front, slice_get_last, slice_get_pushed}
 
 children : ℕ → Parents → ℕ

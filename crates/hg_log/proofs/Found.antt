@@ -5,9 +5,9 @@ use Rattle.std.proofs.Common.{arith}
 use Rattle.std.proofs.lemmas.Bool.{cases_eq}
 use Rattle.std.proofs.lemmas.Option.{slice_get_within}
 use Rattle.hg_log.specs.declared.graph.Parents.{Parents}
-use Rattle.hg_log.specs.Graph.{HasParent, Reaches, AllAreEarlier}
-use Rattle.hg_log.specs.Graph.Reaches.{itself, of_parent}
-use Rattle.hg_log.specs.Marks.{IsMarked, AreMarked}
+use Rattle.hg_log.specs.code.Graph.{HasParent, Reaches, AllAreEarlier}
+use Rattle.hg_log.specs.code.Graph.Reaches.{itself, of_parent}
+use Rattle.hg_log.specs.code.Marks.{IsMarked, AreMarked}
 
 -- ---- marks
 

@@ -19,10 +19,10 @@ use Rattle.hg_log.specs.declared.graph.Parents.{Parents}
 use Rattle.hg_log.specs.Changeset.{Changeset}
 use Rattle.hg_log.specs.Rows.{AreLawful}
 use Rattle.hg_log.specs.Ancestors.{IsParent}
-use Rattle.hg_log.specs.Graph.{HasParent, AreChildless}
+use Rattle.hg_log.specs.code.Graph.{HasParent, AreChildless}
 use Rattle.hg_log.specs.Parents.{parents_of, IsParentIn}
 use Rattle.hg_log.specs.HeadCount.{is_number, names, is_childless, is_head, head_revs}
-use Rattle.hg_log.specs.Inside.{IsWhole}
+use Rattle.hg_log.specs.code.Inside.{IsWhole}
 use Rattle.hg_log.proofs.ParentLemmas.{parent_is, is_parent}
 use Rattle.hg_log.proofs.Wholes.{by_number, by_id}
 

@@ -15,9 +15,9 @@ use Rattle.hg_types.specs.NullId.{null_id}
 use Rattle.hg_log.specs.declared.graph.Parents.{Parents}
 use Rattle.hg_log.specs.Changeset.{Changeset}
 use Rattle.hg_log.specs.Rows.{HasNode}
-use Rattle.hg_log.specs.Graph.{HasParent, AreChildless}
+use Rattle.hg_log.specs.code.Graph.{HasParent, AreChildless}
 use Rattle.hg_log.specs.Heads.{IsHead, AreHeadsOf, AreHeads, ids}
-use Rattle.hg_log.specs.Inside.{IsWhole}
+use Rattle.hg_log.specs.code.Inside.{IsWhole}
 use Rattle.hg_log.proofs.RowLemmas.{has_within, same_rev, unnamed, no_parent}
 use Rattle.hg_log.proofs.Wholes.{by_number, by_id, parent_earlier}
 

@@ -2,7 +2,7 @@
 use Rattle.std.proofs.Common.{◌≡◌, ◌≢◌, ◌↔◌, ℕ, ◌+◌, ◌-◌, ◌<◌, ◌≤◌, ◌^◌, List, [], ◌∷◌, ◌++◌, length, take, set, Contains, AllPairs, get_or, slice_index, refl, sym, ap, ◌∙◌, subst, ⊎_elim, arith, length-append}
 use Rattle.std.proofs.lemmas.List.{length-set, length-take-le, get_or-set_same, get_or-set_other, get_or-take, get_or_append_left, get_or_push, length_push, set_at, take-set, get_or_default}
 use Rattle.std.proofs.lemmas.Bool.{cases_eq, cases_lt}
-use Rattle.hg_log.specs.ChildCounts.{AreInverse, AreExchanged, AreKept}
+use Rattle.hg_log.specs.code.ChildCounts.{AreInverse, AreExchanged, AreKept}
 
 -- two rows at one place are one row
 same_row : (order places : List ℕ) (a b : ℕ) → AreInverse order places → a < length order → b < length order → slice_index places a ≡ slice_index places b → a ≡ b

@@ -15,5 +15,6 @@ mod HeadLemmas
 mod HeadLists
 mod Outcomes
 mod Answering
+mod Staying
 mod AncestorLaws
 pub mod CallerLemmas

@@ -11,7 +11,7 @@ use Rattle.hg_types.specs.declared.node.Node.{Node}
 use Rattle.hg_types.specs.contracts.node.NodePartialEq.TheImpl as eq
 use Rattle.hg_log.specs.declared.changelog.Row.{Row}
 use Rattle.hg_log.specs.Changeset.{Changeset}
-use Rattle.hg_log.specs.Inside.{changeset, rows_of}
+use Rattle.hg_log.specs.code.Inside.{changeset, rows_of}
 use Rattle.hg_log.specs.Rows.{HasNode, LacksNode}
 
 -- an entry, where one is found

@@ -19,7 +19,7 @@ use Rattle.hg_log.specs.Ancestors.IsAncestor.{itself as same_row, of_parent as b
 use Rattle.hg_log.specs.Parents.{rev_of, parents_in, parents_of, IsParentIn, AreOrdered, Leads, some_leads}
 use Rattle.hg_log.specs.Parents.{leads_within, leads, is_ancestor}
 use Rattle.hg_log.specs.Parents.Leads.{itself, of_parent}
-use Rattle.hg_log.specs.Inside.{IsAt, AreParentsOf}
+use Rattle.hg_log.specs.code.Inside.{IsAt, AreParentsOf}
 use Rattle.hg_log.proofs.Lists.{slice_get_take}
 use Rattle.hg_log.proofs.RowLemmas.{has_within, has_taken, lawful_taken, not_null}
 

@@ -10,9 +10,9 @@ use Rattle.hg_log.specs.Changeset.{Changeset}
 use Rattle.hg_log.specs.Rows.{HasNode, LacksNode, IsKnown, IsEarlier}
 use Rattle.hg_log.specs.Ancestors.{IsParent, IsAncestor}
 use Rattle.hg_log.specs.Ancestors.IsAncestor.{itself, of_parent}
-use Rattle.hg_log.specs.Graph.{HasParent, Reaches, AreEarlier}
-use Rattle.hg_log.specs.Graph.Reaches.{itself as itself_by_number, of_parent as of_parent_by_number}
-use Rattle.hg_log.specs.Inside.{IsAt, AreParentsOf, IsWhole}
+use Rattle.hg_log.specs.code.Graph.{HasParent, Reaches, AreEarlier}
+use Rattle.hg_log.specs.code.Graph.Reaches.{itself as itself_by_number, of_parent as of_parent_by_number}
+use Rattle.hg_log.specs.code.Inside.{IsAt, AreParentsOf, IsWhole}
 use Rattle.hg_log.proofs.Lists.{slice_get_pushed, slice_get_kept, slice_get_in}
 use Rattle.hg_log.proofs.RowLemmas.{has_pushed, has_taken, lawful_pushed, lawful_taken, same_rev, not_null}
 

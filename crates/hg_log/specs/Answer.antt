@@ -1,5 +1,6 @@
 -- The answer to an entry and the log after it, as values.
-use Rattle.std.specs.Prelude.{ℕ, Bool, not, ◌&&◌, List, [], length, find, Option, Some, is_some, option_map, ok_or, Result, Ok, Err, nat_le, bytes_eq, if◌then◌else◌}
+use Rattle.std.specs.Prelude.{ℕ, Bool, not, ◌&&◌, List, [], length, find, Option, Some, is_some, option_map}
+use Rattle.std.specs.Prelude.{ok_or, Result, Ok, Err, nat_le, bytes_eq, if◌then◌else◌}
 use Rattle.hg_types.specs.declared.entry.Entry.{Entry}
 use Rattle.hg_types.specs.NullId.{null_id}
 use Rattle.hg_delta.specs.declared.fault.DeltaFault.{DeltaFault}
@@ -7,7 +8,8 @@ use Rattle.hg_delta.specs.Outcome.{outcome_of}
 use Rattle.hg_log.specs.declared.add.Added.{Added}
 use Rattle.hg_log.specs.declared.add.Added.TheVariants.{New, Known}
 use Rattle.hg_log.specs.declared.add.AddFault.{AddFault}
-use Rattle.hg_log.specs.declared.add.AddFault.TheVariants.{UnknownParent, UnknownBase, Delta, HashMismatch, TooMany}
+use Rattle.hg_log.specs.declared.add.AddFault.TheVariants.{UnknownParent, UnknownBase, Delta, HashMismatch}
+use Rattle.hg_log.specs.declared.add.AddFault.TheVariants.{TooMany}
 use Rattle.hg_log.specs.NodeId.{node_id_of}
 use Rattle.hg_log.specs.Changeset.{Changeset, Log}
 use Rattle.hg_log.specs.Add.{row_of, with_row}
@@ -23,7 +25,8 @@ row_by_id rows node = find (λ row. bytes_eq row.node node) rows
 
 -- the text of an id: the null id has the empty one, another has that of its row
 unfoldable pub text_by_id : List Changeset → List ℕ → Option (List ℕ)
-text_by_id rows node = if bytes_eq node null_id then Some [] else option_map (λ row. row.text) (row_by_id rows node)
+text_by_id rows node = if bytes_eq node null_id then Some []
+    else option_map (λ row. row.text) (row_by_id rows node)
 
 -- an id is known where it has a text
 abbrev pub is_known : List Changeset → List ℕ → Bool
@@ -60,4 +63,5 @@ answered log (Err fault) = (Err fault, log)
 
 -- The answer to an entry and the log after it, memory apart.
 unfoldable pub answer_of : {A : Type 0} → Log → Entry A → Result Added AddFault × Log
-answer_of log entry = if is_known log.rows entry.node.0 then (Ok Known, log) else answered log (new_row log entry)
+answer_of log entry = if is_known log.rows entry.node.0 then (Ok Known, log)
+    else answered log (new_row log entry)

@@ -5,9 +5,6 @@ pub mod Ancestors
 pub mod Parents
 pub mod Heads
 pub mod HeadCount
-pub mod ChildCounts
-pub mod Graph
-pub mod Marks
-pub mod Inside
 pub mod Add
 pub mod Answer
+pub mod code

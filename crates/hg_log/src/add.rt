@@ -1,13 +1,14 @@
 //! Adding a changeset: what can be wrong with it, and how it becomes a row.
 
-ghost use Rattle.std.specs.Prelude.{◌≡◌, ◌≢◌, ◌<◌, IfOk, IfErr, OnErr, IfSome, IfNone, IsTrue, ◌↔◌, Ok, Err, Result, length};
+ghost use Rattle.std.specs.Prelude.{◌≡◌, ◌≢◌, ◌<◌, IfOk, IfErr, OnErr, IfSome, IfNone, IsTrue, ◌↔◌, Ok, Err};
+ghost use Rattle.std.specs.Prelude.{Result, length};
 ghost use Rattle.hg_types.specs.declared.entry.Entry.{Entry};
 ghost use Rattle.hg_types.specs.Bytes.{IsBytes};
 ghost use Rattle.hg_log.specs.declared.add.Added.{Added};
 ghost use Rattle.hg_log.specs.declared.add.AddFault.{AddFault};
 ghost use Rattle.hg_log.specs.Changeset.{Log};
 ghost use Rattle.hg_log.specs.Rows.{IsKnown, AreLawful};
-ghost use Rattle.hg_log.specs.Inside.{IsAt};
+ghost use Rattle.hg_log.specs.code.Inside.{IsAt};
 ghost use Rattle.hg_log.specs.Add.{IsAnswer, IsBase, HasParentsIn, HasOutcome, Leaves, Agrees, told_as};
 ghost use Rattle.hg_log.specs.Answer.{text_of, answer_of};
 
@@ -63,7 +64,8 @@ impl From<DeltaFault> for AddFault {
 }
 
 impl<A: Allocator + Copy> Changelog<A> {
-    /// Adds the changeset of an entry, unless its id is known. The log is unchanged but where the answer is `New`.
+    /// Adds the changeset of an entry, unless its id is known. The log is unchanged but where the answer is
+    /// `New`.
     ///
     /// `NoMemory` may stand in place of any other answer where a growth was refused.
     pub fn add(&mut self, entry: &Entry<A>) -> Result<Added, AddFault>
@@ -100,8 +102,10 @@ impl<A: Allocator + Copy> Changelog<A> {
     fn parents_of(&self, entry: &Entry<A>) -> Result<Parents, AddFault>
         requires { ¬ (IsKnown self.now.rows entry.now.node.0) }
         ensures known { IfOk result (λ _. HasParentsIn self.now.rows entry.now) }
-        ensures p1 { IfOk result (λ parents. IsAt self.now.rows (length self.now.rows) entry.now.p1.0 parents.p1) }
-        ensures p2 { IfOk result (λ parents. IsAt self.now.rows (length self.now.rows) entry.now.p2.0 parents.p2) }
+        ensures p1 { IfOk result (λ parents. IsAt self.now.rows
+            (length self.now.rows) entry.now.p1.0 parents.p1) }
+        ensures p2 { IfOk result (λ parents. IsAt self.now.rows
+            (length self.now.rows) entry.now.p2.0 parents.p2) }
         ensures fault { IfErr result (λ fault. IsAnswer self.now entry.now (Err fault) self.now) }
         ensures value { IfErr result (λ fault. (Err fault, self.now) ≡ answer_of self.now entry.now) }
     {
@@ -143,7 +147,8 @@ impl<A: Allocator + Copy> Changelog<A> {
     fn text_of(&self, entry: &Entry<A>) -> Result<Seq<u8, A>, AddFault>
         requires { HasParentsIn self.now.rows entry.now }
         ensures text { IfOk result (λ text. HasOutcome self.now entry.now (Ok text)) }
-        ensures fault { IfErr result (λ fault. fault ≢ AddFault.NoMemory → IsAnswer self.now entry.now (Err fault) self.now) }
+        ensures fault { IfErr result (λ fault. fault ≢ AddFault.NoMemory →
+            IsAnswer self.now entry.now (Err fault) self.now) }
         ensures value { result ≢ Err AddFault.NoMemory → result ≡ text_of self.now entry.now }
     {
         let Some(base) = self.base(&entry.base) else {
@@ -164,17 +169,31 @@ fn agrees<A: Allocator>(entry: &Entry<A>, text: &[u8]) -> bool
     node_id(&entry.p1, &entry.p2, text) == entry.node
 }
 
-/// Every entry whose delta is bytes has an answer: the value that `answer_of` gives. `A` is where the entry lies.
+/// Every entry whose delta is bytes has an answer: the value that `answer_of` gives. `A` is where the entry
+/// lies.
 pub fn every_entry_has_an_answer<A: Allocator>()
-    ensures { (log : Log) (entry : Entry A) → IsBytes entry.delta → IsAnswer log entry (answer_of log entry).0 (answer_of log entry).1 }
+    ensures { (log : Log) (entry : Entry A) → IsBytes entry.delta →
+        IsAnswer log entry (answer_of log entry).0 (answer_of log entry).1 }
 {
     every_delta_has_an_outcome();
 }
 
-/// A lawful log gives an entry one answer, with one log after it: whatever is an answer by the definitions is that value.
+/// A lawful log gives an entry one answer, with one log after it: whatever is an answer by the definitions is
+/// that value.
 pub fn one_answer<A: Allocator>()
-    ensures { (log : Log) (entry : Entry A) (answer : Result Added AddFault) (after : Log) → AreLawful log.rows → IsBytes entry.delta → IsAnswer log entry answer after → (answer, after) ≡ answer_of log entry }
+    ensures { (log : Log) (entry : Entry A) (answer : Result Added AddFault) (after : Log) →
+        AreLawful log.rows → IsBytes entry.delta → IsAnswer log entry answer after →
+        (answer, after) ≡ answer_of log entry }
 {
     every_delta_has_an_outcome();
     one_outcome();
 }
+
+/// Lawful rows stay lawful, whatever entry is answered. A new one is one row more, behind the others; any
+/// other answer leaves the rows as they were.
+pub fn answers_keep_rows_lawful<A: Allocator>()
+    ensures lawful { (log : Log) (entry : Entry A) → AreLawful log.rows →
+        AreLawful (answer_of log entry).1.rows }
+    ensures leaves { (log : Log) (entry : Entry A)
+        → IfOk (answer_of log entry).0 (λ added. Leaves log entry added (answer_of log entry).1) }
+{}

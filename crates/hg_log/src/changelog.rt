@@ -10,7 +10,7 @@ ghost use Rattle.hg_log.specs.Ancestors.{IsAncestor};
 ghost use Rattle.hg_log.specs.Parents.{parents_of, rev_of, is_ancestor};
 ghost use Rattle.hg_log.specs.HeadCount.{head_count, head_ids, is_head, AreSameIds};
 ghost use Rattle.hg_log.specs.Heads.{AreHeads, ids};
-ghost use Rattle.hg_log.specs.Inside.{IsAt, changeset};
+ghost use Rattle.hg_log.specs.code.Inside.{IsAt, changeset};
 ghost use Rattle.hg_log.specs.Add.{with_row};
 ghost use Rattle.hg_log.specs.Rows.{HasNode, LacksNode, HasParents, HasText, IsKnown, AreLawful};
 
@@ -42,7 +42,7 @@ impl<A: Allocator> Model for Changelog<A> {
 
     ghost Value = { Log };
 
-    ghost use Rattle.hg_log.specs.Inside.{rows_of, IsWhole};
+    ghost use Rattle.hg_log.specs.code.Inside.{rows_of, IsWhole};
 
     ghost view = { λ a. record { rows = rows_of a.rows.entries; limits = a.limits } };
 
@@ -168,8 +168,8 @@ impl<A: Allocator> Changelog<A> {
         }
     }
 
-    /// Whether the changeset of that number is nobody's parent. A number that no changeset has is no head. It takes
-    /// no memory and costs the same however many changesets there are.
+    /// Whether the changeset of that number is nobody's parent. A number that no changeset has is no head. It
+    /// takes no memory and costs the same however many changesets there are.
     pub fn is_head(&self, rev: u32) -> bool
         ensures { result ≡ is_head self.now.rows rev }
     {
@@ -226,7 +226,8 @@ impl<A: Allocator + Copy> Changelog<A> {
     fn append_copy(&mut self, alloc: A, other: &Changelog<A>, rev: usize) -> Result<(), NoMemory>
         requires within { rev < length other.now.rows }
         requires same { self.old ≡ record { rows = take rev other.now.rows; limits = other.now.limits } }
-        ensures ok { OnOk result (self.new ≡ record { rows = take (rev + 1) other.now.rows; limits = other.now.limits }) }
+        ensures ok { OnOk result (self.new
+            ≡ record { rows = take (rev + 1) other.now.rows; limits = other.now.limits }) }
     {
         let (node, row) = other.rows.get_index(rev).unwrap();
         let copy = Row {

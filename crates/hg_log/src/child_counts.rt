@@ -1,14 +1,15 @@
 //! How many children each row has, and which rows have none.
 
-ghost use Rattle.std.specs.Prelude.{◌≡◌, ◌≢◌, ◌↔◌, ℕ, ◌+◌, ◌-◌, ◌<◌, ◌^◌, [], ◌∷◌, ◌++◌, length, take, slice_index, slice_set, OnOk, OnErr, IfSome, IsTrue, Contains, AllPairs};
-ghost use Rattle.hg_log.specs.ChildCounts.{one_more, one_less};
+ghost use Rattle.std.specs.Prelude.{◌≡◌, ◌≢◌, ◌↔◌, ℕ, ◌+◌, ◌-◌, ◌<◌, ◌^◌, [], ◌∷◌, ◌++◌, length, take};
+ghost use Rattle.std.specs.Prelude.{slice_index, slice_set, OnOk, OnErr, IfSome, IsTrue, Contains, AllPairs};
+ghost use Rattle.hg_log.specs.code.ChildCounts.{one_more, one_less};
 
 use crate::order::Order;
 use std::alloc::{AllocError, Allocator, Global};
 use std::marker::Model;
 
-/// A number of children for each row. Beside the numbers it has the rows in an order in which those without children come first,
-/// so that each change costs the same however many rows there are.
+/// A number of children for each row. Beside the numbers it has the rows in an order in which those without
+/// children come first, so that each change costs the same however many rows there are.
 #[derive(Drop)]
 pub struct ChildCounts<A: Allocator = Global> {
     counts: Vec<u32, A>,
@@ -18,7 +19,7 @@ pub struct ChildCounts<A: Allocator = Global> {
 
 impl<A: Allocator> Model for ChildCounts<A> {
     ghost use Rattle.std.specs.Prelude.{ℕ, List};
-    ghost use Rattle.hg_log.specs.ChildCounts.{AreKept};
+    ghost use Rattle.hg_log.specs.code.ChildCounts.{AreKept};
 
     ghost Value = { List ℕ };
 
@@ -107,7 +108,8 @@ impl<A: Allocator> ChildCounts<A> {
 
     /// The rows without children, each once.
     pub fn childless(&self) -> &[u32]
-        ensures each { (row : ℕ) → Contains result.now row ↔ ((row < length self.now) × (slice_index self.now row ≡ 0)) }
+        ensures each { (row : ℕ) → Contains result.now row ↔
+            ((row < length self.now) × (slice_index self.now row ≡ 0)) }
         ensures distinct { AllPairs (λ a b. a ≢ b) result.now }
     {
         self.order.first(self.childless as usize)

@@ -2,7 +2,7 @@
 
 ghost use Rattle.std.specs.Prelude.{◌≡◌, ◌⊎◌, ◌↔◌, ℕ, ◌+◌, ◌-◌, ◌<◌, ◌≤◌, ◌^◌, [], ◌∷◌, ◌++◌, length, take};
 ghost use Rattle.std.specs.Prelude.{IfOk, OnOk, OnErr, IfSome, IsTrue, slice_get, Some};
-ghost use Rattle.hg_log.specs.Graph.{AreEarlier, AreChildless, HasParent, Reaches};
+ghost use Rattle.hg_log.specs.code.Graph.{AreEarlier, AreChildless, HasParent, Reaches};
 
 use crate::child_counts::ChildCounts;
 use crate::marks::Marks;
@@ -38,7 +38,7 @@ impl<A: Allocator> Model for Graph<A> {
 
     ghost Value = { List Parents };
 
-    ghost use Rattle.hg_log.specs.Graph.{AreCounted};
+    ghost use Rattle.hg_log.specs.code.Graph.{AreCounted};
 
     ghost view = { λ g. g.parents.items };
 
@@ -89,6 +89,7 @@ impl<A: Allocator + Copy> Graph<A> {
 }
 
 impl<A: Allocator> Graph<A> {
+    /// How many rows there are.
     pub fn len(&self) -> usize
         ensures { result ≡ length self.now }
     {
@@ -146,7 +147,8 @@ impl<A: Allocator> Graph<A> {
     }
     /// Whether a row is one that no row has as a parent. A number that no row has is none.
     pub fn is_childless(&self, row: u32) -> bool
-        ensures { IsTrue result ↔ ((row < length self.now) × ((child : ℕ) → ¬ (HasParent self.now row child))) }
+        ensures { IsTrue result ↔ ((row < length self.now)
+            × ((child : ℕ) → ¬ (HasParent self.now row child))) }
     {
         self.children.is_childless(row as usize)
     }

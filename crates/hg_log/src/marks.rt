@@ -2,7 +2,7 @@
 
 ghost use Rattle.std.specs.Prelude.{◌≡◌, ◌↔◌, ℕ, ◌-◌, ◌<◌, ◌≤◌, [], length, vec_len};
 ghost use Rattle.std.specs.Prelude.{OnOk, IfSome, IsTrue, slice_index_or, false};
-ghost use Rattle.hg_log.specs.Marks.{IsMarked, AreMarked};
+ghost use Rattle.hg_log.specs.code.Marks.{IsMarked, AreMarked};
 
 use std::alloc::{AllocError, Allocator, Global};
 

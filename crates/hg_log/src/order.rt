@@ -1,7 +1,8 @@
 //! An order of rows, in which the place of a row is found in one step.
 
-ghost use Rattle.std.specs.Prelude.{◌≡◌, ◌+◌, ◌<◌, ◌≤◌, ◌^◌, [], ◌∷◌, ◌++◌, length, take, slice_index, OnOk, OnErr};
-ghost use Rattle.hg_log.specs.ChildCounts.{AreInverse, AreExchanged};
+ghost use Rattle.std.specs.Prelude.{◌≡◌, ◌+◌, ◌<◌, ◌≤◌, ◌^◌, [], ◌∷◌, ◌++◌, length, take, slice_index, OnOk};
+ghost use Rattle.std.specs.Prelude.{OnErr};
+ghost use Rattle.hg_log.specs.code.ChildCounts.{AreInverse, AreExchanged};
 
 use std::alloc::{AllocError, Allocator, Global};
 
@@ -46,8 +47,10 @@ impl<A: Allocator> Order<A> {
     pub fn push(&mut self) -> Result<(), AllocError>
         requires inverse { AreInverse self.old.rows.items self.old.places.items }
         requires few { length self.old.rows.items < 2 ^ 32 }
-        ensures rows { OnOk result (self.new.rows.items ≡ self.old.rows.items ++ length self.old.rows.items ∷ []) }
-        ensures places { OnOk result (self.new.places.items ≡ self.old.places.items ++ length self.old.rows.items ∷ []) }
+        ensures rows { OnOk result (self.new.rows.items
+            ≡ self.old.rows.items ++ length self.old.rows.items ∷ []) }
+        ensures places { OnOk result (self.new.places.items
+            ≡ self.old.places.items ++ length self.old.rows.items ∷ []) }
         ensures rows_stay { OnErr result (self.new.rows.items ≡ self.old.rows.items) }
         ensures places_stay { OnErr result (self.new.places.items ≡ self.old.places.items) }
     {
@@ -64,7 +67,8 @@ impl<A: Allocator> Order<A> {
         requires few { length self.old.rows.items < 2 ^ 32 }
         requires first { first < length self.old.rows.items }
         requires second { second < length self.old.rows.items }
-        ensures { AreExchanged self.old.rows.items self.old.places.items self.new.rows.items self.new.places.items first second }
+        ensures { AreExchanged self.old.rows.items self.old.places.items
+            self.new.rows.items self.new.places.items first second }
     {
         let moved = self.rows[first];
         let other = self.rows[second];

@@ -20,7 +20,8 @@ const NULL: Node = Node::NULL;
 /// An id that no changeset here has.
 const OTHER: Node = Node([0x11; 20]);
 
-/// Three changesets that Mercurial made of the user `test` at the time 0: each adds a file, and the next is its child.
+/// Three changesets that Mercurial made of the user `test` at the time 0: each adds a file, and the next is
+/// its child.
 const ADD_A: Node = Node([
     0xcb, 0x9a, 0x9f, 0x31, 0x4b, 0x8b, 0x07, 0xba, 0x71, 0x01, 0x2f, 0xcd, 0xbc, 0x54, 0x4b, 0x5a,
     0x4d, 0x82, 0xff, 0x5b,
@@ -42,7 +43,8 @@ const ADD_C: Node = Node([
 
 const TEXT_C: &[u8] = b"e3738bf5439958f89499a656982023aba57b076e\ntest\n0 0\nc\n\nc";
 
-/// The children of [`ROOT`] with the texts `1`, `2` and `3`, by SHA-1 of their bytes, and the merge `m` of the first two.
+/// The children of [`ROOT`] with the texts `1`, `2` and `3`, by SHA-1 of their bytes, and the merge `m` of
+/// the first two.
 const FIRST: Node = Node([
     0x5c, 0x0d, 0x56, 0x04, 0xe7, 0x91, 0x6e, 0xfc, 0xcc, 0x52, 0x7d, 0x39, 0x43, 0x9a, 0xc7, 0x15,
     0x2b, 0x0f, 0x0a, 0xb8,

@@ -4,7 +4,7 @@ use Rattle.std.specs.List.{list_all, list_any, slice_split, onto_first}
 use Rattle.hg_obs.specs.declared.read.Piece.{Piece}
 use Rattle.hg_obs.specs.declared.read.Piece.TheVariants.{Empty, Bare, Named, Refused}
 use Rattle.hg_obs.specs.Marker.{is_piece}
-use Rattle.hg_obs.specs.Pieces.{after_byte}
+use Rattle.hg_obs.specs.code.Pieces.{after_byte}
 
 abbrev pub pieces : List ℕ → List (List ℕ)
 pieces bytes = slice_split (λ b. b == 0) bytes

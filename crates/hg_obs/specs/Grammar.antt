@@ -4,7 +4,8 @@ use Rattle.std.specs.List.{AllByRecursion, flat_map}
 use Rattle.hg_types.specs.NullId.{null_node}
 use Rattle.hg_obs.specs.declared.marker.Marker.{Marker}
 use Rattle.hg_obs.specs.declared.fault.MarkerFault.{MarkerFault}
-use Rattle.hg_obs.specs.declared.fault.MarkerFault.TheVariants.{BadVersion, Short, BadMetadata, NullSuccessor, NoMemory}
+use Rattle.hg_obs.specs.declared.fault.MarkerFault.TheVariants.{BadVersion, Short, BadMetadata, NullSuccessor}
+use Rattle.hg_obs.specs.declared.fault.MarkerFault.TheVariants.{NoMemory}
 use Rattle.hg_obs.specs.Marker.{marker_bytes, is_metadata, Fits, HasIds, IsMarker}
 
 -- the data is the version byte 0 and these markers, joined
@@ -24,7 +25,8 @@ abbrev pub IsMarkerFault : (A : Type 0) → MarkerFault → List ℕ → Type 0
 -- there are not the bytes of a whole one
 IsMarkerFault A Short rest = (m : Marker A) → BeginsWith rest m → ⊥
 IsMarkerFault A BadMetadata rest = (m : Marker A) × BeginsWith rest m × (is_metadata m.meta ≡ false)
-IsMarkerFault A NullSuccessor rest = (m : Marker A) × BeginsWith rest m × (is_metadata m.meta ≡ true) × Contains m.successors null_node
+IsMarkerFault A NullSuccessor rest = (m : Marker A) × BeginsWith rest m × (is_metadata m.meta ≡ true)
+    × Contains m.successors null_node
 IsMarkerFault A BadVersion rest = ⊥
 IsMarkerFault A NoMemory rest = ⊥
 

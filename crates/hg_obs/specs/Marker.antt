@@ -10,9 +10,12 @@ use Rattle.hg_obs.specs.declared.marker.Marker.{Marker}
 abbrev pub ids_bytes : List Node → List ℕ
 ids_bytes ids = flat_map (λ id. id.0) ids
 
--- the number of successors, the size of the metadata, the flags, the predecessor, the successors, the metadata
+-- the number of successors, the size of the metadata, the flags, the predecessor, the successors, the
+-- metadata
 abbrev pub marker_bytes : {A : Type 0} → Marker A → List ℕ
-marker_bytes m = length m.successors ∷ (to_be_bytes w32 (length m.meta) ++ (m.flags ∷ (m.predecessor.0 ++ (ids_bytes m.successors ++ m.meta))))
+marker_bytes m =
+    length m.successors ∷ (to_be_bytes w32 (length m.meta)
+    ++ (m.flags ∷ (m.predecessor.0 ++ (ids_bytes m.successors ++ m.meta))))
 
 -- a piece of metadata is empty, or it has a colon
 abbrev pub is_piece : List ℕ → Bool

@@ -1,5 +1,6 @@
 -- A list of distinct markers: what a merge makes of it, and which changesets it makes obsolete.
-use Rattle.std.specs.Prelude.{◌≡◌, ◌≢◌, ℕ, suc, Bool, true, false, ◌==◌, not, List, [], ◌∷◌, ◌++◌, filter, Any, AllPairs, Option, Some, None, if◌then◌else◌}
+use Rattle.std.specs.Prelude.{◌≡◌, ◌≢◌, ℕ, suc, Bool, true, false, ◌==◌, not, List, [], ◌∷◌, ◌++◌, filter}
+use Rattle.std.specs.Prelude.{Any, AllPairs, Option, Some, None, if◌then◌else◌}
 use Rattle.std.specs.List.{list_any, AllByRecursion}
 use Rattle.std.specs.Map.{lookup}
 use Rattle.hg_types.specs.declared.node.Node.{Node}
@@ -31,7 +32,8 @@ IsPredecessor markers node = Any (λ m. m.predecessor ≡ node) markers
 -- the place of the first marker with that predecessor, where the list begins at place `from`
 abbrev pub place_from : {A : Type 0} → ℕ → Node → List (Marker A) → Option ℕ
 place_from from node [] = None
-place_from from node (m ∷ ms) = if same_node node m.predecessor then Some from else place_from (suc from) node ms
+place_from from node (m ∷ ms) = if same_node node m.predecessor then Some from
+    else place_from (suc from) node ms
 
 -- a look-up of each id finds the place of the first marker that has it as its predecessor
 abbrev pub ArePlaces : {A : Type 0} → List (Node × ℕ) → List (Marker A) → Type 0

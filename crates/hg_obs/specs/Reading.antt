@@ -1,5 +1,6 @@
 -- Marker data, read from left to right: its markers, or its first fault.
-use Rattle.std.specs.Prelude.{◌≡◌, ◌*◌, ℕ, zero, suc, List, [], ◌∷◌, ◌++◌, length, take, drop, map, Result, Ok, Err, nat_lt, ◌==◌, if◌then◌else◌}
+use Rattle.std.specs.Prelude.{◌≡◌, ◌*◌, ℕ, zero, suc, List, [], ◌∷◌, ◌++◌, length, take, drop, map, Result}
+use Rattle.std.specs.Prelude.{Ok, Err, nat_lt, ◌==◌, if◌then◌else◌}
 use Rattle.std.specs.List.{list_any}
 use Rattle.std.specs.Int.{w32, from_be_bytes}
 use Rattle.std.specs.Simd.{first_chunks}
@@ -7,7 +8,8 @@ use Rattle.hg_types.specs.declared.node.Node.{Node}
 use Rattle.hg_types.specs.NullId.{null_node}
 use Rattle.hg_obs.specs.declared.marker.Marker.{Marker}
 use Rattle.hg_obs.specs.declared.fault.MarkerFault.{MarkerFault}
-use Rattle.hg_obs.specs.declared.fault.MarkerFault.TheVariants.{BadVersion, Short, BadMetadata, NullSuccessor, NoMemory}
+use Rattle.hg_obs.specs.declared.fault.MarkerFault.TheVariants.{BadVersion, Short, BadMetadata, NullSuccessor}
+use Rattle.hg_obs.specs.declared.fault.MarkerFault.TheVariants.{NoMemory}
 use Rattle.hg_obs.specs.Marker.{is_metadata}
 use Rattle.hg_obs.specs.Same.{same_node}
 
@@ -35,10 +37,12 @@ byte_at [] = Err Short
 byte_at (byte ∷ rest) = Ok (byte, rest)
 
 unfoldable pub number_at : List ℕ → Result (ℕ × List ℕ) MarkerFault
-number_at bytes = if nat_lt (length bytes) 4 then Err Short else Ok (from_be_bytes w32 (take 4 bytes), drop 4 bytes)
+number_at bytes = if nat_lt (length bytes) 4 then Err Short
+    else Ok (from_be_bytes w32 (take 4 bytes), drop 4 bytes)
 
 unfoldable pub bytes_at : ℕ → List ℕ → Result (List ℕ × List ℕ) MarkerFault
-bytes_at count bytes = if nat_lt (length bytes) count then Err Short else Ok (take count bytes, drop count bytes)
+bytes_at count bytes = if nat_lt (length bytes) count then Err Short
+    else Ok (take count bytes, drop count bytes)
 
 abbrev pub node_of : List ℕ → Node
 node_of id = record { 0 = id }
@@ -71,23 +75,34 @@ fields_at bytes = do
   predecessor ← node_at flags.1
   successors ← nodes_at count.0 predecessor.1
   meta ← bytes_at size.0 successors.1
-  Ok (record { successors = successors.0; flags = flags.0; predecessor = predecessor.0; meta = meta.0 }, meta.1)
+  Ok (
+    record {
+      successors = successors.0;
+      flags = flags.0;
+      predecessor = predecessor.0;
+      meta = meta.0;
+    },
+    meta.1,
+  )
 
 unfoldable pub checked : {A : Type 0} → Fields × List ℕ → Result (Marker A × List ℕ) MarkerFault
-checked x = if is_metadata x.0.meta then (if list_any (same_node null_node) x.0.successors then Err NullSuccessor else Ok (kept_of x.0, x.1)) else Err BadMetadata
+checked x = if is_metadata x.0.meta then (if list_any (same_node null_node) x.0.successors
+    then Err NullSuccessor else Ok (kept_of x.0, x.1)) else Err BadMetadata
 
 unfoldable pub marker_at : {A : Type 0} → List ℕ → Result (Marker A × List ℕ) MarkerFault
 marker_at bytes = fields_at bytes >>= checked
 
 -- markers before others
-abbrev pub with_front : {A : Type 0} → List (Marker A) → Result (List (Marker A)) MarkerFault → Result (List (Marker A)) MarkerFault
+abbrev pub with_front : {A : Type 0} → List (Marker A) → Result (List (Marker A)) MarkerFault →
+    Result (List (Marker A)) MarkerFault
 with_front front read = read >>= λ markers. Ok (front ++ markers)
 
 -- at most so many markers, up to the end of the bytes
 unfoldable pub markers_within : {A : Type 0} → ℕ → List ℕ → Result (List (Marker A)) MarkerFault
 markers_within zero bytes = Ok []
 markers_within (suc most) [] = Ok []
-markers_within (suc most) (byte ∷ bytes) = marker_at (byte ∷ bytes) >>= λ x. with_front (x.0 ∷ []) (markers_within most x.1)
+markers_within (suc most) (byte ∷ bytes) =
+    marker_at (byte ∷ bytes) >>= λ x. with_front (x.0 ∷ []) (markers_within most x.1)
 
 -- no marker is empty, so there are no more of them than bytes
 unfoldable pub markers_at : {A : Type 0} → List ℕ → Result (List (Marker A)) MarkerFault

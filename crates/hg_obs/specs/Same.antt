@@ -14,11 +14,13 @@ same_node a b = pointwise nat_eq a.0 b.0
 
 -- all fields are the same
 abbrev pub is_same : {A : Type 0} → Marker A → Marker A → Bool
-is_same a b = same_node a.predecessor b.predecessor && nat_eq a.flags b.flags && pointwise same_node a.successors b.successors && pointwise nat_eq a.meta b.meta
+is_same a b = same_node a.predecessor b.predecessor && nat_eq a.flags b.flags
+    && pointwise same_node a.successors b.successors && pointwise nat_eq a.meta b.meta
 
 -- the flags, the predecessor, the metadata behind its length, and each successor
 abbrev pub marker_writes : {A : Type 0} → Marker A → List (List ℕ)
-marker_writes m = fed.u8 m.flags ++ m.predecessor.0 ∷ fed.usize (length m.meta) ++ m.meta ∷ map (λ node. node.0) m.successors
+marker_writes m = fed.u8 m.flags ++ m.predecessor.0 ∷ fed.usize (length m.meta) ++ m.meta
+    ∷ map (λ node. node.0) m.successors
 
 nat_eq_decides : (a b : ℕ) → Decides (nat_eq a b) (a ≡ b)
 nat_eq_decides a b = (λ h. eqb-true a b h, λ e. eq-eqb a b e)
@@ -28,7 +30,11 @@ both true q h k = k
 both false q h k = h
 
 pub same_node_decides : (a b : Node) → Decides (same_node a b) (a ≡ b)
-same_node_decides a b = (λ h. ap (λ (id : List ℕ). record { 0 = id }) ((bytes_decides a.0 b.0).0 h), λ e. (bytes_decides a.0 b.0).1 (ap (λ (n : Node). n.0) e))
+same_node_decides a b = (
+  λ h. ap (λ (id : List ℕ). record { 0 = id }) ((bytes_decides a.0 b.0).0 h),
+  λ e.
+      (bytes_decides a.0 b.0).1 (ap (λ (n : Node). n.0) e),
+)
 
 -- what decides whether all fields are the same decides whether the markers are
 pub is_same_decides : {A : Type 0} → (a b : Marker A) → Decides (is_same a b) (a ≡ b)
@@ -38,14 +44,27 @@ is_same_decides {A} a b =
     let successors = pointwise_decides same_node_decides a.successors b.successors in
     let metas = bytes_decides a.meta b.meta in (
       λ h.
-          let upto_successors = first_so (same_node a.predecessor b.predecessor && nat_eq a.flags b.flags && pointwise same_node a.successors b.successors) (pointwise nat_eq a.meta b.meta) h in
-          let upto_flags = first_so (same_node a.predecessor b.predecessor && nat_eq a.flags b.flags) (pointwise same_node a.successors b.successors) upto_successors in
-          let p : a.predecessor ≡ b.predecessor = predecessors.0 (first_so (same_node a.predecessor b.predecessor) (nat_eq a.flags b.flags) upto_flags) in
-          let f : a.flags ≡ b.flags = flags.0 (second_so (same_node a.predecessor b.predecessor) (nat_eq a.flags b.flags) upto_flags) in
-          let s : a.successors ≡ b.successors = successors.0 (second_so (same_node a.predecessor b.predecessor && nat_eq a.flags b.flags) (pointwise same_node a.successors b.successors) upto_successors) in
-          let m : a.meta ≡ b.meta = metas.0 (second_so (same_node a.predecessor b.predecessor && nat_eq a.flags b.flags && pointwise same_node a.successors b.successors) (pointwise nat_eq a.meta b.meta) h) in
+          let upto_successors =
+          first_so (same_node a.predecessor b.predecessor && nat_eq a.flags b.flags
+          && pointwise same_node a.successors b.successors) (pointwise nat_eq a.meta b.meta) h in
+          let upto_flags =
+          first_so (same_node a.predecessor b.predecessor
+          && nat_eq a.flags b.flags) (pointwise same_node a.successors b.successors) upto_successors in
+          let p : a.predecessor ≡ b.predecessor =
+          predecessors.0 (first_so (same_node a.predecessor b.predecessor)
+          (nat_eq a.flags b.flags) upto_flags) in
+          let f : a.flags ≡ b.flags =
+          flags.0 (second_so (same_node a.predecessor b.predecessor)
+          (nat_eq a.flags b.flags) upto_flags) in
+          let s : a.successors ≡ b.successors =
+          successors.0 (second_so (same_node a.predecessor b.predecessor
+          && nat_eq a.flags b.flags) (pointwise same_node a.successors b.successors) upto_successors) in
+          let m : a.meta ≡ b.meta =
+          metas.0 (second_so (same_node a.predecessor b.predecessor && nat_eq a.flags b.flags
+          && pointwise same_node a.successors b.successors) (pointwise nat_eq a.meta b.meta) h) in
           λ i. record { successors = s i; flags = f i; predecessor = p i; meta = m i },
       λ e.
-          both _ _ (both _ _ (both _ _ (predecessors.1 (ap (λ (m : Marker A). m.predecessor) e)) (flags.1 (ap (λ (m : Marker A). m.flags) e)))
+          both _ _ (both _ _ (both _ _ (predecessors.1 (ap (λ (m : Marker A). m.predecessor) e))
+          (flags.1 (ap (λ (m : Marker A). m.flags) e)))
           (successors.1 (ap (λ (m : Marker A). m.successors) e))) (metas.1 (ap (λ (m : Marker A). m.meta) e)),
     )

@@ -16,20 +16,26 @@ use std::alloc::Allocator;
 /// Reading from left to right is the grammar: it gives the markers that the bytes are, or their first
 /// fault, so bytes are markers in one way at most and have one first fault at most.
 pub fn reading_is_the_grammar<A: Allocator>()
-    ensures markers { (bytes : List ℕ) (markers : List (AMarker A)) → IsBytes bytes → (markers_of bytes ≡ Ok markers) ↔ AreMarkers bytes markers }
-    ensures faults { (bytes : List ℕ) (fault : AFault) → IsBytes bytes → fault ≢ Refused → (markers_of {A = A} bytes ≡ Err fault) ↔ IsFault A fault bytes }
+    ensures markers { (bytes : List ℕ) (markers : List (AMarker A)) → IsBytes bytes →
+        (markers_of bytes ≡ Ok markers) ↔ AreMarkers bytes markers }
+    ensures faults { (bytes : List ℕ) (fault : AFault) → IsBytes bytes → fault ≢ Refused →
+        (markers_of {A = A} bytes ≡ Err fault) ↔ IsFault A fault bytes }
 {}
 
 /// Markers with the same bytes are equal.
 pub fn bytes_tell_markers<A: Allocator>()
-    ensures { (a b : AMarker A) → Fits a → HasIds a → Fits b → HasIds b → marker_bytes a ≡ marker_bytes b → a ≡ b }
+    ensures { (a b : AMarker A) → Fits a → HasIds a → Fits b → HasIds b → marker_bytes a ≡ marker_bytes b →
+        a ≡ b }
 {}
 
-/// No markers are lawful. Lawful ones stay so where markers that marker data may have are merged, and where the last ones are
-/// cut off; and behind the version byte their bytes are marker data again.
+/// No markers are lawful. Lawful ones stay so where markers that marker data may have are merged, and where
+/// the last ones are cut off; and behind the version byte their bytes are marker data again.
 pub fn markers_stay_lawful<A: Allocator>()
     ensures none { AreLawful {A = A} [] }
-    ensures merge { (old added : List (AMarker A)) → AreLawful old → AllByRecursion IsMarker added → AreLawful (merged old added) }
-    ensures front { (markers : List (AMarker A)) (len : ℕ) → AreLawful markers → AreLawful (take len markers) }
-    ensures bytes { (markers : List (AMarker A)) → AreLawful markers → AreMarkers (0 ∷ flat_map marker_bytes markers) markers }
+    ensures merge { (old added : List (AMarker A)) → AreLawful old → AllByRecursion IsMarker added →
+        AreLawful (merged old added) }
+    ensures front { (markers : List (AMarker A)) (len : ℕ) → AreLawful markers →
+        AreLawful (take len markers) }
+    ensures bytes { (markers : List (AMarker A)) → AreLawful markers →
+        AreMarkers (0 ∷ flat_map marker_bytes markers) markers }
 {}

@@ -1,6 +1,7 @@
 //! The markers of a repository.
 
-ghost use Rattle.std.specs.Prelude.{◌≡◌, ◌≢◌, ◌<◌, ◌≤◌, ◌+◌, ◌-◌, ◌++◌, ◌∷◌, [], ◌↔◌, false, Some, None, IsTrue, IfOk, OnOk, OnErr, AllPairs, length, take, if◌then◌else◌};
+ghost use Rattle.std.specs.Prelude.{◌≡◌, ◌≢◌, ◌<◌, ◌≤◌, ◌+◌, ◌-◌, ◌++◌, ◌∷◌, [], ◌↔◌, false, Some, None};
+ghost use Rattle.std.specs.Prelude.{IsTrue, IfOk, OnOk, OnErr, AllPairs, length, take, if◌then◌else◌};
 ghost use Rattle.std.specs.Map.{lookup};
 ghost use Rattle.indexmap.specs.IndexMap.{spare as places_room};
 ghost use Rattle.hg_types.specs.declared.node.Node.{Node as AnId};
@@ -69,9 +70,9 @@ impl<A: Allocator> Markers<A> {
         self.places.contains_key(node)
     }
 
-    /// Adds each marker that is not there yet, in order, and answers how many. Room is made for the new ones alone, and a merge
-    /// that adds nothing takes none; where it is refused the markers are as before. On average it takes time for what is
-    /// merged, and not for what is there.
+    /// Adds each marker that is not there yet, in order, and answers how many. Room is made for the new ones
+    /// alone, and a merge that adds nothing takes none; where it is refused the markers are as before. On
+    /// average it takes time for what is merged, and not for what is there.
     pub fn merge(&mut self, added: Seq<Marker<A>, A>) -> Result<u64, NoMemory>
         ensures ok { OnOk result (self.new ≡ merged self.old added) }
         ensures count { IfOk result (λ count. count ≡ length (fresh self.old added)) }
@@ -137,7 +138,8 @@ fn add_each<A: Allocator>(list: &mut List<A>, added: Seq<Marker<A>, A>) -> Resul
 
 /// Adds a marker that is not there yet.
 fn add<A: Allocator>(list: &mut List<A>, marker: Marker<A>) -> Result<(), NoMemory>
-    ensures ok { OnOk result (list.new.keys ≡ (if is_in list.old.keys marker then list.old.keys else list.old.keys ++ marker ∷ [])) }
+    ensures ok { OnOk result (list.new.keys
+        ≡ (if is_in list.old.keys marker then list.old.keys else list.old.keys ++ marker ∷ [])) }
     ensures err { OnErr result (list.new.keys ≡ list.old.keys) }
     ensures needed { OnErr result (is_in list.old.keys marker ≡ false) }
 {
@@ -159,7 +161,9 @@ fn note_each<A: Allocator>(places: &mut Places<A>, markers: &[Marker<A>], from: 
 /// Notes the place of a marker, unless one before it has the same predecessor. There is room for it.
 fn note<A: Allocator>(places: &mut Places<A>, predecessor: Node, place: usize)
     requires room { 0 < places_room places.old }
-    ensures found { (node : AnId) → lookup (same_node node) places.new.entries ≡ or_else (lookup (same_node node) places.old.entries) (if same_node node predecessor then Some place else None) }
+    ensures found { (node : AnId) → lookup (same_node node) places.new.entries
+        ≡ or_else (lookup (same_node node) places.old.entries) (if same_node node predecessor then Some place
+        else None) }
     ensures room { places_room places.old ≤ places_room places.new + 1 }
 {
     places.entry(predecessor).unwrap().or_insert(place);
@@ -167,7 +171,8 @@ fn note<A: Allocator>(places: &mut Places<A>, predecessor: Node, place: usize)
 
 /// Forgets a predecessor, if its first marker is the one at that place.
 fn forget<A: Allocator>(places: &mut Places<A>, predecessor: &Node, place: usize)
-    ensures { (node : AnId) → lookup (same_node node) places.new.entries ≡ without (same_node node predecessor.now) place (lookup (same_node node) places.old.entries) }
+    ensures { (node : AnId) → lookup (same_node node) places.new.entries
+        ≡ without (same_node node predecessor.now) place (lookup (same_node node) places.old.entries) }
 {
     if places.get(predecessor).copied() == Some(place) {
         places.swap_remove(predecessor);

@@ -3,8 +3,9 @@
 ghost use Rattle.std.specs.Prelude.{◌≡◌, IfOk, IfErr, map};
 ghost use Rattle.hg_obs.specs.Grammar.{AreMarkers, IsFault};
 ghost use Rattle.hg_obs.specs.Marker.{is_metadata as metadata_test};
-ghost use Rattle.hg_obs.specs.Reading.{Gives, kept_of, byte_at, number_at, bytes_at, node_at, nodes_at, fields_at, marker_at, markers_of, node_of as to_node};
-ghost use Rattle.hg_obs.specs.Lent.{fields_of_lent};
+ghost use Rattle.hg_obs.specs.Reading.{Gives, kept_of, byte_at, number_at, bytes_at, node_at, nodes_at};
+ghost use Rattle.hg_obs.specs.Reading.{fields_at, marker_at, markers_of, node_of as to_node};
+ghost use Rattle.hg_obs.specs.code.Lent.{fields_of_lent};
 
 use crate::fault::MarkerFault;
 use crate::marker::Marker;
@@ -107,7 +108,7 @@ enum Piece {
 }
 
 impl Piece {
-    ghost use Rattle.hg_obs.specs.Pieces.{after_byte};
+    ghost use Rattle.hg_obs.specs.code.Pieces.{after_byte};
 
     fn after(self, byte: u8) -> Piece
         ensures { result ≡ after_byte self byte }

@@ -13,8 +13,8 @@ const MARKER: [u8; 26] = [
     17,
 ];
 
-/// Marker data with two markers, of 52 and 69 bytes. The first has the flags 1, one successor and the metadata
-/// `user:a`, the second two successors and `a:b`.
+/// Marker data with two markers, of 52 and 69 bytes. The first has the flags 1, one successor and the
+/// metadata `user:a`, the second two successors and `a:b`.
 const TWO: [u8; 122] = [
     0, 1, 0, 0, 0, 6, 1, 17, 17, 17, 17, 17, 17, 17, 17, 17, 17, 17, 17, 17, 17, 17, 17, 17, 17,
     17, 17, 34, 34, 34, 34, 34, 34, 34, 34, 34, 34, 34, 34, 34, 34, 34, 34, 34, 34, 34, 34, 117,
@@ -248,7 +248,8 @@ const TEN: [(u8, u8); 10] = [
     (10, 9),
 ];
 
-/// Reads two markers, merges them, copies the list and writes both, in that memory. Behind that ten more are merged.
+/// Reads two markers, merges them, copies the list and writes both, in that memory. Behind that ten more are
+/// merged.
 fn reach<A: Allocator + Copy>(alloc: A, state: RandomState) -> Reached {
     let read = match read_markers(alloc, &TWO) {
         Ok(read) => read,
@@ -356,8 +357,8 @@ fn numbered(alloc: Global, count: u32) -> Result<Vec<u8>, AllocError> {
     Ok(bytes)
 }
 
-/// The bytes of a heap in use where the list is empty, where the markers of the data are read, merged and copied, and where
-/// the list is looked at and cut to nothing.
+/// The bytes of a heap in use where the list is empty, where the markers of the data are read, merged and
+/// copied, and where the list is looked at and cut to nothing.
 fn in_use(heap: &LocalHeap, state: RandomState, bytes: &[u8]) -> Result<[usize; 5], MarkerFault> {
     let mut markers = Markers::new(heap, state);
     let empty = heap.used();
@@ -374,8 +375,9 @@ fn in_use(heap: &LocalHeap, state: RandomState, bytes: &[u8]) -> Result<[usize; 
     Ok([empty, read, merged, copied, heap.used()])
 }
 
-/// Over an ample heap nothing is refused, however many markers come, and no call keeps more than came: reading at most 8 times
-/// the data and 256 bytes, a list at most 512 bytes a marker and 2,048, and a copy as much as its source. A cut takes nothing.
+/// Over an ample heap nothing is refused, however many markers come, and no call keeps more than came:
+/// reading at most 8 times the data and 256 bytes, a list at most 512 bytes a marker and 2,048, and a copy as
+/// much as its source. A cut takes nothing.
 #[test]
 fn many_markers_take_what_came(rt: HostRuntime) -> Result<(), Fail> {
     let state = RandomState::new(&rt)?;
@@ -390,7 +392,8 @@ fn many_markers_take_what_came(rt: HostRuntime) -> Result<(), Fail> {
     Ok(())
 }
 
-/// Room is made for new markers alone: a list into which one marker was merged 50,000 times keeps at most 2,048 bytes.
+/// Room is made for new markers alone: a list into which one marker was merged 50,000 times keeps at most
+/// 2,048 bytes.
 #[test]
 fn repeated_markers_take_no_memory(rt: HostRuntime) -> Result<(), Fail> {
     let state = RandomState::new(&rt)?;

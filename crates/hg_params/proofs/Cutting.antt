@@ -6,7 +6,7 @@ use Rattle.std.proofs.lemmas.List.Sums.{sum_by-cons}
 use Rattle.hg_types.specs.declared.part.Param.{Param}
 use Rattle.hg_params.specs.declared.fault.ParamFault.{ParamFault}
 use Rattle.hg_params.specs.Header.{KeyValue, FitsSizes, param_sizes, param_data, param}
-use Rattle.hg_params.specs.Reading.{pair_at, params_in}
+use Rattle.hg_params.specs.code.Reading.{pair_at, params_in}
 
 abbrev pub IsBytes : List ℕ → Type 0
 IsBytes bytes = (i : ℕ) → get_or bytes i 0 < 256

@@ -9,7 +9,7 @@ use Rattle.hg_params.specs.declared.fault.ParamFault.{ParamFault}
 use Rattle.hg_params.specs.declared.fault.ParamFault.TheVariants.{Leftover, BadType, RepeatedKey}
 use Rattle.hg_params.specs.Header.{Fields, is_kind, all_params, keys_of, AreDistinct, HasFields, head_of, IsHeaderFault}
 use Rattle.hg_params.specs.Laws.{HasSomeReading, HasSomeParamsReading}
-use Rattle.hg_params.specs.Reading.{Front, front_at, fields_in}
+use Rattle.hg_params.specs.code.Reading.{Front, front_at, fields_in}
 use Rattle.hg_params.specs.StreamParams.{faults_of, pieces, stream_param}
 use Rattle.hg_params.proofs.Cutting.{IsBytes}
 use Rattle.hg_params.proofs.FieldLaws.{ReadsFields, front_take}

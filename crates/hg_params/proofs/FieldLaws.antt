@@ -9,7 +9,8 @@ use Rattle.std.proofs.lemmas.Nat.{be_bytes_4, from_be_bytes-to_be_bytes_4}
 use Rattle.hg_params.specs.declared.fault.ParamFault.{ParamFault}
 use Rattle.hg_params.specs.declared.fault.ParamFault.TheVariants.{Short}
 use Rattle.hg_params.specs.Header.{KeyValue, Fields, Fits, FitsSizes, all_params, spelling, param_sizes, param_data}
-use Rattle.hg_params.specs.Reading.{◌>>=◌, bytes_at, counted_at, number_at, pair_at, blocks_at, front_at, params_in, Block, Front, fields_in}
+use Rattle.hg_params.specs.code.Reading.{◌>>=◌, bytes_at, counted_at, number_at, pair_at}
+use Rattle.hg_params.specs.code.Reading.{blocks_at, front_at, params_in, Block, Front, fields_in}
 use Rattle.hg_params.proofs.Cutting.{IsBytes, Cuts, cuts, params_fit, params_again, length_sizes, sum_sizes}
 
 IsBytes-drop : (n : ℕ) (bytes : List ℕ) → IsBytes bytes → IsBytes (drop n bytes)

@@ -6,7 +6,7 @@ use Rattle.hg_params.specs.declared.head.Head.{Head}
 use Rattle.hg_params.specs.declared.fault.ParamFault.{ParamFault}
 use Rattle.hg_params.specs.declared.fault.ParamFault.TheVariants.{Short, Leftover, BadType, RepeatedKey, EmptyName, BadName, UnknownMandatory, Compressed, NoMemory}
 use Rattle.hg_params.specs.Header.{KeyValue, Fields, Fits, spelling, is_kind, all_params, keys_of, AreDistinct, HasFields, param, params_of, head_of, IsHeader, IsShort, HasRest, IsHeaderFault}
-use Rattle.hg_params.specs.Reading.{Front, front_at, fields_in}
+use Rattle.hg_params.specs.code.Reading.{Front, front_at, fields_in}
 use Rattle.hg_params.proofs.FieldLaws.{ReadsFields, front_of, front_again, fields_again, front_err}
 use Rattle.hg_params.proofs.Keys.{param_keys}
 

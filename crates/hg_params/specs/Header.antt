@@ -1,11 +1,14 @@
 -- A part's header: its fields, their one spelling, and what is wrong with bytes that spell no header.
-use Rattle.std.specs.Prelude.{◌≡◌, ◌≢◌, ℕ, ◌<◌, ◌^◌, List, [], ◌∷◌, ◌++◌, length, map, Bool, true, false, nat_le, ◌==◌, ◌&&◌, ◌||◌}
+use Rattle.std.specs.Prelude.{◌≡◌, ◌≢◌, ℕ, ◌<◌, ◌^◌, List, [], ◌∷◌, ◌++◌, length, map, Bool, true, false}
+use Rattle.std.specs.Prelude.{nat_le, ◌==◌, ◌&&◌, ◌||◌}
 use Rattle.std.specs.List.{AllByRecursion, flat_map, list_all}
 use Rattle.std.specs.Int.{w32, to_be_bytes}
 use Rattle.hg_types.specs.declared.part.Param.{Param}
 use Rattle.hg_params.specs.declared.head.Head.{Head}
 use Rattle.hg_params.specs.declared.fault.ParamFault.{ParamFault}
-use Rattle.hg_params.specs.declared.fault.ParamFault.TheVariants.{Short, Leftover, BadType, RepeatedKey, EmptyName, BadName, UnknownMandatory, Compressed, NoMemory}
+use Rattle.hg_params.specs.declared.fault.ParamFault.TheVariants.{Short, Leftover, BadType, RepeatedKey}
+use Rattle.hg_params.specs.declared.fault.ParamFault.TheVariants.{EmptyName, BadName, UnknownMandatory}
+use Rattle.hg_params.specs.declared.fault.ParamFault.TheVariants.{Compressed, NoMemory}
 
 -- a parameter, without whether it is mandatory
 pub record KeyValue : Type 0 where
@@ -47,14 +50,18 @@ param_sizes p = length p.key ∷ length p.value ∷ []
 abbrev pub param_data : KeyValue → List ℕ
 param_data p = p.key ++ p.value
 
--- the size of the type and the type, the id, the two counts, the sizes of all parameters, and then their keys and values
+-- the size of the type and the type, the id, the two counts, the sizes of all parameters, and then their keys
+-- and values
 unfoldable pub spelling : Fields → List ℕ
 spelling f = (length f.kind ∷ f.kind)
-    ++ (to_be_bytes w32 f.id ++ ((length f.mandatory ∷ length f.advisory ∷ []) ++ (flat_map param_sizes (all_params f) ++ flat_map param_data (all_params f))))
+    ++ (to_be_bytes w32 f.id ++ ((length f.mandatory ∷ length f.advisory ∷ [])
+    ++ (flat_map param_sizes (all_params f) ++ flat_map param_data (all_params f))))
 
 -- `a-z`, `A-Z`, `0-9`, `_`, `:` or `-`
 abbrev pub is_kind_byte : ℕ → Bool
-is_kind_byte b = (nat_le 97 b && nat_le b 122) || (nat_le 65 b && nat_le b 90) || (nat_le 48 b && nat_le b 57) || (b == 95) || (b == 58) || (b == 45)
+is_kind_byte b =
+    (nat_le 97 b && nat_le b 122) || (nat_le 65 b && nat_le b 90) || (nat_le 48 b
+    && nat_le b 57) || (b == 95) || (b == 58) || (b == 45)
 
 -- a type: some of these bytes, and no others
 abbrev pub is_kind : List ℕ → Bool

@@ -12,19 +12,23 @@ use Rattle.hg_params.specs.StreamParams.{AreStreamParams, IsStreamParamsFault}
 pub record HasOneReading (A : Type 0) (bytes : List ℕ) : Type 0 where
   pub one_value : (first second : Head A) → IsHeader bytes first → IsHeader bytes second → first ≡ second
   pub no_fault : (head : Head A) (fault : ParamFault) → IsHeader bytes head → IsHeaderFault bytes fault → ⊥
-  pub one_fault : (first second : ParamFault) → IsHeaderFault bytes first → IsHeaderFault bytes second → first ≡ second
+  pub one_fault : (first second : ParamFault) → IsHeaderFault bytes first → IsHeaderFault bytes second →
+      first ≡ second
 
 -- the bytes say something or have a fault
 abbrev pub HasSomeReading : Type 0 → List ℕ → Type 0
-HasSomeReading A bytes = ((head : Head A) × IsHeader bytes head) ⊎ ((fault : ParamFault) × IsHeaderFault bytes fault)
+HasSomeReading A bytes = ((head : Head A) × IsHeader bytes head)
+    ⊎ ((fault : ParamFault) × IsHeaderFault bytes fault)
 
 -- what is written of a type and parameters that can stand in a header is read as these, the type cased
 abbrev pub IsReadBack : {A : Type 0} → List ℕ → ℕ → List (Param A) → Type 0
-IsReadBack kind id params = id < 2 ^ 32 → CanStand kind params → IsHeader (header_bytes (cased kind) id params) (written_head kind id params)
+IsReadBack kind id params = id < 2 ^ 32 → CanStand kind params →
+    IsHeader (header_bytes (cased kind) id params) (written_head kind id params)
 
 -- and only what some header says can be written
 abbrev pub IsAllThatIsWritten : {A : Type 0} → List ℕ → ℕ → List (Param A) → Type 0
-IsAllThatIsWritten kind id params = (bytes : List ℕ) → IsHeader bytes (written_head kind id params) → CanStand kind params
+IsAllThatIsWritten kind id params = (bytes : List ℕ) → IsHeader bytes (written_head kind id params) →
+    CanStand kind params
 
 -- a header has some bytes, and at most 1 + 255 + 4 + 2 + 1,020 + 260,100 of them
 abbrev pub IsSmall : List ℕ → Type 0
@@ -32,10 +36,14 @@ IsSmall bytes = (0 < length bytes) × (length bytes ≤ 261382)
 
 -- bytes give at most one list of stream parameters or have at most one fault, and not both
 pub record HasOneParamsReading (A : Type 0) (bytes : List ℕ) : Type 0 where
-  pub one_value : (first second : List (StreamParam A)) → AreStreamParams bytes first → AreStreamParams bytes second → first ≡ second
-  pub no_fault : (params : List (StreamParam A)) (fault : ParamFault) → AreStreamParams bytes params → IsStreamParamsFault bytes fault → ⊥
-  pub one_fault : (first second : ParamFault) → IsStreamParamsFault bytes first → IsStreamParamsFault bytes second → first ≡ second
+  pub one_value : (first second : List (StreamParam A)) → AreStreamParams bytes first →
+      AreStreamParams bytes second → first ≡ second
+  pub no_fault : (params : List (StreamParam A)) (fault : ParamFault) → AreStreamParams bytes params →
+      IsStreamParamsFault bytes fault → ⊥
+  pub one_fault : (first second : ParamFault) → IsStreamParamsFault bytes first →
+      IsStreamParamsFault bytes second → first ≡ second
 
 -- bytes give a list of stream parameters or have a fault
 abbrev pub HasSomeParamsReading : Type 0 → List ℕ → Type 0
-HasSomeParamsReading A bytes = ((params : List (StreamParam A)) × AreStreamParams bytes params) ⊎ ((fault : ParamFault) × IsStreamParamsFault bytes fault)
+HasSomeParamsReading A bytes = ((params : List (StreamParam A)) × AreStreamParams bytes params)
+    ⊎ ((fault : ParamFault) × IsStreamParamsFault bytes fault)

@@ -1,5 +1,6 @@
 -- Stream parameters: pieces between spaces, each a name, or a name and a value.
-use Rattle.std.specs.Prelude.{◌≡◌, ℕ, List, [], ◌∷◌, map, ◌+◌, drop, Bool, not, ◌==◌, Option, Some, None, if◌then◌else◌, codes}
+use Rattle.std.specs.Prelude.{◌≡◌, ℕ, List, [], ◌∷◌, map, ◌+◌, drop, Bool, not, ◌==◌, Option, Some, None}
+use Rattle.std.specs.Prelude.{if◌then◌else◌, codes}
 use Rattle.std.specs.List.{slice_split, before_first, position, filter_map}
 use Rattle.std.specs.Char.{is_ascii_alphabetic, is_ascii_uppercase}
 use Rattle.std.specs.Option.{option_map}
@@ -7,7 +8,8 @@ use Rattle.std.specs.Str.{str_eq_ignore_ascii_case, bytes_eq}
 use Rattle.percent_encoding.specs.Percent.{percent_decode}
 use Rattle.hg_params.specs.declared.stream_params.StreamParam.{StreamParam}
 use Rattle.hg_params.specs.declared.fault.ParamFault.{ParamFault}
-use Rattle.hg_params.specs.declared.fault.ParamFault.TheVariants.{EmptyName, BadName, UnknownMandatory, Compressed}
+use Rattle.hg_params.specs.declared.fault.ParamFault.TheVariants.{EmptyName, BadName, UnknownMandatory}
+use Rattle.hg_params.specs.declared.fault.ParamFault.TheVariants.{Compressed}
 
 abbrev pub is_space : ℕ → Bool
 is_space b = b == 32
@@ -29,7 +31,8 @@ pieces_of (Some text) = slice_split is_space text
 unfoldable pub behind_first : (ℕ → Bool) → List ℕ → Option (List ℕ)
 behind_first test text = option_map (λ place. drop (place + 1) text) (position test text)
 
--- the name of a piece, which ends at the first `=`, and the value behind it, where there is one; both without escapes
+-- the name of a piece, which ends at the first `=`, and the value behind it, where there is one; both without
+-- escapes
 unfoldable pub name_of : List ℕ → List ℕ
 name_of piece = percent_decode (before_first is_equals piece)
 
@@ -45,8 +48,8 @@ abbrev pub compression_fault : Option (List ℕ) → Option ParamFault
 compression_fault None = Some Compressed
 compression_fault (Some value) = if bytes_eq value (codes "UN") then None else Some Compressed
 
--- the fault of a parameter by its name and its value: the name is empty or begins with no letter, the stream is compressed, or the name begins with an
--- upper case letter and is not known
+-- the fault of a parameter by its name and its value: the name is empty or begins with no letter, the stream
+-- is compressed, or the name begins with an upper case letter and is not known
 unfoldable pub fault_of : List ℕ → Option (List ℕ) → Option ParamFault
 fault_of [] value = Some EmptyName
 fault_of (first ∷ rest) value =

@@ -7,7 +7,8 @@ use Rattle.hg_types.specs.declared.part.Part.{Part}
 use Rattle.hg_params.specs.declared.head.Head.{Head}
 use Rattle.hg_params.specs.Header.{KeyValue, Fields, FitsByte, spelling, is_kind, AreDistinct, param}
 
--- the type as it is written: in upper case where it has an upper case letter; else it is in lower case and stays
+-- the type as it is written: in upper case where it has an upper case letter; else it is in lower case and
+-- stays
 unfoldable pub cased : List ℕ → List ℕ
 cased kind = if list_any is_ascii_uppercase kind then map to_ascii_uppercase kind else kind
 
@@ -22,7 +23,8 @@ advisory_of params = map key_value (filter (λ p. not p.mandatory) params)
 
 -- the fields of a header of that type, id and parameters
 abbrev pub fields_of : {A : Type 0} → List ℕ → ℕ → List (Param A) → Fields
-fields_of kind id params = record { kind = kind; id = id; mandatory = mandatory_of params; advisory = advisory_of params }
+fields_of kind id params =
+    record { kind = kind; id = id; mandatory = mandatory_of params; advisory = advisory_of params }
 
 -- the header of that type, as it stands, that id and those parameters
 unfoldable pub header_bytes : {A : Type 0} → List ℕ → ℕ → List (Param A) → List ℕ

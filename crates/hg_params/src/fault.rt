@@ -7,8 +7,9 @@ use hg_types::NoMemory;
 use std::alloc::AllocError;
 use thiserror::Error;
 
-/// What is wrong with a header (1 to 4) or with stream parameters (5 to 8). Of several the one that is decided first is told: in a header the
-/// lower number, in stream parameters that of the first faulty parameter.
+/// What is wrong with a header (1 to 4) or with stream parameters (5 to 8). Of several the one that is
+/// decided first is told: in a header the lower number, in stream parameters that of the first faulty
+/// parameter.
 #[derive(Clone, Copy, Debug, PartialEq, Eq, Error)]
 pub enum ParamFault {
     /// 1: a field of the header passes the end of its bytes.

@@ -2,8 +2,9 @@
 
 ghost use Rattle.std.specs.Prelude.{◌≡◌, ◌≤◌, IfOk, length};
 ghost use Rattle.std.specs.List.{sum};
-ghost use Rattle.hg_params.specs.Reading.{Gives, bytes_at, counted_at, number_at, pair_at, blocks_at, front_at};
-ghost use Rattle.hg_params.specs.View.{view_block, view_front};
+ghost use Rattle.hg_params.specs.code.Reading.{Gives, bytes_at, counted_at, number_at, pair_at, blocks_at};
+ghost use Rattle.hg_params.specs.code.Reading.{front_at};
+ghost use Rattle.hg_params.specs.code.View.{view_block, view_front};
 
 use crate::fault::ParamFault;
 
@@ -23,7 +24,7 @@ pub struct Front<'a> {
     pub advisory: Block<'a>,
 }
 
-#[tactic(auto, unfolding(crate::specs::Reading::bytes_at))]
+#[tactic(auto, unfolding(crate::specs::code::Reading::bytes_at))]
 fn bytes_of(bytes: &[u8], count: usize) -> Result<(&[u8], &[u8]), ParamFault>
     ensures read { Gives (λ x. (x.0.now, x.1.now)) result (bytes_at count bytes.now) }
     ensures size { IfOk result (λ x. length x.0.now ≡ count) }
@@ -34,7 +35,7 @@ fn bytes_of(bytes: &[u8], count: usize) -> Result<(&[u8], &[u8]), ParamFault>
     Ok(bytes.split_at(count))
 }
 
-#[tactic(auto, unfolding(crate::specs::Reading::counted_at))]
+#[tactic(auto, unfolding(crate::specs::code::Reading::counted_at))]
 fn counted(bytes: &[u8]) -> Result<(&[u8], &[u8]), ParamFault>
     ensures { Gives (λ x. (x.0.now, x.1.now)) result (counted_at bytes.now) }
 {
@@ -44,7 +45,7 @@ fn counted(bytes: &[u8]) -> Result<(&[u8], &[u8]), ParamFault>
     }
 }
 
-#[tactic(auto, unfolding(crate::specs::Reading::number_at))]
+#[tactic(auto, unfolding(crate::specs::code::Reading::number_at))]
 fn number(bytes: &[u8]) -> Result<(u32, &[u8]), ParamFault>
     ensures { Gives (λ x. (x.0, x.1.now)) result (number_at bytes.now) }
 {
@@ -56,7 +57,7 @@ fn number(bytes: &[u8]) -> Result<(u32, &[u8]), ParamFault>
 }
 
 /// The first two bytes, and what is left.
-#[tactic(auto, unfolding(crate::specs::Reading::pair_at))]
+#[tactic(auto, unfolding(crate::specs::code::Reading::pair_at))]
 pub fn pair(bytes: &[u8]) -> Result<((u8, u8), &[u8]), ParamFault>
     ensures { Gives (λ x. (x.0, x.1.now)) result (pair_at bytes.now) }
 {
@@ -74,9 +75,10 @@ fn total(sizes: &[u8]) -> usize
     sizes.iter().map(|size| *size as usize).sum()
 }
 
-#[tactic(auto, unfolding(crate::specs::Reading::blocks_at))]
+#[tactic(auto, unfolding(crate::specs::code::Reading::blocks_at))]
 fn blocks(bytes: &[u8], counts: (u8, u8)) -> Result<((Block<'_>, Block<'_>), &[u8]), ParamFault>
-    ensures { Gives (λ x. ((view_block x.0.0, view_block x.0.1), x.1.now)) result (blocks_at counts bytes.now) }
+    ensures { Gives (λ x. ((view_block x.0.0, view_block x.0.1), x.1.now)) result
+        (blocks_at counts bytes.now) }
 {
     let (mandatory, rest) = bytes_of(bytes, 2 * counts.0 as usize)?;
     let (advisory, rest) = bytes_of(rest, 2 * counts.1 as usize)?;
@@ -94,7 +96,7 @@ fn blocks(bytes: &[u8], counts: (u8, u8)) -> Result<((Block<'_>, Block<'_>), &[u
 }
 
 /// The fields at the front of the bytes, and what is left. The fault is Short.
-#[tactic(auto, unfolding(crate::specs::Reading::front_at))]
+#[tactic(auto, unfolding(crate::specs::code::Reading::front_at))]
 pub fn read_front(bytes: &[u8]) -> Result<(Front<'_>, &[u8]), ParamFault>
     ensures { Gives (λ x. (view_front x.0, x.1.now)) result (front_at bytes.now) }
 {

@@ -10,7 +10,8 @@ use crate::params::{append_params, are_distinct};
 use hg_types::{Param, Seq};
 use std::alloc::{Allocator, Global};
 
-/// What a header says: the part's type in the case of the header, its id, and its parameters, mandatory ones first.
+/// What a header says: the part's type in the case of the header, its id, and its parameters, mandatory ones
+/// first.
 #[derive(Drop)]
 pub struct Head<A: Allocator = Global> {
     pub kind: Seq<u8, A>,

@@ -1,10 +1,12 @@
-//! What holds of all headers and all stream parameters. The functions do nothing: what they ensure is a theorem.
+//! What holds of all headers and all stream parameters. The functions do nothing: what they ensure is a
+//! theorem.
 
 ghost use Rattle.std.specs.Prelude.{ℕ, ◌<◌, List, All};
 ghost use Rattle.hg_types.specs.declared.part.Param.{Param as AnyParam};
 ghost use Rattle.hg_params.specs.declared.head.Head.{Head as AnyHead};
 ghost use Rattle.hg_params.specs.Header.{IsHeader};
-ghost use Rattle.hg_params.specs.Laws.{HasOneReading, HasSomeReading, IsReadBack, IsAllThatIsWritten, IsSmall, HasOneParamsReading, HasSomeParamsReading};
+ghost use Rattle.hg_params.specs.Laws.{HasOneReading, HasSomeReading, IsReadBack, IsAllThatIsWritten};
+ghost use Rattle.hg_params.specs.Laws.{IsSmall, HasOneParamsReading, HasSomeParamsReading};
 
 use std::alloc::Allocator;
 
@@ -13,7 +15,8 @@ pub fn headers_have_one_reading<A: Allocator>()
     ensures { (bytes : List ℕ) → HasOneReading A bytes }
 {}
 
-/// Any bytes are a header or have a fault. With [`headers_have_one_reading`], they are one header or have one fault.
+/// Any bytes are a header or have a fault. With [`headers_have_one_reading`], they are one header or have one
+/// fault.
 pub fn every_header_is_read<A: Allocator>()
     ensures { (bytes : List ℕ) → All (λ byte. byte < 256) bytes → HasSomeReading A bytes }
 {}
@@ -33,12 +36,14 @@ pub fn headers_are_small<A: Allocator>()
     ensures { (bytes : List ℕ) (head : AnyHead A) → IsHeader bytes head → IsSmall bytes }
 {}
 
-/// Stream parameters are read in one way: their bytes give at most one list or have at most one fault, and not both.
+/// Stream parameters are read in one way: their bytes give at most one list or have at most one fault, and
+/// not both.
 pub fn stream_params_have_one_reading<A: Allocator>()
     ensures { (bytes : List ℕ) → HasOneParamsReading A bytes }
 {}
 
-/// Any bytes give a list of stream parameters or have a fault. With [`stream_params_have_one_reading`], it is one list or one fault.
+/// Any bytes give a list of stream parameters or have a fault. With [`stream_params_have_one_reading`], it is
+/// one list or one fault.
 pub fn every_params_text_is_read<A: Allocator>()
     ensures { (bytes : List ℕ) → HasSomeParamsReading A bytes }
 {}

@@ -1,4 +1,5 @@
-//! The headers of a bundle's parts, and a bundle's stream parameters: their reading, which is exact, and their writing.
+//! The headers of a bundle's parts, and a bundle's stream parameters: their reading, which is exact, and
+//! their writing.
 //!
 //! The formats are those of Mercurial's `internals.bundles`, for bundle2. A header is, in this order:
 //!

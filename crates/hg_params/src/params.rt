@@ -3,7 +3,7 @@
 ghost use Rattle.std.specs.Prelude.{◌≡◌, ◌≤◌, ◌++◌, ◌↔◌, IsTrue, OnOk, length, map};
 ghost use Rattle.std.specs.List.{sum, Any};
 ghost use Rattle.hg_params.specs.Header.{AreDistinct, param};
-ghost use Rattle.hg_params.specs.Reading.{params_in};
+ghost use Rattle.hg_params.specs.code.Reading.{params_in};
 
 use crate::fields::{Block, pair};
 use hg_types::{NoMemory, Param, Seq};
@@ -17,7 +17,8 @@ pub fn append_params<A: Allocator + Copy>(
     block: Block,
 ) -> Result<(), NoMemory>
     requires { sum block.sizes.now ≤ length block.texts.now }
-    ensures { OnOk result (params.new ≡ params.old ++ map (param mandatory) (params_in block.entry.sizes.now block.entry.texts.now)) }
+    ensures { OnOk result (params.new ≡ params.old
+        ++ map (param mandatory) (params_in block.entry.sizes.now block.entry.texts.now)) }
 {
     let mut sizes = block.sizes;
     let mut texts = block.texts;

@@ -1,14 +1,18 @@
 //! Reading stream parameters.
 //!
-//! They are pieces parted by single spaces; no bytes are no piece. A piece is `name`, or `name=value` where the first `=` parts them, and both
-//! have escapes as in URLs: `%` and two hexadecimal digits. Any other `%` stays as it is.
+//! They are pieces parted by single spaces; no bytes are no piece. A piece is `name`, or `name=value` where
+//! the first `=` parts them, and both have escapes as in URLs: `%` and two hexadecimal digits. Any other `%`
+//! stays as it is.
 
 ghost use Rattle.std.specs.Prelude.{◌≡◌, ◌==◌, ◌⊎◌, List, Option, None, Some, IfOk, IfErr};
 ghost use Rattle.std.specs.List.{position, before_first};
 ghost use Rattle.std.specs.Option.{option_map};
 ghost use Rattle.std.specs.Str.{bytes_eq};
 ghost use Rattle.percent_encoding.specs.Percent.{percent_decode as percent_decoded};
-ghost use Rattle.hg_params.specs.StreamParams.{pieces, pieces_of, behind_first, is_compression as is_compression_of, compression_fault as compression_fault_of, fault_of, name_of, value_of, stream_param, AreStreamParams, IsStreamParamsFault};
+ghost use Rattle.hg_params.specs.StreamParams.{pieces, pieces_of, behind_first};
+ghost use Rattle.hg_params.specs.StreamParams.{is_compression as is_compression_of};
+ghost use Rattle.hg_params.specs.StreamParams.{compression_fault as compression_fault_of, fault_of, name_of};
+ghost use Rattle.hg_params.specs.StreamParams.{value_of, stream_param, AreStreamParams, IsStreamParamsFault};
 
 use crate::fault::ParamFault;
 use hg_types::{NoMemory, Seq};
@@ -52,8 +56,8 @@ fn compression_fault<A: Allocator>(value: &Option<Seq<u8, A>>) -> Option<ParamFa
 impl<A: Allocator> StreamParam<A> {
     ghost use Rattle.hg_params.specs.StreamParams.{fault_of};
 
-    /// What is wrong with the parameter: an empty name, a name that begins with no letter, a compressed stream, or a name that begins with an
-    /// upper case letter and is not known.
+    /// What is wrong with the parameter: an empty name, a name that begins with no letter, a compressed
+    /// stream, or a name that begins with an upper case letter and is not known.
     #[tactic(auto, unfolding(crate::specs::StreamParams::fault_of))]
     fn fault(&self) -> Option<ParamFault>
         ensures { result ≡ fault_of self.now.name self.now.value }
@@ -119,8 +123,10 @@ fn cut_piece<A: Allocator + Copy>(alloc: A, piece: &[u8]) -> Result<StreamParam<
 }
 
 fn read_piece<A: Allocator + Copy>(alloc: A, piece: &[u8]) -> Result<StreamParam<A>, ParamFault>
-    ensures ok { IfOk result (λ param. (param ≡ stream_param piece.now) × (fault_of (name_of piece.now) (value_of piece.now) ≡ None)) }
-    ensures err { IfErr result (λ fault. (fault ≡ ParamFault.NoMemory) ⊎ (fault_of (name_of piece.now) (value_of piece.now) ≡ Some fault)) }
+    ensures ok { IfOk result (λ param. (param ≡ stream_param piece.now)
+        × (fault_of (name_of piece.now) (value_of piece.now) ≡ None)) }
+    ensures err { IfErr result (λ fault. (fault ≡ ParamFault.NoMemory)
+        ⊎ (fault_of (name_of piece.now) (value_of piece.now) ≡ Some fault)) }
 {
     let param = cut_piece(alloc, piece)?;
     match param.fault() {
@@ -141,13 +147,15 @@ fn unread(bytes: &[u8]) -> Option<&[u8]>
 
 /// Reads stream parameters, which are all of the bytes.
 ///
-/// Of several faulty ones the first is told, and of one the first of EmptyName, BadName, Compressed and UnknownMandatory.
+/// Of several faulty ones the first is told, and of one the first of EmptyName, BadName, Compressed and
+/// UnknownMandatory.
 pub fn read_stream_params<A: Allocator + Copy>(
     alloc: A,
     bytes: &[u8],
 ) -> Result<Seq<StreamParam<A>, A>, ParamFault>
     ensures ok { IfOk result (λ params. AreStreamParams bytes.now params) }
-    ensures err { IfErr result (λ fault. (fault ≡ ParamFault.NoMemory) ⊎ IsStreamParamsFault bytes.now fault) }
+    ensures err { IfErr result (λ fault. (fault ≡ ParamFault.NoMemory)
+        ⊎ IsStreamParamsFault bytes.now fault) }
 {
     let mut params = Seq::new(alloc);
     let mut rest = unread(bytes);

@@ -440,8 +440,8 @@ fn params_take_little(heap: &LocalHeap) -> bool {
     }
 }
 
-// Where memory is ample, what is read takes little more than came, whatever its counts announce, and what is written
-// little more than itself. A test takes none.
+// Where memory is ample, what is read takes little more than came, whatever its counts announce, and what is
+// written little more than itself. A test takes none.
 #[test]
 fn memory_follows_the_bytes(rt: HostRuntime) -> Result<(), Fail> {
     let heap = LocalHeap::new(rt.alloc(), 1_048_576)?;

@@ -59,7 +59,8 @@ fn does_kind_fit(kind: &[u8]) -> bool
 }
 
 fn do_counts_fit<A: Allocator>(params: &[Param<A>]) -> bool
-    ensures { IsTrue result ↔ (FitsByte (count_by (λ p. p.mandatory) params.now) × FitsByte (count_by (λ p. not p.mandatory) params.now)) }
+    ensures { IsTrue result ↔ (FitsByte (count_by (λ p. p.mandatory) params.now)
+        × FitsByte (count_by (λ p. not p.mandatory) params.now)) }
 {
     count_mandatory(params) < SIZES && count_advisory(params) < SIZES
 }
@@ -74,9 +75,9 @@ fn can_stand<A: Allocator>(kind: &[u8], params: &[Param<A>]) -> bool
         && are_distinct(params)
 }
 
-/// Whether the part, with its type cased as [`write_header`](crate::write_header) does, is what some header says: its type is one, and has at
-/// most 255 bytes as each key and each value has; there are at most 255 mandatory parameters and as many advisory ones, mandatory ones first;
-/// and no two parameters have one key.
+/// Whether the part, with its type cased as [`write_header`](crate::write_header) does, is what some header
+/// says: its type is one, and has at most 255 bytes as each key and each value has; there are at most 255
+/// mandatory parameters and as many advisory ones, mandatory ones first; and no two parameters have one key.
 pub fn is_writable<A: Allocator>(part: &Part<A>) -> bool
     ensures { IsTrue result ↔ IsWritable part.now }
 {

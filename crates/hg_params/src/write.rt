@@ -4,7 +4,8 @@ ghost use Rattle.std.specs.Prelude.{◌≡◌, ◌++◌, ◌<◌, List, OnOk, On
 ghost use Rattle.std.specs.List.{All, flat_map, list_any};
 ghost use Rattle.std.specs.Char.{is_ascii_uppercase};
 ghost use Rattle.hg_params.specs.Header.{param_sizes, param_data};
-ghost use Rattle.hg_params.specs.Writing.{cased, key_value, header_bytes, FitsParam, CanStand, IsWritable, IsGrown};
+ghost use Rattle.hg_params.specs.Writing.{cased, key_value, header_bytes, FitsParam, CanStand, IsWritable};
+ghost use Rattle.hg_params.specs.Writing.{IsGrown};
 
 use crate::writable::{count_advisory, count_mandatory};
 use hg_types::{NoMemory, Param, Part};
@@ -31,7 +32,8 @@ fn append_kind<A: Allocator>(out: &mut Vec<u8, A>, kind: &[u8]) -> Result<(), No
 
 fn append_sizes<A: Allocator>(out: &mut Vec<u8, A>, params: &[Param<A>]) -> Result<(), NoMemory>
     requires { All FitsParam params.now }
-    ensures ok { OnOk result (out.new.items ≡ out.old.items ++ flat_map param_sizes (map key_value params.now)) }
+    ensures ok { OnOk result (out.new.items
+        ≡ out.old.items ++ flat_map param_sizes (map key_value params.now)) }
     ensures err { OnErr result (IsGrown out.old.items out.new.items) }
 {
     for param in params {
@@ -42,7 +44,8 @@ fn append_sizes<A: Allocator>(out: &mut Vec<u8, A>, params: &[Param<A>]) -> Resu
 }
 
 fn append_texts<A: Allocator>(out: &mut Vec<u8, A>, params: &[Param<A>]) -> Result<(), NoMemory>
-    ensures ok { OnOk result (out.new.items ≡ out.old.items ++ flat_map param_data (map key_value params.now)) }
+    ensures ok { OnOk result (out.new.items
+        ≡ out.old.items ++ flat_map param_data (map key_value params.now)) }
     ensures err { OnErr result (IsGrown out.old.items out.new.items) }
 {
     for param in params {
@@ -73,7 +76,8 @@ fn append_head<A: Allocator>(
     Ok(())
 }
 
-/// Appends the header of that type, id and parameters. A mandatory type is written in upper case, an advisory one in lower case.
+/// Appends the header of that type, id and parameters. A mandatory type is written in upper case, an advisory
+/// one in lower case.
 ///
 /// Nothing is written where memory is refused.
 pub fn write_head<A: Allocator>(
@@ -99,7 +103,8 @@ pub fn write_head<A: Allocator>(
 /// Nothing is written where memory is refused.
 pub fn write_header<A: Allocator>(out: &mut Vec<u8, A>, part: &Part<A>) -> Result<(), NoMemory>
     requires { IsWritable part.now }
-    ensures ok { OnOk result (out.new.items ≡ out.old.items ++ header_bytes (cased part.now.kind) part.now.id part.now.params) }
+    ensures ok { OnOk result (out.new.items
+        ≡ out.old.items ++ header_bytes (cased part.now.kind) part.now.id part.now.params) }
     ensures err { OnErr result (out.new.items ≡ out.old.items) }
 {
     write_head(out, part.kind.as_slice(), part.id, part.params.as_slice())

@@ -15,7 +15,7 @@ use Rattle.hg_params.specs.declared.head.Head.{Head}
 use Rattle.hg_stream.specs.Block.{sized}
 use Rattle.hg_stream.specs.Frames.{magic, Piece, Chunk, Pause, Break, Inner, joined, piece_bytes, piece_data, IsPiece, IsInner, inner_bytes, Frame, frame_bytes, part_of, IsFrame, AreFrames, HasParts}
 use Rattle.hg_stream.specs.Places.{IsInPayload, IsInterrupted, IsInInner, IsBeforeChunk, IsReading, at_chunk}
-use Rattle.hg_stream.specs.Told.{of_chunk}
+use Rattle.hg_stream.specs.code.Told.{of_chunk}
 use Rattle.hg_stream.specs.Unbundler.{Breaks, Takes}
 use Rattle.hg_stream.proofs.Steps.{further}
 

@@ -10,7 +10,7 @@ use Rattle.hg_stream.specs.Block.{sized, IsBlock}
 use Rattle.hg_stream.specs.Frames.{max_header, HasHead}
 use Rattle.hg_stream.specs.Places.{IsInterrupted, IsInInner, of_interrupting}
 use Rattle.hg_stream.specs.Faults.{EndsInnerHeader}
-use Rattle.hg_stream.specs.Told.{JudgesHeader, ReadsInterrupting, RefusesInterrupting}
+use Rattle.hg_stream.specs.code.Told.{JudgesHeader, ReadsInterrupting, RefusesInterrupting}
 use Rattle.hg_stream.specs.Unbundler.{Breaks, Waits}
 use Rattle.hg_stream.proofs.Steps.{further, header_err, EndsBlock}
 

@@ -19,7 +19,7 @@ use Rattle.hg_stream.specs.declared.unbundler.Unbundler.{Unbundler}
 use Rattle.hg_stream.specs.Block.{sized, IsBlock, IsPartialBlock, HoldsAt, HoldsBlock, BlockStops, BlockFails}
 use Rattle.hg_stream.specs.Frames.{magic, max_header, HasParts}
 use Rattle.hg_stream.specs.Places.{IsBeforeBlock, params, header, IsBeforeHeader, IsInPayload, IsReading, at_block, header_room}
-use Rattle.hg_stream.specs.Told.{of_block, room_left, ReadsParams, RefusesParams, RefusesHeader}
+use Rattle.hg_stream.specs.code.Told.{of_block, room_left, ReadsParams, RefusesParams, RefusesHeader}
 use Rattle.hg_stream.specs.Unbundler.{Breaks, IsAt, Waits, Finishes, ready_of}
 
 -- ---- blocks

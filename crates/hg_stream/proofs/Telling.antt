@@ -5,7 +5,7 @@ use Rattle.hg_types.specs.declared.limits.Limits.{Limits}
 use Rattle.hg_types.specs.declared.part.Part.{Part}
 use Rattle.hg_chunks.specs.PayloadIn.{Phase}
 use Rattle.hg_chunks.specs.PayloadIn.{Reading as chunks_reading, Ended as chunks_ended, HandedOut as chunks_handed_out}
-use Rattle.hg_stream.specs.Going.{GoesOn}
+use Rattle.hg_stream.specs.code.Going.{GoesOn}
 use Rattle.hg_stream.specs.declared.fault.StreamFault.{StreamFault}
 use Rattle.hg_stream.specs.declared.fault.StreamFault.TheVariants.{BadMagic, NegativeSize, Params, Header, Chunk, NestedInterrupt, ClientAbort, Unsupported, TooLarge, Truncated, NoMemory}
 use Rattle.hg_stream.specs.declared.state.State.TheVariants.{Reading, Ended, Failed}

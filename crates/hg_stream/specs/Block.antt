@@ -28,7 +28,8 @@ pub record IsPartBlock (most : ℕ) (rest : List ℕ) (size : ℕ) (part : List 
 
 -- less than a size, or a size that is allowed and less than its block
 abbrev pub IsPartialBlock : ℕ → List ℕ → Type 0
-IsPartialBlock most rest = (length rest < 4) ⊎ ((size : ℕ) × (part : List ℕ) × IsPartBlock most rest size part)
+IsPartialBlock most rest = (length rest < 4)
+    ⊎ ((size : ℕ) × (part : List ℕ) × IsPartBlock most rest size part)
 
 -- a negative size
 abbrev pub IsNegativeSize : List ℕ → Type 0

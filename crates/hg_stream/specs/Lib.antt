@@ -7,6 +7,5 @@ pub mod Unbundler
 pub mod Written
 pub mod Lengths
 pub mod Number
-pub mod Told
-pub mod Going
 pub mod Laws
+pub mod code

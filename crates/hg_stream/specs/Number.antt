@@ -1,7 +1,9 @@
 -- The numbers of the stream's faults.
 use Rattle.std.specs.Prelude.{ℕ}
 use Rattle.hg_stream.specs.declared.fault.StreamFault.{StreamFault}
-use Rattle.hg_stream.specs.declared.fault.StreamFault.TheVariants.{BadMagic, NegativeSize, Params, Header, Chunk, NestedInterrupt, ClientAbort, Unsupported, TooLarge, Truncated, NoMemory}
+use Rattle.hg_stream.specs.declared.fault.StreamFault.TheVariants.{BadMagic, NegativeSize, Params, Header}
+use Rattle.hg_stream.specs.declared.fault.StreamFault.TheVariants.{Chunk, NestedInterrupt, ClientAbort}
+use Rattle.hg_stream.specs.declared.fault.StreamFault.TheVariants.{Unsupported, TooLarge, Truncated, NoMemory}
 
 abbrev pub number_of : StreamFault → ℕ
 number_of BadMagic = 1

@@ -1,5 +1,6 @@
 -- What a reader of bundles has taken.
-use Rattle.std.specs.Prelude.{◌≡◌, ℕ, ◌+◌, ◌≤◌, ◌<◌, List, [], ◌∷◌, ◌++◌, length, take, Result, IfOk, IfErr, OnErr}
+use Rattle.std.specs.Prelude.{◌≡◌, ℕ, ◌+◌, ◌≤◌, ◌<◌, List, [], ◌∷◌, ◌++◌, length, take, Result, IfOk, IfErr}
+use Rattle.std.specs.Prelude.{OnErr}
 use Rattle.hg_types.specs.declared.limits.Limits.{Limits}
 use Rattle.hg_types.specs.declared.part.Part.{Part}
 use Rattle.hg_chunks.specs.declared.payload.PayloadIn.{PayloadIn}
@@ -61,7 +62,14 @@ pub record Fields (A : Type 0) : Type 0 where
   pub inner : PayloadIn A
 
 abbrev pub fields_of : {A : Type 0} → Unbundler A → Fields A
-fields_of u = record { limits = u.limits; magic = u.magic; block = u.block; head = u.head; payload = u.payload; inner = u.inner }
+fields_of u = record {
+  limits = u.limits;
+  magic = u.magic;
+  block = u.block;
+  head = u.head;
+  payload = u.payload;
+  inner = u.inner;
+}
 
 -- in the stream parameters, behind the magic
 pub record AtParams {A : Type 0} (u : Fields A) (bytes : List ℕ) (parts : List (Part A)) : Type 0 where
@@ -137,13 +145,15 @@ pub record IsAt {A : Type 0} (u : Unbundler A) (bytes : List ℕ) (parts : List 
 -- ---- steps
 
 -- it finished these parts
-pub record Finishes {A : Type 0} (u v : Unbundler A) (bytes : List ℕ) (parts added : List (Part A)) : Type 0 where
+pub record Finishes {A : Type 0} (u v : Unbundler A) (bytes : List ℕ)
+    (parts added : List (Part A)) : Type 0 where
   pub ready : ready_of v ≡ ready_of u ++ added
   pub at : IsAt v bytes (parts ++ added)
 
 -- from u it came to v by these bytes
 abbrev pub Moves : {A : Type 0} → Unbundler A → Unbundler A → List ℕ → Type 0
-Moves {A} u v taken = (bytes : List ℕ) (parts : List (Part A)) → IsAt u bytes parts → (added : List (Part A)) × Finishes u v (bytes ++ taken) parts added
+Moves {A} u v taken = (bytes : List ℕ) (parts : List (Part A)) → IsAt u bytes parts → (added : List (Part A))
+    × Finishes u v (bytes ++ taken) parts added
 
 -- it finished no part, and lost none
 abbrev pub KeepsParts : {A : Type 0} → Unbundler A → Unbundler A → Type 0
@@ -156,11 +166,13 @@ Breaks fault limits bytes parts = Decides fault limits bytes parts
 
 -- from u it met that fault by these bytes
 abbrev pub Fails : {A : Type 0} → StreamFault → Unbundler A → List ℕ → Type 0
-Fails {A} fault u taken = (bytes : List ℕ) (parts : List (Part A)) → IsAt u bytes parts → Breaks fault u.limits (bytes ++ taken) parts
+Fails {A} fault u taken = (bytes : List ℕ) (parts : List (Part A)) → IsAt u bytes parts →
+    Breaks fault u.limits (bytes ++ taken) parts
 
--- One step, by its answer: how many bytes of a piece it took, some at least, and what it came to by them; or the fault that it met in
--- the piece, with no part finished or lost.
-pub record Steps {A : Type 0} (u v : Unbundler A) (piece : List ℕ) (answer : Result ℕ StreamFault) : Type 0 where
+-- One step, by its answer: how many bytes of a piece it took, some at least, and what it came to by them; or
+-- the fault that it met in the piece, with no part finished or lost.
+pub record Steps {A : Type 0} (u v : Unbundler A) (piece : List ℕ)
+    (answer : Result ℕ StreamFault) : Type 0 where
   pub count : IfOk answer (λ n. n ≤ length piece)
   pub some : IfOk answer (λ n. 0 < n)
   pub ok : IfOk answer (λ n. Moves u v (take n piece))
@@ -172,21 +184,26 @@ pub record Steps {A : Type 0} (u v : Unbundler A) (piece : List ℕ) (answer : R
 -- the same, and it may have finished some parts before, which it keeps
 abbrev pub Halts : {A : Type 0} → StreamFault → Unbundler A → Unbundler A → List ℕ → Type 0
 Halts {A} fault u v taken = (bytes : List ℕ) (parts : List (Part A)) → IsAt u bytes parts
-    → (added : List (Part A)) × (ready_of v ≡ ready_of u ++ added) × HasFinished v (parts ++ added) × Breaks fault u.limits (bytes ++ taken) (parts ++ added)
+    → (added : List (Part A)) × (ready_of v ≡ ready_of u ++ added) × HasFinished v (parts ++ added)
+    × Breaks fault u.limits (bytes ++ taken) (parts ++ added)
 
--- what a reader that is fed can meet: the fault that the last byte decides, or want of memory within the limit on the stream
+-- what a reader that is fed can meet: the fault that the last byte decides, or want of memory within the
+-- limit on the stream
 abbrev pub Meets : {A : Type 0} → StreamFault → Limits → List ℕ → List (Part A) → Type 0
 Meets NoMemory limits bytes parts = IsReading limits bytes parts × (length bytes ≤ limits.stream)
 Meets fault limits bytes parts = IsFault limits bytes parts fault
 
--- from u, which took as many bytes as the stream may have, it met that fault by these bytes, and finished nothing
+-- from u, which took as many bytes as the stream may have, it met that fault by these bytes, and finished
+-- nothing
 abbrev pub PassesBy : {A : Type 0} → StreamFault → Unbundler A → Unbundler A → List ℕ → Type 0
-PassesBy {A} fault u v taken = (bytes : List ℕ) (parts : List (Part A)) → IsAt u bytes parts → state_of u ≡ Reading → length bytes ≡ u.limits.stream
+PassesBy {A} fault u v taken = (bytes : List ℕ) (parts : List (Part A)) → IsAt u bytes parts →
+    state_of u ≡ Reading → length bytes ≡ u.limits.stream
     → (ready_of v ≡ ready_of u) × HasFinished v parts × Meets fault u.limits (bytes ++ taken) parts
 
 -- ---- the whole
 
--- a reader that goes on knows where it is, and how many bytes may still come; one that has ended or failed has lost no part that it finished
+-- a reader that goes on knows where it is, and how many bytes may still come; one that has ended or failed
+-- has lost no part that it finished
 abbrev pub Keeps : {A : Type 0} → State → Unbundler A → List ℕ → List (Part A) → Type 0
 Keeps Reading u bytes parts = IsAt u bytes parts × (u.stream_left + length bytes ≡ u.limits.stream)
 Keeps Ended u bytes parts = HasFinished u parts
@@ -199,15 +216,18 @@ pub record Holds {A : Type 0} (u : Unbundler A) (given : List (Part A)) (bytes :
 
 -- a reader that took some bytes, gave some parts, and goes on
 abbrev pub IsStillReading : {A : Type 0} → Unbundler A → Type 0
-IsStillReading {A} u = (given : List (Part A)) × (bytes : List ℕ) × Holds u given bytes × (state_of u ≡ Reading)
+IsStillReading {A} u = (given : List (Part A)) × (bytes : List ℕ) × Holds u given bytes
+    × (state_of u ≡ Reading)
 
 -- from u, which went on, it came to v by these bytes
 abbrev pub Feeds : {A : Type 0} → Unbundler A → Unbundler A → List ℕ → Type 0
-Feeds {A} u v taken = (given : List (Part A)) (bytes : List ℕ) → state_of u ≡ Reading → Holds u given bytes → Holds v given (bytes ++ taken)
+Feeds {A} u v taken = (given : List (Part A)) (bytes : List ℕ) → state_of u ≡ Reading → Holds u given bytes →
+    Holds v given (bytes ++ taken)
 
 -- ---- parts of steps
 
 -- a part was finished behind whole pieces with that data, and the next header is waited for
 abbrev pub Finished : {A : Type 0} → Unbundler A → Unbundler A → List ℕ → Type 0
-Finished {A} u v payload = (front : List ℕ) (parts : List (Part A)) → IsInPayload u.limits front parts u.head payload → u.parts_left + length parts ≡ u.limits.parts
+Finished {A} u v payload = (front : List ℕ) (parts : List (Part A)) →
+    IsInPayload u.limits front parts u.head payload → u.parts_left + length parts ≡ u.limits.parts
     → Finishes u v (front ++ closing) parts (part_of u.head payload ∷ [])

@@ -52,6 +52,7 @@ pub struct BlockIn<A: Allocator = Global> {
 impl<A: Allocator> BlockIn<A> {
     ghost use Rattle.hg_stream.specs.Block.{HoldsBlock, BlockStops, BlockFails};
 
+    /// A reader that has taken nothing, of a block of at most so many bytes.
     pub fn new(alloc: A, most: u32) -> Self
         ensures empty { HoldsBlock result [] }
         ensures most { result.most ≡ most }
@@ -80,9 +81,11 @@ impl<A: Allocator> BlockIn<A> {
         requires { 0 < length piece.now }
         ensures some { IfOk result (λ r. 0 < r.0) }
         ensures count { IfOk result (λ r. r.0 ≤ length piece.now) }
-        ensures ok { IfOk result (λ r. (rest : List ℕ) → HoldsBlock self.old rest → BlockStops r.1 self.new (rest ++ take r.0 piece.now)) }
+        ensures ok { IfOk result (λ r. (rest : List ℕ) → HoldsBlock self.old rest →
+            BlockStops r.1 self.new (rest ++ take r.0 piece.now)) }
         ensures err { IfErr result (λ fault. (place : ℕ) × (place ≤ length piece.now)
-            × ((rest : List ℕ) → HoldsBlock self.old rest → BlockFails fault self.old.most (rest ++ take place piece.now))) }
+            × ((rest : List ℕ) → HoldsBlock self.old rest →
+            BlockFails fault self.old.most (rest ++ take place piece.now))) }
         ensures most { self.new.most ≡ self.old.most }
     {
         match self.awaits {
@@ -100,8 +103,10 @@ impl<A: Allocator> BlockIn<A> {
 
     fn take_size_byte(&mut self, byte: u8) -> Result<BlockStep, BlockFault>
         requires { self.old.awaits ≡ Awaits.Size }
-        ensures ok { IfOk result (λ step. (rest : List ℕ) → HoldsBlock self.old rest → BlockStops step self.new (rest ++ byte ∷ [])) }
-        ensures err { IfErr result (λ fault. (rest : List ℕ) → HoldsBlock self.old rest → BlockFails fault self.old.most (rest ++ byte ∷ [])) }
+        ensures ok { IfOk result (λ step. (rest : List ℕ) → HoldsBlock self.old rest →
+            BlockStops step self.new (rest ++ byte ∷ [])) }
+        ensures err { IfErr result (λ fault. (rest : List ℕ) → HoldsBlock self.old rest →
+            BlockFails fault self.old.most (rest ++ byte ∷ [])) }
         ensures most { self.new.most ≡ self.old.most }
     {
         let Some(size) = self.size.push(byte) else {
@@ -124,8 +129,10 @@ impl<A: Allocator> BlockIn<A> {
     fn take_data(&mut self, left: Left, bytes: &[u8]) -> Result<BlockStep, BlockFault>
         requires awaits { self.old.awaits ≡ Awaits.Data left }
         requires within { length bytes.now ≤ left.bytes }
-        ensures ok { IfOk result (λ step. (rest : List ℕ) → HoldsBlock self.old rest → BlockStops step self.new (rest ++ bytes.now)) }
-        ensures err { IfErr result (λ fault. (rest : List ℕ) → HoldsBlock self.old rest → BlockFails fault self.old.most (rest ++ [])) }
+        ensures ok { IfOk result (λ step. (rest : List ℕ) → HoldsBlock self.old rest →
+            BlockStops step self.new (rest ++ bytes.now)) }
+        ensures err { IfErr result (λ fault. (rest : List ℕ) → HoldsBlock self.old rest →
+            BlockFails fault self.old.most (rest ++ [])) }
         ensures most { self.new.most ≡ self.old.most }
     {
         if self.block.extend_from_slice(bytes).is_err() {

@@ -1,9 +1,11 @@
-//! Heads of parts: how large they may be, what a whole block says as one, and the part of a head and its payload.
+//! Heads of parts: how large they may be, what a whole block says as one, and the part of a head and its
+//! payload.
 
 ghost use Rattle.std.specs.Prelude.{◌≡◌, [], IfOk, IfErr, OnOk};
 ghost use Rattle.hg_params.specs.Header.{IsHeader};
 ghost use Rattle.hg_stream.specs.Frames.{part_of};
-ghost use Rattle.hg_stream.specs.Told.{room_left, RefusesHeader, RefusesParams, ReadsParams, ReadsInterrupting, RefusesInterrupting};
+ghost use Rattle.hg_stream.specs.code.Told.{room_left, RefusesHeader, RefusesParams, ReadsParams};
+ghost use Rattle.hg_stream.specs.code.Told.{ReadsInterrupting, RefusesInterrupting};
 
 use crate::fault::StreamFault;
 use crate::interrupting::{Verdict, judge};
@@ -15,13 +17,15 @@ use std::alloc::Allocator;
 /// The greatest well-formed header has so many bytes.
 pub const MAX_HEADER: u32 = 261_382;
 
-/// The greatest header that may come next: none where no more parts are allowed, so that only the end mark may follow.
+/// The greatest header that may come next: none where no more parts are allowed, so that only the end mark
+/// may follow.
 pub fn header_room(parts_left: u32) -> u32
     ensures { result ≡ room_left parts_left }
 {
     if parts_left > 0 { MAX_HEADER } else { 0 }
 }
 
+/// The part of a header and its payload.
 pub fn make_part<A: Allocator>(head: Head<A>, payload: Seq<u8, A>) -> Part<A>
     ensures { result ≡ part_of head payload }
 {

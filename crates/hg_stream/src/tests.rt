@@ -135,8 +135,8 @@ fn read_whole<A: Allocator + Copy>(
     read_in_pieces(alloc, limits, bytes, bytes.len(), bytes.len())
 }
 
-/// Whether the bytes, byte by byte, in pieces of 3 and at once, lead to that state with equally many parts, so many of them
-/// taken before it byte by byte.
+/// Whether the bytes, byte by byte, in pieces of 3 and at once, lead to that state with equally many parts,
+/// so many of them taken before it byte by byte.
 fn comes_to<A: Allocator + Copy>(
     alloc: A,
     limits: Limits,
@@ -189,8 +189,8 @@ fn payload_limit(payload: u32) -> Limits
     limits_of(268_435_456, payload)
 }
 
-/// The bundle of a root changeset behind a part that asks for replies, its payload of 116 bytes in one chunk, or as chunks
-/// of 40 and 76 bytes with an interruption and those bytes between them.
+/// The bundle of a root changeset behind a part that asks for replies, its payload of 116 bytes in one chunk,
+/// or as chunks of 40 and 76 bytes with an interruption and those bytes between them.
 fn append_root_changeset<A: Allocator>(
     out: &mut Vec<u8, A>,
     between: Option<&[u8]>,

@@ -1,13 +1,14 @@
 //! The stream's fault for that of a block, of parameters or of a chunk.
 
 ghost use Rattle.std.specs.Prelude.{◌≡◌};
-ghost use Rattle.hg_stream.specs.Told.{of_params, of_header, of_chunk, of_block};
+ghost use Rattle.hg_stream.specs.code.Told.{of_params, of_header, of_chunk, of_block};
 
 use crate::block::BlockFault;
 use crate::fault::StreamFault;
 use hg_chunks::ChunkFault;
 use hg_params::ParamFault;
 
+/// What a fault of stream parameters is told as. Want of memory is the stream's own fault, here and below.
 pub fn params_fault(fault: ParamFault) -> StreamFault
     ensures { result ≡ of_params fault }
 {
@@ -17,6 +18,7 @@ pub fn params_fault(fault: ParamFault) -> StreamFault
     }
 }
 
+/// What a fault of a part's header is told as.
 pub fn header_fault(fault: ParamFault) -> StreamFault
     ensures { result ≡ of_header fault }
 {
@@ -26,6 +28,7 @@ pub fn header_fault(fault: ParamFault) -> StreamFault
     }
 }
 
+/// What a fault of a payload's chunk is told as.
 pub fn chunk_fault(fault: ChunkFault) -> StreamFault
     ensures { result ≡ of_chunk fault }
 {
@@ -35,6 +38,7 @@ pub fn chunk_fault(fault: ChunkFault) -> StreamFault
     }
 }
 
+/// What a fault of a block behind its size is told as.
 pub fn block_fault(fault: BlockFault) -> StreamFault
     ensures { result ≡ of_block fault }
 {

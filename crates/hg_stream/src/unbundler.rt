@@ -1,10 +1,12 @@
 //! The reader of a bundle, whose bytes come in pieces.
 
-ghost use Rattle.std.specs.Prelude.{◌≡◌, ◌≢◌, ◌≤◌, ◌<◌, ◌+◌, ◌++◌, ◌∷◌, [], List, ℕ, length, take, Ok, Err, IfOk, IfErr, IfSome, IfNone, IsOk, OnOk, OnErr, IsTrue, ◌↔◌, option_to_list};
+ghost use Rattle.std.specs.Prelude.{◌≡◌, ◌≢◌, ◌≤◌, ◌<◌, ◌+◌, ◌++◌, ◌∷◌, [], List, ℕ, length, take, Ok, Err};
+ghost use Rattle.std.specs.Prelude.{IfOk, IfErr, IfSome, IfNone, IsOk, OnOk, OnErr, IsTrue, ◌↔◌};
+ghost use Rattle.std.specs.Prelude.{option_to_list};
 ghost use Rattle.hg_types.specs.Limits.{IsAllowed};
 ghost use Rattle.hg_types.specs.declared.part.Part.{Part};
 ghost use Rattle.hg_chunks.specs.PayloadIn.{phase_of};
-ghost use Rattle.hg_stream.specs.Going.{GoesOn};
+ghost use Rattle.hg_stream.specs.code.Going.{GoesOn};
 ghost use Rattle.hg_stream.specs.declared.state.State.{State};
 ghost use Rattle.hg_stream.specs.declared.state.State.TheVariants.{Reading, Ended, Failed};
 
@@ -70,7 +72,9 @@ pub struct Unbundler<A: Allocator = Global> {
 }
 
 impl<A: Allocator + Copy> Unbundler<A> {
-    ghost use Rattle.hg_stream.specs.Unbundler.{Holds, IsStillReading, Feeds, KeepsParts, Steps, Moves, Fails, Halts, PassesBy, Finished, state_of, limits_of, ready_of};
+    ghost use Rattle.hg_stream.specs.Unbundler.{Holds, IsStillReading, Feeds, KeepsParts, Steps, Moves};
+    ghost use Rattle.hg_stream.specs.Unbundler.{Fails, Halts, PassesBy, Finished, state_of, limits_of};
+    ghost use Rattle.hg_stream.specs.Unbundler.{ready_of};
 
     /// A reader that was fed nothing.
     pub fn new(alloc: A, limits: Limits) -> Self
@@ -94,18 +98,23 @@ impl<A: Allocator + Copy> Unbundler<A> {
         }
     }
 
-    /// Takes the whole piece, or the bytes of it up to the end mark, and answers how many. Once ended it takes nothing.
-    /// A fault is answered for good, want of memory too; the parts finished before it can still be taken.
+    /// Takes the whole piece, or the bytes of it up to the end mark, and answers how many. Once ended it
+    /// takes nothing. A fault is answered for good, want of memory too; the parts finished before it can
+    /// still be taken.
     pub fn feed(&mut self, piece: &[u8]) -> Result<usize, StreamFault>
         ensures count { IfOk result (λ n. n ≤ length piece.now) }
         ensures all { IfOk result (λ n. state_of self.new ≡ Reading → n ≡ length piece.now) }
-        ensures ok { IfOk result (λ n. (given : List (Part A)) (bytes : List ℕ) → Holds self.old given bytes → Holds self.new given (bytes ++ take n piece.now)) }
+        ensures ok { IfOk result (λ n. (given : List (Part A)) (bytes : List ℕ) → Holds self.old given bytes →
+            Holds self.new given (bytes ++ take n piece.now)) }
         ensures err { IfErr result (λ fault. (place : ℕ) × (place ≤ length piece.now)
-            × ((given : List (Part A)) (bytes : List ℕ) → Holds self.old given bytes → Holds self.new given (bytes ++ take place piece.now))) }
+            × ((given : List (Part A)) (bytes : List ℕ) → Holds self.old given bytes →
+            Holds self.new given (bytes ++ take place piece.now))) }
         ensures failed { IfErr result (λ fault. state_of self.new ≡ Failed fault) }
-        ensures goes_on { IsStillReading self.old → IfOk result (λ n. (fault : StreamFault) → state_of self.new ≢ Failed fault) }
+        ensures goes_on { IsStillReading self.old →
+            IfOk result (λ n. (fault : StreamFault) → state_of self.new ≢ Failed fault) }
         ensures not_truncated { IsStillReading self.old → result ≢ Err StreamFault.Truncated }
-        ensures still_failed { (fault : StreamFault) → state_of self.old ≡ Failed fault → (result ≡ Err fault) × (self.new ≡ self.old) }
+        ensures still_failed { (fault : StreamFault) → state_of self.old ≡ Failed fault → (result ≡ Err fault)
+            × (self.new ≡ self.old) }
         ensures still_ended { state_of self.old ≡ Ended → (result ≡ Ok 0) × (self.new ≡ self.old) }
         ensures limits { limits_of self.new ≡ limits_of self.old }
     {
@@ -120,7 +129,8 @@ impl<A: Allocator + Copy> Unbundler<A> {
     pub fn next_part(&mut self) -> Option<Part<A>>
         ensures part { IfSome result (λ part. ready_of self.old ≡ part ∷ ready_of self.new) }
         ensures none { IfNone result ((ready_of self.old ≡ []) × (ready_of self.new ≡ [])) }
-        ensures holds { (given : List (Part A)) (bytes : List ℕ) → Holds self.old given bytes → Holds self.new (given ++ option_to_list result) bytes }
+        ensures holds { (given : List (Part A)) (bytes : List ℕ) → Holds self.old given bytes →
+            Holds self.new (given ++ option_to_list result) bytes }
         ensures state { state_of self.new ≡ state_of self.old }
         ensures limits { limits_of self.new ≡ limits_of self.old }
     {
@@ -130,9 +140,12 @@ impl<A: Allocator + Copy> Unbundler<A> {
     /// Says that no more bytes come. Truncated where the end mark is missing.
     pub fn end_input(&mut self) -> Result<(), StreamFault>
         ensures ended { state_of self.old ≡ Ended → (IsOk result) × (self.new ≡ self.old) }
-        ensures reading { state_of self.old ≡ Reading → (result ≡ Err StreamFault.Truncated) × (state_of self.new ≡ Failed StreamFault.Truncated) }
-        ensures failed { (fault : StreamFault) → state_of self.old ≡ Failed fault → (result ≡ Err fault) × (self.new ≡ self.old) }
-        ensures holds { (given : List (Part A)) (bytes : List ℕ) → Holds self.old given bytes → Holds self.new given bytes }
+        ensures reading { state_of self.old ≡ Reading → (result ≡ Err StreamFault.Truncated)
+            × (state_of self.new ≡ Failed StreamFault.Truncated) }
+        ensures failed { (fault : StreamFault) → state_of self.old ≡ Failed fault → (result ≡ Err fault)
+            × (self.new ≡ self.old) }
+        ensures holds { (given : List (Part A)) (bytes : List ℕ) → Holds self.old given bytes →
+            Holds self.new given bytes }
         ensures ready { ready_of self.new ≡ ready_of self.old }
         ensures limits { limits_of self.new ≡ limits_of self.old }
     {
@@ -175,9 +188,11 @@ impl<A: Allocator + Copy> Unbundler<A> {
         ensures count { IfOk result (λ n. n ≤ length piece.now) }
         ensures all { IfOk result (λ n. state_of self.new ≡ Reading → n ≡ length piece.now) }
         ensures ok { IfOk result (λ n. Feeds self.old self.new (take n piece.now)) }
-        ensures err { IfErr result (λ fault. (place : ℕ) × (place ≤ length piece.now) × Feeds self.old self.new (take place piece.now)) }
+        ensures err { IfErr result (λ fault. (place : ℕ) × (place ≤ length piece.now)
+            × Feeds self.old self.new (take place piece.now)) }
         ensures failed { IfErr result (λ fault. state_of self.new ≡ Failed fault) }
-        ensures goes_on { IsStillReading self.old → IfOk result (λ n. (fault : StreamFault) → state_of self.new ≢ Failed fault) }
+        ensures goes_on { IsStillReading self.old →
+            IfOk result (λ n. (fault : StreamFault) → state_of self.new ≢ Failed fault) }
         ensures not_truncated { IsStillReading self.old → result ≢ Err StreamFault.Truncated }
         ensures limits { limits_of self.new ≡ limits_of self.old }
     {
@@ -197,7 +212,8 @@ impl<A: Allocator + Copy> Unbundler<A> {
     fn read_past(&mut self, byte: u8) -> StreamFault
         ensures failed { state_of self.new ≡ Failed result }
         ensures limits { limits_of self.new ≡ limits_of self.old }
-        ensures past { (place : ℕ) × (place ≤ 1) × PassesBy result self.old self.new (take place (byte ∷ [])) }
+        ensures past { (place : ℕ) × (place ≤ 1)
+            × PassesBy result self.old self.new (take place (byte ∷ [])) }
     {
         let finished = self.ready.len();
         let parts_left = self.parts_left;
@@ -216,7 +232,8 @@ impl<A: Allocator + Copy> Unbundler<A> {
         ensures count { IfOk result (λ n. n ≤ length piece.now) }
         ensures all { IfOk result (λ n. (state_of self.new ≡ Ended → ⊥) → n ≡ length piece.now) }
         ensures ok { IfOk result (λ n. Moves self.old self.new (take n piece.now)) }
-        ensures err { IfErr result (λ fault. (place : ℕ) × (place ≤ length piece.now) × Halts fault self.old self.new (take place piece.now)) }
+        ensures err { IfErr result (λ fault. (place : ℕ) × (place ≤ length piece.now)
+            × Halts fault self.old self.new (take place piece.now)) }
         ensures failed { IfErr result (λ fault. state_of self.new ≡ Failed fault) }
         ensures limits { limits_of self.new ≡ limits_of self.old }
         ensures stream_left { self.new.stream_left ≡ self.old.stream_left }
@@ -249,7 +266,8 @@ impl<A: Allocator + Copy> Unbundler<A> {
         ensures count { IfOk result (λ n. n ≤ length piece.now) }
         ensures some { IfOk result (λ n. (state_of self.old ≡ Ended → ⊥) → 0 < n) }
         ensures ok { IfOk result (λ n. Moves self.old self.new (take n piece.now)) }
-        ensures err { IfErr result (λ fault. (place : ℕ) × (place ≤ length piece.now) × Fails fault self.old (take place piece.now)) }
+        ensures err { IfErr result (λ fault. (place : ℕ) × (place ≤ length piece.now)
+            × Fails fault self.old (take place piece.now)) }
         ensures kept { OnErr result (KeepsParts self.old self.new) }
         ensures limits { limits_of self.new ≡ limits_of self.old }
         ensures stream_left { self.new.stream_left ≡ self.old.stream_left }

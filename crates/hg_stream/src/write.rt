@@ -11,8 +11,8 @@ use std::alloc::Allocator;
 
 const MAGIC: [u8; 4] = *b"HG20";
 
-/// The bundle of the parts, which are numbered by their places. It has no stream parameters; a mandatory type is written in
-/// upper case, an advisory one in lower case; a payload is one chunk where it is not empty.
+/// The bundle of the parts, which are numbered by their places. It has no stream parameters; a mandatory type
+/// is written in upper case, an advisory one in lower case; a payload is one chunk where it is not empty.
 pub fn write_bundle<A: Allocator + Copy>(
     alloc: A,
     parts: &[Part<A>],

@@ -23,7 +23,8 @@ pub enum What<A: Allocator = Global> {
     Cut(CutReason),
 }
 
-/// An item of a push. The index of a part is the number of parts that the push sent before it, that of a mark the number of all.
+/// An item of a push. The index of a part is the number of parts that the push sent before it, that of a mark
+/// the number of all.
 #[derive(Drop)]
 pub struct Item<A: Allocator = Global> {
     pub push: u32,
@@ -31,7 +32,8 @@ pub struct Item<A: Allocator = Global> {
     pub what: What<A>,
 }
 
-/// An item that was taken, and whether memory was refused for it: one place of a history. A value of contracts alone, which no program makes.
+/// An item that was taken, and whether memory was refused for it: one place of a history. A value of
+/// contracts alone, which no program makes.
 pub struct Taken<A: Allocator = Global> {
     pub item: Item<A>,
     pub refused: bool,

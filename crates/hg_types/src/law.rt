@@ -19,8 +19,10 @@ pub fn phases_are_ordered_by_number()
 
 /// A key has one first value, or it is lacking, and not both.
 pub fn a_key_has_one_value<A: Allocator>()
-    ensures one { (params : List (AParam A)) (key a b : List ℕ) → IsFirstWith params key a → IsFirstWith params key b → a ≡ b }
-    ensures or_none { (params : List (AParam A)) (key value : List ℕ) → IsFirstWith params key value → LacksKey params key → ⊥ }
+    ensures one { (params : List (AParam A)) (key a b : List ℕ) → IsFirstWith params key a →
+        IsFirstWith params key b → a ≡ b }
+    ensures or_none { (params : List (AParam A)) (key value : List ℕ) → IsFirstWith params key value →
+        LacksKey params key → ⊥ }
 {}
 
 /// What a program has as bytes are bytes to the definitions.

@@ -15,7 +15,8 @@ impl Node {
     pub const NULL: Node = Node([0; 20]);
 }
 
-/// All bytes are written at once: a hasher takes eight at a time in that way, and one at a time where each is written alone.
+/// All bytes are written at once: a hasher takes eight at a time in that way, and one at a time where each is
+/// written alone.
 impl Hash for Node {
     ghost hash_input = { λ node. node.0 ∷ [] };
 

@@ -7,7 +7,8 @@ use crate::memory::{NoMemory, TryClone};
 use crate::seq::{Seq, try_clone_each};
 use std::alloc::{Allocator, Global};
 
-/// A parameter of a part: a name and a value, both bytes. A mandatory one has to be understood by who handles the part.
+/// A parameter of a part: a name and a value, both bytes. A mandatory one has to be understood by who handles
+/// the part.
 #[derive(Drop)]
 pub struct Param<A: Allocator = Global> {
     pub mandatory: bool,
@@ -15,7 +16,8 @@ pub struct Param<A: Allocator = Global> {
     pub value: Seq<u8, A>,
 }
 
-/// A part of a bundle: its type in the case of its header, its id, its parameters, mandatory ones first, and its payload.
+/// A part of a bundle: its type in the case of its header, its id, its parameters, mandatory ones first, and
+/// its payload.
 #[derive(Drop)]
 pub struct Part<A: Allocator = Global> {
     pub kind: Seq<u8, A>,

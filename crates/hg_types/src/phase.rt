@@ -3,7 +3,8 @@
 ghost use Rattle.std.specs.Prelude.{◌≡◌, ◌≢◌, pos, IfSome, IfNone};
 ghost use Rattle.hg_types.specs.declared.phase.Phase.{Phase as APhase};
 
-/// How far a changeset is from being shared for good. No changeset is in a lower phase than an ancestor of it.
+/// How far a changeset is from being shared for good. No changeset is in a lower phase than an ancestor of
+/// it.
 #[derive(Clone, Copy, Debug, PartialEq, Eq, PartialOrd, Ord)]
 pub enum Phase {
     /// Phase 0: shared, and never to be changed.

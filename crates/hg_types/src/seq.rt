@@ -45,18 +45,21 @@ impl<T, A: Allocator> Seq<T, A> {
         items
     }
 
+    /// The items as a slice, in their order.
     pub fn as_slice(&self) -> &[T]
         ensures { result.now ≡ self.now }
     {
         self.items.as_slice()
     }
 
+    /// How many items there are.
     pub fn len(&self) -> usize
         ensures { result ≡ length self.now }
     {
         self.items.len()
     }
 
+    /// Whether there is no item.
     pub fn is_empty(&self) -> bool
         ensures { IsTrue result ↔ (self.now ≡ []) }
     {
@@ -74,8 +77,9 @@ impl<T, A: Allocator> Seq<T, A> {
         Ok(())
     }
 
-    /// Adds an item at the end as [`Seq::push`] does. A list that has no item yet asks for room for so many first, so that it is
-    /// not moved while it grows by them; where that is refused, the item takes what it needs.
+    /// Adds an item at the end as [`Seq::push`] does. A list that has no item yet asks for room for so many
+    /// first, so that it is not moved while it grows by them; where that is refused, the item takes what it
+    /// needs.
     pub fn push_with_room(&mut self, item: T, room: usize) -> Result<(), NoMemory>
     where
         T: Drop,

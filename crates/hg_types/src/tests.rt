@@ -188,8 +188,8 @@ fn fill<'a>(heap: &'a LocalHeap, blocks: &mut Vec<Vec<u8, &'a LocalHeap>>) -> Re
     Ok(())
 }
 
-/// Room that was made with the first item serves the next ones, where there is no more memory; where it was refused, the first
-/// item is there if there was memory for it alone.
+/// Room that was made with the first item serves the next ones, where there is no more memory; where it was
+/// refused, the first item is there if there was memory for it alone.
 #[test]
 fn room_is_made_with_the_first_item(rt: HostRuntime) -> Result<(), Fail> {
     let (mut refused, mut alone, mut made) = (0u32, 0u32, 0u32);
@@ -247,8 +247,8 @@ fn a_copy_takes_what_came(rt: HostRuntime) -> Result<(), Fail> {
     Ok(())
 }
 
-/// Over an ample heap a clone is not refused, however large its source is, and it takes at most as much; to look at a part
-/// takes nothing.
+/// Over an ample heap a clone is not refused, however large its source is, and it takes at most as much; to
+/// look at a part takes nothing.
 #[test]
 fn a_large_part_is_cloned(rt: HostRuntime) -> Result<(), Fail> {
     let heap = LocalHeap::new(rt.alloc(), 1 << 20)?;

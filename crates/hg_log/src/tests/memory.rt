@@ -287,8 +287,9 @@ fn take_blocks<'h>(
     Ok(blocks)
 }
 
-/// What is left is given back block by block: of each growth on the way the heads and an ancestor are refused,
-/// and once they are told they stay so. One block is enough for the parent of a row, however far it is.
+/// What is left is given back block by block: of each growth on the way the heads and an ancestor are
+/// refused, and once they are told they stay so. One block is enough for the parent of a row, however far it
+/// is.
 fn are_told_with_more<'h>(
     heap: &'h LocalHeap,
     log: &Changelog<&'h LocalHeap>,

@@ -78,8 +78,8 @@ fn greatest_parameters_and_payload(rt: HostRuntime) -> Result<(), Fail> {
     Ok(())
 }
 
-// A size takes no memory, whatever it announces, and four bytes behind it take little. Nor do the first bytes of
-// a bundle.
+// A size takes no memory, whatever it announces, and four bytes behind it take little. Nor do the first bytes
+// of a bundle.
 #[test]
 fn memory_follows_the_bytes(rt: HostRuntime) -> Result<(), Fail> {
     let interrupted = b"\xff\xff\xff\xff\0\0\0\x0d\x06output\0\0\0\0\0\0".as_slice();

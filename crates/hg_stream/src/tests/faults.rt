@@ -13,8 +13,8 @@ fn has_failed<A: Allocator + Copy>(reader: &mut Unbundler<A>, fault: StreamFault
         && reader.state() == State::Failed(fault)
 }
 
-/// Whether the last byte shows the fault and no byte before it, in two pieces, byte by byte, in pieces of 3, at once and
-/// with bytes behind it, and the fault stays.
+/// Whether the last byte shows the fault and no byte before it, in two pieces, byte by byte, in pieces of 3,
+/// at once and with bytes behind it, and the fault stays.
 fn is_fault_at_end<A: Allocator + Copy>(
     alloc: A,
     bytes: &[u8],
@@ -114,7 +114,8 @@ fn headers_refused(rt: HostRuntime) -> Result<(), Fail> {
     Ok(())
 }
 
-// What may not interrupt a payload: sizes, an interruption, aborts, and parts that have to be understood and are not.
+// What may not interrupt a payload: sizes, an interruption, aborts, and parts that have to be understood and
+// are not.
 #[test]
 fn interruptions_refused(rt: HostRuntime) -> Result<(), Fail> {
     let cases: [(&[u8], StreamFault); 9] = [
@@ -158,8 +159,8 @@ fn interruptions_refused(rt: HostRuntime) -> Result<(), Fail> {
     Ok(())
 }
 
-// The interrupted first push, whose interrupting part is interrupted in place of closed, or is `FROB`: the fault, its number
-// and its byte, with the bytes behind it and without, and the part before it.
+// The interrupted first push, whose interrupting part is interrupted in place of closed, or is `FROB`: the
+// fault, its number and its byte, with the bytes behind it and without, and the part before it.
 #[test]
 fn first_push_interrupted_wrongly(rt: HostRuntime) -> Result<(), Fail> {
     assert_eq!(rt; FIRST_PUSH_INTERRUPTED_TWICE.len(), 115);
@@ -214,7 +215,8 @@ fn truncated_input(rt: HostRuntime) {
     }
 }
 
-// The part that was finished before the fault can be taken behind it, and the one that was not finished is none.
+// The part that was finished before the fault can be taken behind it, and the one that was not finished is
+// none.
 #[test]
 fn parts_before_a_fault(rt: HostRuntime) {
     for fault in [

@@ -35,7 +35,8 @@ fn stream_limit_at_its_last_value(rt: HostRuntime) -> Result<(), Fail> {
     Ok(())
 }
 
-// At the first byte past the limit the fault of the grammar is told where there is one, as its number is the lower.
+// At the first byte past the limit the fault of the grammar is told where there is one, as its number is the
+// lower.
 #[test]
 fn byte_past_the_limit_with_a_fault(rt: HostRuntime) -> Result<(), Fail> {
     let cases: [(&[u8], StreamFault); 5] = [
@@ -99,8 +100,8 @@ fn part_past_the_limit(rt: HostRuntime) -> Result<(), Fail> {
     Ok(())
 }
 
-// Two parts are allowed: a third is refused at the fourth byte of its header's size, whatever the size, and the end mark
-// is not. Parts that interrupt are not counted.
+// Two parts are allowed: a third is refused at the fourth byte of its header's size, whatever the size, and
+// the end mark is not. Parts that interrupt are not counted.
 #[test]
 fn parts_past_their_number(rt: HostRuntime) -> Result<(), Fail> {
     let mut limits = Limits::standard();
@@ -150,7 +151,8 @@ fn stream_parameters_past_their_limit(rt: HostRuntime) -> Result<(), Fail> {
     Ok(())
 }
 
-// Chunks of 5 and of twice 3 bytes, of a part and of one that interrupts it, with room for all of them and for one less.
+// Chunks of 5 and of twice 3 bytes, of a part and of one that interrupts it, with room for all of them and
+// for one less.
 #[test]
 fn payload_past_its_limit(rt: HostRuntime) -> Result<(), Fail> {
     let fronts: [&[u8]; 2] = [

@@ -74,8 +74,8 @@ fn feed_bundle<A: Allocator + Copy>(alloc: A, bytes: &[u8], width: usize) -> Cam
     }
 }
 
-// Two parts, one with an interruption, over heaps of every size, at once and byte by byte: they are given, or memory is
-// refused for good. Where it is refused behind the first part, that part stays.
+// Two parts, one with an interruption, over heaps of every size, at once and byte by byte: they are given, or
+// memory is refused for good. Where it is refused behind the first part, that part stays.
 #[test]
 fn memory_refused_to_the_reader(rt: HostRuntime) -> Result<(), Fail> {
     for width in [115usize, 1] {
@@ -100,7 +100,8 @@ fn memory_refused_to_the_reader(rt: HostRuntime) -> Result<(), Fail> {
     Ok(())
 }
 
-// The magic, no stream parameters and the end mark take no memory, and neither does a size, whatever it announces.
+// The magic, no stream parameters and the end mark take no memory, and neither does a size, whatever it
+// announces.
 #[test]
 fn sizes_take_no_memory(rt: HostRuntime) -> Result<(), Fail> {
     let heap = LocalHeap::new(rt.alloc(), 0)?;
@@ -110,6 +111,37 @@ fn sizes_take_no_memory(rt: HostRuntime) -> Result<(), Fail> {
     let mut announced = Unbundler::new(&heap, Limits::standard());
     assert_eq!(rt; announced.feed(b"HG20\0\0\0\0\0\x03\xfd\x06"), Ok(12));
     assert_eq!(rt; announced.feed(&[1; 64]), Err(StreamFault::NoMemory));
+    Ok(())
+}
+
+/// Takes all memory of a heap that is left.
+fn fill<'h>(heap: &'h LocalHeap, blocks: &mut Vec<Vec<u8, &'h LocalHeap>>) {
+    for _ in 0..heap.free() {
+        let Ok(block) = Vec::with_capacity(heap, 1) else {
+            return;
+        };
+        if blocks.push(block).is_err() {
+            return;
+        }
+    }
+}
+
+// What gives the parts, tells the state and ends the input takes none: over a heap of which nothing is left.
+#[test]
+fn giving_takes_no_memory(rt: HostRuntime) -> Result<(), Fail> {
+    let heap = LocalHeap::new(rt.alloc(), 1 << 12)?;
+    let mut whole = Unbundler::new(&heap, Limits::standard());
+    let mut cut = Unbundler::new(&heap, Limits::standard());
+    let mut blocks = Vec::new(rt.alloc());
+    let fed = whole.feed(FIRST_PUSH) == Ok(FIRST_PUSH.len())
+        && cut.feed(&FIRST_PUSH[..70]) == Ok(70);
+    fill(&heap, &mut blocks);
+    let full = heap.free() == 0;
+    let ended = whole.end_input() == Ok(()) && gives_two(&mut whole);
+    let is_cut = cut.end_input() == Err(StreamFault::Truncated)
+        && cut.state() == State::Failed(StreamFault::Truncated)
+        && cut.next_part().is_some();
+    assert!(rt; fed && full && ended && is_cut);
     Ok(())
 }
 

@@ -18,8 +18,9 @@ fn is_read_as<A: Allocator + Copy>(
     )
 }
 
-/// The first of many cuttings in which the bundle is not read to its end with these parts: by the size of the first piece
-/// and that of the others. The cuttings are those into pieces of a few widths, and into two at each place.
+/// The first of many cuttings in which the bundle is not read to its end with these parts: by the size of the
+/// first piece and that of the others. The cuttings are those into pieces of a few widths, and into two at
+/// each place.
 fn find_misread<A: Allocator + Copy>(
     alloc: A,
     bytes: &[u8],
@@ -85,8 +86,8 @@ fn race_on_heads(rt: HostRuntime) -> Result<(), Fail> {
     Ok(())
 }
 
-// A root changeset in one chunk, and interrupted by parts that are dropped: `output` with and without a payload, an
-// advisory one that is not known, an `error:abort` that is not understood, and no part at all.
+// A root changeset in one chunk, and interrupted by parts that are dropped: `output` with and without a
+// payload, an advisory one that is not known, an `error:abort` that is not understood, and no part at all.
 #[test]
 fn root_changeset(rt: HostRuntime) -> Result<(), Fail> {
     let mut payload = Vec::new(rt.alloc());

@@ -1,4 +1,4 @@
-use Rattle.hg_delta.specs.View.{view}
+use Rattle.hg_delta.specs.code.View.{view}
 use Rattle.hg_delta.proofs.Hunks.{measured_more, measured_all}
 use Rattle.std.proofs.Common.{◌≡◌, List, ℕ, [], sym, subst}
 use Rattle.std.proofs.lemmas.List.{nil_from_length}

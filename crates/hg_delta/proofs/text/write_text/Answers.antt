@@ -1,7 +1,7 @@
 use Rattle.std.proofs.Common.{◌≡◌, ◌++◌, List, ℕ, sym, ap, subst, ◌∙◌, append_assoc}
 use Rattle.std.specs.Prelude.{slice_range}
 use Rattle.hg_delta.specs.Delta.{piece_of}
-use Rattle.hg_delta.specs.View.{view}
+use Rattle.hg_delta.specs.code.View.{view}
 use Rattle.hg_delta.proofs.Hunks.{Took, took_more}
 use Rattle.hg_delta.proofs.text.write_text.Goals as goal
 

@@ -1,6 +1,6 @@
 use Rattle.std.proofs.Common.{sym, ap, ◌∙◌, Ok}
 use Rattle.hg_obs.specs.declared.marker.Marker.{Marker}
-use Rattle.hg_obs.specs.Lent.{fields_of_lent}
+use Rattle.hg_obs.specs.code.Lent.{fields_of_lent}
 use Rattle.hg_obs.proofs.MarkerLaws.{marker_is, any_null}
 use Rattle.hg_obs.proofs.read.marker_of.Goals as goal
 

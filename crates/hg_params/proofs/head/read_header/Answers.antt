@@ -2,8 +2,8 @@ use Rattle.std.proofs.Common.{◌≡◌, ◌<◌, [], length, refl, sym, ◌∙�
 use Rattle.std.proofs.lemmas.Bool.{eqb-true, eqb-false, false≢true}
 use Rattle.std.proofs.lemmas.List.{nil_from_length}
 use Rattle.std.proofs.lemmas.Result.{err_from_is_err_and}
-use Rattle.hg_params.specs.Reading.{fields_in}
-use Rattle.hg_params.specs.View.{view_front}
+use Rattle.hg_params.specs.code.Reading.{fields_in}
+use Rattle.hg_params.specs.code.View.{view_front}
 use Rattle.hg_params.proofs.FieldLaws.{front_take}
 use Rattle.hg_params.proofs.HeaderLaws.{fields_fault, has_fields, leftover, bad_type, repeated, header_read, both_added}
 use Rattle.hg_params.proofs.head.read_header.Goals as goal

@@ -1,7 +1,7 @@
 use Rattle.std.proofs.Common.{◌++◌, sym, ap, ◌∙◌, map, take, drop, arith}
 use Rattle.std.proofs.lemmas.List.{append-nil}
 use Rattle.hg_params.specs.Header.{param}
-use Rattle.hg_params.specs.Reading.{params_in}
+use Rattle.hg_params.specs.code.Reading.{params_in}
 use Rattle.hg_params.proofs.Cutting.{pair_is, nothing_in, room_for, cut_one}
 use Rattle.hg_params.proofs.params.append_params.Goals as goal
 

@@ -1,7 +1,7 @@
 use Rattle.std.proofs.Common.{◌≡◌, ◌≤◌, ◌++◌, length, map}
 use Rattle.std.specs.List.{sum}
 use Rattle.hg_params.specs.Header.{param}
-use Rattle.hg_params.specs.Reading.{params_in}
+use Rattle.hg_params.specs.code.Reading.{params_in}
 use Rattle.hg_params.proofs.params.append_params.Given as goal
 
 -- the texts are there, and what is added and what is still to be cut is all of the block

@@ -8,7 +8,7 @@ use Rattle.hg_types.specs.declared.node.Node.{Node}
 use Rattle.hg_log.specs.declared.changelog.Row.{Row}
 use Rattle.hg_log.specs.Changeset.{Changeset, Log}
 use Rattle.hg_log.specs.Rows.{LacksNode}
-use Rattle.hg_log.specs.Inside.{changeset, rows_of, IsAt}
+use Rattle.hg_log.specs.code.Inside.{changeset, rows_of, IsAt}
 use Rattle.hg_log.proofs.Wholes.{whole_pushed}
 use Rattle.hg_log.proofs.Lookups.{absent}
 use Rattle.hg_log.proofs.changelog.Changelog.append.Goals as goal

@@ -6,7 +6,7 @@ use Rattle.hg_types.specs.declared.node.Node.{Node}
 use Rattle.hg_log.specs.declared.changelog.Row.{Row}
 use Rattle.hg_log.specs.Changeset.{Changeset, Log}
 use Rattle.hg_log.specs.Add.{with_row}
-use Rattle.hg_log.specs.Inside.{changeset, rows_of}
+use Rattle.hg_log.specs.code.Inside.{changeset, rows_of}
 use Rattle.hg_log.proofs.Lookups.{row_at}
 use Rattle.hg_log.proofs.RowLemmas.{lacks_taken}
 use Rattle.hg_log.proofs.Wholes.{at_taken}

@@ -3,7 +3,7 @@ use Rattle.std.proofs.lemmas.List.{take-map}
 use Rattle.hg_types.specs.declared.node.Node.{Node}
 use Rattle.hg_log.specs.declared.changelog.Row.{Row}
 use Rattle.hg_log.specs.Changeset.{Changeset, Log}
-use Rattle.hg_log.specs.Inside.{changeset, rows_of}
+use Rattle.hg_log.specs.code.Inside.{changeset, rows_of}
 use Rattle.hg_log.proofs.Wholes.{whole_taken}
 use Rattle.hg_log.proofs.changelog.Changelog.cut_back.Goals as goal
 

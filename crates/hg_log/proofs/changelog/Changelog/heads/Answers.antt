@@ -3,7 +3,7 @@ use Rattle.std.proofs.lemmas.Bool.{eqb-true, eqb-false}
 use Rattle.std.proofs.lemmas.List.Elements.{Contains-get_or}
 use Rattle.hg_types.specs.NullId.{null_id}
 use Rattle.hg_log.specs.Heads.{ids}
-use Rattle.hg_log.specs.Inside.{rows_of}
+use Rattle.hg_log.specs.code.Inside.{rows_of}
 use Rattle.hg_log.proofs.HeadLemmas.{null_node, ids_none, ids_more, ids_all, are_heads, no_heads}
 use Rattle.hg_log.proofs.HeadValues.{heads_value}
 use Rattle.hg_log.proofs.changelog.Changelog.heads.Goals as goal

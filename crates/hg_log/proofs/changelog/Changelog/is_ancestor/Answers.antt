@@ -1,6 +1,6 @@
 use Rattle.std.specs.Cmp.{both_ways}
 use Rattle.hg_log.specs.Parents.{is_ancestor}
-use Rattle.hg_log.specs.Inside.{rows_of}
+use Rattle.hg_log.specs.code.Inside.{rows_of}
 use Rattle.hg_log.proofs.Wholes.{ancestor_by_number, ancestor_by_id}
 use Rattle.hg_log.proofs.ParentLemmas.{ancestor_test}
 use Rattle.hg_log.proofs.changelog.Changelog.is_ancestor.Goals as goal

@@ -1,4 +1,4 @@
-use Rattle.hg_log.specs.Inside.{rows_of}
+use Rattle.hg_log.specs.code.Inside.{rows_of}
 use Rattle.hg_log.proofs.HeadCounts.{head_told}
 use Rattle.hg_log.proofs.changelog.Changelog.is_head.Goals as goal
 

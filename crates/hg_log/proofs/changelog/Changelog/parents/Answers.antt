@@ -2,7 +2,7 @@ use Rattle.std.proofs.Common.{◌≡◌, Some, slice_get, option_map, sym, ap, �
 use Rattle.std.specs.Map.Iter.{deref_pair}
 use Rattle.hg_types.specs.declared.node.Node.{Node}
 use Rattle.hg_log.specs.declared.changelog.Row.{Row}
-use Rattle.hg_log.specs.Inside.{changeset}
+use Rattle.hg_log.specs.code.Inside.{changeset}
 use Rattle.hg_log.proofs.Lookups.{row_at}
 use Rattle.hg_log.proofs.changelog.Changelog.parents.Goals as goal
 

@@ -1,9 +1,9 @@
 use Rattle.std.proofs.Common.{◌≡◌, ◌+◌, ◌-◌, ◌<◌, ◌≤◌, ℕ, length, true, false, Some, slice_get, subst, sym, ◌∙◌, inl, inr, arith, refl}
 use Rattle.std.proofs.lemmas.Bool.{cases_lt}
 use Rattle.std.proofs.lemmas.Option.{slice_get_read}
-use Rattle.hg_log.specs.Graph.Reaches.{itself}
-use Rattle.hg_log.specs.Graph.{Reaches}
-use Rattle.hg_log.specs.Marks.{IsMarked}
+use Rattle.hg_log.specs.code.Graph.Reaches.{itself}
+use Rattle.hg_log.specs.code.Graph.{Reaches}
+use Rattle.hg_log.specs.code.Marks.{IsMarked}
 use Rattle.hg_log.proofs.Found.{not_above, ancestor_low, reached_within, AreFound, found_first, found_skip, found_step, found_it, found_none}
 use Rattle.hg_log.proofs.graph.Graph.is_ancestor.Goals as goal
 

@@ -1,5 +1,5 @@
 use Rattle.std.proofs.Common.{rules, ◌≡◌, ◌+◌, ◌<◌, ◌^◌, [], ◌∷◌, ◌++◌, length}
-use Rattle.hg_log.specs.Graph.{AreEarlier}
+use Rattle.hg_log.specs.code.Graph.{AreEarlier}
 use Rattle.hg_log.proofs.Counted.{counted_pushed, few_first, few_second}
 use Rattle.hg_log.proofs.graph.Graph.push.Goals as goal
 

@@ -7,4 +7,5 @@ use Rattle.hg_cgroup.specs.Chunk.{IsContent, chunk_bytes, empty_chunk}
 -- the bytes are that chunk, and then that rest
 abbrev pub IsRead : ℕ → List ℕ → Chunk → List ℕ → Type 0
 IsRead least bytes Empty rest = bytes ≡ empty_chunk ++ rest
-IsRead least bytes (Content content) rest = (bytes ≡ chunk_bytes content.now ++ rest) × IsContent content.now × (least ≤ length content.now)
+IsRead least bytes (Content content) rest =
+    (bytes ≡ chunk_bytes content.now ++ rest) × IsContent content.now × (least ≤ length content.now)

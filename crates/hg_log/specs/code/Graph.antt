@@ -1,5 +1,6 @@
 -- The parents of rows by their numbers.
-use Rattle.std.specs.Prelude.{◌≡◌, ◌≢◌, ◌⊎◌, ◌↔◌, ℕ, ◌<◌, ◌+◌, ◌^◌, ◌==◌, if◌then◌else◌, List, length, Option, None, Some, IfSome, slice_get, slice_index, AllPairs, Contains, sum_by}
+use Rattle.std.specs.Prelude.{◌≡◌, ◌≢◌, ◌⊎◌, ◌↔◌, ℕ, ◌<◌, ◌+◌, ◌^◌, ◌==◌, if◌then◌else◌, List, length, Option}
+use Rattle.std.specs.Prelude.{None, Some, IfSome, slice_get, slice_index, AllPairs, Contains, sum_by}
 use Rattle.hg_log.specs.declared.graph.Parents.{Parents}
 
 -- row r has p as a parent

@@ -12,7 +12,9 @@ use Rattle.hg_stream.specs.Frames.{max_header}
 use Rattle.hg_stream.specs.declared.block.BlockFault.{BlockFault}
 use Rattle.hg_stream.specs.declared.block.BlockFault.TheVariants as block_fault
 use Rattle.hg_stream.specs.declared.fault.StreamFault.{StreamFault}
-use Rattle.hg_stream.specs.declared.fault.StreamFault.TheVariants.{NegativeSize, Params, Header, Chunk, ClientAbort, Unsupported, TooLarge, NoMemory}
+use Rattle.hg_stream.specs.declared.fault.StreamFault.TheVariants.{NegativeSize, Params, Header, Chunk}
+use Rattle.hg_stream.specs.declared.fault.StreamFault.TheVariants.{ClientAbort, Unsupported, TooLarge}
+use Rattle.hg_stream.specs.declared.fault.StreamFault.TheVariants.{NoMemory}
 use Rattle.hg_stream.specs.declared.interrupting.Verdict.{Verdict}
 use Rattle.hg_stream.specs.declared.interrupting.Verdict.TheVariants.{Dropped, Aborts, Refused}
 use Rattle.hg_stream.specs.Interrupting.{verdict_of}
@@ -40,10 +42,12 @@ room_left parts_left = if nat_lt 0 parts_left then max_header else 0
 
 -- a header's refusal, as the stream tells it
 abbrev pub RefusesHeader : List ℕ → StreamFault → Type 0
-RefusesHeader block fault = (fault ≡ NoMemory) ⊎ ((wrong : ParamFault) × (fault ≡ Header wrong) × IsHeaderFault block wrong)
+RefusesHeader block fault = (fault ≡ NoMemory)
+    ⊎ ((wrong : ParamFault) × (fault ≡ Header wrong) × IsHeaderFault block wrong)
 
 abbrev pub RefusesParams : List ℕ → StreamFault → Type 0
-RefusesParams block fault = (fault ≡ NoMemory) ⊎ ((wrong : ParamFault) × (fault ≡ Params wrong) × IsStreamParamsFault block wrong)
+RefusesParams block fault = (fault ≡ NoMemory)
+    ⊎ ((wrong : ParamFault) × (fault ≡ Params wrong) × IsStreamParamsFault block wrong)
 
 abbrev pub ReadsParams : Type 0 → List ℕ → Type 0
 ReadsParams A block = (params : List (StreamParam A)) × AreStreamParams block params
@@ -57,4 +61,5 @@ ReadsInterrupting A block = JudgesHeader A block Dropped
 
 abbrev pub RefusesInterrupting : Type 0 → List ℕ → StreamFault → Type 0
 RefusesInterrupting A block fault = RefusesHeader block fault
-    ⊎ (((fault ≡ ClientAbort) × JudgesHeader A block Aborts) ⊎ ((fault ≡ Unsupported) × JudgesHeader A block Refused))
+    ⊎ (((fault ≡ ClientAbort) × JudgesHeader A block Aborts)
+    ⊎ ((fault ≡ Unsupported) × JudgesHeader A block Refused))

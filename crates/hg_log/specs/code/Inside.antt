@@ -28,7 +28,8 @@ pub record AreParentsOf (rows : List Changeset) (r : ℕ) (row : Changeset) (par
 -- the graph has the numbers of each row's parents
 pub record AreNumbered (rows : List Changeset) (graph : List Parents) : Type 0 where
   pub as_long : length graph ≡ length rows
-  pub each : (r : ℕ) (row : Changeset) (parents : Parents) → slice_get rows r ≡ Some row → slice_get graph r ≡ Some parents → AreParentsOf rows r row parents
+  pub each : (r : ℕ) (row : Changeset) (parents : Parents) → slice_get rows r ≡ Some row →
+      slice_get graph r ≡ Some parents → AreParentsOf rows r row parents
 
 pub record IsWhole (rows : List Changeset) (graph : List Parents) (limits : Limits) : Type 0 where
   pub lawful : AreLawful rows

@@ -1,11 +1,15 @@
--- How the numbers of children are kept: beside them, the rows in an order in which those without children come first.
-use Rattle.std.specs.Prelude.{◌≡◌, ◌≢◌, ◌↔◌, ℕ, ◌+◌, ◌-◌, ◌<◌, ◌≤◌, ◌^◌, List, Option, None, Some, length, slice_index, slice_set}
+-- How the numbers of children are kept: beside them, the rows in an order in which those without children
+-- come first.
+use Rattle.std.specs.Prelude.{◌≡◌, ◌≢◌, ◌↔◌, ℕ, ◌+◌, ◌-◌, ◌<◌, ◌≤◌, ◌^◌, List, Option, None, Some, length}
+use Rattle.std.specs.Prelude.{slice_index, slice_set}
 
 -- `order` has each row once, and `places` tells where
 pub record AreInverse (order places : List ℕ) : Type 0 where
   pub as_long : length places ≡ length order
-  pub at_row : (row : ℕ) → row < length order → (slice_index places row < length order) × (slice_index order (slice_index places row) ≡ row)
-  pub at_place : (place : ℕ) → place < length order → (slice_index order place < length order) × (slice_index places (slice_index order place) ≡ place)
+  pub at_row : (row : ℕ) → row < length order → (slice_index places row < length order)
+      × (slice_index order (slice_index places row) ≡ row)
+  pub at_place : (place : ℕ) → place < length order → (slice_index order place < length order)
+      × (slice_index places (slice_index order place) ≡ place)
 
 -- the rows at two places of an order, each in the other's place
 pub record AreExchanged (order places new_order new_places : List ℕ) (first second : ℕ) : Type 0 where
@@ -13,7 +17,8 @@ pub record AreExchanged (order places new_order new_places : List ℕ) (first se
   pub as_long : length new_order ≡ length order
   pub at_first : slice_index new_places (slice_index order first) ≡ second
   pub at_second : slice_index new_places (slice_index order second) ≡ first
-  pub others : (row : ℕ) → row ≢ slice_index order first → row ≢ slice_index order second → slice_index new_places row ≡ slice_index places row
+  pub others : (row : ℕ) → row ≢ slice_index order first → row ≢ slice_index order second →
+      slice_index new_places row ≡ slice_index places row
 
 -- the first places of the order are those of the rows without children
 pub record AreKept (counts order places : List ℕ) (childless : ℕ) : Type 0 where
@@ -21,7 +26,8 @@ pub record AreKept (counts order places : List ℕ) (childless : ℕ) : Type 0 w
   pub few : length counts < 2 ^ 32
   pub inverse : AreInverse order places
   pub within : childless ≤ length counts
-  pub first : (row : ℕ) → row < length counts → (slice_index places row < childless) ↔ (slice_index counts row ≡ 0)
+  pub first : (row : ℕ) → row < length counts → (slice_index places row < childless) ↔
+      (slice_index counts row ≡ 0)
 
 -- the counts with one child more, or less, of a row, where there is one
 abbrev pub one_more : Option ℕ → List ℕ → List ℕ

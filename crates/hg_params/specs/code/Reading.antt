@@ -1,5 +1,6 @@
 -- Reading a header from left to right.
-use Rattle.std.specs.Prelude.{◌≡◌, ℕ, ◌*◌, List, [], ◌∷◌, length, take, drop, Result, Ok, Err, nat_lt, if◌then◌else◌}
+use Rattle.std.specs.Prelude.{◌≡◌, ℕ, ◌*◌, List, [], ◌∷◌, length, take, drop, Result, Ok, Err, nat_lt}
+use Rattle.std.specs.Prelude.{if◌then◌else◌}
 use Rattle.std.specs.List.{sum}
 use Rattle.std.specs.Int.{w32, from_be_bytes}
 use Rattle.hg_params.specs.declared.fault.ParamFault.{ParamFault}
@@ -18,7 +19,8 @@ Gives view (Err e) read = read ≡ Err e
 
 -- some bytes
 unfoldable pub bytes_at : ℕ → List ℕ → Result (List ℕ × List ℕ) ParamFault
-bytes_at count bytes = if nat_lt (length bytes) count then Err Short else Ok (take count bytes, drop count bytes)
+bytes_at count bytes = if nat_lt (length bytes) count then Err Short
+    else Ok (take count bytes, drop count bytes)
 
 -- a byte of size, and as many bytes
 unfoldable pub counted_at : List ℕ → Result (List ℕ × List ℕ) ParamFault
@@ -69,8 +71,14 @@ unfoldable pub params_in : List ℕ → List ℕ → List KeyValue
 params_in [] texts = []
 params_in (size ∷ []) texts = []
 params_in (key ∷ value ∷ sizes) texts =
-    record { key = take key texts; value = take value (drop key texts) } ∷ params_in sizes (drop value (drop key texts))
+    record { key = take key texts; value = take value (drop key texts) }
+    ∷ params_in sizes (drop value (drop key texts))
 
 -- the fields, the parameters cut
 abbrev pub fields_in : Front → Fields
-fields_in f = record { kind = f.kind; id = f.id; mandatory = params_in f.mandatory.sizes f.mandatory.texts; advisory = params_in f.advisory.sizes f.advisory.texts }
+fields_in f = record {
+  kind = f.kind;
+  id = f.id;
+  mandatory = params_in f.mandatory.sizes f.mandatory.texts;
+  advisory = params_in f.advisory.sizes f.advisory.texts;
+}

@@ -1,0 +1,4 @@
+pub mod ChildCounts
+pub mod Graph
+pub mod Marks
+pub mod Inside
