@@ -9,7 +9,8 @@ Answer = Result (Unit {0}) CheckFault
 
 -- what a function returned is the answer, unless memory was refused
 abbrev pub Gives : Answer → Answer → Type 0
-Gives result answer = MatchResult result (λ content. answer ≡ Ok tt) (λ fault. (fault ≡ NoMemory) ⊎ (answer ≡ Err fault))
+Gives result answer = MatchResult result (λ content. answer ≡ Ok tt) (λ fault. (fault ≡ NoMemory)
+    ⊎ (answer ≡ Err fault))
 
 abbrev pub and_then : Answer → Answer → Answer
 and_then (Ok content) next = next

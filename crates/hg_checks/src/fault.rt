@@ -6,8 +6,8 @@ use hg_types::NoMemory;
 use std::alloc::AllocError;
 use thiserror::Error;
 
-/// Why a check part refuses its push. `Short` comes before `BadPhase`, and both before the rest; then the first entry
-/// that is unknown or differs decides.
+/// Why a check part refuses its push. `Short` comes before `BadPhase`, and both before the rest; then the
+/// first entry that is unknown or differs decides.
 #[derive(Clone, Copy, Debug, PartialEq, Eq, Error)]
 pub enum CheckFault {
     /// 1: the repository is not as the payload says.

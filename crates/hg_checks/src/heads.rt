@@ -14,10 +14,11 @@ use std::alloc::Allocator;
 /// The number of bytes of an id.
 const ID: usize = 20;
 
-/// Whether the ids in a payload are the heads of the whole log, secret and obsolete changesets included, in any order.
+/// Whether the ids in a payload are the heads of the whole log, secret and obsolete changesets included, in
+/// any order.
 ///
-/// Refused are a length that is no multiple of 20 (`Short`), and else ids that are not the heads, each once (`Raced`). It
-/// looks up each id and sorts them, and does neither where they are not as many as the heads.
+/// Refused are a length that is no multiple of 20 (`Short`), and else ids that are not the heads, each once
+/// (`Raced`). It looks up each id and sorts them, and does neither where they are not as many as the heads.
 pub fn check_heads<A: Allocator + Copy>(
     alloc: A,
     log: &Changelog<A>,

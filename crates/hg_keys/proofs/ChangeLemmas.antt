@@ -7,7 +7,7 @@ use Rattle.std.proofs.lemmas.Bool.{ltb-true, lt-ltb}
 use Rattle.hg_keys.specs.declared.bookmarks.Change.{Change}
 use Rattle.hg_keys.specs.declared.bookmarks.Change.TheVariants.{Added, Moved, Removed}
 use Rattle.hg_keys.specs.Bookmarks.{Pairs, AreInOrder}
-use Rattle.hg_keys.specs.Changes.{undone, all_undone, base_of, can_undo, can_undo_all, kept, IsSound}
+use Rattle.hg_keys.specs.code.Changes.{undone, all_undone, base_of, can_undo, can_undo_all, kept, IsSound}
 
 both : (p q : Bool) → p ≡ true → q ≡ true → (p && q) ≡ true
 both true q h k = k

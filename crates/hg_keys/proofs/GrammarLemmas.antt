@@ -54,7 +54,7 @@ bytes_behind : (n : ℕ) (bytes : List ℕ) → IsBytes bytes → IsBytes (drop 
 bytes_behind n bytes are i = rw (get_or-drop n bytes i 0) (are (n + i))
 
 -- the first bytes of a list of bytes
-bytes_before : (n : ℕ) (bytes : List ℕ) → IsBytes bytes → IsBytes (take n bytes)
+pub bytes_before : (n : ℕ) (bytes : List ℕ) → IsBytes bytes → IsBytes (take n bytes)
 bytes_before zero bytes are i = omega arith
 bytes_before (suc n) [] are i = omega arith
 bytes_before (suc n) (b ∷ bytes) are zero = are 0

@@ -8,3 +8,4 @@ pub mod PayloadLemmas
 pub mod CallerLemmas
 pub mod GrammarLemmas
 pub mod SetLemmas
+pub mod StayingLemmas

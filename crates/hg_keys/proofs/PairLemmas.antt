@@ -13,8 +13,8 @@ use Rattle.std.proofs.lemmas.List.{take-append-drop, drop_more, set_split, set-s
 use Rattle.std.proofs.lemmas.List.Sorted.{searchable_from_sorted}
 use Rattle.hg_types.specs.declared.node.Node.{Node}
 use Rattle.hg_keys.specs.Bookmarks.{Pairs, name_cmp, is_before, AreInOrder, node_of, pair_of, with_bookmark}
-use Rattle.hg_keys.specs.Changes.{moved}
-use Rattle.hg_keys.specs.Places.{IsAt, IsGap}
+use Rattle.hg_keys.specs.code.Changes.{moved}
+use Rattle.hg_keys.specs.code.Places.{IsAt, IsGap}
 use Rattle.hg_keys.proofs.Lists.{within_take, within_drop, filter_front, filter_rest, lookup_none, lookup_behind, all_pairs_insert}
 
 -- the order of names, turned round

@@ -1,5 +1,7 @@
 -- Base-85: the value of each group of digits, and the digits of each group of bytes.
-use Rattle.std.specs.Prelude.{◌≡◌, ◌+◌, ◌-◌, ◌*◌, ◌/◌, ◌%◌, ◌^◌, ◌==◌, ℕ, Bool, List, [], ◌∷◌, ◌++◌, length, map, take, replicate, fold, codes, slice_index, nat_lt, Result, Ok, Err, if◌then◌else◌}
+use Rattle.std.specs.Prelude.{◌≡◌, ◌+◌, ◌-◌, ◌*◌, ◌/◌, ◌%◌, ◌^◌, ◌==◌, ℕ, Bool, List, [], ◌∷◌, ◌++◌, length}
+use Rattle.std.specs.Prelude.{map, take, replicate, fold, codes, slice_index, nat_lt, Result, Ok, Err}
+use Rattle.std.specs.Prelude.{if◌then◌else◌}
 use Rattle.std.specs.List.{list_all, flat_map, position_or_len}
 use Rattle.std.specs.Int.{w32, to_be_bytes, from_be_bytes}
 use Rattle.hg_keys.specs.declared.fault.Base85Fault.{Base85Fault}
@@ -67,11 +69,13 @@ abbrev pub fits : List ℕ → Bool
 fits group = nat_lt (filled_value group) (2 ^ 32)
 
 abbrev pub decoded_groups : List ℕ → Result (List ℕ) Base85Fault
-decoded_groups text = if list_all fits (fives text) then Ok (flat_map group_bytes (fives text)) else Err Overflow
+decoded_groups text = if list_all fits (fives text) then Ok (flat_map group_bytes (fives text))
+    else Err Overflow
 
 -- the bytes that a text stands for, or what is wrong with it
 abbrev pub decoded : List ℕ → Result (List ℕ) Base85Fault
-decoded text = if list_all is_digit text then (if length text % 5 == 1 then Err BadLength else decoded_groups text) else Err BadDigit
+decoded text = if list_all is_digit text
+    then (if length text % 5 == 1 then Err BadLength else decoded_groups text) else Err BadDigit
 
 -- the number, if four bytes hold it
 abbrev pub fitting : ℕ → Result ℕ Base85Fault

@@ -1,5 +1,6 @@
 -- Bookmarks: a map from names to changesets, as its pairs in the order of the names' bytes.
-use Rattle.std.specs.Prelude.{◌≡◌, ◌≢◌, ℕ, Bool, List, [], ◌∷◌, ◌++◌, filter, AllPairs, Option, Some, None, bytes_eq}
+use Rattle.std.specs.Prelude.{◌≡◌, ◌≢◌, ℕ, Bool, List, [], ◌∷◌, ◌++◌, filter, AllPairs, Option, Some, None}
+use Rattle.std.specs.Prelude.{bytes_eq}
 use Rattle.std.specs.Map.{lookup}
 use Rattle.std.specs.Cmp.Lexicographic.{slice_cmp}
 use Rattle.std.specs.Ordering.{is_lt, nat_cmp}
@@ -34,15 +35,18 @@ pair_of name (Some node) = (name, node) ∷ []
 -- the map with a name on that changeset, or without the name: the others stay
 unfoldable pub with_bookmark : Pairs → List ℕ → Option Node → Pairs
 with_bookmark pairs name node =
-    filter (λ pair. is_before pair.0 name) pairs ++ (pair_of name node ++ filter (λ pair. is_before name pair.0) pairs)
+    filter (λ pair. is_before pair.0 name) pairs
+    ++ (pair_of name node ++ filter (λ pair. is_before name pair.0) pairs)
 
 -- a name is on what it was set to, and the others are on what they were on
 abbrev pub SetIsFound : Type 0
-SetIsFound = (pairs : Pairs) (name : List ℕ) (node : Option Node) → node_of (with_bookmark pairs name node) name ≡ node
+SetIsFound = (pairs : Pairs) (name : List ℕ) (node : Option Node) →
+    node_of (with_bookmark pairs name node) name ≡ node
 
 abbrev pub OthersStay : Type 0
 OthersStay =
-    (pairs : Pairs) (name other : List ℕ) (node : Option Node) → other ≢ name → node_of (with_bookmark pairs name node) other ≡ node_of pairs other
+    (pairs : Pairs) (name other : List ℕ) (node : Option Node) → other ≢ name →
+    node_of (with_bookmark pairs name node) other ≡ node_of pairs other
 
 -- What contracts see: the map, and the map at the moment of the mark, where there is one.
 pub record Marked : Type 0 where

@@ -1,5 +1,6 @@
 -- What a log and its phases tell of an id. The null id is known everywhere, and public.
-use Rattle.std.specs.Prelude.{◌≡◌, Bool, true, ◌||◌, List, All, Option, Some, option_map, is_some, bytes_eq, if◌then◌else◌}
+use Rattle.std.specs.Prelude.{◌≡◌, Bool, true, ◌||◌, List, All, Option, Some, option_map, is_some, bytes_eq}
+use Rattle.std.specs.Prelude.{if◌then◌else◌}
 use Rattle.hg_types.specs.NullId.{null_id}
 use Rattle.hg_types.specs.declared.node.Node.{Node}
 use Rattle.hg_types.specs.declared.phase.Phase.{Phase}
@@ -17,7 +18,8 @@ is_known rows node = is_null node || is_some (rev_of rows node.0)
 
 -- the phase of a known id
 abbrev pub phase_of_node : List Changeset → List Phase → Node → Option Phase
-phase_of_node rows phases node = if is_null node then Some Public else option_map (phase_at phases) (rev_of rows node.0)
+phase_of_node rows phases node = if is_null node then Some Public
+    else option_map (phase_at phases) (rev_of rows node.0)
 
 -- every bookmark is on a known changeset
 abbrev pub AreOnKnown : List Changeset → Pairs → Type 0

@@ -1,9 +1,7 @@
 pub mod Base85
 pub mod Bookmarks
-pub mod Changes
-pub mod Places
 pub mod Payload
 pub mod Known
 pub mod PushKey
 pub mod KeyFaults
-pub mod LentEntry
+pub mod code

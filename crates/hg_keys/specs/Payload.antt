@@ -1,5 +1,6 @@
 -- The payload of the parts `bookmarks` and `check:bookmarks`: its entries, read from left to right.
-use Rattle.std.specs.Prelude.{◌≡◌, ◌≢◌, ◌↔◌, ◌<◌, ◌^◌, ℕ, zero, suc, List, [], ◌∷◌, ◌++◌, length, take, drop, replicate, Option, Some, None, Result, Ok, Err, nat_lt, bytes_eq, if◌then◌else◌}
+use Rattle.std.specs.Prelude.{◌≡◌, ◌≢◌, ◌↔◌, ◌<◌, ◌^◌, ℕ, zero, suc, List, [], ◌∷◌, ◌++◌, length, take, drop}
+use Rattle.std.specs.Prelude.{replicate, Option, Some, None, Result, Ok, Err, nat_lt, bytes_eq, if◌then◌else◌}
 use Rattle.std.specs.List.{flat_map, AllByRecursion}
 use Rattle.std.specs.Int.{w16, to_be_bytes, from_be_bytes}
 use Rattle.hg_types.specs.Bytes.{IsBytes}
@@ -41,15 +42,18 @@ target_in id = if bytes_eq id no_node then None else Some (record { 0 = id })
 
 -- a name of that size at the front, and the bytes behind it
 unfoldable pub name_at : Option Node → ℕ → List ℕ → Option (Entry × List ℕ)
-name_at target size bytes = if nat_lt (length bytes) size then None else Some ((target, take size bytes), drop size bytes)
+name_at target size bytes = if nat_lt (length bytes) size then None
+    else Some ((target, take size bytes), drop size bytes)
 
 -- the size of a name, and the name
 unfoldable pub sized_at : Option Node → List ℕ → Option (Entry × List ℕ)
-sized_at target bytes = if nat_lt (length bytes) 2 then None else name_at target (from_be_bytes w16 (take 2 bytes)) (drop 2 bytes)
+sized_at target bytes = if nat_lt (length bytes) 2 then None
+    else name_at target (from_be_bytes w16 (take 2 bytes)) (drop 2 bytes)
 
 -- the first entry, and the bytes behind it, unless the bytes end inside it
 unfoldable pub entry_at : List ℕ → Option (Entry × List ℕ)
-entry_at bytes = if nat_lt (length bytes) 20 then None else sized_at (target_in (take 20 bytes)) (drop 20 bytes)
+entry_at bytes = if nat_lt (length bytes) 20 then None
+    else sized_at (target_in (take 20 bytes)) (drop 20 bytes)
 
 -- entries before others
 abbrev pub with_front : List Entry → Option (List Entry) → Option (List Entry)
@@ -73,7 +77,8 @@ entries_of bytes = entries_within (length bytes) bytes
 -- reading gives a list of entries just where the payload is their bytes, joined, and each may be one
 abbrev pub ReadingIsGrammar : Type 0
 ReadingIsGrammar =
-    (bytes : List ℕ) (entries : List Entry) → IsBytes bytes → (entries_of bytes ≡ Some entries) ↔ (AreEntries bytes entries × AllByRecursion IsEntry entries)
+    (bytes : List ℕ) (entries : List Entry) → IsBytes bytes → (entries_of bytes ≡ Some entries) ↔
+    (AreEntries bytes entries × AllByRecursion IsEntry entries)
 
 -- what a function returned is what reading gives, unless memory was refused
 abbrev pub Gives : Result (List Entry) BookmarkFault → Option (List Entry) → Type 0

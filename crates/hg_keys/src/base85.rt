@@ -7,7 +7,8 @@
 
 ghost use Rattle.std.specs.Prelude.{◌≡◌, ◌<◌, ◌≤◌, IfOk, map};
 ghost use Rattle.std.specs.List.{list_all};
-ghost use Rattle.hg_keys.specs.Base85.{Gives, decoded, decoded_groups, encoded, digit_value, digit_at, is_digit as digit_test, group_value, fitting, digits_of};
+ghost use Rattle.hg_keys.specs.Base85.{Gives, decoded, decoded_groups, encoded, digit_value, digit_at};
+ghost use Rattle.hg_keys.specs.Base85.{is_digit as digit_test, group_value, fitting, digits_of};
 
 use crate::fault::Base85Fault;
 use hg_types::NoMemory;

@@ -1,10 +1,12 @@
 //! Bookmarks: names for changesets, which move.
 
-ghost use Rattle.std.specs.Prelude.{◌≡◌, ◌≢◌, ◌<◌, ◌≤◌, ◌++◌, [], length, reverse, true, Some, None, IfSome, IfNone, IfOk, IfErr, OnOk, OnErr, slice_get, slice_index_or, slice_set, insert, remove, vec_len, vec_capacity};
+ghost use Rattle.std.specs.Prelude.{◌≡◌, ◌≢◌, ◌<◌, ◌≤◌, ◌++◌, [], length, reverse, true, Some, None, IfSome};
+ghost use Rattle.std.specs.Prelude.{IfNone, IfOk, IfErr, OnOk, OnErr, slice_get, slice_index_or, slice_set};
+ghost use Rattle.std.specs.Prelude.{insert, remove, vec_len, vec_capacity};
 ghost use Rattle.std.specs.Option.{option_to_list};
 ghost use Rattle.hg_keys.specs.Bookmarks.{AreInOrder, node_of, with_bookmark};
-ghost use Rattle.hg_keys.specs.Changes.{all_undone, base_of, can_undo, can_undo_all, kept, undone};
-ghost use Rattle.hg_keys.specs.Places.{IsAt, IsGap};
+ghost use Rattle.hg_keys.specs.code.Changes.{all_undone, base_of, can_undo, can_undo_all, kept, undone};
+ghost use Rattle.hg_keys.specs.code.Places.{IsAt, IsGap};
 
 use hg_types::{NoMemory, Node, Seq};
 use std::alloc::{Allocator, Global};
@@ -21,7 +23,8 @@ enum Change<A: Allocator = Global> {
     Removed(usize, Bookmark<A>),
 }
 
-/// A moment to which the bookmarks can go back. What they were then is a part of the value that contracts see.
+/// A moment to which the bookmarks can go back. What they were then is a part of the value that contracts
+/// see.
 #[derive(Drop)]
 pub struct BookmarkMark {
     _private: (),
@@ -29,8 +32,8 @@ pub struct BookmarkMark {
 
 /// A map from names to changesets. Contracts see its pairs, in the order of the names' bytes.
 ///
-/// A look-up halves the pairs that are left, and a name that is moved costs no more. A name that comes or goes moves the pairs
-/// behind it in memory.
+/// A look-up halves the pairs that are left, and a name that is moved costs no more. A name that comes or
+/// goes moves the pairs behind it in memory.
 #[derive(Drop)]
 pub struct Bookmarks<A: Allocator = Global> {
     pairs: Vec<Bookmark<A>, A>,
@@ -44,7 +47,7 @@ impl<A: Allocator> Model for Bookmarks<A> {
 
     ghost Value = { Marked };
 
-    ghost use Rattle.hg_keys.specs.Changes.{base_of, IsSound};
+    ghost use Rattle.hg_keys.specs.code.Changes.{base_of, IsSound};
 
     ghost view = { λ b. record {
       current = b.pairs.items;
@@ -79,10 +82,11 @@ impl<A: Allocator + Copy> Bookmarks<A> {
         })
     }
 
-    /// Sets a name on a changeset, or deletes it. After a mark it keeps what it replaces before it changes anything. Where memory
-    /// is refused, the bookmarks are unchanged.
+    /// Sets a name on a changeset, or deletes it. After a mark it keeps what it replaces before it changes
+    /// anything. Where memory is refused, the bookmarks are unchanged.
     pub fn set(&mut self, alloc: A, name: &[u8], node: Option<Node>) -> Result<(), NoMemory>
-        ensures ok { OnOk result (self.new ≡ record { current = with_bookmark self.old.current name.now node; marked = self.old.marked }) }
+        ensures ok { OnOk result (self.new
+            ≡ record { current = with_bookmark self.old.current name.now node; marked = self.old.marked }) }
         ensures err { OnErr result (self.new ≡ self.old) }
     {
         self.changes.reserve(usize::from(self.is_marked))?;
@@ -162,8 +166,10 @@ fn put<A: Allocator + Copy>(
     requires { AreInOrder pairs.old.items }
     ensures set { OnOk result (pairs.new.items ≡ with_bookmark pairs.old.items name.now node) }
     ensures in_order { AreInOrder pairs.new.items }
-    ensures back { IfOk result (λ change. all_undone (option_to_list change) pairs.new.items ≡ pairs.old.items) }
-    ensures can { IfOk result (λ change. can_undo_all (vec_capacity pairs.new) (option_to_list change) pairs.new.items ≡ true) }
+    ensures back { IfOk result (λ change. all_undone (option_to_list change) pairs.new.items
+        ≡ pairs.old.items) }
+    ensures can { IfOk result (λ change. can_undo_all (vec_capacity pairs.new)
+        (option_to_list change) pairs.new.items ≡ true) }
     ensures room { vec_capacity pairs.old ≤ vec_capacity pairs.new }
     ensures err { OnErr result (pairs.new.items ≡ pairs.old.items) }
 {

@@ -1,7 +1,9 @@
 //! The text of keys and values: hexadecimal ids, and phases as digits.
 
 ghost use Rattle.std.specs.Prelude.{◌≡◌, bytes_eq};
-ghost use Rattle.hg_keys.specs.PushKey.{are_same as same_test, is_divergent as divergent_test, is_known_target as known_target_test, node_in_hex as hex_node, phase_in_text as text_phase, target_in_text as text_target, value_of};
+ghost use Rattle.hg_keys.specs.PushKey.{are_same as same_test, is_divergent as divergent_test};
+ghost use Rattle.hg_keys.specs.PushKey.{is_known_target as known_target_test, node_in_hex as hex_node};
+ghost use Rattle.hg_keys.specs.PushKey.{phase_in_text as text_phase, target_in_text as text_target, value_of};
 
 use crate::known::is_known;
 use hg_log::Changelog;

@@ -1,11 +1,13 @@
 //! Pushkey: a key of a namespace is set to a new value.
 
-ghost use Rattle.std.specs.Prelude.{◌≡◌, ◌⊎◌, ◌≤◌, length, false, Ok, Err, IfOk, IfErr, OnErr, MatchResult, take};
+ghost use Rattle.std.specs.Prelude.{◌≡◌, ◌⊎◌, ◌≤◌, length, false, Ok, Err, IfOk, IfErr, OnErr, MatchResult};
+ghost use Rattle.std.specs.Prelude.{take};
 ghost use Rattle.hg_phases.specs.Phases.{AreFor};
 ghost use Rattle.hg_obs.specs.Markers.{AreLawful};
 ghost use Rattle.hg_keys.specs.declared.fault.KeyFault.TheVariants.{NoMemory as Refused};
 ghost use Rattle.hg_keys.specs.Known.{AreOnKnown};
-ghost use Rattle.hg_keys.specs.PushKey.{bookmark_pushed, is_settable as settable_test, key_pushed, markers_pushed, moved_from, phase_pushed};
+ghost use Rattle.hg_keys.specs.PushKey.{bookmark_pushed, is_settable as settable_test, key_pushed};
+ghost use Rattle.hg_keys.specs.PushKey.{markers_pushed, moved_from, phase_pushed};
 
 use crate::base85::base85_decode;
 use crate::bookmarks::Bookmarks;
@@ -20,8 +22,8 @@ use hg_phases::Phases;
 use hg_types::{NoMemory, Node, Phase, Seq};
 use std::alloc::{Allocator, Global};
 
-/// A call of pushkey, as the parameters of its part are: the namespace, the key, the value that the client thinks it has, and
-/// the value that it is to have. All are bytes.
+/// A call of pushkey, as the parameters of its part are: the namespace, the key, the value that the client
+/// thinks it has, and the value that it is to have. All are bytes.
 #[derive(Drop)]
 pub struct KeyCall<A: Allocator = Global> {
     pub namespace: Seq<u8, A>,
@@ -30,10 +32,11 @@ pub struct KeyCall<A: Allocator = Global> {
     pub new: Seq<u8, A>,
 }
 
-/// Sets a key of a namespace to a new value, and tells whether it took effect, as the head of this crate tells it.
+/// Sets a key of a namespace to a new value, and tells whether it took effect, as the head of this crate
+/// tells it.
 ///
-/// In the namespace `obsolete`, text that is not base-85 (`BadBase85`) and bytes that are no marker data (`BadMarkers`) are
-/// refused. Nothing is changed after a fault, nor where the answer is false.
+/// In the namespace `obsolete`, text that is not base-85 (`BadBase85`) and bytes that are no marker data
+/// (`BadMarkers`) are refused. Nothing is changed after a fault, nor where the answer is false.
 #[tactic(auto, unfolding(crate::specs::PushKey::key_pushed))]
 pub fn push_key<A: Allocator + Copy>(
     alloc: A,
@@ -45,12 +48,30 @@ pub fn push_key<A: Allocator + Copy>(
 ) -> Result<bool, KeyFault>
     requires fits { AreFor log.now.rows phases.old.current }
     requires count { length phases.old.current.phases ≡ length log.now.rows }
-    ensures done { IfOk result (λ done. key_pushed log.now.rows (record { phases = phases.old.current.phases; markers = markers.old; bookmarks = bookmarks.old.current }) call.now
-        ≡ Ok (record { phases = phases.new.current.phases; markers = markers.new; bookmarks = bookmarks.new.current }, done)) }
-    ensures fault { IfErr result (λ fault. (fault ≡ Refused) ⊎ (key_pushed log.now.rows (record { phases = phases.old.current.phases; markers = markers.old; bookmarks = bookmarks.old.current }) call.now ≡ Err fault)) }
-    ensures phases { MatchResult result (λ done. done ≡ false → phases.new ≡ phases.old) (λ fault. phases.new ≡ phases.old) }
-    ensures markers { MatchResult result (λ done. done ≡ false → markers.new ≡ markers.old) (λ fault. markers.new ≡ markers.old) }
-    ensures bookmarks { MatchResult result (λ done. done ≡ false → bookmarks.new ≡ bookmarks.old) (λ fault. bookmarks.new ≡ bookmarks.old) }
+    ensures done { IfOk result (λ done. key_pushed log.now.rows (record {
+      phases = phases.old.current.phases;
+      markers = markers.old;
+      bookmarks = bookmarks.old.current;
+    }) call.now
+        ≡ Ok (
+          record {
+            phases = phases.new.current.phases;
+            markers = markers.new;
+            bookmarks = bookmarks.new.current;
+          },
+          done,
+        )) }
+    ensures fault { IfErr result (λ fault. (fault ≡ Refused) ⊎ (key_pushed log.now.rows (record {
+      phases = phases.old.current.phases;
+      markers = markers.old;
+      bookmarks = bookmarks.old.current;
+    }) call.now ≡ Err fault)) }
+    ensures phases { MatchResult result (λ done. done ≡ false →
+        phases.new ≡ phases.old) (λ fault. phases.new ≡ phases.old) }
+    ensures markers { MatchResult result (λ done. done ≡ false →
+        markers.new ≡ markers.old) (λ fault. markers.new ≡ markers.old) }
+    ensures bookmarks { MatchResult result (λ done. done ≡ false →
+        bookmarks.new ≡ bookmarks.old) (λ fault. bookmarks.new ≡ bookmarks.old) }
     ensures fits { AreFor log.now.rows phases.new.current }
     ensures count { length phases.new.current.phases ≡ length log.now.rows }
     ensures phases_marked { phases.new.marked ≡ phases.old.marked }
@@ -59,7 +80,8 @@ pub fn push_key<A: Allocator + Copy>(
     ensures lawful { AreLawful markers.old → AreLawful markers.new }
     ensures within { length markers.old ≤ length markers.new }
     ensures front { take (length markers.old) markers.new ≡ markers.old }
-    ensures known { AreOnKnown log.now.rows bookmarks.old.current → AreOnKnown log.now.rows bookmarks.new.current }
+    ensures known { AreOnKnown log.now.rows bookmarks.old.current →
+        AreOnKnown log.now.rows bookmarks.new.current }
 {
     let namespace = call.namespace.as_slice();
     let (key, old, new) = (
@@ -93,7 +115,9 @@ fn push_phase<A: Allocator + Copy>(
 ) -> Result<bool, NoMemory>
     requires fits { AreFor log.now.rows phases.old.current }
     requires count { length phases.old.current.phases ≡ length log.now.rows }
-    ensures done { IfOk result (λ done. phase_pushed log.now.rows phases.old.current.phases key.now old.now new.now ≡ (phases.new.current.phases, done)) }
+    ensures done { IfOk result
+        (λ done. phase_pushed log.now.rows phases.old.current.phases key.now old.now new.now
+        ≡ (phases.new.current.phases, done)) }
     ensures stays { IfOk result (λ done. done ≡ false → phases.new ≡ phases.old) }
     ensures err { OnErr result (phases.new ≡ phases.old) }
     ensures fits { AreFor log.now.rows phases.new.current }
@@ -127,7 +151,9 @@ fn move_from<A: Allocator + Copy>(
 ) -> Result<bool, NoMemory>
     requires fits { AreFor log.now.rows phases.old.current }
     requires count { length phases.old.current.phases ≡ length log.now.rows }
-    ensures done { IfOk result (λ done. moved_from log.now.rows phases.old.current.phases node.now old new current ≡ (phases.new.current.phases, done)) }
+    ensures done { IfOk result
+        (λ done. moved_from log.now.rows phases.old.current.phases node.now old new current
+        ≡ (phases.new.current.phases, done)) }
     ensures stays { IfOk result (λ done. done ≡ false → phases.new ≡ phases.old) }
     ensures err { OnErr result (phases.new ≡ phases.old) }
     ensures fits { AreFor log.now.rows phases.new.current }
@@ -153,11 +179,14 @@ fn push_bookmark<A: Allocator + Copy>(
     old: &[u8],
     new: &[u8],
 ) -> Result<bool, NoMemory>
-    ensures done { IfOk result (λ done. bookmark_pushed log.now.rows bookmarks.old.current key.now old.now new.now ≡ (bookmarks.new.current, done)) }
+    ensures done { IfOk result
+        (λ done. bookmark_pushed log.now.rows bookmarks.old.current key.now old.now new.now
+        ≡ (bookmarks.new.current, done)) }
     ensures stays { IfOk result (λ done. done ≡ false → bookmarks.new ≡ bookmarks.old) }
     ensures err { OnErr result (bookmarks.new ≡ bookmarks.old) }
     ensures marked { bookmarks.new.marked ≡ bookmarks.old.marked }
-    ensures known { AreOnKnown log.now.rows bookmarks.old.current → AreOnKnown log.now.rows bookmarks.new.current }
+    ensures known { AreOnKnown log.now.rows bookmarks.old.current →
+        AreOnKnown log.now.rows bookmarks.new.current }
 {
     if is_divergent(key) {
         return Ok(false);
@@ -192,8 +221,10 @@ fn push_markers<A: Allocator + Copy>(
     old: &[u8],
     new: &[u8],
 ) -> Result<bool, KeyFault>
-    ensures done { IfOk result (λ done. markers_pushed markers.old key.now old.now new.now ≡ Ok (markers.new, done)) }
-    ensures fault { IfErr result (λ fault. (fault ≡ Refused) ⊎ (markers_pushed markers.old key.now old.now new.now ≡ Err fault)) }
+    ensures done { IfOk result (λ done. markers_pushed markers.old key.now old.now new.now
+        ≡ Ok (markers.new, done)) }
+    ensures fault { IfErr result (λ fault. (fault ≡ Refused)
+        ⊎ (markers_pushed markers.old key.now old.now new.now ≡ Err fault)) }
     ensures stays { IfOk result (λ done. done ≡ false → markers.new ≡ markers.old) }
     ensures err { OnErr result (markers.new ≡ markers.old) }
     ensures lawful { AreLawful markers.old → AreLawful markers.new }

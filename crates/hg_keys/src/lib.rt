@@ -42,7 +42,10 @@ pub use fault::{Base85Fault, BookmarkFault, KeyFault};
 pub use key_text::{are_same, is_known_target};
 pub use keys::{KeyCall, push_key};
 pub use known::{is_known, phase_of_node};
-pub use laws::{a_set_name_is_found, decoding_gives_back, reading_is_the_grammar};
+pub use laws::{
+    a_set_name_is_found, bookmarks_stay_lawful, decoding_gives_back, keys_stay_lawful,
+    reading_is_the_grammar,
+};
 pub use payload::read_bookmarks;
 
 #[cfg(test)]

@@ -2,7 +2,7 @@
 
 ghost use Rattle.std.specs.Prelude.{◌≡◌, IfOk, IfSome, IfNone, Some, None};
 ghost use Rattle.std.specs.Option.{option_map};
-ghost use Rattle.hg_keys.specs.LentEntry.{Finds};
+ghost use Rattle.hg_keys.specs.code.LentEntry.{Finds};
 ghost use Rattle.hg_keys.specs.Payload.{Gives, entries_of, entry_at, name_at, sized_at, target_in};
 
 use crate::fault::BookmarkFault;
@@ -23,10 +23,11 @@ struct Lent<'a> {
     rest: &'a [u8],
 }
 
-/// The entries of a payload, in order: all of it, as the head of this crate lays it out. `None` is no changeset.
+/// The entries of a payload, in order: all of it, as the head of this crate lays it out. `None` is no
+/// changeset.
 ///
-/// A payload that ends inside an entry is refused (`Short`). Memory grows with what was read, and never by what a size
-/// announces.
+/// A payload that ends inside an entry is refused (`Short`). Memory grows with what was read, and never by
+/// what a size announces.
 pub fn read_bookmarks<A: Allocator + Copy>(
     alloc: A,
     bytes: &[u8],

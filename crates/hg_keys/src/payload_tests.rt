@@ -111,7 +111,8 @@ fn are_there<A: Allocator>(bookmarks: &Bookmarks<A>, node: Node) -> bool {
         && bookmarks.entry(2).is_none()
 }
 
-/// Over a heap with nothing left, looks, a mark, a move that the mark kept room for, and the way back want nothing.
+/// Over a heap with nothing left, looks, a mark, a move that the mark kept room for, and the way back want
+/// nothing.
 #[test]
 fn no_memory_for_looking_and_going_back(rt: HostRuntime) -> Result<(), Fail> {
     let heap = LocalHeap::new(rt.alloc(), 4096)?;

@@ -31,8 +31,8 @@ const OTHER: &[u8] = b"1111111111111111111111111111111111111111";
 
 const ZEROS: &[u8] = b"0000000000000000000000000000000000000000";
 
-/// Marker data in base-85, as Python's `base64.b85encode` writes it: one marker without successors; one with the null id as
-/// its successor; and one whose metadata has no colon.
+/// Marker data in base-85, as Python's `base64.b85encode` writes it: one marker without successors; one with
+/// the null id as its successor; and one whose metadata has no colon.
 const MARKER: &[u8] = b"000000000H5fKp)5fKp)5fKp)5fKp)5fKp";
 
 const NULL_SUCCESSOR: &[u8] = b"009610000H5fKp)5fKp)5fKp)5fKp)5fKpp000000000000000000000000";
@@ -47,7 +47,8 @@ type Case<'t> = ([&'t [u8]; 4], Result<bool, KeyFault>);
 struct Told {
     /// Whether each call had its answer.
     all: bool,
-    /// The phase of the root, the number of markers, that of bookmarks, and the changeset of the bookmark `m`.
+    /// The phase of the root, the number of markers, that of bookmarks, and the changeset of the bookmark
+    /// `m`.
     phase: Option<Phase>,
     markers: usize,
     bookmarks: usize,
@@ -226,7 +227,8 @@ fn keys_of_phases(rt: HostRuntime) -> Result<(), Fail> {
     Ok(())
 }
 
-/// The table of `bookmarks`. In the end `m` is gone, and the names `a@`, `@`, `a@b@` and the empty one are there.
+/// The table of `bookmarks`. In the end `m` is gone, and the names `a@`, `@`, `a@b@` and the empty one are
+/// there.
 #[test]
 fn keys_of_bookmarks(rt: HostRuntime) -> Result<(), Fail> {
     let cases: [Case; 16] = [
@@ -382,7 +384,8 @@ enum Reached {
     Wrong,
 }
 
-/// A call whose changes want memory of a small heap, behind a mark of the bookmarks: where it is refused, nothing has changed.
+/// A call whose changes want memory of a small heap, behind a mark of the bookmarks: where it is refused,
+/// nothing has changed.
 fn push_over<'h>(
     heap: &'h LocalHeap,
     ample: &'h LocalHeap,

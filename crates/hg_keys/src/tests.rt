@@ -89,7 +89,8 @@ fn each_growth_refused(rt: HostRuntime) -> Result<(), Fail> {
     Ok(())
 }
 
-/// 100,003 bytes are 125,004 digits: a heap with room for them and little more is enough, so no more is asked for than comes.
+/// 100,003 bytes are 125,004 digits: a heap with room for them and little more is enough, so no more is asked
+/// for than comes.
 #[test]
 fn many_bytes(rt: HostRuntime) -> Result<(), Fail> {
     let bytes = vec![in rt.alloc(); 171u8; 100_003]?;

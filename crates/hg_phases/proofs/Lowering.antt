@@ -11,7 +11,7 @@ use Rattle.hg_phases.specs.Order.{greater, phase_of, phase_above}
 use Rattle.hg_phases.specs.Roots.{begins, is_root, roots_from}
 use Rattle.hg_phases.specs.Phases.{advanced, AreLawful, AreFor}
 use Rattle.hg_phases.specs.Standing.{phase_told, phases_told, is_told, told_from, told}
-use Rattle.hg_phases.specs.Walk.{AreLowered, lowered_at, lowered_of, lowered_above, lowered_row, lowered_from, lowered_rows}
+use Rattle.hg_phases.specs.code.Walk.{AreLowered, lowered_at, lowered_of, lowered_above, lowered_row, lowered_from, lowered_rows}
 use Rattle.hg_phases.proofs.Rising.{new_phase_at}
 use Rattle.hg_phases.proofs.Told.{phase_of_standing, told_begins, told_append, told_range, phases_range, count_is, take_told}
 use Rattle.hg_phases.proofs.Kept.{advanced_new, advanced_for}

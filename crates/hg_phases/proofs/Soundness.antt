@@ -10,7 +10,7 @@ use Rattle.hg_phases.specs.declared.tape.Replaced.{Replaced}
 use Rattle.hg_log.specs.Changeset.{Changeset}
 use Rattle.hg_phases.specs.Phases.{Phasing, AreFor}
 use Rattle.hg_phases.specs.Standing.{is_told, told, phases_told}
-use Rattle.hg_phases.specs.Tape.{base_of, IsSound}
+use Rattle.hg_phases.specs.code.Tape.{base_of, IsSound}
 use Rattle.hg_phases.proofs.Told.{told_none, told_push}
 use Rattle.hg_phases.proofs.Undoing.{base_add}
 

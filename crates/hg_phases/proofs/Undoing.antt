@@ -7,7 +7,7 @@ use Rattle.hg_phases.specs.declared.standing.Standing.{Standing}
 use Rattle.hg_phases.specs.declared.standing.Standing.TheVariants.{PublicOnPublic}
 use Rattle.hg_phases.specs.declared.tape.Replaced.{Replaced}
 use Rattle.hg_phases.specs.Standing.{standing_at}
-use Rattle.hg_phases.specs.Tape.{undone, base_of, put_first}
+use Rattle.hg_phases.specs.code.Tape.{undone, base_of, put_first}
 
 -- the last change comes back first
 pub undone_push : (changes : List Replaced) (change : Replaced) (rows : List Standing) → undone (changes ++ change ∷ []) rows ≡ undone changes (set rows change.row change.standing)

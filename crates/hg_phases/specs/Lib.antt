@@ -2,6 +2,5 @@ pub mod Order
 pub mod Roots
 pub mod Phases
 pub mod Standing
-pub mod Walk
-pub mod Tape
 pub mod Entries
+pub mod code

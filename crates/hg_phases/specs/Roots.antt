@@ -1,6 +1,7 @@
 -- The roots of a phase: the rows of at least that phase that have no parent of at least that phase, in
 -- ascending order.
-use Rattle.std.specs.Prelude.{◌≡◌, ℕ, ◌≤◌, Bool, ◌&&◌, List, length, take, filter, Contains, Option, nat_le, nat_lt}
+use Rattle.std.specs.Prelude.{◌≡◌, ℕ, ◌≤◌, Bool, ◌&&◌, List, length, take, filter, Contains, Option, nat_le}
+use Rattle.std.specs.Prelude.{nat_lt}
 use Rattle.std.specs.List.{range_with_len}
 use Rattle.hg_types.specs.declared.phase.Phase.{Phase}
 use Rattle.hg_types.specs.Phase.{number_of}

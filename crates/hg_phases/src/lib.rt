@@ -27,7 +27,7 @@ mod walk;
 
 pub use entries::read_entries;
 pub use fault::EntryFault;
-pub use laws::{no_row_is_below_an_ancestor, roots_tell_phases};
+pub use laws::{no_row_is_below_an_ancestor, phases_stay_lawful, roots_tell_phases};
 pub use phases::{Mark, Phases};
 
 #[cfg(test)]

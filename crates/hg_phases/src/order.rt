@@ -17,6 +17,7 @@ pub fn phase_from(number: u32) -> Option<Phase>
     }
 }
 
+/// The later of two phases, in the order public, draft, secret.
 pub fn greater(a: Phase, b: Phase) -> Phase
     ensures { result ≡ greater a b }
 {

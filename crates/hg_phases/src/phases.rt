@@ -1,6 +1,7 @@
 //! The phases of a changelog's rows.
 
-ghost use Rattle.std.specs.Prelude.{◌≡◌, ◌≢◌, ◌↔◌, ◌<◌, [], ◌∷◌, ◌++◌, All, length, vec_len, vec_capacity, Some, None, IsTrue, IfOk, OnOk, OnErr, if◌then◌else◌};
+ghost use Rattle.std.specs.Prelude.{◌≡◌, ◌≢◌, ◌↔◌, ◌<◌, [], ◌∷◌, ◌++◌, All, length, vec_len, vec_capacity};
+ghost use Rattle.std.specs.Prelude.{Some, None, IsTrue, IfOk, OnOk, OnErr, if◌then◌else◌};
 ghost use Rattle.hg_log.specs.Parents.{parents_of};
 ghost use Rattle.hg_phases.specs.Order.{phase_at};
 ghost use Rattle.hg_phases.specs.Phases.{registered, advanced, no_rows, AreFor, AreForSame};
@@ -23,8 +24,8 @@ pub struct Mark {
 
 /// The phase of each row: one byte each, and beside them the roots of draft and of secret.
 ///
-/// The byte of a row also tells whether it is a root, so the roots of a mark are told by the rows of the mark,
-/// and what is kept for the way back is a number and a byte for each row that changed.
+/// The byte of a row also tells whether it is a root, so the roots of a mark are told by the rows of the
+/// mark, and what is kept for the way back is a number and a byte for each row that changed.
 #[derive(Drop)]
 pub struct Phases<A: Allocator = Global> {
     index: Tape<A>,
@@ -41,7 +42,7 @@ impl<A: Allocator> Model for Phases<A> {
     ghost Value = { Marked };
 
     ghost use Rattle.hg_phases.specs.Standing.{phases_told, told};
-    ghost use Rattle.hg_phases.specs.Tape.{base_of, IsSound};
+    ghost use Rattle.hg_phases.specs.code.Tape.{base_of, IsSound};
 
     ghost view = { λ p. record {
       current = record {

@@ -1,6 +1,7 @@
 //! The roots of a phase, as the rows tell them.
 
-ghost use Rattle.std.specs.Prelude.{◌≡◌, ◌↔◌, ℕ, ◌+◌, ◌-◌, ◌<◌, ◌≤◌, ◌^◌, ◌++◌, take, length, slice_index, vec_capacity, IsTrue, OnOk};
+ghost use Rattle.std.specs.Prelude.{◌≡◌, ◌↔◌, ℕ, ◌+◌, ◌-◌, ◌<◌, ◌≤◌, ◌^◌, ◌++◌, take, length, slice_index};
+ghost use Rattle.std.specs.Prelude.{vec_capacity, IsTrue, OnOk};
 ghost use Rattle.hg_phases.specs.Roots.{AreOfRows};
 ghost use Rattle.hg_phases.specs.Standing.{told, told_from};
 

@@ -1,7 +1,8 @@
 //! The rows that have a phase, which can go back to what they were at a mark, without memory.
 
-ghost use Rattle.std.specs.Prelude.{◌≡◌, ℕ, ◌+◌, ◌<◌, ◌≤◌, ◌^◌, [], ◌∷◌, ◌++◌, All, take, length, vec_len, vec_capacity, IfOk, OnOk};
-ghost use Rattle.hg_phases.specs.Tape.{base_of};
+ghost use Rattle.std.specs.Prelude.{◌≡◌, ℕ, ◌+◌, ◌<◌, ◌≤◌, ◌^◌, [], ◌∷◌, ◌++◌, All, take, length, vec_len};
+ghost use Rattle.std.specs.Prelude.{vec_capacity, IfOk, OnOk};
+ghost use Rattle.hg_phases.specs.code.Tape.{base_of};
 
 use crate::standing::Standing;
 use std::alloc::{AllocError, Allocator, Global};

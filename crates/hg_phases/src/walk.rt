@@ -1,10 +1,12 @@
 //! The walk down from the heads, which marks the rows that are lowered and stops where nothing is.
 
-ghost use Rattle.std.specs.Prelude.{◌≡◌, ◌≢◌, ℕ, ◌+◌, ◌-◌, ◌<◌, ◌≤◌, All, length, slice_index_or, true, false, IfSome, IfOk, OnOk};
+ghost use Rattle.std.specs.Prelude.{◌≡◌, ◌≢◌, ℕ, ◌+◌, ◌-◌, ◌<◌, ◌≤◌, All, length, slice_index_or, true};
+ghost use Rattle.std.specs.Prelude.{false, IfSome, IfOk, OnOk};
 ghost use Rattle.hg_log.specs.Parents.{parents_of};
 ghost use Rattle.hg_phases.specs.Phases.{AreLawful};
 ghost use Rattle.hg_phases.specs.Standing.{phases_told};
-ghost use Rattle.hg_phases.specs.Walk.{AreMarked, AreLowered, lowered_at, lowered_of, lowered_row, lowered_rows};
+ghost use Rattle.hg_phases.specs.code.Walk.{AreMarked, AreLowered, lowered_at, lowered_of, lowered_row};
+ghost use Rattle.hg_phases.specs.code.Walk.{lowered_rows};
 
 use crate::order::greater;
 use crate::standing::{Standing, phase_at, phase_of};

@@ -1,6 +1,6 @@
 use Rattle.std.proofs.Common.{ap, ◌∙◌}
 use Rattle.std.specs.Vec.{vec_capacity}
-use Rattle.hg_keys.specs.Changes.{base_of}
+use Rattle.hg_keys.specs.code.Changes.{base_of}
 use Rattle.hg_keys.proofs.ChangeLemmas.{base_popped, back_popped}
 use Rattle.hg_keys.proofs.bookmarks.go_back.Goals as goal
 

@@ -1,6 +1,6 @@
 use Rattle.std.proofs.Common.{◌≡◌, true, reverse, length}
 use Rattle.std.specs.Vec.{vec_capacity}
-use Rattle.hg_keys.specs.Changes.{base_of, can_undo_all}
+use Rattle.hg_keys.specs.code.Changes.{base_of, can_undo_all}
 use Rattle.hg_keys.proofs.bookmarks.go_back.Given as goal
 
 -- the changes that are left lead back to the same pairs

@@ -3,8 +3,8 @@ use Rattle.std.specs.List.{insert, remove}
 use Rattle.std.proofs.lemmas.List.{get_or_read, take-append-drop}
 use Rattle.hg_types.specs.declared.node.Node.{Node}
 use Rattle.hg_keys.specs.Bookmarks.{Pairs, AreInOrder, with_bookmark}
-use Rattle.hg_keys.specs.Changes.{moved}
-use Rattle.hg_keys.specs.Places.{IsAt, IsGap}
+use Rattle.hg_keys.specs.code.Changes.{moved}
+use Rattle.hg_keys.specs.code.Places.{IsAt, IsGap}
 use Rattle.hg_keys.proofs.Lists.{remove-insert}
 use Rattle.hg_keys.proofs.PairLemmas.{with_moved, with_place, with_gap, in_order_added, moved_back}
 use Rattle.hg_keys.proofs.bookmarks.put.Goals as goal

@@ -1,7 +1,7 @@
 use Rattle.std.proofs.Common.{◌≡◌, ◌<◌, length, sym, ap, subst, ◌∙◌, arith, List, eqb-true, [], ◌∷◌, ◌++◌, Some, None, ℕ}
 use Rattle.std.proofs.lemmas.Bool.{eqb-false}
 use Rattle.hg_keys.specs.Payload.{Entry, with_front, entries_of, entry_at}
-use Rattle.hg_keys.specs.LentEntry.{Finds}
+use Rattle.hg_keys.specs.code.LentEntry.{Finds}
 use Rattle.hg_keys.proofs.PayloadLemmas.{goes_on, is_shorter, ends_short, ends_whole, front_joined, no_front, front_alone}
 use Rattle.hg_keys.proofs.payload.read_bookmarks.Goals as goal
 

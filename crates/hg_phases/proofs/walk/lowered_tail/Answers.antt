@@ -1,7 +1,7 @@
 use Rattle.std.proofs.Common.{◌∙◌, ◌-◌, ◌++◌, ◌∷◌, [], length, sym, ap, rules}
 use Rattle.hg_log.specs.Parents.{parents_of}
 use Rattle.hg_phases.specs.Standing.{phases_told}
-use Rattle.hg_phases.specs.Walk.{lowered_rows}
+use Rattle.hg_phases.specs.code.Walk.{lowered_rows}
 use Rattle.hg_phases.proofs.Steps.{lowered_none, lowered_more}
 use Rattle.hg_phases.proofs.walk.lowered_tail.Goals as goal
 

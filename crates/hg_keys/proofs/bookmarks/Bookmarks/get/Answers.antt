@@ -1,7 +1,7 @@
 use Rattle.std.proofs.Common.{Some, sym, ap, subst, ◌∙◌, List, ℕ}
 use Rattle.hg_types.specs.declared.node.Node.{Node}
 use Rattle.hg_keys.specs.Bookmarks.{Marked, node_of}
-use Rattle.hg_keys.specs.Places.{IsAt, IsGap}
+use Rattle.hg_keys.specs.code.Places.{IsAt, IsGap}
 use Rattle.hg_keys.proofs.PairLemmas.{found, absent}
 use Rattle.hg_keys.proofs.bookmarks.Bookmarks.get.Goals as goal
 

@@ -2,7 +2,7 @@ use Rattle.std.proofs.Common.{◌≡◌, Some, None, cond, List, sym, ap, subst,
 use Rattle.std.specs.Vec.{vec_capacity}
 use Rattle.hg_keys.specs.declared.bookmarks.Change.{Change}
 use Rattle.hg_keys.specs.Bookmarks.{Marked, with_bookmark}
-use Rattle.hg_keys.specs.Changes.{IsSound, base_of, kept}
+use Rattle.hg_keys.specs.code.Changes.{IsSound, base_of, kept}
 use Rattle.hg_keys.proofs.ChangeLemmas.{sound_with_more, sound_kept, mark_kept}
 use Rattle.hg_keys.proofs.bookmarks.Bookmarks.set.Goals as goal
 

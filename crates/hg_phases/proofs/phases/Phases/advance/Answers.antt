@@ -10,8 +10,8 @@ use Rattle.hg_phases.specs.declared.standing.Standing.{Standing}
 use Rattle.hg_phases.specs.declared.tape.Replaced.{Replaced}
 use Rattle.hg_phases.specs.Phases.{AreFor}
 use Rattle.hg_phases.specs.Standing.{phase_told, phases_told, told}
-use Rattle.hg_phases.specs.Tape.{base_of}
-use Rattle.hg_phases.specs.Walk.{AreLowered, lowered_rows}
+use Rattle.hg_phases.specs.code.Tape.{base_of}
+use Rattle.hg_phases.specs.code.Walk.{AreLowered, lowered_rows}
 use Rattle.hg_phases.proofs.Lowering.{rows_length, phases_advanced, told_for}
 use Rattle.hg_phases.proofs.Soundness.{sound_changed, for_parts}
 use Rattle.hg_phases.proofs.phases.Phases.advance.Goals as goal

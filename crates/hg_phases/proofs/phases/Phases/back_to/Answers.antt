@@ -3,7 +3,7 @@ use Rattle.std.specs.Vec.{vec_capacity}
 use Rattle.std.proofs.lemmas.List.{length-take-le}
 use Rattle.hg_types.specs.declared.phase.Phase.TheVariants.{Draft, Secret}
 use Rattle.hg_phases.specs.Standing.{told}
-use Rattle.hg_phases.specs.Tape.{undone}
+use Rattle.hg_phases.specs.code.Tape.{undone}
 use Rattle.hg_phases.proofs.Undoing.{undone_length}
 use Rattle.hg_phases.proofs.Soundness.{sound_unmarked}
 use Rattle.hg_phases.proofs.phases.Phases.back_to.Goals as goal

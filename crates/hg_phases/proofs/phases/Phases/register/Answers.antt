@@ -8,7 +8,7 @@ use Rattle.hg_phases.specs.Order.{greater, phase_of, phase_above}
 use Rattle.hg_phases.specs.Roots.{begins}
 use Rattle.hg_phases.specs.Phases.{Phasing, AreFor}
 use Rattle.hg_phases.specs.Standing.{phase_told, phases_told, is_told}
-use Rattle.hg_phases.specs.Tape.{base_of}
+use Rattle.hg_phases.specs.code.Tape.{base_of}
 use Rattle.hg_phases.proofs.Kept.{registered_is, registered_for}
 use Rattle.hg_phases.proofs.Told.{phase_of_standing, told_begins}
 use Rattle.hg_phases.proofs.Undoing.{base_add}

@@ -4,7 +4,7 @@ use Rattle.std.specs.Prelude.{Some}
 use Rattle.std.proofs.lemmas.List.{length-set, take-set-le, take-take}
 use Rattle.std.proofs.lemmas.List.Elements.{All-pop}
 use Rattle.hg_phases.specs.declared.tape.Replaced.{Replaced}
-use Rattle.hg_phases.specs.Tape.{undone}
+use Rattle.hg_phases.specs.code.Tape.{undone}
 use Rattle.hg_phases.proofs.Undoing.{undone_push}
 use Rattle.hg_phases.proofs.tape.Tape.back.Goals as goal
 

@@ -5,7 +5,7 @@ use Rattle.hg_phases.specs.declared.standing.Standing.{Standing}
 use Rattle.hg_phases.specs.declared.standing.Standing.TheVariants.{PublicOnPublic}
 use Rattle.hg_phases.specs.declared.tape.Replaced.{Replaced}
 use Rattle.hg_phases.specs.Standing.{standing_at}
-use Rattle.hg_phases.specs.Tape.{base_of, put_first}
+use Rattle.hg_phases.specs.code.Tape.{base_of, put_first}
 use Rattle.hg_phases.proofs.Undoing.{base_same, put_none, ready_all, ready_kept, ready_same}
 use Rattle.hg_phases.proofs.tape.Tape.keep.Goals as goal
 use Rattle.hg_phases.proofs.tape.Tape.keep.Goals.{then-not-is_same+in_ok-push, else-not-is_same}

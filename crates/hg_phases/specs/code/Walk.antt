@@ -61,6 +61,7 @@ lowered_row parents target phases marks r =
     standing_of (lowered_at target phases marks r) (lowered_above parents target phases marks r)
 
 -- what becomes of n rows from that one on
-unfoldable pub lowered_rows : (ℕ → Option ℕ × Option ℕ) → Phase → List Phase → List Bool → ℕ → ℕ → List Standing
+unfoldable pub lowered_rows : (ℕ → Option ℕ × Option ℕ) → Phase → List Phase → List Bool → ℕ → ℕ →
+    List Standing
 lowered_rows parents target phases marks low n =
     map (lowered_row parents target phases marks) (range_with_len low n)

@@ -1,5 +1,6 @@
 -- The way back: what was replaced since the mark.
-use Rattle.std.specs.Prelude.{◌≡◌, ℕ, zero, suc, ◌+◌, ◌<◌, ◌≤◌, ◌^◌, List, [], ◌∷◌, All, length, take, slice_set}
+use Rattle.std.specs.Prelude.{◌≡◌, ℕ, zero, suc, ◌+◌, ◌<◌, ◌≤◌, ◌^◌, List, [], ◌∷◌, All, length, take}
+use Rattle.std.specs.Prelude.{slice_set}
 use Rattle.hg_types.specs.declared.phase.Phase.TheVariants.{Draft, Secret}
 use Rattle.hg_phases.specs.declared.standing.Standing.{Standing}
 use Rattle.hg_phases.specs.declared.tape.Replaced.{Replaced}
@@ -19,8 +20,10 @@ unfoldable pub put_first : List Standing → ℕ → List Standing → ℕ → L
 put_first rows low tail zero = rows
 put_first rows low tail (suc n) = slice_set (put_first rows low tail n) (low + n) (standing_at tail n)
 
--- The rows of the mark are there, the roots are those that the rows tell, and there is room for those of the mark.
-pub record IsSound (rows : List Standing) (kept : List Replaced) (marked : ℕ) (drafts secrets : List ℕ) (draft_most secret_most : ℕ) : Type 0 where
+-- The rows of the mark are there, the roots are those that the rows tell, and there is room for those of the
+-- mark.
+pub record IsSound (rows : List Standing) (kept : List Replaced) (marked : ℕ) (drafts secrets : List ℕ)
+    (draft_most secret_most : ℕ) : Type 0 where
   pub few : length rows ≤ 2 ^ 32
   pub within : marked ≤ length rows
   pub replaced : All (λ change. change.row < marked) kept
