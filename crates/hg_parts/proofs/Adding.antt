@@ -81,7 +81,7 @@ known_more rows more node known =
       | false ↦ λ some. rev_more rows more node.0 some
     ] known
 
-on_known_more : (rows more : List Changeset) (pairs : Pairs) → AreOnKnown rows pairs
+pub on_known_more : (rows more : List Changeset) (pairs : Pairs) → AreOnKnown rows pairs
     → AreOnKnown (rows ++ more) pairs
 on_known_more rows more pairs all = λ k d low. known_more rows more (get_or pairs k d).1 (all k d low)
 

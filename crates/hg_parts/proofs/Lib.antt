@@ -8,4 +8,5 @@ mod Setting
 mod Adding
 mod Revs
 mod Preparing
+mod Staying
 pub mod CallerLemmas

@@ -3,8 +3,10 @@ use Rattle.std.specs.Prelude.{ℕ, Bool, Ok, Err}
 use Rattle.hg_types.specs.declared.part.Part.{Part}
 use Rattle.hg_parts.specs.declared.source.Source.{Source}
 use Rattle.hg_parts.specs.declared.table.PartType.{PartType}
-use Rattle.hg_parts.specs.declared.table.PartType.TheVariants.{ReplyCaps, CheckHeads, CheckPhases, CheckBookmarks}
-use Rattle.hg_parts.specs.declared.table.PartType.TheVariants.{ChangeGroup, PhaseHeads, Bookmarks, Obsmarkers, Pushkey}
+use Rattle.hg_parts.specs.declared.table.PartType.TheVariants.{ReplyCaps, CheckHeads, CheckPhases}
+use Rattle.hg_parts.specs.declared.table.PartType.TheVariants.{CheckBookmarks}
+use Rattle.hg_parts.specs.declared.table.PartType.TheVariants.{ChangeGroup, PhaseHeads, Bookmarks, Obsmarkers}
+use Rattle.hg_parts.specs.declared.table.PartType.TheVariants.{Pushkey}
 use Rattle.hg_parts.specs.declared.table.PartType.TheVariants.{Output, ErrorAbort}
 use Rattle.hg_parts.specs.declared.refusal.Refusal.TheVariants.{ClientAbort}
 use Rattle.hg_parts.specs.Repository.{Repository}

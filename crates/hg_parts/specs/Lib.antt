@@ -5,7 +5,7 @@ pub mod Handled
 pub mod Params
 pub mod Replies
 pub mod PartTypes
-pub mod Table
 pub mod parts
 pub mod Handle
 pub mod Prepared
+pub mod code

@@ -1,4 +1,5 @@
--- Parts that are read before their turn: what their bytes tell without the repository, and what is kept of them.
+-- Parts that are read before their turn: what their bytes tell without the repository, and what is kept of
+-- them.
 use Rattle.std.specs.Prelude.{◌≡◌, ℕ, Bool, true, false, List, [], ◌∷◌, Ok, Err}
 use Rattle.hg_types.specs.declared.part.Part.{Part}
 use Rattle.hg_parts.specs.declared.prepared.Prepared.{Prepared}
@@ -7,8 +8,10 @@ use Rattle.hg_parts.specs.declared.prepared.Reading.TheVariants as reading
 use Rattle.hg_parts.specs.declared.refusal.Refusal.TheVariants.{BadPart, ClientAbort}
 use Rattle.hg_parts.specs.declared.source.Source.{Source}
 use Rattle.hg_parts.specs.declared.table.PartType.{PartType}
-use Rattle.hg_parts.specs.declared.table.PartType.TheVariants.{ReplyCaps, CheckHeads, CheckPhases, CheckBookmarks}
-use Rattle.hg_parts.specs.declared.table.PartType.TheVariants.{ChangeGroup, PhaseHeads, Bookmarks, Obsmarkers, Pushkey}
+use Rattle.hg_parts.specs.declared.table.PartType.TheVariants.{ReplyCaps, CheckHeads, CheckPhases}
+use Rattle.hg_parts.specs.declared.table.PartType.TheVariants.{CheckBookmarks}
+use Rattle.hg_parts.specs.declared.table.PartType.TheVariants.{ChangeGroup, PhaseHeads, Bookmarks, Obsmarkers}
+use Rattle.hg_parts.specs.declared.table.PartType.TheVariants.{Pushkey}
 use Rattle.hg_parts.specs.declared.table.PartType.TheVariants.{Output, ErrorAbort}
 use Rattle.hg_parts.specs.Repository.{Repository}
 use Rattle.hg_parts.specs.Handled.{Outcome, nothing_done}

@@ -1,5 +1,5 @@
-//! Handling one part: as it came, or prepared. Both read it and then handle what was read, the one at once and the
-//! other in its turn.
+//! Handling one part: as it came, or prepared. Both read it and then handle what was read, the one at once
+//! and the other in its turn.
 
 ghost use Rattle.std.specs.Prelude.{◌≡◌, IfOk, IfSome, OnOk};
 ghost use Rattle.hg_types.specs.declared.part.Part.{Part as AnyPart};

@@ -1,19 +1,24 @@
 //! What holds of stores. Each function changes nothing: what it ensures is a theorem, and a caller that
 //! calls it may rest on it.
 
-ghost use Rattle.std.specs.Prelude.{◌≡◌, [], ℕ, Bool, Ok, IfSome};
+ghost use Rattle.std.specs.Prelude.{◌≡◌, [], ℕ, Bool, Ok, IfOk, IfSome};
+ghost use Rattle.hg_types.specs.Bytes.{IsBytes};
 ghost use Rattle.hg_types.specs.declared.limits.Settings.{Settings as AnySettings};
 ghost use Rattle.hg_types.specs.declared.part.Part.{Part as AnyPart};
 ghost use Rattle.hg_parts.specs.declared.source.Source.{Source as AnySource};
 ghost use Rattle.hg_parts.specs.declared.store.Store.{Store as AnyStore};
 ghost use Rattle.hg_parts.specs.declared.store.StoreMark.{StoreMark as AnyMark};
-ghost use Rattle.hg_parts.specs.Repository.{IsLawful, Repository};
+ghost use Rattle.hg_parts.specs.Repository.{IsLawful, Repository, empty_with};
 ghost use Rattle.hg_parts.specs.Handle.{handle};
 ghost use Rattle.hg_parts.specs.Handled.{Handled};
 ghost use Rattle.hg_parts.specs.Store.{repository_of, empty_store, with_marks, without_marks, CanGoBack};
 ghost use Rattle.hg_parts.specs.Store.{IsGrown, IsSound};
 
 use crate::store::Store;
+use hg_keys::{bookmarks_stay_lawful, keys_stay_lawful};
+use hg_log::answers_keep_rows_lawful;
+use hg_obs::{markers_stay_lawful, reading_is_the_grammar as markers_are_read};
+use hg_phases::phases_stay_lawful;
 use hg_types::Settings;
 use std::alloc::Allocator;
 
@@ -23,6 +28,22 @@ pub fn replies_have_no_payload<A: Allocator>()
         (given : Handled A) → handle source repo replying place part ≡ Ok given
         → IfSome given.reply (λ reply. reply.payload ≡ []) }
 {}
+
+/// The empty repository is lawful, and a part that is handled on a lawful repository leaves a lawful one,
+/// whatever its type: by the definitions alone. The payload of a part is bytes.
+pub fn handled_parts_keep_repositories_lawful<A: Allocator>()
+    ensures none { (settings : AnySettings) → IsLawful (empty_with {A = A} settings) }
+    ensures part { (source : AnySource) (repo : Repository A) (replying : Bool) (place : ℕ) (part : AnyPart A)
+        → IsLawful repo → IsBytes part.payload
+        → IfOk (handle source repo replying place part) (λ given. IsLawful given.repo) }
+{
+    answers_keep_rows_lawful::<A>();
+    phases_stay_lawful();
+    markers_are_read::<A>();
+    markers_stay_lawful::<A>();
+    bookmarks_stay_lawful();
+    keys_stay_lawful::<A>();
+}
 
 /// A store that has grown and grows on has grown, so a mark stays one to which it can go back.
 pub fn growing_adds_up<A: Allocator>()

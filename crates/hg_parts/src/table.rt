@@ -10,7 +10,7 @@ ghost use Rattle.std.specs.List.{list_any};
 ghost use Rattle.std.specs.Str.{str_eq_ignore_ascii_case};
 ghost use Rattle.hg_parts.specs.PartTypes.{table, row_of, is_reply_caps, is_unknown, support_of};
 ghost use Rattle.hg_parts.specs.PartTypes.{unsupported_names, Supported, Unsupported};
-ghost use Rattle.hg_parts.specs.Table.{row_value};
+ghost use Rattle.hg_parts.specs.code.Table.{row_value};
 
 use hg_types::{NoMemory, Param, Part, Seq, TryClone};
 use std::alloc::Allocator;

@@ -2,6 +2,7 @@ mod Ranges
 mod Runs
 mod Replies
 mod FewReplies
+mod LawfulRuns
 mod PreparedRuns
 mod SameItems
 mod Reading

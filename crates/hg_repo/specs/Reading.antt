@@ -33,4 +33,5 @@ is_predecessor markers node = list_any (λ marker. same_node marker.predecessor 
 
 -- A changeset is obsolete where it is known, not null, not public, and the predecessor of a marker.
 abbrev pub is_obsolete : {A : Type 0} → Repository A → Node → Bool
-is_obsolete repo node = can_be_obsolete (phase_of_node repo.rows repo.phases node) && is_predecessor repo.markers node
+is_obsolete repo node = can_be_obsolete (phase_of_node repo.rows repo.phases node)
+    && is_predecessor repo.markers node

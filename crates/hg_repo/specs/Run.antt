@@ -1,6 +1,8 @@
 -- Running the parts of a push.
-use Rattle.std.specs.Prelude.{ℕ, ◌≡◌, Bool, false, ◌||◌, ◌+◌, ◌⊎◌, List, [], ◌∷◌, ◌++◌, length, Option, Some, None, Result, Ok, Err, MatchResult}
-use Rattle.std.specs.List.{range_with_len}
+use Rattle.std.specs.Prelude.{ℕ, ◌≡◌, Bool, false, ◌||◌, ◌+◌, ◌⊎◌, List, [], ◌∷◌, ◌++◌, length, Option, Some}
+use Rattle.std.specs.Prelude.{None, Result, Ok, Err, MatchResult}
+use Rattle.std.specs.List.{range_with_len, AllByRecursion}
+use Rattle.hg_types.specs.Bytes.{IsBytes}
 use Rattle.hg_types.specs.declared.part.Part.{Part}
 use Rattle.hg_repo.specs.declared.done.Done.{Done}
 use Rattle.hg_parts.specs.declared.refusal.Refusal.{Refusal}
@@ -42,20 +44,35 @@ and_then (Err refusal) next = Err refusal
 abbrev pub run_from : {A : Type 0} → Source → ℕ → Progress A → List (Part A) → Result (Progress A) (Refusal A)
 run_from source place progress [] = Ok progress
 run_from source place progress (part ∷ parts) =
-    and_then (handle source progress.repo progress.replying place part) (λ given. run_from source (place + 1) (progress_after progress part given) parts)
+    and_then (handle source progress.repo progress.replying place part)
+    (λ given. run_from source (place + 1) (progress_after progress part given) parts)
 
-abbrev pub done_by : {A : Type 0} → ℕ → Result (Progress A) (Refusal A) → Result (Repository A × Done A) (Refusal A)
-done_by count (Ok progress) = Ok (progress.repo, record { replies = progress.replies; handled = range_with_len 0 count })
+abbrev pub done_by : {A : Type 0} → ℕ → Result (Progress A) (Refusal A) →
+    Result (Repository A × Done A) (Refusal A)
+done_by count (Ok progress) =
+    Ok (progress.repo, record { replies = progress.replies; handled = range_with_len 0 count })
 done_by count (Err refusal) = Err refusal
 
--- The run of the parts on the repository: the repository after them, the replies and the places, or the first refusal.
-unfoldable pub run_of : {A : Type 0} → Source → Repository A → List (Part A) → Result (Repository A × Done A) (Refusal A)
+-- The run of the parts on the repository: the repository after them, the replies and the places, or the first
+-- refusal.
+unfoldable pub run_of : {A : Type 0} → Source → Repository A → List (Part A) →
+    Result (Repository A × Done A) (Refusal A)
 run_of source repo parts = done_by (length parts) (run_from source 0 (start repo) parts)
 
--- What a run of code may answer and leave: what the definition says, or that memory was refused, and then nothing changed.
-abbrev pub RunGives : {A R P D : Type 0} → (R → P → Result (R × D) (Refusal A)) → R → P → Result D (Refusal A) → R → Type 0
-RunGives run old parts result new = MatchResult result (λ done. run old parts ≡ Ok (new, done)) (λ refusal. (new ≡ old) × ((refusal ≡ NoMemory) ⊎ (run old parts ≡ Err refusal)))
+-- the payload of each part is bytes, as it is of each part that code has
+abbrev pub HaveBytes : {A : Type 0} → List (Part A) → Type 0
+HaveBytes parts = AllByRecursion (λ part. IsBytes part.payload) parts
+
+-- What a run of code may answer and leave: what the definition says, or that memory was refused, and then
+-- nothing changed.
+abbrev pub RunGives : {A R P D : Type 0} → (R → P → Result (R × D) (Refusal A)) → R → P →
+    Result D (Refusal A) → R → Type 0
+RunGives run old parts result new =
+    MatchResult result (λ done. run old parts ≡ Ok (new, done)) (λ refusal. (new ≡ old)
+    × ((refusal ≡ NoMemory) ⊎ (run old parts ≡ Err refusal)))
 
 -- The same of code that may leave what it changed where a part is refused.
 abbrev pub PartsGive : {A R D : Type 0} → Result (R × D) (Refusal A) → R → Result D (Refusal A) → Type 0
-PartsGive given new result = MatchResult result (λ done. given ≡ Ok (new, done)) (λ refusal. (refusal ≡ NoMemory) ⊎ (given ≡ Err refusal))
+PartsGive given new result =
+    MatchResult result (λ done. given ≡ Ok (new, done)) (λ refusal. (refusal ≡ NoMemory)
+    ⊎ (given ≡ Err refusal))

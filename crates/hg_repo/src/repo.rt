@@ -29,8 +29,8 @@ use std::alloc::{Allocator, Global};
 use std::hash::RandomState;
 use std::marker::Model;
 
-/// A repository: its settings, its changesets with the phase of each, its markers and its bookmarks. Contracts
-/// see the record of them, which is lawful: the law `every_repository_is_lawful` tells so.
+/// A repository: its settings, its changesets with the phase of each, its markers and its bookmarks.
+/// Contracts see the record of them, which is lawful: the law `every_repository_is_lawful` tells so.
 #[derive(Drop)]
 pub struct Repo<A: Allocator = Global> {
     settings: Settings,
@@ -100,16 +100,16 @@ impl<A: Allocator> Repo<A> {
         self.store.markers.list()
     }
 
-    /// Whether the changeset is obsolete: it is known, not null, not public, and the predecessor of a marker. It
-    /// takes no memory.
+    /// Whether the changeset is obsolete: it is known, not null, not public, and the predecessor of a marker.
+    /// It takes no memory.
     pub fn is_obsolete(&self, node: &Node) -> bool
         ensures { result ≡ is_obsolete self.now node.now }
     {
         can_be_obsolete(self.phase_of(node)) && is_predecessor(&self.store.markers, node)
     }
 
-    /// Whether both hold the same: their changesets, phases, markers and bookmarks are equal, and their settings
-    /// may differ. It takes no memory.
+    /// Whether both hold the same: their changesets, phases, markers and bookmarks are equal, and their
+    /// settings may differ. It takes no memory.
     pub fn is_same(&self, other: &Repo<A>) -> bool
         ensures { IsTrue result ↔ IsSame self.now other.now }
     {
@@ -118,8 +118,8 @@ impl<A: Allocator> Repo<A> {
 }
 
 impl<A: Allocator + Copy> Repo<A> {
-    /// The empty repository, which takes no memory. The state hashes ids and markers for look-ups: strangers choose
-    /// them, so it is to be random.
+    /// The empty repository, which takes no memory. The state hashes ids and markers for look-ups: strangers
+    /// choose them, so it is to be random.
     pub fn new(alloc: A, settings: Settings, state: RandomState) -> Self
         requires { IsAllowed settings.limits }
         ensures { result ≡ empty_with settings }
@@ -144,9 +144,9 @@ impl<A: Allocator + Copy> Repo<A> {
 
     /// What the repository holds, as lines of text. First `C rev node phase obsolete` for each changeset in
     /// the order of their numbers, where `obsolete` is 1 or 0; then `B node name` for each bookmark in the
-    /// order of the names' bytes, where every byte of the name but ASCII letters and digits is written `%` and
-    /// two upper case hexadecimal digits; then `O` and the bytes for each marker in the order in which they
-    /// came. Ids and bytes are lower case hexadecimal digits.
+    /// order of the names' bytes, where every byte of the name but ASCII letters and digits is written `%`
+    /// and two upper case hexadecimal digits; then `O` and the bytes for each marker in the order in which
+    /// they came. Ids and bytes are lower case hexadecimal digits.
     pub fn report(&self) -> Result<Vec<u8, A>, NoMemory>
         ensures { IfOk result (λ text. text.items ≡ report_of self.now) }
     {
@@ -180,10 +180,10 @@ impl<A: Allocator + Copy> Repo<A> {
         }
     }
 
-    /// Runs parts that were prepared, in order: the run of every list of parts that they may have been made of,
-    /// with the first refusal in their order, also where an earlier reading found a fault in a later part.
-    /// `NoMemory` stands in place of that answer where a growth was refused. Nothing is changed where the answer
-    /// is a refusal.
+    /// Runs parts that were prepared, in order: the run of every list of parts that they may have been made
+    /// of, with the first refusal in their order, also where an earlier reading found a fault in a later
+    /// part. `NoMemory` stands in place of that answer where a growth was refused. Nothing is changed where
+    /// the answer is a refusal.
     pub fn run_prepared(
         &mut self,
         source: Source,

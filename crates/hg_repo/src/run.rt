@@ -13,8 +13,8 @@ use hg_parts::{Prepared, Refusal, Source, Store, handle_part, handle_prepared, s
 use hg_types::{NoMemory, Part, Seq, Settings};
 use std::alloc::Allocator;
 
-/// Runs the parts in order, up to the first that is refused. Then its changes, and those of the parts before it, may
-/// be there: the caller goes back.
+/// Runs the parts in order, up to the first that is refused. Then its changes, and those of the parts before
+/// it, may be there: the caller goes back.
 pub fn run_parts<A: Allocator + Copy>(
     alloc: A,
     store: &mut Store<A>,
@@ -27,7 +27,8 @@ pub fn run_parts<A: Allocator + Copy>(
     ensures sound { OnOk result (IsSound settings.now store.new) }
     ensures grown { IsGrown store.old store.new }
     ensures replies { IfOk result (λ done. AreReplies (length parts.now) done.replies) }
-    ensures gives { PartsGive (run_of source (repository_of settings.now store.old) parts.now) (repository_of settings.now store.new) result }
+    ensures gives { PartsGive (run_of source (repository_of settings.now store.old) parts.now)
+        (repository_of settings.now store.new) result }
 {
     let mut replies = Seq::new(alloc);
     let mut replying = false;
@@ -54,7 +55,8 @@ pub fn run_prepared<A: Allocator + Copy>(
     ensures grown { IsGrown store.old store.new }
     ensures replies { IfOk result (λ done. AreReplies (length prepared.items) done.replies) }
     ensures gives { (parts : List (AnyPart A)) → AreMadeOf parts prepared.items →
-        PartsGive (run_of source (repository_of settings.now store.old) parts) (repository_of settings.now store.new) result }
+        PartsGive (run_of source (repository_of settings.now store.old) parts)
+        (repository_of settings.now store.new) result }
 {
     let count = prepared.len();
     let mut replies = Seq::new(alloc);

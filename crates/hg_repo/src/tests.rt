@@ -1,6 +1,7 @@
 //! Worked examples of a run, and each of them with memory refused at one growth after another.
 
 mod growths;
+mod hostile;
 mod prepared;
 mod pushes;
 
@@ -252,7 +253,8 @@ fn parts_of<A: Allocator + Copy>(alloc: A, example: Example) -> Result<Seq<Part<
     list(alloc, first, second)
 }
 
-/// Whether a run of these parts on the empty repository answers as expected, or None where memory was refused.
+/// Whether a run of these parts on the empty repository answers as expected, or None where memory was
+/// refused.
 fn answer_in<A: Allocator + Copy>(
     alloc: A,
     state: RandomState,
@@ -266,8 +268,8 @@ fn answer_in<A: Allocator + Copy>(
     is_expected(&answer, answer_to(example))
 }
 
-/// Runs an example, and tells whether its answer is as expected. The inner None says that memory was refused in the
-/// run, the outer one that it was refused for the parts.
+/// Runs an example, and tells whether its answer is as expected. The inner None says that memory was refused
+/// in the run, the outer one that it was refused for the parts.
 fn run_in<A: Allocator + Copy>(
     alloc: A,
     state: RandomState,
@@ -289,8 +291,8 @@ fn worked_examples(rt: HostRuntime) -> Result<(), Fail> {
     Ok(())
 }
 
-/// How often an example was answered, how often memory was refused in its run, and whether all answers were as
-/// expected.
+/// How often an example was answered, how often memory was refused in its run, and whether all answers were
+/// as expected.
 #[derive(Clone, Copy)]
 struct Tally {
     answered: u32,
@@ -445,7 +447,8 @@ fn all_answered(heap: &LocalHeap, state: RandomState) -> Option<bool> {
     Some(is & (heap.free() > 1 << 18))
 }
 
-/// Many parts, names and heads, over a heap of which half is never used: no growth is refused, so none is told.
+/// Many parts, names and heads, over a heap of which half is never used: no growth is refused, so none is
+/// told.
 #[test]
 fn near_the_limits(rt: HostRuntime) -> Result<(), Fail> {
     let state = RandomState::new(&rt)?;
@@ -455,7 +458,8 @@ fn near_the_limits(rt: HostRuntime) -> Result<(), Fail> {
     Ok(())
 }
 
-/// What a run of these parts takes of the heap, where its answer is as expected and the repository stays as it was.
+/// What a run of these parts takes of the heap, where its answer is as expected and the repository stays as
+/// it was.
 fn taken_by<'a>(
     heap: &'a LocalHeap,
     state: RandomState,

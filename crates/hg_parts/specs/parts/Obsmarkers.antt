@@ -16,7 +16,8 @@ use Rattle.hg_parts.specs.Replies.{reply_part, reply_where}
 abbrev pub reply_to_markers : {A : Type 0} → ℕ → ℕ → Part A
 reply_to_markers id count = reply_part (codes "reply:obsmarkers") id (codes "new") (decimal count)
 
-abbrev pub handle_read : {A : Type 0} → Repository A → Bool → ℕ → Part A → Result (List (Marker A)) MarkerFault → Outcome A
+abbrev pub handle_read : {A : Type 0} → Repository A → Bool → ℕ → Part A →
+    Result (List (Marker A)) MarkerFault → Outcome A
 handle_read repo replying place part (Ok added) = Ok (record {
   repo = record repo { markers = merged repo.markers added };
   reply = reply_where replying (reply_to_markers part.id (length (fresh repo.markers added)));

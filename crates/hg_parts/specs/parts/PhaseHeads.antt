@@ -22,7 +22,8 @@ are_known rows entries = list_all (λ entry. is_known rows entry.1) entries
 
 -- a changeset and its ancestors are advanced to the phase that stands before it; the null id has no row
 abbrev pub advanced_by : List Changeset → List Phase → Phase × Node → List Phase
-advanced_by rows phases entry = advanced (parents_of rows) entry.0 (option_to_list (rev_of rows entry.1.0)) phases
+advanced_by rows phases entry =
+    advanced (parents_of rows) entry.0 (option_to_list (rev_of rows entry.1.0)) phases
 
 -- the entries in order
 abbrev pub advance_each : List Changeset → List (Phase × Node) → List Phase → List Phase
@@ -32,7 +33,10 @@ advance_each rows (entry ∷ entries) phases = advance_each rows entries (advanc
 abbrev pub handle_entries : {A : Type 0} → Repository A → ℕ → List (Phase × Node) → Outcome A
 handle_entries repo place entries =
     if are_known repo.rows entries
-    then Ok (record { repo = record repo { phases = advance_each repo.rows entries repo.phases }; reply = None })
+    then Ok (record {
+      repo = record repo { phases = advance_each repo.rows entries repo.phases };
+      reply = None;
+    })
     else Err (UnknownNode place)
 
 abbrev pub handle_read : {A : Type 0} → Repository A → ℕ → Result (List (Phase × Node)) EntryFault → Outcome A

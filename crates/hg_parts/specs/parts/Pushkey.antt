@@ -1,5 +1,6 @@
 -- The part `pushkey`: a key of a namespace that is to have another value.
-use Rattle.std.specs.Prelude.{ℕ, Bool, true, false, not, ◌&&◌, List, codes, Option, Some, None, Result, Ok, Err, if◌then◌else◌}
+use Rattle.std.specs.Prelude.{ℕ, Bool, true, false, not, ◌&&◌, List, codes, Option, Some, None, Result, Ok}
+use Rattle.std.specs.Prelude.{Err, if◌then◌else◌}
 use Rattle.hg_types.specs.declared.part.Part.{Part}
 use Rattle.hg_types.specs.declared.part.Param.{Param}
 use Rattle.hg_keys.specs.declared.fault.KeyFault.{KeyFault}
@@ -15,8 +16,10 @@ use Rattle.hg_parts.specs.PartTypes.{is_mandatory}
 use Rattle.hg_parts.specs.Replies.{reply_part, reply_where}
 
 -- all four parameters are there
-abbrev pub call_in : {A : Type 0} → Option (List ℕ) → Option (List ℕ) → Option (List ℕ) → Option (List ℕ) → Option (KeyCall A)
-call_in (Some namespace) (Some key) (Some old) (Some new) = Some (record { namespace = namespace; key = key; old = old; new = new })
+abbrev pub call_in : {A : Type 0} → Option (List ℕ) → Option (List ℕ) → Option (List ℕ) → Option (List ℕ) →
+    Option (KeyCall A)
+call_in (Some namespace) (Some key) (Some old) (Some new) =
+    Some (record { namespace = namespace; key = key; old = old; new = new })
 call_in (Some namespace) (Some key) (Some old) None = None
 call_in (Some namespace) (Some key) None new = None
 call_in (Some namespace) None old new = None
@@ -25,7 +28,8 @@ call_in None key old new = None
 -- the call that the parameters are
 unfoldable pub call_of : {A : Type 0} → List (Param A) → Option (KeyCall A)
 call_of params =
-    call_in (value_of (codes "namespace") params) (value_of (codes "key") params) (value_of (codes "old") params) (value_of (codes "new") params)
+    call_in (value_of (codes "namespace") params) (value_of (codes "key") params)
+    (value_of (codes "old") params) (value_of (codes "new") params)
 
 -- what keys are of
 abbrev pub keys_of : {A : Type 0} → Repository A → Keys A
@@ -46,18 +50,22 @@ reply_to_key id done = reply_part (codes "reply:pushkey") id (codes "return") (r
 abbrev pub is_refused : {A : Type 0} → Part A → Bool → Bool
 is_refused part done = not done && is_mandatory part.kind
 
-abbrev pub handle_done : {A : Type 0} → Repository A → Bool → ℕ → Part A → KeyCall A → Keys A → Bool → Outcome A
+abbrev pub handle_done : {A : Type 0} → Repository A → Bool → ℕ → Part A → KeyCall A → Keys A → Bool →
+    Outcome A
 handle_done repo replying place part call keys done =
     if is_refused part done
     then Err (KeyFailed place part.id call)
     else Ok (record { repo = with_keys repo keys; reply = reply_where replying (reply_to_key part.id done) })
 
-abbrev pub handle_pushed : {A : Type 0} → Repository A → Bool → ℕ → Part A → KeyCall A → Result (Keys A × Bool) KeyFault → Outcome A
-handle_pushed repo replying place part call (Ok (keys, done)) = handle_done repo replying place part call keys done
+abbrev pub handle_pushed : {A : Type 0} → Repository A → Bool → ℕ → Part A → KeyCall A →
+    Result (Keys A × Bool) KeyFault → Outcome A
+handle_pushed repo replying place part call (Ok (keys, done)) =
+    handle_done repo replying place part call keys done
 handle_pushed repo replying place part call (Err fault) = Err (BadPart place)
 
 abbrev pub handle_call : {A : Type 0} → Repository A → Bool → ℕ → Part A → Option (KeyCall A) → Outcome A
-handle_call repo replying place part (Some call) = handle_pushed repo replying place part call (key_pushed repo.rows (keys_of repo) call)
+handle_call repo replying place part (Some call) =
+    handle_pushed repo replying place part call (key_pushed repo.rows (keys_of repo) call)
 handle_call repo replying place part None = Err (BadPart place)
 
 abbrev pub handle_pushkey : {A : Type 0} → Repository A → Bool → ℕ → Part A → Outcome A

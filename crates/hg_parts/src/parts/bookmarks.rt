@@ -1,8 +1,9 @@
 //! `bookmarks`: names, and the changeset that each is to be on.
 //!
-//! The payload is entries of an id of 20 bytes, the size of a name in two bytes, the most significant first, and the name
-//! (Mercurial's `internals.bundles`); the id of 20 bytes ff deletes the name. A payload that ends inside an entry is a fault
-//! of format. Every changeset has to be known. Then each name is set or deleted, in order, whatever it is.
+//! The payload is entries of an id of 20 bytes, the size of a name in two bytes, the most significant first,
+//! and the name (Mercurial's `internals.bundles`); the id of 20 bytes ff deletes the name. A payload that
+//! ends inside an entry is a fault of format. Every changeset has to be known. Then each name is set or
+//! deleted, in order, whatever it is.
 
 ghost use Rattle.std.specs.Prelude.{◌≡◌, true, OnOk};
 ghost use Rattle.hg_parts.specs.Handled.{NothingGives};
@@ -19,7 +20,8 @@ use std::alloc::Allocator;
 
 /// Sets the bookmarks in the payload.
 ///
-/// Refused are a payload that is no entries (`BadPart`), and then a changeset that is not known (`UnknownNode`).
+/// Refused are a payload that is no entries (`BadPart`), and then a changeset that is not known
+/// (`UnknownNode`).
 pub fn handle_bookmarks<A: Allocator + Copy>(
     alloc: A,
     store: &mut Store<A>,

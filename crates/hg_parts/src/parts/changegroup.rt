@@ -75,7 +75,8 @@ pub fn handle_group<A: Allocator + Copy>(
     ensures grown { IsGrown store.old store.new }
     ensures reply { IfOk result (λ reply. IfSome reply IsReply) }
     ensures gives { HandleGives
-        (handle_group source (repository_of settings.now store.old) replying place part.now target entries.now)
+        (handle_group source
+        (repository_of settings.now store.old) replying place part.now target entries.now)
         (repository_of settings.now store.new) result }
 {
     let t = phase_for(source, settings, target);

@@ -1,8 +1,8 @@
 //! `check:phases`: the phases that the client saw before it made its bundle.
 //!
-//! The payload is entries of 24 bytes: the number of a phase in four bytes, the most significant first, and an id (Mercurial's
-//! `internals.bundles`, and its `phases`). Another length or phase is a fault of format. The first entry decides whose
-//! changeset is not known, or in another phase: the push is raced then.
+//! The payload is entries of 24 bytes: the number of a phase in four bytes, the most significant first, and
+//! an id (Mercurial's `internals.bundles`, and its `phases`). Another length or phase is a fault of format.
+//! The first entry decides whose changeset is not known, or in another phase: the push is raced then.
 
 ghost use Rattle.std.specs.Prelude.{◌≤◌, length};
 ghost use Rattle.hg_types.specs.declared.limits.Settings.{Settings};
@@ -25,7 +25,8 @@ pub fn handle_check_phases<A: Allocator + Copy>(
     part: &Part<A>,
 ) -> Result<(), Refusal<A>>
     requires { length store.now.log.rows ≤ length store.now.phases.current.phases }
-    ensures { (settings : Settings) → NothingGives (handle_check_phases (repository_of settings store.now) place part.now)
+    ensures { (settings : Settings) →
+        NothingGives (handle_check_phases (repository_of settings store.now) place part.now)
         (repository_of settings store.now) result }
 {
     match check_phases(alloc, &store.log, &store.phases, part.payload.as_slice()) {

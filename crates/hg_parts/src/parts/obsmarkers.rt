@@ -1,7 +1,8 @@
 //! `obsmarkers`: obsolescence markers that join those that are there.
 //!
-//! The payload is marker data of version 0 (Mercurial's `internals.bundles`); what is none is a fault of format. Each marker
-//! that is not there yet is added, in order. The reply `reply:obsmarkers` tells in `new` how many these are.
+//! The payload is marker data of version 0 (Mercurial's `internals.bundles`); what is none is a fault of
+//! format. Each marker that is not there yet is added, in order. The reply `reply:obsmarkers` tells in `new`
+//! how many these are.
 
 ghost use Rattle.std.specs.Prelude.{◌≡◌, IfOk, IfSome, OnOk};
 ghost use Rattle.hg_parts.specs.Handled.{HandleGives};
@@ -70,7 +71,8 @@ pub fn handle_markers<A: Allocator + Copy>(
     ensures sound { OnOk result (IsSound settings.now store.new) }
     ensures grown { IsGrown store.old store.new }
     ensures reply { IfOk result (λ reply. IfSome reply IsReply) }
-    ensures gives { HandleGives (handle_markers (repository_of settings.now store.old) replying place part.now markers)
+    ensures gives { HandleGives (handle_markers
+        (repository_of settings.now store.old) replying place part.now markers)
         (repository_of settings.now store.new) result }
 {
     markers_stay_lawful::<A>();

@@ -1,14 +1,16 @@
 //! `phase-heads`: changesets that are in a lower phase at the client.
 //!
-//! The payload is entries of 24 bytes: the number of a phase in four bytes, the most significant first, and an id (Mercurial's
-//! `internals.bundles`, and its `phases`). Another length or phase is a fault of format. Every changeset has to be known. Then
-//! each and its ancestors are advanced to its phase, in order: none gets a higher one.
+//! The payload is entries of 24 bytes: the number of a phase in four bytes, the most significant first, and
+//! an id (Mercurial's `internals.bundles`, and its `phases`). Another length or phase is a fault of format.
+//! Every changeset has to be known. Then each and its ancestors are advanced to its phase, in order: none
+//! gets a higher one.
 
 ghost use Rattle.std.specs.Prelude.{◌≡◌, length, IfOk, OnOk};
 ghost use Rattle.hg_phases.specs.Phases.{AreFor};
 ghost use Rattle.hg_parts.specs.Handled.{NothingGives};
 ghost use Rattle.hg_parts.specs.Store.{repository_of, IsSound, IsGrown};
-ghost use Rattle.hg_parts.specs.parts.PhaseHeads.{are_known, advanced_by, advance_each, handle_entries, read_phase_heads};
+ghost use Rattle.hg_parts.specs.parts.PhaseHeads.{are_known, advanced_by, advance_each, handle_entries};
+ghost use Rattle.hg_parts.specs.parts.PhaseHeads.{read_phase_heads};
 
 use crate::prepared::Reading;
 use crate::refusal::Refusal;
@@ -70,7 +72,8 @@ fn advance_each<A: Allocator + Copy>(
 ) -> Result<(), NoMemory>
     requires fits { AreFor log.now.rows phases.old.current }
     requires count { length phases.old.current.phases ≡ length log.now.rows }
-    ensures ok { OnOk result (phases.new.current.phases ≡ advance_each log.now.rows entries.now phases.old.current.phases) }
+    ensures ok { OnOk result (phases.new.current.phases
+        ≡ advance_each log.now.rows entries.now phases.old.current.phases) }
     ensures fits { AreFor log.now.rows phases.new.current }
     ensures count { length phases.new.current.phases ≡ length log.now.rows }
     ensures marked { phases.new.marked ≡ phases.old.marked }
@@ -90,7 +93,8 @@ fn advance_one<A: Allocator + Copy>(
 ) -> Result<(), NoMemory>
     requires fits { AreFor log.now.rows phases.old.current }
     requires count { length phases.old.current.phases ≡ length log.now.rows }
-    ensures ok { OnOk result (phases.new.current.phases ≡ advanced_by log.now.rows phases.old.current.phases entry.now) }
+    ensures ok { OnOk result (phases.new.current.phases
+        ≡ advanced_by log.now.rows phases.old.current.phases entry.now) }
     ensures fits { AreFor log.now.rows phases.new.current }
     ensures count { length phases.new.current.phases ≡ length log.now.rows }
     ensures marked { phases.new.marked ≡ phases.old.marked }

@@ -1,15 +1,17 @@
 //! `pushkey`: a key of a namespace that is to have another value.
 //!
-//! Its parameters `namespace`, `key`, `old` and `new` are the call (Mercurial's `internals.bundles`); that one is missing is a
-//! fault of format, and so are a dump of markers that is no base-85 and one that is no marker data. What the namespaces do, the
-//! crate `hg_keys` tells. A mandatory part whose call does not take effect refuses the push. The reply `reply:pushkey` tells
-//! in `return` whether it did, 1 or 0. The payload is not looked at.
+//! Its parameters `namespace`, `key`, `old` and `new` are the call (Mercurial's `internals.bundles`); that
+//! one is missing is a fault of format, and so are a dump of markers that is no base-85 and one that is no
+//! marker data. What the namespaces do, the crate `hg_keys` tells. A mandatory part whose call does not take
+//! effect refuses the push. The reply `reply:pushkey` tells in `return` whether it did, 1 or 0. The payload
+//! is not looked at.
 
 ghost use Rattle.std.specs.Prelude.{◌≡◌, Some, IfOk, IfSome, OnOk};
 ghost use Rattle.hg_parts.specs.Handled.{HandleGives};
 ghost use Rattle.hg_parts.specs.Replies.{reply_where, IsReply};
 ghost use Rattle.hg_parts.specs.Store.{repository_of, IsSound, IsGrown};
-ghost use Rattle.hg_parts.specs.parts.Pushkey.{call_of, is_refused, refusal_of, reply_to_key, result_text, handle_call, handle_pushkey};
+ghost use Rattle.hg_parts.specs.parts.Pushkey.{call_of, is_refused, refusal_of, reply_to_key, result_text};
+ghost use Rattle.hg_parts.specs.parts.Pushkey.{handle_call, handle_pushkey};
 
 use crate::params::value_of;
 use crate::refusal::Refusal;
@@ -21,8 +23,8 @@ use std::alloc::Allocator;
 
 /// Sets the key.
 ///
-/// Refused are a missing parameter and a dump of markers that is none (`BadPart`), and a mandatory part whose call does not take
-/// effect (`KeyFailed`).
+/// Refused are a missing parameter and a dump of markers that is none (`BadPart`), and a mandatory part whose
+/// call does not take effect (`KeyFailed`).
 pub fn handle_pushkey<A: Allocator + Copy>(
     alloc: A,
     store: &mut Store<A>,
@@ -35,7 +37,8 @@ pub fn handle_pushkey<A: Allocator + Copy>(
     ensures sound { OnOk result (IsSound settings.now store.new) }
     ensures grown { IsGrown store.old store.new }
     ensures reply { IfOk result (λ reply. IfSome reply IsReply) }
-    ensures gives { HandleGives (handle_pushkey (repository_of settings.now store.old) replying place part.now)
+    ensures gives { HandleGives (handle_pushkey
+        (repository_of settings.now store.old) replying place part.now)
         (repository_of settings.now store.new) result }
 {
     let Some(call) = call_of(alloc, part.params.as_slice())? else {
@@ -58,7 +61,8 @@ fn handle_call<A: Allocator + Copy>(
     ensures sound { OnOk result (IsSound settings.now store.new) }
     ensures grown { IsGrown store.old store.new }
     ensures reply { IfOk result (λ reply. IfSome reply IsReply) }
-    ensures gives { HandleGives (handle_call (repository_of settings.now store.old) replying place part.now (Some call))
+    ensures gives { HandleGives (handle_call (repository_of settings.now store.old) replying place part.now
+        (Some call))
         (repository_of settings.now store.new) result }
 {
     let done = match push_key(

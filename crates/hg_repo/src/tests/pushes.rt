@@ -49,6 +49,12 @@ const TEXT: &[u8] = b"\0\0\0\0\0\0\0\0\0\0\0\x01b";
 
 const ENDS: &[u8] = &[0; 12];
 
+/// The end of the changesets, a manifest's chunk, a file with one chunk, and the end of the files.
+const FILES: &[u8] = b"\0\0\0\0\0\0\0\x0bcontent\0\0\0\0\0\0\0\x05f\0\0\0\x06xy\0\0\0\0\0\0\0\0";
+
+/// The same, one byte shorter.
+const CUT_FILES: &[u8] = b"\0\0\0\0\0\0\0\x0bcontent\0\0\0\0\0\0\0\x05f\0\0\0\x06xy\0\0\0\0\0\0\0";
+
 /// What stands before the predecessor in a marker without successors and metadata.
 const MARKER: &[u8] = &[0; 6];
 
@@ -272,12 +278,40 @@ static GROWN: [Run; 2] = [
     (Source::Push, &[CHILD], Ending::Done(1, 0)),
 ];
 
+/// A changeset with a manifest and a file, and the same without its last byte.
+static FILED: [Run; 2] = [
+    (
+        Source::Push,
+        &[
+            CAPS,
+            (
+                b"CHANGEGROUP",
+                &[(b"version", b"02")],
+                &[BARE, A, Z, Z, Z, A, FILES],
+            ),
+        ],
+        Ending::Done(2, 1),
+    ),
+    (
+        Source::Push,
+        &[
+            CAPS,
+            (
+                b"CHANGEGROUP",
+                &[(b"version", b"02")],
+                &[BARE, A, Z, Z, Z, A, CUT_FILES],
+            ),
+        ],
+        Ending::Refused(4, 1),
+    ),
+];
+
 #[test]
 fn changesets_are_reported(rt: HostRuntime) -> Result<(), Fail> {
     let (alloc, state) = (rt.alloc(), RandomState::new(&rt)?);
     assert!(rt; tells(alloc, state, &NOTHING, b""));
     let one = b"C 0 b80de5d138758541c5f05265ad144ab9fa86d1db 1 0\n";
-    assert!(rt; tells(alloc, state, &ROOTED, one));
+    assert!(rt; tells(alloc, state, &ROOTED, one) && tells(alloc, state, &FILED, one));
     let both = b"C 0 b80de5d138758541c5f05265ad144ab9fa86d1db 1 0\n\
         C 1 afd3a6a1f758ffa4867f96eb8e8e30488f656492 1 0\n";
     assert!(rt; tells(alloc, state, &GROWN, both));
@@ -314,7 +348,27 @@ static MADE_PUBLIC: [Run; 2] = [
     (Source::Push, &[CAPS, PUBLISHED], Ending::Done(2, 1)),
 ];
 
-/// A marker makes a changeset obsolete while it is not public.
+/// One marker, twice in a part and once more as a key.
+static MARKED_AND_PUSHED: [Run; 1] = [(
+    Source::Push,
+    &[
+        CAPS,
+        (b"OBSMARKERS", &[], &[b"\0", MARKER, ONES, MARKER, ONES]),
+        (
+            b"PUSHKEY",
+            &[
+                (b"namespace", b"obsolete"),
+                (b"key", b"dump0"),
+                (b"old", b""),
+                (b"new", b"000000000H5fKp)5fKp)5fKp)5fKp)5fKp"),
+            ],
+            &[],
+        ),
+    ],
+    Ending::Done(3, 2),
+)];
+
+/// A marker makes a changeset obsolete while it is not public. One of an unknown changeset is reported alone.
 #[test]
 fn obsolete_changesets_are_reported(rt: HostRuntime) -> Result<(), Fail> {
     let (alloc, state) = (rt.alloc(), RandomState::new(&rt)?);
@@ -324,6 +378,8 @@ fn obsolete_changesets_are_reported(rt: HostRuntime) -> Result<(), Fail> {
     let public = b"C 0 b80de5d138758541c5f05265ad144ab9fa86d1db 0 0\n\
         O 000000000000b80de5d138758541c5f05265ad144ab9fa86d1db\n";
     assert!(rt; tells(alloc, state, &MADE_PUBLIC, public));
+    let alone = b"O 0000000000001111111111111111111111111111111111111111\n";
+    assert!(rt; tells(alloc, state, &MARKED_AND_PUSHED, alone));
     Ok(())
 }
 

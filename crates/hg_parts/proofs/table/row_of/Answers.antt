@@ -1,7 +1,7 @@
 use Rattle.std.proofs.Common.{◌∙◌, find, option_copied, List, ap}
 use Rattle.std.specs.Str.{str_eq_ignore_ascii_case}
 use Rattle.hg_parts.specs.PartTypes.{Row, row_of}
-use Rattle.hg_parts.specs.Table.{row_value}
+use Rattle.hg_parts.specs.code.Table.{row_value}
 use Rattle.hg_parts.proofs.Tables.{found-map}
 use Rattle.hg_parts.proofs.table.row_of.Goals as goal
 

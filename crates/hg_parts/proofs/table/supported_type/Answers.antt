@@ -1,7 +1,7 @@
 use Rattle.std.proofs.Common.{rules, ◌≡◌, true, false, Some, ◌∙◌, sym, ap, option_map, option_copied}
 use Rattle.std.specs.List.{list_any}
 use Rattle.hg_parts.specs.PartTypes.{row_of, is_unknown}
-use Rattle.hg_parts.specs.Table.{row_value}
+use Rattle.hg_parts.specs.code.Table.{row_value}
 use Rattle.hg_parts.proofs.Tables.{none_unknown, some_unknown}
 use Rattle.hg_parts.proofs.table.supported_type.Goals as goal
 

@@ -1,6 +1,6 @@
 use Rattle.std.proofs.Common.{◌≡◌, take}
 use Rattle.hg_parts.specs.PartTypes.{unknown_names}
-use Rattle.hg_parts.specs.Table.{row_value}
+use Rattle.hg_parts.specs.code.Table.{row_value}
 use Rattle.hg_parts.proofs.table.unknown_names.Given as goal
 
 -- the names among the parameters so far
