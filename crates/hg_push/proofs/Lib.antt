@@ -18,5 +18,6 @@ mod EachRow
 mod Leaving
 mod Staging
 mod Turns
+mod LawfulRows
 pub mod CallerLemmas
 mod Beginning

@@ -1,5 +1,6 @@
 -- What a book stands for.
-use Rattle.std.specs.Prelude.{ℕ, Bool, true, ◌≡◌, ◌&&◌, ◌+◌, ◌<◌, ◌++◌, map, nat_le, nat_lt, List, [], ◌∷◌, if◌then◌else◌}
+use Rattle.std.specs.Prelude.{ℕ, Bool, true, ◌≡◌, ◌&&◌, ◌+◌, ◌<◌, ◌++◌, map, nat_le, nat_lt, List, [], ◌∷◌}
+use Rattle.std.specs.Prelude.{if◌then◌else◌}
 use Rattle.std.specs.List.{AllByRecursion}
 use Rattle.hg_types.specs.declared.item.Item.{Item}
 use Rattle.hg_push.specs.declared.row.State.TheVariants.{Open}
@@ -7,7 +8,8 @@ use Rattle.hg_push.specs.declared.row.Row.{Row}
 use Rattle.hg_push.specs.History.{History, Running, serial, parts, outcome, IsHistory}
 use Rattle.hg_push.specs.Rows.{row_of, Tells}
 
--- A repository, the numbers of the done pushes, the numbers that are opened, and a row for each push whose reply was not taken.
+-- A repository, the numbers of the done pushes, the numbers that are opened, and a row for each push whose
+-- reply was not taken.
 pub record Book (A R D E : Type 0) : Type 0 where
   pub repo : R
   pub journal : List ℕ
@@ -23,7 +25,8 @@ abbrev pub is_opened : {A R D E : Type 0} → Book A R D E → ℕ → Bool
 is_opened b p = is_between b.first_push b.next p
 
 -- The book holds the history h over a first repository.
-pub record Holds {A R D E : Type 0} (run : Running A R D E) (first : R) (h : History A) (b : Book A R D E) : Type 0 where
+pub record Holds {A R D E : Type 0} (run : Running A R D E) (first : R) (h : History A)
+    (b : Book A R D E) : Type 0 where
   pub state : serial run first h ≡ record { repo = b.repo; journal = b.journal }
   pub legal : IsHistory h
   pub opened : AllByRecursion (λ x. is_opened b x.item.push ≡ true) h
@@ -44,7 +47,9 @@ stepped b item refused h = if is_opened b item.push then record { item = item; r
 
 -- the next push is opened: it has a row with nothing staged
 abbrev pub Opens : {A R D E : Type 0} → Book A R D E → ℕ → Book A R D E → Type 0
-Opens old p new = (p ≡ old.next) × (new ≡ record old { next = old.next + 1; rows = old.rows ++ record { push = p; state = Open [] } ∷ [] })
+Opens old p new =
+    (p ≡ old.next)
+    × (new ≡ record old { next = old.next + 1; rows = old.rows ++ record { push = p; state = Open [] } ∷ [] })
 
 -- the same pushes are opened, and the same of them have rows
 pub record IsSameOpenings {A R D E : Type 0} (old new : Book A R D E) : Type 0 where

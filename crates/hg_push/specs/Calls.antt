@@ -1,5 +1,6 @@
 -- Lists of calls of a book: what their answers have to be, told by the history and with no table of rows.
-use Rattle.std.specs.Prelude.{ℕ, Bool, true, ◌≡◌, ◌<◌, ◌≤◌, ◌+◌, ◌-◌, ◌^◌, ◌==◌, not, List, [], ◌∷◌, ◌++◌, length, map, filter, Option, None, Some, Result, Ok, Err, if◌then◌else◌}
+use Rattle.std.specs.Prelude.{ℕ, Bool, true, ◌≡◌, ◌<◌, ◌≤◌, ◌+◌, ◌-◌, ◌^◌, ◌==◌, not, List, [], ◌∷◌, ◌++◌}
+use Rattle.std.specs.Prelude.{length, map, filter, Option, None, Some, Result, Ok, Err, if◌then◌else◌}
 use Rattle.std.specs.List.{list_any}
 use Rattle.hg_types.specs.declared.item.Item.{Item}
 use Rattle.hg_push.specs.declared.book.OpenFault.{OpenFault}
@@ -12,7 +13,8 @@ use Rattle.hg_push.specs.declared.outcome.Outcome.{Outcome}
 use Rattle.hg_push.specs.History.{History, Running, outcome, may_refuse}
 use Rattle.hg_push.specs.Book.{Book, Holds, is_between}
 
--- What has come of the calls so far: the items that were taken, the numbers that are opened, and the pushes whose reply was not taken, in the order in which they were opened.
+-- What has come of the calls so far: the items that were taken, the numbers that are opened, and the pushes
+-- whose reply was not taken, in the order in which they were opened.
 pub record Course (A : Type 0) : Type 0 where
   pub history : History A
   pub first_push : ℕ
@@ -22,7 +24,8 @@ pub record Course (A : Type 0) : Type 0 where
 
 -- nothing was called yet
 abbrev pub course_of_new : {A : Type 0} → ℕ → ℕ → Course A
-course_of_new first_push limit = record { history = []; first_push = first_push; next = first_push; limit = limit; waiting = [] }
+course_of_new first_push limit =
+    record { history = []; first_push = first_push; next = first_push; limit = limit; waiting = [] }
 
 abbrev pub is_waiting : {A : Type 0} → Course A → ℕ → Bool
 is_waiting c p = list_any (λ q. q == p) c.waiting
@@ -36,7 +39,8 @@ IsOpening c (Err NoMemory) = Unit {0}
 
 -- want of memory is told of an item only where its push is opened and open and it takes memory
 abbrev pub MayRefuse : {A : Type 0} → Course A → Item A → Bool → Type 0
-MayRefuse c item refused = refused ≡ true → (is_between c.first_push c.next item.push ≡ true) × (may_refuse c.history item ≡ true)
+MayRefuse c item refused = refused ≡ true → (is_between c.first_push c.next item.push ≡ true)
+    × (may_refuse c.history item ≡ true)
 
 -- the reply of a push is its outcome, once
 abbrev pub reply_due : {A R D E : Type 0} → Running A R D E → R → Course A → ℕ → Option (Outcome D E)
@@ -49,7 +53,8 @@ IsAnswer run first c (TakeReply p) (Reply reply) = reply ≡ reply_due run first
 IsAnswer run first c call answer = ⊥
 
 abbrev pub taken_in : {A : Type 0} → Course A → Item A → Bool → History A
-taken_in c item refused = if is_between c.first_push c.next item.push then record { item = item; refused = refused } ∷ c.history else c.history
+taken_in c item refused = if is_between c.first_push c.next item.push
+    then record { item = item; refused = refused } ∷ c.history else c.history
 
 abbrev pub after_call : {A D E : Type 0} → Course A → Call A → Answer D E → Course A
 after_call c Open (Opened (Ok p)) = record c { next = c.next + 1; waiting = c.waiting ++ p ∷ [] }
@@ -58,9 +63,11 @@ after_call c (TakeReply p) (Reply (Some ending)) = record c { waiting = filter (
 after_call c call answer = c
 
 -- each answer is that of its call, after those before it
-abbrev pub AreAnswers : {A R D E : Type 0} → Running A R D E → R → Course A → List (Call A) → List (Answer D E) → Type 0
+abbrev pub AreAnswers : {A R D E : Type 0} → Running A R D E → R → Course A → List (Call A) →
+    List (Answer D E) → Type 0
 AreAnswers run first c [] [] = Unit {0}
-AreAnswers run first c (call ∷ calls) (answer ∷ answers) = IsAnswer run first c call answer × AreAnswers run first (after_call c call answer) calls answers
+AreAnswers run first c (call ∷ calls) (answer ∷ answers) =
+    IsAnswer run first c call answer × AreAnswers run first (after_call c call answer) calls answers
 AreAnswers run first c calls answers = ⊥
 
 abbrev pub after_calls : {A D E : Type 0} → Course A → List (Call A) → List (Answer D E) → Course A
@@ -68,7 +75,8 @@ after_calls c (call ∷ calls) (answer ∷ answers) = after_calls (after_call c 
 after_calls c calls answers = c
 
 -- The book has come as far.
-pub record Follows {A R D E : Type 0} (run : Running A R D E) (first : R) (c : Course A) (b : Book A R D E) : Type 0 where
+pub record Follows {A R D E : Type 0} (run : Running A R D E) (first : R) (c : Course A)
+    (b : Book A R D E) : Type 0 where
   pub holds : Holds run first c.history b
   pub first_push : b.first_push ≡ c.first_push
   pub next : b.next ≡ c.next

@@ -1,5 +1,6 @@
 -- A history without some of its places, and the pushes of a journal run one by one.
-use Rattle.std.specs.Prelude.{ℕ, ◌≡◌, ◌&&◌, ◌++◌, List, [], ◌∷◌, Bool, true, false, Option, None, Some, Ok, if◌then◌else◌}
+use Rattle.std.specs.Prelude.{ℕ, ◌≡◌, ◌&&◌, ◌++◌, List, [], ◌∷◌, Bool, true, false, Option, None, Some, Ok}
+use Rattle.std.specs.Prelude.{if◌then◌else◌}
 use Rattle.hg_types.specs.declared.part.Part.{Part}
 use Rattle.hg_push.specs.declared.outcome.Outcome.TheVariants.{Done, Aborted}
 use Rattle.hg_push.specs.declared.outcome.Outcome.{Outcome}
@@ -15,13 +16,17 @@ abbrev pub without : {A : Type 0} → ℕ → History A → History A
 without p [] = []
 without p (x ∷ before) = if is_of p x then without p before else x ∷ without p before
 
--- The pushes of the journal, run one by one from the first repository, each with its parts, all succeed and lead to the last.
+-- The pushes of the journal, run one by one from the first repository, each with its parts, all succeed and
+-- lead to the last.
 abbrev pub OneByOne : {A R D E : Type 0} → Running A R D E → (ℕ → List (Part A)) → R → List ℕ → R → Type 0
 OneByOne run of first [] last = first ≡ last
-OneByOne {A} {R} {D} run of first (p ∷ journal) last = (mid : R) × (done : D) × (run first (of p) ≡ Ok (mid, done)) × OneByOne run of mid journal last
+OneByOne {A} {R} {D} run of first (p ∷ journal) last =
+    (mid : R) × (done : D) × (run first (of p) ≡ Ok (mid, done)) × OneByOne run of mid journal last
 
--- The push p ran in its turn: on the repository that the pushes before it in the journal give, with that answer. Those behind it lead on to the last.
-pub record RanInTurn {A R D E : Type 0} (run : Running A R D E) (of : ℕ → List (Part A)) (first : R) (journal : List ℕ) (last : R) (p : ℕ) (done : D) : Type 0 where
+-- The push p ran in its turn: on the repository that the pushes before it in the journal give, with that
+-- answer. Those behind it lead on to the last.
+pub record RanInTurn {A R D E : Type 0} (run : Running A R D E) (of : ℕ →
+    List (Part A)) (first : R) (journal : List ℕ) (last : R) (p : ℕ) (done : D) : Type 0 where
   pub front : List ℕ
   pub back : List ℕ
   pub spelled : journal ≡ front ++ p ∷ back

@@ -1,6 +1,7 @@
 -- The history of a book: what was taken from the queue, and what became of each push.
 -- The definitions know nothing of a repository but its value and the function that runs a push on it.
-use Rattle.std.specs.Prelude.{ℕ, Bool, true, false, ◌≡◌, ◌==◌, ◌&&◌, ◌||◌, not, List, [], ◌∷◌, ◌++◌, length, Option, None, Some, Result, Ok, Err, if◌then◌else◌}
+use Rattle.std.specs.Prelude.{ℕ, Bool, true, false, ◌≡◌, ◌==◌, ◌&&◌, ◌||◌, not, List, [], ◌∷◌, ◌++◌, length}
+use Rattle.std.specs.Prelude.{Option, None, Some, Result, Ok, Err, if◌then◌else◌}
 use Rattle.hg_types.specs.declared.part.Part.{Part}
 use Rattle.hg_types.specs.declared.item.What.{What}
 use Rattle.hg_types.specs.declared.item.What.TheVariants.{Part as a_part, End, Cut}
@@ -54,20 +55,26 @@ parts_after ps x = if x.refused then ps else ps ++ part_in x.item.what
 -- Parts: the parts of p before the place that closed it, or all where there is none.
 abbrev pub parts : {A : Type 0} → ℕ → History A → List (Part A)
 parts p [] = []
-parts p (x ∷ before) = if is_of p x && not (is_closed p before) then parts_after (parts p before) x else parts p before
+parts p (x ∷ before) = if is_of p x && not (is_closed p before) then parts_after (parts p before) x
+    else parts p before
 
 abbrev pub refused_as : {D E : Type 0} → Result D E → Result D (Reason E)
 refused_as (Ok done) = Ok done
 refused_as (Err e) = Err (Refused e)
 
-abbrev pub decided_by : {A R D E : Type 0} → Running A R D E → R → List (Part A) → ℕ → What A → Option (Result (R × D) (Reason E))
+abbrev pub decided_by : {A R D E : Type 0} → Running A R D E → R → List (Part A) → ℕ → What A →
+    Option (Result (R × D) (Reason E))
 decided_by run repo ps index (a_part part) = None
 decided_by run repo ps index (Cut reason) = Some (Err (cut reason))
-decided_by run repo ps index End = Some (if index == length ps then refused_as (run repo ps) else Err WrongIndex)
+decided_by run repo ps index End = Some (if index == length ps then refused_as (run repo ps)
+    else Err WrongIndex)
 
--- What a place decides of its push, which was open with these parts: nothing yet, the run's repository and answer, or why the push is aborted.
-abbrev pub decided : {A R D E : Type 0} → Running A R D E → R → List (Part A) → Taken A → Option (Result (R × D) (Reason E))
-decided run repo ps x = if x.refused then Some (Err NoMemory) else decided_by run repo ps x.item.index x.item.what
+-- What a place decides of its push, which was open with these parts: nothing yet, the run's repository and
+-- answer, or why the push is aborted.
+abbrev pub decided : {A R D E : Type 0} → Running A R D E → R → List (Part A) → Taken A →
+    Option (Result (R × D) (Reason E))
+decided run repo ps x = if x.refused then Some (Err NoMemory)
+    else decided_by run repo ps x.item.index x.item.what
 
 -- A repository and the numbers of the done pushes, in order.
 pub record Serial (R : Type 0) : Type 0 where
@@ -84,7 +91,8 @@ after run before x s =
     if is_closed x.item.push before then s
     else kept s x.item.push (decided run s.repo (parts x.item.push before) x)
 
--- Serial: the done pushes, run one by one in the order of their closing places. Everything else changes nothing.
+-- Serial: the done pushes, run one by one in the order of their closing places. Everything else changes
+-- nothing.
 abbrev pub serial : {A R D E : Type 0} → Running A R D E → R → History A → Serial R
 serial run first [] = record { repo = first; journal = [] }
 serial run first (x ∷ before) = after run before x (serial run first before)
@@ -102,14 +110,16 @@ outcome run first p (x ∷ before) =
     then told (decided run (serial run first before).repo (parts p before) x)
     else outcome run first p before
 
--- Memory can be refused for an item only where it takes some: its push is not closed, and it is a part, or an end mark whose index is the number of the push's parts.
+-- Memory can be refused for an item only where it takes some: its push is not closed, and it is a part, or an
+-- end mark whose index is the number of the push's parts.
 abbrev pub takes_memory : {A : Type 0} → ℕ → ℕ → What A → Bool
 takes_memory count index (a_part part) = true
 takes_memory count index End = index == count
 takes_memory count index (Cut reason) = false
 
 abbrev pub may_refuse : {A : Type 0} → History A → Item A → Bool
-may_refuse before item = not (is_closed item.push before) && takes_memory (length (parts item.push before)) item.index item.what
+may_refuse before item = not (is_closed item.push before)
+    && takes_memory (length (parts item.push before)) item.index item.what
 
 -- Each refusal is at a place where it can be.
 abbrev pub IsHistory : {A : Type 0} → History A → Type 0

@@ -1,5 +1,5 @@
--- The reply to a push: the parts that tell how it ended (`bundle2`: "error:abort", "error:pushraced", "error:pushkey",
--- "error:unsupportedcontent").
+-- The reply to a push: the parts that tell how it ended (`bundle2`: "error:abort", "error:pushraced",
+-- "error:pushkey", "error:unsupportedcontent").
 use Rattle.std.specs.Prelude.{ℕ, ◌<◌, ◌^◌, List, [], ◌∷◌, ◌++◌, All, length, take, codes, decimal, true}
 use Rattle.std.specs.List.{join_with_byte}
 use Rattle.hg_types.specs.declared.part.Part.{Part}
@@ -10,16 +10,20 @@ use Rattle.hg_keys.specs.declared.keys.KeyCall.{KeyCall}
 use Rattle.hg_stream.specs.Written.{bundle_bytes, CanBeWritten}
 use Rattle.hg_repo.specs.declared.done.Done.{Done}
 use Rattle.hg_parts.specs.declared.refusal.Refusal.{Refusal}
-use Rattle.hg_parts.specs.declared.refusal.Refusal.TheVariants.{Unsupported, Raced, KeyFailed, BadPart, BadChangeset, UnknownNode, ClientAbort, NoMemory}
+use Rattle.hg_parts.specs.declared.refusal.Refusal.TheVariants.{Unsupported, Raced, KeyFailed, BadPart}
+use Rattle.hg_parts.specs.declared.refusal.Refusal.TheVariants.{BadChangeset, UnknownNode, ClientAbort}
+use Rattle.hg_parts.specs.declared.refusal.Refusal.TheVariants.{NoMemory}
 use Rattle.hg_parts.specs.Refusal.{message_of}
 use Rattle.hg_push.specs.declared.outcome.Reason.{Reason}
-use Rattle.hg_push.specs.declared.outcome.Reason.TheVariants.{Refused, Cut, WrongIndex, NoMemory as without_memory}
+use Rattle.hg_push.specs.declared.outcome.Reason.TheVariants.{Refused, Cut, WrongIndex}
+use Rattle.hg_push.specs.declared.outcome.Reason.TheVariants.{NoMemory as without_memory}
 use Rattle.hg_push.specs.declared.outcome.Outcome.{Outcome}
 use Rattle.hg_push.specs.declared.outcome.Outcome.TheVariants.{Done as done_with, Aborted}
 use Rattle.hg_push.specs.declared.row.State.{State}
 use Rattle.hg_push.specs.declared.row.State.TheVariants.{Open, Closed}
 
--- A parameter of an error part is mandatory, and its value is cut after 255 bytes: a header holds no longer one.
+-- A parameter of an error part is mandatory, and its value is cut after 255 bytes: a header holds no longer
+-- one.
 abbrev pub telling : {A : Type 0} → List ℕ → List ℕ → Param A
 telling key value = record { mandatory = true; key = key; value = take 255 value }
 
@@ -39,11 +43,15 @@ unknown_params [] = []
 unknown_params (name ∷ names) = telling (codes "params") (join_with_byte 0 (name ∷ names)) ∷ []
 
 abbrev pub unsupported_part : {A : Type 0} → List ℕ → List (List ℕ) → Part A
-unsupported_part kind names = error_part (codes "ERROR:UNSUPPORTEDCONTENT") (telling (codes "parttype") kind ∷ unknown_params names)
+unsupported_part kind names =
+    error_part (codes "ERROR:UNSUPPORTEDCONTENT") (telling (codes "parttype") kind ∷ unknown_params names)
 
 -- the key that was not set: the part's id, and what it asked
 abbrev pub key_part : {A : Type 0} → ℕ → KeyCall A → Part A
-key_part id call = error_part (codes "ERROR:PUSHKEY") (telling (codes "in-reply-to") (decimal id) ∷ telling (codes "namespace") call.namespace ∷ telling (codes "key") call.key ∷ telling (codes "new") call.new ∷ telling (codes "old") call.old ∷ [])
+key_part id call =
+    error_part (codes "ERROR:PUSHKEY") (telling (codes "in-reply-to") (decimal id)
+    ∷ telling (codes "namespace") call.namespace ∷ telling (codes "key") call.key
+    ∷ telling (codes "new") call.new ∷ telling (codes "old") call.old ∷ [])
 
 -- why the run was refused
 abbrev pub refusal_part : {A : Type 0} → Refusal A → Part A
@@ -51,8 +59,10 @@ refusal_part (Unsupported place kind params) = unsupported_part kind params
 refusal_part (Raced place text) = race_part (message_of text)
 refusal_part (KeyFailed place id call) = key_part id call
 refusal_part (BadPart place) = abort_part (codes "part " ++ decimal place ++ codes " is malformed")
-refusal_part (BadChangeset place fault) = abort_part (codes "part " ++ decimal place ++ codes " holds a bad changeset")
-refusal_part (UnknownNode place) = abort_part (codes "part " ++ decimal place ++ codes " names an unknown node")
+refusal_part (BadChangeset place fault) =
+    abort_part (codes "part " ++ decimal place ++ codes " holds a bad changeset")
+refusal_part (UnknownNode place) =
+    abort_part (codes "part " ++ decimal place ++ codes " names an unknown node")
 refusal_part (ClientAbort place) = abort_part (codes "client aborted")
 refusal_part NoMemory = abort_part (codes "out of memory")
 

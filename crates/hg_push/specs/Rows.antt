@@ -1,5 +1,7 @@
 -- The rows of a book.
-use Rattle.std.specs.Prelude.{ℕ, Bool, true, false, ◌≡◌, ◌≢◌, ◌==◌, ◌<◌, map, List, [], ◌∷◌, length, find, filter, not, position, slice_index_or, Option, None, Some, Result, Ok, Err, IsSome}
+use Rattle.std.specs.Prelude.{ℕ, Bool, true, false, ◌≡◌, ◌≢◌, ◌==◌, ◌<◌, map, List, [], ◌∷◌, length, find}
+use Rattle.std.specs.Prelude.{filter, not, position, slice_index_or, Option, None, Some, Result, Ok, Err}
+use Rattle.std.specs.Prelude.{IsSome}
 use Rattle.std.specs.List.{AllByRecursion}
 use Rattle.hg_types.specs.declared.part.Part.{Part}
 use Rattle.hg_types.specs.declared.item.Taken.{Taken}
@@ -10,7 +12,8 @@ use Rattle.hg_push.specs.declared.outcome.Reason.TheVariants.{Refused, Cut, Wron
 use Rattle.hg_push.specs.declared.outcome.Outcome.{Outcome}
 use Rattle.hg_push.specs.declared.outcome.Outcome.TheVariants.{Done as done_as, Aborted as aborted_as}
 use Rattle.hg_push.specs.declared.outcome.Standing.{Standing}
-use Rattle.hg_push.specs.declared.outcome.Standing.TheVariants.{Open as is_open_now, Done as is_done_now, Aborted as is_aborted_now}
+use Rattle.hg_push.specs.declared.outcome.Standing.TheVariants.{Open as is_open_now, Done as is_done_now}
+use Rattle.hg_push.specs.declared.outcome.Standing.TheVariants.{Aborted as is_aborted_now}
 use Rattle.hg_push.specs.declared.row.State.{State}
 use Rattle.hg_push.specs.declared.row.State.TheVariants.{Open, Closed}
 use Rattle.hg_push.specs.declared.row.Row.{Row}
@@ -34,7 +37,8 @@ IsShut {A} {D} {E} p rows = (r : Row D E A) → row_of p rows ≡ Some r → is_
 
 -- the first row of p is at this place, and is open
 abbrev pub IsOpenAt : {A D E : Type 0} → ℕ → List (Row D E A) → ℕ → Type 0
-IsOpenAt {A} {D} {E} p rows i = (position (λ r. r.push == p) rows ≡ Some i) × ((r : Row D E A) → r ≡ slice_index_or rows i r → is_open r.state ≡ true)
+IsOpenAt {A} {D} {E} p rows i = (position (λ r. r.push == p) rows ≡ Some i)
+    × ((r : Row D E A) → r ≡ slice_index_or rows i r → is_open r.state ≡ true)
 
 -- the list that is staged of a push stands for these parts: each may have been made of the one in its place
 abbrev pub Stages : {A : Type 0} → List (Prepared A) → List (Part A) → Type 0
@@ -57,7 +61,8 @@ is_no_memory WrongIndex = false
 is_no_memory (Cut reason) = false
 
 -- how a push with these parts ends at an end mark with this index, and what it leaves of the repository
-abbrev pub EndsAs : {A R D E : Type 0} → Running A R D E → R → List (Part A) → ℕ → Result D (Reason E) → R → Type 0
+abbrev pub EndsAs : {A R D E : Type 0} → Running A R D E → R → List (Part A) → ℕ → Result D (Reason E) → R →
+    Type 0
 EndsAs run old ps index (Ok done) new = (index ≡ length ps) × (run old ps ≡ Ok (new, done))
 EndsAs run old ps index (Err NoMemory) new = (index ≡ length ps) × (new ≡ old)
 EndsAs run old ps index (Err (Refused e)) new = (index ≡ length ps) × (run old ps ≡ Err e) × (new ≡ old)
@@ -65,13 +70,15 @@ EndsAs run old ps index (Err WrongIndex) new = (index ≢ length ps) × (new ≡
 EndsAs run old ps index (Err (Cut reason)) new = ⊥
 
 -- What a place does to its row, which is open with these parts, and to the state.
-pub record StepsWith {A R D E : Type 0} (run : Running A R D E) (old : Serial R) (row : Row D E A) (ps : List (Part A)) (x : Taken A) (new : Serial R) (row' : Row D E A) : Type 0 where
+pub record StepsWith {A R D E : Type 0} (run : Running A R D E) (old : Serial R) (row : Row D E A)
+    (ps : List (Part A)) (x : Taken A) (new : Serial R) (row' : Row D E A) : Type 0 where
   pub may : x.refused ≡ true → takes_memory (length ps) x.item.index x.item.what ≡ true
   pub state : new ≡ kept old row.push (decided run old.repo ps x)
   pub told : TellsState (parts_after ps x) (told (decided run old.repo ps x)) row'.state
 
 -- The same, whatever parts the staged list stands for.
-pub record StepsRow {A R D E : Type 0} (run : Running A R D E) (old : Serial R) (row : Row D E A) (x : Taken A) (new : Serial R) (row' : Row D E A) : Type 0 where
+pub record StepsRow {A R D E : Type 0} (run : Running A R D E) (old : Serial R) (row : Row D E A)
+    (x : Taken A) (new : Serial R) (row' : Row D E A) : Type 0 where
   pub push : row'.push ≡ row.push
   pub steps : (ps : List (Part A)) → Stages (staged_in row.state) ps → StepsWith run old row ps x new row'
 
@@ -87,7 +94,8 @@ standing_in (Closed outcome) = standing_of (Some outcome)
 
 -- the first row of p is at this place, and is closed
 abbrev pub IsClosedAt : {A D E : Type 0} → ℕ → List (Row D E A) → ℕ → Type 0
-IsClosedAt {A} {D} {E} p rows i = (position (λ r. r.push == p) rows ≡ Some i) × ((r : Row D E A) → r ≡ slice_index_or rows i r → is_open r.state ≡ false)
+IsClosedAt {A} {D} {E} p rows i = (position (λ r. r.push == p) rows ≡ Some i)
+    × ((r : Row D E A) → r ≡ slice_index_or rows i r → is_open r.state ≡ false)
 
 abbrev pub ending_in : {A D E : Type 0} → State D E A → Option (Outcome D E)
 ending_in (Open staged) = None

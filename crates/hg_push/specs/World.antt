@@ -1,5 +1,6 @@
 -- A queue between the senders of many pushes and the one who takes, over every list of events.
-use Rattle.std.specs.Prelude.{ℕ, Bool, ◌==◌, ◌&&◌, not, nat_lt, List, [], ◌∷◌, ◌++◌, length, filter, if◌then◌else◌}
+use Rattle.std.specs.Prelude.{ℕ, Bool, ◌==◌, ◌&&◌, not, nat_lt, List, [], ◌∷◌, ◌++◌, length, filter}
+use Rattle.std.specs.Prelude.{if◌then◌else◌}
 use Rattle.std.specs.List.{list_any, flat_map}
 use Rattle.hg_types.specs.declared.part.Part.{Part}
 use Rattle.hg_types.specs.declared.item.What.{What}
@@ -43,11 +44,17 @@ abbrev pub next_item : {A : Type 0} → World A → ℕ → What A → Item A
 next_item w p what = record { push = p; index = length (all_parts (w.puts p)); what = what }
 
 abbrev pub put : {A : Type 0} → World A → Item A → World A
-put w item = record w { queue = w.queue ++ item ∷ []; puts = λ q. if item.push == q then w.puts q ++ item ∷ [] else w.puts q }
+put w item = record w {
+  queue = w.queue ++ item ∷ [];
+  puts = λ q. if item.push == q then w.puts q ++ item ∷ [] else w.puts q;
+}
 
 abbrev pub take_first : {A : Type 0} → World A → Bool → List (Item A) → World A
 take_first w refused [] = w
-take_first w refused (item ∷ rest) = record w { queue = rest; history = record { item = item; refused = refused && may_refuse w.history item } ∷ w.history }
+take_first w refused (item ∷ rest) = record w {
+  queue = rest;
+  history = record { item = item; refused = refused && may_refuse w.history item } ∷ w.history;
+}
 
 -- An event that is not allowed changes nothing: a put into a full queue is one.
 abbrev pub happens : {A : Type 0} → World A → Event A → World A

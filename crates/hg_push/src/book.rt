@@ -1,6 +1,8 @@
 //! The book: openings, steps and replies.
 
-ghost use Rattle.std.specs.Prelude.{◌≡◌, ◌≢◌, ◌<◌, ◌+◌, ◌≤◌, ◌^◌, ◌==◌, ◌++◌, ◌∷◌, ◌↔◌, List, ℕ, [], length, true, false, IsTrue, IsNone, IfNone, IfSome, IsSome, IfOk, OnOk, OnErr, IsErrOf, ◌-◌, Some, None, if◌then◌else◌};
+ghost use Rattle.std.specs.Prelude.{◌≡◌, ◌≢◌, ◌<◌, ◌+◌, ◌≤◌, ◌^◌, ◌==◌, ◌++◌, ◌∷◌, ◌↔◌, List, ℕ, [], length};
+ghost use Rattle.std.specs.Prelude.{true, false, IsTrue, IsNone, IfNone, IfSome, IsSome, IfOk, OnOk, OnErr};
+ghost use Rattle.std.specs.Prelude.{IsErrOf, ◌-◌, Some, None, if◌then◌else◌};
 ghost use Rattle.hg_push.specs.History.{History, serial, outcome};
 ghost use Rattle.hg_push.specs.Book.{Holds, IsSameOpenings, is_opened, stepped, Opens};
 ghost use Rattle.hg_push.specs.Calls.{Follows, course_of_new};
@@ -79,11 +81,13 @@ impl<A: Allocator + Copy> Book<A> {
     pub fn new(alloc: A, repo: Repo<A>) -> Self
         ensures repo { result.repo ≡ repo }
         ensures journal { result.journal ≡ [] }
-        ensures numbers { (result.first_push ≡ repo.settings.first_push) × (result.next ≡ repo.settings.first_push) }
+        ensures numbers { (result.first_push ≡ repo.settings.first_push)
+            × (result.next ≡ repo.settings.first_push) }
         ensures limit { result.limit ≡ repo.settings.limits.rows }
         ensures rows { result.rows ≡ [] }
         ensures holds { Holds run_push repo [] result }
-        ensures follows { Follows run_push repo (course_of_new repo.settings.first_push repo.settings.limits.rows) result }
+        ensures follows { Follows run_push repo
+            (course_of_new repo.settings.first_push repo.settings.limits.rows) result }
     {
         let first_push = repo.settings().first_push;
         let limit = repo.settings().limits.rows;
@@ -100,7 +104,8 @@ impl<A: Allocator + Copy> Book<A> {
     /// What is known of the number, also after its reply was taken. It takes no memory.
     pub fn standing(&self, push: u32) -> Standing
         ensures unknown { is_opened self.now push ≡ false → result ≡ Standing.Unknown }
-        ensures opened { (first : RepositoryOf A) (h : History A) → Holds run_push first h self.now → is_opened self.now push ≡ true →
+        ensures opened { (first : RepositoryOf A) (h : History A) → Holds run_push first h self.now →
+            is_opened self.now push ≡ true →
             result ≡ standing_of (outcome run_push first push h) }
     {
         if push < self.first_push || push >= self.next {
@@ -118,15 +123,17 @@ impl<A: Allocator + Copy> Book<A> {
         }
     }
 
-    /// Opens the next push: gives its number, and makes its row and its place in the journal, so that no later
-    /// step needs memory to close it. An `Err` changes nothing that contracts see.
+    /// Opens the next push: gives its number, and makes its row and its place in the journal, so that no
+    /// later step needs memory to close it. An `Err` changes nothing that contracts see.
     pub fn open(&mut self) -> Result<u32, OpenFault>
         ensures ok { IfOk result (λ p. Opens self.old p self.new) }
         ensures opened { IfOk result (λ p. is_opened self.new p ≡ true) }
         ensures err { OnErr result (self.new ≡ self.old) }
         ensures too_many { IsErrOf result OpenFault.TooManyOpen ↔ (self.old.limit ≤ length self.old.rows) }
-        ensures exhausted { IsErrOf result OpenFault.Exhausted ↔ ((length self.old.rows < self.old.limit) × (self.old.next ≡ 2 ^ 32 - 1)) }
-        ensures holds { (first : RepositoryOf A) (h : History A) → Holds run_push first h self.old → Holds run_push first h self.new }
+        ensures exhausted { IsErrOf result OpenFault.Exhausted ↔
+            ((length self.old.rows < self.old.limit) × (self.old.next ≡ 2 ^ 32 - 1)) }
+        ensures holds { (first : RepositoryOf A) (h : History A) → Holds run_push first h self.old →
+            Holds run_push first h self.new }
     {
         if self.rows.len() >= self.limit as usize {
             return Err(OpenFault::TooManyOpen);
@@ -179,11 +186,14 @@ impl<A: Allocator + Copy> Book<A> {
     pub fn take_reply(&mut self, push: u32) -> Option<Outcome<Done<A>, Refusal<A>>>
         ensures reply { result ≡ reply_in (row_of push self.old.rows) }
         ensures none { IfNone result (self.new ≡ self.old) }
-        ensures some { IfSome result (λ _. self.new ≡ record self.old { rows = rows_without push self.old.rows }) }
-        ensures answer { (first : RepositoryOf A) (h : History A) → Holds run_push first h self.old → IsSome (row_of push self.old.rows) →
+        ensures some { IfSome result (λ _. self.new
+            ≡ record self.old { rows = rows_without push self.old.rows }) }
+        ensures answer { (first : RepositoryOf A) (h : History A) → Holds run_push first h self.old →
+            IsSome (row_of push self.old.rows) →
             result ≡ outcome run_push first push h }
         ensures told { IfSome result CanBeTold }
-        ensures holds { (first : RepositoryOf A) (h : History A) → Holds run_push first h self.old → Holds run_push first h self.new }
+        ensures holds { (first : RepositoryOf A) (h : History A) → Holds run_push first h self.old →
+            Holds run_push first h self.new }
     {
         let at = closed_place(self.rows.as_slice(), push)?;
         let row = self.rows.remove(at);

@@ -31,8 +31,10 @@ pub fn make_call<A: Allocator + Copy>(
     book: &mut Book<A>,
     call: Call<A>,
 ) -> Answer<Done<A>, Refusal<A>>
-    ensures right { (first : RepositoryOf A) (c : Course A) → Follows run_push first c book.old → IsAnswer run_push first c call result }
-    ensures follows { (first : RepositoryOf A) (c : Course A) → Follows run_push first c book.old → Follows run_push first (after_call c call result) book.new }
+    ensures right { (first : RepositoryOf A) (c : Course A) → Follows run_push first c book.old →
+        IsAnswer run_push first c call result }
+    ensures follows { (first : RepositoryOf A) (c : Course A) → Follows run_push first c book.old →
+        Follows run_push first (after_call c call result) book.new }
 {
     match call {
         Call::Open => Answer::Opened(book.open()),
@@ -48,8 +50,10 @@ pub fn make_calls<A: Allocator + Copy>(
     book: &mut Book<A>,
     calls: Vec<Call<A>, A>,
 ) -> Result<Vec<Answer<Done<A>, Refusal<A>>, A>, NoMemory>
-    ensures right { (first : RepositoryOf A) (c : Course A) → Follows run_push first c book.old → IfOk result (λ answers. AreAnswers run_push first c calls.items answers.items) }
-    ensures follows { (first : RepositoryOf A) (c : Course A) → Follows run_push first c book.old → IfOk result (λ answers. Follows run_push first (after_calls c calls.items answers.items) book.new) }
+    ensures right { (first : RepositoryOf A) (c : Course A) → Follows run_push first c book.old →
+        IfOk result (λ answers. AreAnswers run_push first c calls.items answers.items) }
+    ensures follows { (first : RepositoryOf A) (c : Course A) → Follows run_push first c book.old →
+        IfOk result (λ answers. Follows run_push first (after_calls c calls.items answers.items) book.new) }
     ensures err { OnErr result (book.new ≡ book.old) }
 {
     let mut answers = Vec::with_capacity(alloc, calls.len())?;

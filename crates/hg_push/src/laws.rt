@@ -1,8 +1,9 @@
-//! What holds over every list of events, and of every history. The functions do nothing: each contract is a law of
-//! the definitions that `Book` is proved to keep. A law on the world or on a history without some of its places
-//! also says what these definitions do, so that none of them can be empty.
+//! What holds over every list of events, and of every history. The functions do nothing: each contract is a
+//! law of the definitions that `Book` is proved to keep. A law on the world or on a history without some of
+//! its places also says what these definitions do, so that none of them can be empty.
 
-ghost use Rattle.std.specs.Prelude.{◌≡◌, ◌≢◌, ◌<◌, ◌≤◌, ◌^◌, ◌++◌, ◌∷◌, ◌&&◌, ◌↔◌, [], ℕ, Bool, List, Some, IsSome, IsTrue, count_by, length, ◌==◌, true, false, if◌then◌else◌};
+ghost use Rattle.std.specs.Prelude.{◌≡◌, ◌≢◌, ◌<◌, ◌≤◌, ◌^◌, ◌++◌, ◌∷◌, ◌&&◌, ◌↔◌, [], ℕ, Bool, List, Some};
+ghost use Rattle.std.specs.Prelude.{IsSome, IsTrue, count_by, length, ◌==◌, true, false, if◌then◌else◌};
 ghost use Rattle.std.specs.List.{AllByRecursion, range_with_len};
 ghost use mathlib.Core.List.{IsPrefix};
 ghost use Rattle.hg_types.specs.declared.item.CutReason.{CutReason};
@@ -10,13 +11,16 @@ ghost use Rattle.hg_types.specs.declared.item.Item.{Item};
 ghost use Rattle.hg_types.specs.declared.item.Taken.{Taken as TakenItem};
 ghost use Rattle.hg_types.specs.declared.item.What.{What};
 ghost use Rattle.hg_types.specs.declared.item.What.TheVariants.{End, Cut};
-ghost use Rattle.hg_push.specs.History.{History, IsClosing, IsHistory, decided, is_closed, is_mark, may_refuse, outcome, parts, serial, told};
+ghost use Rattle.hg_push.specs.History.{History, IsClosing, IsHistory, decided, is_closed, is_mark};
+ghost use Rattle.hg_push.specs.History.{may_refuse, outcome, parts, serial, told};
 ghost use Rattle.hg_push.specs.Changed.{OneByOne, RanInTurn, is_done, trimmed, without};
-ghost use Rattle.hg_push.specs.World.{Event, World, all_parts, happens, has_opened, items_in, items_of, next_item, run_all, start};
+ghost use Rattle.hg_push.specs.World.{Event, World, all_parts, happens, has_opened, items_in, items_of};
+ghost use Rattle.hg_push.specs.World.{next_item, run_all, start};
 ghost use Rattle.hg_push.specs.Complete.{IsComplete, IsOrderly};
 ghost use Rattle.hg_parts.specs.declared.refusal.Refusal.{Refusal as AnyRefusal};
 ghost use Rattle.hg_parts.specs.Repository.{IsLawful};
 ghost use Rattle.hg_repo.specs.declared.done.Done.{Done};
+ghost use Rattle.hg_repo.specs.Run.{HaveBytes};
 ghost use Rattle.hg_push.specs.Book.{Holds};
 ghost use Rattle.hg_push.specs.Lengths.{greatest_reply, most_parts};
 ghost use Rattle.hg_push.specs.Reply.{CanBeTold, reply_of};
@@ -27,6 +31,7 @@ use crate::book::Book;
 use crate::outcome::Outcome;
 use hg_repo::laws::{
     done_runs_handle_all, done_runs_leave_few_replies, every_repository_is_lawful,
+    runs_keep_repositories_lawful,
 };
 use hg_stream::laws::bundles_of_bare_parts_are_short;
 use std::alloc::Allocator;
@@ -35,68 +40,83 @@ use std::alloc::Allocator;
 pub fn taken_once<A: Allocator>()
     ensures in_order { (capacity : ℕ) (events : List (Event A)) (p : ℕ) →
         let w = run_all events (start capacity) in items_of p (items_in w.history ++ w.queue) ≡ w.puts p }
-    ensures legal { (capacity : ℕ) (events : List (Event A)) → IsHistory (run_all events (start capacity)).history }
+    ensures legal { (capacity : ℕ) (events : List (Event A)) →
+        IsHistory (run_all events (start capacity)).history }
 {}
 
-/// What the events of the world do: an opening opens its push, a put of an opened push without a mark is enqueued
-/// where the queue has room and else changes nothing, and a take moves the first item into the history. The queue is
-/// never longer than its capacity, and only opened pushes have items.
+/// What the events of the world do: an opening opens its push, a put of an opened push without a mark is
+/// enqueued where the queue has room and else changes nothing, and a take moves the first item into the
+/// history. The queue is never longer than its capacity, and only opened pushes have items.
 pub fn events_happen<A: Allocator>()
     ensures opened { (w : World A) (p : ℕ) → has_opened (happens w (Event.Open p)) p ≡ true }
     ensures queued { (w : World A) (p : ℕ) (what : What A) → has_opened w p ≡ true →
         AllByRecursion (λ item. is_mark item.what ≡ false) (w.puts p) → length w.queue < w.capacity →
         let item = next_item w p what in let new = happens w (Event.Put p what) in
         (new.queue ≡ w.queue ++ item ∷ []) × (new.puts p ≡ w.puts p ++ item ∷ []) }
-    ensures full { (w : World A) (p : ℕ) (what : What A) → w.capacity ≤ length w.queue → happens w (Event.Put p what) ≡ w }
-    ensures taken { (w : World A) (item : Item A) (rest : List (Item A)) (refused : Bool) → w.queue ≡ item ∷ rest →
+    ensures full { (w : World A) (p : ℕ) (what : What A) → w.capacity ≤ length w.queue →
+        happens w (Event.Put p what) ≡ w }
+    ensures taken { (w : World A) (item : Item A) (rest : List (Item A)) (refused : Bool) →
+        w.queue ≡ item ∷ rest →
         let new = happens w (Event.Take refused) in (new.queue ≡ rest)
         × (new.history ≡ record { item = item; refused = refused && may_refuse w.history item } ∷ w.history) }
-    ensures bounded { (capacity : ℕ) (events : List (Event A)) → length (run_all events (start capacity)).queue ≤ capacity }
+    ensures bounded { (capacity : ℕ) (events : List (Event A)) →
+        length (run_all events (start capacity)).queue ≤ capacity }
     ensures unopened { (capacity : ℕ) (events : List (Event A)) (p : ℕ) →
         let w = run_all events (start capacity) in has_opened w p ≡ false → w.puts p ≡ [] }
 {}
 
-/// Memory is refused only for an item of a push that is open, for no cut, and for an end mark only where its index is
-/// the number of the push's parts.
+/// Memory is refused only for an item of a push that is open, for no cut, and for an end mark only where its
+/// index is the number of the push's parts.
 pub fn refusals_are_due<A: Allocator>()
-    ensures was_open { (late before : History A) (x : TakenItem A) → IsHistory (late ++ x ∷ before) → x.refused ≡ true →
+    ensures was_open { (late before : History A) (x : TakenItem A) → IsHistory (late ++ x ∷ before) →
+        x.refused ≡ true →
         is_closed x.item.push before ≡ false }
-    ensures no_cut { (late before : History A) (x : TakenItem A) (reason : CutReason) → IsHistory (late ++ x ∷ before) →
+    ensures no_cut { (late before : History A) (x : TakenItem A) (reason : CutReason) →
+        IsHistory (late ++ x ∷ before) →
         x.refused ≡ true → x.item.what ≢ Cut reason }
-    ensures right_index { (late before : History A) (x : TakenItem A) → IsHistory (late ++ x ∷ before) → x.refused ≡ true →
+    ensures right_index { (late before : History A) (x : TakenItem A) → IsHistory (late ++ x ∷ before) →
+        x.refused ≡ true →
         x.item.what ≡ End → x.item.index ≡ length (parts x.item.push before) }
 {}
 
-/// Nothing of a push after the place that closed it counts. What is left out is exactly that: up to the closing place
-/// the push keeps its items, and other pushes keep all of theirs.
+/// Nothing of a push after the place that closed it counts. What is left out is exactly that: up to the
+/// closing place the push keeps its items, and other pushes keep all of theirs.
 pub fn nothing_after<A: Allocator>()
-    ensures state { (first : RepositoryOf A) (p : ℕ) (h : History A) → serial run_push first (trimmed p h) ≡ serial run_push first h }
-    ensures outcomes { (first : RepositoryOf A) (p q : ℕ) (h : History A) → outcome run_push first q (trimmed p h) ≡ outcome run_push first q h }
+    ensures state { (first : RepositoryOf A) (p : ℕ) (h : History A) →
+        serial run_push first (trimmed p h) ≡ serial run_push first h }
+    ensures outcomes { (first : RepositoryOf A) (p q : ℕ) (h : History A) →
+        outcome run_push first q (trimmed p h) ≡ outcome run_push first q h }
     ensures left { (p : ℕ) (late before : History A) (x : TakenItem A) → IsClosing p x before →
         items_of p (items_in (trimmed p (late ++ x ∷ before))) ≡ items_of p (items_in (x ∷ before)) }
-    ensures others { (p q : ℕ) (h : History A) → q ≢ p → items_of q (items_in (trimmed p h)) ≡ items_of q (items_in h) }
+    ensures others { (p q : ℕ) (h : History A) → q ≢ p →
+        items_of q (items_in (trimmed p h)) ≡ items_of q (items_in h) }
 {}
 
 /// A push is closed exactly where it has an outcome.
 pub fn closed_pushes_have_ended<A: Allocator>()
-    ensures { (first : RepositoryOf A) (p : ℕ) (h : History A) → IsTrue (is_closed p h) ↔ IsSome (outcome run_push first p h) }
+    ensures { (first : RepositoryOf A) (p : ℕ) (h : History A) → IsTrue (is_closed p h) ↔
+        IsSome (outcome run_push first p h) }
 {}
 
-/// A push is answered by the place that closed it, on the repository of that moment. What is taken later changes its
-/// answer no more.
+/// A push is answered by the place that closed it, on the repository of that moment. What is taken later
+/// changes its answer no more.
 pub fn answered_where_closed<A: Allocator>()
-    ensures { (first : RepositoryOf A) (p : ℕ) (late before : History A) (x : TakenItem A) → IsClosing p x before →
-        outcome run_push first p (late ++ x ∷ before) ≡ told (decided run_push (serial run_push first before).repo (parts p before) x) }
+    ensures { (first : RepositoryOf A) (p : ℕ) (late before : History A) (x : TakenItem A) →
+        IsClosing p x before →
+        outcome run_push first p (late ++ x ∷ before)
+        ≡ told (decided run_push (serial run_push first before).repo (parts p before) x) }
 {}
 
-/// The reply to a push has fewer than 2^32 bytes, where the push has at most 10,000 parts. A push that is done left at
-/// most one reply for each of its parts, without a payload; that these can be written is what `Book::take_reply` says of
-/// an outcome that it hands out. The reply to an aborted push is one part without a payload, whatever parts the push had.
+/// The reply to a push has fewer than 2^32 bytes, where the push has at most 10,000 parts. A push that is
+/// done left at most one reply for each of its parts, without a payload; that these can be written is what
+/// `Book::take_reply` says of an outcome that it hands out. The reply to an aborted push is one part without
+/// a payload, whatever parts the push had.
 pub fn replies_are_short<A: Allocator>()
     ensures done { (first : RepositoryOf A) (p : ℕ) (h : History A) (done : Done A) →
         outcome run_push first p h ≡ Some (Outcome.Done done) → CanBeTold (Outcome.Done done) →
         length (parts p h) ≤ most_parts → length (reply_of (Outcome.Done done)) ≤ greatest_reply }
-    ensures aborted { (reason : AnyReason (AnyRefusal A)) → length (reply_of (Outcome.Aborted reason)) ≤ greatest_reply }
+    ensures aborted { (reason : AnyReason (AnyRefusal A)) →
+        length (reply_of (Outcome.Aborted reason)) ≤ greatest_reply }
     ensures fits { greatest_reply < 2 ^ 32 }
 {
     done_runs_leave_few_replies::<A>();
@@ -106,61 +126,86 @@ pub fn replies_are_short<A: Allocator>()
 /// The pushes of the journal, run one by one, lead to the repository, and to no other.
 pub fn one_by_one<A: Allocator>()
     ensures leads { (first : RepositoryOf A) (h : History A) →
-        OneByOne run_push (λ p. parts p h) first (serial run_push first h).journal (serial run_push first h).repo }
+        OneByOne run_push (λ p. parts p h) first (serial run_push first h).journal
+        (serial run_push first h).repo }
     ensures alone { (first last : RepositoryOf A) (h : History A) →
-        OneByOne run_push (λ p. parts p h) first (serial run_push first h).journal last → last ≡ (serial run_push first h).repo }
+        OneByOne run_push (λ p. parts p h) first (serial run_push first h).journal last →
+        last ≡ (serial run_push first h).repo }
 {}
 
-/// A push is told as done exactly where its number is in the journal, and it is there once. It ran in its turn: on the
-/// repository that the pushes before it in the journal give, with the answer that is told.
+/// A push is told as done exactly where its number is in the journal, and it is there once. It ran in its
+/// turn: on the repository that the pushes before it in the journal give, with the answer that is told.
 pub fn done_pushes_ran_in_turn<A: Allocator>()
     ensures once { (first : RepositoryOf A) (p : ℕ) (h : History A) →
-        count_by (λ q. q == p) (serial run_push first h).journal ≡ (if is_done (outcome run_push first p h) then 1 else 0) }
+        count_by (λ q. q == p) (serial run_push first h).journal
+        ≡ (if is_done (outcome run_push first p h) then 1 else 0) }
     ensures in_turn { (first : RepositoryOf A) (p : ℕ) (h : History A) (done : Done A) →
         outcome run_push first p h ≡ Some (Outcome.Done done) →
-        RanInTurn run_push (λ q. parts q h) first (serial run_push first h).journal (serial run_push first h).repo p done }
+        RanInTurn run_push (λ q. parts q h) first (serial run_push first h).journal
+        (serial run_push first h).repo p done }
 {}
 
-/// The repository that the done pushes of a book's history gave is lawful: ids agree with their hash, no changeset is in a
-/// lower phase than a parent, markers have their format, and each bookmark is on a known changeset.
+/// The repository that the done pushes of a book's history gave is lawful: ids agree with their hash, no
+/// changeset is in a lower phase than a parent, markers have their format, and each bookmark is on a known
+/// changeset.
 pub fn the_repository_is_lawful<A: Allocator + Copy>(book: &Book<A>)
-    ensures { (first : RepositoryOf A) (h : History A) → Holds run_push first h book.now → IsLawful (serial run_push first h).repo }
+    ensures { (first : RepositoryOf A) (h : History A) → Holds run_push first h book.now →
+        IsLawful (serial run_push first h).repo }
 {
     every_repository_is_lawful(book.repo());
 }
 
+/// The same by the definitions alone, of a history that no book holds too: where the first repository is
+/// lawful, as the empty one is, the done pushes lead to a lawful one. The payloads of their parts are bytes.
+pub fn done_pushes_keep_the_repository_lawful<A: Allocator>()
+    ensures { (first : RepositoryOf A) (h : History A) → IsLawful first → ((p : ℕ) → HaveBytes (parts p h)) →
+        IsLawful (serial run_push first h).repo }
+{
+    runs_keep_repositories_lawful::<A>();
+}
+
 /// A push that is not done changes nothing. What is left out is all its items, and no other.
 pub fn aborted_changes_nothing<A: Allocator>()
-    ensures state { (first : RepositoryOf A) (p : ℕ) (h : History A) → is_done (outcome run_push first p h) ≡ false →
+    ensures state { (first : RepositoryOf A) (p : ℕ) (h : History A) →
+        is_done (outcome run_push first p h) ≡ false →
         serial run_push first (without p h) ≡ serial run_push first h }
-    ensures outcomes { (first : RepositoryOf A) (p q : ℕ) (h : History A) → q ≢ p → is_done (outcome run_push first p h) ≡ false →
+    ensures outcomes { (first : RepositoryOf A) (p q : ℕ) (h : History A) → q ≢ p →
+        is_done (outcome run_push first p h) ≡ false →
         outcome run_push first q (without p h) ≡ outcome run_push first q h }
     ensures gone { (p : ℕ) (h : History A) → items_of p (items_in (without p h)) ≡ [] }
-    ensures others { (p q : ℕ) (h : History A) → q ≢ p → items_of q (items_in (without p h)) ≡ items_of q (items_in h) }
+    ensures others { (p q : ℕ) (h : History A) → q ≢ p →
+        items_of q (items_in (without p h)) ≡ items_of q (items_in h) }
 {}
 
 /// A push that is answered as done had all parts that its sender put, and they were run in that order; its
 /// last item was its end mark. Each part was handled exactly once: the answer tells their places `0, 1, ..`.
 pub fn done_had_all<A: Allocator>()
-    ensures complete { (capacity : ℕ) (events : List (Event A)) (first : RepositoryOf A) (p : ℕ) (done : Done A) →
-        let w = run_all events (start capacity) in outcome run_push first p w.history ≡ Some (Outcome.Done done) →
+    ensures complete { (capacity : ℕ) (events : List (Event A)) (first : RepositoryOf A) (p : ℕ)
+        (done : Done A) →
+        let w = run_all events (start capacity) in outcome run_push first p w.history
+        ≡ Some (Outcome.Done done) →
         IsComplete (w.puts p) (parts p w.history) }
-    ensures handled { (capacity : ℕ) (events : List (Event A)) (first : RepositoryOf A) (p : ℕ) (done : Done A) →
-        let w = run_all events (start capacity) in outcome run_push first p w.history ≡ Some (Outcome.Done done) →
+    ensures handled { (capacity : ℕ) (events : List (Event A)) (first : RepositoryOf A) (p : ℕ)
+        (done : Done A) →
+        let w = run_all events (start capacity) in outcome run_push first p w.history
+        ≡ Some (Outcome.Done done) →
         done.handled ≡ range_with_len 0 (length (all_parts (w.puts p))) }
 {
     // its run was done, and so handled each part once
     done_runs_handle_all::<A>();
 }
 
-/// The same of any history, as of one that threads made: it need not come of a list of events. Where it has, of the
-/// push, the first items of a list that is in order, and the push is done, it has the whole list.
+/// The same of any history, as of one that threads made: it need not come of a list of events. Where it has,
+/// of the push, the first items of a list that is in order, and the push is done, it has the whole list.
 pub fn done_had_all_of_its_list<A: Allocator>()
-    ensures complete { (first : RepositoryOf A) (p : ℕ) (h : History A) (put : List (Item A)) (done : Done A) →
-        IsOrderly 0 put → IsPrefix (items_of p (items_in h)) put → outcome run_push first p h ≡ Some (Outcome.Done done) →
+    ensures complete { (first : RepositoryOf A) (p : ℕ) (h : History A) (put : List (Item A))
+        (done : Done A) →
+        IsOrderly 0 put → IsPrefix (items_of p (items_in h)) put →
+        outcome run_push first p h ≡ Some (Outcome.Done done) →
         (items_of p (items_in h) ≡ put) × IsComplete put (parts p h) }
     ensures handled { (first : RepositoryOf A) (p : ℕ) (h : History A) (put : List (Item A)) (done : Done A) →
-        IsOrderly 0 put → IsPrefix (items_of p (items_in h)) put → outcome run_push first p h ≡ Some (Outcome.Done done) →
+        IsOrderly 0 put → IsPrefix (items_of p (items_in h)) put →
+        outcome run_push first p h ≡ Some (Outcome.Done done) →
         done.handled ≡ range_with_len 0 (length (all_parts put)) }
 {
     done_runs_handle_all::<A>();

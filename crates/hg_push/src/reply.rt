@@ -2,7 +2,9 @@
 
 ghost use Rattle.std.specs.Prelude.{◌≡◌, ◌≢◌, [], ◌∷◌, take, IfOk};
 ghost use Rattle.std.specs.List.{join_with_byte};
-ghost use Rattle.hg_push.specs.Reply.{CanBeTold, abort_part, cut_part, error_part, key_part, race_part, reason_part, refusal_part, reply_of, telling, unknown_params, unsupported_part};
+ghost use Rattle.hg_push.specs.Reply.{CanBeTold, abort_part, cut_part, error_part, key_part, race_part};
+ghost use Rattle.hg_push.specs.Reply.{reason_part, refusal_part, reply_of, telling, unknown_params};
+ghost use Rattle.hg_push.specs.Reply.{unsupported_part};
 
 use crate::outcome::{Outcome, Reason};
 use hg_keys::KeyCall;

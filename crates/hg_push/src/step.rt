@@ -1,13 +1,16 @@
-//! One step: what an item does to the row of its push, to the repository and to the journal. What stages a part is written into
-//! its callers, and what closes a push is not: most items are parts.
+//! One step: what an item does to the row of its push, to the repository and to the journal. What stages a
+//! part is written into its callers, and what closes a push is not: most items are parts.
 
-ghost use Rattle.std.specs.Prelude.{List, ◌≡◌, ◌≢◌, ◌<◌, ◌+◌, ◌≤◌, ◌^◌, ◌==◌, ◌++◌, ◌∷◌, [], length, true, position, IfNone, IfOk, IfSome, IsTrue, IsNone, None, Some, cond, vec_len, vec_capacity};
+ghost use Rattle.std.specs.Prelude.{List, ◌≡◌, ◌≢◌, ◌<◌, ◌+◌, ◌≤◌, ◌^◌, ◌==◌, ◌++◌, ◌∷◌, [], length, true};
+ghost use Rattle.std.specs.Prelude.{position, IfNone, IfOk, IfSome, IsTrue, IsNone, None, Some, cond};
+ghost use Rattle.std.specs.Prelude.{vec_len, vec_capacity};
 ghost use Rattle.std.specs.Bool.{OnTrue, OnFalse};
 ghost use Rattle.std.specs.List.{list_any};
 ghost use Rattle.std.specs.Prelude.{if◌then◌else◌, false};
 ghost use Rattle.hg_types.specs.declared.part.Part.{Part as AnyPart};
 ghost use Rattle.hg_push.specs.History.{Serial};
-ghost use Rattle.hg_push.specs.Rows.{AreInOrder, EndsAs, IsClosedAt, IsOpenAt, IsShut, Stages, StepsRow, is_no_memory, is_open};
+ghost use Rattle.hg_push.specs.Rows.{AreInOrder, EndsAs, IsClosedAt, IsOpenAt, IsShut, Stages, StepsRow};
+ghost use Rattle.hg_push.specs.Rows.{is_no_memory, is_open};
 ghost use Rattle.hg_push.specs.Rows.{reply_in, row_of, staged_in, standing_in};
 ghost use Rattle.hg_push.specs.Run.{RepositoryOf, run_push};
 ghost use Rattle.hg_push.specs.Reply.{CanBeSent, KeepsTellable};
@@ -19,8 +22,8 @@ use hg_types::{NoMemory, Part, Seq, What};
 use std::alloc::Allocator;
 use std::mem;
 
-/// The place of the push's row, among rows in the order of their numbers. Where no row between the first one and the push's
-/// was taken away, it is the distance of their numbers; else it is searched by halves.
+/// The place of the push's row, among rows in the order of their numbers. Where no row between the first one
+/// and the push's was taken away, it is the distance of their numbers; else it is searched by halves.
 #[inline(always)]
 pub fn place_of<D, E, A: Allocator>(rows: &[Row<D, E, A>], push: u32) -> Option<usize>
     requires { AreInOrder rows.now }
@@ -111,7 +114,8 @@ pub fn end<A: Allocator + Copy>(
     staged: Seq<Prepared<A>, A>,
     index: u32,
 ) -> Result<Done<A>, Reason<Refusal<A>>>
-    ensures ends { (parts : List (AnyPart A)) → Stages staged parts → EndsAs run_push repo.old parts index result repo.new }
+    ensures ends { (parts : List (AnyPart A)) → Stages staged parts →
+        EndsAs run_push repo.old parts index result repo.new }
     ensures sent { IfOk result (λ done. CanBeSent done.replies) }
 {
     if index as usize != staged.len() {
@@ -133,8 +137,9 @@ fn close<D: Drop, E: Drop, A: Allocator>(row: &mut Row<D, E, A>, outcome: Outcom
     row.state = State::Closed(outcome);
 }
 
-/// How many parts a staged list asks for room for with its first one: about as many as most pushes have, so that their
-/// lists are moved seldom while they grow. A part takes 112 bytes there, and so little room is given back fast.
+/// How many parts a staged list asks for room for with its first one: about as many as most pushes have, so
+/// that their lists are moved seldom while they grow. A part takes 112 bytes there, and so little room is
+/// given back fast.
 const FIRST_ROOM: usize = 9;
 
 /// Prepares a part and adds it to an open push, or aborts the push where memory is refused for either.
@@ -148,7 +153,10 @@ fn stage<A: Allocator + Copy>(
 ) -> bool
     requires { is_open row.old.state ≡ true }
     ensures steps { (old : Serial (RepositoryOf A)) → StepsRow run_push old row.old
-        (record { item = record { push = row.old.push; index = index; what = What.Part part }; refused = result }) old row.new }
+        (record {
+          item = record { push = row.old.push; index = index; what = What.Part part };
+          refused = result;
+        }) old row.new }
     ensures told { KeepsTellable row.new.state }
 {
     match prepare(alloc, part) {

@@ -39,8 +39,8 @@ fn is_handed_out<A: Allocator + Copy>(book: Book<A>, push: u32) -> bool {
     journal.as_slice() == [push].as_slice() && !repo.settings().publishing
 }
 
-/// A0 B0 A1 B1 B end A end, where the second part of A is a race on heads, and that of B is none. The items are clones, and
-/// an advisory parameter of B's first part is ignored.
+/// A0 B0 A1 B1 B end A end, where the second part of A is a race on heads, and that of B is none. The items
+/// are clones, and an advisory parameter of B's first part is ignored.
 #[test]
 fn two_pushes_interleaved(rt: HostRuntime) -> Result<(), Fail> {
     let state = RandomState::new(&rt)?;
@@ -107,7 +107,8 @@ fn last_push_number(rt: HostRuntime) -> Result<(), Fail> {
     Ok(())
 }
 
-/// An end mark that counts too many parts, then items of a push that is closed and of one that was never opened.
+/// An end mark that counts too many parts, then items of a push that is closed and of one that was never
+/// opened.
 #[test]
 fn items_by_hand(rt: HostRuntime) -> Result<(), Fail> {
     let state = RandomState::new(&rt)?;

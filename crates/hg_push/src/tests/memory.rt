@@ -27,7 +27,8 @@ fn two_parts<A: Allocator + Copy>(alloc: A) -> Result<(Part<A>, Part<A>), NoMemo
     Ok((first, second))
 }
 
-/// Two pushes. Where memory is refused for the first part of one, it is aborted, its later items are dropped, and the other is done.
+/// Two pushes. Where memory is refused for the first part of one, it is aborted, its later items are dropped,
+/// and the other is done.
 fn first_part(heap: &LocalHeap, state: RandomState) -> First {
     let mut book = empty_book(heap, state);
     if book.open() != Ok(0) || book.open() != Ok(1) {
@@ -98,8 +99,8 @@ impl<'a> Blocks<'a> {
     }
 }
 
-/// Opens three pushes, ends the first, and puts a part into the second: push 0 is done, push 1 has one part, of a type that is
-/// not known, push 2 has none. It is false where memory was refused.
+/// Opens three pushes, ends the first, and puts a part into the second: push 0 is done, push 1 has one part,
+/// of a type that is not known, push 2 has none. It is false where memory was refused.
 fn begin<'a>(book: &mut Book<&'a LocalHeap>, heap: &'a LocalHeap) -> bool {
     let opened = book.open() == Ok(0) && book.open() == Ok(1) && book.open() == Ok(2);
     opened && end(book, 0, 0) && put(book, 1, 0, part(heap, b"FROB", b""))
@@ -224,8 +225,8 @@ fn put_many<'a>(book: &mut Book<&'a LocalHeap>, heap: &'a LocalHeap, push: u32) 
     all && free.saturating_sub(heap.free()) <= 224_000
 }
 
-/// As many open pushes as the limit allows, and one of them with 1,000 parts, over a heap of which half is never used:
-/// no growth is refused, so none is told.
+/// As many open pushes as the limit allows, and one of them with 1,000 parts, over a heap of which half is
+/// never used: no growth is refused, so none is told.
 #[test]
 fn near_the_limits(rt: HostRuntime) -> Result<(), Fail> {
     let state = RandomState::new(&rt)?;
@@ -246,8 +247,8 @@ fn leaves_memory<'a>(book: &mut Book<&'a LocalHeap>, heap: &'a LocalHeap) -> boo
     dropped && as_before && closed && tells_done(book, 0, 0) && heap.free() >= free
 }
 
-/// Where memory is to spare, what takes none leaves it: items that are dropped, closings and all that is asked. The
-/// first part of a push takes room for 9, of 144 bytes each over this heap.
+/// Where memory is to spare, what takes none leaves it: items that are dropped, closings and all that is
+/// asked. The first part of a push takes room for 9, of 144 bytes each over this heap.
 #[test]
 fn memory_is_left(rt: HostRuntime) -> Result<(), Fail> {
     let state = RandomState::new(&rt)?;

@@ -76,8 +76,9 @@ fn answered_with<A: Allocator + Copy>(
     }
 }
 
-/// A race in part 0 is told before a malformed part 1, though that was read before its turn: 64 bytes. With the race
-/// gone the malformed part is told: 66 bytes. The whole part is done, and there is no reply to tell: 12 bytes.
+/// A race in part 0 is told before a malformed part 1, though that was read before its turn: 64 bytes. With
+/// the race gone the malformed part is told: 66 bytes. The whole part is done, and there is no reply to tell:
+/// 12 bytes.
 #[test]
 fn a_race_before_a_malformed_part(rt: HostRuntime) -> Result<(), Fail> {
     let state = RandomState::new(&rt)?;
@@ -121,11 +122,16 @@ fn content_is_dropped(heap: &LocalHeap, state: RandomState) -> bool {
     opened && came && staged && left && end(&mut book, 0, 1) && tells_done(&mut book, 0, 1)
 }
 
-/// Over a heap with room for a push whose file has 60 MiB, and 4 MiB beside: the file is not kept.
+/// A push whose file has 60 MiB: the file is not kept, where there is room for a second one and where there
+/// is not.
 #[test]
 fn the_content_of_files_is_dropped(rt: HostRuntime) -> Result<(), Fail> {
     let state = RandomState::new(&rt)?;
-    let heap = LocalHeap::new(rt.alloc(), CONTENT + BESIDE)?;
-    assert!(rt; content_is_dropped(&heap, state));
+    let mut dropped = true;
+    for room in [BESIDE, CONTENT + BESIDE] {
+        let heap = LocalHeap::new(rt.alloc(), CONTENT + room)?;
+        dropped = content_is_dropped(&heap, state) && dropped;
+    }
+    assert!(rt; dropped);
     Ok(())
 }

@@ -140,7 +140,8 @@ fn many_short_names() -> [u8; 255] {
     names
 }
 
-/// The names of two unknown mandatory parameters, of 200 bytes each, are joined by NUL and cut after 255 bytes.
+/// The names of two unknown mandatory parameters, of 200 bytes each, are joined by NUL and cut after 255
+/// bytes.
 #[test]
 fn long_names_are_cut(rt: HostRuntime) -> Result<(), Fail> {
     let bytes = cut_names(rt.alloc(), &two_long_names())?;
