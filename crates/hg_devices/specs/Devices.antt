@@ -14,7 +14,8 @@ pub data WriteAnswer : Type 0 where
   Flushed : WriteAnswer
   NotFlushed : WriteAnswer
 
--- What a reader tells: the bytes that it has still to give, and how its reads went, in order. It may tell neither.
+-- What a reader tells: the bytes that it has still to give, and how its reads went, in order. It may tell
+-- neither.
 pub record Input : Type 0 where
   pub left : Option (List ℕ)
   pub reads : Option (List ReadAnswer)

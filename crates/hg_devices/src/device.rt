@@ -3,7 +3,8 @@
 ghost use Rattle.std.specs.Prelude.{◌≡◌, ◌<◌, Ok, None, length};
 ghost use Rattle.std.specs.Io.{ReadsAtMost, WritesAtMost};
 ghost use Rattle.std.specs.Io.KnownBytes.{IsAtEnd};
-ghost use Rattle.hg_devices.specs.Devices.{Input, Output, Reads, Uses, flush_answer, read_answer, write_answer};
+ghost use Rattle.hg_devices.specs.Devices.{Input, Output, Reads, Uses, flush_answer, read_answer};
+ghost use Rattle.hg_devices.specs.Devices.{write_answer};
 
 use std::io::{Read, Result, Write};
 

@@ -1,5 +1,6 @@
 -- The items of pushes, and histories of them.
-use Rattle.std.specs.Prelude.{◌≡◌, ℕ, ◌+◌, ◌==◌, ◌||◌, Bool, true, false, List, [], ◌∷◌, map, filter, MatchBool}
+use Rattle.std.specs.Prelude.{◌≡◌, ℕ, ◌+◌, ◌==◌, ◌||◌, Bool, true, false, List, [], ◌∷◌, map, filter}
+use Rattle.std.specs.Prelude.{MatchBool}
 use Rattle.hg_types.specs.declared.item.Item.{Item}
 use Rattle.hg_types.specs.declared.item.What.{What}
 use Rattle.hg_types.specs.declared.item.What.TheVariants.{Part as a_part, End, Cut}
@@ -23,7 +24,8 @@ module _ {A : Type 0} where
   AllParts [] = Unit {0}
   AllParts (x ∷ xs) = (is_part x.what ≡ true) × AllParts xs
 
-  -- of one push's items: the parts have the indices k, k + 1, .., a mark has the next one, and nothing follows a mark
+  -- of one push's items: the parts have the indices k, k + 1, .., a mark has the next one, and nothing
+  -- follows a mark
   abbrev pub IsOrderly : ℕ → List (Item A) → Type 0
   IsOrderly k [] = Unit {0}
   IsOrderly k (x ∷ xs) = (x.index ≡ k) × MatchBool (is_part x.what) (IsOrderly (k + 1) xs) (xs ≡ [])

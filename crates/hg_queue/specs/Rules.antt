@@ -1,5 +1,7 @@
--- The rule of the queue: what holds at every moment of what the queue holds and of what its seats know, whatever the threads do.
-use Rattle.std.specs.Prelude.{◌≡◌, ◌≢◌, ℕ, ◌+◌, ◌<◌, ◌≤◌, true, false, List, [], ◌++◌, length, Option, Some, slice_get, option_to_list}
+-- The rule of the queue: what holds at every moment of what the queue holds and of what its seats know,
+-- whatever the threads do.
+use Rattle.std.specs.Prelude.{◌≡◌, ◌≢◌, ℕ, ◌+◌, ◌<◌, ◌≤◌, true, false, List, [], ◌++◌, length, Option, Some}
+use Rattle.std.specs.Prelude.{slice_get, option_to_list}
 use mathlib.Core.Option.{some}
 use mathlib.Core.List.{IsPrefix}
 use lib.ListN.{get_elem?}
@@ -12,7 +14,8 @@ use Rattle.hg_queue.specs.declared.view.View.{View}
 use Rattle.hg_queue.specs.declared.view.View.TheVariants.{AsTaker, AsPutter, AsMarked, AsVisitor, Spent}
 use Rattle.hg_queue.specs.History.{is_part, of, items_of, has, AllParts, IsOrderly, IsDistinct}
 
--- What the rule says there is: the Taker's side, the seat that was noted for each push, and the Taker's own seat.
+-- What the rule says there is: the Taker's side, the seat that was noted for each push, and the Taker's own
+-- seat.
 pub record World (A : Type 0) : Type 0 where
   pub capacity : ℕ
   pub settled : List (Taken A)
@@ -31,7 +34,8 @@ module _ {A : Type 0} where
   abbrev pub whole : World A → List (Item A) → List (Item A)
   whole w items = log_of w ++ items
 
--- A Marked's list is all items of its push. Its mark stands at its place, and fewer items than the capacity come between the log and that place.
+-- A Marked's list is all items of its push. Its mark stands at its place, and fewer items than the capacity
+-- come between the log and that place.
 pub record IsClaim {A : Type 0} (w : World A) (all : List (Item A)) (c : Claim A) : Type 0 where
   pub same : c.put ≡ of c.push all
   pub noted : has c.push w.noted ≡ true
@@ -43,7 +47,8 @@ pub record IsClaim {A : Type 0} (w : World A) (all : List (Item A)) (c : Claim A
   pub near : c.place < length (log_of w) + w.capacity
 
 -- The Taker's view is the Taker's side of the world. What it was told of others is true.
-pub record FitsTaker {A : Type 0} (w : World A) (all : List (Item A)) (port : ℕ) (t : TakerView A) : Type 0 where
+pub record FitsTaker {A : Type 0} (w : World A) (all : List (Item A)) (port : ℕ)
+    (t : TakerView A) : Type 0 where
   pub here : port ≡ w.taker
   pub capacity : t.capacity ≡ w.capacity
   pub settled : t.settled ≡ w.settled
@@ -54,14 +59,16 @@ pub record FitsTaker {A : Type 0} (w : World A) (all : List (Item A)) (port : �
   pub heard : IsPrefix t.heard w.settled
 
 -- A Putter has the seat that was noted for its push. Its list is all items of its push, and these are parts.
-pub record FitsPutter {A : Type 0} (w : World A) (all : List (Item A)) (port : ℕ) (v : PutterView A) : Type 0 where
+pub record FitsPutter {A : Type 0} (w : World A) (all : List (Item A)) (port : ℕ)
+    (v : PutterView A) : Type 0 where
   pub seat : port ≡ w.seat v.push
   pub noted : has v.push w.noted ≡ true
   pub capacity : v.capacity ≡ w.capacity
   pub same : v.put ≡ of v.push all
   pub parts : AllParts v.put
 
--- A Visitor's history begins the Taker's, short of the item taken last while its refusal is missing. Its seat is noted for no push.
+-- A Visitor's history begins the Taker's, short of the item taken last while its refusal is missing. Its seat
+-- is noted for no push.
 pub record FitsVisitor {A : Type 0} (w : World A) (port : ℕ) (h : List (Taken A)) : Type 0 where
   pub seen : IsPrefix h w.settled
   pub apart : (p : ℕ) → has p w.noted ≡ true → w.seat p ≢ port
@@ -74,7 +81,8 @@ module _ {A : Type 0} where
   Kind w all port (AsVisitor h) = FitsVisitor w port h
   Kind w all port Spent = Unit {0}
 
--- What the rule says of one seat: its view fits the world, and where a push noted for it was joined it is spent.
+-- What the rule says of one seat: its view fits the world, and where a push noted for it was joined it is
+-- spent.
 pub record Fits {A : Type 0} (w : World A) (all : List (Item A)) (port : ℕ) (v : View A) : Type 0 where
   pub kind : Kind w all port v
   pub spent : (p : ℕ) → has p w.joined ≡ true → w.seat p ≡ port → v ≡ Spent

@@ -12,7 +12,16 @@ use Rattle.hg_queue.specs.Rules.{Stands}
 module _ {A : Type 0} where
   -- The Taker of a new queue of that capacity. A queue is made with none, and the first step sets it.
   abbrev pub fresh : ℕ → TakerView A
-  fresh n = record { capacity = n; settled = []; last = None; empties = 0; noted = []; joined = []; awaited = None; heard = [] }
+  fresh n = record {
+    capacity = n;
+    settled = [];
+    last = None;
+    empties = 0;
+    noted = [];
+    joined = [];
+    awaited = None;
+    heard = [];
+  }
 
   abbrev pub unsized : View A
   unsized = AsTaker (fresh 0)

@@ -1,4 +1,5 @@
-//! The bounded queue through which all reader threads hand the parts of pushes to whoever holds the server's lock.
+//! The bounded queue through which all reader threads hand the parts of pushes to whoever holds the server's
+//! lock.
 //!
 //! A [`PartQueue`] is shared by reference. It has one [`Taker`] and, for each push, one [`Putter`], which
 //! becomes a [`Marked`] with its mark. A [`Visitor`] has seen a history of what was taken. Each is the

@@ -1,4 +1,5 @@
-//! The rule of the queue, and the kinds of step that its seats take. None of these has a value when the program runs.
+//! The rule of the queue, and the kinds of step that its seats take. None of these has a value when the
+//! program runs.
 
 use crate::view::View;
 use crossbeam_queue::protocol::{Join, Lesson, Outcome, Protocol, Split};

@@ -1,4 +1,5 @@
-//! The seats at the queue. Each is a right with a view that contracts see, and the little that calls need of it when they run.
+//! The seats at the queue. Each is a right with a view that contracts see, and the little that calls need of
+//! it when they run.
 
 ghost use Rattle.std.specs.Prelude.{◌≡◌, ◌++◌, IsSome, length};
 ghost use Rattle.atomic_table.specs.Seated.{TableId};
@@ -77,12 +78,15 @@ impl<A: Allocator> Taker<A> {
 
     /// Says whether memory was refused for the item taken last. Until then, it was not.
     ///
-    /// Nothing is exchanged with the queue: the Taker's next exchange brings it there. Condition: the last exchange took an item.
+    /// Nothing is exchanged with the queue: the Taker's next exchange brings it there. Condition: the last
+    /// exchange took an item.
     pub fn tell(&mut self, refused: bool)
         requires { IsSome (taker_view self.old).last }
-        ensures history { history self.new ≡ (taker_view self.old).settled ++ settle (taker_view self.old).last refused }
+        ensures history { history self.new ≡ (taker_view self.old).settled
+            ++ settle (taker_view self.old).last refused }
         ensures view { taker_view self.new ≡ taker_view self.old }
-        ensures queue { (id : TableId) (capacity : ℕ) → IsTakerIn id capacity self.old → IsTakerIn id capacity self.new }
+        ensures queue { (id : TableId) (capacity : ℕ) → IsTakerIn id capacity self.old →
+            IsTakerIn id capacity self.new }
     {
         self.refused = refused;
     }

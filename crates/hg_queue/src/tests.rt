@@ -326,7 +326,8 @@ fn take_refused<A: Allocator, R: Wait>(rt: &R, queue: &PartQueue<A>, taker: &mut
     true
 }
 
-// Whether the calls at a queue of one place answer as they do with memory, and take none. `None` where the queue could not be made.
+// Whether the calls at a queue of one place answer as they do with memory, and take none. `None` where the
+// queue could not be made.
 fn takes_none<R: Wait>(rt: &R, heap: &LocalHeap) -> Option<bool> {
     let (queue, mut taker) = PartQueue::new(heap, 1).ok()?;
     let made = heap.used();

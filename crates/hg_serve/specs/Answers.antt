@@ -17,8 +17,10 @@ use Rattle.hg_push.specs.Run.{RepositoryOf}
 use Rattle.hg_push.specs.World.{all_parts}
 use Rattle.hg_serve.specs.Histories.{newest_first, ending, ClosesLast}
 
--- A push that put these items was answered so, at a history which goes on from the one that its client had seen.
-pub record Answers {A : Type 0} (capacity : ℕ) (first : RepositoryOf A) (push : ℕ) (put : List (Item A)) (before : List (Taken A))
+-- A push that put these items was answered so, at a history which goes on from the one that its client had
+-- seen.
+pub record Answers {A : Type 0} (capacity : ℕ) (first : RepositoryOf A) (push : ℕ) (put : List (Item A))
+    (before : List (Taken A))
     (how : Outcome (Done A) (Refusal A)) (takes : ℕ) (after : List (Taken A)) : Type 0 where
   -- what its client had seen begins the history, refusals included
   pub earlier : IsPrefix before after
@@ -28,9 +30,11 @@ pub record Answers {A : Type 0} (capacity : ℕ) (first : RepositoryOf A) (push 
   -- each refusal of memory is at a place where it can be, and the push ended so
   pub legal : IsHistory (newest_first after)
   pub ended : ending first push after ≡ Some how
-  -- a done push was run on all parts that it put, in their order, and its end mark is the last item that it put; it handled each part once
+  -- a done push was run on all parts that it put, in their order, and its end mark is the last item that it
+  -- put; it handled each part once
   pub complete : (done : Done A) → how ≡ done_with done → IsComplete put (parts push (newest_first after))
-  pub handled : (done : Done A) → how ≡ done_with done → done.handled ≡ range_with_len 0 (length (all_parts put))
+  pub handled : (done : Done A) → how ≡ done_with done →
+      done.handled ≡ range_with_len 0 (length (all_parts put))
   -- the reply can be written
   pub told : CanBeTold how
   -- no more was taken for it than the queue holds, and nothing past the place that closed it

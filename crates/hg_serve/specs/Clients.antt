@@ -43,14 +43,17 @@ pub record Ends {A : Type 0} (old : SenderView A) (what : What A) (new : EndedVi
 
 -- one part more in the put list, and one full put more
 abbrev pub with_part : {A : Type 0} → SenderView A → Part A → SenderView A
-with_part s part = record s { putter = record s.putter { put = s.putter.put ++ next_item s.putter (a_part part) ∷ [] } }
+with_part s part =
+    record s { putter = record s.putter { put = s.putter.put ++ next_item s.putter (a_part part) ∷ [] } }
 
 abbrev pub with_full : {A : Type 0} → SenderView A → SenderView A
 with_full s = record s { putter = record s.putter { fulls = s.putter.fulls + 1 } }
 
--- The part was put, and nothing else changed; or it came back: after 10,000 parts, with nothing changed, or because the queue was full
--- at one moment, which the sender counted.
+-- The part was put, and nothing else changed; or it came back: after 10,000 parts, with nothing changed, or
+-- because the queue was full at one moment, which the sender counted.
 abbrev pub TriesPut : {A : Type 0} → ℕ → SenderView A → Part A → Result ⊤ (PutFault A) → SenderView A → Type 0
 TriesPut capacity old part (Ok _) new = new ≡ with_part old part
-TriesPut capacity old part (Err (TooMany back)) new = (back ≡ part) × (new ≡ old) × (10000 ≤ length old.putter.put)
-TriesPut capacity old part (Err (Full back)) new = (back ≡ part) × (new ≡ with_full old) × Held capacity (Stands (AsPutter old.putter))
+TriesPut capacity old part (Err (TooMany back)) new =
+    (back ≡ part) × (new ≡ old) × (10000 ≤ length old.putter.put)
+TriesPut capacity old part (Err (Full back)) new =
+    (back ≡ part) × (new ≡ with_full old) × Held capacity (Stands (AsPutter old.putter))

@@ -1,5 +1,6 @@
 -- What lies under the lock.
-use Rattle.std.specs.Prelude.{◌≡◌, ℕ, ◌≤◌, ◌<◌, ◌+◌, ◌-◌, ◌^◌, ◌++◌, ◌∷◌, true, false, List, [], map, length, option_to_list, Option, Some, None}
+use Rattle.std.specs.Prelude.{◌≡◌, ℕ, ◌≤◌, ◌<◌, ◌+◌, ◌-◌, ◌^◌, ◌++◌, ◌∷◌, true, false, List, [], map, length}
+use Rattle.std.specs.Prelude.{option_to_list, Option, Some, None}
 use Rattle.atomic_table.specs.Seated.{TableId}
 use Rattle.hg_types.specs.declared.item.Item.{Item}
 use Rattle.hg_types.specs.declared.item.Taken.{Taken}
@@ -24,7 +25,8 @@ abbrev pub IsQueueIn : {A : Type 0} → TableId → ℕ → PartQueue A → Type
 IsQueueIn id capacity q = (id_of q ≡ id) × (capacity_of q ≡ capacity)
 
 -- What a server begins with: a queue and its Taker, both new, and the first repository.
-pub record Begins {A : Type 0} (id : TableId) (capacity : ℕ) (first : RepositoryOf A) (q : PartQueue A) (t : Taker A) (repo : RepositoryOf A) : Type 0 where
+pub record Begins {A : Type 0} (id : TableId) (capacity : ℕ) (first : RepositoryOf A) (q : PartQueue A)
+    (t : Taker A) (repo : RepositoryOf A) : Type 0 where
   pub queue : IsQueueIn id capacity q
   pub bounded : capacity ≤ 65536
   pub taker : IsTakerIn id capacity t
@@ -40,7 +42,8 @@ BookOf A = Book A (RepositoryOf A) (Done A) (Refusal A)
 abbrev pub rows_of : {A : Type 0} → BookOf A → List ℕ
 rows_of b = map (λ r. r.push) b.rows
 
--- What a contract sees of a desk: its Taker's history and view, and of its book what openings need. No row's contents are seen.
+-- What a contract sees of a desk: its Taker's history and view, and of its book what openings need. No row's
+-- contents are seen.
 pub record DeskView (A : Type 0) : Type 0 where
   pub history : List (Taken A)
   pub taker : TakerView A
@@ -51,16 +54,26 @@ pub record DeskView (A : Type 0) : Type 0 where
   pub kept : Option ℕ
 
 abbrev pub desk_view : {A : Type 0} → BookOf A → Taker A → Option ℕ → DeskView A
-desk_view b t kept = record { history = history t; taker = taker_view t; rows = rows_of b; next = b.next; limit = b.limit; kept = kept }
+desk_view b t kept = record {
+  history = history t;
+  taker = taker_view t;
+  rows = rows_of b;
+  next = b.next;
+  limit = b.limit;
+  kept = kept;
+}
 
--- The book holds the Taker's history, what was told for the last place included. Each noted number is opened, and has a row unless it
--- was joined. A kept number is opened and not noted, and has a row.
-pub record IsInOrder {A : Type 0} (id : TableId) (capacity : ℕ) (first : RepositoryOf A) (b : BookOf A) (t : Taker A) (kept : Option ℕ) : Type 0 where
+-- The book holds the Taker's history, what was told for the last place included. Each noted number is opened,
+-- and has a row unless it was joined. A kept number is opened and not noted, and has a row.
+pub record IsInOrder {A : Type 0} (id : TableId) (capacity : ℕ) (first : RepositoryOf A) (b : BookOf A)
+    (t : Taker A) (kept : Option ℕ) : Type 0 where
   pub taker : IsTakerIn id capacity t
   pub held : Holds run_push first (newest_first (history t)) b
   pub opened : (p : ℕ) → has p (taker_view t).noted ≡ true → is_opened b p ≡ true
-  pub row : (p : ℕ) → has p (taker_view t).noted ≡ true → has p (taker_view t).joined ≡ false → has p (rows_of b) ≡ true
-  pub spare : (n : ℕ) → kept ≡ Some n → (is_opened b n ≡ true) × (has n (taker_view t).noted ≡ false) × (has n (rows_of b) ≡ true)
+  pub row : (p : ℕ) → has p (taker_view t).noted ≡ true → has p (taker_view t).joined ≡ false →
+      has p (rows_of b) ≡ true
+  pub spare : (n : ℕ) → kept ≡ Some n → (is_opened b n ≡ true) × (has n (taker_view t).noted ≡ false)
+      × (has n (rows_of b) ≡ true)
 
 -- the number that is opened next: the kept one, else a new one
 abbrev pub next_of : Option ℕ → ℕ → ℕ
@@ -91,8 +104,8 @@ HasNoRoom d = (d.kept ≡ None) × (d.limit ≤ length d.rows)
 abbrev pub HasNoNumber : {A : Type 0} → DeskView A → Type 0
 HasNoNumber d = (d.kept ≡ None) × (length d.rows < d.limit) × (d.next ≡ 2 ^ 32 - 1)
 
--- A turn leaves all but the history, what was taken last and how often nothing was: the rows, the numbers, and the pushes that are
--- noted, joined and awaited.
+-- A turn leaves all but the history, what was taken last and how often nothing was: the rows, the numbers,
+-- and the pushes that are noted, joined and awaited.
 pub record IsSameBut {A : Type 0} (old new : DeskView A) : Type 0 where
   pub rows : new.rows ≡ old.rows
   pub next : new.next ≡ old.next

@@ -1,4 +1,5 @@
--- What became of a push in a history. The queue and a client tell a history with the oldest place first, the book with the newest first.
+-- What became of a push in a history. The queue and a client tell a history with the oldest place first, the
+-- book with the newest first.
 use Rattle.std.specs.Prelude.{◌≡◌, ℕ, List, [], ◌∷◌, ◌++◌, reverse, Option, None}
 use Rattle.hg_types.specs.declared.item.Taken.{Taken}
 use Rattle.hg_repo.specs.declared.done.Done.{Done}
@@ -22,4 +23,5 @@ module _ {A : Type 0} where
 
   -- before its last place the push was unfinished
   abbrev pub ClosesLast : RepositoryOf A → ℕ → List (Taken A) → Type 0
-  ClosesLast first p h = (front : List (Taken A)) × (last : Taken A) × (h ≡ front ++ last ∷ []) × (ending first p front ≡ None)
+  ClosesLast first p h = (front : List (Taken A)) × (last : Taken A) × (h ≡ front ++ last ∷ [])
+      × (ending first p front ≡ None)

@@ -1,5 +1,5 @@
-pub mod Names
 pub mod Histories
 pub mod Desks
 pub mod Clients
 pub mod Answers
+pub mod code

@@ -1,6 +1,7 @@
 //! The value under the lock: the book of pushes, and the taker whose history the book holds.
 
-ghost use Rattle.std.specs.Prelude.{◌≡◌, ◌<◌, ◌≤◌, ◌+◌, ◌++◌, ◌∷◌, [], true, false, None, Some, ⊤, IfOk, IfErr, IsOk, IsErrOf, MatchBool, ◌↔◌, is_none, All};
+ghost use Rattle.std.specs.Prelude.{◌≡◌, ◌<◌, ◌≤◌, ◌+◌, ◌++◌, ◌∷◌, [], true, false, None, Some, ⊤, IfOk};
+ghost use Rattle.std.specs.Prelude.{IfErr, IsOk, IsErrOf, MatchBool, ◌↔◌, is_none, All};
 ghost use mathlib.Core.List.{IsPrefix};
 ghost use Rattle.crossbeam_queue.specs.Fifo.{Held};
 ghost use Rattle.hg_types.specs.declared.item.Taken.{Taken};
@@ -8,12 +9,14 @@ ghost use Rattle.hg_queue.specs.declared.view.View.TheVariants.{AsTaker};
 ghost use Rattle.hg_queue.specs.History.{has, of, items_of};
 ghost use Rattle.hg_queue.specs.Rules.{Stands};
 ghost use Rattle.hg_queue.specs.Steps.{fresh, putter};
-ghost use Rattle.hg_queue.specs.Words.{taker_view, putter_view, claim_at, seen, history, IsTakerIn, IsPutterIn, IsMarkedIn, IsVisitorIn};
+ghost use Rattle.hg_queue.specs.Words.{taker_view, putter_view, claim_at, seen, history, IsTakerIn};
+ghost use Rattle.hg_queue.specs.Words.{IsPutterIn, IsMarkedIn, IsVisitorIn};
 ghost use Rattle.hg_push.specs.Reply.{CanBeTold};
 ghost use Rattle.hg_push.specs.History.{IsHistory};
 ghost use Rattle.hg_serve.specs.Histories.{newest_first, ending, serial_run, ClosesLast};
 ghost use Rattle.hg_serve.specs.Answers.{Answers};
-ghost use Rattle.hg_serve.specs.Desks.{IsQueueIn, IsSameBut, IsKnown, Awaits, HasNoRoom, HasNoNumber, next_of, keeping, seating};
+ghost use Rattle.hg_serve.specs.Desks.{IsQueueIn, IsSameBut, IsKnown, Awaits, HasNoRoom, HasNoNumber};
+ghost use Rattle.hg_serve.specs.Desks.{next_of, keeping, seating};
 
 use crate::client::{Client, Ended};
 use crate::gate::{Gate, Point};

@@ -20,7 +20,7 @@ pub trait Naming<A> {
 
 /// The names of servers, over any allocator.
 impl<A> Naming<A> for Brand {
-    ghost use Rattle.hg_serve.specs.Names.{no_table, no_repository};
+    ghost use Rattle.hg_serve.specs.code.Names.{no_table, no_repository};
 
     ghost table = { no_table };
 

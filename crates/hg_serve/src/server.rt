@@ -55,8 +55,8 @@ impl<A: Allocator> fmt::Debug for PutFault<A> {
 
 /// A queue of parts that threads put to without a lock, and a desk at which they are taken under one.
 ///
-/// What each put reads of the queue, and the limits, stand apart from the lock, so that a thread that takes or
-/// gives back the lock takes no line of theirs from the processors of those that put.
+/// What each put reads of the queue, and the limits, stand apart from the lock, so that a thread that takes
+/// or gives back the lock takes no line of theirs from the processors of those that put.
 #[repr(C)]
 pub struct Server<J: Naming<A>, A: Allocator = Global> {
     queue: PartQueue<A>,

@@ -16,7 +16,8 @@ impl Gate for Counts {
     }
 }
 
-/// Behind that many parts of another push and after that many turns, the answer to a push without parts takes so many items.
+/// Behind that many parts of another push and after that many turns, the answer to a push without parts takes
+/// so many items.
 pub fn takes<J: Naming<Global>, R: Wait + Abort>(
     rt: &R,
     alloc: Global,
@@ -77,7 +78,8 @@ impl<J: Naming<Global>, R: Wait + Abort> Gate for Puts<'_, J, R> {
     }
 }
 
-/// Another push goes on while the answer takes: the answer stops at its own mark, and leaves the other's parts in the queue.
+/// Another push goes on while the answer takes: the answer stops at its own mark, and leaves the other's
+/// parts in the queue.
 pub fn puts_meanwhile<J: Naming<Global>, R: Wait + Abort>(
     rt: &R,
     alloc: Global,

@@ -1,4 +1,5 @@
-//! Openings that are refused: the limit on rows, and the last number.
+//! Openings that are refused, by the limit on rows and behind the last number; and as many parts as a push
+//! may have.
 
 use super::*;
 
@@ -51,5 +52,68 @@ fn one_row_and_two_numbers(rt: HostRuntime) -> Result<(), Fail> {
         closed.journal.as_slice(),
         [4_294_967_293, 4_294_967_294].as_slice()
     );
+    Ok(())
+}
+
+/// Puts a part that found the queue full, behind one turn.
+fn put_behind_a_turn<J: Naming<Global>, R: Wait>(
+    rt: &R,
+    server: &Server<J>,
+    sender: &mut Sender<J>,
+    part: Part,
+) -> bool {
+    let turned = server.turn(rt, &mut NoGate);
+    let tried = server.try_put(rt, sender, part);
+    turned && tried.is_ok()
+}
+
+/// Puts 10,000 parts, each behind one turn where the queue is full.
+fn put_most<J: Naming<Global>, R: Wait + Abort>(
+    rt: &R,
+    alloc: Global,
+    server: &Server<J>,
+    sender: &mut Sender<J>,
+) -> bool {
+    let mut all = true;
+    for _ in 0..10_000 {
+        let put = match server.try_put(rt, sender, part(rt, alloc, b"output", b"")) {
+            Ok(()) => true,
+            Err(PutFault::Full(back)) => put_behind_a_turn(rt, server, sender, back),
+            Err(PutFault::TooMany(_back)) => false,
+        };
+        all = put && all;
+    }
+    all
+}
+
+/// Whether that part comes back, since its push has as many as it may.
+fn is_too_many(tried: &Result<(), PutFault>, payload: &[u8]) -> bool {
+    match tried {
+        Err(PutFault::TooMany(part)) => part.payload.as_slice() == payload,
+        _ => false,
+    }
+}
+
+/// One part more than 10,000 comes back, and the push is done with the others.
+pub fn most_parts<J: Naming<Global>, R: Wait + Abort>(
+    rt: &R,
+    alloc: Global,
+    server: &Server<J>,
+) -> Vec<Client<J>> {
+    let mut sender = open(rt, server, client(rt, server));
+    let all = put_most(rt, alloc, server, &mut sender);
+    let more = part(rt, alloc, b"output", b"more");
+    let tried = server.try_put(rt, &mut sender, more);
+    let (answer, client) = finish(rt, server, sender);
+    let mut clients = Vec::new(alloc);
+    add(rt, &mut clients, client);
+    assert!(rt; all && is_too_many(&tried, b"more") && is_done(&answer, 10_000));
+    clients
+}
+
+#[test]
+fn as_many_parts_as_a_push_may_have(rt: HostRuntime) -> Result<(), Fail> {
+    let closed = played(&rt, rt.alloc(), 64, settings(0, 1), Scene::MostParts);
+    assert_eq!(rt; closed.journal.as_slice(), [0].as_slice());
     Ok(())
 }

@@ -54,7 +54,8 @@ fn two_pushes_at_capacity_one(rt: HostRuntime) -> Result<(), Fail> {
     Ok(())
 }
 
-/// A is cut off after its third part. B is done as without it, and so is a push of the client that got B's answer.
+/// A is cut off after its third part. B is done as without it, and so is a push of the client that got B's
+/// answer.
 pub fn dropped<J: Naming<Global>, R: Wait + Abort>(
     rt: &R,
     alloc: Global,
