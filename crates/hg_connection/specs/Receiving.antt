@@ -1,5 +1,6 @@
 -- What is received of a bundle, and what is put of it.
-use Rattle.std.specs.Prelude.{ℕ, ◌≡◌, ◌≢◌, ◌≤◌, ◌+◌, ◌⊎◌, ⊤, List, [], ◌∷◌, ◌++◌, All, length, map, take, drop, Option, Some, None}
+use Rattle.std.specs.Prelude.{ℕ, ◌≡◌, ◌≢◌, ◌≤◌, ◌+◌, ◌⊎◌, ⊤, List, [], ◌∷◌, ◌++◌, All, length, map, take}
+use Rattle.std.specs.Prelude.{drop, Option, Some, None}
 use Rattle.std.specs.List.{concat}
 use Rattle.std.specs.Io.KnownBytes.{Consumes, IsAtEnd}
 use Rattle.hg_types.specs.declared.part.Part.{Part}
@@ -39,11 +40,13 @@ state_at ReadFailed = Reading
 -- the parts of a push as items, each with the number of parts before it
 abbrev pub part_items : {A : Type 0} → ℕ → ℕ → List (Part A) → List (Item A)
 part_items push index [] = []
-part_items push index (part ∷ parts) = record { push = push; index = index; what = a_part part } ∷ part_items push (index + 1) parts
+part_items push index (part ∷ parts) = record { push = push; index = index; what = a_part part }
+    ∷ part_items push (index + 1) parts
 
 -- the items of a push: its parts, and then its mark with their number
 abbrev pub push_items : {A : Type 0} → ℕ → List (Part A) → What A → List (Item A)
-push_items push parts mark = part_items push 0 parts ++ record { push = push; index = length parts; what = mark } ∷ []
+push_items push parts mark = part_items push 0 parts
+    ++ record { push = push; index = length parts; what = mark } ∷ []
 
 -- how many bytes one read may give, and so how many may be read past the limit on the stream
 abbrev pub greatest_piece : ℕ
@@ -60,9 +63,10 @@ last_read (Fault fault) = []
 last_read InputEnded = Gave [] ∷ []
 last_read ReadFailed = Failed ∷ []
 
--- The bytes that were fed last held the end mark or the fault: those before them go on, so that no read was made behind it. They are what
--- waited at first, where nothing was read, or else the last piece.
-pub record StopsIn (A : Type 0) (limits : Limits) (waited : List ℕ) (pieces : List (List ℕ)) (consumed rest : List ℕ) : Type 0 where
+-- The bytes that were fed last held the end mark or the fault: those before them go on, so that no read was
+-- made behind it. They are what waited at first, where nothing was read, or else the last piece.
+pub record StopsIn (A : Type 0) (limits : Limits) (waited : List ℕ) (pieces : List (List ℕ))
+    (consumed rest : List ℕ) : Type 0 where
   pub front : List ℕ
   pub taken : List ℕ
   pub fed : List ℕ
@@ -70,19 +74,23 @@ pub record StopsIn (A : Type 0) (limits : Limits) (waited : List ℕ) (pieces : 
   pub goes_on : Tells Reading limits front earlier
   pub consumed_is : consumed ≡ front ++ taken
   pub fed_is : fed ≡ taken ++ rest
-  pub place : ((pieces ≡ []) × (front ≡ []) × (fed ≡ waited)) ⊎ ((before : List (List ℕ)) × (pieces ≡ before ++ fed ∷ []) × (front ≡ waited ++ concat before))
+  pub place : ((pieces ≡ []) × (front ≡ []) × (fed ≡ waited))
+      ⊎ ((before : List (List ℕ)) × (pieces ≡ before ++ fed ∷ []) × (front ≡ waited ++ concat before))
 
 abbrev pub Stops : Type 0 → Ending → Limits → List ℕ → List (List ℕ) → List ℕ → List ℕ → Type 0
 Stops A Whole limits waited pieces consumed rest = StopsIn A limits waited pieces consumed rest
-Stops A (Fault fault) limits waited pieces consumed rest = (fault ≢ Truncated) × StopsIn A limits waited pieces consumed rest
+Stops A (Fault fault) limits waited pieces consumed rest =
+    (fault ≢ Truncated) × StopsIn A limits waited pieces consumed rest
 Stops A InputEnded limits waited pieces consumed rest = rest ≡ []
 Stops A ReadFailed limits waited pieces consumed rest = rest ≡ []
 
--- A bundle was received by these reads, behind the bytes that waited: each gave a piece, but for one that gave nothing or failed, which is
--- the last. All bytes together are those of the bundle and a rest. Those of the bundle are a whole bundle with these parts, or hold a
--- fault, or go on, with these parts before it. A read is made only where the bytes before it hold no end mark and no fault. That the
--- bytes are truncated is never told as a fault of them: their end is.
-pub record IsReceived {A : Type 0} (limits : Limits) (waited : List ℕ) (reads : List ReadAnswer) (ending : Ending) (parts : List (Part A)) (consumed rest : List ℕ) : Type 0 where
+-- A bundle was received by these reads, behind the bytes that waited: each gave a piece, but for one that
+-- gave nothing or failed, which is the last. All bytes together are those of the bundle and a rest. Those of
+-- the bundle are a whole bundle with these parts, or hold a fault, or go on, with these parts before it. A
+-- read is made only where the bytes before it hold no end mark and no fault. That the bytes are truncated is
+-- never told as a fault of them: their end is.
+pub record IsReceived {A : Type 0} (limits : Limits) (waited : List ℕ) (reads : List ReadAnswer)
+    (ending : Ending) (parts : List (Part A)) (consumed rest : List ℕ) : Type 0 where
   pub pieces : List (List ℕ)
   pub each : All IsPiece pieces
   pub reads_are : reads ≡ map Gave pieces ++ last_read ending
@@ -92,7 +100,8 @@ pub record IsReceived {A : Type 0} (limits : Limits) (waited : List ℕ) (reads 
   pub bound : length consumed + length rest ≤ limits.stream + greatest_piece
 
 -- The reader of bundles took these bytes and gave these parts, which were put.
-pub record Carries {A : Type 0} (limits : Limits) (s : SenderView A) (u : Unbundler A) (bytes : List ℕ) (given : List (Part A)) : Type 0 where
+pub record Carries {A : Type 0} (limits : Limits) (s : SenderView A) (u : Unbundler A) (bytes : List ℕ)
+    (given : List (Part A)) : Type 0 where
   pub holds : Holds u given bytes
   pub limits_are : limits_of u ≡ limits
   pub put : s.putter.put ≡ part_items s.putter.push 0 given
@@ -107,19 +116,26 @@ pub record IsFresh {A : Type 0} (limits : Limits) (u : Unbundler A) : Type 0 whe
 -- One read gave these bytes, none of them at the end of the input, or it failed.
 abbrev pub ReadsMore : List ℕ → Input → Input → Option ℕ → Type 0
 ReadsMore after input left None = (after ≡ []) × Reads input left Failed
-ReadsMore after input left (Some count) = Reads input left (Gave after) × (length after ≡ count) × (count ≤ greatest_piece) × (count ≡ 0 → IsAtEnd left.left)
+ReadsMore after input left (Some count) =
+    Reads input left (Gave after) × (length after ≡ count) × (count ≤ greatest_piece)
+    × (count ≡ 0 → IsAtEnd left.left)
 
 -- Where bytes wait, nothing is read. Where none do, one read is made.
 abbrev pub Fills : List ℕ → List ℕ → Input → Input → Option ℕ → Type 0
-Fills before after input left result = ((before ≢ []) × (after ≡ before) × (left ≡ input) × (result ≡ Some (length before))) ⊎ ((before ≡ []) × ReadsMore after input left result)
+Fills before after input left result = ((before ≢ []) × (after ≡ before) × (left ≡ input)
+    × (result ≡ Some (length before))) ⊎ ((before ≡ []) × ReadsMore after input left result)
 
 -- what was read to see whether a next bundle comes
 abbrev pub Arrives : List ℕ → List ℕ → Input → Input → Type 0
-Arrives before after input left = ((after ≡ before) × (left ≡ input)) ⊎ ((before ≡ []) × Reads input left (Gave after) × IsPiece after)
+Arrives before after input left = ((after ≡ before) × (left ≡ input))
+    ⊎ ((before ≡ []) × Reads input left (Gave after) × IsPiece after)
 
--- A byte of the next bundle waits, or the input ended, or a read failed. For the first bundle nothing is read.
+-- A byte of the next bundle waits, or the input ended, or a read failed. For the first bundle nothing is
+-- read.
 abbrev pub IsNext : ℕ → List ℕ → List ℕ → Input → Input → Next → Type 0
-IsNext number before after input left Comes = Arrives before after input left × (number ≡ 0 → (after ≡ before) × (left ≡ input)) × (1 ≤ number → after ≢ []) × (length after ≤ greatest_piece)
+IsNext number before after input left Comes =
+    Arrives before after input left × (number ≡ 0 → (after ≡ before) × (left ≡ input))
+    × (1 ≤ number → after ≢ []) × (length after ≤ greatest_piece)
 IsNext number before after input left at_end = (before ≡ []) × Reads input left (Gave []) × IsAtEnd left.left
 IsNext number before after input left Fails = (before ≡ []) × Reads input left Failed
 
@@ -128,7 +144,8 @@ pub record Feeds {A : Type 0} (u v : Unbundler A) (before after : List ℕ) : Ty
   pub place : ℕ
   pub bound : place ≤ length before
   pub few : length before ≤ greatest_piece
-  pub holds : (given : List (Part A)) (bytes : List ℕ) → Holds u given bytes → Holds v given (bytes ++ take place before)
+  pub holds : (given : List (Part A)) (bytes : List ℕ) → Holds u given bytes →
+      Holds v given (bytes ++ take place before)
   pub reading : state_of v ≡ Reading → (place ≡ length before) × (after ≡ [])
   pub ended : state_of v ≡ Ended → after ≡ drop place before
   pub limits : limits_of v ≡ limits_of u
@@ -145,7 +162,8 @@ Ran InputEnded left = IsAtEnd left.left
 Ran ending left = ⊤
 
 -- A bundle was received from that reader, and its parts were put.
-pub record Receives {A : Type 0} (limits : Limits) (waited waiting : List ℕ) (input left : Input) (old new : SenderView A) (ending : Ending) : Type 0 where
+pub record Receives {A : Type 0} (limits : Limits) (waited waiting : List ℕ) (input left : Input)
+    (old new : SenderView A) (ending : Ending) : Type 0 where
   pub parts : List (Part A)
   pub consumed : List ℕ
   pub rest : List ℕ

@@ -22,7 +22,8 @@ use Rattle.hg_pushd.specs.Taking.{Ends}
 
 -- the repository without changesets
 abbrev pub empty_repository : {A : Type 0} → Bool → Repository A
-empty_repository publishing = empty_with (record { publishing = publishing; limits = standard_limits; first_push = 0 })
+empty_repository publishing =
+    empty_with (record { publishing = publishing; limits = standard_limits; first_push = 0 })
 
 -- A reply was sent so: what went out of it, and by which uses of the writer.
 abbrev pub IsSentTo : Sending → Output → Output → List ℕ → Type 0
@@ -44,7 +45,8 @@ starved_status sent_whole = 4
 starved_status Broken = 3
 starved_status NoMemory = 4
 
--- 3 where a device failed, else 4 where memory was refused, else 1 where the push was aborted, and 0 where it is done
+-- 3 where a device failed, else 4 where memory was refused, else 1 where the push was aborted, and 0 where it
+-- is done
 abbrev pub status_of : {A : Type 0} → Ending → Outcome (Done A) (Refusal A) → Sending → ℕ
 status_of ReadFailed how sending = 3
 status_of (Fault stream_without_memory) how sending = starved_status sending
@@ -53,7 +55,8 @@ status_of ending how sending = sent_status sending how
 -- One push was run on the empty repository: its items are the parts of the bytes taken and the mark that they
 -- ask for, in a history that says for which of them memory was refused. Its reply, which has fewer than 2^32
 -- bytes, was sent, and the status tells how it went.
-pub record Answered (A : Type 0) (publishing : Bool) (input input_after : Input) (output output_after : Output)
+pub record Answered (A : Type 0) (publishing : Bool) (input input_after : Input)
+    (output output_after : Output)
     (status : ℕ) : Type 0 where
   pub ending : Ending
   pub parts : List (Part A)

@@ -34,11 +34,13 @@ state_at ReadFailed = Reading
 -- the parts of a push as items, each with the number of parts before it
 abbrev pub part_items : {A : Type 0} → ℕ → ℕ → List (Part A) → List (Item A)
 part_items push index [] = []
-part_items push index (part ∷ parts) = record { push = push; index = index; what = a_part part } ∷ part_items push (index + 1) parts
+part_items push index (part ∷ parts) = record { push = push; index = index; what = a_part part }
+    ∷ part_items push (index + 1) parts
 
 -- the items of a push: its parts, and then its mark with their number
 abbrev pub items_of : {A : Type 0} → ℕ → List (Part A) → What A → List (Item A)
-items_of push parts mark = part_items push 0 parts ++ record { push = push; index = length parts; what = mark } ∷ []
+items_of push parts mark = part_items push 0 parts
+    ++ record { push = push; index = length parts; what = mark } ∷ []
 
 -- how many bytes one read may give, and so how many may be read past the limit on the stream
 abbrev pub greatest_piece : ℕ
@@ -48,20 +50,23 @@ greatest_piece = 4096
 abbrev pub IsPiece : List ℕ → Type 0
 IsPiece piece = (1 ≤ length piece) × (length piece ≤ greatest_piece)
 
--- How the last read of a push went. It gave a piece of which the first bytes were taken and the others dropped; or nothing, at the
--- end of the input; or it failed.
+-- How the last read of a push went. It gave a piece of which the first bytes were taken and the others
+-- dropped; or nothing, at the end of the input; or it failed.
 abbrev pub LastRead : Ending → ReadAnswer → List ℕ → List ℕ → Option (List ℕ) → Type 0
 LastRead Whole (Gave piece) taken dropped left = IsPiece piece × (piece ≡ taken ++ dropped)
 LastRead (Fault fault) (Gave piece) taken dropped left = IsPiece piece × (piece ≡ taken ++ dropped)
-LastRead InputEnded (Gave piece) taken dropped left = (piece ≡ []) × (taken ≡ []) × (dropped ≡ []) × IsAtEnd left
+LastRead InputEnded (Gave piece) taken dropped left =
+    (piece ≡ []) × (taken ≡ []) × (dropped ≡ []) × IsAtEnd left
 LastRead ReadFailed Failed taken dropped left = (taken ≡ []) × (dropped ≡ [])
 LastRead ending last taken dropped left = ⊥
 
--- A push was received by these reads. Each but the last gave a piece, and the bytes of all of these were still read on: a read is made
--- only where the bytes before it hold no end mark and no fault, and only where each read before it gave some bytes. With the bytes taken
--- of the last one they are a whole bundle with these parts, or hold a fault, or go on, with these parts before it. That the bytes are
--- truncated is never told as a fault of them: their end is.
-pub record Received {A : Type 0} (limits : Limits) (before after : Input) (ending : Ending) (parts : List (Part A)) : Type 0 where
+-- A push was received by these reads. Each but the last gave a piece, and the bytes of all of these were
+-- still read on: a read is made only where the bytes before it hold no end mark and no fault, and only where
+-- each read before it gave some bytes. With the bytes taken of the last one they are a whole bundle with
+-- these parts, or hold a fault, or go on, with these parts before it. That the bytes are truncated is never
+-- told as a fault of them: their end is.
+pub record Received {A : Type 0} (limits : Limits) (before after : Input) (ending : Ending)
+    (parts : List (Part A)) : Type 0 where
   pub pieces : List (List ℕ)
   pub last : ReadAnswer
   pub taken : List ℕ

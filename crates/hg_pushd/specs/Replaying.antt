@@ -1,4 +1,5 @@
--- What is replayed: pushes from readers, one behind the other, and the report of the repository that they give.
+-- What is replayed: pushes from readers, one behind the other, and the report of the repository that they
+-- give.
 use Rattle.std.specs.Prelude.{ℕ, Bool, ◌≡◌, ◌==◌, ◌+◌, ⊤, List, [], ◌∷◌, ◌++◌, map, if◌then◌else◌}
 use Rattle.std.specs.List.{list_any}
 use Rattle.hg_types.specs.Limits.{standard_limits}
@@ -17,14 +18,16 @@ use Rattle.hg_pushd.specs.Receiving.{Received, items_of, mark_of}
 use Rattle.hg_pushd.specs.Taking.{BookOf, Ends, IsIdle, Leaves}
 use Rattle.hg_pushd.specs.Answering.{IsSentTo, empty_repository, status_of}
 
--- What became of the push of a reader: it was received so and ended so; or it was not opened, and nothing was read of it.
+-- What became of the push of a reader: it was received so and ended so; or it was not opened, and nothing was
+-- read of it.
 pub data Replay (A : Type 0) : Type 0 where
   Ran : Ending → List (Part A) → Outcome (Done A) (Refusal A) → Replay A
   NotOpened : Replay A
 
--- The readers gave these pushes, in their order: each was received from its reader and run behind the history of those before it, with
--- the next number. The last history is that of all that ran.
-abbrev pub AreReplayed : {A : Type 0} → RepositoryOf A → ℕ → History A → List Input → List Input → List (Replay A) → History A → Type 0
+-- The readers gave these pushes, in their order: each was received from its reader and run behind the history
+-- of those before it, with the next number. The last history is that of all that ran.
+abbrev pub AreReplayed : {A : Type 0} → RepositoryOf A → ℕ → History A → List Input → List Input →
+    List (Replay A) → History A → Type 0
 AreReplayed first number before [] [] [] after = after ≡ before
 AreReplayed first number before (input ∷ inputs) (left ∷ lefts) (NotOpened ∷ replays) after =
     (left ≡ input) × AreReplayed first number before inputs lefts replays after
@@ -55,16 +58,19 @@ is_told status statuses = list_any (λ s. s == status) statuses
 
 -- of several statuses 3 is told before 4, 4 before 1, and 1 before 0
 abbrev pub first_told : List ℕ → ℕ
-first_told statuses = if is_told 3 statuses then 3 else if is_told 4 statuses then 4 else if is_told 1 statuses then 1 else 0
+first_told statuses = if is_told 3 statuses then 3 else if is_told 4 statuses then 4
+    else if is_told 1 statuses then 1 else 0
 
--- The pushes of these readers were replayed onto the empty repository, and the report of the repository that the serial run of their
--- history gives was sent. The status tells how all of it went.
-pub record Replayed (A : Type 0) (publishing : Bool) (inputs lefts : List Input) (output output_after : Output) (status : ℕ) : Type 0 where
+-- The pushes of these readers were replayed onto the empty repository, and the report of the repository that
+-- the serial run of their history gives was sent. The status tells how all of it went.
+pub record Replayed (A : Type 0) (publishing : Bool) (inputs lefts : List Input)
+    (output output_after : Output) (status : ℕ) : Type 0 where
   pub replays : List (Replay A)
   pub history : History A
   pub replayed : AreReplayed (empty_repository publishing) 0 [] inputs lefts replays history
   pub sending : Sending
-  pub sent : IsSentTo sending output output_after (report_of (serial run_push (empty_repository publishing) history).repo)
+  pub sent : IsSentTo sending output output_after
+      (report_of (serial run_push (empty_repository publishing) history).repo)
   pub status_is : status ≡ first_told (map replay_status replays ++ sending_status sending ∷ [])
 
 -- what a book makes of a reader's push
@@ -73,7 +79,8 @@ IsPlayed input left old new NotOpened = (left ≡ input) × (new ≡ old)
 IsPlayed {A} input left old new (Ran ending parts how) =
     Received standard_limits input left ending parts
     × (new.next ≡ old.next + 1)
-    × ((first : RepositoryOf A) (before : History A) → IsIdle first before old → Leaves first before old.next (items_of old.next parts (mark_of ending)) how new)
+    × ((first : RepositoryOf A) (before : History A) → IsIdle first before old →
+    Leaves first before old.next (items_of old.next parts (mark_of ending)) how new)
 
 -- One push was replayed on a book, and this is its status.
 pub record PlaysOne {A : Type 0} (input left : Input) (old new : BookOf A) (status : ℕ) : Type 0 where
@@ -81,8 +88,10 @@ pub record PlaysOne {A : Type 0} (input left : Input) (old new : BookOf A) (stat
   pub played : IsPlayed input left old new replay
   pub status_is : status ≡ replay_status replay
 
--- The pushes of these readers were replayed on an idle book, behind that history, and this is the status that is told of them.
-pub record Plays {A : Type 0} (first : RepositoryOf A) (before : History A) (inputs lefts : List Input) (old new : BookOf A) (status : ℕ) : Type 0 where
+-- The pushes of these readers were replayed on an idle book, behind that history, and this is the status that
+-- is told of them.
+pub record Plays {A : Type 0} (first : RepositoryOf A) (before : History A) (inputs lefts : List Input)
+    (old new : BookOf A) (status : ℕ) : Type 0 where
   pub replays : List (Replay A)
   pub history : History A
   pub replayed : AreReplayed first old.next before inputs lefts replays history

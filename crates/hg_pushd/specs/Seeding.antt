@@ -31,8 +31,8 @@ IsRefused refusal Aborted = refusal ≢ without_memory
 IsRefused refusal read_failed = ⊥
 IsRefused refusal NoMemory = refusal ≡ without_memory
 
--- What a seed of these parts gives: the repository that its run leaves of the empty one; or it was refused, or
--- memory was.
+-- What a seed of these parts gives: the repository that its run leaves of the empty one; or it was refused,
+-- or memory was.
 abbrev pub Grows : {A : Type 0} → Bool → List (Part A) → Result (Repository A) SeedFault → Type 0
 Grows {A} publishing parts (Ok repo) =
     (done : Done A) × (run_of Seed (empty_repository publishing) parts ≡ Ok (repo, done))

@@ -18,7 +18,8 @@ use Rattle.hg_pushd.specs.Receiving.{Received, items_of, mark_of}
 abbrev pub BookOf : Type 0 → Type 0
 BookOf A = Book A (RepositoryOf A) (Done A) (Refusal A)
 
--- The book, over that first repository, has taken these items behind the history before, and has a row for that push and no other.
+-- The book, over that first repository, has taken these items behind the history before, and has a row for
+-- that push and no other.
 pub record HasTaken {A : Type 0} (first : RepositoryOf A) (before : History A) (push : ℕ) (book : BookOf A)
     (items : List (Item A)) : Type 0 where
   pub places : History A
@@ -27,7 +28,8 @@ pub record HasTaken {A : Type 0} (first : RepositoryOf A) (before : History A) (
   pub opened : is_opened book push ≡ true
   pub rows : map (λ r. r.push) book.rows ≡ push ∷ []
 
--- Behind that history these items of a push were taken, over that first repository. They end the push so, in a way that can be told.
+-- Behind that history these items of a push were taken, over that first repository. They end the push so, in
+-- a way that can be told.
 pub record Ends {A : Type 0} (first : RepositoryOf A) (before : History A) (push : ℕ) (items : List (Item A))
     (how : Outcome (Done A) (Refusal A)) : Type 0 where
   pub places : History A
@@ -42,7 +44,8 @@ pub record IsIdle {A : Type 0} (first : RepositoryOf A) (history : History A) (b
   pub rows : book.rows ≡ []
 
 -- The push ended so, and the book is idle behind it.
-pub record Leaves {A : Type 0} (first : RepositoryOf A) (before : History A) (push : ℕ) (items : List (Item A))
+pub record Leaves {A : Type 0} (first : RepositoryOf A) (before : History A) (push : ℕ)
+    (items : List (Item A))
     (how : Outcome (Done A) (Refusal A)) (book : BookOf A) : Type 0 where
   pub ends : Ends first before push items how
   pub idle : IsIdle first (ends.places ++ before) book

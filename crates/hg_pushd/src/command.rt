@@ -33,6 +33,7 @@ pub fn publishing<'a>(alloc: Global) -> Arg<'a> {
 fn one<'a>(alloc: Global) -> Result<Command<'a>, AllocError> {
     Command::new(alloc, "one")
         .about("Runs a bundle from standard input on the empty repository, and writes its reply")
+        .after_help("Example: hg_pushd one < push.hg20 > reply.hg20")
         .arg(publishing(alloc))
 }
 
@@ -44,13 +45,21 @@ fn replay<'a>(alloc: Global) -> Result<Command<'a>, AllocError> {
         .action(ArgAction::Append);
     let command = Command::new(alloc, "replay")
         .about("Runs bundles from files onto the empty repository, and reports what it then holds")
+        .after_help("Example: hg_pushd replay first.hg20 second.hg20 > report.txt")
         .arg(publishing(alloc))?;
     command.arg(files)
 }
 
+/// How the program ends.
+const STATUSES: &str =
+    "Status: 0 where all is done, 1 where a push was aborted, 2 where the words are wrong, \
+3 where a device failed, 4 where memory was refused.";
+
 fn command<'a>(alloc: Global) -> Result<Command<'a>, AllocError> {
     let command = Command::new(alloc, "hg_pushd")
         .version("0.1.0")
+        .about("Takes pushes in Mercurial's bundle2 format onto a repository in memory")
+        .after_help(STATUSES)
         .subcommand_required(true)
         .subcommand(one(alloc)?)?;
     command

@@ -17,8 +17,8 @@ use std::sync::Wait;
 use std::thread::Threads;
 use std::time::Clock;
 
-/// Runs the seed, if there is one, on the empty repository, serves so many connections of up to `most` bundles
-/// each over a queue of that capacity, and writes the report and the journal.
+/// Runs the seed, if there is one, on the empty repository, serves so many connections of up to `most`
+/// bundles each over a queue of that capacity, and writes the report and the journal.
 ///
 /// The status is 0 where all were served and the report was written, 1 where the seed was aborted or is no
 /// whole bundle, 3 where a device failed, and 4 where memory was refused; of several, 3 before 4 before 1.

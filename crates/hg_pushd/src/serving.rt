@@ -49,7 +49,7 @@ pub fn serve<'a>(alloc: Global) -> Result<Command<'a>, AllocError> {
         .required(true);
     Command::new(alloc, "serve")
         .about("Serves TCP connections, and writes the report and the journal at the end")
-        .after_help(LINGER)
+        .after_help(BEHIND)
         .arg(word(
             alloc,
             "listen",
@@ -77,9 +77,10 @@ pub fn serve<'a>(alloc: Global) -> Result<Command<'a>, AllocError> {
         .arg(word(alloc, "report", "FILE", "Where the report is written").required(true))
 }
 
-/// What becomes of a connection behind its last reply.
-const LINGER: &str =
-    "Behind its last reply a connection is shut down for writing, and what its client \
+/// An example, and what becomes of a connection behind its last reply.
+const BEHIND: &str =
+    "Example: hg_pushd serve --listen 127.0.0.1:8090 --connections 100 --report report.txt\n\n\
+Behind its last reply a connection is shut down for writing, and what its client \
 still sends is read and dropped, up to 67108864 bytes and for up to 5 seconds.";
 
 fn number_of(matches: &ArgMatches<'_>, name: &str) -> u32 {

@@ -10,7 +10,7 @@ mod words;
 
 use crate::run::run_one;
 use crate::tests::devices::{Sink, Source};
-use std::alloc::Allocator;
+use std::alloc::{Allocator, Global};
 use std::hash::RandomState;
 use std::process::Abort;
 use std::random::RandomSource;
@@ -75,6 +75,27 @@ const UNKNOWN_INTERRUPTION: &[u8] =
 const UNKNOWN_INTERRUPTION_REPLY: &[u8] =
     b"HG20\0\0\0\0\0\0\0\x29\x0bERROR:ABORT\0\0\0\0\x01\0\x07\x0emessagestream fault 8\0\0\0\0\0\0\0\0";
 
+/// `replycaps`, and a changegroup with the changeset of the empty text.
+const ROOT: &[u8] =
+    b"HG20\0\0\0\0\0\0\0\x10\x09REPLYCAPS\0\0\0\0\0\0\0\0\0\0\0\0\0\x1d\x0bCHANGEGROUP\0\0\0\x01\x01\0\x07\
+    \x02version02\0\0\0t\0\0\0h\xb8\x0d\xe5\xd18u\x85A\xc5\xf0Re\xad\x14J\xb9\xfa\x86\xd1\xdb\0\0\0\0\0\
+    \0\0\0\0\0\0\0\0\0\0\0\0\0\0\0\0\0\0\0\0\0\0\0\0\0\0\0\0\0\0\0\0\0\0\0\0\0\0\0\0\0\0\0\0\0\0\0\0\0\0\
+    \0\0\0\0\0\xb8\x0d\xe5\xd18u\x85A\xc5\xf0Re\xad\x14J\xb9\xfa\x86\xd1\xdb\0\0\0\0\0\0\0\0\0\0\0\0\0\0\
+    \0\0\0\0\0\0";
+
+/// The same, the changegroup in chunks of 40 and 76 bytes and a part `output` between them.
+const INTERRUPTED_ROOT: &[u8] =
+    b"HG20\0\0\0\0\0\0\0\x10\x09REPLYCAPS\0\0\0\0\0\0\0\0\0\0\0\0\0\x1d\x0bCHANGEGROUP\0\0\0\x01\x01\0\x07\
+    \x02version02\0\0\0(\0\0\0h\xb8\x0d\xe5\xd18u\x85A\xc5\xf0Re\xad\x14J\xb9\xfa\x86\xd1\xdb\0\0\0\0\0\
+    \0\0\0\0\0\0\0\0\0\0\0\xff\xff\xff\xff\0\0\0\x0d\x06output\0\0\0\0\0\0\0\0\0\0\0\0\0L\0\0\0\0\0\0\0\
+    \0\0\0\0\0\0\0\0\0\0\0\0\0\0\0\0\0\0\0\0\0\0\0\0\0\0\0\0\0\0\0\0\0\0\0\0\0\xb8\x0d\xe5\xd18u\x85A\
+    \xc5\xf0Re\xad\x14J\xb9\xfa\x86\xd1\xdb\0\0\0\0\0\0\0\0\0\0\0\0\0\0\0\0\0\0\0\0";
+
+/// The reply to a push of a changeset.
+const ROOT_REPLY: &[u8] =
+    b"HG20\0\0\0\0\0\0\0\x2f\x11reply:changegroup\0\0\0\0\0\x02\x0b\x01\x06\x01in-reply-to1return1\0\0\0\0\
+    \0\0\0\0";
+
 /// The bundle without parts, and bytes that are dropped.
 const WITH_MORE: &[u8] = b"HG20\0\0\0\0\0\0\0\0 more";
 
@@ -85,8 +106,8 @@ fn state<R: RandomSource + Abort>(rt: &R) -> RandomState {
     }
 }
 
-/// Runs the bundle, read at once, byte by byte and in pieces of three bytes, and checks status and reply. The end of the input
-/// is read once where the bundle is cut short, and else never.
+/// Runs the bundle, read at once, byte by byte and in pieces of three bytes, and checks status and reply. The
+/// end of the input is read once where the bundle is cut short, and else never.
 fn check<A: Allocator + Copy, R: RandomSource + Abort>(
     rt: &R,
     alloc: A,
@@ -136,6 +157,15 @@ fn the_first_push_is_published(rt: HostRuntime) {
 fn the_race_on_heads(rt: HostRuntime) {
     assert_eq!(rt; RACE_REPLY.len(), 64);
     check(&rt, rt.alloc(), RACE, 1, RACE_REPLY);
+}
+
+/// The changeset of the empty text, whole and around another part, which is dropped.
+#[test]
+fn the_root_changeset(rt: HostRuntime) {
+    assert_eq!(rt; ROOT_REPLY.len(), 67);
+    for bundle in [ROOT, INTERRUPTED_ROOT] {
+        check(&rt, rt.alloc(), bundle, 0, ROOT_REPLY);
+    }
 }
 
 /// Its bytes come around another part, which is dropped.
@@ -222,12 +252,18 @@ fn a_foreign_magic(rt: HostRuntime) {
 const TRUNCATED_REPLY: &[u8] =
     b"HG20\0\0\0\0\0\0\0\x2a\x0bERROR:ABORT\0\0\0\0\x01\0\x07\x0fmessagestream fault 10\0\0\0\0\0\0\0\0";
 
-/// Each front of the first push that is shorter than it.
+/// Each front of the interrupted root changeset that is shorter than it.
 #[test]
 fn a_short_bundle(rt: HostRuntime) {
     assert_eq!(rt; TRUNCATED_REPLY.len(), 62);
-    for length in 0..FIRST_PUSH.len() {
-        check(&rt, rt.alloc(), &FIRST_PUSH[..length], 1, TRUNCATED_REPLY);
+    for length in 0..INTERRUPTED_ROOT.len() {
+        check(
+            &rt,
+            rt.alloc(),
+            &INTERRUPTED_ROOT[..length],
+            1,
+            TRUNCATED_REPLY,
+        );
     }
     for length in [3, 11] {
         check(&rt, rt.alloc(), &EMPTY[..length], 1, TRUNCATED_REPLY);
@@ -263,32 +299,48 @@ fn many_reads_and_a_long_payload(rt: HostRuntime) -> Result<(), Fail> {
 const LOST_REPLY: &[u8] =
     b"HG20\0\0\0\0\0\0\0\x2a\x0bERROR:ABORT\0\0\0\0\x01\0\x07\x0fmessageconnection lost\0\0\0\0\0\0\0\0";
 
-/// The first push in reads of 1 byte to all but one, of which each in turn fails, or gives nothing. The reader would go on and
-/// is not asked again.
+/// What a reader gives of the interrupted root changeset, so many bytes at a time, up to a read that fails or
+/// gives nothing. Whether it is answered so, and the reader, which would go on, is not asked again.
+fn breaks<R: RandomSource + Abort>(
+    rt: &R,
+    alloc: Global,
+    step: usize,
+    good: usize,
+    fails: bool,
+) -> bool {
+    let mut reader = Source::failing(INTERRUPTED_ROOT, step, good, fails);
+    let mut writer = Sink::new(alloc);
+    let status = run_one(alloc, state(rt), &mut reader, &mut writer, false);
+    let (due, reply) = if fails {
+        (3, LOST_REPLY)
+    } else {
+        (1, TRUNCATED_REPLY)
+    };
+    status == due && writer.bytes() == reply && reader.reads() == good.saturating_add(1)
+}
+
+/// Reads and writes of each size up to that.
+fn is_done_in_pieces<R: RandomSource + Abort>(rt: &R, alloc: Global, step: usize) -> bool {
+    let mut reader = Source::in_pieces(INTERRUPTED_ROOT, step);
+    let mut writer = Sink::in_pieces(alloc, step);
+    let status = run_one(alloc, state(rt), &mut reader, &mut writer, false);
+    status == 0 && writer.bytes() == ROOT_REPLY
+}
+
+/// The interrupted root changeset in reads and writes of 1 byte to all. Each read in turn fails, or gives
+/// nothing; or none does.
 #[test]
 fn a_reader_that_fails(rt: HostRuntime) {
-    for step in 1..FIRST_PUSH.len() {
-        let reads = FIRST_PUSH.len().div_ceil(step);
-        for good in 0..reads {
-            for (fails, status, reply) in [(true, 3, LOST_REPLY), (false, 1, TRUNCATED_REPLY)] {
-                let mut reader = Source::failing(FIRST_PUSH, step, good, fails);
-                let mut writer = Sink::new(rt.alloc());
-                assert_eq!(rt;
-                    run_one(rt.alloc(), state(&rt), &mut reader, &mut writer, false),
-                    status
-                );
-                assert_eq!(rt; writer.bytes(), reply);
-                assert_eq!(rt; reader.reads(), good.saturating_add(1));
-            }
+    let mut right = true;
+    for step in 1..=INTERRUPTED_ROOT.len() {
+        for good in 0..INTERRUPTED_ROOT.len().div_ceil(step) {
+            right = right
+                && breaks(&rt, rt.alloc(), step, good, true)
+                && breaks(&rt, rt.alloc(), step, good, false);
         }
-        let mut reader = Source::failing(FIRST_PUSH, step, reads, true);
-        let mut writer = Sink::new(rt.alloc());
-        assert_eq!(rt;
-            run_one(rt.alloc(), state(&rt), &mut reader, &mut writer, false),
-            0
-        );
-        assert_eq!(rt; writer.bytes(), EMPTY);
+        right = right && is_done_in_pieces(&rt, rt.alloc(), step);
     }
+    assert!(rt; right);
 }
 
 /// A writer that takes some bytes, and then fails or takes none. It would go on and is not asked again.

@@ -8,13 +8,13 @@ ghost use Rattle.hg_server.specs.Closing.{closing_text, journal_line};
 use hg_devices::{Sending, Writer, send};
 use hg_repo::Repo;
 use hg_types::NoMemory;
-use std::alloc::Global;
+use std::alloc::Allocator;
 
 /// Writes the report of the repository, and behind it a line `J n` for each push of the journal. Says what
 /// became of it, and how many bytes the writer took.
-pub fn tell_closing<W: Writer>(
-    alloc: Global,
-    repo: &Repo,
+pub fn tell_closing<A: Allocator + Copy, W: Writer>(
+    alloc: A,
+    repo: &Repo<A>,
     journal: &[u32],
     writer: &mut W,
 ) -> (Sending, usize)
@@ -28,7 +28,11 @@ pub fn tell_closing<W: Writer>(
 }
 
 /// The report, and the lines of the journal.
-fn closing_text(alloc: Global, repo: &Repo, journal: &[u32]) -> Result<Vec<u8>, NoMemory>
+fn closing_text<A: Allocator + Copy>(
+    alloc: A,
+    repo: &Repo<A>,
+    journal: &[u32],
+) -> Result<Vec<u8, A>, NoMemory>
     ensures { IfOk result (λ text. text.items ≡ closing_text repo.now journal.now) }
 {
     let mut text = repo.report()?;
@@ -37,7 +41,11 @@ fn closing_text(alloc: Global, repo: &Repo, journal: &[u32]) -> Result<Vec<u8>, 
 }
 
 /// Adds a line for each push.
-fn add_lines(alloc: Global, text: &mut Vec<u8>, journal: &[u32]) -> Result<(), NoMemory>
+fn add_lines<A: Allocator + Copy>(
+    alloc: A,
+    text: &mut Vec<u8, A>,
+    journal: &[u32],
+) -> Result<(), NoMemory>
     ensures { OnOk result (text.new.items ≡ text.old.items ++ flat_map journal_line journal.now) }
 {
     for push in journal {
@@ -47,7 +55,7 @@ fn add_lines(alloc: Global, text: &mut Vec<u8>, journal: &[u32]) -> Result<(), N
 }
 
 /// Adds the line of a push.
-fn add_line(alloc: Global, text: &mut Vec<u8>, push: u32) -> Result<(), NoMemory>
+fn add_line<A: Allocator + Copy>(alloc: A, text: &mut Vec<u8, A>, push: u32) -> Result<(), NoMemory>
     ensures { OnOk result (text.new.items ≡ text.old.items ++ journal_line push) }
 {
     let line = format!(in alloc; "J {push}\n")?;

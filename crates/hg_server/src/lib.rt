@@ -7,6 +7,7 @@
 
 mod closing;
 mod linger;
+mod replies;
 mod serve;
 mod service;
 

@@ -5,10 +5,12 @@
 
 ghost use Rattle.hg_types.specs.Limits.{IsAllowed};
 
+mod memory;
+
 use super::*;
 use hg_repo::Repo;
 use hg_types::{Limits, Settings};
-use std::alloc::Global;
+use std::alloc::{Allocator, Global};
 use std::hash::RandomState;
 use std::io::{Error, ErrorKind, Read, Write};
 use std::net::{Net, Shutdown, TcpListener, TcpStream};
@@ -29,7 +31,7 @@ const RACE_REPLY: &[u8] =
 const TRUNCATED_REPLY: &[u8] =
     b"HG20\0\0\0\0\0\0\0\x2a\x0bERROR:ABORT\0\0\0\0\x01\0\x07\x0fmessagestream fault 10\0\0\0\0\0\0\0\0";
 
-fn empty_repository<R: RandomSource + Abort>(rt: &R, alloc: Global) -> Repo
+fn empty_repository<A: Allocator + Copy, R: RandomSource + Abort>(rt: &R, alloc: A) -> Repo<A>
     ensures { IsAllowed result.settings.limits }
 {
     let settings = Settings {

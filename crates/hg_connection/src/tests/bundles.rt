@@ -39,18 +39,21 @@ fn three_bundles_on_a_connection(rt: HostRuntime) {
             written: 88,
             fault: None,
             done: 2,
+            report: 0,
         };
         let two = Told {
             bundles: 2,
             written: 76,
             fault: None,
             done: 1,
+            report: 0,
         };
         let one = Told {
             bundles: 1,
             written: 12,
             fault: None,
             done: 1,
+            report: 0,
         };
         right = right
             && are_answered(&rt, rt.alloc(), step, 9, 88, all)
@@ -82,7 +85,8 @@ fn an_input_without_bytes(rt: HostRuntime) {
             bundles: 1,
             written: 62,
             fault: truncated,
-            done: 0
+            done: 0,
+            report: 0,
         }
     );
 }
@@ -100,6 +104,7 @@ fn a_reply_comes_before_a_further_read(rt: HostRuntime) {
         written: 36,
         fault: None,
         done: 3,
+        report: 0,
     };
     assert!(rt; told == whole && !early.load(Ordering::SeqCst));
 }

@@ -3,7 +3,7 @@
 use super::*;
 
 /// The reply to a bundle that is cut short.
-const TRUNCATED_REPLY: &[u8] =
+pub const TRUNCATED_REPLY: &[u8] =
     b"HG20\0\0\0\0\0\0\0\x2a\x0bERROR:ABORT\0\0\0\0\x01\0\x07\x0fmessagestream fault 10\0\0\0\0\0\0\0\0";
 
 /// The reply to a bundle that a failed read broke.
@@ -34,6 +34,7 @@ fn is_cut<R: RandomSource + Wait + Abort>(
         written: written as u64,
         fault: Some(fault),
         done,
+        report: 0,
     };
     match writer.bytes().get(first..) {
         Some(last) => told == is && last == reply,
@@ -41,12 +42,13 @@ fn is_cut<R: RandomSource + Wait + Abort>(
     }
 }
 
-/// Each proper prefix of a bundle, and then the end of the input or a failed read.
+/// Each proper prefix of a bundle with an interruption, and then the end of the input or a failed read:
+/// nothing of it is in the repository.
 #[test]
 fn each_prefix_of_a_bundle(rt: HostRuntime) {
     let mut right = true;
-    for length in 0..ADVISORY.len() {
-        let prefix = &ADVISORY[..length];
+    for length in 0..INTERRUPTED_ROOT.len() {
+        let prefix = &INTERRUPTED_ROOT[..length];
         let truncated = ConnFault::Stream(StreamFault::Truncated);
         let mut ends = Source::new(prefix);
         let mut fails = Source::failing(prefix, 1, length, true);
@@ -98,6 +100,7 @@ fn a_failed_read_between_bundles(rt: HostRuntime) {
         written: 12,
         fault,
         done: 1,
+        report: 0,
     };
     assert!(rt; told == is && writer.bytes() == EMPTY && reader.reads() == 2);
 }

@@ -4,7 +4,8 @@ use std::alloc::{Allocator, Global};
 use std::io::{Error, ErrorKind, Read, Write};
 use std::sync::atomic::{AtomicBool, AtomicUsize, Ordering};
 
-/// Gives the bytes, at most so many at a read. One read may fail, or give nothing; those after it go on.
+/// Gives the bytes, at most so many at a read. One read may fail, as an interrupted one does, or give
+/// nothing; those after it go on.
 #[derive(Drop)]
 pub struct Source<'a> {
     bytes: &'a [u8],
@@ -51,7 +52,7 @@ impl<'a> Read for Source<'a> {
         self.reads = read.saturating_add(1);
         if read == self.good {
             if self.fails {
-                return Err(Error::from(ErrorKind::ConnectionReset));
+                return Err(Error::from(ErrorKind::Interrupted));
             }
             return Ok(0);
         }
@@ -62,10 +63,12 @@ impl<'a> Read for Source<'a> {
     }
 }
 
-/// Takes so many bytes. The write after them fails or takes none; those after it go on. Its flush may fail.
+/// Takes so many bytes, at most `step` at a write. The write after them fails, as an interrupted one does, or
+/// takes none; those after it go on. Its flush may fail.
 #[derive(Drop)]
 pub struct Sink<A: Allocator = Global> {
     taken: Vec<u8, A>,
+    step: usize,
     room: usize,
     fails: bool,
     flushes: bool,
@@ -76,9 +79,17 @@ impl<A: Allocator + Copy> Sink<A> {
         Sink::failing(alloc, usize::MAX, false)
     }
 
+    pub fn in_pieces(alloc: A, step: usize) -> Self {
+        Sink {
+            step,
+            ..Sink::new(alloc)
+        }
+    }
+
     pub fn failing(alloc: A, room: usize, fails: bool) -> Self {
         Sink {
             taken: Vec::new(alloc),
+            step: usize::MAX,
             room,
             fails,
             flushes: true,
@@ -88,6 +99,7 @@ impl<A: Allocator + Copy> Sink<A> {
     pub fn without_flush(alloc: A) -> Self {
         Sink {
             taken: Vec::new(alloc),
+            step: usize::MAX,
             room: usize::MAX,
             fails: false,
             flushes: false,
@@ -104,11 +116,11 @@ impl<A: Allocator> Write for Sink<A> {
         if self.room == 0 {
             self.room = usize::MAX;
             if self.fails {
-                return Err(Error::from(ErrorKind::BrokenPipe));
+                return Err(Error::from(ErrorKind::Interrupted));
             }
             return Ok(0);
         }
-        let count = buf.len().min(self.room);
+        let count = buf.len().min(self.step).min(self.room);
         self.taken.extend_from_slice(&buf[..count])?;
         self.room -= count;
         Ok(count)
@@ -116,9 +128,42 @@ impl<A: Allocator> Write for Sink<A> {
 
     fn flush(&mut self) -> std::io::Result<()> {
         if !self.flushes {
-            return Err(Error::from(ErrorKind::BrokenPipe));
+            return Err(Error::from(ErrorKind::Interrupted));
         }
         Ok(())
+    }
+}
+
+/// Gives some bytes and then a size of -1 and a header size of 0, again and again. It ends after so many
+/// reads.
+#[derive(Drop)]
+pub struct Endless<'a> {
+    bytes: &'a [u8],
+    again: &'a [u8],
+    left: usize,
+}
+
+impl<'a> Endless<'a> {
+    pub fn new(bytes: &'a [u8], again: &'a [u8], left: usize) -> Self {
+        Endless { bytes, again, left }
+    }
+
+    /// How many reads it has still to give bytes to.
+    pub fn left(&self) -> usize {
+        self.left
+    }
+}
+
+impl<'a> Read for Endless<'a> {
+    fn read(&mut self, buf: &mut [u8]) -> std::io::Result<usize> {
+        if self.left == 0 {
+            return Ok(0);
+        }
+        self.left -= 1;
+        let count = buf.len().min(self.bytes.len());
+        buf[..count].copy_from_slice(&self.bytes[..count]);
+        self.bytes = self.again;
+        Ok(count)
     }
 }
 

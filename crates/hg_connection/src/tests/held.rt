@@ -1,9 +1,11 @@
 //! One connection is held while another is served.
 
+ghost use Rattle.std.specs.Prelude.{◌≤◌};
 ghost use Rattle.hg_serve.specs.Desks.{Begins};
 
+use super::cut::TRUNCATED_REPLY;
 use super::*;
-use hg_serve::{Gate, Point};
+use hg_serve::{Client, Gate, Point};
 use std::sync::Mutex;
 use std::sync::atomic::{AtomicBool, Ordering};
 use std::thread;
@@ -32,15 +34,39 @@ struct Signs {
     late: AtomicBool,
 }
 
-/// Holds a connection whose push was opened until the other one was answered.
+/// What a connection sends, and what it gets.
+#[derive(Clone, Copy)]
+struct Talk {
+    bundle: &'static [u8],
+    reply: &'static [u8],
+    fault: Option<ConnFault>,
+}
+
+/// A bundle without parts.
+const NOTHING: Talk = Talk {
+    bundle: EMPTY,
+    reply: EMPTY,
+    fault: None,
+};
+
+/// Two connections: what they send, and where the first is held until the second was answered.
+#[derive(Clone, Copy)]
+struct Scene {
+    first: Talk,
+    second: Talk,
+    at: Point,
+}
+
+/// Holds a connection at that point until the other one was answered.
 #[derive(Drop)]
 struct Holds<'a> {
     signs: &'a Signs,
+    at: Point,
 }
 
 impl Gate for Holds<'_> {
     fn at(&mut self, point: Point) {
-        if point == Point::Opened {
+        if point == self.at {
             self.signs.held.store(true, Ordering::SeqCst);
             if !came(&self.signs.answered) {
                 self.signs.late.store(true, Ordering::SeqCst);
@@ -56,9 +82,10 @@ fn serve_one<J: Naming<Global>, R: Wait + Abort, G: Gate>(
     server: &Server<J>,
     clients: &Mutex<Vec<Client<J>>>,
     wrong: &AtomicBool,
+    talk: Talk,
     gate: &mut G,
 ) {
-    let mut reader = Source::new(EMPTY);
+    let mut reader = Source::new(talk.bundle);
     let mut writer = Sink::new(alloc);
     let client = match server.client(rt) {
         Ok(client) => client,
@@ -74,7 +101,7 @@ fn serve_one<J: Naming<Global>, R: Wait + Abort, G: Gate>(
         1,
         gate,
     );
-    if served.fault.is_some() || writer.bytes() != EMPTY {
+    if served.fault != talk.fault || writer.bytes() != talk.reply {
         wrong.store(true, Ordering::SeqCst);
     }
     let mut list = clients.lock(rt);
@@ -92,9 +119,13 @@ fn serve_held<J: Naming<Global>, R: Wait + Abort>(
     clients: &Mutex<Vec<Client<J>>>,
     signs: &Signs,
     wrong: &AtomicBool,
+    scene: Scene,
 ) {
-    let mut gate = Holds { signs };
-    serve_one(rt, alloc, server, clients, wrong, &mut gate);
+    let mut gate = Holds {
+        signs,
+        at: scene.at,
+    };
+    serve_one(rt, alloc, server, clients, wrong, scene.first, &mut gate);
 }
 
 /// Serves a connection once the other one is held, and then lets that go.
@@ -105,11 +136,12 @@ fn serve_meanwhile<J: Naming<Global>, R: Wait + Abort>(
     clients: &Mutex<Vec<Client<J>>>,
     signs: &Signs,
     wrong: &AtomicBool,
+    scene: Scene,
 ) {
     if !came(&signs.held) {
         wrong.store(true, Ordering::SeqCst);
     }
-    serve_one(rt, alloc, server, clients, wrong, &mut NoGate);
+    serve_one(rt, alloc, server, clients, wrong, scene.second, &mut NoGate);
     signs.answered.store(true, Ordering::SeqCst);
 }
 
@@ -121,21 +153,27 @@ fn serve_both<J: Naming<Global> + Send + Sync, R: Threads + Wait + Abort + Sync>
     clients: &Mutex<Vec<Client<J>>>,
     signs: &Signs,
     wrong: &AtomicBool,
+    scene: Scene,
 ) {
-    thread::scope(thread::scope_env(), rt, |scope| {
-        let first = scope.spawn(move || serve_held(rt, alloc, server, clients, signs, wrong));
-        let second = scope.spawn(move || serve_meanwhile(rt, alloc, server, clients, signs, wrong));
+    thread::scope(thread::scope_env(), rt, |both| {
+        let first = both.spawn(move || serve_held(rt, alloc, server, clients, signs, wrong, scene));
+        let second = both.spawn(move || serve_meanwhile(
+            rt, alloc, server, clients, signs, wrong, scene,
+        ));
         assert!(rt; first.is_ok() && second.is_ok());
     });
 }
 
-/// The same on a server of that name. Whether the second was done before the first.
+/// The same on a server of that name. Whether each got what it should, the second before the first, and the
+/// journal is this.
 fn hold<J: Naming<Global> + Send + Sync, R: Threads + Wait + Abort + Sync>(
     rt: &R,
     alloc: Global,
     queue: PartQueue,
     taker: Taker,
     repo: Repo,
+    scene: Scene,
+    journal: &[u32],
 ) -> bool
     requires { Begins J.table J.capacity J.first queue taker repo }
 {
@@ -147,18 +185,26 @@ fn hold<J: Naming<Global> + Send + Sync, R: Threads + Wait + Abort + Sync>(
         late: AtomicBool::new(false),
     };
     let wrong = AtomicBool::new(false);
-    serve_both(rt, alloc, &server, &clients, &signs, &wrong);
+    serve_both(rt, alloc, &server, &clients, &signs, &wrong, scene);
     let closed = server.close(clients.into_inner());
     let is_late = signs.late.load(Ordering::SeqCst);
-    !is_late && !wrong.load(Ordering::SeqCst) && closed.journal.as_slice() == [1, 0].as_slice()
+    !is_late && !wrong.load(Ordering::SeqCst) && closed.journal.as_slice() == journal
 }
 
-/// The same on a server of an empty repository.
-fn held<R: Threads + Wait + RandomSource + Abort + Sync>(rt: &R, alloc: Global) -> bool {
-    match PartQueue::new(alloc, 1) {
+/// The same on a server of an empty repository, with so many places in its queue.
+fn held<R: Threads + Wait + RandomSource + Abort + Sync>(
+    rt: &R,
+    alloc: Global,
+    capacity: u32,
+    scene: Scene,
+    journal: &[u32],
+) -> bool
+    requires { (1 ≤ capacity) × (capacity ≤ 65536) }
+{
+    match PartQueue::new(alloc, capacity) {
         Ok((queue, taker)) => {
             let repo = Repo::new(alloc, settings(0), state(rt));
-            hold::<Brand, R>(rt, alloc, queue, taker, repo)
+            hold::<Brand, R>(rt, alloc, queue, taker, repo, scene, journal)
         }
         Err(_) => panic!(rt; "no memory for a queue"),
     }
@@ -167,5 +213,33 @@ fn held<R: Threads + Wait + RandomSource + Abort + Sync>(rt: &R, alloc: Global) 
 /// The first connection's push is opened and nothing of it is read. It is answered behind the second's.
 #[test]
 fn a_connection_waits_for_no_other(rt: HostRuntime) {
-    assert!(rt; held(&rt, rt.alloc()));
+    let scene = Scene {
+        first: NOTHING,
+        second: NOTHING,
+        at: Point::Opened,
+    };
+    let one = held(&rt, rt.alloc(), 1, scene, &[1, 0]);
+    assert!(rt; one && held(&rt, rt.alloc(), 8, scene, &[1, 0]));
+}
+
+/// The first connection has put a part, which fills the queue, when the second pushes a changeset and is
+/// answered. Then the first one's input ends.
+#[test]
+fn a_connection_ends_in_the_middle(rt: HostRuntime) {
+    let leaver = Talk {
+        bundle: &ROOT[..100],
+        reply: TRUNCATED_REPLY,
+        fault: Some(ConnFault::Stream(StreamFault::Truncated)),
+    };
+    let pusher = Talk {
+        bundle: ROOT,
+        reply: ROOT_REPLY,
+        fault: None,
+    };
+    let scene = Scene {
+        first: leaver,
+        second: pusher,
+        at: Point::Put,
+    };
+    assert!(rt; held(&rt, rt.alloc(), 1, scene, &[1]));
 }

@@ -6,8 +6,8 @@ use hg_push::OpenFault;
 /// Two bundles without parts.
 const TWO: &[u8] = b"HG20\0\0\0\0\0\0\0\0HG20\0\0\0\0\0\0\0\0";
 
-/// Whether a connection that reads so many bytes at a time ends at an opening that is refused, behind so many bundles and
-/// so many reads.
+/// Whether a connection that reads so many bytes at a time ends at an opening that is refused, behind so many
+/// bundles and so many reads.
 fn ends_at_opening<R: RandomSource + Wait + Abort>(
     rt: &R,
     alloc: Global,
@@ -18,7 +18,7 @@ fn ends_at_opening<R: RandomSource + Wait + Abort>(
 ) -> bool {
     let mut reader = Source::in_pieces(TWO, step);
     let mut writer = Sink::new(alloc);
-    let told = connected_from(rt, alloc, first_push, &mut reader, &mut writer, 9);
+    let told = connected_with(rt, alloc, settings(first_push), &mut reader, &mut writer, 9);
     let written = if bundles == 0 { 0 } else { EMPTY.len() };
     let fault = Some(ConnFault::Open(OpenFault::Exhausted));
     let is = Told {
@@ -26,12 +26,13 @@ fn ends_at_opening<R: RandomSource + Wait + Abort>(
         written: written as u64,
         fault,
         done: bundles as usize,
+        report: 0,
     };
     told == is && reader.reads() == reads && writer.bytes() == &EMPTY[..written]
 }
 
-/// At the first opening nothing is read or written. At a later one its bundle is dropped, and what was read of that
-/// is one piece at most.
+/// At the first opening nothing is read or written. At a later one its bundle is dropped, and what was read
+/// of that is one piece at most.
 #[test]
 fn an_opening_is_refused(rt: HostRuntime) {
     let right = ends_at_opening(&rt, rt.alloc(), u32::MAX, 24, 0, 0)

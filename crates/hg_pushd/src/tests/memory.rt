@@ -2,7 +2,6 @@
 
 use super::*;
 use linked_list_allocator::LocalHeap;
-use std::alloc::Global;
 
 /// The reply to a push that was aborted for want of memory.
 const REFUSED_REPLY: &[u8] =
@@ -17,7 +16,8 @@ fn tells_want_of_memory(bytes: &[u8]) -> bool {
     bytes.is_empty() || bytes == REFUSED_REPLY || bytes == UNREAD_REPLY
 }
 
-/// One growth after another is refused, until none is. The answer comes or memory is wanting: there is no third.
+/// One growth after another is refused, until none is. The answer comes or memory is wanting: there is no
+/// third.
 fn grows<R: RandomSource + Abort>(
     rt: &R,
     alloc: Global,
@@ -50,9 +50,10 @@ fn grows<R: RandomSource + Abort>(
 fn a_growth_is_refused(rt: HostRuntime) -> Result<(), Fail> {
     assert_eq!(rt; REFUSED_REPLY.len(), 60);
     assert_eq!(rt; UNREAD_REPLY.len(), 62);
-    let examples: [(&[u8], u8, &[u8]); 15] = [
+    let examples: [(&[u8], u8, &[u8]); 16] = [
         (EMPTY, 0, EMPTY),
         (FIRST_PUSH, 0, EMPTY),
+        (ROOT, 0, ROOT_REPLY),
         (INTERRUPTED, 0, EMPTY),
         (TWICE_INTERRUPTED, 1, TWICE_INTERRUPTED_REPLY),
         (UNKNOWN_INTERRUPTION, 1, UNKNOWN_INTERRUPTION_REPLY),
@@ -73,7 +74,8 @@ fn a_growth_is_refused(rt: HostRuntime) -> Result<(), Fail> {
     Ok(())
 }
 
-/// Where memory is wanting and a read fails, the status tells the read. Nothing is read where the push is not opened.
+/// Where memory is wanting and a read fails, the status tells the read. Nothing is read where the push is not
+/// opened.
 #[test]
 fn a_failed_read_comes_before_want_of_memory(rt: HostRuntime) -> Result<(), Fail> {
     let mut lost = 0u32;

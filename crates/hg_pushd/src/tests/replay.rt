@@ -4,18 +4,9 @@ use super::*;
 use crate::replay::run_replay;
 use crate::tests::telling::{TellingReader, TellingWriter, Use};
 use linked_list_allocator::LocalHeap;
-use std::alloc::Global;
 use std::io::ErrorKind;
 
-/// `replycaps`, and a changegroup with the changeset of the empty text.
-const ROOT: &[u8] =
-    b"HG20\0\0\0\0\0\0\0\x10\x09REPLYCAPS\0\0\0\0\0\0\0\0\0\0\0\0\0\x1d\x0bCHANGEGROUP\0\0\0\x01\x01\0\x07\
-    \x02version02\0\0\0t\0\0\0h\xb8\x0d\xe5\xd18u\x85A\xc5\xf0Re\xad\x14J\xb9\xfa\x86\xd1\xdb\0\0\0\0\0\
-    \0\0\0\0\0\0\0\0\0\0\0\0\0\0\0\0\0\0\0\0\0\0\0\0\0\0\0\0\0\0\0\0\0\0\0\0\0\0\0\0\0\0\0\0\0\0\0\0\0\0\
-    \0\0\0\0\0\xb8\x0d\xe5\xd18u\x85A\xc5\xf0Re\xad\x14J\xb9\xfa\x86\xd1\xdb\0\0\0\0\0\0\0\0\0\0\0\0\0\0\
-    \0\0\0\0\0\0";
-
-/// The same, with another last byte of the id.
+/// The push of the changeset of the empty text, with another last byte of its id.
 const WRONG_HASH: &[u8] =
     b"HG20\0\0\0\0\0\0\0\x10\x09REPLYCAPS\0\0\0\0\0\0\0\0\0\0\0\0\0\x1d\x0bCHANGEGROUP\0\0\0\x01\x01\0\x07\
     \x02version02\0\0\0t\0\0\0h\xb8\x0d\xe5\xd18u\x85A\xc5\xf0Re\xad\x14J\xb9\xfa\x86\xd1\xdc\0\0\0\0\0\
@@ -161,6 +152,24 @@ fn a_reader_of_several_fails(rt: HostRuntime) {
     assert_eq!(rt; writer.bytes(), DRAFT);
 }
 
+/// Each proper prefix of a bundle with an interruption, and then the end of the input or a failed read:
+/// nothing of it is in the repository.
+#[test]
+fn each_prefix_of_a_push(rt: HostRuntime) {
+    let mut right = true;
+    for length in 0..INTERRUPTED_ROOT.len() {
+        let prefix = &INTERRUPTED_ROOT[..length];
+        let mut writer = Sink::new(rt.alloc());
+        let mut lost = [Source::failing(prefix, 1, length, true)];
+        let status = run_replay(rt.alloc(), state(&rt), &mut lost, &mut writer, false);
+        right = right
+            && gives(&rt, rt.alloc(), &[prefix], 1, false, 1, b"")
+            && status == 3
+            && writer.bytes().is_empty();
+    }
+    assert!(rt; right && gives(&rt, rt.alloc(), &[INTERRUPTED_ROOT], 1, false, 0, DRAFT));
+}
+
 /// A writer that takes some bytes of the report, and then fails or takes none, or does not flush.
 #[test]
 fn a_report_is_cut_short(rt: HostRuntime) {
@@ -185,8 +194,8 @@ fn a_report_is_cut_short(rt: HostRuntime) {
     assert_eq!(rt; writer.bytes(), DRAFT);
 }
 
-/// Whether a replay over a heap of so many bytes gives the report and that status, or tells want of memory: then there is no
-/// report, or it is one of the repository without the pushes that memory was refused for.
+/// Whether a replay over a heap of so many bytes gives the report and that status, or tells want of memory:
+/// then there is no report, or it is one of the repository without the pushes that memory was refused for.
 fn gives_or_tells<R: RandomSource + Abort>(rt: &R, alloc: Global, size: usize) -> Option<u8> {
     let heap = LocalHeap::new(alloc, size).ok()?;
     let mut readers = [

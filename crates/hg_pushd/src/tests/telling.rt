@@ -1,5 +1,6 @@
-//! A reader and a writer in memory that tell how each of their uses went, as the traits promise: so what the contract of
-//! `run_one` says of reads and writes is said of these. Where memory for what they tell is refused, the process ends.
+//! A reader and a writer in memory that tell how each of their uses went, as the traits promise: so what the
+//! contract of `run_one` says of reads and writes is said of these. Where memory for what they tell is
+//! refused, the process ends.
 
 ghost use Rattle.std.specs.Prelude.{◌≡◌, ◌++◌, ◌∷◌, [], Some, None, map, option_map, unwrap_or};
 ghost use Rattle.hg_devices.specs.Devices.{Gave, Failed, Took, Refused, Flushed, NotFlushed};
@@ -120,7 +121,7 @@ impl<'a, R: Abort> Writer for TellingWriter<'a, R> {
         let rt = self.rt;
         if self.uses.len() == self.good {
             self.uses.push(Use::Refused).expect(rt, "memory");
-            return Err(Error::from(ErrorKind::BrokenPipe));
+            return Err(Error::from(ErrorKind::Interrupted));
         }
         let count = bytes.len().min(self.step).min(self.room);
         let piece = Vec::from_slice(self.alloc, &bytes[..count]).expect(rt, "memory");
@@ -136,7 +137,7 @@ impl<'a, R: Abort> Writer for TellingWriter<'a, R> {
         let rt = self.rt;
         if self.uses.len() == self.good {
             self.uses.push(Use::NotFlushed).expect(rt, "memory");
-            return Err(Error::from(ErrorKind::BrokenPipe));
+            return Err(Error::from(ErrorKind::Interrupted));
         }
         self.uses.push(Use::Flushed).expect(rt, "memory");
         Ok(())

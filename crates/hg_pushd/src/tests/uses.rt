@@ -2,13 +2,13 @@
 
 use super::*;
 use crate::tests::telling::{TellingReader, TellingWriter, Use};
-use std::alloc::Global;
 use std::io::ErrorKind;
 
 /// A bundle of another kind, and bytes behind its magic.
 const FOREIGN_WITH_MORE: &[u8] = b"HG10 more";
 
-/// Whether the reads gave the bytes from the front, `step` at a time as long as there are so many, and then nothing.
+/// Whether the reads gave the bytes from the front, `step` at a time as long as there are so many, and then
+/// nothing.
 fn gave(reads: &[Option<&[u8]>], bytes: &[u8], step: usize) -> bool {
     let mut rest = bytes;
     for read in reads {
@@ -21,7 +21,8 @@ fn gave(reads: &[Option<&[u8]>], bytes: &[u8], step: usize) -> bool {
     true
 }
 
-/// Whether no read is made behind the one that gives the last of so many bytes, but `ends` of them at the end of the input.
+/// Whether no read is made behind the one that gives the last of so many bytes, but `ends` of them at the end
+/// of the input.
 fn stops<R: RandomSource + Abort>(
     rt: &R,
     alloc: Global,
@@ -40,7 +41,8 @@ fn stops<R: RandomSource + Abort>(
     true
 }
 
-/// The end mark, a fault and the end of the input are each behind the last bytes that are read. The end is read once.
+/// The end mark, a fault and the end of the input are each behind the last bytes that are read. The end is
+/// read once.
 #[test]
 fn no_read_is_made_behind_the_last(rt: HostRuntime) {
     let cases: [(&[u8], usize, usize); 8] = [
@@ -119,8 +121,8 @@ fn is_last(write: &Use, last: Last) -> bool {
     }
 }
 
-/// Whether the reply to the race is written by so many writes of 7 bytes, of which the last may be shorter, and one use more,
-/// to a writer with so much room, of which the use behind so many good ones fails.
+/// Whether the reply to the race is written by so many writes of 7 bytes, of which the last may be shorter,
+/// and one use more, to a writer with so much room, of which the use behind so many good ones fails.
 fn writes_end<R: RandomSource + Abort>(
     rt: &R,
     alloc: Global,

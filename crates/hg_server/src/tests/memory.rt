@@ -1,0 +1,145 @@
+//! Memory that is refused for a connection, and for the report, over heaps of rising size.
+
+ghost use Rattle.hg_serve.specs.Desks.{Begins};
+
+use super::*;
+use crate::closing::tell_closing;
+use crate::service::Service;
+use hg_devices::Sending;
+use hg_queue::{PartQueue, Taker};
+use hg_serve::Naming;
+use linked_list_allocator::LocalHeap;
+use std::alloc::Allocator;
+use std::marker::Brand;
+use std::sync::Wait;
+use std::time::Clock;
+
+/// `output` with a payload of 96 bytes.
+const LONG: &[u8] =
+    b"HG20\0\0\0\0\0\0\0\x0d\x06output\0\0\0\0\0\0\0\0\0\x60aaaaaaaaaaaaaaaaaaaaaaaaaaaaaaaaaaaaaaaaaaaaaaaaaaaaaaaaaaaaaaaaaaaaaaaaaaaaaaaaaaaaaaaaaaaaaaaa\0\0\0\0\0\0\0\0";
+
+/// The replies to a push that memory was refused for: in its run, and in the reading of its bundle.
+const REFUSED_REPLY: &[u8] =
+    b"HG20\0\0\0\0\0\0\0\x28\x0bERROR:ABORT\0\0\0\0\x01\0\x07\x0dmessageout of memory\0\0\0\0\0\0\0\0";
+
+const UNREAD_REPLY: &[u8] =
+    b"HG20\0\0\0\0\0\0\0\x2a\x0bERROR:ABORT\0\0\0\0\x01\0\x07\x0fmessagestream fault 11\0\0\0\0\0\0\0\0";
+
+/// What became of a connection, as its client and the service tell it.
+#[derive(Clone, Copy, PartialEq, Eq)]
+enum Told {
+    /// Nothing was served: there was no room for the queue.
+    Nothing,
+    /// The client got nothing, and the service says that memory was refused.
+    Refused,
+    /// The reply says that memory was refused.
+    Aborted,
+    /// The push is done, and the client knows.
+    Done,
+    /// Something else came than should.
+    Wrong,
+}
+
+/// Serves one connection on this thread, on a server of that name, and says whether memory was refused for
+/// it, and how many pushes are done.
+fn served<J: Naming<A>, A: Allocator + Copy, R: Wait + Clock>(
+    rt: &R,
+    alloc: A,
+    stream: TcpStream,
+    queue: PartQueue<A>,
+    taker: Taker<A>,
+    repo: Repo<A>,
+) -> Option<(bool, usize)>
+    requires { Begins J.table J.capacity J.first queue taker repo }
+{
+    let Ok(clients) = Vec::with_capacity(alloc, 1) else {
+        return None;
+    };
+    let service = Service::<J, A>::new(alloc, repo, queue, taker, clients);
+    service.connect(rt, alloc, stream, 1);
+    let (closed, no_memory) = service.close();
+    Some((no_memory, closed.journal.len()))
+}
+
+/// The same, on a server of an empty repository.
+fn served_over<R: RandomSource + Wait + Clock + Abort>(
+    rt: &R,
+    heap: &LocalHeap,
+    stream: TcpStream,
+) -> Option<(bool, usize)> {
+    let Ok((queue, taker)) = PartQueue::new(heap, 1) else {
+        return None;
+    };
+    served::<Brand, _, _>(rt, heap, stream, queue, taker, empty_repository(rt, heap))
+}
+
+/// A client of a server over a heap pushes. What became of it.
+fn pushed<R>(rt: &R, alloc: Global, heap: &LocalHeap, listener: &TcpListener) -> Told
+where
+    R: Net<Listener = TcpListener, Stream = TcpStream> + RandomSource + Wait + Clock + Abort,
+{
+    let sender = client(rt, listener, LONG);
+    let Ok((stream, _)) = listener.accept() else {
+        return Told::Wrong;
+    };
+    match served_over(rt, heap, stream) {
+        None => Told::Nothing,
+        Some((true, _)) if was_sent(alloc, &sender, b"") => Told::Refused,
+        Some((false, 1)) if was_sent(alloc, &sender, EMPTY) => Told::Done,
+        Some((false, 0)) if is_refusal(alloc, &sender) => Told::Aborted,
+        Some(_) => Told::Wrong,
+    }
+}
+
+/// Whether the client was sent a reply that says that memory was refused.
+fn is_refusal(alloc: Global, stream: &TcpStream) -> bool {
+    let mut got = Vec::new(alloc);
+    let mut reader = stream;
+    reader.read_to_end(&mut got).is_ok()
+        && (got.as_slice() == REFUSED_REPLY || got.as_slice() == UNREAD_REPLY)
+}
+
+/// Memory is refused for an opening, a part or a reply: the service says so, or the reply does. There is no
+/// third.
+#[test]
+fn memory_is_refused_for_a_connection(rt: HostRuntime) -> Result<(), Fail> {
+    let listener = listener(&rt);
+    let (mut refused, mut done, mut wrong) = (false, false, false);
+    for sixteens in 64..192usize {
+        let heap = LocalHeap::new(rt.alloc(), sixteens * 16)?;
+        match pushed(&rt, rt.alloc(), &heap, &listener) {
+            Told::Nothing | Told::Aborted => {}
+            Told::Refused => refused = true,
+            Told::Done => done = true,
+            Told::Wrong => wrong = true,
+        }
+    }
+    assert!(rt; refused && done && !wrong);
+    Ok(())
+}
+
+/// What is told of an empty repository and a done push, over a heap.
+fn told_over<R: RandomSource + Abort>(rt: &R, alloc: Global, heap: &LocalHeap) -> Told {
+    let mut report = Vec::new(alloc);
+    match tell_closing(heap, &empty_repository(rt, heap), &[7], &mut report) {
+        (Sending::NoMemory, 0) if report.is_empty() => Told::Refused,
+        (Sending::Whole, 4) if report.as_slice() == b"J 7\n".as_slice() => Told::Done,
+        _ => Told::Wrong,
+    }
+}
+
+/// Memory is refused for the report, and no byte of it goes out; or it is written whole.
+#[test]
+fn memory_is_refused_for_the_report(rt: HostRuntime) -> Result<(), Fail> {
+    let (mut refused, mut done, mut wrong) = (false, false, false);
+    for sixteens in 1..32usize {
+        let heap = LocalHeap::new(rt.alloc(), sixteens * 16)?;
+        match told_over(&rt, rt.alloc(), &heap) {
+            Told::Refused => refused = true,
+            Told::Done => done = true,
+            _ => wrong = true,
+        }
+    }
+    assert!(rt; refused && done && !wrong);
+    Ok(())
+}
