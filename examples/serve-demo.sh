@@ -16,18 +16,18 @@ for _ in $(seq 500); do
 done
 cat "$room/told"
 
-# push FILE: sends a bundle, and tells the type of the first part of the reply
+# push FILE: sends a bundle, and shows the reply
 push() {
     exec 5<> "/dev/tcp/127.0.0.1/$port"
     cat "$1" >&5
     timeout 30 cat <&5 > "$room/reply"
     exec 5>&-
-    local text
-    text=$(tr -c '[:print:]' ' ' < "$room/reply" | tr -s ' ')
-    echo "$(basename "$1") was answered by $(stat -c %s "$room/reply") bytes: $text"
+    echo "$(basename "$1") was answered by"
+    python3 "$here/show.py" "$room/reply"
 }
 
 push "$here/pushes/first-changesets/01.hg20"
+echo 'The same push again: its heads are not those of the repository any more.'
 push "$here/pushes/first-changesets/01.hg20"
 wait "$server"
 echo 'Its report: the changesets with their phases, and the pushes that are done.'

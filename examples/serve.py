@@ -4,139 +4,7 @@ Each case starts `hg_pushd serve` on a free port of 127.0.0.1, pushes to it, and
 status, the report and what stands on standard error. It ends by itself: a socket waits 30 seconds at most,
 and a server 60.
 """
-import os, random, resource, socket, subprocess, sys, tempfile, threading, time
-
-from bundles import *
-
-PROGRAM = os.path.abspath(sys.argv[1])
-WAIT = 30
-
-
-class Wrong(Exception):
-    pass
-
-
-def want(what, got, wanted):
-    if got != wanted:
-        raise Wrong(f"{what}: {str(got)[:300]}, not {str(wanted)[:300]}")
-
-
-class Server:
-    """The program, serving so many connections on a free port. `ended` asks how it ended."""
-
-    def __init__(self, room, connections, *words, limit=None):
-        self.report = os.path.join(room, "report")
-        command = [PROGRAM, "serve", "--listen", "127.0.0.1:0", "--connections", str(connections)]
-        command += ["--report", self.report]
-        self.process = subprocess.Popen(
-            command + list(words), stdout=subprocess.PIPE, stderr=subprocess.PIPE, preexec_fn=limit, cwd=room
-        )
-        line = self.process.stdout.readline().decode()
-        if not line.startswith("listening on 127.0.0.1:"):
-            self.process.kill()
-            raise Wrong(f"the address is not told: {line!r} {self.process.stderr.read()!r}")
-        self.port = int(line.rsplit(":", 1)[1])
-
-    def connect(self):
-        return socket.create_connection(("127.0.0.1", self.port), WAIT)
-
-    def push(self, *pieces):
-        """All that the server writes to a connection that sends these and then no more."""
-        with self.connect() as client:
-            for piece in pieces:
-                client.sendall(piece)
-            client.shutdown(socket.SHUT_WR)
-            return read_all(client)
-
-    def ended(self, status, report, line=""):
-        try:
-            out, err = self.process.communicate(timeout=60)
-        except subprocess.TimeoutExpired:
-            self.process.kill()
-            raise Wrong("the server does not end")
-        want("status", self.process.returncode, status)
-        want("standard output", out, b"")
-        want("standard error", err.decode(), line and line + "\n")
-        if report is not None:
-            want("report", self.told(), report)
-
-    def told(self):
-        with open(self.report) as file:
-            return file.read()
-
-    def stop(self):
-        if self.process.poll() is None:
-            self.process.kill()
-            self.process.wait()
-
-
-def read_all(client):
-    taken = b""
-    while True:
-        piece = client.recv(65536)
-        if not piece:
-            return taken
-        taken += piece
-
-
-def read_exactly(client, count):
-    taken = b""
-    while len(taken) < count:
-        piece = client.recv(count - len(taken))
-        if not piece:
-            raise Wrong(f"the connection ended behind {taken!r}")
-        taken += piece
-    return taken
-
-
-def together(count, act):
-    """Runs so many threads, and tells the first thing that went wrong in one."""
-    wrong = []
-
-    def run(place):
-        try:
-            act(place)
-        except Exception as error:
-            wrong.append(error)
-
-    threads = [threading.Thread(target=run, args=(place,), daemon=True) for place in range(count)]
-    for thread in threads:
-        thread.start()
-    for thread in threads:
-        thread.join(90)
-        if thread.is_alive():
-            raise Wrong("a client does not end")
-    if wrong:
-        raise wrong[0]
-
-
-def changeset(rev, node, phase=1):
-    return f"C {rev} {node.hex()} {phase} 0\n"
-
-
-ROOT_REPORT = changeset(0, ROOT)
-
-
-def journal(*pushes):
-    return "".join(f"J {push}\n" for push in pushes)
-
-
-CASES = []
-
-
-def case(body):
-    CASES.append(body)
-    return body
-
-
-def served(room, connections, *words, **more):
-    server = Server(room, connections, *words, **more)
-    room.servers.append(server)
-    return server
-
-
-class Room(str):
-    servers = None
+from clients import *
 
 
 @case
@@ -232,7 +100,7 @@ def sending_behind_the_last_bundle(room):
 
 @case
 def sending_on_without_an_end(room):
-    """Who goes on sending behind the last reply is let go of after five seconds, and a thread is free of it."""
+    """Who goes on sending behind the last reply is let go of after five seconds: a thread is free of it."""
     server = served(room, 1)
     with server.connect() as client:
         client.sendall(ROOT_PUSH)
@@ -389,27 +257,20 @@ def racing_pushes(room):
     together(8, push)
     server.ended(0, None)
     report = server.told()
-    by_node = {node.hex(): (parent, place, sent, got) for node, parent, place, sent, got in done}
-    order = [line.split()[2] for line in report.splitlines() if line[0] == "C"]
     pushes = [line for line in report.splitlines() if line[0] == "J"]
-    want("done pushes", (sorted(order), len(pushes)), (sorted(by_node), len(done)))
+    want("done pushes", len(pushes), len(done))
     numbers = {int(line[2:]) for line in pushes}
     want("their numbers", (len(numbers), numbers <= set(range(800))), (len(done), True))
-    # each reply is the one that this order gives
+    # one by one they give the same repository, and each reply is the one that this order gives
+    by_node = {node.hex(): (parent, place, sent, got) for node, parent, place, sent, got in done}
+    order = serial_run(room, report, {node: sent for node, (_, _, sent, _) in by_node.items()})
     now = {NULL}
-    files = []
-    for rev, node in enumerate(order):
-        parent, place, sent, got = by_node[node]
+    for node in order:
+        parent, place, _, got = by_node[node]
         before = len(now)
         now = (now - {parent}) | {bytes.fromhex(node)}
         more = len(now) - before
         want(f"reply to the push of {node}", got, changesets(place, more + 1 if more >= 0 else more - 1))
-        files.append(os.path.join(room, f"{rev:03}"))
-        with open(files[-1], "wb") as file:
-            file.write(sent)
-    # and one by one they give the same repository
-    again = subprocess.run([PROGRAM, "replay"] + files, capture_output=True, timeout=60)
-    want("replay", (again.returncode, again.stdout.decode()), (0, "".join(report.partition("J ")[0])))
 
 
 @case
@@ -438,47 +299,81 @@ def seeds(room):
                 want("report", file.read(), b"")
 
 
-def refused(room, status, line, *words):
-    """The program ends at once."""
-    got = subprocess.run([PROGRAM, "serve", *words], capture_output=True, timeout=30, cwd=room)
-    want(f"status of {words}", got.returncode, status)
-    if line:
-        want(f"standard error of {words}", got.stderr.decode(), line + "\n")
+DEVICE = "hg_pushd: device fault"
+HERE = ("--listen", "127.0.0.1:0")
+ONE = ("--connections", "1")
+REPORT = ("--report", "report")
+MORE = "\n\nFor more information, try '--help'."
+
+
+def without_report(room, status, line, *words):
+    """The program ends at once, and has made no report file."""
+    refused(room, status, line, *words)
+    want("a report file", os.path.exists(os.path.join(room, "report")), False)
 
 
 @case
-def words_and_files(room):
-    device = "hg_pushd: device fault"
-    one = ("--connections", "1")
-    here = ("--listen", "127.0.0.1:0")
-    report = ("--report", "report")
-    for words in (
-        (),
-        here + one,
-        here + report,
-        one + report,
-        here + ("--connections", "0") + report,
-        here + ("--connections", "1025") + report,
-        here + one + report + ("--capacity", "0"),
-        here + one + report + ("--capacity", "65537"),
-        here + one + report + ("--bundles", "0"),
-        here + one + report + ("--bundles", "10001"),
-        here + one + report + ("more",),
+def numbers_out_of_range(room):
+    """Each option that takes a number, below its range, behind it, and without one. Its ends are in it."""
+    most = {"--connections": 1_024, "--capacity": 65_536, "--bundles": 10_000}
+    for option, last in most.items():
+        others = HERE + REPORT + (() if option == "--connections" else ONE)
+        for word, told in (
+            ("0", f"0 is not in 1..={last}"),
+            ("-1", f"-1 is not in 1..={last}"),
+            (str(last + 1), f"{last + 1} is not in 1..={last}"),
+            ("4294967297", f"4294967297 is not in 1..={last}"),
+            ("99999999999999999999", "number too large to fit in target type"),
+            ("1.5", "invalid digit found in string"),
+            ("", "cannot parse integer from empty string"),
+        ):
+            told = f"error: invalid value '{word}' for '{option} <N>': {told}{MORE}"
+            without_report(room, 2, told, *others, f"{option}={word}")
+        for word in ("1", str(last)):
+            without_report(room, 3, DEVICE, *others, option, word, "--seed", "none")
+
+
+@case
+def words_that_are_wrong(room):
+    for words, told in (
+        ((), "the following required arguments were not provided:"),
+        (HERE + ONE, "the following required arguments were not provided:"),
+        (HERE + REPORT, "the following required arguments were not provided:"),
+        (ONE + REPORT, "the following required arguments were not provided:"),
+        (HERE + ONE + REPORT + ("more",), "unexpected argument 'more' found"),
+        (HERE + ONE + REPORT + ("--port", "1"), "unexpected argument '--port' found"),
+        (HERE + ONE + REPORT + ONE, "the argument '--connections <N>' cannot be used multiple times"),
+        (HERE + ("--connections",), "a value is required for '--connections <N>' but none was supplied"),
     ):
-        refused(room, 2, None, *words)
-    refused(room, 3, device, *here, *one, *report, "--seed", "none")
-    want("a report file", os.path.exists(os.path.join(room, "report")), False)
-    refused(room, 3, device, "--listen", "nonsense", *one, *report)
-    want("a report file", os.path.exists(os.path.join(room, "report")), False)
-    refused(room, 3, device, *here, *one, "--report", "none/report")
+        got = subprocess.run([PROGRAM, "serve", *words], capture_output=True, timeout=30, cwd=room)
+        want(f"status of {words}", got.returncode, 2)
+        want(f"standard error of {words}", got.stderr.decode().splitlines()[0], "error: " + told)
+    told = subprocess.run([PROGRAM, "serve", "--help"], capture_output=True, timeout=30)
+    want("help", told.returncode, 0)
+    want("how long is lingered", b"67108864 bytes" in told.stdout and b"5 seconds" in told.stdout, True)
+
+
+@case
+def files_and_addresses(room):
+    """A seed or a report that is missing, a folder, or unreadable; an address that is taken, or is none."""
+    without_report(room, 3, DEVICE, *HERE, *ONE, *REPORT, "--seed", "none")
+    for address in ("nonsense", "127.0.0.1", "127.0.0.1:65536", "192.0.2.1:0", ""):
+        without_report(room, 3, DEVICE, "--listen", address, *ONE, *REPORT)
     with socket.socket() as taken:
         taken.bind(("127.0.0.1", 0))
         taken.listen()
         port = taken.getsockname()[1]
-        refused(room, 3, device, "--listen", f"127.0.0.1:{port}", *one, *report)
-    told = subprocess.run([PROGRAM, "serve", "--help"], capture_output=True, timeout=30)
-    want("help", told.returncode, 0)
-    want("how long is lingered", b"67108864 bytes" in told.stdout and b"5 seconds" in told.stdout, True)
+        without_report(room, 3, DEVICE, "--listen", f"127.0.0.1:{port}", *ONE, *REPORT)
+    for report in ("none/report", ".", "/dev/null/report"):
+        without_report(room, 3, DEVICE, *HERE, *ONE, "--report", report)
+    # these open, and cannot be read: the report's file is made before, and stays empty
+    for seed in (".", "/proc/self/mem"):
+        refused(room, 3, DEVICE, *HERE, *ONE, *REPORT, "--seed", seed)
+        want("size of the report", os.path.getsize(os.path.join(room, "report")), 0)
+    with open("/dev/full", "w") as full:
+        words = [PROGRAM, "serve", *HERE, *ONE, *REPORT]
+        got = subprocess.run(words, stdout=full, stderr=subprocess.PIPE, timeout=30, cwd=room)
+        want("an address that is not told", (got.returncode, got.stderr.decode()), (3, DEVICE + "\n"))
 
 
 @case
@@ -553,29 +448,4 @@ def memory_is_refused_for_a_bundle(room):
     server.ended(0, "")
 
 
-def main():
-    names = sys.argv[2:]
-    failed = 0
-    for body in CASES:
-        if names and body.__name__ not in names:
-            continue
-        start = time.monotonic()
-        with tempfile.TemporaryDirectory() as folder:
-            room = Room(folder)
-            room.servers = []
-            try:
-                body(room)
-            except Exception as error:
-                print(f"{body.__name__}: {type(error).__name__}: {error}")
-                failed = 1
-            finally:
-                for server in room.servers:
-                    server.stop()
-        if names:
-            print(f"{body.__name__}: {time.monotonic() - start:.1f} s")
-    if not failed:
-        print("The server: all clients were answered as wanted.")
-    sys.exit(failed)
-
-
-main()
+play("The server: all clients were answered as wanted.")

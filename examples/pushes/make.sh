@@ -1,8 +1,9 @@
 #!/usr/bin/env bash
-# Makes the pushes of this folder anew, with Mercurial itself (version 6): for each folder NAME the bundles 01.hg20, 02.hg20, ..
-# that its client sent, and the file `report` with what its server's repository held afterwards, printed as hg_pushd prints it.
-# A file `publishing` stands beside the bundles where the server publishes; `statuses` has the status of each push, a line each:
-# 0 where Mercurial took it, 1 where it did not.
+# Makes the pushes of this folder anew, with Mercurial itself (version 6): for each folder NAME the bundles
+# 01.hg20, 02.hg20, .. that its client sent, and the file `report` with what its server's repository held
+# afterwards, printed as hg_pushd prints it. A file `publishing` stands beside the bundles where the server
+# publishes; `statuses` has the status of each push, a line each: 0 where Mercurial took it, 1 where it did
+# not.
 #
 #   bash examples/pushes/make.sh [FOLDER]
 set -eu

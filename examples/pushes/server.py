@@ -1,6 +1,6 @@
 # A Mercurial extension for the side that is pushed to: it offers what hg_pushd takes, keeps the bytes of each
-# push in the file that the environment names as PUSH_BYTES, notes in the file PUSH_STATUS whether it took the push
-# (0) or refused it (1), and can hold a push back (PUSH_HELD) so that it races.
+# push in the file that the environment names as PUSH_BYTES, notes in the file PUSH_STATUS whether it took the
+# push (0) or refused it (1), and can hold a push back (PUSH_HELD) so that it races.
 import os
 
 from mercurial import bundle2, error, extensions, localrepo, obsolete, registrar, util
