@@ -1,4 +1,5 @@
-/* Reads by 4,096 bytes and keeps all that it read in one growing block: what the memory alone costs, with no grammar. */
+/* Reads by 4,096 bytes and keeps all that it read in one growing block: what the memory alone costs, with no
+   grammar. */
 #include <stdlib.h>
 #include <string.h>
 #include <unistd.h>

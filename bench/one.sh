@@ -1,9 +1,10 @@
 #!/usr/bin/env bash
-# How fast `hg_pushd one` reads a bundle with one `output` part of 64 MiB, beside `cat` and `sha1sum` on the same file, and how
-# much memory it takes at most: with the payload as one chunk, in chunks of 32 KiB, and in chunks of 16 bytes. Beside it a C
-# program that reads by 4,096 bytes and keeps them, since most of the time goes into the pages that the payload is kept in. Both
-# run as the Makefile has it, where the C library asks the system for huge pages, and once more where it does not. All in one
-# run, in which the commands take turns; of each the best of eleven counts.
+# How fast `hg_pushd one` reads a bundle with one `output` part of 64 MiB, beside `cat` and `sha1sum` on the
+# same file, and how much memory it takes at most: with the payload as one chunk, in chunks of 32 KiB, and in
+# chunks of 16 bytes. Beside it a C program that reads by 4,096 bytes and keeps them, since most of the time
+# goes into the pages that the payload is kept in. Both run as the Makefile has it, where the C library asks
+# the system for huge pages, and once more where it does not. All in one run, in which the commands take
+# turns; of each the best of eleven counts.
 set -eu
 cd "$(dirname "$0")/.."
 work=$(mktemp -d)
@@ -27,7 +28,8 @@ PY
 
 cc -O2 -o "$work/keep" bench/keep.c
 
-# MB/s and the peak of each command on that bundle; a process of its own, since a child's peak is no less than its parent's
+# MB/s and the peak of each command on that bundle; a process of its own, since a child's peak is no less than
+# its parent's
 measure() {
     python3 - "$@" <<'PY'
 import os, subprocess, sys, time
@@ -64,7 +66,8 @@ for _ in range(11):
 for label, runs in figures.items():
     least = min(took for took, _ in runs)
     peak = max(most for _, most in runs)
-    print(f"  {label:16} {size / least / 1e6:7.0f} MB/s of payload   peak {peak / size:5.2f} times the payload")
+    rate = f"{size / least / 1e6:7.0f} MB/s of payload"
+    print(f"  {label:16} {rate}   peak {peak / size:5.2f} times the payload")
 PY
 }
 

@@ -1,10 +1,7 @@
 #!/bin/sh
-# MB/s of `hg_cgroup::decode` and `hg_delta::apply`, beside a copy of the same bytes in the same run: name, MB/s, times the copy's time.
+# MB/s of `hg_cgroup::decode` and `hg_delta::apply`, beside a copy of the same bytes in the same run: name,
+# MB/s, times the copy's time.
 set -eu
 . "$(dirname "$0")/../scratch.sh"
 scratch_program changegroups changegroup_speed 'anyhow hg_types hg_delta hg_cgroup'
-if ! "$rt" run > "$scratch/told" 2>&1; then
-    tail -20 "$scratch/told"
-    exit 1
-fi
-grep 'MB/s' "$scratch/told"
+scratch_run 'MB/s'

@@ -1,13 +1,10 @@
 #!/bin/sh
-# Speeds of reading and merging markers, and of base-85 beside Python's `base64` on the same bytes in the same run.
+# Speeds of reading and merging markers, and of base-85 beside Python's `base64` on the same bytes in the same
+# run.
 set -eu
 . "$(dirname "$0")/../scratch.sh"
 scratch_program markers marker_speed 'anyhow hg_types hg_obs hg_keys'
-if ! "$rt" run > "$scratch/told" 2>&1; then
-    grep -v -e ': proved' -e 'modules loaded' "$scratch/told" | tail -40
-    exit 1
-fi
-grep -e ' a second' -e 'MB/s' "$scratch/told"
+scratch_run ' a second\|MB/s'
 python3 - <<'PYTHON'
 import base64, time
 data = bytes(i % 251 for i in range(1 << 22))

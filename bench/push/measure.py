@@ -9,8 +9,11 @@ import termios
 import threading
 import time
 
-program, folder = os.path.realpath(sys.argv[1]), sys.argv[2]
+program, folder = os.path.realpath(sys.argv[1]), os.path.realpath(sys.argv[2])
+here = os.path.dirname(os.path.realpath(__file__))
 RUNS = 5
+# Mercurial's modules are those of the system's Python
+PYTHON = "/usr/bin/python3"
 
 
 def run(words, source=None, cwd=None):
@@ -108,29 +111,73 @@ def single():
     print(f"  the opening of the files took {opened:.1f} of {spent * 1e3:.1f} ms")
 
 
+def peak_of(pid):
+    """The most memory in bytes that a process held until now."""
+    with open(f"/proc/{pid}/status", encoding="ascii") as told:
+        line = next(line for line in told if line.startswith("VmHWM:"))
+    return int(line.split()[1]) * 1024
+
+
+def peaks(names):
+    """The peak of memory where the pushes are done, and where their report is written too."""
+    room = os.path.join(folder, "blocks")
+    last = os.path.join(folder, "last")
+    os.mkfifo(last)
+    words = [program, "replay", *names, last]
+    child = subprocess.Popen(words, stdin=subprocess.DEVNULL, stdout=subprocess.DEVNULL, cwd=room)
+    told = [None]
+    done = []
+
+    def waits():
+        # it waits for the last byte of a push without a part, so the pushes before it are done
+        done[:] = [peak_of(child.pid)]
+        return child.pid
+
+    feed(last, b"HG20" + bytes(8), waits, told, 0)
+    _, status, usage = os.wait4(child.pid, 0)
+    os.unlink(last)
+    if status != 0:
+        sys.exit(f"replay of blocks: status {os.waitstatus_to_exitcode(status)}")
+    return done[0], usage.ru_maxrss * 1024
+
+
 def memory():
     names = names_in("blocks")
-    room = os.path.join(folder, "blocks")
-    _, few, _ = run([program, "replay", *names[:100]], cwd=room)
-    _, all_of_them, _ = run([program, "replay", *names], cwd=room)
-    whole = (all_of_them / 200000) - 140
-    more = (all_of_them - few) / 100000 - 140
-    print(f"memory beyond the text: {whole:.0f} bytes a changeset at 200,000, by the peak of the process")
-    print(f"  and {more:.0f} bytes for each of the second 100,000")
+    few, few_told = peaks(names[:100])
+    done, told = peaks(names)
+    print("memory beyond the text, in bytes a changeset at 200,000, by the peak of the process:")
+    print(f"  where the pushes are done {done / 200000 - 140:.0f}, with the report {told / 200000 - 140:.0f}")
+    print(f"  for each of the second 100,000: {(done - few) / 100000 - 140:.0f} and {(told - few_told) / 100000 - 140:.0f}")
+
+
+def is_same_as(report, paths):
+    """Whether the program reports the same of the same pushes."""
+    with open(report, "rb") as told:
+        return told.read() == subprocess.run([program, "replay", *paths], stdout=subprocess.PIPE, check=True).stdout
+
+
+def mercurial(label, count, names):
+    """The same pushes taken by Mercurial, in one process and without a network, and by the program."""
+    server, report = os.path.join(folder, "server"), os.path.join(folder, "report")
+    paths = [os.path.join(folder, name) for name in names]
+    words = [PYTHON, os.path.join(here, "beside.py"), server, report, *paths]
+    told = subprocess.run(words, stdout=subprocess.PIPE, check=True).stdout.split()
+    spent, peak = float(told[0]), int(told[1])
+    if not is_same_as(report, paths):
+        sys.exit(f"{label}: Mercurial's repository is another one")
+    best, ours, _ = min(run([program, "replay", *paths]) for _ in range(RUNS))
+    shutil.rmtree(server)
+    print(f"{label}: Mercurial {count / spent:,.0f} a second with a peak of {peak / 1e6:.0f} MB, "
+          f"the program {count / best:,.0f} with {ours / 1e6:.0f} MB; both repositories are the same")
 
 
 def beside():
-    hg = shutil.which("hg")
-    if hg is None:
+    if subprocess.run([PYTHON, "-c", "import mercurial"], stderr=subprocess.DEVNULL).returncode != 0:
         print("Mercurial is not installed here")
         return
-    names = names_in("single")
-    server = os.path.join(folder, "server")
-    subprocess.run([hg, "init", server], check=True)
-    room = os.path.join(folder, "single")
-    some = names[:1000]
-    spent, _, _ = run([hg, "-R", server, "--config", "phases.publish=no", "unbundle", "-q", *some], cwd=room)
-    print(f"Mercurial, 1,000 of the pushes by `hg unbundle`: {len(some) / spent:,.0f} a second, likewise")
+    print("beside Mercurial", subprocess.run(["hg", "--version", "-q"], stdout=subprocess.PIPE, text=True).stdout.strip())
+    mercurial("changesets of one push of 20,000", 20000, ["line.hg20"])
+    mercurial("pushes of one changeset, 2,000", 2000, [os.path.join("single", name) for name in names_in("single")[:2000]])
 
 
 one()

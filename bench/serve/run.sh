@@ -9,8 +9,11 @@ if ! "$rt" run > "$scratch/told" 2>&1; then
     exit 1
 fi
 grep ' threads: ' "$scratch/told"
+mkdir -p "$top/build"
+cp out/serve_speed "$top/build/serve_speed"
+echo "The program is at build/serve_speed."
 if command -v strace > /dev/null; then
-    strace -f -c --seccomp-bpf -e trace=futex -o "$scratch/calls" out/serve_speed 8
+    strace -f -c --seccomp-bpf -e trace=futex -o "$scratch/calls" out/serve_speed 8 > /dev/null
     awk '$NF == "futex" { calls = $4 }
         END { printf "8 threads: %.4f futex calls a push (wanted: under 0.1000)\n", calls / 800000 }' "$scratch/calls"
 else
