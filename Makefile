@@ -2,7 +2,8 @@
 #
 #   make run     prove and build the program, and let it take a push that Mercurial sent
 #   make build   leave the program at build/hg_pushd
-#   make test    prove everything from nothing, refuse the wrong bodies, run the tests, and run the built program
+#   make test    prove everything from nothing, refuse the wrong bodies, run the tests, and run the built program:
+#                on examples, for clients, under a limit of memory, and for a minute on random bundles
 #   make bench   measure the program; bench/*/run.sh measure the crates below it
 
 PROGRAM := build/hg_pushd
@@ -20,28 +21,35 @@ build: $(PROGRAM)
 
 $(PROGRAM): $(SOURCES)
 	@command -v rt > /dev/null || { echo 'hg_pushd is built with the Rattle toolchain: its command rt is not on the path.'; exit 1; }
-	@echo 'Proving and building hg_pushd and the crates below it. This takes some minutes the first time.'
+	@echo 'From nothing this takes about 20 minutes on four processors; where crates did not change, a minute or two.'
+	@python3 tools/prove.py
+	@echo 'Building the program.'
 	@cd crates/hg_pushd && rt run -- one < ../../examples/first-push.hg20 > /dev/null
 	@mkdir -p build
 	@cp crates/hg_pushd/out/hg_pushd $(PROGRAM)
 	@echo 'The program is at $(PROGRAM).'
 
 run: $(PROGRAM)
-	@echo 'A push that Mercurial sent: three changesets onto the empty repository.'
-	@$(HUGE_PAGES) $(PROGRAM) one < $(PUSHED) > build/reply.hg20 && echo 'Status 0: the push is done. The reply: one head more.'
-	@od -A d -c build/reply.hg20
-	@echo 'What the repository then holds. A line for each changeset: its number, its id, its phase, whether it is obsolete.'
+	@echo 'A push that Mercurial sent, three changesets onto the empty repository:'
+	@python3 examples/show.py $(PUSHED)
+	@$(HUGE_PAGES) $(PROGRAM) one < $(PUSHED) > build/reply.hg20 && echo 'Status 0: the push is done. The reply:'
+	@python3 examples/show.py build/reply.hg20
+	@echo 'What the repository then holds. A changeset a line: its number, its id, its phase, whether it is obsolete.'
 	@$(HUGE_PAGES) $(PROGRAM) replay $(PUSHED)
 	@bash examples/serve-demo.sh $(PROGRAM)
 
 test:
 	@python3 tools/index.py --check
-	@echo 'Proving every crate from nothing, trying the wrong bodies, running the tests. This takes a while.'
+	@python3 tools/pictures.py --check
+	@python3 tools/costs.py --check
+	@echo 'Proving every crate from nothing, trying the wrong bodies, running the tests: about 80 minutes on four processors.'
 	@rt ci
 	@# the program that the gate has just built, or else a new one
 	@if [ -x crates/hg_pushd/out/hg_pushd ]; then mkdir -p build && cp crates/hg_pushd/out/hg_pushd $(PROGRAM); else $(MAKE) --no-print-directory build; fi
 	@bash examples/check.sh $(PROGRAM)
 	@bash examples/serve.sh $(PROGRAM)
+	@bash examples/hostile.sh $(PROGRAM)
+	@bash bench/fuzz/run.sh $(PROGRAM) 60 1
 
 bench: $(PROGRAM)
 	@bash bench/one.sh

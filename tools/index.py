@@ -1,24 +1,36 @@
 #!/usr/bin/env python3
 """From a clause to all that stands behind it: prints docs/index.md from the sources.
 
-For each crate a table of the public functions, with the wrong bodies that turn each and the tests that run it;
+For each crate a list of the public functions, with the wrong bodies that turn each and the tests that run it;
 and one of the words that their clauses use: where a word is defined, which heading of the public standard its
 module states, and the functions that are promised by it.
 
-`index.py --check` compares docs/index.md with what it would print, and fails on a public function without a wrong
-body that no line of docs/index-exceptions.txt tells of, and on a word without a sentence in docs/definitions.md.
+`index.py --check` compares docs/index.md with what it would print. It fails on a public function without a
+wrong body that no line of docs/index-exceptions.txt tells of, on a word without a sentence in
+docs/definitions.md, on a clause or a definition that uses a module of specs/code/, and on a module that its
+crate's page does not name.
 """
 
 import os
 import re
 import sys
+import textwrap
 from collections import defaultdict
 
 ROOT = os.path.dirname(os.path.dirname(os.path.abspath(__file__)))
 
 FUNCTION = re.compile(r"^(\s*)(pub(?:\([a-z]+\))? )?(?:const )?fn (\w+)")
+WORD_DEFINED = re.compile(r"(?:abbrev |unfoldable )?pub (?:record |data )?([\w']+)|record pub ([\w']+)")
 WORD = re.compile(r"[A-Za-z_][\w']*")
 GHOST = re.compile(r"ghost use Rattle\.(hg_\w+)\.specs\.([\w.]+)\.\{([^}]*)\}")
+
+
+ABOUT = """\
+Made by `tools/index.py` from the sources; `make test` compares it with them. For each crate the public
+functions, with the wrong bodies that turn each and the tests that run it; and the words that their clauses
+use, with the module of `specs/` that defines each, and the heading of the public standard that this module
+states. `docs/definitions.md` has a sentence on each word, `docs/wrong-bodies.md` one on each wrong body, and
+`docs/worked-examples.md` one on each example."""
 
 
 def read(path):
@@ -82,7 +94,8 @@ def functions_of(crate, path):
         indent, first = found.group(1), number
         # the body begins with the first line that ends with a brace at the signature's own depth
         begin = first
-        while begin < len(lines) and not re.match(rf"^{indent}(\{{.*|.*[^=] \{{|.*\{{\}}|.*;)$", lines[begin]):
+        ends = re.compile(rf"^{indent}(\{{.*|.*[^=] \{{|.*\{{\}}|.*;)$")
+        while begin < len(lines) and not ends.match(lines[begin]):
             begin += 1
         end = begin
         if begin < len(lines) and not lines[begin].rstrip().endswith(("{}", "}", ";")):
@@ -92,9 +105,8 @@ def functions_of(crate, path):
         head = "\n".join(lines[first:begin + 1])
         body = "\n".join(lines[begin:end + 1])
         stop = offsets[end + 1] if end + 1 < len(lines) else len(text)
-        function = Function(
-            crate, path, found.group(3), (found.group(2) or "").strip() == "pub", head, body, offsets[first], stop
-        )
+        public = (found.group(2) or "").strip() == "pub"
+        function = Function(crate, path, found.group(3), public, head, body, offsets[first], stop)
         function.of = of if indent else ""
         function.is_test = any("#[test]" in line for line in lines[max(0, first - 3):first])
         yield function
@@ -137,11 +149,12 @@ def api(crate):
     given = set()
     for _, group in re.findall(r"^pub use ([\w:]*?)(\w+|\{[^}]*\});", text, re.M):
         given |= set(re.findall(r"\w+", group))
-    return given, set(re.findall(r"^pub mod (\w+);", text, re.M)), "main.rt" in os.listdir(f"{ROOT}/crates/{crate}/src")
+    is_program = "main.rt" in os.listdir(f"{ROOT}/crates/{crate}/src")
+    return given, set(re.findall(r"^pub mod (\w+);", text, re.M)), is_program
 
 
 def definitions(crate):
-    """Where each word of a crate's specs/ is defined: its module and the first sentence that stands before it."""
+    """Where each word of a crate's specs/ is defined: its module, and the sentence that stands before it."""
     found = {}
     for path in files(f"{ROOT}/crates/{crate}/specs", ".antt"):
         module = os.path.relpath(path, f"{ROOT}/crates/{crate}/specs")[:-5].replace("/", ".")
@@ -151,7 +164,7 @@ def definitions(crate):
             if line.startswith("-- ") or line == "--":
                 before.append(line[3:])
                 continue
-            word = re.match(r"(?:abbrev |unfoldable )?pub (?:record |data )?([\w']+)|record pub ([\w']+)", line)
+            word = WORD_DEFINED.match(line)
             word = word and (word.group(1) or word.group(2))
             if word and word not in ("mod", "record", "data", "unfoldable", "abbrev"):
                 found.setdefault(word, (module, " ".join(before)))
@@ -184,17 +197,37 @@ def listed(names, most=3):
     return ", ".join(f"`{name}`" for name in names[:most]) + more
 
 
+def bullet(text):
+    """A line of a list, within the width."""
+    how = {"subsequent_indent": "  ", "break_long_words": False, "break_on_hyphens": False}
+    return "\n".join(textwrap.wrap(f"- {text}", 110, **how))
+
+
+def is_of_code(module):
+    """Whether a module of specs/ tells how the code keeps its values, and not what a contract says."""
+    return module.startswith("code.")
+
+
+def strays(crate):
+    """What stands in a crate's specs/ where it should not: a use of a module of specs/code/ in another one, and
+    a module that the crate's page does not name."""
+    page = read(f"{ROOT}/docs/crates/{crate}.md")
+    for path in files(f"{ROOT}/crates/{crate}/specs", ".antt"):
+        module = os.path.relpath(path, f"{ROOT}/crates/{crate}/specs")[:-5]
+        if not module.startswith("code") and re.search(r"\.specs\.code\.", read(path)):
+            yield f"{crate} {module}: it uses a module of specs/code/, which no contract speaks of"
+        is_list = module == "Lib" or os.path.isdir(path[:-5])
+        if not is_list and f"`{module.removeprefix('code/')}`" not in page:
+            yield f"{crate} {module}: docs/crates/{crate}.md does not name it"
+
+
 def main():
     headings, excused, told_words = standard(), exceptions(), read(f"{ROOT}/docs/definitions.md")
     out, missing = [], []
     say = out.append
     say("# From a clause to all that stands behind it")
     say("")
-    say("Made by `tools/index.py` from the sources; `make test` compares it with them. For each crate the public")
-    say("functions, with the wrong bodies that turn each and the tests that run it; and the words that their clauses")
-    say("use, with the module of `specs/` that defines each, and the heading of the public standard that this module")
-    say("states. `docs/definitions.md` has a sentence on each word, `docs/wrong-bodies.md` one on each wrong body, and")
-    say("`docs/worked-examples.md` one on each example.")
+    say(ABOUT)
     known = {crate: definitions(crate) for crate in crates()}
     for crate in crates():
         every, imports = [], {}
@@ -235,7 +268,8 @@ def main():
         given, opened, is_program = api(crate)
         public = []
         for function in every:
-            module = os.path.relpath(function.path, f"{ROOT}/crates/{crate}/src").split("/")[0].removesuffix(".rt")
+            inside = os.path.relpath(function.path, f"{ROOT}/crates/{crate}/src")
+            module = inside.split("/")[0].removesuffix(".rt")
             is_given = (function.of or function.name) in given or module in opened
             function.is_given = function.public and "/tests" not in function.path and (is_given or is_program)
             if function.is_given:
@@ -243,8 +277,8 @@ def main():
         say("")
         say(f"## {crate}")
         say("")
-        say("| function | wrong bodies | tests |")
-        say("|---|---|---|")
+        say("Public functions:")
+        say("")
         used = defaultdict(list)
         for function in public:
             names = [name for one in reached(function, by_name) for name in turned[id(one)]]
@@ -255,20 +289,27 @@ def main():
             bodies = listed(names) or ("a law" if is_law else excused.get(key, ""))
             if not bodies:
                 missing.append(f"{key} ({where}): no wrong body turns it")
-            say(f"| `{shown}` (`{where}`) | {bodies} | {listed(runs[function.name])} |")
+            if names:
+                bodies = f"turned by {bodies}"
+            tests = listed(runs[function.name])
+            say(bullet(f"`{shown}` (`{where}`): {bodies}{'; run by ' + tests if tests else ''}"))
             for word in dict.fromkeys(WORD.findall(function.clauses())):
                 if word in imports[function.path]:
                     used[imports[function.path][word]].append(shown)
         if used:
             say("")
-            say("| word | defined in | public standard | promises of |")
-            say("|---|---|---|---|")
+            say("Words of their clauses:")
+            say("")
         for (below, word), names in sorted(used.items()):
             module = known[below].get(word, ("", ""))[0]
             heading = headings.get(f"{below} {module}", headings.get(below, ""))
             if not re.search(rf"(?<![\w']){re.escape(word)}(?![\w'])", told_words):
                 missing.append(f"{below} {word} ({module}): no sentence in docs/definitions.md")
-            say(f"| `{word}` | `{below}` {module} | {heading} | {listed(names)} |")
+            if is_of_code(module):
+                missing.append(f"{below} {word} ({module}): a public clause of {crate} uses it")
+            by = f", by {heading}" if heading else ""
+            say(bullet(f"`{word}`, of `{below}` {module}{by}: promised by {listed(names)}"))
+        missing += strays(crate)
     text = "\n".join(out) + "\n"
     if "--check" not in sys.argv[1:]:
         print(text, end="")
