@@ -134,8 +134,10 @@ def another_byte(chance, data, _others):
 
 
 def another_size(chance, data, _others):
+    """A size of the list, or the size itself with one more or one less, as far as four bytes hold it."""
     at = chance.choice(Frames(data).sizes)
     near = (size_at(data, at) or 0) + chance.choice((-1, 1))
+    near = min(max(near, SIZES[0]), SIZES[-1])
     return data[:at] + number(chance.choice(SIZES + (near, near, near, near))) + data[at + 4 :]
 
 
@@ -359,4 +361,5 @@ def main():
     print(f"Random bundles: {told}, each alike whole and in pieces.")
 
 
-main()
+if __name__ == "__main__":
+    main()
