@@ -27,6 +27,3 @@ mod version;
 
 pub use fault::GroupFault;
 pub use group::{decode, every_changegroup_has_an_outcome, one_outcome};
-
-#[cfg(test)]
-mod tests;

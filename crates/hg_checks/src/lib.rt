@@ -17,6 +17,3 @@ pub use bookmarks::check_bookmarks;
 pub use fault::CheckFault;
 pub use heads::check_heads;
 pub use phases::check_phases;
-
-#[cfg(test)]
-mod tests;

@@ -24,6 +24,3 @@ pub use law::{every_reading, one_payload, one_reading, one_size};
 pub use payload::PayloadIn;
 pub use size::SizeField;
 pub use write::{put_i32, read_i32, write_payload};
-
-#[cfg(test)]
-mod tests;

@@ -15,6 +15,3 @@ mod served;
 
 pub use connection::serve_connection;
 pub use served::{ConnFault, Served};
-
-#[cfg(test)]
-mod tests;

@@ -14,6 +14,3 @@ mod text;
 
 pub use fault::DeltaFault;
 pub use text::{apply, every_delta_has_an_outcome, one_outcome};
-
-#[cfg(test)]
-mod tests;

@@ -47,14 +47,3 @@ pub use laws::{
     reading_is_the_grammar,
 };
 pub use payload::read_bookmarks;
-
-#[cfg(test)]
-mod bookmarks_tests;
-#[cfg(test)]
-mod many_tests;
-#[cfg(test)]
-mod payload_tests;
-#[cfg(test)]
-mod push_tests;
-#[cfg(test)]
-mod tests;

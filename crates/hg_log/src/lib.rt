@@ -22,6 +22,3 @@ pub use laws::{
     ancestors_come_first, heads_after_a_row, one_list_of_heads, other_rows_keep_their_ancestors,
 };
 pub use node::node_id;
-
-#[cfg(test)]
-mod tests;

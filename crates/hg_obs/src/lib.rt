@@ -27,6 +27,3 @@ pub use law::{bytes_tell_markers, markers_stay_lawful, reading_is_the_grammar};
 pub use marker::Marker;
 pub use markers::Markers;
 pub use read::read_markers;
-
-#[cfg(test)]
-mod tests;

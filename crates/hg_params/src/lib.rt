@@ -31,6 +31,3 @@ pub use head::{Head, read_header};
 pub use stream_params::{StreamParam, read_stream_params};
 pub use writable::is_writable;
 pub use write::{write_head, write_header};
-
-#[cfg(test)]
-mod tests;

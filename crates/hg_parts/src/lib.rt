@@ -26,6 +26,3 @@ pub use refusal::{RaceText, Refusal};
 pub use source::Source;
 pub use store::{Store, StoreMark};
 pub use table::starts_replies;
-
-#[cfg(test)]
-mod tests;

@@ -29,6 +29,3 @@ pub use entries::read_entries;
 pub use fault::EntryFault;
 pub use laws::{no_row_is_below_an_ancestor, phases_stay_lawful, roots_tell_phases};
 pub use phases::{Mark, Phases};
-
-#[cfg(test)]
-mod tests;

@@ -19,6 +19,3 @@ mod step;
 pub use book::{Book, OpenFault};
 pub use outcome::{Outcome, Reason, Standing};
 pub use reply::reply_bytes;
-
-#[cfg(test)]
-mod tests;

@@ -1,6 +1,7 @@
 //! Worked examples of one bundle and its reply, in memory.
 
 mod devices;
+mod large;
 mod memory;
 mod replay;
 mod seeds;
@@ -20,8 +21,10 @@ use std::test::*;
 const EMPTY: &[u8] = b"HG20\0\0\0\0\0\0\0\0";
 
 /// `replycaps`, and `check:heads` with the null id.
-const FIRST_PUSH: &[u8] =
-    b"HG20\0\0\0\0\0\0\0\x10\x09REPLYCAPS\0\0\0\0\0\0\0\0\0\0\0\0\0\x12\x0bCHECK:HEADS\0\0\0\x01\0\0\0\0\0\x14\0\0\0\0\0\0\0\0\0\0\0\0\0\0\0\0\0\0\0\0\0\0\0\0\0\0\0\0";
+const FIRST_PUSH: &[u8] = b"HG20\0\0\0\0\
+        \0\0\0\x10\x09REPLYCAPS\0\0\0\0\0\0\0\0\0\0\
+        \0\0\0\x12\x0bCHECK:HEADS\0\0\0\x01\0\0\0\0\0\x14\0\0\0\0\0\0\0\0\0\0\0\0\0\0\0\0\0\0\0\0\0\
+        \0\0\0\0\0\0\0";
 
 /// `check:heads` without an id.
 const RACE: &[u8] = b"HG20\0\0\0\0\0\0\0\x12\x0bCHECK:HEADS\0\0\0\0\0\0\0\0\0\0\0\0\0\0";
@@ -42,8 +45,9 @@ const MANDATORY_REPLY: &[u8] =
 const PARAMETER: &[u8] =
     b"HG20\0\0\0\0\0\0\0\x13\x09REPLYCAPS\0\0\0\0\x01\0\x01\0x\0\0\0\0\0\0\0\0";
 
-const PARAMETER_REPLY: &[u8] =
-    b"HG20\0\0\0\0\0\0\0\x3b\x18ERROR:UNSUPPORTEDCONTENT\0\0\0\0\x02\0\x08\x09\x06\x01parttypereplycapsparamsx\0\0\0\0\0\0\0\0";
+const PARAMETER_REPLY: &[u8] = b"HG20\0\0\0\0\
+        \0\0\0\x3b\x18ERROR:UNSUPPORTEDCONTENT\0\0\0\0\x02\0\x08\x09\x06\x01parttypereplycapsparamsx\
+        \0\0\0\0\0\0\0\0";
 
 /// `error:abort` without parameters.
 const CLIENT_ABORT: &[u8] = b"HG20\0\0\0\0\0\0\0\x12\x0bERROR:ABORT\0\0\0\0\0\0\0\0\0\0\0\0\0\0";
@@ -58,19 +62,28 @@ const FOREIGN_REPLY: &[u8] =
     b"HG20\0\0\0\0\0\0\0\x29\x0bERROR:ABORT\0\0\0\0\x01\0\x07\x0emessagestream fault 1\0\0\0\0\0\0\0\0";
 
 /// The first push, whose null id comes in chunks of 8 and 12 bytes with `output` between them.
-const INTERRUPTED: &[u8] =
-    b"HG20\0\0\0\0\0\0\0\x10\x09REPLYCAPS\0\0\0\0\0\0\0\0\0\0\0\0\0\x12\x0bCHECK:HEADS\0\0\0\x01\0\0\0\0\0\x08\0\0\0\0\0\0\0\0\xff\xff\xff\xff\0\0\0\x0d\x06output\0\0\0\0\0\0\0\0\0\0\0\0\0\x0c\0\0\0\0\0\0\0\0\0\0\0\0\0\0\0\0\0\0\0\0";
+const INTERRUPTED: &[u8] = b"HG20\0\0\0\0\
+        \0\0\0\x10\x09REPLYCAPS\0\0\0\0\0\0\0\0\0\0\
+        \0\0\0\x12\x0bCHECK:HEADS\0\0\0\x01\0\0\0\0\0\x08\0\0\0\0\0\0\0\0\
+        \xff\xff\xff\xff\0\0\0\x0d\x06output\0\0\0\0\0\0\0\0\0\0\0\0\0\x0c\0\0\0\0\0\0\0\0\0\0\0\0\0\
+        \0\0\0\0\0\0\0";
 
 /// The same, where `output` is interrupted itself.
-const TWICE_INTERRUPTED: &[u8] =
-    b"HG20\0\0\0\0\0\0\0\x10\x09REPLYCAPS\0\0\0\0\0\0\0\0\0\0\0\0\0\x12\x0bCHECK:HEADS\0\0\0\x01\0\0\0\0\0\x08\0\0\0\0\0\0\0\0\xff\xff\xff\xff\0\0\0\x0d\x06output\0\0\0\0\0\0\xff\xff\xff\xff\0\0\0\x0c\0\0\0\0\0\0\0\0\0\0\0\0\0\0\0\0\0\0\0\0";
+const TWICE_INTERRUPTED: &[u8] = b"HG20\0\0\0\0\
+        \0\0\0\x10\x09REPLYCAPS\0\0\0\0\0\0\0\0\0\0\
+        \0\0\0\x12\x0bCHECK:HEADS\0\0\0\x01\0\0\0\0\0\x08\0\0\0\0\0\0\0\0\
+        \xff\xff\xff\xff\0\0\0\x0d\x06output\0\0\0\0\0\0\xff\xff\xff\xff\0\0\0\x0c\0\0\0\0\0\0\0\0\0\
+        \0\0\0\0\0\0\0\0\0\0\0";
 
 const TWICE_INTERRUPTED_REPLY: &[u8] =
     b"HG20\0\0\0\0\0\0\0\x29\x0bERROR:ABORT\0\0\0\0\x01\0\x07\x0emessagestream fault 6\0\0\0\0\0\0\0\0";
 
 /// The same, interrupted by `frob`, which may not be ignored.
-const UNKNOWN_INTERRUPTION: &[u8] =
-    b"HG20\0\0\0\0\0\0\0\x10\x09REPLYCAPS\0\0\0\0\0\0\0\0\0\0\0\0\0\x12\x0bCHECK:HEADS\0\0\0\x01\0\0\0\0\0\x08\0\0\0\0\0\0\0\0\xff\xff\xff\xff\0\0\0\x0b\x04FROB\0\0\0\0\0\0\0\0\0\0\0\0\0\x0c\0\0\0\0\0\0\0\0\0\0\0\0\0\0\0\0\0\0\0\0";
+const UNKNOWN_INTERRUPTION: &[u8] = b"HG20\0\0\0\0\
+        \0\0\0\x10\x09REPLYCAPS\0\0\0\0\0\0\0\0\0\0\
+        \0\0\0\x12\x0bCHECK:HEADS\0\0\0\x01\0\0\0\0\0\x08\0\0\0\0\0\0\0\0\
+        \xff\xff\xff\xff\0\0\0\x0b\x04FROB\0\0\0\0\0\0\0\0\0\0\0\0\0\x0c\0\0\0\0\0\0\0\0\0\0\0\0\0\0\
+        \0\0\0\0\0\0";
 
 const UNKNOWN_INTERRUPTION_REPLY: &[u8] =
     b"HG20\0\0\0\0\0\0\0\x29\x0bERROR:ABORT\0\0\0\0\x01\0\x07\x0emessagestream fault 8\0\0\0\0\0\0\0\0";
@@ -225,7 +238,9 @@ fn unknown_parameters_with_long_names(rt: HostRuntime) -> Result<(), Fail> {
     bundle.extend_from_slice(&[0; 8])?;
     let mut reply = Vec::from_slice(
         rt.alloc(),
-        b"HG20\0\0\0\0\0\0\x01\x39\x18ERROR:UNSUPPORTEDCONTENT\0\0\0\0\x02\0\x08\x09\x06\xffparttypereplycapsparams",
+        b"HG20\0\0\0\0\
+            \0\0\x01\x39\x18ERROR:UNSUPPORTEDCONTENT\0\0\0\0\x02\0\x08\x09\x06\xff\
+            parttypereplycapsparams",
     )?;
     reply.extend_from_slice(&[b'a'; 200])?;
     reply.push(0)?;

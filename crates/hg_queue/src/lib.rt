@@ -15,6 +15,3 @@ pub mod view;
 
 pub use queue::PartQueue;
 pub use seat::{Full, Mark, Marked, Putter, Taker, Visitor};
-
-#[cfg(test)]
-mod tests;

@@ -17,6 +17,3 @@ mod same;
 pub use done::Done;
 pub use hg_parts::{Prepared, RaceText, Refusal, Source, prepare};
 pub use repo::Repo;
-
-#[cfg(test)]
-mod tests;

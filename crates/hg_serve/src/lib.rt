@@ -18,6 +18,3 @@ pub use desk::{Answer, Closed, Desk};
 pub use gate::{Gate, NoGate, Point};
 pub use naming::Naming;
 pub use server::{PutFault, Server};
-
-#[cfg(test)]
-mod tests;

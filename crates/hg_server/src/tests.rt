@@ -5,6 +5,7 @@
 
 ghost use Rattle.hg_types.specs.Limits.{IsAllowed};
 
+mod beside;
 mod memory;
 
 use super::*;

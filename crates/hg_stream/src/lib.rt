@@ -24,6 +24,3 @@ pub use fault::StreamFault;
 pub use state::State;
 pub use unbundler::Unbundler;
 pub use write::write_bundle;
-
-#[cfg(test)]
-mod tests;

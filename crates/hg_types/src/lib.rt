@@ -23,6 +23,3 @@ pub use node::Node;
 pub use part::{Param, Part};
 pub use phase::Phase;
 pub use seq::{Seq, try_clone_each};
-
-#[cfg(test)]
-mod tests;

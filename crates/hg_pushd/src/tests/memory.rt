@@ -87,7 +87,7 @@ fn a_failed_read_comes_before_want_of_memory(rt: HostRuntime) -> Result<(), Fail
         if status == 3 {
             lost = lost.saturating_add(1);
         } else {
-            assert_eq!(rt; status, 4);
+            assert_eq!(rt; (status, reader.reads()), (4, 0));
             assert!(rt; writer.bytes().is_empty());
         }
     }

@@ -43,8 +43,8 @@ const DRAFT: &[u8] = b"C 0 b80de5d138758541c5f05265ad144ab9fa86d1db 1 0\n";
 const PUBLIC: &[u8] = b"C 0 b80de5d138758541c5f05265ad144ab9fa86d1db 0 0\n";
 
 /// The same, with a marker.
-const PUBLIC_MARKED: &[u8] =
-    b"C 0 b80de5d138758541c5f05265ad144ab9fa86d1db 0 0\nO 000000000000b80de5d138758541c5f05265ad144ab9fa86d1db\n";
+const PUBLIC_MARKED: &[u8] = b"C 0 b80de5d138758541c5f05265ad144ab9fa86d1db 0 0\n\
+        O 000000000000b80de5d138758541c5f05265ad144ab9fa86d1db\n";
 
 /// The marker of a changeset that is not there.
 const MARKED_ALONE: &[u8] = b"O 000000000000b80de5d138758541c5f05265ad144ab9fa86d1db\n";
@@ -101,13 +101,15 @@ fn what_later_pushes_change(rt: HostRuntime) {
     let cases: [(&[&[u8]], &[u8]); 4] = [
         (
             &[ROOT, MARKER],
-            b"C 0 b80de5d138758541c5f05265ad144ab9fa86d1db 1 1\nO 000000000000b80de5d138758541c5f05265ad144ab9fa86d1db\n",
+            b"C 0 b80de5d138758541c5f05265ad144ab9fa86d1db 1 1\n\
+                O 000000000000b80de5d138758541c5f05265ad144ab9fa86d1db\n",
         ),
         (&[ROOT, MARKER, PUBLISHED], PUBLIC_MARKED),
         (&[ROOT, PUBLISHED, ROOT], PUBLIC),
         (
             &[ROOT, BOOKMARK],
-            b"C 0 b80de5d138758541c5f05265ad144ab9fa86d1db 1 0\nB b80de5d138758541c5f05265ad144ab9fa86d1db a%20b\n",
+            b"C 0 b80de5d138758541c5f05265ad144ab9fa86d1db 1 0\n\
+                B b80de5d138758541c5f05265ad144ab9fa86d1db a%20b\n",
         ),
     ];
     for (bundles, report) in cases {

@@ -4,7 +4,9 @@
 
 ghost use Rattle.std.specs.Prelude.{◌≡◌, ◌++◌, ◌∷◌, [], Some, None, map, option_map, unwrap_or};
 ghost use Rattle.hg_devices.specs.Devices.{Gave, Failed, Took, Refused, Flushed, NotFlushed};
-ghost use Rattle.hg_pushd.specs.declared.tests.telling.Use.TheVariants.{Took as a_write, Refused as a_failed_write, Flushed as a_flush, NotFlushed as a_failed_flush};
+ghost use Rattle.hg_pushd.specs.declared.tests.telling.Use.TheVariants.{Took as a_write, Flushed as a_flush};
+ghost use Rattle.hg_pushd.specs.declared.tests.telling.Use.TheVariants.{Refused as a_failed_write};
+ghost use Rattle.hg_pushd.specs.declared.tests.telling.Use.TheVariants.{NotFlushed as a_failed_flush};
 
 use hg_devices::{Reader, Writer};
 use std::alloc::Global;
@@ -114,7 +116,12 @@ impl<'a, R: Abort> TellingWriter<'a, R> {
 impl<'a, R: Abort> Writer for TellingWriter<'a, R> {
     ghost told = { λ w. record {
       taken = Some w.taken.items;
-      uses = Some (map (λ use_made. elim use_made [ a_write piece ↦ Took piece.items | a_failed_write ↦ Refused | a_flush ↦ Flushed | a_failed_flush ↦ NotFlushed ]) w.uses.items);
+      uses = Some (map (λ use_made. elim use_made [
+        | a_write piece ↦ Took piece.items
+        | a_failed_write ↦ Refused
+        | a_flush ↦ Flushed
+        | a_failed_flush ↦ NotFlushed
+      ]) w.uses.items);
     } };
 
     fn write(&mut self, bytes: &[u8]) -> Result<usize> {

@@ -97,6 +97,16 @@ fn words_that_ask_for_a_replay(rt: HostRuntime) -> Result<(), Fail> {
     Ok(())
 }
 
+/// A thousand files.
+#[test]
+fn many_words(rt: HostRuntime) -> Result<(), Fail> {
+    let names = vec![in rt.alloc(); "file"; 1_000]?;
+    let mut words = Vec::from_slice(rt.alloc(), &["replay"])?;
+    words.extend_from_slice(&names)?;
+    assert!(rt; asks_replay(rt.alloc(), &words, false, &names)?);
+    Ok(())
+}
+
 /// The status of words that ask for nothing, or none where they ask for something.
 fn refused(alloc: Global, words: &[&str]) -> Result<Option<u8>, Fail> {
     Ok(match job_of(alloc, &spoken(alloc, words)?) {

@@ -15,8 +15,10 @@ use std::sync::Wait;
 use std::time::Clock;
 
 /// `output` with a payload of 96 bytes.
-const LONG: &[u8] =
-    b"HG20\0\0\0\0\0\0\0\x0d\x06output\0\0\0\0\0\0\0\0\0\x60aaaaaaaaaaaaaaaaaaaaaaaaaaaaaaaaaaaaaaaaaaaaaaaaaaaaaaaaaaaaaaaaaaaaaaaaaaaaaaaaaaaaaaaaaaaaaaaa\0\0\0\0\0\0\0\0";
+const LONG: &[u8] = b"HG20\0\0\0\0\
+        \0\0\0\x0d\x06output\0\0\0\0\0\0\0\0\0\x60\
+        aaaaaaaaaaaaaaaaaaaaaaaaaaaaaaaaaaaaaaaaaaaaaaaaaaaaaaaaaaaaaaaaaaaaaaaaaaaaaaaaaaaaaaaaaaaa\
+        aaaa\0\0\0\0\0\0\0\0";
 
 /// The replies to a push that memory was refused for: in its run, and in the reading of its bundle.
 const REFUSED_REPLY: &[u8] =
@@ -141,5 +143,16 @@ fn memory_is_refused_for_the_report(rt: HostRuntime) -> Result<(), Fail> {
         }
     }
     assert!(rt; refused && done && !wrong);
+    Ok(())
+}
+
+/// A journal of 200,000 lines is written whole.
+#[test]
+fn a_long_journal(rt: HostRuntime) -> Result<(), Fail> {
+    let journal = vec![in rt.alloc(); 7u32; 200_000]?;
+    let repo = empty_repository(&rt, rt.alloc());
+    let mut report = Vec::new(rt.alloc());
+    let told = tell_closing(rt.alloc(), &repo, &journal, &mut report);
+    assert!(rt; told == (Sending::Whole, 800_000) && report.ends_with(b"J 7\nJ 7\n"));
     Ok(())
 }

@@ -1,0 +1,365 @@
+//! Changegroups spelled by hand, byte by byte, and their entries; heaps that refuse.
+
+use hg_cgroup::*;
+use hg_types::{Entry, Node};
+use linked_list_allocator::LocalHeap;
+use std::alloc::{AllocError, Allocator, Global};
+use std::test::*;
+
+/// The id of the empty text with two null parents.
+const A: &[u8; 20] =
+    b"\xb8\x0d\xe5\xd1\x38\x75\x85\x41\xc5\xf0\x52\x65\xad\x14\x4a\xb9\xfa\x86\xd1\xdb";
+
+/// The id of the text `r` with two null parents.
+const R: &[u8; 20] =
+    b"\x66\xda\xd0\xb7\xb1\x8f\x09\xdf\xf2\xf1\xbd\x3a\xd0\x29\x4d\x6d\xcf\xb6\x94\x50";
+
+/// The id of the text `b` with the parents A and null.
+const B: &[u8; 20] =
+    b"\xaf\xd3\xa6\xa1\xf7\x58\xff\xa4\x86\x7f\x96\xeb\x8e\x8e\x30\x48\x8f\x65\x64\x92";
+
+/// The null id.
+const Z: &[u8; 20] = &[0; 20];
+
+/// The chunk that closes a group.
+const EMPTY: &[u8] = &[0; 4];
+
+/// A chunk with seven bytes, which nobody reads.
+const MANIFEST: &[u8] = b"\0\0\0\x0bmanifes";
+
+/// A file with the name `f`, one chunk, and the end of its group.
+const FILE: &[u8] = b"\0\0\0\x05f\0\0\0\x06xy\0\0\0\0";
+
+/// The hunk that puts `r` before all, and the one that puts `b` in the place of one byte.
+const ADD_R: &[u8] = b"\0\0\0\0\0\0\0\0\0\0\0\x01r";
+
+const SET_B: &[u8] = b"\0\0\0\0\0\0\0\x01\0\0\0\x01b";
+
+fn joined(alloc: Global, pieces: &[&[u8]]) -> Result<Vec<u8>, AllocError> {
+    let mut bytes = Vec::new(alloc);
+    for piece in pieces {
+        bytes.extend_from_slice(piece)?;
+    }
+    Ok(bytes)
+}
+
+/// The changeset A in version 02, of 104 bytes.
+fn root(alloc: Global) -> Result<Vec<u8>, AllocError> {
+    joined(alloc, &[b"\0\0\0\x68".as_slice(), A, Z, Z, Z, A])
+}
+
+/// A changegroup with one manifest chunk and one file: 104 + 4 + 11 + 4 + 15 + 4 bytes.
+fn with_frames(alloc: Global) -> Result<Vec<u8>, AllocError> {
+    let root = root(alloc)?;
+    joined(
+        alloc,
+        &[root.as_slice(), EMPTY, MANIFEST, EMPTY, FILE, EMPTY],
+    )
+}
+
+/// Two changesets in version 01.
+fn two_in_order(alloc: Global) -> Result<Vec<u8>, AllocError> {
+    let size = b"\0\0\0\x61".as_slice();
+    joined(
+        alloc,
+        &[
+            size, R, Z, Z, R, ADD_R, size, B, A, Z, B, SET_B, EMPTY, EMPTY, EMPTY,
+        ],
+    )
+}
+
+fn is_entry<H: Allocator>(
+    entry: &Entry<H>,
+    node: &[u8; 20],
+    p1: &[u8; 20],
+    p2: &[u8; 20],
+    base: &[u8; 20],
+    delta: &[u8],
+) -> bool {
+    entry.node == Node(*node)
+        && entry.p1 == Node(*p1)
+        && entry.p2 == Node(*p2)
+        && entry.base == Node(*base)
+        && entry.delta.as_slice() == delta
+}
+
+fn fault_of(rt: HostRuntime, version: &[u8], payload: &[u8]) -> Option<GroupFault> {
+    decode(rt.alloc(), version, payload).err()
+}
+
+#[test]
+fn a_root_changeset(rt: HostRuntime) -> Result<(), Fail> {
+    let root = root(rt.alloc())?;
+    let payload = joined(rt.alloc(), &[root.as_slice(), EMPTY, EMPTY, EMPTY])?;
+    assert_eq!(rt; payload.len(), 116);
+    let entries = decode(rt.alloc(), b"02", &payload).ok().ok_or("entries")?;
+    assert_eq!(rt; entries.len(), 1);
+    for entry in entries.as_slice() {
+        assert!(rt; is_entry(entry, A, Z, Z, Z, b""));
+    }
+    Ok(())
+}
+
+#[test]
+fn manifests_and_files(rt: HostRuntime) -> Result<(), Fail> {
+    let payload = with_frames(rt.alloc())?;
+    assert_eq!(rt; payload.len(), 142);
+    let entries = decode(rt.alloc(), b"02", &payload).ok().ok_or("entries")?;
+    assert_eq!(rt; entries.len(), 1);
+    for entry in entries.as_slice() {
+        assert!(rt; is_entry(entry, A, Z, Z, Z, b""));
+    }
+    Ok(())
+}
+
+#[test]
+fn no_changesets(rt: HostRuntime) -> Result<(), Fail> {
+    let entries = decode(rt.alloc(), b"01", &[0; 12]).ok().ok_or("no entry")?;
+    assert!(rt; entries.is_empty());
+    Ok(())
+}
+
+// Every proper prefix ends early, wherever it is cut.
+#[test]
+fn cut_short(rt: HostRuntime) -> Result<(), Fail> {
+    let payload = with_frames(rt.alloc())?;
+    for length in 0..payload.len() {
+        assert_eq!(rt;
+            fault_of(rt, b"02", &payload[..length]),
+            Some(GroupFault::Truncated)
+        );
+    }
+    Ok(())
+}
+
+// A changeset whose length gives one byte less than its header, cut off or not.
+#[test]
+fn short_header(rt: HostRuntime) -> Result<(), Fail> {
+    for (version, size) in [(b"01", b"\0\0\0\x53"), (b"02", b"\0\0\0\x67")] {
+        let payload = joined(rt.alloc(), &[size.as_slice(), &[0; 99], &[0; 12]])?;
+        for length in 0..payload.len() {
+            let wanted = if length < 4 {
+                GroupFault::Truncated
+            } else {
+                GroupFault::ShortHeader
+            };
+            assert_eq!(rt; fault_of(rt, version, &payload[..length]), Some(wanted));
+        }
+    }
+    Ok(())
+}
+
+// In version 01 the first base is the first parent, and the next one the node before, whatever its own parent
+// is.
+#[test]
+fn bases_in_order(rt: HostRuntime) -> Result<(), Fail> {
+    let payload = two_in_order(rt.alloc())?;
+    let entries = decode(rt.alloc(), b"01", &payload).ok().ok_or("entries")?;
+    assert_eq!(rt; entries.len(), 2);
+    let mut place = 0;
+    for entry in entries.as_slice() {
+        if place == 0 {
+            assert!(rt; is_entry(entry, R, Z, Z, Z, ADD_R));
+        } else {
+            assert!(rt; is_entry(entry, B, A, Z, R, SET_B));
+        }
+        place = 1;
+    }
+    Ok(())
+}
+
+// Lengths 1 to 4, the least and the greatest negative one, at each place of a chunk.
+#[test]
+fn bad_lengths(rt: HostRuntime) -> Result<(), Fail> {
+    let root = root(rt.alloc())?;
+    let whole = with_frames(rt.alloc())?;
+    for size in [
+        [0, 0, 0, 1],
+        [0, 0, 0, 2],
+        [0, 0, 0, 3],
+        [0, 0, 0, 4],
+        [0x80, 0, 0, 0],
+        [0xff, 0xff, 0xff, 0xff],
+    ] {
+        for front in [
+            [b"".as_slice(), b"", b"", b"", b"", b""],
+            [root.as_slice(), b"", b"", b"", b"", b""],
+            [root.as_slice(), EMPTY, b"", b"", b"", b""],
+            [root.as_slice(), EMPTY, MANIFEST, b"", b"", b""],
+            [root.as_slice(), EMPTY, MANIFEST, EMPTY, b"", b""],
+            [root.as_slice(), EMPTY, MANIFEST, EMPTY, b"\0\0\0\x05f", b""],
+            [
+                root.as_slice(),
+                EMPTY,
+                MANIFEST,
+                EMPTY,
+                b"\0\0\0\x05f",
+                b"\0\0\0\x06xy",
+            ],
+            [root.as_slice(), EMPTY, MANIFEST, EMPTY, FILE, b""],
+        ] {
+            let front = joined(rt.alloc(), &front)?;
+            let payload = joined(rt.alloc(), &[front.as_slice(), &size, &whole])?;
+            assert_eq!(rt; fault_of(rt, b"02", &payload), Some(GroupFault::BadLength));
+            // It is told where the payload ends behind it, too.
+            let payload = joined(rt.alloc(), &[front.as_slice(), &size])?;
+            assert_eq!(rt; fault_of(rt, b"02", &payload), Some(GroupFault::BadLength));
+        }
+    }
+    Ok(())
+}
+
+// A length of 2 ^ 31 - 1, of which little has come, is allowed.
+#[test]
+fn greatest_length(rt: HostRuntime) {
+    assert_eq!(rt;
+        fault_of(rt, b"02", b"\x7f\xff\xff\xff"),
+        Some(GroupFault::Truncated)
+    );
+}
+
+#[test]
+fn bytes_behind_the_end(rt: HostRuntime) -> Result<(), Fail> {
+    let whole = with_frames(rt.alloc())?;
+    let payload = joined(rt.alloc(), &[whole.as_slice(), &[0]])?;
+    assert_eq!(rt; fault_of(rt, b"02", &payload), Some(GroupFault::Leftover));
+    let payload = joined(rt.alloc(), &[whole.as_slice(), EMPTY])?;
+    assert_eq!(rt; fault_of(rt, b"02", &payload), Some(GroupFault::Leftover));
+    Ok(())
+}
+
+// An unknown version is told before any fault of the payload.
+#[test]
+fn unknown_versions(rt: HostRuntime) -> Result<(), Fail> {
+    let whole = with_frames(rt.alloc())?;
+    for version in [
+        b"".as_slice(),
+        b"0",
+        b"00",
+        b"03",
+        b"1",
+        b"2",
+        b"010",
+        b"02\0",
+    ] {
+        assert_eq!(rt;
+            fault_of(rt, version, &whole),
+            Some(GroupFault::UnknownVersion)
+        );
+        assert_eq!(rt;
+            fault_of(rt, version, b"\0\0\0\x01"),
+            Some(GroupFault::UnknownVersion)
+        );
+    }
+    Ok(())
+}
+
+// Heaps of every size: each growth is refused in turn, and then the entries come.
+#[test]
+fn refused_memory(rt: HostRuntime) -> Result<(), Fail> {
+    let payload = two_in_order(rt.alloc())?;
+    let mut refused = 0u32;
+    let mut made = 0u32;
+    for sixteens in 0..100usize {
+        let heap = LocalHeap::new(rt.alloc(), sixteens * 16)?;
+        match decode(&heap, b"01", &payload) {
+            Ok(entries) => {
+                assert_eq!(rt; entries.len(), 2);
+                made = made.saturating_add(1);
+            }
+            Err(fault) => {
+                assert_eq!(rt; fault, GroupFault::NoMemory);
+                refused = refused.saturating_add(1);
+            }
+        }
+    }
+    assert!(rt; refused > 0);
+    assert!(rt; made > 0);
+    Ok(())
+}
+
+/// How many entries the payload has, if the memory is enough for them.
+fn count_in<H: Allocator + Copy>(alloc: H, payload: &[u8]) -> Option<usize> {
+    let entries = decode(alloc, b"02", payload).ok()?;
+    Some(entries.len())
+}
+
+// With manifests and files of more bytes than any of the heaps has, and without them: the same heaps are
+// enough.
+#[test]
+fn manifests_and_files_take_no_memory(rt: HostRuntime) -> Result<(), Fail> {
+    let root = root(rt.alloc())?;
+    let bare = joined(rt.alloc(), &[root.as_slice(), EMPTY, EMPTY, EMPTY])?;
+    let manifest = [7u8; 4092];
+    let frames = [
+        b"\0\0\x10\0".as_slice(),
+        manifest.as_slice(),
+        EMPTY,
+        FILE,
+        FILE,
+        EMPTY,
+    ];
+    let frames = joined(rt.alloc(), &frames)?;
+    let full = joined(rt.alloc(), &[root.as_slice(), EMPTY, frames.as_slice()])?;
+    let mut refused = 0u32;
+    let mut made = 0u32;
+    for sixteens in 0..100usize {
+        let heap = LocalHeap::new(rt.alloc(), sixteens * 16)?;
+        let without = count_in(&heap, &bare);
+        let other = LocalHeap::new(rt.alloc(), sixteens * 16)?;
+        assert!(rt;
+            count_in(&other, &full) == without,
+            "with {sixteens} times 16 bytes"
+        );
+        match without {
+            Some(_) => made = made.saturating_add(1),
+            None => refused = refused.saturating_add(1),
+        }
+    }
+    assert!(rt; refused > 0 && made > 0);
+    Ok(())
+}
+
+// Over an ample heap memory is not refused, however many changesets come, and it keeps at most four times
+// what came.
+#[test]
+fn many_changesets_over_an_ample_heap(rt: HostRuntime) -> Result<(), Fail> {
+    let heap = LocalHeap::new(rt.alloc(), 1 << 20)?;
+    let root = root(rt.alloc())?;
+    let mut payload = Vec::new(rt.alloc());
+    for count in [1usize, 1_001] {
+        payload.clear();
+        for _ in 0..count {
+            payload.extend_from_slice(&root)?;
+        }
+        payload.extend_from_slice(&[0; 12])?;
+        let entries = decode(&heap, b"02", &payload).ok().ok_or("entries")?;
+        assert_eq!(rt; entries.len(), count);
+        assert!(rt; heap.used() <= payload.len().saturating_mul(4).saturating_add(256));
+    }
+    assert_eq!(rt; heap.used(), 0);
+    Ok(())
+}
+
+// Over an ample heap memory is not refused for payloads of 64 MiB: as many changesets as that has, and one
+// whose delta takes all of it.
+#[test]
+fn the_greatest_payloads_over_an_ample_heap(rt: HostRuntime) -> Result<(), Fail> {
+    let heap = LocalHeap::new(rt.alloc(), 1 << 28)?;
+    let root = root(rt.alloc())?;
+    let mut payload = Vec::with_capacity(rt.alloc(), 67_108_864)?;
+    for _ in 0..645_277usize {
+        payload.extend_from_slice(&root)?;
+    }
+    payload.extend_from_slice(&[0; 12])?;
+    assert!(rt; payload.len() == 67_108_820 && count_in(&heap, &payload) == Some(645_277));
+    payload.clear();
+    payload.extend_from_slice(&67_108_852u32.to_be_bytes())?;
+    let rest = vec![in rt.alloc(); 0u8; 67_108_860]?;
+    payload.extend_from_slice(&rest)?;
+    let entries = decode(&heap, b"02", &payload).ok().ok_or("an entry")?;
+    assert_eq!(rt; entries.len(), 1);
+    let delta = entries.as_slice().first().ok_or("an entry")?.delta.len();
+    assert_eq!(rt; delta, 67_108_852 - 104);
+    Ok(())
+}

@@ -1,0 +1,497 @@
+//! Changesets that Mercurial made, by their bytes; the faults in their order.
+
+mod memory;
+
+use hg_delta::DeltaFault;
+use hg_log::*;
+use hg_types::{Entry, Limits, NoMemory, Node, Seq, TryClone};
+use std::alloc::{AllocError, Allocator, Global};
+use std::hash::RandomState;
+use std::test::*;
+
+/// The id of the empty text without parents.
+const ROOT: Node = Node([
+    0xb8, 0x0d, 0xe5, 0xd1, 0x38, 0x75, 0x85, 0x41, 0xc5, 0xf0, 0x52, 0x65, 0xad, 0x14, 0x4a, 0xb9,
+    0xfa, 0x86, 0xd1, 0xdb,
+]);
+
+const NULL: Node = Node::NULL;
+
+/// An id that no changeset here has.
+const OTHER: Node = Node([0x11; 20]);
+
+/// Three changesets that Mercurial made of the user `test` at the time 0: each adds a file, and the next is
+/// its child.
+const ADD_A: Node = Node([
+    0xcb, 0x9a, 0x9f, 0x31, 0x4b, 0x8b, 0x07, 0xba, 0x71, 0x01, 0x2f, 0xcd, 0xbc, 0x54, 0x4b, 0x5a,
+    0x4d, 0x82, 0xff, 0x5b,
+]);
+
+const TEXT_A: &[u8] = b"a0c8bcbbb45c63b90b70ad007bf38961f64f2af0\ntest\n0 0\na\n\na";
+
+const ADD_B: Node = Node([
+    0xd2, 0xae, 0x7f, 0x53, 0x85, 0x14, 0xcd, 0x87, 0xc1, 0x75, 0x47, 0xb0, 0xde, 0x4c, 0xea, 0x71,
+    0xfe, 0x1a, 0xf9, 0xfb,
+]);
+
+const TEXT_B: &[u8] = b"a539ce0c1a22b0ecf34498f9f5ce8ea56df9ecb7\ntest\n0 0\nb\n\nb";
+
+const ADD_C: Node = Node([
+    0x17, 0x7f, 0x92, 0xb7, 0x73, 0x85, 0x0b, 0x59, 0x25, 0x4a, 0xa5, 0xe9, 0x23, 0x43, 0x6f, 0x92,
+    0x1b, 0x55, 0x48, 0x3b,
+]);
+
+const TEXT_C: &[u8] = b"e3738bf5439958f89499a656982023aba57b076e\ntest\n0 0\nc\n\nc";
+
+/// The children of [`ROOT`] with the texts `1`, `2` and `3`, by SHA-1 of their bytes, and the merge `m` of
+/// the first two.
+const FIRST: Node = Node([
+    0x5c, 0x0d, 0x56, 0x04, 0xe7, 0x91, 0x6e, 0xfc, 0xcc, 0x52, 0x7d, 0x39, 0x43, 0x9a, 0xc7, 0x15,
+    0x2b, 0x0f, 0x0a, 0xb8,
+]);
+
+const SECOND: Node = Node([
+    0xd9, 0x18, 0xef, 0xf4, 0xe3, 0x5a, 0x27, 0xa1, 0x93, 0xd3, 0xbf, 0x63, 0x32, 0xc4, 0xe5, 0xd2,
+    0xef, 0x15, 0x62, 0x8d,
+]);
+
+const THIRD: Node = Node([
+    0x4b, 0xa9, 0x23, 0x3f, 0xa6, 0x40, 0x32, 0xe6, 0xec, 0xeb, 0x24, 0xc6, 0xc3, 0x3c, 0x93, 0xc7,
+    0x91, 0x7f, 0x22, 0xcd,
+]);
+
+const MERGE: Node = Node([
+    0xce, 0x7e, 0x73, 0x73, 0x22, 0x26, 0x74, 0x23, 0x0e, 0x36, 0x50, 0xce, 0x8a, 0xa2, 0x91, 0x12,
+    0xf5, 0x2e, 0x92, 0x94,
+]);
+
+/// The root with the text `r`, and the child of [`ROOT`] with the text `b`.
+const ROOT_R: Node = Node([
+    0x66, 0xda, 0xd0, 0xb7, 0xb1, 0x8f, 0x09, 0xdf, 0xf2, 0xf1, 0xbd, 0x3a, 0xd0, 0x29, 0x4d, 0x6d,
+    0xcf, 0xb6, 0x94, 0x50,
+]);
+
+const CHILD_B: Node = Node([
+    0xaf, 0xd3, 0xa6, 0xa1, 0xf7, 0x58, 0xff, 0xa4, 0x86, 0x7f, 0x96, 0xeb, 0x8e, 0x8e, 0x30, 0x48,
+    0x8f, 0x65, 0x64, 0x92,
+]);
+
+/// A changeset, by its whole text.
+#[derive(Clone, Copy)]
+struct Given<'t> {
+    node: Node,
+    p1: Node,
+    p2: Node,
+    text: &'t [u8],
+}
+
+fn changeset<'t>(node: Node, p1: Node, p2: Node, text: &'t [u8]) -> Given<'t> {
+    Given { node, p1, p2, text }
+}
+
+/// A delta of one hunk: the bytes `start` to `end` become the content.
+fn hunk<A: Allocator + Copy>(
+    alloc: A,
+    start: u8,
+    end: u8,
+    content: &[u8],
+) -> Result<Seq<u8, A>, NoMemory> {
+    let length = u32::try_from(content.len()).unwrap_or(0);
+    let mut delta = Vec::from_slice(alloc, &[0, 0, 0, start, 0, 0, 0, end])?;
+    delta.extend_from_slice(&length.to_be_bytes())?;
+    delta.extend_from_slice(content)?;
+    Ok(Seq::from_vec(delta))
+}
+
+/// The delta that makes a text of the empty text.
+fn whole<A: Allocator + Copy>(alloc: A, text: &[u8]) -> Result<Seq<u8, A>, NoMemory> {
+    if text.is_empty() {
+        Ok(Seq::new(alloc))
+    } else {
+        hunk(alloc, 0, 0, text)
+    }
+}
+
+/// Adds a changeset.
+fn put<A: Allocator + Copy>(
+    alloc: A,
+    log: &mut Changelog<A>,
+    given: Given,
+) -> Result<Added, AddFault> {
+    let Ok(delta) = whole(alloc, given.text) else {
+        return Err(AddFault::NoMemory);
+    };
+    log.add(&Entry {
+        node: given.node,
+        p1: given.p1,
+        p2: given.p2,
+        base: NULL,
+        delta,
+    })
+}
+
+/// Adds changesets, and tells whether each became the next row.
+fn put_all(alloc: Global, log: &mut Changelog, rows: &[Given]) -> bool {
+    let mut all = true;
+    for row in rows {
+        let next = log.len();
+        let added = put(alloc, log, *row);
+        all = all && matches!(added, Ok(Added::New(rev)) if rev as usize == next);
+    }
+    all
+}
+
+fn new_log(rt: HostRuntime) -> Result<Changelog, Fail> {
+    Ok(Changelog::new(rt.alloc(), RandomState::new(&rt)?, Limits::standard()))
+}
+
+/// Whether the log has a row with that id and that text.
+fn has_text<A: Allocator>(log: &Changelog<A>, node: &Node, text: &[u8]) -> bool {
+    match log.rev(node) {
+        Some(rev) if (rev as usize) < log.len() => log.node(rev) == *node && log.text(rev) == text,
+        _ => false,
+    }
+}
+
+/// Whether the row of that number has those parents.
+fn has_parents<A: Allocator>(log: &Changelog<A>, rev: u32, p1: Node, p2: Node) -> bool {
+    (rev as usize) < log.len() && log.parents(rev) == (p1, p2)
+}
+
+/// Whether the log has these heads, and so many.
+fn has_heads(alloc: Global, log: &Changelog, heads: &[Node]) -> bool {
+    match log.heads(alloc) {
+        Ok(told) => told.as_slice() == heads && log.head_count() == heads.len(),
+        Err(NoMemory) => false,
+    }
+}
+
+/// Whether these are the numbers of the parents of the row of that number.
+fn has_parent_revs(log: &Changelog, rev: u32, p1: Option<u32>, p2: Option<u32>) -> bool {
+    (rev as usize) < log.len() && log.parent_revs(rev) == (p1, p2)
+}
+
+fn has_a_root(alloc: Global, log: &mut Changelog) -> bool {
+    let added = put(alloc, log, changeset(ROOT, NULL, NULL, b""));
+    let is_there = has_text(log, &ROOT, b"") && log.knows(&ROOT) && log.rev(&ROOT) == Some(0);
+    let is_hash = node_id(&NULL, &NULL, b"") == ROOT;
+    added == Ok(Added::New(0)) && log.len() == 1 && is_there && is_hash
+}
+
+#[test]
+fn a_root_changeset(rt: HostRuntime) -> Result<(), Fail> {
+    let mut log = new_log(rt)?;
+    assert!(rt; has_a_root(rt.alloc(), &mut log));
+    Ok(())
+}
+
+fn has_no_rows(alloc: Global, log: &mut Changelog) -> bool {
+    let is_known = log.knows(&NULL) && !log.knows(&OTHER);
+    let has_none = log.rev(&OTHER).is_none() && log.rev(&NULL).is_none();
+    is_known && has_none && has_heads(alloc, log, &[NULL])
+}
+
+#[test]
+fn ids_that_no_row_has(rt: HostRuntime) -> Result<(), Fail> {
+    let mut log = new_log(rt)?;
+    assert!(rt; has_no_rows(rt.alloc(), &mut log));
+    Ok(())
+}
+
+/// The three changesets that Mercurial made.
+fn line() -> [Given<'static>; 3] {
+    [
+        changeset(ADD_A, NULL, NULL, TEXT_A),
+        changeset(ADD_B, ADD_A, NULL, TEXT_B),
+        changeset(ADD_C, ADD_B, NULL, TEXT_C),
+    ]
+}
+
+fn has_the_line(alloc: Global, log: &mut Changelog) -> bool {
+    let is_put = put_all(alloc, log, &line());
+    let is_second = log.rev(&ADD_B) == Some(1) && has_text(log, &ADD_B, TEXT_B);
+    let has_parents = has_parents(log, 0, NULL, NULL) && has_parents(log, 2, ADD_B, NULL);
+    let has_heads = has_heads(alloc, log, &[ADD_C]);
+    is_put && is_second && has_parents && has_heads
+}
+
+#[test]
+fn changesets_of_mercurial(rt: HostRuntime) -> Result<(), Fail> {
+    let mut log = new_log(rt)?;
+    assert!(rt; has_the_line(rt.alloc(), &mut log));
+    Ok(())
+}
+
+#[test]
+fn parents_in_either_order(rt: HostRuntime) {
+    let first = node_id(&NULL, &ADD_A, TEXT_B);
+    let second = node_id(&ADD_A, &NULL, TEXT_B);
+    assert!(rt; first == ADD_B && second == ADD_B);
+}
+
+/// Whether each changeset gets that answer.
+fn are_answered(
+    alloc: Global,
+    log: &mut Changelog,
+    rows: &[Given],
+    answer: Result<Added, AddFault>,
+) -> bool {
+    let mut all = true;
+    for row in rows {
+        all = put(alloc, log, *row) == answer && all;
+    }
+    all
+}
+
+fn knows_it_again(alloc: Global, log: &mut Changelog) -> bool {
+    let is_put = put_all(alloc, log, &[changeset(ROOT, NULL, NULL, b"")]);
+    let again = [
+        changeset(ROOT, NULL, NULL, b""),
+        changeset(ROOT, OTHER, NULL, b"x"),
+        changeset(NULL, OTHER, NULL, b"x"),
+    ];
+    let are_known = are_answered(alloc, log, &again, Ok(Added::Known));
+    is_put && are_known && log.len() == 1
+}
+
+#[test]
+fn the_same_changeset_again(rt: HostRuntime) -> Result<(), Fail> {
+    let mut log = new_log(rt)?;
+    assert!(rt; knows_it_again(rt.alloc(), &mut log));
+    Ok(())
+}
+
+/// Adds the child of the root with the text `b`, by a delta on the text `r`.
+fn put_on_r(alloc: Global, log: &mut Changelog) -> Result<Added, AddFault> {
+    let Ok(delta) = hunk(alloc, 0, 1, b"b") else {
+        return Err(AddFault::NoMemory);
+    };
+    log.add(&Entry {
+        node: CHILD_B,
+        p1: ROOT,
+        p2: NULL,
+        base: ROOT_R,
+        delta,
+    })
+}
+
+fn takes_it_as_a_base(alloc: Global, log: &mut Changelog) -> bool {
+    let known = changeset(ROOT_R, NULL, NULL, b"r");
+    let is_put = put_all(alloc, log, &[changeset(ROOT, NULL, NULL, b""), known]);
+    let is_known = put(alloc, log, known) == Ok(Added::Known);
+    let is_new = put_on_r(alloc, log) == Ok(Added::New(2));
+    let has_text = has_text(log, &CHILD_B, b"b");
+    let has_heads = has_heads(alloc, log, &[ROOT_R, CHILD_B]);
+    is_put && is_known && is_new && has_text && has_heads
+}
+
+#[test]
+fn a_known_entry_is_a_base(rt: HostRuntime) -> Result<(), Fail> {
+    let mut log = new_log(rt)?;
+    assert!(rt; takes_it_as_a_base(rt.alloc(), &mut log));
+    Ok(())
+}
+
+fn refuses_a_wrong_hash(alloc: Global, log: &mut Changelog) -> bool {
+    let mut wrong = ROOT;
+    wrong.0[19] = 0xdc;
+    let rows = [
+        changeset(wrong, NULL, NULL, b""),
+        changeset(ROOT, NULL, NULL, b"x"),
+    ];
+    let are_refused = are_answered(alloc, log, &rows, Err(AddFault::HashMismatch));
+    are_refused && log.len() == 0 && !log.knows(&wrong)
+}
+
+#[test]
+fn a_wrong_hash(rt: HostRuntime) -> Result<(), Fail> {
+    let mut log = new_log(rt)?;
+    assert!(rt; refuses_a_wrong_hash(rt.alloc(), &mut log));
+    Ok(())
+}
+
+/// A root, its three children, and the merge of the first two.
+fn merged() -> [Given<'static>; 5] {
+    [
+        changeset(ROOT, NULL, NULL, b""),
+        changeset(FIRST, ROOT, NULL, b"1"),
+        changeset(SECOND, ROOT, NULL, b"2"),
+        changeset(THIRD, ROOT, NULL, b"3"),
+        changeset(MERGE, FIRST, SECOND, b"m"),
+    ]
+}
+
+fn tells_heads(alloc: Global, log: &mut Changelog) -> bool {
+    let rows = merged();
+    let is_put = put_all(alloc, log, &rows[..4]);
+    let has_three = has_heads(alloc, log, &[THIRD, FIRST, SECOND]);
+    let is_merged = put_all(alloc, log, &rows[4..]);
+    let has_two = has_heads(alloc, log, &[THIRD, MERGE]);
+    is_put && has_three && is_merged && has_two
+}
+
+#[test]
+fn the_heads_before_a_merge_and_after_it(rt: HostRuntime) -> Result<(), Fail> {
+    let mut log = new_log(rt)?;
+    assert!(rt; tells_heads(rt.alloc(), &mut log));
+    Ok(())
+}
+
+/// Whether all these are so: that the first is an ancestor of the second, or that it is none.
+fn are_ancestors(log: &Changelog, pairs: &[(u32, u32)], is: bool) -> bool {
+    let mut all = true;
+    for pair in pairs {
+        all = log.is_ancestor(pair.0, pair.1) == Ok(is) && all;
+    }
+    all
+}
+
+fn tells_ancestors(alloc: Global, log: &mut Changelog) -> bool {
+    let is_put = put_all(alloc, log, &merged());
+    let are = are_ancestors(log, &[(0, 4), (1, 4), (2, 4), (4, 4)], true);
+    let others = [(3, 4), (5, 4), (4, 1), (0, 5), (5, 5), (7, 9)];
+    let are_none = are_ancestors(log, &others, false);
+    let of_merge = has_parent_revs(log, 4, Some(1), Some(2));
+    let of_others = has_parent_revs(log, 3, Some(0), None) && has_parent_revs(log, 0, None, None);
+    is_put && are && are_none && of_merge && of_others
+}
+
+#[test]
+fn the_ancestors_of_a_merge(rt: HostRuntime) -> Result<(), Fail> {
+    let mut log = new_log(rt)?;
+    assert!(rt; tells_ancestors(rt.alloc(), &mut log));
+    Ok(())
+}
+
+/// Cuts a log back, where it has so many rows.
+fn cut(log: &mut Changelog, len: usize) {
+    if len <= log.len() {
+        log.cut_back(len);
+    }
+}
+
+fn is_cut_back(alloc: Global, log: &mut Changelog) -> bool {
+    let rows = merged();
+    let is_put = put_all(alloc, log, &rows);
+    cut(log, 2);
+    let is_cut = log.len() == 2 && log.rev(&SECOND).is_none() && !log.knows(&MERGE);
+    let has_one = has_heads(alloc, log, &[FIRST]);
+    let has_more = put_all(alloc, log, &rows[2..3]);
+    let has_two = has_heads(alloc, log, &[FIRST, SECOND]);
+    is_put && is_cut && has_one && has_more && has_two
+}
+
+#[test]
+fn a_cut_back(rt: HostRuntime) -> Result<(), Fail> {
+    let mut log = new_log(rt)?;
+    assert!(rt; is_cut_back(rt.alloc(), &mut log));
+    Ok(())
+}
+
+/// Whether a copy of the first two rows of a line takes the third.
+fn a_copy_grows(alloc: Global, log: &Changelog) -> bool {
+    let Ok(mut copy) = log.try_clone(alloc) else {
+        return false;
+    };
+    let is_put = put_all(alloc, &mut copy, &line()[2..]);
+    let has_first = has_text(&copy, &ADD_A, TEXT_A) && copy.rev(&ADD_B) == Some(1);
+    is_put && has_first && copy.is_ancestor(0, 2) == Ok(true)
+}
+
+fn is_cloned(alloc: Global, log: &mut Changelog) -> bool {
+    let is_put = put_all(alloc, log, &line()[..2]);
+    let has_grown = a_copy_grows(alloc, log);
+    is_put && has_grown && log.len() == 2
+}
+
+#[test]
+fn a_clone(rt: HostRuntime) -> Result<(), Fail> {
+    let mut log = new_log(rt)?;
+    assert!(rt; is_cloned(rt.alloc(), &mut log));
+    Ok(())
+}
+
+/// Adds an entry that ends within its first hunk.
+fn put_short(
+    alloc: Global,
+    log: &mut Changelog,
+    p1: Node,
+    p2: Node,
+    base: Node,
+) -> Result<Added, AddFault> {
+    let Ok(delta) = Seq::copy_of(alloc, b"short") else {
+        return Err(AddFault::NoMemory);
+    };
+    log.add(&Entry {
+        node: ROOT,
+        p1,
+        p2,
+        base,
+        delta,
+    })
+}
+
+fn tells_the_first_fault(alloc: Global, log: &mut Changelog) -> bool {
+    let mut all = true;
+    for (p1, p2, base, fault) in [
+        (NULL, OTHER, OTHER, AddFault::UnknownParent),
+        (OTHER, NULL, OTHER, AddFault::UnknownParent),
+        (NULL, NULL, OTHER, AddFault::UnknownBase),
+        (NULL, NULL, NULL, AddFault::Delta(DeltaFault::Short)),
+    ] {
+        all = put_short(alloc, log, p1, p2, base) == Err(fault) && all;
+    }
+    all && log.len() == 0
+}
+
+#[test]
+fn an_unknown_parent_before_an_unknown_base(rt: HostRuntime) -> Result<(), Fail> {
+    let mut log = new_log(rt)?;
+    assert!(rt; tells_the_first_fault(rt.alloc(), &mut log));
+    Ok(())
+}
+
+/// A log for texts of one byte, and for two rows.
+fn small_log(rt: HostRuntime) -> Result<Changelog, Fail> {
+    let limits = Limits {
+        params: 1,
+        payload: 1,
+        stream: 1,
+        parts: 1,
+        text: 1,
+        rows: 1,
+        revisions: 2,
+    };
+    Ok(Changelog::new(rt.alloc(), RandomState::new(&rt)?, limits))
+}
+
+fn refuses_a_long_text(alloc: Global, log: &mut Changelog) -> bool {
+    let is_put = put_all(alloc, log, &[changeset(ROOT_R, NULL, NULL, b"r")]);
+    let long = put(alloc, log, changeset(ROOT, NULL, NULL, b"rr"));
+    let is_refused = long == Err(AddFault::Delta(DeltaFault::TooLong));
+    is_put && is_refused && log.len() == 1
+}
+
+#[test]
+fn a_text_at_its_limit_and_past_it(rt: HostRuntime) -> Result<(), Fail> {
+    let mut log = small_log(rt)?;
+    assert!(rt; refuses_a_long_text(rt.alloc(), &mut log));
+    Ok(())
+}
+
+fn refuses_a_row(alloc: Global, log: &mut Changelog) -> bool {
+    let root = changeset(ROOT, NULL, NULL, b"");
+    let is_put = put_all(alloc, log, &[root, changeset(ROOT_R, NULL, NULL, b"r")]);
+    let other = put(alloc, log, changeset(CHILD_B, ROOT, NULL, b"c"));
+    let more = put(alloc, log, changeset(CHILD_B, ROOT, NULL, b"b"));
+    let known = put(alloc, log, root);
+    let are_refused = other == Err(AddFault::HashMismatch) && more == Err(AddFault::TooMany);
+    is_put && are_refused && known == Ok(Added::Known) && log.len() == 2
+}
+
+#[test]
+fn as_many_rows_as_are_allowed_and_one_more(rt: HostRuntime) -> Result<(), Fail> {
+    let mut log = small_log(rt)?;
+    assert!(rt; refuses_a_row(rt.alloc(), &mut log));
+    Ok(())
+}

@@ -1,0 +1,445 @@
+//! Worked examples with their bytes, merges, cuts, and memory refused in turn.
+
+use hg_obs::*;
+use hg_types::{NoMemory, Node, Seq, TryClone};
+use linked_list_allocator::LocalHeap;
+use std::alloc::{AllocError, Allocator, Global};
+use std::hash::RandomState;
+use std::test::*;
+
+/// A marker without successors and metadata: six zero bytes, and 20 times 17.
+const MARKER: [u8; 26] = [
+    0, 0, 0, 0, 0, 0, 17, 17, 17, 17, 17, 17, 17, 17, 17, 17, 17, 17, 17, 17, 17, 17, 17, 17, 17,
+    17,
+];
+
+/// Marker data with two markers, of 52 and 69 bytes. The first has the flags 1, one successor and the
+/// metadata `user:a`, the second two successors and `a:b`.
+const TWO: [u8; 122] = [
+    0, 1, 0, 0, 0, 6, 1, 17, 17, 17, 17, 17, 17, 17, 17, 17, 17, 17, 17, 17, 17, 17, 17, 17, 17,
+    17, 17, 34, 34, 34, 34, 34, 34, 34, 34, 34, 34, 34, 34, 34, 34, 34, 34, 34, 34, 34, 34, 117,
+    115, 101, 114, 58, 97, 2, 0, 0, 0, 3, 0, 34, 34, 34, 34, 34, 34, 34, 34, 34, 34, 34, 34, 34,
+    34, 34, 34, 34, 34, 34, 34, 51, 51, 51, 51, 51, 51, 51, 51, 51, 51, 51, 51, 51, 51, 51, 51, 51,
+    51, 51, 51, 68, 68, 68, 68, 68, 68, 68, 68, 68, 68, 68, 68, 68, 68, 68, 68, 68, 68, 68, 68, 97,
+    58, 98,
+];
+
+fn node(byte: u8) -> Node {
+    Node([byte; 20])
+}
+
+/// A marker with that predecessor and one successor.
+fn marker<A: Allocator + Copy>(
+    alloc: A,
+    predecessor: u8,
+    successor: u8,
+) -> Result<Marker<A>, NoMemory> {
+    let mut successors = Seq::new(alloc);
+    successors.push(node(successor))?;
+    Ok(Marker {
+        successors,
+        flags: 0,
+        predecessor: node(predecessor),
+        meta: Seq::new(alloc),
+    })
+}
+
+/// Markers with these predecessors and successors.
+fn list_of<A: Allocator + Copy>(
+    alloc: A,
+    pairs: &[(u8, u8)],
+) -> Result<Seq<Marker<A>, A>, NoMemory> {
+    let mut markers = Seq::new(alloc);
+    for (predecessor, successor) in pairs {
+        markers.push(marker(alloc, *predecessor, *successor)?)?;
+    }
+    Ok(markers)
+}
+
+fn predecessors<A: Allocator + Copy>(
+    alloc: A,
+    markers: &[Marker<A>],
+) -> Result<Seq<Node, A>, NoMemory> {
+    let mut nodes = Seq::new(alloc);
+    for marker in markers {
+        nodes.push(marker.predecessor)?;
+    }
+    Ok(nodes)
+}
+
+/// Appends the bytes of each marker, one behind the other.
+fn write_all<A: Allocator, B: Allocator>(
+    markers: &[Marker<A>],
+    out: &mut Vec<u8, B>,
+) -> Result<(), NoMemory> {
+    for marker in markers {
+        if marker.successors.len() < 256 && marker.meta.len() < 4_294_967_296 {
+            marker.append_to(out)?;
+        }
+    }
+    Ok(())
+}
+
+/// How many markers are read.
+fn count(alloc: Global, bytes: &[u8]) -> Result<usize, MarkerFault> {
+    let markers = read_markers(alloc, bytes)?;
+    Ok(markers.len())
+}
+
+/// The data of one marker with that successor and metadata of fewer than 256 bytes.
+fn data_of(alloc: Global, successor: u8, meta: &[u8]) -> Result<Vec<u8>, AllocError> {
+    let mut bytes = Vec::new(alloc);
+    let size = u8::try_from(meta.len()).unwrap_or(0);
+    bytes.extend_from_slice(&[0, 1, 0, 0, 0, size, 0])?;
+    bytes.extend_from_slice(&[17; 20])?;
+    bytes.extend_from_slice(&[successor; 20])?;
+    bytes.extend_from_slice(meta)?;
+    Ok(bytes)
+}
+
+/// Merges the markers of the data, and answers how many are new.
+fn merge_data(markers: &mut Markers, alloc: Global, bytes: &[u8]) -> Result<u64, MarkerFault> {
+    let read = read_markers(alloc, bytes)?;
+    Ok(markers.merge(read)?)
+}
+
+/// Marker data with that marker as often as `times` says.
+fn repeated(alloc: Global, times: u8) -> Result<Vec<u8>, AllocError> {
+    let mut bytes = Vec::new(alloc);
+    bytes.extend_from_slice(&[0])?;
+    for _ in 0..times {
+        bytes.extend_from_slice(&MARKER)?;
+    }
+    Ok(bytes)
+}
+
+#[test]
+fn one_marker_twice(rt: HostRuntime) -> Result<(), Fail> {
+    let bytes = repeated(rt.alloc(), 2)?;
+    let mut markers = Markers::new(rt.alloc(), RandomState::new(&rt)?);
+    let added = merge_data(&mut markers, rt.alloc(), &bytes)?;
+    assert!(rt; added == 1 && markers.list().len() == 1);
+    assert!(rt; markers.is_predecessor(&node(17)) && !markers.is_predecessor(&Node::NULL));
+    // What a report prints of it.
+    let mut out = Vec::new(rt.alloc());
+    write_all(markers.list(), &mut out)?;
+    assert_eq!(rt; out.as_slice(), MARKER.as_slice());
+    Ok(())
+}
+
+#[test]
+fn metadata_in_three_forms(rt: HostRuntime) -> Result<(), Fail> {
+    let mut markers = Markers::new(rt.alloc(), RandomState::new(&rt)?);
+    let forms: [(&[u8], Result<u64, MarkerFault>); 4] = [
+        (b"user:a", Ok(1)),
+        (b"user:a\0", Ok(1)),
+        (b"user:a", Ok(0)),
+        (b"user", Err(MarkerFault::BadMetadata)),
+    ];
+    for (meta, added) in forms {
+        let bytes = data_of(rt.alloc(), 34, meta)?;
+        assert!(rt; merge_data(&mut markers, rt.alloc(), &bytes) == added);
+    }
+    assert!(rt; markers.list().len() == 2);
+    Ok(())
+}
+
+#[test]
+fn pieces_of_metadata_and_null_successors(rt: HostRuntime) -> Result<(), Fail> {
+    let (bare, null) = (MarkerFault::BadMetadata, MarkerFault::NullSuccessor);
+    let forms: [(u8, &[u8], Result<usize, MarkerFault>); 12] = [
+        (34, b"", Ok(1)),
+        (34, b":", Ok(1)),
+        (34, b"\0\0", Ok(1)),
+        (34, b"a:1\0\0b:2", Ok(1)),
+        (34, b"a::\0:b", Ok(1)),
+        (34, b"a:1\0b", Err(bare)),
+        (34, b"a\0b:2", Err(bare)),
+        (34, b"\0a\0", Err(bare)),
+        (34, b"a:1\0b\0c:3", Err(bare)),
+        (0, b"a:1", Err(null)),
+        // Of one marker the metadata comes first, and a fault comes before those behind it.
+        (0, b"a", Err(bare)),
+        (0, b"", Err(null)),
+    ];
+    for (successor, meta, read) in forms {
+        let mut bytes = data_of(rt.alloc(), successor, meta)?;
+        assert!(rt; count(rt.alloc(), &bytes) == read);
+        bytes.push(0)?;
+        assert!(rt; count(rt.alloc(), &bytes) == Err(read.err().unwrap_or(MarkerFault::Short)));
+    }
+    Ok(())
+}
+
+#[test]
+fn every_prefix_of_two_markers(rt: HostRuntime) {
+    for len in 0..122usize {
+        let read = match len {
+            1 => Ok(0),
+            53 => Ok(1),
+            _ => Err(MarkerFault::Short),
+        };
+        assert!(rt; count(rt.alloc(), &TWO[..len]) == read, "at {len}");
+    }
+    assert!(rt; count(rt.alloc(), &TWO) == Ok(2));
+    assert!(rt; count(rt.alloc(), &[1]) == Err(MarkerFault::BadVersion));
+    reading_is_the_grammar::<Global>();
+    bytes_tell_markers::<Global>();
+}
+
+/// Merges two lists that share markers, and answers how many of each were new.
+fn merge_two_lists(alloc: Global, markers: &mut Markers) -> Result<(u64, u64), NoMemory> {
+    let first = markers.merge(list_of(alloc, &[(1, 9)])?)?;
+    let second = markers.merge(list_of(alloc, &[(2, 9), (1, 9), (1, 8), (2, 9)])?)?;
+    Ok((first, second))
+}
+
+#[test]
+fn merge_of_shared_markers(rt: HostRuntime) -> Result<(), Fail> {
+    let mut markers = Markers::new(rt.alloc(), RandomState::new(&rt)?);
+    let added = merge_two_lists(rt.alloc(), &mut markers)?;
+    assert!(rt; added == (1, 2));
+    let order = predecessors(rt.alloc(), markers.list())?;
+    assert!(rt; order.as_slice() == [node(1), node(2), node(1)].as_slice());
+    Ok(())
+}
+
+#[test]
+fn cut_back_and_copy(rt: HostRuntime) -> Result<(), Fail> {
+    let mut markers = Markers::new(rt.alloc(), RandomState::new(&rt)?);
+    merge_two_lists(rt.alloc(), &mut markers)?;
+    let copy = markers.try_clone(rt.alloc())?;
+    for left in [2usize, 1, 0] {
+        if left <= markers.list().len() {
+            markers.cut_back(left);
+        }
+        assert!(rt; markers.list().len() == left);
+        assert!(rt; markers.is_predecessor(&node(1)) == (left > 0));
+        assert!(rt; markers.is_predecessor(&node(2)) == (left > 1));
+    }
+    assert!(rt; copy.list().len() == 3 && copy.is_predecessor(&node(2)));
+    Ok(())
+}
+
+/// How far memory went.
+#[derive(Clone, Copy)]
+enum Reached {
+    Reading,
+    Merging,
+    MergingMore,
+    Copying,
+    Writing,
+    End,
+    /// Something else was answered, or a refusal left a change.
+    Wrong,
+}
+
+/// Ten markers with predecessors of their own, which with two others are more than the first room of a list.
+const TEN: [(u8, u8); 10] = [
+    (1, 9),
+    (2, 9),
+    (3, 9),
+    (4, 9),
+    (5, 9),
+    (6, 9),
+    (7, 9),
+    (8, 9),
+    (9, 9),
+    (10, 9),
+];
+
+/// Reads two markers, merges them, copies the list and writes both, in that memory. Behind that ten more are
+/// merged.
+fn reach<A: Allocator + Copy>(alloc: A, state: RandomState) -> Reached {
+    let read = match read_markers(alloc, &TWO) {
+        Ok(read) => read,
+        Err(MarkerFault::NoMemory) => return Reached::Reading,
+        Err(_) => return Reached::Wrong,
+    };
+    let mut markers = Markers::new(alloc, state);
+    match markers.merge(read) {
+        Ok(2) => {}
+        Ok(_) => return Reached::Wrong,
+        Err(NoMemory) => {
+            let changed = !markers.list().is_empty() || markers.is_predecessor(&node(17));
+            return if changed {
+                Reached::Wrong
+            } else {
+                Reached::Merging
+            };
+        }
+    }
+    let copy = match markers.try_clone(alloc) {
+        Ok(copy) => copy,
+        Err(NoMemory) => return Reached::Copying,
+    };
+    let mut out = Vec::new(alloc);
+    match write_all(copy.list(), &mut out) {
+        // A marker is there whole or not at all.
+        Err(NoMemory) if out.is_empty() || out.len() == 52 => Reached::Writing,
+        Ok(()) if out.as_slice() == &TWO[1..] => merge_ten(alloc, markers),
+        _ => Reached::Wrong,
+    }
+}
+
+/// Merges ten markers into a list of two.
+fn merge_ten<A: Allocator + Copy>(alloc: A, markers: Markers<A>) -> Reached {
+    let mut markers = markers;
+    let Ok(ten) = list_of(alloc, &TEN) else {
+        return Reached::MergingMore;
+    };
+    let (known, unknown) = (node(17), node(1));
+    match markers.merge(ten) {
+        Ok(10) if markers.list().len() == 12 && markers.is_predecessor(&unknown) => Reached::End,
+        Err(NoMemory)
+            if markers.list().len() == 2
+                && markers.is_predecessor(&known)
+                && !markers.is_predecessor(&unknown) => { Reached::MergingMore }
+        _ => Reached::Wrong,
+    }
+}
+
+#[test]
+fn each_growth_refused(rt: HostRuntime) -> Result<(), Fail> {
+    let state = RandomState::new(&rt)?;
+    let mut seen = [false; 6];
+    for size in 0..1024usize {
+        let heap = LocalHeap::new(rt.alloc(), size * 16)?;
+        match reach(&heap, state) {
+            Reached::Reading => seen[0] = true,
+            Reached::Merging => seen[1] = true,
+            Reached::Copying => seen[2] = true,
+            Reached::Writing => seen[3] = true,
+            Reached::End => seen[4] = true,
+            Reached::MergingMore => seen[5] = true,
+            Reached::Wrong => assert!(rt; false, "with {size} times 16 bytes"),
+        }
+    }
+    assert!(rt; seen == [true; 6]);
+    Ok(())
+}
+
+#[test]
+fn no_memory_for_looking_and_cutting(rt: HostRuntime) -> Result<(), Fail> {
+    let heap = LocalHeap::new(rt.alloc(), 8192)?;
+    let mut markers = Markers::new(&heap, RandomState::new(&rt)?);
+    let added = markers.merge(read_markers(&heap, &TWO)?)?;
+    assert!(rt; added == 2);
+    // What is left of the heap is taken, down to the last byte.
+    let mut taken = Vec::new(rt.alloc());
+    for size in [4096usize, 2048, 1024, 512, 256, 128, 64, 32, 16, 8, 4, 2, 1] {
+        for _ in 0..16u32 {
+            if let Ok(block) = Vec::<u8, _>::with_capacity(&heap, size) {
+                taken.push(block)?;
+            }
+        }
+    }
+    assert!(rt; Vec::<u8, _>::with_capacity(&heap, 1).is_err());
+    assert!(rt; markers.list().len() == 2 && markers.is_predecessor(&node(34)));
+    if markers.list().len() > 1 {
+        markers.cut_back(1);
+    }
+    assert!(rt; markers.list().len() == 1);
+    assert!(rt; markers.is_predecessor(&node(17)) && !markers.is_predecessor(&node(34)));
+    Ok(())
+}
+
+/// Marker data with so many markers of 46 bytes: each has a predecessor of its own and one successor.
+fn numbered(alloc: Global, count: u32) -> Result<Vec<u8>, AllocError> {
+    let mut bytes = Vec::new(alloc);
+    bytes.push(0)?;
+    for number in 0..count {
+        bytes.extend_from_slice(&[1, 0, 0, 0, 0, 0])?;
+        bytes.extend_from_slice(&[7; 16])?;
+        bytes.extend_from_slice(&number.to_be_bytes())?;
+        bytes.extend_from_slice(&[9; 20])?;
+    }
+    Ok(bytes)
+}
+
+/// The bytes of a heap in use where the list is empty, where the markers of the data are read, merged and
+/// copied, and where the list is looked at and cut to nothing.
+fn in_use(heap: &LocalHeap, state: RandomState, bytes: &[u8]) -> Result<[usize; 5], MarkerFault> {
+    let mut markers = Markers::new(heap, state);
+    let empty = heap.used();
+    let data = read_markers(heap, bytes)?;
+    let read = heap.used();
+    markers.merge(data)?;
+    let merged = heap.used();
+    let mut copy = markers.try_clone(heap)?;
+    let copied = heap.used();
+    if copy.is_predecessor(&Node::NULL) || copy.list().is_empty() {
+        return Ok([copied; 5]);
+    }
+    // Two more join the many.
+    if copy.merge(read_markers(heap, &TWO)?)? != 2 {
+        return Ok([copied; 5]);
+    }
+    drop(copy);
+    markers.cut_back(0);
+    Ok([empty, read, merged, copied, heap.used()])
+}
+
+/// Over an ample heap nothing is refused, however many markers come, and no call keeps more than came:
+/// reading at most 8 times the data and 256 bytes, a list at most 512 bytes a marker and 2,048, and a copy as
+/// much as its source. A cut takes nothing.
+#[test]
+fn many_markers_take_what_came(rt: HostRuntime) -> Result<(), Fail> {
+    let state = RandomState::new(&rt)?;
+    for count in [1u32, 20, 3_000, 20_000] {
+        let data = numbered(rt.alloc(), count)?;
+        let heap = LocalHeap::new(rt.alloc(), 1 << 26)?;
+        let [empty, read, merged, copied, cut] = in_use(&heap, state, &data)?;
+        assert!(rt; empty == 0 && read <= data.len().saturating_mul(8).saturating_add(256));
+        assert!(rt; merged <= (count as usize).saturating_mul(512).saturating_add(2_048));
+        assert!(rt; copied <= merged.saturating_mul(2) && cut < copied);
+    }
+    Ok(())
+}
+
+/// Room is made for new markers alone: a list into which one marker was merged 50,000 times keeps at most
+/// 2,048 bytes.
+#[test]
+fn repeated_markers_take_no_memory(rt: HostRuntime) -> Result<(), Fail> {
+    let state = RandomState::new(&rt)?;
+    let mut data = Vec::new(rt.alloc());
+    data.push(0)?;
+    for _ in 0..50_000u32 {
+        data.extend_from_slice(&MARKER)?;
+    }
+    let heap = LocalHeap::new(rt.alloc(), 1 << 24)?;
+    let [_empty, _read, merged, _copied, _cut] = in_use(&heap, state, &data)?;
+    assert!(rt; merged <= 2_048);
+    Ok(())
+}
+
+/// Marker data with one marker: as many successors as there may be, and metadata of 4 MiB.
+fn long_data(alloc: Global) -> Result<Vec<u8>, AllocError> {
+    let mut bytes = Vec::new(alloc);
+    bytes.extend_from_slice(&[0, 255, 0, 64, 0, 0])?;
+    bytes.push(0)?;
+    bytes.extend_from_slice(&[17; 20])?;
+    bytes.extend_from_slice(&[34; 20 * 255])?;
+    bytes.extend_from_slice(&vec![in alloc; b':'; 4_194_304]?)?;
+    Ok(bytes)
+}
+
+/// Whether the one marker of the data is merged, copied, and written as it came.
+fn is_kept(heap: &LocalHeap, state: RandomState, bytes: &[u8]) -> Result<bool, MarkerFault> {
+    let mut markers = Markers::new(heap, state);
+    let added = markers.merge(read_markers(heap, bytes)?)?;
+    let copy = markers.try_clone(heap)?;
+    let mut out = Vec::new(heap);
+    write_all(copy.list(), &mut out)?;
+    Ok(added == 1 && out.as_slice() == &bytes[1usize.min(bytes.len())..])
+}
+
+/// Over an ample heap nothing is refused to a marker with so much.
+#[test]
+fn the_most_successors_and_long_metadata(rt: HostRuntime) -> Result<(), Fail> {
+    let state = RandomState::new(&rt)?;
+    let data = long_data(rt.alloc())?;
+    let heap = LocalHeap::new(rt.alloc(), 1 << 25)?;
+    assert!(rt; data.len() == 27 + 20 * 255 + 4_194_304 && is_kept(&heap, state, &data)?);
+    Ok(())
+}

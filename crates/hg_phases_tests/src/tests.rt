@@ -1,0 +1,601 @@
+//! Worked rows with their phases; entries by their bytes; many rows; memory refused in turn.
+
+ghost use Rattle.std.specs.Prelude.{◌≡◌, Some};
+ghost use Rattle.hg_phases.specs.Phases.{AreFor};
+
+use hg_log::{Added, Changelog, node_id};
+use hg_phases::*;
+use hg_types::{Entry, Limits, Node, Phase, Seq};
+use linked_list_allocator::LocalHeap;
+use std::alloc::{AllocError, Allocator, Global};
+use std::hash::RandomState;
+use std::test::*;
+
+const P: Phase = Phase::Public;
+
+const D: Phase = Phase::Draft;
+
+const S: Phase = Phase::Secret;
+
+const NULL: Node = Node::NULL;
+
+/// Adds a changeset whose text is that number, and gives its id.
+fn put<A: Allocator + Copy>(
+    alloc: A,
+    log: &mut Changelog<A>,
+    p1: Node,
+    p2: Node,
+    number: u16,
+) -> Option<Node> {
+    let text = number.to_be_bytes();
+    let node = node_id(&p1, &p2, &text);
+    let delta = [0, 0, 0, 0, 0, 0, 0, 0, 0, 0, 0, 2, text[0], text[1]];
+    let Ok(delta) = Vec::from_slice(alloc, &delta) else {
+        return None
+    };
+    let entry = Entry {
+        node,
+        p1,
+        p2,
+        base: NULL,
+        delta: Seq::from_vec(delta),
+    };
+    match log.add(&entry) {
+        Ok(Added::New(_)) => Some(node),
+        _ => None,
+    }
+}
+
+/// A root and its child.
+fn put_child<A: Allocator + Copy>(alloc: A, log: &mut Changelog<A>) -> Option<()> {
+    let root = put(alloc, log, NULL, NULL, 0)?;
+    put(alloc, log, root, NULL, 1)?;
+    Some(())
+}
+
+/// A root, two children of it, the merge of these, a child of the merge, and a root of its own.
+fn put_merged<A: Allocator + Copy>(alloc: A, log: &mut Changelog<A>) -> Option<()> {
+    let root = put(alloc, log, NULL, NULL, 0)?;
+    let first = put(alloc, log, root, NULL, 1)?;
+    let second = put(alloc, log, NULL, root, 2)?;
+    let merge = put(alloc, log, first, second, 3)?;
+    put(alloc, log, merge, NULL, 4)?;
+    put(alloc, log, NULL, NULL, 5)?;
+    Some(())
+}
+
+fn new_log(rt: HostRuntime) -> Result<Changelog, Fail> {
+    Ok(Changelog::new(rt.alloc(), RandomState::new(&rt)?, Limits::standard()))
+}
+
+/// Phases of no rows.
+fn no_phases<A: Allocator + Copy>(alloc: A, log: &Changelog<A>) -> Phases<A>
+    ensures { AreFor log.now.rows result.current }
+{
+    let _rows = log.len();
+    Phases::new(alloc)
+}
+
+/// Registers the next row at that phase, where there is one and there is memory.
+fn register_next<A: Allocator + Copy>(
+    phases: &mut Phases<A>,
+    log: &Changelog<A>,
+    target: Phase,
+) -> bool
+    requires { AreFor log.now.rows phases.old.current }
+    ensures fits { AreFor log.now.rows phases.new.current }
+    ensures marked { phases.new.marked ≡ phases.old.marked }
+{
+    let rev = phases.len();
+    if rev >= log.len() {
+        return false;
+    }
+    phases.register(log, rev as u32, target).is_ok()
+}
+
+/// Registers the next rows at these phases, as far as there are rows and memory.
+fn register_all<A: Allocator + Copy>(
+    phases: &mut Phases<A>,
+    log: &Changelog<A>,
+    targets: &[Phase],
+) -> bool
+    requires { AreFor log.now.rows phases.old.current }
+    ensures fits { AreFor log.now.rows phases.new.current }
+    ensures marked { phases.new.marked ≡ phases.old.marked }
+{
+    for target in targets {
+        if !register_next(phases, log, *target) {
+            return false;
+        }
+    }
+    true
+}
+
+/// Registers so many rows at one phase.
+fn register_many<A: Allocator + Copy>(
+    phases: &mut Phases<A>,
+    log: &Changelog<A>,
+    count: usize,
+    target: Phase,
+) -> bool
+    requires { AreFor log.now.rows phases.old.current }
+    ensures fits { AreFor log.now.rows phases.new.current }
+    ensures marked { phases.new.marked ≡ phases.old.marked }
+{
+    'rows: for _ in 0..count {
+        if !register_next(phases, log, target) {
+            return false;
+        }
+    }
+    true
+}
+
+/// Advances those heads, where they have phases and there is memory.
+fn advance<A: Allocator + Copy>(
+    alloc: A,
+    phases: &mut Phases<A>,
+    log: &Changelog<A>,
+    target: Phase,
+    heads: &[u32],
+) -> bool
+    requires { AreFor log.now.rows phases.old.current }
+    ensures fits { AreFor log.now.rows phases.new.current }
+    ensures marked { phases.new.marked ≡ phases.old.marked }
+{
+    let len = phases.len();
+    if !heads.iter().all(|head| (*head as usize) < len) {
+        return false;
+    }
+    phases.advance(alloc, log, target, heads).is_ok()
+}
+
+/// Marks the phases.
+fn mark<A: Allocator>(phases: &mut Phases<A>, log: &Changelog<A>) -> Mark
+    requires { AreFor log.now.rows phases.old.current }
+    ensures fits { AreFor log.now.rows phases.new.current }
+    ensures marked { phases.new.marked ≡ Some phases.old.current }
+{
+    phases.mark()
+}
+
+fn is_same<A: Allocator>(log: &Changelog<A>, phases: &Phases<A>, other: &Phases<A>) -> bool
+    requires phases { AreFor log.now.rows phases.now.current }
+    requires other { AreFor log.now.rows other.now.current }
+{
+    let _lawful = log.len();
+    phases.is_same(other)
+}
+
+/// Whether these are the phases of all rows that have one.
+fn are<A: Allocator>(phases: &Phases<A>, wanted: &[Phase]) -> bool {
+    if phases.len() != wanted.len() {
+        return false;
+    }
+    for row in 0..wanted.len() {
+        let Ok(rev) = u32::try_from(row) else {
+            return false
+        };
+        if phases.phase(rev) != wanted[row] {
+            return false;
+        }
+    }
+    true
+}
+
+/// An advance, and the phases after it.
+#[derive(Clone, Copy)]
+struct Step<'t> {
+    target: Phase,
+    heads: &'t [u32],
+    after: &'t [Phase],
+}
+
+fn to<'t>(target: Phase, heads: &'t [u32], after: &'t [Phase]) -> Step<'t> {
+    Step {
+        target,
+        heads,
+        after,
+    }
+}
+
+/// Whether these advances, one behind the other, give those phases.
+fn advance_each<A: Allocator + Copy>(
+    alloc: A,
+    phases: &mut Phases<A>,
+    log: &Changelog<A>,
+    steps: &[Step],
+) -> bool
+    requires { AreFor log.now.rows phases.old.current }
+    ensures fits { AreFor log.now.rows phases.new.current }
+    ensures marked { phases.new.marked ≡ phases.old.marked }
+{
+    let mut all = true;
+    for step in steps {
+        let is_done = advance(alloc, phases, log, step.target, step.heads);
+        all = all && is_done && are(phases, step.after);
+    }
+    all
+}
+
+/// A secret changeset, a draft child that is secret by it, and heads of `phase-heads` on a publishing server.
+fn a_seed_is_told(alloc: Global, log: &mut Changelog) -> bool {
+    let is_put = put_child(alloc, log).is_some();
+    let mut phases = no_phases(alloc, log);
+    let is_registered = register_all(&mut phases, log, &[S, D]);
+    let are_secret = are(&phases, &[S, S]);
+    let steps = [
+        to(D, &[1], &[D, D]),
+        to(P, &[0], &[P, D]),
+        to(D, &[0], &[P, D]),
+    ];
+    let is_advanced = advance_each(alloc, &mut phases, log, &steps);
+    is_put & is_registered & are_secret & is_advanced
+}
+
+#[test]
+fn a_secret_seed_and_its_child(rt: HostRuntime) -> Result<(), Fail> {
+    let mut log = new_log(rt)?;
+    assert!(rt; a_seed_is_told(rt.alloc(), &mut log));
+    Ok(())
+}
+
+/// A merge of a draft and a secret parent, advances over its diamond, and the way back from all of them.
+fn a_merge_is_told(alloc: Global, log: &mut Changelog) -> bool {
+    let is_put = put_merged(alloc, log).is_some();
+    let mut phases = no_phases(alloc, log);
+    let is_registered = register_all(&mut phases, log, &[D, P, S, P, P, P]);
+    let are_registered = are(&phases, &REGISTERED);
+    let marked = mark(&mut phases, log);
+    let steps = [
+        to(P, &[1], &[P, P, S, S, S, P]),
+        to(D, &[3], &[P, P, D, D, S, P]),
+        to(D, &[0, 5], &[P, P, D, D, S, P]),
+        to(P, &[4, 2], &[P, P, P, P, P, P]),
+    ];
+    let is_advanced = advance_each(alloc, &mut phases, log, &steps);
+    phases.back_to(marked);
+    let is_back = are(&phases, &REGISTERED);
+    is_put & is_registered & are_registered & is_advanced & is_back
+}
+
+#[test]
+fn a_merge_and_its_diamond(rt: HostRuntime) -> Result<(), Fail> {
+    let mut log = new_log(rt)?;
+    assert!(rt; a_merge_is_told(rt.alloc(), &mut log));
+    Ok(())
+}
+
+/// Whether phases that were registered alone are those of all rows, until a row of them is lowered.
+fn is_same_until_lowered(alloc: Global, log: &Changelog, phases: &Phases) -> bool
+    requires { AreFor log.now.rows phases.now.current }
+{
+    let mut other = no_phases(alloc, log);
+    let is_registered = register_all(&mut other, log, &[D, D, D, D, P]);
+    let was_same = is_same(log, phases, &other);
+    let is_advanced = advance(alloc, &mut other, log, P, &[2]);
+    let is_other = !is_same(log, phases, &other);
+    is_registered & was_same & is_advanced & is_other
+}
+
+/// Whether there is a copy, of these phases.
+fn is_copied<A: Allocator + Copy>(alloc: A, phases: &Phases<A>, wanted: &[Phase]) -> Option<bool> {
+    match phases.try_clone(alloc) {
+        Ok(copy) => Some(are(&copy, wanted)),
+        Err(_) => None,
+    }
+}
+
+/// Rows registered behind a mark, an advance of them and of rows before it, and back.
+fn rows_behind_a_mark_are_told(alloc: Global, log: &mut Changelog) -> bool {
+    let is_put = put_merged(alloc, log).is_some();
+    let mut phases = no_phases(alloc, log);
+    let is_registered = register_all(&mut phases, log, &[S, S, S]);
+    let marked = mark(&mut phases, log);
+    let has_more = register_all(&mut phases, log, &[D]);
+    let is_advanced = advance(alloc, &mut phases, log, D, &[3]);
+    let has_last = register_all(&mut phases, log, &[P]);
+    let are_draft = are(&phases, &[D, D, D, D, D]);
+    let is_compared = is_same_until_lowered(alloc, log, &phases);
+    phases.back_to(marked);
+    let is_back = are(&phases, &[S, S, S]);
+    let is_copied = is_copied(alloc, &phases, &[S, S, S]) == Some(true);
+    let is_changed = is_put & is_registered & has_more & is_advanced & has_last;
+    is_changed & are_draft & is_compared & is_back & is_copied
+}
+
+#[test]
+fn rows_that_come_behind_a_mark(rt: HostRuntime) -> Result<(), Fail> {
+    let mut log = new_log(rt)?;
+    assert!(rt; rows_behind_a_mark_are_told(rt.alloc(), &mut log));
+    Ok(())
+}
+
+/// A public and a secret entry, by their bytes.
+const TWO: [u8; 48] = [
+    0, 0, 0, 0, 17, 17, 17, 17, 17, 17, 17, 17, 17, 17, 17, 17, 17, 17, 17, 17, 17, 17, 17, 17, 0,
+    0, 0, 2, 34, 34, 34, 34, 34, 34, 34, 34, 34, 34, 34, 34, 34, 34, 34, 34, 34, 34, 34, 34,
+];
+
+/// How many entries are read.
+fn count<A: Allocator + Copy>(alloc: A, bytes: &[u8]) -> Result<usize, EntryFault> {
+    let entries = read_entries(alloc, bytes)?;
+    Ok(entries.len())
+}
+
+/// Whether the two entries are read.
+fn two_are_read(alloc: Global) -> bool {
+    match read_entries(alloc, &TWO) {
+        Ok(entries) => {
+            entries.as_slice() == [(P, Node([17; 20])), (S, Node([34; 20]))].as_slice()
+        }
+        Err(_) => false,
+    }
+}
+
+/// What the first bytes of the two give.
+fn of_length(len: usize) -> Result<usize, EntryFault> {
+    match len {
+        0 => Ok(0),
+        24 => Ok(1),
+        48 => Ok(2),
+        _ => Err(EntryFault::Short),
+    }
+}
+
+/// The same two, where the second has that phase.
+fn with_phase(number: [u8; 4]) -> [u8; 48] {
+    let mut bytes = TWO;
+    for place in 0..4usize {
+        bytes[24 + place] = number[place];
+    }
+    bytes
+}
+
+/// Whether the second phase is bad, with that number, and an entry short without the last byte.
+fn is_bad(alloc: Global, number: [u8; 4]) -> bool {
+    let bytes = with_phase(number);
+    match bytes.split_last() {
+        Some((_, front)) => {
+            let is_short = count(alloc, front) == Err(EntryFault::Short);
+            count(alloc, &bytes) == Err(EntryFault::BadPhase) && is_short
+        }
+        None => false,
+    }
+}
+
+#[test]
+fn entries_by_their_bytes(rt: HostRuntime) {
+    let alloc = rt.alloc();
+    assert!(rt; two_are_read(alloc));
+    for len in 0..49usize {
+        assert!(rt;
+            count(alloc, &TWO[..len]) == of_length(len),
+            "of {len} bytes"
+        );
+    }
+    // The bytes of the second phase: 3, 256, 65538 and -2147483646.
+    for number in [[0, 0, 0, 3], [0, 0, 1, 0], [0, 1, 0, 2], [128, 0, 0, 2]] {
+        assert!(rt; is_bad(alloc, number), "of {number:?}");
+    }
+}
+
+/// How many rows the long log has.
+const MANY: usize = 10_000;
+
+/// The last of them.
+const LAST: u32 = 9_999;
+
+/// Rows of which each second one is the child of the row before it, and the others are roots.
+fn put_pairs<A: Allocator + Copy>(alloc: A, log: &mut Changelog<A>) -> Option<()> {
+    let mut last = NULL;
+    for number in 0..MANY {
+        let parent = if number % 2 == 0 { NULL } else { last };
+        last = put(alloc, log, parent, NULL, number as u16)?;
+    }
+    Some(())
+}
+
+/// The numbers of their children.
+fn children(alloc: Global) -> Result<Vec<u32>, AllocError> {
+    (0..MANY as u32).filter(|row| *row % 2 == 1).collect(alloc)
+}
+
+/// Whether each of the many rows has that phase.
+fn are_all<A: Allocator>(phases: &Phases<A>, wanted: Phase) -> bool {
+    let mut all = phases.len() == MANY;
+    for row in 0..MANY {
+        all = all && row < phases.len() && phases.phase(row as u32) == wanted;
+    }
+    all
+}
+
+/// Whether there is a copy of many rows, each in that phase, which takes no more than the rows did.
+fn many_are_copied<'h>(
+    heap: &'h LocalHeap,
+    phases: &Phases<&'h LocalHeap>,
+    wanted: Phase,
+    most: usize,
+) -> bool {
+    let before = heap.used();
+    match phases.try_clone(heap) {
+        Ok(copy) => are_all(&copy, wanted) && heap.used().saturating_sub(before) <= most,
+        Err(_) => false,
+    }
+}
+
+/// The same phases in a heap: nothing is refused, the memory is in proportion to the rows, an advance of the
+/// last of them and one of the first keep little for the way back, and the calls that take none take none.
+fn many_are_told<'h>(heap: &'h LocalHeap, log: &Changelog<&'h LocalHeap>, heads: &[u32]) -> bool {
+    let before = heap.used();
+    let mut phases = no_phases(heap, log);
+    let is_new = heap.used() == before;
+    let is_registered = register_many(&mut phases, log, MANY, D);
+    let registered = heap.used().saturating_sub(before);
+    let is_copied = many_are_copied(heap, &phases, D, registered);
+    let marked = mark(&mut phases, log);
+    let is_marked = heap.used().saturating_sub(before) == registered;
+    let is_lowered = advance(heap, &mut phases, log, P, &[LAST]);
+    let lowered = heap.used().saturating_sub(before);
+    let is_first = advance(heap, &mut phases, log, P, &[0]);
+    let first = heap.used().saturating_sub(before);
+    let is_advanced = advance(heap, &mut phases, log, P, heads);
+    let are_public = are_all(&phases, P);
+    let advanced = heap.used().saturating_sub(before);
+    let is_itself = is_same(log, &phases, &phases);
+    phases.back_to(marked);
+    let are_draft = are_all(&phases, D);
+    let is_back = heap.used().saturating_sub(before) == advanced;
+    let is_small = registered <= 16 * MANY && advanced <= 48 * MANY;
+    let is_little = lowered <= registered.saturating_add(256)
+        && first <= registered.saturating_add(256);
+    let takes_none = is_new & is_marked & is_back;
+    let is_lowered = is_lowered & is_first;
+    let is_done = is_registered & is_lowered & is_advanced & are_public & is_itself & are_draft;
+    is_done & is_copied & is_small & is_little & takes_none
+}
+
+/// Over an ample heap, with thousands of rows, roots and heads.
+fn many_over(heap: &LocalHeap, heads: &[u32], state: RandomState) -> bool {
+    let mut log = Changelog::new(heap, state, Limits::standard());
+    let is_put = put_pairs(heap, &mut log).is_some();
+    is_put & many_are_told(heap, &log, heads)
+}
+
+/// As many entries, and as many as a payload of 16 MiB has.
+fn many_are_read(alloc: Global) -> bool {
+    let many = match vec![in alloc; 0u8; 24 * MANY] {
+        Ok(bytes) => count(alloc, bytes.as_slice()) == Ok(MANY),
+        Err(_) => false,
+    };
+    let most = match vec![in alloc; 0u8; 24 * 699_050] {
+        Ok(bytes) => count(alloc, bytes.as_slice()) == Ok(699_050),
+        Err(_) => false,
+    };
+    many & most
+}
+
+#[test]
+fn many_rows(rt: HostRuntime) -> Result<(), Fail> {
+    let state = RandomState::new(&rt)?;
+    let heads = children(rt.alloc())?;
+    let heap = LocalHeap::new(rt.alloc(), 16 * 1024 * 1024)?;
+    assert!(rt; many_over(&heap, &heads, state));
+    assert!(rt; many_are_read(rt.alloc()));
+    Ok(())
+}
+
+/// What became of a step over a small heap.
+#[derive(Clone, Copy, PartialEq, Eq)]
+enum Outcome {
+    NotTried,
+    /// Memory was refused, and the phases are as before.
+    Refused,
+    Done,
+    Wrong,
+}
+
+fn outcome_of(is_right: bool, is_done: bool) -> Outcome {
+    if !is_right {
+        return Outcome::Wrong;
+    }
+    if is_done {
+        Outcome::Done
+    } else {
+        Outcome::Refused
+    }
+}
+
+/// The phases that the six rows get.
+const REGISTERED: [Phase; 6] = [D, D, S, S, S, P];
+
+/// Registers the six rows, where a refusal leaves the phases of the rows before.
+fn registering<A: Allocator + Copy>(phases: &mut Phases<A>, log: &Changelog<A>) -> Outcome
+    requires { AreFor log.now.rows phases.old.current }
+    ensures fits { AreFor log.now.rows phases.new.current }
+{
+    let is_done = register_all(phases, log, &[D, P, S, P, P, P]);
+    let is_right = are(phases, &REGISTERED[..phases.len().min(6)]);
+    outcome_of(is_right, is_done && phases.len() == 6)
+}
+
+/// Copies the phases of the six rows.
+fn copying<A: Allocator + Copy>(alloc: A, phases: &Phases<A>) -> Outcome {
+    let copied = is_copied(alloc, phases, &REGISTERED);
+    outcome_of(copied != Some(false), copied == Some(true))
+}
+
+/// Reads the two entries.
+fn reading<A: Allocator + Copy>(alloc: A) -> Outcome {
+    let read = count(alloc, &TWO);
+    let is_done = read == Ok(2);
+    outcome_of(is_done || read == Err(EntryFault::NoMemory), is_done)
+}
+
+/// Marks the phases of the six rows, advances and goes back.
+fn advancing<A: Allocator + Copy>(alloc: A, phases: &mut Phases<A>, log: &Changelog<A>) -> Outcome
+    requires { AreFor log.now.rows phases.old.current }
+{
+    let marked = mark(phases, log);
+    let is_done = advance(alloc, phases, log, D, &[4]);
+    let after = if is_done {
+        [D, D, D, D, D, P]
+    } else {
+        REGISTERED
+    };
+    let is_right = are(phases, &after);
+    phases.back_to(marked);
+    let is_back = are(phases, &REGISTERED);
+    outcome_of(is_right && is_back, is_done)
+}
+
+/// What becomes of registering, copying, reading and advancing.
+fn steps<'h>(heap: &'h LocalHeap, log: &Changelog<&'h LocalHeap>) -> [Outcome; 4] {
+    let mut phases = no_phases(heap, log);
+    let registered = registering(&mut phases, log);
+    if registered == Outcome::Done {
+        let copied = copying(heap, &phases);
+        let read = reading(heap);
+        [registered, copied, read, advancing(heap, &mut phases, log)]
+    } else {
+        [
+            registered,
+            Outcome::NotTried,
+            Outcome::NotTried,
+            Outcome::NotTried,
+        ]
+    }
+}
+
+/// The same over a heap of that size, with the six rows in a heap of their own.
+fn steps_over(alloc: Global, size: usize, rows: &LocalHeap, state: RandomState) -> [Outcome; 4] {
+    match LocalHeap::new(alloc, size) {
+        Ok(heap) => steps_of_new(&heap, rows, state),
+        Err(_) => [Outcome::Wrong; 4],
+    }
+}
+
+fn steps_of_new<'h>(heap: &'h LocalHeap, rows: &'h LocalHeap, state: RandomState) -> [Outcome; 4] {
+    let mut log = Changelog::new(rows, state, Limits::standard());
+    match put_merged(rows, &mut log) {
+        Some(()) => steps(heap, &log),
+        None => [Outcome::Wrong; 4],
+    }
+}
+
+/// Over heaps of each multiple of 16 bytes, so that each growth is refused in turn.
+#[test]
+fn each_growth_refused(rt: HostRuntime) -> Result<(), Fail> {
+    let state = RandomState::new(&rt)?;
+    let rows = LocalHeap::new(rt.alloc(), 65536)?;
+    let (mut refused, mut done, mut right) = ([false; 4], [false; 4], true);
+    for sixteens in 0..96usize {
+        let outcomes = steps_over(rt.alloc(), sixteens * 16, &rows, state);
+        for step in 0..4usize {
+            refused[step] = refused[step] || outcomes[step] == Outcome::Refused;
+            done[step] = done[step] || outcomes[step] == Outcome::Done;
+            right = right && outcomes[step] != Outcome::Wrong;
+        }
+    }
+    assert!(rt; right && refused == [true; 4] && done == [true; 4]);
+    Ok(())
+}

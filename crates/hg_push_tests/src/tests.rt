@@ -1,0 +1,168 @@
+//! Worked examples of the book and of replies.
+
+mod book;
+mod many;
+mod memory;
+mod prepared;
+mod reply;
+
+ghost use Rattle.std.specs.Prelude.{◌≤◌};
+ghost use Rattle.hg_types.specs.Limits.{IsAllowed};
+
+use hg_push::{Book, Outcome, Reason};
+use hg_repo::{Done, Refusal, Repo};
+use hg_types::{CutReason, Item, Limits, NoMemory, Param, Part, Seq, Settings, What};
+use std::alloc::Allocator;
+use std::hash::RandomState;
+
+/// The null id.
+const NULL: [u8; 20] = [0; 20];
+
+fn settings(first_push: u32, rows: u32) -> Settings
+    requires { (1 ≤ rows) × (rows ≤ 1024) }
+    ensures { IsAllowed result.limits }
+{
+    let mut limits = Limits::standard();
+    limits.rows = rows;
+    Settings {
+        publishing: false,
+        limits,
+        first_push,
+    }
+}
+
+/// An empty book whose pushes begin at that number.
+fn book_from<A: Allocator + Copy>(
+    alloc: A,
+    state: RandomState,
+    first_push: u32,
+    rows: u32,
+) -> Book<A>
+    requires { (1 ≤ rows) × (rows ≤ 1024) }
+{
+    Book::new(alloc, Repo::new(alloc, settings(first_push, rows), state))
+}
+
+fn empty_book<A: Allocator + Copy>(alloc: A, state: RandomState) -> Book<A> {
+    book_from(alloc, state, 0, 1_024)
+}
+
+/// A part without parameters.
+fn part<A: Allocator + Copy>(alloc: A, kind: &[u8], payload: &[u8]) -> Result<Part<A>, NoMemory> {
+    Ok(Part {
+        kind: Seq::copy_of(alloc, kind)?,
+        id: 0,
+        params: Seq::new(alloc),
+        payload: Seq::copy_of(alloc, payload)?,
+    })
+}
+
+/// A part with one parameter.
+fn part_with<A: Allocator + Copy>(
+    alloc: A,
+    kind: &[u8],
+    mandatory: bool,
+    key: &[u8],
+    value: &[u8],
+) -> Result<Part<A>, NoMemory> {
+    let mut part = part(alloc, kind, b"")?;
+    let key = Seq::copy_of(alloc, key)?;
+    let value = Seq::copy_of(alloc, value)?;
+    part.params.push(Param {
+        mandatory,
+        key,
+        value,
+    })?;
+    Ok(part)
+}
+
+fn a_part<A: Allocator>(push: u32, index: u32, part: Part<A>) -> Item<A> {
+    Item {
+        push,
+        index,
+        what: What::Part(part),
+    }
+}
+
+fn an_end<A: Allocator>(push: u32, index: u32) -> Item<A> {
+    Item {
+        push,
+        index,
+        what: What::End,
+    }
+}
+
+/// Puts the part where it was made. It is false where memory was refused.
+fn put<A: Allocator + Copy>(
+    book: &mut Book<A>,
+    push: u32,
+    index: u32,
+    part: Result<Part<A>, NoMemory>,
+) -> bool {
+    match part {
+        Ok(part) => !book.step(a_part(push, index, part)),
+        Err(NoMemory) => false,
+    }
+}
+
+/// Puts an end mark. It is false where memory was refused.
+fn end<A: Allocator + Copy>(book: &mut Book<A>, push: u32, index: u32) -> bool {
+    !book.step(an_end(push, index))
+}
+
+/// Puts a cut. It is false where memory was refused.
+fn cut<A: Allocator + Copy>(book: &mut Book<A>, push: u32, index: u32, reason: CutReason) -> bool {
+    !book.step(Item {
+        push,
+        index,
+        what: What::Cut(reason),
+    })
+}
+
+/// Whether the push is told as done with so many parts.
+fn tells_done<A: Allocator + Copy>(book: &mut Book<A>, push: u32, parts: usize) -> bool {
+    is_done(&book.take_reply(push), parts)
+}
+
+/// Whether the push is told as a race at that place.
+fn tells_race<A: Allocator + Copy>(book: &mut Book<A>, push: u32, at: u32) -> bool {
+    matches!(
+        book.take_reply(push),
+        Some(Outcome::Aborted(Reason::Refused(Refusal::Raced { place, .. }))) if place == at
+    )
+}
+
+/// Whether the push is told as aborted for want of memory.
+fn tells_no_memory<A: Allocator + Copy>(book: &mut Book<A>, push: u32) -> bool {
+    matches!(
+        book.take_reply(push),
+        Some(Outcome::Aborted(Reason::NoMemory))
+    )
+}
+
+/// Whether the push is told as aborted by the index of its end mark.
+fn tells_wrong_index<A: Allocator + Copy>(book: &mut Book<A>, push: u32) -> bool {
+    matches!(
+        book.take_reply(push),
+        Some(Outcome::Aborted(Reason::WrongIndex))
+    )
+}
+
+/// Whether the push is told as cut off for that reason.
+fn tells_cut<A: Allocator + Copy>(book: &mut Book<A>, push: u32, reason: CutReason) -> bool {
+    matches!(
+        book.take_reply(push),
+        Some(Outcome::Aborted(Reason::Cut(told))) if told == reason
+    )
+}
+
+fn tells_nothing<A: Allocator + Copy>(book: &mut Book<A>, push: u32) -> bool {
+    book.take_reply(push).is_none()
+}
+
+fn is_done<A: Allocator>(outcome: &Option<Outcome<Done<A>, Refusal<A>>>, parts: usize) -> bool {
+    match outcome {
+        Some(Outcome::Done(done)) => done.handled.len() == parts,
+        _ => false,
+    }
+}

@@ -1,0 +1,264 @@
+//! Growths that are refused, over heaps of every size, and what is taken of a heap that has memory to spare.
+
+use super::*;
+use hg_push::{OpenFault, Standing, reply_bytes};
+use linked_list_allocator::LocalHeap;
+use std::alloc::Global;
+use std::test::*;
+
+/// What came of two pushes over a small heap.
+#[derive(Clone, Copy, PartialEq, Eq)]
+enum First {
+    /// The first part was not put.
+    Early,
+    Taken,
+    Refused,
+    /// The first part was refused, and then something else came than should.
+    Wrong,
+}
+
+fn output<A: Allocator + Copy>(alloc: A) -> Result<Part<A>, NoMemory> {
+    part(alloc, b"output", b"")
+}
+
+fn two_parts<A: Allocator + Copy>(alloc: A) -> Result<(Part<A>, Part<A>), NoMemory> {
+    let first = output(alloc)?;
+    let second = output(alloc)?;
+    Ok((first, second))
+}
+
+/// Two pushes. Where memory is refused for the first part of one, it is aborted, its later items are dropped,
+/// and the other is done.
+fn first_part(heap: &LocalHeap, state: RandomState) -> First {
+    let mut book = empty_book(heap, state);
+    if book.open() != Ok(0) || book.open() != Ok(1) {
+        return First::Early;
+    }
+    let Ok((first, second)) = two_parts(heap) else {
+        return First::Early;
+    };
+    if put(&mut book, 0, 0, Ok(first)) {
+        return First::Taken;
+    }
+    let aborted = book.standing(0) == Standing::Aborted;
+    let dropped = put(&mut book, 0, 1, Ok(second)) && end(&mut book, 0, 2);
+    let told = tells_no_memory(&mut book, 0) && end(&mut book, 1, 0);
+    let done = tells_done(&mut book, 1, 0) && book.journal() == [1].as_slice();
+    if aborted && dropped && told && done {
+        First::Refused
+    } else {
+        First::Wrong
+    }
+}
+
+#[test]
+fn the_first_part_is_refused(rt: HostRuntime) -> Result<(), Fail> {
+    let state = RandomState::new(&rt)?;
+    let mut seen = [false; 2];
+    for sixteens in 1..256usize {
+        let heap = LocalHeap::new(rt.alloc(), sixteens * 16)?;
+        match first_part(&heap, state) {
+            First::Early => {}
+            First::Taken => seen[0] = true,
+            First::Refused => seen[1] = true,
+            First::Wrong => assert!(rt; false, "with {sixteens} times 16 bytes"),
+        }
+    }
+    assert!(rt; seen == [true; 2]);
+    Ok(())
+}
+
+/// Blocks of a heap.
+#[derive(Drop)]
+struct Blocks<'a> {
+    blocks: Vec<Vec<u8, &'a LocalHeap>>,
+}
+
+impl<'a> Blocks<'a> {
+    fn new(alloc: Global) -> Blocks<'a> {
+        Blocks {
+            blocks: Vec::new(alloc),
+        }
+    }
+
+    /// Takes a block of 16 bytes, and says whether there was one.
+    fn take(&mut self, heap: &'a LocalHeap) -> bool {
+        match Vec::with_capacity(heap, 1) {
+            Ok(block) => self.blocks.push(block).is_ok(),
+            Err(_) => false,
+        }
+    }
+
+    /// Takes all memory of the heap that is left.
+    fn fill(&mut self, heap: &'a LocalHeap) {
+        for _ in 0..heap.free() {
+            if !self.take(heap) {
+                return;
+            }
+        }
+    }
+}
+
+/// Opens three pushes, ends the first, and puts a part into the second: push 0 is done, push 1 has one part,
+/// of a type that is not known, push 2 has none. It is false where memory was refused.
+fn begin<'a>(book: &mut Book<&'a LocalHeap>, heap: &'a LocalHeap) -> bool {
+    let opened = book.open() == Ok(0) && book.open() == Ok(1) && book.open() == Ok(2);
+    opened && end(book, 0, 0) && put(book, 1, 0, part(heap, b"FROB", b""))
+}
+
+/// The same, and takes what memory is left.
+fn begin_full<'a>(
+    book: &mut Book<&'a LocalHeap>,
+    blocks: &mut Blocks<'a>,
+    heap: &'a LocalHeap,
+) -> bool {
+    let begun = begin(book, heap);
+    blocks.fill(heap);
+    begun && heap.free() == 0
+}
+
+/// Where every growth is refused, a cut and a wrong end mark are answered as ever.
+#[test]
+fn closing_takes_no_memory(rt: HostRuntime) -> Result<(), Fail> {
+    let state = RandomState::new(&rt)?;
+    let heap = LocalHeap::new(rt.alloc(), 1 << 14)?;
+    let mut book = empty_book(&heap, state);
+    let mut blocks = Blocks::new(rt.alloc());
+    let full = begin_full(&mut book, &mut blocks, &heap);
+    let closed = end(&mut book, 2, 1) && cut(&mut book, 1, 1, CutReason::GaveUp);
+    blocks.fill(&heap);
+    let told = tells_cut(&mut book, 1, CutReason::GaveUp) && tells_wrong_index(&mut book, 2);
+    assert!(rt; full && closed && told);
+    Ok(())
+}
+
+/// Whether the book has the first push as done, and hands it out.
+fn is_told<A: Allocator + Copy>(book: Book<A>) -> bool {
+    let mut book = book;
+    let standings = book.standing(0) == Standing::Done
+        && book.standing(1) == Standing::Open
+        && book.standing(9) == Standing::Unknown;
+    let replies = tells_nothing(&mut book, 1) && tells_done(&mut book, 0, 0);
+    let after = book.standing(0) == Standing::Done && book.journal() == [0].as_slice();
+    let publishes = book.repo().settings().publishing;
+    let (_, journal) = book.into_parts();
+    standings && replies && after && !publishes && journal.as_slice() == [0].as_slice()
+}
+
+/// A book over a full heap tells what it holds, and hands it out.
+#[test]
+fn telling_takes_no_memory(rt: HostRuntime) -> Result<(), Fail> {
+    let state = RandomState::new(&rt)?;
+    let heap = LocalHeap::new(rt.alloc(), 1 << 14)?;
+    let mut book = empty_book(&heap, state);
+    let mut blocks = Blocks::new(rt.alloc());
+    let full = begin_full(&mut book, &mut blocks, &heap);
+    assert!(rt; full && is_told(book));
+    Ok(())
+}
+
+/// Over a full heap an item that is dropped is answered as ever.
+#[test]
+fn dropping_takes_no_memory(rt: HostRuntime) -> Result<(), Fail> {
+    let state = RandomState::new(&rt)?;
+    let heap = LocalHeap::new(rt.alloc(), 1 << 14)?;
+    let late = output(&heap);
+    let mut book = empty_book(&heap, state);
+    let mut blocks = Blocks::new(rt.alloc());
+    let full = begin_full(&mut book, &mut blocks, &heap);
+    let dropped = put(&mut book, 0, 1, late);
+    blocks.fill(&heap);
+    assert!(rt; full && dropped && end(&mut book, 9, 0));
+    Ok(())
+}
+
+/// An opening, a part and a run that memory is refused for. The opening uses no number.
+#[test]
+fn growths_are_refused(rt: HostRuntime) -> Result<(), Fail> {
+    let state = RandomState::new(&rt)?;
+    let heap = LocalHeap::new(rt.alloc(), 1 << 14)?;
+    let first = output(&heap);
+    let was_made = first.is_ok();
+    let mut book = empty_book(&heap, state);
+    let mut blocks = Blocks::new(rt.alloc());
+    let full = begin_full(&mut book, &mut blocks, &heap);
+    let unopened = book.open() == Err(OpenFault::NoMemory);
+    let unrun = !end(&mut book, 1, 1) && tells_no_memory(&mut book, 1);
+    blocks.fill(&heap);
+    let unstaged = !put(&mut book, 2, 0, first) && tells_no_memory(&mut book, 2);
+    drop(blocks);
+    assert!(rt; was_made && full && unopened && unrun && unstaged && book.open() == Ok(3));
+    Ok(())
+}
+
+/// A reply is its bytes, or want of memory.
+#[test]
+fn a_reply_is_refused(rt: HostRuntime) -> Result<(), Fail> {
+    let mut seen = [false; 2];
+    for sixteens in 1..512usize {
+        let heap = LocalHeap::new(rt.alloc(), sixteens * 16)?;
+        match reply_bytes(&heap, &Outcome::Aborted(Reason::WrongIndex)) {
+            Ok(reply) => seen[0] = seen[0] || reply.len() == 59,
+            Err(NoMemory) => seen[1] = true,
+        }
+    }
+    assert!(rt; seen == [true; 2]);
+    Ok(())
+}
+
+/// Opens as many pushes as the limit allows.
+fn open_all<A: Allocator + Copy>(book: &mut Book<A>) -> bool {
+    let mut all = true;
+    for push in 0..1_024 {
+        all = book.open() == Ok(push) && all;
+    }
+    all && book.open() == Err(OpenFault::TooManyOpen)
+}
+
+/// Puts 1,000 parts into a push. A staged part takes less than twice its 144 bytes, with those of its own.
+fn put_many<'a>(book: &mut Book<&'a LocalHeap>, heap: &'a LocalHeap, push: u32) -> bool {
+    let free = heap.free();
+    let mut all = true;
+    for index in 0..1_000 {
+        all = put(book, push, index, output(heap)) && all;
+    }
+    all && free.saturating_sub(heap.free()) <= 224_000
+}
+
+/// As many open pushes as the limit allows, and one of them with 1,000 parts, over a heap of which half is
+/// never used: no growth is refused, so none is told.
+#[test]
+fn near_the_limits(rt: HostRuntime) -> Result<(), Fail> {
+    let state = RandomState::new(&rt)?;
+    let heap = LocalHeap::new(rt.alloc(), 1 << 21)?;
+    let mut book = empty_book(&heap, state);
+    let put = open_all(&mut book) && put_many(&mut book, &heap, 7) && end(&mut book, 7, 1_000);
+    let told = tells_done(&mut book, 7, 1_000);
+    assert!(rt; put && told && heap.free() > 1 << 20);
+    Ok(())
+}
+
+/// Whether items that are dropped, closings and all that is asked leave the memory that is there.
+fn leaves_memory<'a>(book: &mut Book<&'a LocalHeap>, heap: &'a LocalHeap) -> bool {
+    let free = heap.free();
+    let dropped = end(book, 9, 0) && book.standing(1) == Standing::Open && tells_nothing(book, 1);
+    let as_before = heap.free() == free;
+    let closed = end(book, 1, 2) && end(book, 1, 2) && tells_wrong_index(book, 1);
+    dropped && as_before && closed && tells_done(book, 0, 0) && heap.free() >= free
+}
+
+/// Where memory is to spare, what takes none leaves it: items that are dropped, closings and all that is
+/// asked. The first part of a push takes room for 9, of 144 bytes each over this heap.
+#[test]
+fn memory_is_left(rt: HostRuntime) -> Result<(), Fail> {
+    let state = RandomState::new(&rt)?;
+    let heap = LocalHeap::new(rt.alloc(), 1 << 16)?;
+    let first = output(&heap);
+    let mut book = empty_book(&heap, state);
+    let begun = begin(&mut book, &heap);
+    let free = heap.free();
+    let taken = put(&mut book, 2, 0, first);
+    let room = free.saturating_sub(heap.free());
+    assert!(rt; begun && taken && room <= 9 * 144 && leaves_memory(&mut book, &heap));
+    Ok(())
+}

@@ -1,0 +1,413 @@
+//! What no contract says: the worked examples, and threads that run at the same time.
+
+ghost use Rattle.std.specs.Prelude.{◌≡◌, ◌<◌, ◌≤◌, ◌++◌, ◌∷◌, [], IsTrue, true, false};
+ghost use Rattle.hg_types.specs.declared.item.Item.{Item};
+ghost use Rattle.hg_queue.specs.History.{has};
+ghost use Rattle.hg_queue.specs.Words.{putter_view, taker_view, history, seen, taken};
+ghost use Rattle.hg_queue.specs.Words.{IsTakerOf, IsPutterOf, IsMarkedOf, IsVisitorOf};
+
+use hg_queue::{Full, Mark, Marked, PartQueue, Putter, Taker, Visitor};
+use hg_types::{CutReason, Item, Part, Seq, What};
+use linked_list_allocator::LocalHeap;
+use std::alloc::{Allocator, Global};
+use std::sync::Wait;
+use std::test::*;
+use std::thread;
+use std::thread::{Threads, join_mut};
+
+// How many parts each push of the test with threads puts.
+const PARTS: u32 = 500;
+
+// A part of that id, which takes no memory.
+fn part<A: Allocator + Copy>(alloc: A, id: u32) -> Part<A> {
+    Part {
+        kind: Seq::new(alloc),
+        id,
+        params: Seq::new(alloc),
+        payload: Seq::new(alloc),
+    }
+}
+
+// Puts a push's parts, each with its index as its id.
+fn put_parts<R: Wait>(rt: &R, alloc: Global, queue: &PartQueue, putter: &mut Putter)
+    requires { IsPutterOf queue.now putter.old }
+    ensures { IsPutterOf queue.now putter.new }
+{
+    'parts: for _ in rt.forever() {
+        let index = putter.parts();
+        if index >= PARTS {
+            break;
+        }
+        if queue.try_put(rt, putter, part(alloc, index)).is_err() {
+            thread::yield_now();
+        }
+    }
+}
+
+// Puts a push's mark.
+fn put_mark<A: Allocator, R: Wait>(
+    rt: &R,
+    queue: &PartQueue<A>,
+    putter: Putter<A>,
+    mark: Mark,
+) -> Marked<A>
+    requires { IsPutterOf queue.now putter }
+    ensures { IsMarkedOf queue.now result }
+{
+    let mut putter = putter;
+    'mark: for _ in rt.forever() {
+        match queue.try_mark(rt, putter, mark) {
+            Ok(marked) => return marked,
+            Err((back, _)) => putter = back,
+        }
+    }
+    unreachable!()
+}
+
+// How many parts of the pushes 0 and 1 were taken, each with the index that was due.
+#[derive(Clone, Copy, Debug, PartialEq, Eq)]
+struct Due {
+    first: u32,
+    second: u32,
+    wrong: bool,
+}
+
+impl Due {
+    fn new() -> Due {
+        Due {
+            first: 0,
+            second: 0,
+            wrong: false,
+        }
+    }
+
+    // Counts a part, and looks at its index.
+    fn count(&mut self, item: &Item) {
+        let due = if item.push == 0 {
+            self.first
+        } else {
+            self.second
+        };
+        let is_due = match &item.what {
+            What::Part(part) => part.id == due && item.index == due,
+            _ => false,
+        };
+        if item.push > 1 || !is_due {
+            self.wrong = true;
+        } else if item.push == 0 {
+            self.first = due.saturating_add(1);
+        } else {
+            self.second = due.saturating_add(1);
+        }
+    }
+
+    fn is_done(&self) -> bool {
+        self.wrong || self.first >= PARTS && self.second >= PARTS
+    }
+}
+
+// Takes until all parts of both pushes came.
+fn take_parts<R: Wait>(rt: &R, queue: &PartQueue, taker: &mut Taker) -> Due
+    requires { IsTakerOf queue.now taker.old }
+    ensures { IsTakerOf queue.now taker.new }
+{
+    let mut due = Due::new();
+    'items: for _ in rt.forever() {
+        if due.is_done() {
+            break;
+        }
+        match queue.take(rt, taker) {
+            None => thread::yield_now(),
+            Some(item) => due.count(&item),
+        }
+    }
+    due
+}
+
+// Puts the parts of two pushes, each from a thread of its own.
+fn put_both<R: Threads + Wait + Sync>(
+    rt: &R,
+    alloc: Global,
+    queue: &PartQueue,
+    first: &mut Putter,
+    second: &mut Putter,
+)
+    requires { IsPutterOf queue.now first.old × IsPutterOf queue.now second.old }
+    ensures { IsPutterOf queue.now first.new × IsPutterOf queue.now second.new }
+{
+    join_mut(
+        rt,
+        &mut || put_parts(rt, alloc, queue, first),
+        &mut || put_parts(rt, alloc, queue, second),
+    );
+}
+
+// Puts a push's mark, and lets the Taker take the push in.
+fn end<R: Wait>(rt: &R, queue: &PartQueue, taker: &mut Taker, putter: Putter, mark: Mark)
+    requires { IsTakerOf queue.now taker.old × IsPutterOf queue.now putter }
+    ensures { IsTakerOf queue.now taker.new × ((taker_view taker.new).noted ≡ (taker_view taker.old).noted) }
+{
+    let marked = put_mark(rt, queue, putter, mark);
+    queue.join(taker, marked);
+}
+
+// The Putter of a push that has none.
+fn putter_of<A: Allocator>(queue: &PartQueue<A>, taker: &mut Taker<A>, push: u32) -> Putter<A>
+    requires { IsTakerOf queue.now taker.old × (has push (taker_view taker.old).noted ≡ false) }
+    ensures taker { IsTakerOf queue.now taker.new
+        × ((taker_view taker.new).noted ≡ push ∷ (taker_view taker.old).noted) }
+    ensures putter { IsPutterOf queue.now result × ((putter_view result).put ≡ []) }
+{
+    match queue.putter(taker, push) {
+        Ok(putter) => putter,
+        Err(_) => unreachable!(),
+    }
+}
+
+// A Visitor that has seen nothing.
+fn visitor_of<A: Allocator>(queue: &PartQueue<A>, taker: &mut Taker<A>) -> Visitor<A>
+    requires { IsTakerOf queue.now taker.old }
+    ensures taker { IsTakerOf queue.now taker.new × (taker_view taker.new ≡ taker_view taker.old) }
+    ensures visitor { IsVisitorOf queue.now result }
+{
+    match queue.visitor(taker) {
+        Ok(visitor) => visitor,
+        Err(_) => unreachable!(),
+    }
+}
+
+// What an item is, a part by its id.
+#[derive(Clone, Copy, Debug, PartialEq, Eq)]
+enum Kind {
+    Part(u32),
+    End,
+    Cut(CutReason),
+}
+
+fn kind_of<A: Allocator>(what: &What<A>) -> Kind {
+    match what {
+        What::Part(part) => Kind::Part(part.id),
+        What::End => Kind::End,
+        What::Cut(reason) => Kind::Cut(*reason),
+    }
+}
+
+// The push, the index and the kind of the item that is taken.
+fn take_one<A: Allocator, R: Wait>(
+    rt: &R,
+    queue: &PartQueue<A>,
+    taker: &mut Taker<A>,
+) -> Option<(u32, u32, Kind)>
+    requires { IsTakerOf queue.now taker.old }
+    ensures { IsTakerOf queue.now taker.new }
+{
+    let item = queue.take(rt, taker)?;
+    Some((item.push, item.index, kind_of(&item.what)))
+}
+
+#[test]
+fn queue_of_two(rt: HostRuntime) -> Result<(), Fail> {
+    let alloc = rt.alloc();
+    let (queue, mut taker) = PartQueue::new(alloc, 2)?;
+    let mut first = putter_of(&queue, &mut taker, 0);
+    let mut second = putter_of(&queue, &mut taker, 1);
+    assert!(rt; queue.try_put(&rt, &mut first, part(alloc, 7)).is_ok());
+    assert_eq!(rt; first.parts(), 1);
+    end(&rt, &queue, &mut taker, first, Mark::End);
+    match queue.try_put(&rt, &mut second, part(alloc, 8)) {
+        Ok(()) => panic!(rt; "the queue was full"),
+        Err(Full(back)) => assert_eq!(rt; back.id, 8),
+    }
+    assert_eq!(rt; (second.push(), second.parts()), (1, 0));
+    assert_eq!(rt;
+        take_one(&rt, &queue, &mut taker),
+        Some((0, 0, Kind::Part(7)))
+    );
+    assert_eq!(rt; take_one(&rt, &queue, &mut taker), Some((0, 1, Kind::End)));
+    assert_eq!(rt; take_one(&rt, &queue, &mut taker), None);
+    end(&rt, &queue, &mut taker, second, Mark::End);
+    Ok(())
+}
+
+#[test]
+fn mark_at_a_full_queue(rt: HostRuntime) -> Result<(), Fail> {
+    let alloc = rt.alloc();
+    let (queue, mut taker) = PartQueue::new(alloc, 1)?;
+    let mut putter = putter_of(&queue, &mut taker, 4);
+    assert!(rt; queue.try_put(&rt, &mut putter, part(alloc, 9)).is_ok());
+    match queue.try_mark(&rt, putter, Mark::Cut(CutReason::GaveUp)) {
+        Ok(_marked) => panic!(rt; "the queue was full"),
+        Err((back, mark)) => {
+            assert_eq!(rt; (back.parts(), mark), (1, Mark::Cut(CutReason::GaveUp)));
+            assert_eq!(rt;
+                take_one(&rt, &queue, &mut taker),
+                Some((4, 0, Kind::Part(9)))
+            );
+            end(&rt, &queue, &mut taker, back, mark);
+        }
+    }
+    assert_eq!(rt;
+        take_one(&rt, &queue, &mut taker),
+        Some((4, 1, Kind::Cut(CutReason::GaveUp)))
+    );
+    Ok(())
+}
+
+#[test]
+fn two_putters_on_threads(rt: HostRuntime) -> Result<(), Fail> {
+    let alloc = rt.alloc();
+    let (queue, mut taker) = PartQueue::new(alloc, 3)?;
+    let mut first = putter_of(&queue, &mut taker, 0);
+    let mut second = putter_of(&queue, &mut taker, 1);
+    let (host, shared) = (&rt, &queue);
+    let ((), due) = join_mut(
+        host,
+        &mut || put_both(host, alloc, shared, &mut first, &mut second),
+        &mut || take_parts(host, shared, &mut taker),
+    );
+    assert_eq!(rt; (due.first, due.second, due.wrong), (PARTS, PARTS, false));
+    end(&rt, &queue, &mut taker, first, Mark::End);
+    end(&rt, &queue, &mut taker, second, Mark::End);
+    assert_eq!(rt;
+        take_one(&rt, &queue, &mut taker),
+        Some((0, PARTS, Kind::End))
+    );
+    assert_eq!(rt;
+        take_one(&rt, &queue, &mut taker),
+        Some((1, PARTS, Kind::End))
+    );
+    assert_eq!(rt; take_one(&rt, &queue, &mut taker), None);
+    Ok(())
+}
+
+// Takes two items, tells of the first that memory was refused for it, and shows a Visitor what was taken.
+fn take_and_show<R: Wait>(
+    rt: &R,
+    queue: &PartQueue,
+    taker: &mut Taker,
+    visitor: &mut Visitor,
+) -> bool
+    requires { IsTakerOf queue.now taker.old × IsVisitorOf queue.now visitor.old }
+    ensures queue { IsTakerOf queue.now taker.new × IsVisitorOf queue.now visitor.new }
+    ensures seen { IsTrue result → (first : Item Global) × (second : Item Global)
+        × (seen visitor.new ≡ history taker.old ++ taken first true ∷ taken second false ∷ []) }
+{
+    let Some(_) = queue.take(rt, taker) else {
+        return false;
+    };
+    taker.tell(true);
+    let Some(_) = queue.take(rt, taker) else {
+        return false;
+    };
+    queue.show(taker, visitor);
+    true
+}
+
+#[test]
+fn told_refusals_are_shown(rt: HostRuntime) -> Result<(), Fail> {
+    let alloc = rt.alloc();
+    let (queue, mut taker) = PartQueue::new(alloc, 2)?;
+    let mut putter = putter_of(&queue, &mut taker, 0);
+    let mut visitor = visitor_of(&queue, &mut taker);
+    assert!(rt; queue.try_put(&rt, &mut putter, part(alloc, 0)).is_ok());
+    let marked = put_mark(&rt, &queue, putter, Mark::End);
+    assert!(rt; take_and_show(&rt, &queue, &mut taker, &mut visitor));
+    let visitor = queue.take_in(&mut taker, marked, visitor);
+    queue.dismiss(&mut taker, visitor);
+    Ok(())
+}
+
+// Takes an item, and tells that memory was refused for it.
+fn take_refused<A: Allocator, R: Wait>(rt: &R, queue: &PartQueue<A>, taker: &mut Taker<A>) -> bool
+    requires { IsTakerOf queue.now taker.old }
+    ensures { IsTakerOf queue.now taker.new }
+{
+    let Some(_) = queue.take(rt, taker) else {
+        return false;
+    };
+    taker.tell(true);
+    true
+}
+
+// Whether the calls at a queue of one place answer as they do with memory, and take none. `None` where the
+// queue could not be made.
+fn takes_none<R: Wait>(rt: &R, heap: &LocalHeap) -> Option<bool> {
+    let (queue, mut taker) = PartQueue::new(heap, 1).ok()?;
+    let made = heap.used();
+    let visitor = visitor_of(&queue, &mut taker);
+    let mut putter = putter_of(&queue, &mut taker, 0);
+    let put = queue.try_put(rt, &mut putter, part(heap, 0)).is_ok();
+    let full = queue.try_put(rt, &mut putter, part(heap, 1)).is_err();
+    let came = take_refused(rt, &queue, &mut taker);
+    let marked = put_mark(rt, &queue, putter, Mark::End);
+    let ended = queue.take(rt, &mut taker).is_some();
+    let empty = queue.take(rt, &mut taker).is_none();
+    let visitor = queue.take_in(&mut taker, marked, visitor);
+    queue.dismiss(&mut taker, visitor);
+    Some(put && full && came && ended && empty && heap.used() == made)
+}
+
+#[test]
+fn memory_is_taken_by_new_alone(rt: HostRuntime) -> Result<(), Fail> {
+    let mut refused = 0u32;
+    let mut made = 0u32;
+    for sixteens in 1..128usize {
+        let heap = LocalHeap::new(rt.alloc(), sixteens * 16)?;
+        match takes_none(&rt, &heap) {
+            None => refused = refused.saturating_add(1),
+            Some(none) => {
+                assert!(rt; none, "a heap of {sixteens} times 16 bytes");
+                made = made.saturating_add(1);
+            }
+        }
+    }
+    assert!(rt; refused > 0);
+    assert!(rt; made > 0);
+    Ok(())
+}
+
+// How many parts the test of the greatest queue puts.
+const MANY: u32 = 4_097;
+
+// Puts that many parts. It is false where one found the queue full.
+fn put_many<A: Allocator + Copy, R: Wait>(
+    rt: &R,
+    alloc: A,
+    queue: &PartQueue<A>,
+    putter: &mut Putter<A>,
+) -> bool
+    requires { IsPutterOf queue.now putter.old }
+    ensures { IsPutterOf queue.now putter.new }
+{
+    'parts: for index in 0..MANY {
+        if putter.parts() >= 10_000 || queue.try_put(rt, putter, part(alloc, index)).is_err() {
+            return false;
+        }
+    }
+    true
+}
+
+// Takes that many parts of push 0. It is false where another item came.
+fn take_many<A: Allocator, R: Wait>(rt: &R, queue: &PartQueue<A>, taker: &mut Taker<A>) -> bool
+    requires { IsTakerOf queue.now taker.old }
+    ensures { IsTakerOf queue.now taker.new }
+{
+    'parts: for index in 0..MANY {
+        if take_one(rt, queue, taker) != Some((0, index, Kind::Part(index))) {
+            return false;
+        }
+    }
+    true
+}
+
+#[test]
+fn the_greatest_queue(rt: HostRuntime) -> Result<(), Fail> {
+    let heap = LocalHeap::new(rt.alloc(), 1 << 25)?;
+    let (queue, mut taker) = PartQueue::new(&heap, 65_536)?;
+    let mut putter = putter_of(&queue, &mut taker, 0);
+    assert!(rt; put_many(&rt, &heap, &queue, &mut putter));
+    let marked = put_mark(&rt, &queue, putter, Mark::End);
+    assert!(rt; take_many(&rt, &queue, &mut taker));
+    queue.join(&mut taker, marked);
+    Ok(())
+}

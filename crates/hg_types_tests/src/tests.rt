@@ -1,0 +1,265 @@
+//! Clones, parameters and limits, and memory refused at one growth after another.
+
+mod ample;
+
+use hg_types::{CutReason, Item, Limits, NoMemory, Node, Param, Part, Phase, Seq, TryClone, What};
+use linked_list_allocator::LocalHeap;
+use std::alloc::Allocator;
+use std::test::Fail;
+
+fn param<A: Allocator + Copy>(
+    alloc: A,
+    mandatory: bool,
+    key: &[u8],
+    value: &[u8],
+) -> Result<Param<A>, NoMemory> {
+    let key = Seq::copy_of(alloc, key)?;
+    let value = Seq::copy_of(alloc, value)?;
+    Ok(Param {
+        mandatory,
+        key,
+        value,
+    })
+}
+
+/// A part with the keys `version`, `x` and `x` again.
+fn part<A: Allocator + Copy>(alloc: A, kind: &[u8]) -> Result<Part<A>, NoMemory> {
+    let kind = Seq::copy_of(alloc, kind)?;
+    let mut params = Seq::new(alloc);
+    params.push(param(alloc, true, b"version", b"02")?)?;
+    params.push(param(alloc, false, b"x", b"1")?)?;
+    params.push(param(alloc, false, b"x", b"2")?)?;
+    let payload = Seq::copy_of(alloc, b"payload")?;
+    Ok(Part {
+        kind,
+        id: 7,
+        params,
+        payload,
+    })
+}
+
+fn is_same_param<A: Allocator>(a: &Param<A>, b: &Param<A>) -> bool {
+    a.mandatory == b.mandatory
+        && a.key.as_slice() == b.key.as_slice()
+        && a.value.as_slice() == b.value.as_slice()
+}
+
+fn is_same_part<A: Allocator>(a: &Part<A>, b: &Part<A>) -> bool {
+    a.kind.as_slice() == b.kind.as_slice()
+        && a.id == b.id
+        && a.payload.as_slice() == b.payload.as_slice()
+        && a.params.len() == b.params.len()
+        && a.params
+            .as_slice()
+            .iter()
+            .zip(b.params.as_slice().iter())
+            .all(|(p, q)| is_same_param(p, q))
+}
+
+#[test]
+fn a_clone_equals_its_source(rt: HostRuntime) -> Result<(), Fail> {
+    let source = part(rt.alloc(), b"CHANGEGROUP")?;
+    let copy = source.try_clone(rt.alloc())?;
+    assert!(rt; is_same_part(&source, &copy));
+    let first = source.params.as_slice();
+    assert_eq!(rt; first.len(), 3);
+    let copy = first[0].try_clone(rt.alloc())?;
+    assert!(rt; is_same_param(&first[0], &copy));
+    Ok(())
+}
+
+#[test]
+fn a_clone_of_an_item_equals_its_source(rt: HostRuntime) -> Result<(), Fail> {
+    let source = Item {
+        push: 3,
+        index: 1,
+        what: What::Part(part(rt.alloc(), b"output")?),
+    };
+    let copy = source.try_clone(rt.alloc())?;
+    assert_eq!(rt; copy.push, 3);
+    assert_eq!(rt; copy.index, 1);
+    match (&source.what, &copy.what) {
+        (What::Part(a), What::Part(b)) => assert!(rt; is_same_part(a, b)),
+        _ => assert!(rt; false),
+    }
+    let cut = Item {
+        push: 3,
+        index: 2,
+        what: What::Cut(CutReason::Stream(9)),
+    };
+    match cut.try_clone(rt.alloc())?.what {
+        What::Cut(reason) => assert_eq!(rt; reason, CutReason::Stream(9)),
+        _ => assert!(rt; false),
+    }
+    Ok(())
+}
+
+#[test]
+fn parameters_by_key(rt: HostRuntime) -> Result<(), Fail> {
+    let part = part(rt.alloc(), b"changegroup")?;
+    assert_eq!(rt; part.param(b"version").unwrap_or(&[]), b"02".as_slice());
+    assert_eq!(rt; part.param(b"x").unwrap_or(&[]), b"1".as_slice());
+    assert!(rt; part.param(b"Version").is_none());
+    assert!(rt; part.param(b"").is_none());
+    Ok(())
+}
+
+#[test]
+fn an_upper_case_letter_makes_a_part_mandatory(rt: HostRuntime) -> Result<(), Fail> {
+    assert!(rt; part(rt.alloc(), b"CHANGEGROUP")?.is_mandatory());
+    assert!(rt; part(rt.alloc(), b"check:headS")?.is_mandatory());
+    assert!(rt; !part(rt.alloc(), b"check:heads")?.is_mandatory());
+    assert!(rt; !part(rt.alloc(), b"a-0_9:")?.is_mandatory());
+    Ok(())
+}
+
+#[test]
+fn limits_at_their_ends(rt: HostRuntime) {
+    let standard = Limits::standard();
+    assert!(rt; standard.is_allowed());
+    let least = Limits {
+        params: 1,
+        payload: 1,
+        stream: 1,
+        parts: 1,
+        text: 1,
+        rows: 1,
+        revisions: 1,
+    };
+    assert!(rt; least.is_allowed());
+    assert!(rt; !Limits { parts: 0, ..least }.is_allowed());
+    assert!(rt;
+        !Limits {
+            parts: 10_001,
+            ..standard
+        }
+        .is_allowed()
+    );
+    assert!(rt;
+        !Limits {
+            revisions: 2_147_483_648,
+            ..standard
+        }
+        .is_allowed()
+    );
+}
+
+#[test]
+fn the_null_id_and_the_phases(rt: HostRuntime) {
+    assert_eq!(rt; Node::NULL.0.as_slice(), [0u8; 20].as_slice());
+    assert_eq!(rt; Phase::Public as u8, 0);
+    assert_eq!(rt; Phase::Secret as u8, 2);
+    assert!(rt; Phase::Public < Phase::Draft);
+}
+
+/// Whether a part and its clone could be made.
+fn cloned(heap: &LocalHeap) -> Option<bool> {
+    let source = part(heap, b"output").ok()?;
+    let copy = source.try_clone(heap).ok()?;
+    Some(is_same_part(&source, &copy))
+}
+
+// Over heaps of every size, so that each growth is refused in turn.
+#[test]
+fn memory_is_refused_or_the_clone_is_equal(rt: HostRuntime) -> Result<(), Fail> {
+    let mut refused = 0u32;
+    let mut made = 0u32;
+    for sixteens in 1..128usize {
+        let heap = LocalHeap::new(rt.alloc(), sixteens * 16)?;
+        match cloned(&heap) {
+            Some(same) => {
+                assert!(rt; same);
+                made = made.saturating_add(1);
+            }
+            None => refused = refused.saturating_add(1),
+        }
+    }
+    assert!(rt; refused > 0);
+    assert!(rt; made > 0);
+    Ok(())
+}
+
+/// Takes what is left of a heap, sixteen bytes at a time.
+fn fill<'a>(heap: &'a LocalHeap, blocks: &mut Vec<Vec<u8, &'a LocalHeap>>) -> Result<(), Fail> {
+    for _ in 0..1_000 {
+        match Vec::with_capacity(heap, 16) {
+            Ok(block) => blocks.push(block)?,
+            Err(_) => return Ok(()),
+        }
+    }
+    Ok(())
+}
+
+/// Room that was made with the first item serves the next ones, where there is no more memory; where it was
+/// refused, the first item is there if there was memory for it alone.
+#[test]
+fn room_is_made_with_the_first_item(rt: HostRuntime) -> Result<(), Fail> {
+    let (mut refused, mut alone, mut made) = (0u32, 0u32, 0u32);
+    for sixteens in 1..64usize {
+        let heap = LocalHeap::new(rt.alloc(), sixteens * 16)?;
+        let mut list: Seq<u64, &LocalHeap> = Seq::new(&heap);
+        if list.push_with_room(0, 40).is_err() {
+            assert!(rt; list.is_empty());
+            refused = refused.saturating_add(1);
+            continue;
+        }
+        let mut blocks = Vec::new(rt.alloc());
+        fill(&heap, &mut blocks)?;
+        for item in 1..40u64 {
+            if list.push_with_room(item, 40).is_err() {
+                break;
+            }
+        }
+        assert_eq!(rt; list.as_slice().first(), Some(&0));
+        assert_eq!(rt; list.as_slice().last(), Some(&(list.len() as u64 - 1)));
+        if list.len() == 40 {
+            made = made.saturating_add(1);
+        } else {
+            alone = alone.saturating_add(1);
+        }
+    }
+    assert!(rt; refused > 0);
+    assert!(rt; alone > 0);
+    assert!(rt; made > 0);
+    Ok(())
+}
+
+/// A part with a thousand parameters and a payload of 70,000 bytes.
+fn large_part<A: Allocator + Copy>(alloc: A) -> Result<Part<A>, NoMemory> {
+    let kind = Seq::copy_of(alloc, b"output")?;
+    let mut params = Seq::new(alloc);
+    for _ in 0..1_000u32 {
+        params.push(param(alloc, false, b"key", b"value")?)?;
+    }
+    let payload = Seq::copy_of(alloc, &[7; 70_000])?;
+    Ok(Part {
+        kind,
+        id: 7,
+        params,
+        payload,
+    })
+}
+
+/// A copy of bytes takes their number and no more, but for what the heap rounds up.
+#[test]
+fn a_copy_takes_what_came(rt: HostRuntime) -> Result<(), Fail> {
+    let heap = LocalHeap::new(rt.alloc(), 1 << 20)?;
+    let copy = Seq::copy_of(&heap, &[7; 70_000])?;
+    assert!(rt; copy.len() == 70_000 && heap.used() <= 70_032);
+    Ok(())
+}
+
+/// Over an ample heap a clone is not refused, however large its source is, and it takes at most as much; to
+/// look at a part takes nothing.
+#[test]
+fn a_large_part_is_cloned(rt: HostRuntime) -> Result<(), Fail> {
+    let heap = LocalHeap::new(rt.alloc(), 1 << 20)?;
+    let source = large_part(&heap)?;
+    let had = heap.used();
+    let copy = source.try_clone(&heap)?;
+    assert!(rt; heap.used().saturating_sub(had) <= had);
+    let both = heap.used();
+    assert!(rt; !copy.is_mandatory() && copy.param(b"other").is_none());
+    assert!(rt; is_same_part(&source, &copy) && heap.used() == both);
+    Ok(())
+}
