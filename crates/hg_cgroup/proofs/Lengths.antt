@@ -1,5 +1,6 @@
 -- Signed numbers of 32 bits as four bytes.
-use Rattle.std.proofs.Common.{rules, ◌≡◌, ℕ, ◌^◌, ◌<◌, ◌≤◌, List, ◌++◌, length, get_or, take, drop, refl, sym, ap, subst, ◌∙◌, arith, inl, inr}
+use Rattle.std.proofs.Common.{rules, ◌≡◌, ℕ, ◌^◌, ◌<◌, ◌≤◌, List, ◌++◌, length, get_or, take, drop, refl, sym}
+use Rattle.std.proofs.Common.{ap, subst, ◌∙◌, arith, inl, inr}
 use Rattle.std.specs.Prelude.{ℤ, pos, negsuc}
 use Rattle.std.specs.Int.{w32, from_be_bytes, cast_signed, cast_unsigned}
 use Rattle.std.specs.Int.RustNames.{FitsSigned}
@@ -22,15 +23,24 @@ taken_fits bytes fits i =
     ]
 
 four_bytes : (bytes : List ℕ) → ((i : ℕ) → get_or bytes i 0 < 256) → from_be_bytes w32 (take 4 bytes) < 2 ^ 32
-four_bytes bytes fits = omega (arith, taken_fits bytes fits 0, taken_fits bytes fits 1, taken_fits bytes fits 2, taken_fits bytes fits 3)
+four_bytes bytes fits = omega (
+  arith,
+  taken_fits bytes fits 0,
+  taken_fits bytes fits 1,
+  taken_fits bytes fits 2,
+  taken_fits bytes fits 3,
+)
 
 -- the first four bytes are those of their number
-pub length_is : (bytes : List ℕ) (n : ℤ) → ((i : ℕ) → get_or bytes i 0 < 256) → 4 ≤ length bytes → n ≡ cast_signed w32 (from_be_bytes w32 (take 4 bytes)) → bytes ≡ length_bytes n ++ drop 4 bytes
+pub length_is : (bytes : List ℕ) (n : ℤ) → ((i : ℕ) → get_or bytes i 0 < 256) → 4 ≤ length bytes
+    → n ≡ cast_signed w32 (from_be_bytes w32 (take 4 bytes)) → bytes ≡ length_bytes n ++ drop 4 bytes
 unfolding length_bytes
 length_is bytes n fits long is =
     let number = from_be_bytes w32 (take 4 bytes) in
-    let same : cast_unsigned w32 n ≡ number = ap (cast_unsigned w32) is ∙ of_z-to_z w32 number (four_bytes bytes fits) in
-    let front = be_bytes_4 (take 4 bytes) (cast_unsigned w32 n) (omega (arith, length-take 4 bytes)) (taken_fits bytes fits) same in
+    let same : cast_unsigned w32 n ≡ number = ap (cast_unsigned w32) is
+    ∙ of_z-to_z w32 number (four_bytes bytes fits) in
+    let front = be_bytes_4 (take 4 bytes) (cast_unsigned w32 n) (omega (arith, length-take 4 bytes))
+    (taken_fits bytes fits) same in
     sym (ap (λ (x : List ℕ). x ++ drop 4 bytes) front ∙ take-append-drop 4 bytes)
 
 fits_unsigned : (z : ℤ) → FitsSigned w32 z → cast_unsigned w32 z < 2 ^ 32
@@ -49,15 +59,23 @@ length_once : (m n : ℤ) → FitsSigned w32 m → FitsSigned w32 n → length_b
 unfolding length_bytes
 length_once m n fits_m fits_n same =
     let unsigned : cast_unsigned w32 m ≡ cast_unsigned w32 n =
-    sym (from_be_bytes-to_be_bytes_4 (cast_unsigned w32 m) (fits_unsigned m fits_m)) ∙ (ap (from_be_bytes w32) same ∙ from_be_bytes-to_be_bytes_4 (cast_unsigned w32 n) (fits_unsigned n fits_n)) in
+    sym (from_be_bytes-to_be_bytes_4 (cast_unsigned w32 m) (fits_unsigned m fits_m))
+    ∙ (ap (from_be_bytes w32) same
+    ∙ from_be_bytes-to_be_bytes_4 (cast_unsigned w32 n) (fits_unsigned n fits_n)) in
     sym (to_z-of_z w32 m fits_m) ∙ (ap (cast_signed w32) unsigned ∙ to_z-of_z w32 n fits_n)
 
 -- one length, and what follows it
-pub length_first : (m n : ℤ) (x y : List ℕ) → FitsSigned w32 m → FitsSigned w32 n → length_bytes m ++ x ≡ length_bytes n ++ y → (m ≡ n) × (x ≡ y)
+pub length_first : (m n : ℤ) (x y : List ℕ) → FitsSigned w32 m → FitsSigned w32 n → length_bytes m
+    ++ x ≡ length_bytes n ++ y → (m ≡ n) × (x ≡ y)
 length_first m n x y fits_m fits_n same =
-    let both = fronts (length_bytes m) (length_bytes n) x y (length-length_bytes m ∙ sym (length-length_bytes n)) same in
+    let both = fronts (length_bytes m) (length_bytes n) x y (length-length_bytes m
+    ∙ sym (length-length_bytes n)) same in
     (length_once m n fits_m fits_n both.0, both.1)
 
 -- such a number is signed
-pub length_fits : (bytes : List ℕ) (n : ℤ) → ((i : ℕ) → get_or bytes i 0 < 256) → n ≡ cast_signed w32 (from_be_bytes w32 (take 4 bytes)) → FitsSigned w32 n
-length_fits bytes n fits is = subst (FitsSigned w32) (sym is) (sfits_to_z {w = w32} {n = from_be_bytes w32 (take 4 bytes)} (let below = four_bytes bytes fits in search rules))
+pub length_fits : (bytes : List ℕ) (n : ℤ) → ((i : ℕ) → get_or bytes i 0 < 256)
+    → n ≡ cast_signed w32 (from_be_bytes w32 (take 4 bytes)) → FitsSigned w32 n
+length_fits bytes n fits is =
+    subst (FitsSigned w32) (sym is)
+    (sfits_to_z {w = w32} {n = from_be_bytes w32 (take 4 bytes)} (let below = four_bytes bytes fits in
+    search rules))

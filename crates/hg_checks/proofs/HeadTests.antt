@@ -1,5 +1,6 @@
 -- The tests of ids against the heads, and what they tell together.
-use Rattle.std.proofs.Common.{◌≡◌, ◌≢◌, ◌↔◌, ℕ, Bool, true, false, true≢false, List, length, get_or, sym, ◌∙◌, subst, AllPairs, Contains, IsTrue}
+use Rattle.std.proofs.Common.{◌≡◌, ◌≢◌, ◌↔◌, ℕ, Bool, true, false, true≢false, List, length, get_or, sym, ◌∙◌}
+use Rattle.std.proofs.Common.{subst, AllPairs, Contains, IsTrue}
 use Rattle.std.specs.List.{list_all}
 use Rattle.std.specs.Cmp.{both_ways}
 use Rattle.std.proofs.lemmas.List.Elements.{Contains-get_or}
@@ -18,12 +19,14 @@ module _ (rows : List Changeset) (lawful : AreLawful rows) (ids : List (List ℕ
   refuted : (same ≡ true → ⊥) → false ≡ same
   refuted never = both_ways false same (λ is. absurd (true≢false (sym is))) (λ is. absurd (never is))
 
-  told : same ≡ true → (length ids ≡ head_count rows) × AllPairs (λ a b. a ≢ b) ids × ((id : List ℕ) → Contains ids id → is_head_id rows id ≡ true)
+  told : same ≡ true → (length ids ≡ head_count rows) × AllPairs (λ a b. a ≢ b) ids
+      × ((id : List ℕ) → Contains ids id → is_head_id rows id ≡ true)
   told is = told_heads rows lawful ids (as_often ids (head_ids rows) is)
 
   each_told : same ≡ true → list_all (is_head_id rows) ids ≡ true
   each_told is =
-      list_all-from_AllPass (is_head_id rows) ids (λ k d within. (told is).2 (get_or ids k d) (Contains-get_or ids k d within))
+      list_all-from_AllPass (is_head_id rows) ids
+      (λ k d within. (told is).2 (get_or ids k d) (Contains-get_or ids k d within))
 
   -- more ids than heads, or fewer
   pub other_number : length ids ≢ head_count rows → false ≡ same
@@ -40,5 +43,7 @@ module _ (rows : List Changeset) (lawful : AreLawful rows) (ids : List (List ℕ
       both_ways answer same
       (λ is.
       from_as_often ids (head_ids rows)
-      (heads_told rows lawful ids as_many (distinct.0 is) (λ id found. subst (λ x. is_head_id rows x ≡ true) found.2 (AllPass-from_list_all (is_head_id rows) ids all found.0 id found.1))))
+      (heads_told rows lawful ids as_many (distinct.0 is)
+      (λ id found. subst (λ x. is_head_id rows x ≡ true) found.2
+      (AllPass-from_list_all (is_head_id rows) ids all found.0 id found.1))))
       (λ is. distinct.1 (told is).1)

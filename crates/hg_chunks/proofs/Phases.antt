@@ -7,25 +7,34 @@ use Rattle.hg_chunks.specs.declared.payload.Stage.{Stage}
 use Rattle.hg_chunks.specs.declared.payload.Stage.TheVariants as stage
 use Rattle.hg_chunks.specs.declared.payload.PayloadIn.{PayloadIn}
 use Rattle.hg_chunks.specs.Payload.{closing, IsOpen}
-use Rattle.hg_chunks.specs.PayloadIn.{Reading, Ended, Broken, phase_of, phase_of_stage, limit_of, Holds, IsAt, IsFault, Stops}
+use Rattle.hg_chunks.specs.PayloadIn.{Reading, Ended, Broken, phase_of, phase_of_stage, limit_of, Holds, IsAt}
+use Rattle.hg_chunks.specs.PayloadIn.{IsFault, Stops}
 use Rattle.hg_chunks.proofs.Steps.{waits, open_inside}
 
-open_at : (s : Stage) (limit : ℕ) (got size whole rest : List ℕ) → phase_of_stage s ≡ Reading → length size < 4 → IsAt s limit got size whole rest → IsOpen limit whole rest
-open_at stage.Size limit got size whole rest e short at = let short_rest : length rest < 4 = rw at.1 short in inl short_rest
-open_at (stage.Chunk left) limit got size whole rest e short at = open_inside limit got whole rest left.bytes at.1
+open_at : (s : Stage) (limit : ℕ) (got size whole rest : List ℕ) → phase_of_stage s ≡ Reading
+    → length size < 4 → IsAt s limit got size whole rest → IsOpen limit whole rest
+open_at stage.Size limit got size whole rest e short at = let short_rest : length rest < 4 = rw at.1 short in
+    inl short_rest
+open_at (stage.Chunk left) limit got size whole rest e short at =
+    open_inside limit got whole rest left.bytes at.1
 open_at stage.Done limit got size whole rest e short at = absurd cc
 open_at stage.Handed limit got size whole rest e short at = absurd cc
 open_at (stage.Failed fault) limit got size whole rest e short at = absurd cc
 
 -- the payload may still go on
-pub open_while_reading : {A : Type 0} → (p : PayloadIn A) (whole rest : List ℕ) → phase_of p ≡ Reading → Holds p whole rest → IsOpen (limit_of p) whole rest
-open_while_reading p whole rest e holds = open_at p.stage p.limit p.«data».items p.size whole rest e holds.1 holds.2
+pub open_while_reading : {A : Type 0} → (p : PayloadIn A) (whole rest : List ℕ) → phase_of p ≡ Reading
+    → Holds p whole rest → IsOpen (limit_of p) whole rest
+open_while_reading p whole rest e holds =
+    open_at p.stage p.limit p.«data».items p.size whole rest e holds.1 holds.2
 
 -- a reader that reads on stops where it is when it is given nothing
-pub starts : {A : Type 0} → (p : PayloadIn A) (whole rest : List ℕ) → phase_of p ≡ Reading → Holds p whole rest → Stops More p whole rest []
-starts p whole rest e holds = waits p whole rest [] (rw append-nil holds) (rw append-nil (open_while_reading p whole rest e holds))
+pub starts : {A : Type 0} → (p : PayloadIn A) (whole rest : List ℕ) → phase_of p ≡ Reading
+    → Holds p whole rest → Stops More p whole rest []
+starts p whole rest e holds =
+    waits p whole rest [] (rw append-nil holds) (rw append-nil (open_while_reading p whole rest e holds))
 
-closing_at : (s : Stage) (limit : ℕ) (got size whole rest : List ℕ) → phase_of_stage s ≡ Ended → IsAt s limit got size whole rest → rest ≡ closing
+closing_at : (s : Stage) (limit : ℕ) (got size whole rest : List ℕ) → phase_of_stage s ≡ Ended
+    → IsAt s limit got size whole rest → rest ≡ closing
 closing_at stage.Size limit got size whole rest e at = absurd cc
 closing_at (stage.Chunk left) limit got size whole rest e at = absurd cc
 closing_at stage.Done limit got size whole rest e at = at.1
@@ -33,13 +42,15 @@ closing_at stage.Handed limit got size whole rest e at = absurd cc
 closing_at (stage.Failed fault) limit got size whole rest e at = absurd cc
 
 -- the closing size stands at its end
-pub closed_when_ended : {A : Type 0} → (p : PayloadIn A) (whole rest : List ℕ) → phase_of p ≡ Ended → Holds p whole rest → rest ≡ closing
+pub closed_when_ended : {A : Type 0} → (p : PayloadIn A) (whole rest : List ℕ) → phase_of p ≡ Ended
+    → Holds p whole rest → rest ≡ closing
 closed_when_ended p whole rest e holds = closing_at p.stage p.limit p.«data».items p.size whole rest e holds.2
 
 broken_is : (f : ChunkFault) (fault : ChunkFault) → Broken f ≡ Broken fault → f ≡ fault
 broken_is f fault e = cc
 
-fault_at : (s : Stage) (fault : ChunkFault) (limit : ℕ) (got size whole rest : List ℕ) → phase_of_stage s ≡ Broken fault → IsAt s limit got size whole rest → IsFault fault limit whole rest
+fault_at : (s : Stage) (fault : ChunkFault) (limit : ℕ) (got size whole rest : List ℕ)
+    → phase_of_stage s ≡ Broken fault → IsAt s limit got size whole rest → IsFault fault limit whole rest
 fault_at stage.Size fault limit got size whole rest e at = absurd cc
 fault_at (stage.Chunk left) fault limit got size whole rest e at = absurd cc
 fault_at stage.Done fault limit got size whole rest e at = absurd cc
@@ -47,5 +58,7 @@ fault_at stage.Handed fault limit got size whole rest e at = absurd cc
 fault_at (stage.Failed f) fault limit got size whole rest e at = rw (← broken_is f fault e) at
 
 -- the fault stands at its end
-pub fault_when_broken : {A : Type 0} → (p : PayloadIn A) (fault : ChunkFault) (whole rest : List ℕ) → phase_of p ≡ Broken fault → Holds p whole rest → IsFault fault (limit_of p) whole rest
-fault_when_broken p fault whole rest e holds = fault_at p.stage fault p.limit p.«data».items p.size whole rest e holds.2
+pub fault_when_broken : {A : Type 0} → (p : PayloadIn A) (fault : ChunkFault) (whole rest : List ℕ)
+    → phase_of p ≡ Broken fault → Holds p whole rest → IsFault fault (limit_of p) whole rest
+fault_when_broken p fault whole rest e holds =
+    fault_at p.stage fault p.limit p.«data».items p.size whole rest e holds.2

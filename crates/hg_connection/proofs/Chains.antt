@@ -1,5 +1,7 @@
 -- One more bundle of a connection.
-use Rattle.std.proofs.Common.{true, false, true≢false, ℕ, ◌≡◌, ◌≢◌, ◌≤◌, ◌<◌, ◌+◌, ◌*◌, ◌^◌, List, [], ◌∷◌, ◌++◌, refl, sym, ◌∙◌, ap, subst, inl, inr, arith, length, append_assoc, Option, Some, None}
+use Rattle.std.proofs.Common.{true, false, true≢false, ℕ, ◌≡◌, ◌≢◌, ◌≤◌, ◌<◌, ◌+◌, ◌*◌, ◌^◌, List, [], ◌∷◌}
+use Rattle.std.proofs.Common.{◌++◌, refl, sym, ◌∙◌, ap, subst, inl, inr, arith, length, append_assoc, Option}
+use Rattle.std.proofs.Common.{Some, None}
 use Rattle.std.proofs.lemmas.List.{append-nil, length-append, flat_map_more}
 use Rattle.std.proofs.Math.Nat.{mul-le-mul_right}
 use Rattle.std.proofs.KnownBytes.{Consumes-trans, Consumes-nil, Appends-nil, Appends-trans}
@@ -29,7 +31,9 @@ use Rattle.hg_connection.specs.declared.served.ConnFault.{ConnFault}
 use Rattle.hg_connection.specs.declared.served.ConnFault.TheVariants.{Open, ReadFailed as read_failed}
 use Rattle.hg_connection.specs.declared.served.Served.{Served}
 use Rattle.hg_connection.specs.Receiving.{IsNext, IsPiece, Keeps, Ran, state_at}
-use Rattle.hg_connection.specs.Connections.{Exchange, IsExchange, AreExchanges, AreWhole, Connects, EndsBy, Serves, TellsLast, TellsOf, bytes_of, reads_of, uses_of, replies_of, fault_of}
+use Rattle.hg_connection.specs.Connections.{Exchange, IsExchange, AreExchanges, AreWhole, Connects, EndsBy}
+use Rattle.hg_connection.specs.Connections.{Serves, TellsLast, TellsOf, bytes_of, reads_of, uses_of}
+use Rattle.hg_connection.specs.Connections.{replies_of, fault_of}
 
 -- the bytes that were read behind the last end mark
 abbrev pub last_rest : {A : Type 0} → List ℕ → List (Exchange A) → List ℕ
@@ -37,7 +41,9 @@ last_rest waited [] = waited
 last_rest waited (x ∷ xs) = last_rest x.rest xs
 
 -- all bundles so far were whole, and all their replies went out
-pub record Goes {A : Type 0} (limits : Limits) (capacity : ℕ) (first : RepositoryOf A) (input left : Input) (out sent : Output) (before now : List (Taken A)) (waiting : List ℕ) (served : Served A) (number : ℕ) : Type 0 where
+pub record Goes {A : Type 0} (limits : Limits) (capacity : ℕ) (first : RepositoryOf A) (input left : Input)
+    (out sent : Output) (before now : List (Taken A)) (waiting : List ℕ) (served : Served A)
+    (number : ℕ) : Type 0 where
   pub whole : List (Exchange A)
   pub chain : AreExchanges limits capacity first before [] whole now
   pub rest_is : last_rest [] whole ≡ waiting
@@ -56,32 +62,42 @@ pub record Goes {A : Type 0} (limits : Limits) (capacity : ℕ) (first : Reposit
   pub fault : served.fault ≡ None
 
 module _ {A : Type 0} (limits : Limits) (capacity : ℕ) (first : RepositoryOf A) where
-  chain_more : (before : List (Taken A)) (waited : List ℕ) (xs : List (Exchange A)) (now : List (Taken A)) (x : Exchange A) → AreExchanges limits capacity first before waited xs now → IsExchange limits capacity first now (last_rest waited xs) x
+  chain_more : (before : List (Taken A)) (waited : List ℕ) (xs : List (Exchange A)) (now : List (Taken A))
+      (x : Exchange A) → AreExchanges limits capacity first before waited xs now
+      → IsExchange limits capacity first now (last_rest waited xs) x
       → AreExchanges limits capacity first before waited (xs ++ x ∷ []) x.after
-  chain_more before waited [] now x c is = (subst (λ (h : List (Taken A)). IsExchange limits capacity first h waited x) c is, refl)
+  chain_more before waited [] now x c is =
+      (subst (λ (h : List (Taken A)). IsExchange limits capacity first h waited x) c is, refl)
   chain_more before waited (y ∷ ys) now x c is = (c.0, chain_more y.after y.rest ys now x c.1 is)
 
-last_more : {A : Type 0} (waited : List ℕ) (xs : List (Exchange A)) (x : Exchange A) → last_rest waited (xs ++ x ∷ []) ≡ x.rest
+last_more : {A : Type 0} (waited : List ℕ) (xs : List (Exchange A)) (x : Exchange A)
+    → last_rest waited (xs ++ x ∷ []) ≡ x.rest
 last_more waited [] x = refl
 last_more waited (y ∷ ys) x = last_more y.rest ys x
 
-whole_more : {A : Type 0} (xs : List (Exchange A)) (x : Exchange A) → AreWhole xs → x.ending ≡ Whole → x.sending ≡ sent_whole → AreWhole (xs ++ x ∷ [])
+whole_more : {A : Type 0} (xs : List (Exchange A)) (x : Exchange A) → AreWhole xs → x.ending ≡ Whole
+    → x.sending ≡ sent_whole → AreWhole (xs ++ x ∷ [])
 whole_more [] x all is went = (is, went, tt)
 whole_more (y ∷ ys) x all is went = (all.0, all.1, whole_more ys x all.2 is went)
 
-bytes_more : {A : Type 0} (xs : List (Exchange A)) (x : Exchange A) → bytes_of xs ++ x.consumed ≡ bytes_of (xs ++ x ∷ [])
+bytes_more : {A : Type 0} (xs : List (Exchange A)) (x : Exchange A) → bytes_of xs
+    ++ x.consumed ≡ bytes_of (xs ++ x ∷ [])
 bytes_more {A} xs x = flat_map_more (λ (y : Exchange A). y.consumed) [] xs x
 
-reads_more : {A : Type 0} (xs : List (Exchange A)) (x : Exchange A) → reads_of xs ++ x.reads ≡ reads_of (xs ++ x ∷ [])
+reads_more : {A : Type 0} (xs : List (Exchange A)) (x : Exchange A) → reads_of xs
+    ++ x.reads ≡ reads_of (xs ++ x ∷ [])
 reads_more {A} xs x = flat_map_more (λ (y : Exchange A). y.reads) [] xs x
 
-uses_more : {A : Type 0} (xs : List (Exchange A)) (x : Exchange A) → uses_of xs ++ x.uses ≡ uses_of (xs ++ x ∷ [])
+uses_more : {A : Type 0} (xs : List (Exchange A)) (x : Exchange A) → uses_of xs
+    ++ x.uses ≡ uses_of (xs ++ x ∷ [])
 uses_more {A} xs x = flat_map_more (λ (y : Exchange A). y.uses) [] xs x
 
-replies_more : {A : Type 0} (xs : List (Exchange A)) (x : Exchange A) → replies_of xs ++ reply_of x.how ≡ replies_of (xs ++ x ∷ [])
+replies_more : {A : Type 0} (xs : List (Exchange A)) (x : Exchange A) → replies_of xs
+    ++ reply_of x.how ≡ replies_of (xs ++ x ∷ [])
 replies_more {A} xs x = flat_map_more (λ (y : Exchange A). reply_of y.how) [] xs x
 
-no_fault : (ending : Ending) (sending : Sending) → fault_of ending sending ≡ None → (ending ≡ Whole) × (sending ≡ sent_whole)
+no_fault : (ending : Ending) (sending : Sending) → fault_of ending sending ≡ None → (ending ≡ Whole)
+    × (sending ≡ sent_whole)
 no_fault ReadFailed sending e = absurd cc
 no_fault (Fault fault) sending e = absurd cc
 no_fault InputEnded sending e = absurd cc
@@ -116,8 +132,10 @@ can_add limits capacity first input mid begun left out way sent before now histo
     omega (arith, so_far, bound, most, went, reply, parted, both)
 
 -- nothing was served yet
-pub starts : {A : Type 0} (limits : Limits) (capacity : ℕ) (first : RepositoryOf A) (input : Input) (out : Output) (before : List (Taken A)) (waiting : List ℕ) (served : Served A) → waiting ≡ []
-    → (served.bundles ≡ 0) × (served.last ≡ None) × (served.written ≡ 0) × (served.fault ≡ None) → Goes limits capacity first input input out out before before waiting served 0
+pub starts : {A : Type 0} (limits : Limits) (capacity : ℕ) (first : RepositoryOf A) (input : Input)
+    (out : Output) (before : List (Taken A)) (waiting : List ℕ) (served : Served A) → waiting ≡ []
+    → (served.bundles ≡ 0) × (served.last ≡ None) × (served.written ≡ 0) × (served.fault ≡ None)
+    → Goes limits capacity first input input out out before before waiting served 0
 starts {A} limits capacity first input out before waiting served none s = record {
   whole = [];
   chain = refl;
@@ -139,34 +157,47 @@ starts {A} limits capacity first input out before waiting served none s = record
 
 -- the same but for the fault
 abbrev pub SameBut : {A : Type 0} → Served A → Served A → Option ConnFault → Type 0
-SameBut old new fault = (new.bundles ≡ old.bundles) × (new.last ≡ old.last) × (new.written ≡ old.written) × (new.fault ≡ fault)
+SameBut old new fault = (new.bundles ≡ old.bundles) × (new.last ≡ old.last) × (new.written ≡ old.written)
+    × (new.fault ≡ fault)
 
 -- the connection ends between two bundles
-module _ {A : Type 0} (limits : Limits) (capacity : ℕ) (first : RepositoryOf A) (most : ℕ) (input mid left : Input) (out sent : Output) (before now : List (Taken A)) (waiting after : List ℕ) (served told : Served A) (number : ℕ)
-    (g : Goes limits capacity first input mid out sent before now waiting served number) (less : number ≤ most) where
-  closes : (now' : List (Taken A)) (dropped : List ℕ) (final : List ReadAnswer) (fault : Option ConnFault) → now' ≡ now → Consumes input.left left.left (bytes_of g.whole ++ dropped) → Adds input.reads left.reads (reads_of g.whole ++ final) → length dropped ≤ 4096
-      → SameBut served told fault → EndsBy most g.whole None final dropped left fault → Connects limits capacity first most input left out sent before now' told
+module _ {A : Type 0} (limits : Limits) (capacity : ℕ) (first : RepositoryOf A) (most : ℕ)
+    (input mid left : Input) (out sent : Output) (before now : List (Taken A)) (waiting after : List ℕ)
+    (served told : Served A) (number : ℕ)
+    (g : Goes limits capacity first input mid out sent before now waiting served number)
+    (less : number ≤ most) where
+  closes : (now' : List (Taken A)) (dropped : List ℕ) (final : List ReadAnswer) (fault : Option ConnFault)
+      → now' ≡ now → Consumes input.left left.left (bytes_of g.whole ++ dropped)
+      → Adds input.reads left.reads (reads_of g.whole ++ final) → length dropped ≤ 4096
+      → SameBut served told fault → EndsBy most g.whole None final dropped left fault
+      → Connects limits capacity first most input left out sent before now' told
   closes now' dropped final fault same read reads small is end =
       let e : g.whole ++ [] ≡ g.whole = append-nil g.whole in
       let le = within number most limits.stream less in
       let b = g.bytes in
-      let size : length (bytes_of g.whole ++ dropped) ≤ most * limits.stream + 4096 = omega (arith, le, b, small, length-append (bytes_of g.whole) dropped) in
+      let size : length (bytes_of g.whole ++ dropped) ≤ most * limits.stream + 4096 = omega
+      (arith, le, b, small, length-append (bytes_of g.whole) dropped) in
       let count' : told.bundles ≡ length g.whole = is.0 ∙ (g.counted ∙ g.count) in
       let few' : length g.whole ≤ most = let c = g.count in omega (arith, c, less) in
       record {
         whole = g.whole;
         last = None;
-        chain = subst (λ (y : List (Exchange A) × List (Taken A)). AreExchanges limits capacity first before [] y.0 y.1) (λ i. (sym e i, sym same i)) g.chain;
+        chain = subst (λ (y : List (Exchange A) × List (Taken A)).
+            AreExchanges limits capacity first before [] y.0 y.1) (λ i. (sym e i, sym same i)) g.chain;
         ends = g.ends;
         count = count' ∙ ap (λ (l : List (Exchange A)). length l) (sym e);
         few = subst (λ (l : List (Exchange A)). length l ≤ most) (sym e) few';
-        tells = subst (λ (y : Option (Answer A) × List (Exchange A)). TellsLast y.0 y.1) (λ i. (sym is.1 i, sym e i)) g.tells;
+        tells = subst (λ (y : Option (Answer A) × List (Exchange A)). TellsLast y.0 y.1)
+            (λ i. (sym is.1 i, sym e i)) g.tells;
         final = final;
-        reads = subst (λ (l : List (Exchange A)). Adds input.reads left.reads (reads_of l ++ final)) (sym e) reads;
+        reads = subst (λ (l : List (Exchange A)). Adds input.reads left.reads (reads_of l ++ final))
+            (sym e) reads;
         uses = subst (λ (l : List (Exchange A)). Adds out.uses sent.uses (uses_of l)) (sym e) g.uses;
         dropped = dropped;
-        read = subst (λ (l : List (Exchange A)). Consumes input.left left.left (bytes_of l ++ dropped)) (sym e) read;
-        bound = subst (λ (l : List (Exchange A)). length (bytes_of l ++ dropped) ≤ most * limits.stream + 4096) (sym e) size;
+        read = subst (λ (l : List (Exchange A)). Consumes input.left left.left (bytes_of l ++ dropped))
+            (sym e) read;
+        bound = subst (λ (l : List (Exchange A)). length (bytes_of l
+            ++ dropped) ≤ most * limits.stream + 4096) (sym e) size;
         gone = replies_of g.whole;
         kept = [];
         replies = ap (λ (l : List (Exchange A)). replies_of l) e ∙ sym (append-nil (replies_of g.whole));
@@ -177,41 +208,71 @@ module _ {A : Type 0} (limits : Limits) (capacity : ℕ) (first : RepositoryOf A
       }
 
   -- one read gave no byte
-  read_nothing : (answer : ReadAnswer) → waiting ≡ [] → Consumes mid.left left.left [] → Consumes input.left left.left (bytes_of g.whole ++ [])
-  read_nothing answer none nothing = subst (λ (l : List ℕ). Consumes input.left left.left l) (append-nil (bytes_of g.whole ++ waiting) ∙ ap (λ (l : List ℕ). bytes_of g.whole ++ l) none) (Consumes-trans input.left mid.left left.left (bytes_of g.whole ++ waiting) [] g.read nothing)
+  read_nothing : (answer : ReadAnswer) → waiting ≡ [] → Consumes mid.left left.left []
+      → Consumes input.left left.left (bytes_of g.whole ++ [])
+  read_nothing answer none nothing =
+      subst (λ (l : List ℕ). Consumes input.left left.left l) (append-nil (bytes_of g.whole ++ waiting)
+      ∙ ap (λ (l : List ℕ). bytes_of g.whole ++ l) none)
+      (Consumes-trans input.left mid.left left.left (bytes_of g.whole ++ waiting) [] g.read nothing)
 
   -- the input ended
-  pub at_end : IsNext number waiting after mid left comes_no_more → SameBut served told served.fault → Connects limits capacity first most input left out sent before now told
+  pub at_end : IsNext number waiting after mid left comes_no_more → SameBut served told served.fault
+      → Connects limits capacity first most input left out sent before now told
   at_end n is =
-      closes now [] (Gave [] ∷ []) None refl (read_nothing (Gave []) n.0 n.1.bytes) (Adds-trans input.reads mid.reads left.reads (reads_of g.whole) (Gave [] ∷ []) g.reads n.1.told) (omega arith) (is.0, is.1, is.2, is.3 ∙ g.fault) (inr (refl, refl, n.2))
+      closes now [] (Gave [] ∷ []) None refl (read_nothing (Gave []) n.0 n.1.bytes)
+      (Adds-trans input.reads mid.reads left.reads (reads_of g.whole) (Gave [] ∷ []) g.reads n.1.told)
+      (omega arith) (is.0, is.1, is.2, is.3 ∙ g.fault) (inr (refl, refl, n.2))
 
   -- a read failed between two bundles
-  pub at_failure : IsNext number waiting after mid left Fails → SameBut served told (Some read_failed) → Connects limits capacity first most input left out sent before now told
-  at_failure n is = closes now [] (Failed ∷ []) (Some read_failed) refl (read_nothing Failed n.0 n.1.bytes) (Adds-trans input.reads mid.reads left.reads (reads_of g.whole) (Failed ∷ []) g.reads n.1.told) (omega arith) is (refl, refl)
+  pub at_failure : IsNext number waiting after mid left Fails → SameBut served told (Some read_failed)
+      → Connects limits capacity first most input left out sent before now told
+  at_failure n is = closes now [] (Failed ∷ []) (Some read_failed) refl (read_nothing Failed n.0 n.1.bytes)
+      (Adds-trans input.reads mid.reads left.reads (reads_of g.whole) (Failed ∷ []) g.reads n.1.told)
+      (omega arith) is (refl, refl)
 
   none_waits : IsNext number waiting after mid left Comes → g.whole ≡ [] → after ≡ []
-  none_waits n e = let z : number ≡ 0 = g.count ∙ ap (λ (l : List (Exchange A)). length l) e in (n.1 z).0 ∙ g.none z
+  none_waits n e = let z : number ≡ 0 = g.count ∙ ap (λ (l : List (Exchange A)). length l) e in (n.1 z).0
+      ∙ g.none z
 
   some_before : IsNext number waiting after mid left Comes → IsPiece after → g.whole ≢ []
-  some_before n piece = λ e. (let z : length after ≡ 0 = ap (λ (l : List ℕ). length l) (none_waits n e) in absurd (omega (arith, z, piece.0)))
+  some_before n piece = λ e. (let z : length after ≡ 0 = ap (λ (l : List ℕ). length l) (none_waits n e) in
+      absurd (omega (arith, z, piece.0)))
 
   -- a push was not opened
-  pub at_opening : (now' : List (Taken A)) (fault : OpenFault) → IsNext number waiting after mid left Comes → now' ≡ now → SameBut served told (Some (Open fault)) → Connects limits capacity first most input left out sent before now' told
+  pub at_opening : (now' : List (Taken A)) (fault : OpenFault) → IsNext number waiting after mid left Comes
+      → now' ≡ now → SameBut served told (Some (Open fault))
+      → Connects limits capacity first most input left out sent before now' told
   at_opening now' fault n same is = elim n.0 [
-    | inl there ↦ closes now' after [] (Some (Open fault)) same (subst (λ (y : List ℕ × Input). Consumes input.left y.1.left (bytes_of g.whole ++ y.0)) (λ i. (sym there.0 i, sym there.1 i)) g.read)
-        (subst (λ (i : Input). Adds input.reads i.reads (reads_of g.whole ++ [])) (sym there.1) (subst (λ (l : List ReadAnswer). Adds input.reads mid.reads l) (sym (append-nil (reads_of g.whole))) g.reads)) n.3 is (inl refl, none_waits n)
+    | inl there ↦ closes now' after [] (Some (Open fault)) same
+        (subst (λ (y : List ℕ × Input). Consumes input.left y.1.left (bytes_of g.whole ++ y.0))
+        (λ i. (sym there.0 i, sym there.1 i)) g.read)
+        (subst (λ (i : Input). Adds input.reads i.reads (reads_of g.whole ++ [])) (sym there.1)
+        (subst (λ (l : List ReadAnswer). Adds input.reads mid.reads l)
+        (sym (append-nil (reads_of g.whole))) g.reads)) n.3 is (inl refl, none_waits n)
     | inr read ↦ closes now' after (Gave after ∷ []) (Some (Open fault)) same
-        (subst (λ (l : List ℕ). Consumes input.left left.left l) (append_assoc (bytes_of g.whole) waiting after ∙ ap (λ (l : List ℕ). bytes_of g.whole ++ (l ++ after)) read.0) (Consumes-trans input.left mid.left left.left (bytes_of g.whole ++ waiting) after g.read read.1.bytes))
-        (Adds-trans input.reads mid.reads left.reads (reads_of g.whole) (Gave after ∷ []) g.reads read.1.told) n.3 is (inr (some_before n read.2, refl), none_waits n)
+        (subst (λ (l : List ℕ). Consumes input.left left.left l)
+        (append_assoc (bytes_of g.whole) waiting after
+        ∙ ap (λ (l : List ℕ). bytes_of g.whole ++ (l ++ after)) read.0)
+        (Consumes-trans input.left mid.left left.left (bytes_of g.whole
+        ++ waiting) after g.read read.1.bytes))
+        (Adds-trans input.reads mid.reads left.reads (reads_of g.whole) (Gave after ∷ []) g.reads read.1.told)
+        n.3 is (inr (some_before n read.2, refl), none_waits n)
   ]
 
   -- so many bundles were served as were asked for
-  pub at_most : left ≡ mid → number ≡ most → length waiting ≤ 4096 → SameBut served told served.fault → Connects limits capacity first most input left out sent before now told
+  pub at_most : left ≡ mid → number ≡ most → length waiting ≤ 4096 → SameBut served told served.fault
+      → Connects limits capacity first most input left out sent before now told
   at_most still all small is =
-      closes now waiting [] None refl (subst (λ (i : Input). Consumes input.left i.left (bytes_of g.whole ++ waiting)) (sym still) g.read)
-      (subst (λ (i : Input). Adds input.reads i.reads (reads_of g.whole ++ [])) (sym still) (subst (λ (l : List ReadAnswer). Adds input.reads mid.reads l) (sym (append-nil (reads_of g.whole))) g.reads)) small (is.0, is.1, is.2, is.3 ∙ g.fault) (inl (sym g.count ∙ all, refl))
+      closes now waiting [] None refl
+      (subst (λ (i : Input). Consumes input.left i.left (bytes_of g.whole ++ waiting)) (sym still) g.read)
+      (subst (λ (i : Input). Adds input.reads i.reads (reads_of g.whole ++ [])) (sym still)
+      (subst (λ (l : List ReadAnswer). Adds input.reads mid.reads l)
+      (sym (append-nil (reads_of g.whole))) g.reads)) small (is.0, is.1, is.2, is.3 ∙ g.fault)
+      (inl (sym g.count ∙ all, refl))
 
-ends_with : {A : Type 0} (most : ℕ) (whole : List (Exchange A)) (x : Exchange A) (left : Input) (fault : Option ConnFault) → fault_of x.ending x.sending ≡ fault → is_some fault ≡ true → Ran x.ending left → EndsBy most whole (Some x) [] x.rest left fault
+ends_with : {A : Type 0} (most : ℕ) (whole : List (Exchange A)) (x : Exchange A) (left : Input)
+    (fault : Option ConnFault) → fault_of x.ending x.sending ≡ fault → is_some fault ≡ true
+    → Ran x.ending left → EndsBy most whole (Some x) [] x.rest left fault
 ends_with most whole x left None e some ran = absurd (true≢false (sym some))
 ends_with most whole x left (Some fault) e some ran = (refl, refl, e, ran)
 
@@ -220,23 +281,29 @@ none_of None e = refl
 none_of (Some x) e = absurd (true≢false e)
 
 -- behind a bundle without a fault its end mark was read
-pub ended_whole : (ending : Ending) (sending : Sending) (fault : Option ConnFault) → fault_of ending sending ≡ fault → is_some fault ≡ false → ending ≡ Whole
+pub ended_whole : (ending : Ending) (sending : Sending) (fault : Option ConnFault)
+    → fault_of ending sending ≡ fault → is_some fault ≡ false → ending ≡ Whole
 ended_whole ending sending fault is none = (no_fault ending sending (is ∙ none_of fault none)).0
 
 -- what went out of a reply that was sent whole
-gone_whole : (sending : Sending) (gone : List ℕ) (uses : List WriteAnswer) (reply : List ℕ) → sending ≡ sent_whole → IsSent sending gone uses reply → gone ≡ reply
-gone_whole sent_whole gone uses reply is s = sym (s.reply_is ∙ ap (λ (l : List ℕ). gone ++ l) s.ends.0 ∙ append-nil gone)
+gone_whole : (sending : Sending) (gone : List ℕ) (uses : List WriteAnswer) (reply : List ℕ)
+    → sending ≡ sent_whole → IsSent sending gone uses reply → gone ≡ reply
+gone_whole sent_whole gone uses reply is s =
+    sym (s.reply_is ∙ ap (λ (l : List ℕ). gone ++ l) s.ends.0 ∙ append-nil gone)
 gone_whole Broken gone uses reply is s = absurd cc
 gone_whole NoMemory gone uses reply is s = absurd cc
 
-rest_waits : (ending : Ending) (rest waiting : List ℕ) → ending ≡ Whole → Keeps ending rest waiting → waiting ≡ rest
+rest_waits : (ending : Ending) (rest waiting : List ℕ) → ending ≡ Whole → Keeps ending rest waiting
+    → waiting ≡ rest
 rest_waits Whole rest waiting is keeps = keeps
 rest_waits (Fault fault) rest waiting is keeps = absurd cc
 rest_waits InputEnded rest waiting is keeps = absurd cc
 rest_waits ReadFailed rest waiting is keeps = absurd cc
 
 -- what is told of a bundle is told of it with other reads as well
-pub tells_own : {A : Type 0} (x own : Exchange A) (ending : Ending) (how : Outcome (Done A) (Refusal A)) (takes : ℕ) (sending : Sending) (written : ℕ) (after : List (Taken A)) → own ≡ record x { reads = own.reads }
+pub tells_own : {A : Type 0} (x own : Exchange A) (ending : Ending) (how : Outcome (Done A) (Refusal A))
+    (takes : ℕ) (sending : Sending) (written : ℕ) (after : List (Taken A))
+    → own ≡ record x { reads = own.reads }
     → TellsOf x ending how takes sending written after → TellsOf own ending how takes sending written after
 tells_own {A} x own ending how takes sending written after same t = record {
   ending_is = ap (λ (y : Exchange A). y.ending) same ∙ t.ending_is;
@@ -247,27 +314,41 @@ tells_own {A} x own ending how takes sending written after same t = record {
   after_is = ap (λ (y : Exchange A). y.after) same ∙ t.after_is;
 }
 
-module _ {A : Type 0} (limits : Limits) (capacity : ℕ) (first : RepositoryOf A) (input mid left : Input) (out way sent : Output) (before now history now' : List (Taken A)) (waiting waits : List ℕ) (served told : Served A) (number : ℕ) (answer : Answer A) (ending : Ending) (sending : Sending) (written : ℕ)
-    (g : Goes limits capacity first input mid out way before now waiting served number) (same : history ≡ now) (x : Exchange A)
-    (v : Serves limits capacity first waiting waits mid left way sent history x) (t : TellsOf x ending answer.outcome answer.takes sending written now')
-    (s : (told.bundles ≡ number + 1) × (told.last ≡ Some answer) × (told.written ≡ served.written + written) × (told.fault ≡ fault_of ending sending)) where
+module _ {A : Type 0} (limits : Limits) (capacity : ℕ) (first : RepositoryOf A) (input mid left : Input)
+    (out way sent : Output) (before now history now' : List (Taken A)) (waiting waits : List ℕ)
+    (served told : Served A) (number : ℕ) (answer : Answer A) (ending : Ending) (sending : Sending)
+    (written : ℕ)
+    (g : Goes limits capacity first input mid out way before now waiting served number) (same : history ≡ now)
+    (x : Exchange A)
+    (v : Serves limits capacity first waiting waits mid left way sent history x)
+    (t : TellsOf x ending answer.outcome answer.takes sending written now')
+    (s : (told.bundles ≡ number + 1) × (told.last ≡ Some answer) × (told.written ≡ served.written + written)
+    × (told.fault ≡ fault_of ending sending)) where
   chained : AreExchanges limits capacity first before [] (g.whole ++ x ∷ []) now'
   chained =
-      subst (λ (h : List (Taken A)). AreExchanges limits capacity first before [] (g.whole ++ x ∷ []) h) t.after_is
-      (chain_more limits capacity first before [] g.whole now x g.chain (subst (λ (y : List (Taken A) × List ℕ). IsExchange limits capacity first y.0 y.1 x) (λ i. (same i, sym g.rest_is i)) v.is))
+      subst (λ (h : List (Taken A)). AreExchanges limits capacity first before [] (g.whole ++ x ∷ []) h)
+      t.after_is
+      (chain_more limits capacity first before [] g.whole now x g.chain
+      (subst (λ (y : List (Taken A) × List ℕ). IsExchange limits capacity first y.0 y.1 x)
+      (λ i. (same i, sym g.rest_is i)) v.is))
 
   was_read : Consumes input.left left.left (bytes_of (g.whole ++ x ∷ []) ++ x.rest)
   was_read =
       let b = bytes_of g.whole in
       let spell : (b ++ waiting) ++ v.more ≡ bytes_of (g.whole ++ x ∷ []) ++ x.rest =
-      append_assoc b waiting v.more ∙ ap (λ (l : List ℕ). b ++ l) v.spelled ∙ sym (append_assoc b x.consumed x.rest) ∙ ap (λ (l : List ℕ). l ++ x.rest) (bytes_more g.whole x) in
-      subst (λ (l : List ℕ). Consumes input.left left.left l) spell (Consumes-trans input.left mid.left left.left (b ++ waiting) v.more g.read v.bytes)
+      append_assoc b waiting v.more ∙ ap (λ (l : List ℕ). b ++ l) v.spelled
+      ∙ sym (append_assoc b x.consumed x.rest)
+      ∙ ap (λ (l : List ℕ). l ++ x.rest) (bytes_more g.whole x) in
+      subst (λ (l : List ℕ). Consumes input.left left.left l) spell
+      (Consumes-trans input.left mid.left left.left (b ++ waiting) v.more g.read v.bytes)
 
   was_asked : Adds input.reads left.reads (reads_of (g.whole ++ x ∷ []))
-  was_asked = subst (λ (l : List ReadAnswer). Adds input.reads left.reads l) (reads_more g.whole x) (Adds-trans input.reads mid.reads left.reads (reads_of g.whole) x.reads g.reads v.told)
+  was_asked = subst (λ (l : List ReadAnswer). Adds input.reads left.reads l) (reads_more g.whole x)
+      (Adds-trans input.reads mid.reads left.reads (reads_of g.whole) x.reads g.reads v.told)
 
   was_used : Adds out.uses sent.uses (uses_of (g.whole ++ x ∷ []))
-  was_used = subst (λ (l : List WriteAnswer). Adds out.uses sent.uses l) (uses_more g.whole x) (Adds-trans out.uses way.uses sent.uses (uses_of g.whole) x.uses g.uses v.used)
+  was_used = subst (λ (l : List WriteAnswer). Adds out.uses sent.uses l) (uses_more g.whole x)
+      (Adds-trans out.uses way.uses sent.uses (uses_of g.whole) x.uses g.uses v.used)
 
   few_bytes : length (bytes_of (g.whole ++ x ∷ []) ++ x.rest) ≤ (number + 1) * limits.stream + 4096
   few_bytes =
@@ -299,12 +380,14 @@ module _ {A : Type 0} (limits : Limits) (capacity : ℕ) (first : RepositoryOf A
   counted_one = let a = s.0 in let c = g.count in omega (arith, a, c, length-append g.whole (x ∷ []))
 
   tells_it : TellsLast told.last (g.whole ++ x ∷ [])
-  tells_it = subst (λ (o : Option (Answer A)). TellsLast o (g.whole ++ x ∷ [])) (sym s.1) (g.whole, x, refl, sym t.how_is, sym t.takes_are)
+  tells_it = subst (λ (o : Option (Answer A)). TellsLast o (g.whole ++ x ∷ [])) (sym s.1)
+      (g.whole, x, refl, sym t.how_is, sym t.takes_are)
 
   its_fault : fault_of x.ending x.sending ≡ told.fault
   its_fault = (λ i. fault_of (t.ending_is i) (t.sending_is i)) ∙ sym s.3
 
-  pub at_fault : (most : ℕ) → number < most → is_some told.fault ≡ true → Connects limits capacity first most input left out sent before now' told
+  pub at_fault : (most : ℕ) → number < most → is_some told.fault ≡ true
+      → Connects limits capacity first most input left out sent before now' told
   at_fault most less some =
       let up : number + 1 ≤ most = omega (arith, less) in
       let le = within (number + 1) most limits.stream up in
@@ -318,25 +401,32 @@ module _ {A : Type 0} (limits : Limits) (capacity : ℕ) (first : RepositoryOf A
         few = let c = g.count in omega (arith, c, less, length-append g.whole (x ∷ []));
         tells = tells_it;
         final = [];
-        reads = subst (λ (l : List ReadAnswer). Adds input.reads left.reads l) (sym (append-nil (reads_of (g.whole ++ x ∷ [])))) was_asked;
+        reads = subst (λ (l : List ReadAnswer). Adds input.reads left.reads l)
+            (sym (append-nil (reads_of (g.whole ++ x ∷ [])))) was_asked;
         uses = was_used;
         dropped = x.rest;
         read = was_read;
         bound = omega (arith, b, le);
         gone = replies_of g.whole ++ x.gone;
         kept = v.is.sent.rest;
-        replies = sym (replies_more g.whole x) ∙ (ap (λ (l : List ℕ). replies_of g.whole ++ l) v.is.sent.reply_is ∙ sym (append_assoc (replies_of g.whole) x.gone v.is.sent.rest));
+        replies = sym (replies_more g.whole x)
+            ∙ (ap (λ (l : List ℕ). replies_of g.whole ++ l) v.is.sent.reply_is
+            ∙ sym (append_assoc (replies_of g.whole) x.gone v.is.sent.rest));
         went = went_out;
         written = was_written;
         all = λ none. absurd (true≢false (sym some ∙ ap (λ (o : Option ConnFault). is_some o) none));
         end = ends_with most g.whole x left told.fault its_fault some v.ran;
       }
 
-  pub goes_on : is_some told.fault ≡ false → Goes limits capacity first input left out sent before now' waits told (number + 1)
+  pub goes_on : is_some told.fault ≡ false
+      → Goes limits capacity first input left out sent before now' waits told (number + 1)
   goes_on none =
       let both = no_fault x.ending x.sending (its_fault ∙ none_of told.fault none) in
-      let gone : replies_of g.whole ++ x.gone ≡ replies_of (g.whole ++ x ∷ []) = ap (λ (l : List ℕ). replies_of g.whole ++ l) (gone_whole x.sending x.gone x.uses (reply_of x.how) both.1 v.is.sent) ∙ replies_more g.whole x in
-      let told_ended : Tells Ended limits x.consumed x.parts = subst (λ (e : Ending). Tells (state_at e) limits x.consumed x.parts) both.0 v.is.received.tells in
+      let gone : replies_of g.whole
+      ++ x.gone ≡ replies_of (g.whole ++ x ∷ []) = ap (λ (l : List ℕ). replies_of g.whole ++ l)
+      (gone_whole x.sending x.gone x.uses (reply_of x.how) both.1 v.is.sent) ∙ replies_more g.whole x in
+      let told_ended : Tells Ended limits x.consumed x.parts = subst
+      (λ (e : Ending). Tells (state_at e) limits x.consumed x.parts) both.0 v.is.received.tells in
       let rest : waits ≡ x.rest = rest_waits x.ending x.rest waits both.0 v.keeps in
       let long = ap (λ (l : List ℕ). length l) (sym (bytes_more g.whole x)) in
       let sum = length-append (bytes_of g.whole) x.consumed in
@@ -350,7 +440,8 @@ module _ {A : Type 0} (limits : Limits) (capacity : ℕ) (first : RepositoryOf A
         count = sym s.0 ∙ counted_one;
         counted = s.0;
         tells = tells_it;
-        read = subst (λ (l : List ℕ). Consumes input.left left.left (bytes_of (g.whole ++ x ∷ []) ++ l)) (sym rest) was_read;
+        read = subst (λ (l : List ℕ). Consumes input.left left.left (bytes_of (g.whole ++ x ∷ []) ++ l))
+            (sym rest) was_read;
         reads = was_asked;
         uses = was_used;
         bytes = omega (arith, long, sum, b, c, mul_more number limits.stream);

@@ -22,26 +22,54 @@ use Rattle.hg_devices.specs.declared.sending.Sending.{Sending}
 use Rattle.hg_devices.specs.Sent.{Sends}
 use Rattle.hg_connection.specs.declared.ending.Ending.{Ending}
 use Rattle.hg_connection.specs.declared.ending.Ending.TheVariants.{Whole, Fault, InputEnded, ReadFailed}
-use Rattle.hg_connection.specs.Receiving.{Arrives, IsPiece, IsReceived, Receives, Stops, StopsIn, mark_of, push_items}
+use Rattle.hg_connection.specs.Receiving.{Arrives, IsPiece, IsReceived, Receives, Stops, StopsIn, mark_of}
+use Rattle.hg_connection.specs.Receiving.{push_items}
 use Rattle.hg_connection.specs.Connections.{Exchange, Serves}
 use Rattle.hg_connection.proofs.Putting.{PartsAreFew, items_length}
 use Rattle.hg_connection.proofs.Shortness.{AbortedAreShort, DoneAreShort, reply_short}
 
-module _ {A : Type 0} (limits : Limits) (capacity : ℕ) (first : RepositoryOf A) (waited waiting : List ℕ) (input left : Input) (out sent : Output) (s new : SenderView A) (ending : Ending) (e : EndedView A)
-    (how : Outcome (Done A) (Refusal A)) (takes : ℕ) (after : List (Taken A)) (sending : Sending) (written : ℕ) (r : Receives limits waited waiting input left s new ending) (m : Ends new (mark_of ending) e)
-    (a : Answers capacity first e.push e.put e.history how takes after) (w : Sends sending written out sent (reply_of how)) where
-  answered : Answers capacity first s.putter.push (push_items s.putter.push r.parts (mark_of ending)) s.history how takes after
+module _ {A : Type 0} (limits : Limits) (capacity : ℕ) (first : RepositoryOf A) (waited waiting : List ℕ)
+    (input left : Input) (out sent : Output) (s new : SenderView A) (ending : Ending) (e : EndedView A)
+    (how : Outcome (Done A) (Refusal A)) (takes : ℕ) (after : List (Taken A)) (sending : Sending)
+    (written : ℕ) (r : Receives limits waited waiting input left s new ending)
+    (m : Ends new (mark_of ending) e)
+    (a : Answers capacity first e.push e.put e.history how takes after)
+    (w : Sends sending written out sent (reply_of how)) where
+  answered : Answers capacity first s.putter.push (push_items s.putter.push r.parts (mark_of ending))
+      s.history how takes after
   answered =
       let push' : e.push ≡ s.putter.push = m.push ∙ r.put.push in
-      let count : length new.putter.put ≡ length r.parts = ap (λ (l : List (Item A)). length l) r.put.put_is ∙ items_length s.putter.push 0 r.parts in
-      let item : next_item new.putter (mark_of ending) ≡ record { push = s.putter.push; index = length r.parts; what = mark_of ending } = λ i. record { push = r.put.push i; index = count i; what = mark_of ending } in
-      let put' : e.put ≡ push_items s.putter.push r.parts (mark_of ending) = m.put ∙ (λ i. r.put.put_is i ++ item i ∷ []) in
+      let count : length new.putter.put ≡ length r.parts = ap (λ (l : List (Item A)). length l) r.put.put_is
+      ∙ items_length s.putter.push 0 r.parts in
+      let item : next_item new.putter (mark_of ending) ≡ record {
+        push = s.putter.push;
+        index = length r.parts;
+        what = mark_of ending;
+      } = λ i.
+      record { push = r.put.push i; index = count i; what = mark_of ending } in
+      let put' : e.put ≡ push_items s.putter.push r.parts (mark_of ending) = m.put
+      ∙ (λ i. r.put.put_is i ++ item i ∷ []) in
       let history' : e.history ≡ s.history = m.history ∙ r.put.history in
-      subst (λ (y : ℕ × List (Item A) × List (Taken A)). Answers capacity first y.0 y.1 y.2 how takes after) (λ i. (push' i, put' i, history' i)) a
+      subst (λ (y : ℕ × List (Item A) × List (Taken A)). Answers capacity first y.0 y.1 y.2 how takes after)
+      (λ i. (push' i, put' i, history' i)) a
 
   pub serves : of s.putter.push (items_of s.history) ≡ [] → DoneAreShort A → AbortedAreShort A → PartsAreFew A
       → IsAllowed limits
-      → Serves limits capacity first waited waiting input left out sent s.history (record { reads = r.reads; consumed = r.consumed; rest = r.rest; ending = ending; parts = r.parts; push = s.putter.push; how = how; takes = takes; uses = w.uses; sending = sending; gone = w.gone; after = after })
+      → Serves limits capacity first waited waiting input left out sent s.history
+      (record {
+        reads = r.reads;
+        consumed = r.consumed;
+        rest = r.rest;
+        ending = ending;
+        parts = r.parts;
+        push = s.putter.push;
+        how = how;
+        takes = takes;
+        uses = w.uses;
+        sending = sending;
+        gone = w.gone;
+        after = after;
+      })
   serves fresh done_short aborted_short few allowed = record {
     is = record { received = r.received; fresh = fresh; answers = answered; sent = w.sent };
     more = r.more;
@@ -52,12 +80,14 @@ module _ {A : Type 0} (limits : Limits) (capacity : ℕ) (first : RepositoryOf A
     ran = r.ran;
     went = w.bytes;
     used = w.told;
-    short = reply_short done_short aborted_short few limits capacity first waited r.reads ending r.parts r.consumed
+    short = reply_short done_short aborted_short few limits capacity first waited r.reads ending r.parts
+        r.consumed
         r.rest s.putter.push s.history how takes after allowed r.received answered;
   }
 
 -- the bytes that were fed last were read, if not before the others then as the first
-stops_read : {A : Type 0} (limits : Limits) (piece : List ℕ) (pieces : List (List ℕ)) (consumed rest : List ℕ) → StopsIn A limits piece pieces consumed rest → StopsIn A limits [] (piece ∷ pieces) consumed rest
+stops_read : {A : Type 0} (limits : Limits) (piece : List ℕ) (pieces : List (List ℕ)) (consumed rest : List ℕ)
+    → StopsIn A limits piece pieces consumed rest → StopsIn A limits [] (piece ∷ pieces) consumed rest
 stops_read {A} limits piece pieces consumed rest s = record {
   front = s.front;
   taken = s.taken;
@@ -72,13 +102,18 @@ stops_read {A} limits piece pieces consumed rest s = record {
   ]);
 }
 
-stops_as_read : (A : Type 0) (ending : Ending) (limits : Limits) (piece : List ℕ) (pieces : List (List ℕ)) (consumed rest : List ℕ) → Stops A ending limits piece pieces consumed rest → Stops A ending limits [] (piece ∷ pieces) consumed rest
+stops_as_read : (A : Type 0) (ending : Ending) (limits : Limits) (piece : List ℕ) (pieces : List (List ℕ))
+    (consumed rest : List ℕ) → Stops A ending limits piece pieces consumed rest
+    → Stops A ending limits [] (piece ∷ pieces) consumed rest
 stops_as_read A Whole limits piece pieces consumed rest s = stops_read limits piece pieces consumed rest s
-stops_as_read A (Fault fault) limits piece pieces consumed rest s = (s.0, stops_read limits piece pieces consumed rest s.1)
+stops_as_read A (Fault fault) limits piece pieces consumed rest s =
+    (s.0, stops_read limits piece pieces consumed rest s.1)
 stops_as_read A InputEnded limits piece pieces consumed rest s = s
 stops_as_read A ReadFailed limits piece pieces consumed rest s = s
 
-received_read : {A : Type 0} (limits : Limits) (piece : List ℕ) (reads : List ReadAnswer) (ending : Ending) (parts : List (Part A)) (consumed rest : List ℕ) → IsPiece piece → IsReceived limits piece reads ending parts consumed rest
+received_read : {A : Type 0} (limits : Limits) (piece : List ℕ) (reads : List ReadAnswer) (ending : Ending)
+    (parts : List (Part A)) (consumed rest : List ℕ) → IsPiece piece
+    → IsReceived limits piece reads ending parts consumed rest
     → IsReceived limits [] (Gave piece ∷ reads) ending parts consumed rest
 received_read {A} limits piece reads ending parts consumed rest is r = record {
   pieces = piece ∷ r.pieces;
@@ -91,33 +126,47 @@ received_read {A} limits piece reads ending parts consumed rest is r = record {
 }
 
 -- The same bundle, with the read that saw it come.
-pub record Comes {A : Type 0} (limits : Limits) (capacity : ℕ) (first : RepositoryOf A) (waited waiting : List ℕ) (input left : Input) (out sent : Output) (before : List (Taken A)) (x : Exchange A) : Type 0 where
+pub record Comes {A : Type 0} (limits : Limits) (capacity : ℕ) (first : RepositoryOf A)
+    (waited waiting : List ℕ) (input left : Input) (out sent : Output) (before : List (Taken A))
+    (x : Exchange A) : Type 0 where
   pub own : Exchange A
   pub served : Serves limits capacity first waited waiting input left out sent before own
   pub same : own ≡ record x { reads = own.reads }
 
-pub comes : {A : Type 0} (limits : Limits) (capacity : ℕ) (first : RepositoryOf A) (waited piece waiting : List ℕ) (input mid left : Input) (out sent : Output) (before : List (Taken A)) (x : Exchange A) → Arrives waited piece input mid
-    → Serves limits capacity first piece waiting mid left out sent before x → Comes limits capacity first waited waiting input left out sent before x
-comes {A} limits capacity first waited piece waiting input mid left out sent before x arrives v = elim arrives [
-  | inl there ↦ record {
-    own = x;
-    served = subst (λ (y : List ℕ × Input). Serves limits capacity first y.0 waiting y.1 left out sent before x) (λ i. (there.0 i, there.1 i)) v;
-    same = refl;
-  }
-  | inr read ↦ record {
-    own = record x { reads = Gave piece ∷ x.reads };
-    served = subst (λ (l : List ℕ). Serves limits capacity first l waiting input left out sent before (record x { reads = Gave piece ∷ x.reads })) (sym read.0) (record {
-      is = record { received = received_read limits piece x.reads x.ending x.parts x.consumed x.rest read.2 v.is.received; fresh = v.is.fresh; answers = v.is.answers; sent = v.is.sent };
-      more = piece ++ v.more;
-      spelled = v.spelled;
-      bytes = Consumes-trans input.left mid.left left.left piece v.more read.1.bytes v.bytes;
-      told = Adds-trans input.reads mid.reads left.reads (Gave piece ∷ []) x.reads read.1.told v.told;
-      keeps = v.keeps;
-      ran = v.ran;
-      went = v.went;
-      used = v.used;
-      short = v.short;
-    });
-    same = refl;
-  }
-]
+pub comes : {A : Type 0} (limits : Limits) (capacity : ℕ) (first : RepositoryOf A)
+    (waited piece waiting : List ℕ) (input mid left : Input) (out sent : Output) (before : List (Taken A))
+    (x : Exchange A) → Arrives waited piece input mid
+    → Serves limits capacity first piece waiting mid left out sent before x
+    → Comes limits capacity first waited waiting input left out sent before x
+comes {A} limits capacity first waited piece waiting input mid left out sent before x arrives v =
+    elim arrives [
+      | inl there ↦ record {
+        own = x;
+        served = subst (λ (y : List ℕ × Input). Serves limits capacity first y.0 waiting y.1 left out sent before
+            x) (λ i. (there.0 i, there.1 i)) v;
+        same = refl;
+      }
+      | inr read ↦ record {
+        own = record x { reads = Gave piece ∷ x.reads };
+        served = subst (λ (l : List ℕ). Serves limits capacity first l waiting input left out sent before
+            (record x { reads = Gave piece ∷ x.reads })) (sym read.0) (record {
+              is = record {
+                received = received_read limits piece x.reads x.ending x.parts x.consumed x.rest read.2
+                    v.is.received;
+                fresh = v.is.fresh;
+                answers = v.is.answers;
+                sent = v.is.sent;
+              };
+              more = piece ++ v.more;
+              spelled = v.spelled;
+              bytes = Consumes-trans input.left mid.left left.left piece v.more read.1.bytes v.bytes;
+              told = Adds-trans input.reads mid.reads left.reads (Gave piece ∷ []) x.reads read.1.told v.told;
+              keeps = v.keeps;
+              ran = v.ran;
+              went = v.went;
+              used = v.used;
+              short = v.short;
+            });
+        same = refl;
+      }
+    ]

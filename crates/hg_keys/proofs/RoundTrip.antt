@@ -1,12 +1,15 @@
 -- Decoding gives back what was encoded, group by group.
-use Rattle.std.proofs.Common.{◌≡◌, ◌≢◌, ◌+◌, ◌*◌, ◌/◌, ◌%◌, ◌^◌, ◌<◌, ◌≤◌, ◌==◌, ◌&&◌, ℕ, suc, Bool, true, false, cond, ltb, lt-ltb, ne_eqb, List, [], ◌∷◌, ◌++◌, length, Ok, Err, refl, sym, ap, subst, ◌∙◌, arith}
+use Rattle.std.proofs.Common.{◌≡◌, ◌≢◌, ◌+◌, ◌*◌, ◌/◌, ◌%◌, ◌^◌, ◌<◌, ◌≤◌, ◌==◌, ◌&&◌, ℕ, suc, Bool, true}
+use Rattle.std.proofs.Common.{false, cond, ltb, lt-ltb, ne_eqb, List, [], ◌∷◌, ◌++◌, length, Ok, Err, refl}
+use Rattle.std.proofs.Common.{sym, ap, subst, ◌∙◌, arith}
 use Rattle.std.specs.Int.{w32, from_be_bytes}
 use Rattle.std.specs.List.{list_all, flat_map}
 use Rattle.std.proofs.lemmas.List.{length-append}
 use Rattle.std.proofs.lemmas.List.Concat.{flat_map-cons}
 use Rattle.hg_types.specs.Bytes.{IsBytes}
 use Rattle.hg_keys.specs.declared.fault.Base85Fault.TheVariants.{BadDigit, BadLength, Overflow}
-use Rattle.hg_keys.specs.Base85.{digit_value, digit_at, is_digit, fives, fours, fits, group_value, filled_value, group_bytes, group_text, decoded, decoded_groups, encoded}
+use Rattle.hg_keys.specs.Base85.{digit_value, digit_at, is_digit, fives, fours, fits, group_value}
+use Rattle.hg_keys.specs.Base85.{filled_value, group_bytes, group_text, decoded, decoded_groups, encoded}
 use Rattle.hg_keys.proofs.Tables.{digit_back, tilde}
 
 and_true : (p q : Bool) → p ≡ true → q ≡ true → (p && q) ≡ true
@@ -92,7 +95,8 @@ abbrev four_digits : ℕ → List ℕ
 four_digits n = digit_at (n4 n) ∷ digit_at (n3 n % 85) ∷ digit_at (n2 n % 85) ∷ digit_at (n1 n % 85) ∷ []
 
 abbrev five_digits : ℕ → List ℕ
-five_digits n = digit_at (n4 n) ∷ digit_at (n3 n % 85) ∷ digit_at (n2 n % 85) ∷ digit_at (n1 n % 85) ∷ digit_at (n % 85) ∷ []
+five_digits n = digit_at (n4 n) ∷ digit_at (n3 n % 85) ∷ digit_at (n2 n % 85) ∷ digit_at (n1 n % 85)
+    ∷ digit_at (n % 85) ∷ []
 
 value_2 : (n : ℕ) → n < 2 ^ 32 → filled_value (two_digits n) ≡ n3 n * 614125 + 614124
 value_2 n less =
@@ -125,7 +129,8 @@ value_4 n less =
     let cut3 = cut_3 n in
     let cut2 = cut_2 n in
     let t = tilde in
-    five_values (digit_at (n4 n)) (digit_at (n3 n % 85)) (digit_at (n2 n % 85)) (digit_at (n1 n % 85)) 126 ∙ omega arith
+    five_values (digit_at (n4 n)) (digit_at (n3 n % 85)) (digit_at (n2 n % 85)) (digit_at (n1 n % 85)) 126
+    ∙ omega arith
 
 value_5 : (n : ℕ) → n < 2 ^ 32 → filled_value (five_digits n) ≡ n
 value_5 n less =
@@ -139,17 +144,20 @@ value_5 n less =
     let cut3 = cut_3 n in
     let cut2 = cut_2 n in
     let cut1 = cut_1 n in
-    five_values (digit_at (n4 n)) (digit_at (n3 n % 85)) (digit_at (n2 n % 85)) (digit_at (n1 n % 85)) (digit_at (n % 85)) ∙ omega arith
+    five_values (digit_at (n4 n)) (digit_at (n3 n % 85)) (digit_at (n2 n % 85)) (digit_at (n1 n % 85))
+    (digit_at (n % 85)) ∙ omega arith
 
 -- ---- the front bytes of a number that is a little greater
 
 bytes_1 : (a v : ℕ) → a < 256 → a * 16777216 ≤ v → v < a * 16777216 + 16777216 → v / 16777216 % 256 ≡ a
 bytes_1 a v small low high = omega arith
 
-bytes_2 : (a b v : ℕ) → b < 256 → a * 16777216 + b * 65536 ≤ v → v < a * 16777216 + b * 65536 + 65536 → v / 65536 % 256 ≡ b
+bytes_2 : (a b v : ℕ) → b < 256 → a * 16777216 + b * 65536 ≤ v → v < a * 16777216 + b * 65536 + 65536
+    → v / 65536 % 256 ≡ b
 bytes_2 a b v small low high = omega arith
 
-bytes_3 : (a b c v : ℕ) → c < 256 → a * 16777216 + b * 65536 + c * 256 ≤ v → v < a * 16777216 + b * 65536 + c * 256 + 256 → v / 256 % 256 ≡ c
+bytes_3 : (a b c v : ℕ) → c < 256 → a * 16777216 + b * 65536 + c * 256 ≤ v
+    → v < a * 16777216 + b * 65536 + c * 256 + 256 → v / 256 % 256 ≡ c
 bytes_3 a b c v small low high = omega arith
 
 bytes_4 : (a b c d v : ℕ) → d < 256 → v ≡ a * 16777216 + b * 65536 + c * 256 + d → v % 256 ≡ d
@@ -175,10 +183,12 @@ one_byte a n small is =
     record {
       digits = and_true _ _ x.ok4 (and_true _ _ x.ok3 refl);
       fit = and_true _ _ (ap (λ (v : ℕ). ltb v (2 ^ 32)) value ∙ lt-ltb _ _ below) refl;
-      same = ap (λ (v : ℕ). v / 16777216 % 256 ∷ []) value ∙ ap (λ (b : ℕ). b ∷ []) (bytes_1 a (n3 n * 614125 + 614124) small low high);
+      same = ap (λ (v : ℕ). v / 16777216 % 256 ∷ []) value
+          ∙ ap (λ (b : ℕ). b ∷ []) (bytes_1 a (n3 n * 614125 + 614124) small low high);
     }
 
-two_bytes : (a b n : ℕ) → a < 256 → b < 256 → n ≡ a * 16777216 + b * 65536 → Back (a ∷ b ∷ []) (three_digits n)
+two_bytes : (a b n : ℕ) → a < 256 → b < 256 → n ≡ a * 16777216 + b * 65536
+    → Back (a ∷ b ∷ []) (three_digits n)
 two_bytes a b n small_a small_b is =
     let less : n < 2 ^ 32 = omega arith in
     let x = number n less in
@@ -196,7 +206,8 @@ two_bytes a b n small_a small_b is =
       same = ap (λ (v : ℕ). v / 16777216 % 256 ∷ v / 65536 % 256 ∷ []) value ∙ (λ i. first i ∷ second i ∷ []);
     }
 
-three_bytes : (a b c n : ℕ) → a < 256 → b < 256 → c < 256 → n ≡ a * 16777216 + b * 65536 + c * 256 → Back (a ∷ b ∷ c ∷ []) (four_digits n)
+three_bytes : (a b c n : ℕ) → a < 256 → b < 256 → c < 256 → n ≡ a * 16777216 + b * 65536 + c * 256
+    → Back (a ∷ b ∷ c ∷ []) (four_digits n)
 three_bytes a b c n small_a small_b small_c is =
     let less : n < 2 ^ 32 = omega arith in
     let x = number n less in
@@ -212,11 +223,13 @@ three_bytes a b c n small_a small_b small_c is =
     record {
       digits = and_true _ _ x.ok4 (and_true _ _ x.ok3 (and_true _ _ x.ok2 (and_true _ _ x.ok1 refl)));
       fit = and_true _ _ (ap (λ (v : ℕ). ltb v (2 ^ 32)) value ∙ lt-ltb _ _ below) refl;
-      same = ap (λ (v : ℕ). v / 16777216 % 256 ∷ v / 65536 % 256 ∷ v / 256 % 256 ∷ []) value ∙ (λ i. first i ∷ second i ∷ third i ∷ []);
+      same = ap (λ (v : ℕ). v / 16777216 % 256 ∷ v / 65536 % 256 ∷ v / 256 % 256 ∷ []) value
+          ∙ (λ i. first i ∷ second i ∷ third i ∷ []);
     }
 
 -- a whole group, and what is behind it
-four_bytes : (a b c d n : ℕ) (bytes text : List ℕ) → a < 256 → b < 256 → c < 256 → d < 256 → n ≡ a * 16777216 + b * 65536 + c * 256 + d → Back bytes text
+four_bytes : (a b c d n : ℕ) (bytes text : List ℕ) → a < 256 → b < 256 → c < 256 → d < 256
+    → n ≡ a * 16777216 + b * 65536 + c * 256 + d → Back bytes text
     → Back (a ∷ b ∷ c ∷ d ∷ bytes) (five_digits n ++ text)
 four_bytes a b c d n bytes text small_a small_b small_c small_d is rest =
     let less : n < 2 ^ 32 = omega arith in
@@ -227,10 +240,13 @@ four_bytes a b c d n bytes text small_a small_b small_c small_d is rest =
     let third = bytes_3 a b c n small_c (omega arith) (omega arith) in
     let fourth = bytes_4 a b c d n small_d is in
     record {
-      digits = and_true _ _ x.ok4 (and_true _ _ x.ok3 (and_true _ _ x.ok2 (and_true _ _ x.ok1 (and_true _ _ x.ok0 rest.digits))));
+      digits = and_true _ _ x.ok4
+          (and_true _ _ x.ok3 (and_true _ _ x.ok2 (and_true _ _ x.ok1 (and_true _ _ x.ok0 rest.digits))));
       fit = and_true _ _ (ap (λ (v : ℕ). ltb v (2 ^ 32)) value ∙ lt-ltb _ _ less) rest.fit;
       same =
-          flat_map-cons group_bytes (five_digits n) (fives text) ∙ ap (λ (v : ℕ). (v / 16777216 % 256 ∷ v / 65536 % 256 ∷ v / 256 % 256 ∷ v % 256 ∷ []) ++ flat_map group_bytes (fives text)) value
+          flat_map-cons group_bytes (five_digits n) (fives text)
+          ∙ ap (λ (v : ℕ). (v / 16777216 % 256 ∷ v / 65536 % 256 ∷ v / 256 % 256 ∷ v % 256 ∷ [])
+          ++ flat_map group_bytes (fives text)) value
           ∙ (λ i. first i ∷ second i ∷ third i ∷ fourth i ∷ rest.same i);
     }
 
@@ -239,13 +255,19 @@ number_of a b c d = omega arith
 
 back : (bytes : List ℕ) → IsBytes bytes → Back bytes (encoded bytes)
 back [] small = record { digits = refl; fit = refl; same = refl }
-back (a ∷ []) small = one_byte a (from_be_bytes w32 (a ∷ 0 ∷ 0 ∷ 0 ∷ [])) (small 0) (number_of a 0 0 0 ∙ omega arith)
-back (a ∷ b ∷ []) small = two_bytes a b (from_be_bytes w32 (a ∷ b ∷ 0 ∷ 0 ∷ [])) (small 0) (small 1) (number_of a b 0 0 ∙ omega arith)
-back (a ∷ b ∷ c ∷ []) small = three_bytes a b c (from_be_bytes w32 (a ∷ b ∷ c ∷ 0 ∷ [])) (small 0) (small 1) (small 2) (number_of a b c 0 ∙ omega arith)
+back (a ∷ []) small = one_byte a (from_be_bytes w32 (a ∷ 0 ∷ 0 ∷ 0 ∷ [])) (small 0) (number_of a 0 0 0
+    ∙ omega arith)
+back (a ∷ b ∷ []) small =
+    two_bytes a b (from_be_bytes w32 (a ∷ b ∷ 0 ∷ 0 ∷ [])) (small 0) (small 1) (number_of a b 0 0
+    ∙ omega arith)
+back (a ∷ b ∷ c ∷ []) small =
+    three_bytes a b c (from_be_bytes w32 (a ∷ b ∷ c ∷ 0 ∷ [])) (small 0) (small 1) (small 2)
+    (number_of a b c 0 ∙ omega arith)
 back (a ∷ b ∷ c ∷ d ∷ bytes) small =
     let tail : IsBytes bytes = λ i. small (suc (suc (suc (suc i)))) in
     subst (Back (a ∷ b ∷ c ∷ d ∷ bytes)) (sym (flat_map-cons group_text (a ∷ b ∷ c ∷ d ∷ []) (fours bytes))) (
-    four_bytes a b c d (from_be_bytes w32 (a ∷ b ∷ c ∷ d ∷ [])) bytes (encoded bytes) (small 0) (small 1) (small 2) (small 3) (number_of a b c d) (back bytes tail)
+    four_bytes a b c d (from_be_bytes w32 (a ∷ b ∷ c ∷ d ∷ [])) bytes (encoded bytes) (small 0) (small 1)
+    (small 2) (small 3) (number_of a b c d) (back bytes tail)
     )
 
 -- no last group has one digit
@@ -255,12 +277,17 @@ length_of (a ∷ []) = λ e. absurd (omega arith)
 length_of (a ∷ b ∷ []) = λ e. absurd (omega arith)
 length_of (a ∷ b ∷ c ∷ []) = λ e. absurd (omega arith)
 length_of (a ∷ b ∷ c ∷ d ∷ bytes) = λ e.
-    let more = ap length (flat_map-cons group_text (a ∷ b ∷ c ∷ d ∷ []) (fours bytes)) ∙ length-append (group_text (a ∷ b ∷ c ∷ d ∷ [])) (encoded bytes) in
+    let more = ap length (flat_map-cons group_text (a ∷ b ∷ c ∷ d ∷ []) (fours bytes))
+    ∙ length-append (group_text (a ∷ b ∷ c ∷ d ∷ [])) (encoded bytes) in
     length_of bytes (omega arith)
 
 pub round_trip : (bytes : List ℕ) → IsBytes bytes → decoded (encoded bytes) ≡ Ok bytes
 round_trip bytes small =
     let is = back bytes small in
-    ap (λ (c : Bool). cond c (cond (length (encoded bytes) % 5 == 1) (Err BadLength) (decoded_groups (encoded bytes))) (Err BadDigit)) is.digits
-    ∙ ap (λ (c : Bool). cond c (Err BadLength) (decoded_groups (encoded bytes))) (ne_eqb _ 1 (length_of bytes))
-    ∙ ap (λ (c : Bool). cond c (Ok (flat_map group_bytes (fives (encoded bytes)))) (Err Overflow)) is.fit ∙ ap (λ (l : List ℕ). Ok l) is.same
+    ap (λ (c : Bool). cond c
+    (cond (length (encoded bytes) % 5 == 1) (Err BadLength) (decoded_groups (encoded bytes)))
+    (Err BadDigit)) is.digits
+    ∙ ap (λ (c : Bool). cond c (Err BadLength) (decoded_groups (encoded bytes)))
+    (ne_eqb _ 1 (length_of bytes))
+    ∙ ap (λ (c : Bool). cond c (Ok (flat_map group_bytes (fives (encoded bytes)))) (Err Overflow)) is.fit
+    ∙ ap (λ (l : List ℕ). Ok l) is.same

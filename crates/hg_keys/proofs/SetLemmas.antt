@@ -1,5 +1,6 @@
 -- What a look-up finds in a map after a name was set.
-use Rattle.std.proofs.Common.{◌≡◌, ◌≢◌, ℕ, Bool, true, false, true≢false, cond, List, [], ◌∷◌, ◌++◌, Option, Some, None, refl, sym, ap, ◌∙◌, bytes_eq}
+use Rattle.std.proofs.Common.{◌≡◌, ◌≢◌, ℕ, Bool, true, false, true≢false, cond, List, [], ◌∷◌, ◌++◌, Option}
+use Rattle.std.proofs.Common.{Some, None, refl, sym, ap, ◌∙◌, bytes_eq}
 use Rattle.std.specs.List.{filter}
 use Rattle.std.specs.Map.{lookup}
 use Rattle.std.specs.Ordering.{is_lt, is_eq, ordering_reverse}
@@ -24,12 +25,14 @@ none_behind (Some node) = refl
 none_behind None = refl
 
 module _ (test : List ℕ → Bool) where
-  joined_step : (pair : List ℕ × Node) (xs ys : Pairs) → lookup test (xs ++ ys) ≡ first_found (lookup test xs) (lookup test ys)
+  joined_step : (pair : List ℕ × Node) (xs ys : Pairs)
+      → lookup test (xs ++ ys) ≡ first_found (lookup test xs) (lookup test ys)
       → lookup test (pair ∷ (xs ++ ys)) ≡ first_found (lookup test (pair ∷ xs)) (lookup test ys)
   unfolding first_found
   joined_step pair xs ys rest = by (test pair.0)
     where
-      by : (b : Bool) → cond b (Some pair.1) (lookup test (xs ++ ys)) ≡ first_found (cond b (Some pair.1) (lookup test xs)) (lookup test ys)
+      by : (b : Bool) → cond b (Some pair.1) (lookup test (xs ++ ys)) ≡ first_found
+          (cond b (Some pair.1) (lookup test xs)) (lookup test ys)
       by true = refl
       by false = rest
 
@@ -43,7 +46,8 @@ module _ (test : List ℕ → Bool) where
     kept xs = filter (λ pair. keep pair.0) xs
 
     -- a filter that keeps what is looked for
-    kept_step : (pair : List ℕ × Node) (xs : Pairs) → (test pair.0 ≡ true → keep pair.0 ≡ true) → lookup test (kept xs) ≡ lookup test xs
+    kept_step : (pair : List ℕ × Node) (xs : Pairs) → (test pair.0 ≡ true → keep pair.0 ≡ true)
+        → lookup test (kept xs) ≡ lookup test xs
         → lookup test (kept (pair ∷ xs)) ≡ lookup test (pair ∷ xs)
     kept_step pair xs sure rest = by (keep pair.0) refl
       where
@@ -51,18 +55,23 @@ module _ (test : List ℕ → Bool) where
         misses true is not = absurd (true≢false (sym (sure is) ∙ not))
         misses false is not = is
 
-        by : (b : Bool) → keep pair.0 ≡ b → lookup test (cond (keep pair.0) (pair ∷ kept xs) (kept xs)) ≡ cond (test pair.0) (Some pair.1) (lookup test xs)
-        by true is = ap (λ b. lookup test (cond b (pair ∷ kept xs) (kept xs))) is ∙ ap (λ o. cond (test pair.0) (Some pair.1) o) rest
+        by : (b : Bool) → keep pair.0 ≡ b
+            → lookup test (cond (keep pair.0) (pair ∷ kept xs) (kept xs)) ≡ cond (test pair.0) (Some pair.1)
+            (lookup test xs)
+        by true is = ap (λ b. lookup test (cond b (pair ∷ kept xs) (kept xs))) is
+            ∙ ap (λ o. cond (test pair.0) (Some pair.1) o) rest
         by false is =
             ap (λ b. lookup test (cond b (pair ∷ kept xs) (kept xs))) is ∙ rest
             ∙ sym (ap (λ b. cond b (Some pair.1) (lookup test xs)) (misses (test pair.0) refl is))
 
-    found_kept : (xs : Pairs) → ((name : List ℕ) → test name ≡ true → keep name ≡ true) → lookup test (kept xs) ≡ lookup test xs
+    found_kept : (xs : Pairs) → ((name : List ℕ) → test name ≡ true → keep name ≡ true)
+        → lookup test (kept xs) ≡ lookup test xs
     found_kept [] sure = refl
     found_kept (pair ∷ xs) sure = kept_step pair xs (sure pair.0) (found_kept xs sure)
 
     -- a filter that drops it
-    dropped_step : (pair : List ℕ × Node) (xs : Pairs) → (test pair.0 ≡ true → keep pair.0 ≡ false) → lookup test (kept xs) ≡ None
+    dropped_step : (pair : List ℕ × Node) (xs : Pairs) → (test pair.0 ≡ true → keep pair.0 ≡ false)
+        → lookup test (kept xs) ≡ None
         → lookup test (kept (pair ∷ xs)) ≡ None
     dropped_step pair xs sure rest = by (keep pair.0) refl
       where
@@ -76,7 +85,8 @@ module _ (test : List ℕ → Bool) where
             ∙ ap (λ b. cond b (Some pair.1) (lookup test (kept xs))) (misses (test pair.0) refl is) ∙ rest
         by false is = ap (λ b. lookup test (cond b (pair ∷ kept xs) (kept xs))) is ∙ rest
 
-    none_kept : (xs : Pairs) → ((name : List ℕ) → test name ≡ true → keep name ≡ false) → lookup test (kept xs) ≡ None
+    none_kept : (xs : Pairs) → ((name : List ℕ) → test name ≡ true → keep name ≡ false)
+        → lookup test (kept xs) ≡ None
     none_kept [] sure = refl
     none_kept (pair ∷ xs) sure = dropped_step pair xs (sure pair.0) (none_kept xs sure)
 
@@ -99,14 +109,18 @@ other_name a b other = by (bytes_eq a b) refl
     by false is = is
 
 -- a map with a name set is three lists: what comes before the name, the name, and what comes behind
-parted : (pairs : Pairs) (name other : List ℕ) (node : Option Node) → node_of (with_bookmark pairs name node) other
-    ≡ first_found (node_of (filter (λ pair. is_before pair.0 name) pairs) other) (first_found (node_of (pair_of name node) other) (node_of (filter (λ pair. is_before name pair.0) pairs) other))
+parted : (pairs : Pairs) (name other : List ℕ) (node : Option Node)
+    → node_of (with_bookmark pairs name node) other
+    ≡ first_found (node_of (filter (λ pair. is_before pair.0 name) pairs) other)
+    (first_found (node_of (pair_of name node) other)
+    (node_of (filter (λ pair. is_before name pair.0) pairs) other))
 unfolding with_bookmark
 parted pairs name other node =
     let test : List ℕ → Bool = λ k. bytes_eq k other in
     let front = filter (λ pair. is_before pair.0 name) pairs in
     let behind = filter (λ pair. is_before name pair.0) pairs in
-    joined test front (pair_of name node ++ behind) ∙ ap (first_found (node_of front other)) (joined test (pair_of name node) behind)
+    joined test front (pair_of name node ++ behind)
+    ∙ ap (first_found (node_of front other)) (joined test (pair_of name node) behind)
 
 -- ---- the laws
 
@@ -116,37 +130,58 @@ alone name (Some node) = ap (λ b. cond b (Some node) None) ((bytes_eq-Decides n
 
 not_it : (name other : List ℕ) (node : Option Node) → other ≢ name → node_of (pair_of name node) other ≡ None
 not_it name other None differs = refl
-not_it name other (Some node) differs = ap (λ b. cond b (Some node) None) (other_name name other (λ same. differs (sym same)))
+not_it name other (Some node) differs =
+    ap (λ b. cond b (Some node) None) (other_name name other (λ same. differs (sym same)))
 
 -- the name is on what it was set to
-pub set_found : (pairs : Pairs) (name : List ℕ) (node : Option Node) → node_of (with_bookmark pairs name node) name ≡ node
+pub set_found : (pairs : Pairs) (name : List ℕ) (node : Option Node)
+    → node_of (with_bookmark pairs name node) name ≡ node
 unfolding first_found
 set_found pairs name node =
-    let front = none_kept (λ k. bytes_eq k name) (λ k. is_before k name) pairs (λ k is. ap (λ n. is_before n name) (same_name k name is) ∙ itself name) in
-    let behind = none_kept (λ k. bytes_eq k name) (λ k. is_before name k) pairs (λ k is. ap (λ n. is_before name n) (same_name k name is) ∙ itself name) in
+    let front = none_kept (λ k. bytes_eq k name) (λ k. is_before k name) pairs
+    (λ k is. ap (λ n. is_before n name) (same_name k name is) ∙ itself name) in
+    let behind = none_kept (λ k. bytes_eq k name) (λ k. is_before name k) pairs
+    (λ k is. ap (λ n. is_before name n) (same_name k name is) ∙ itself name) in
     parted pairs name name node
-    ∙ ap (λ o. first_found o (first_found (node_of (pair_of name node) name) (node_of (filter (λ pair. is_before name pair.0) pairs) name))) front
-    ∙ ap (first_found (node_of (pair_of name node) name)) behind ∙ none_behind (node_of (pair_of name node) name) ∙ alone name node
+    ∙ ap (λ o. first_found o
+    (first_found (node_of (pair_of name node) name)
+    (node_of (filter (λ pair. is_before name pair.0) pairs) name))) front
+    ∙ ap (first_found (node_of (pair_of name node) name)) behind
+    ∙ none_behind (node_of (pair_of name node) name) ∙ alone name node
 
 -- another name is on what it was on
-others_by : (pairs : Pairs) (name other : List ℕ) (node : Option Node) (o : Ordering) → name_cmp other name ≡ o → other ≢ name
+others_by : (pairs : Pairs) (name other : List ℕ) (node : Option Node) (o : Ordering)
+    → name_cmp other name ≡ o → other ≢ name
     → node_of (with_bookmark pairs name node) other ≡ node_of pairs other
 unfolding first_found
 others_by pairs name other _ Equal is differs =
     absurd (differs (same_name other name (sym (is_eq-slice_cmp other name) ∙ ap is_eq is)))
 others_by pairs name other node Less is differs =
-    let front = found_kept (λ k. bytes_eq k other) (λ k. is_before k name) pairs (λ k same. ap (λ n. is_before n name) (same_name k other same) ∙ ap is_lt is) in
-    let behind = none_kept (λ k. bytes_eq k other) (λ k. is_before name k) pairs (λ k same. ap (λ n. is_before name n) (same_name k other same) ∙ ap is_lt (turned other name Less is)) in
+    let front = found_kept (λ k. bytes_eq k other) (λ k. is_before k name) pairs
+    (λ k same. ap (λ n. is_before n name) (same_name k other same) ∙ ap is_lt is) in
+    let behind = none_kept (λ k. bytes_eq k other) (λ k. is_before name k) pairs
+    (λ k same. ap (λ n. is_before name n) (same_name k other same)
+    ∙ ap is_lt (turned other name Less is)) in
     parted pairs name other node
-    ∙ ap (λ o. first_found o (first_found (node_of (pair_of name node) other) (node_of (filter (λ pair. is_before name pair.0) pairs) other))) front
-    ∙ ap (λ o. first_found (node_of pairs other) (first_found o (node_of (filter (λ pair. is_before name pair.0) pairs) other))) (not_it name other node differs)
+    ∙ ap (λ o. first_found o
+    (first_found (node_of (pair_of name node) other)
+    (node_of (filter (λ pair. is_before name pair.0) pairs) other))) front
+    ∙ ap (λ o. first_found (node_of pairs other)
+    (first_found o (node_of (filter (λ pair. is_before name pair.0) pairs) other)))
+    (not_it name other node differs)
     ∙ ap (first_found (node_of pairs other)) behind ∙ none_behind (node_of pairs other)
 others_by pairs name other node Greater is differs =
-    let front = none_kept (λ k. bytes_eq k other) (λ k. is_before k name) pairs (λ k same. ap (λ n. is_before n name) (same_name k other same) ∙ ap is_lt is) in
-    let behind = found_kept (λ k. bytes_eq k other) (λ k. is_before name k) pairs (λ k same. ap (λ n. is_before name n) (same_name k other same) ∙ ap is_lt (turned other name Greater is)) in
+    let front = none_kept (λ k. bytes_eq k other) (λ k. is_before k name) pairs
+    (λ k same. ap (λ n. is_before n name) (same_name k other same) ∙ ap is_lt is) in
+    let behind = found_kept (λ k. bytes_eq k other) (λ k. is_before name k) pairs
+    (λ k same. ap (λ n. is_before name n) (same_name k other same)
+    ∙ ap is_lt (turned other name Greater is)) in
     parted pairs name other node
-    ∙ ap (λ o. first_found o (first_found (node_of (pair_of name node) other) (node_of (filter (λ pair. is_before name pair.0) pairs) other))) front
-    ∙ ap (λ o. first_found o (node_of (filter (λ pair. is_before name pair.0) pairs) other)) (not_it name other node differs)
+    ∙ ap (λ o. first_found o
+    (first_found (node_of (pair_of name node) other)
+    (node_of (filter (λ pair. is_before name pair.0) pairs) other))) front
+    ∙ ap (λ o. first_found o (node_of (filter (λ pair. is_before name pair.0) pairs) other))
+    (not_it name other node differs)
     ∙ behind
 
 pub others_kept : (pairs : Pairs) (name other : List ℕ) (node : Option Node) → other ≢ name

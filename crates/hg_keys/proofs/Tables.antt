@@ -1,5 +1,6 @@
 -- The two tables of the code are the digits.
-use Rattle.std.proofs.Common.{◌≡◌, ◌+◌, ◌<◌, ◌≤◌, ◌==◌, ℕ, zero, suc, Bool, true, false, not, cond, List, [], ◌∷◌, length, map, get_or, refl, sym, ap, ◌∙◌, arith}
+use Rattle.std.proofs.Common.{◌≡◌, ◌+◌, ◌<◌, ◌≤◌, ◌==◌, ℕ, zero, suc, Bool, true, false, not, cond, List, []}
+use Rattle.std.proofs.Common.{◌∷◌, length, map, get_or, refl, sym, ap, ◌∙◌, arith}
 use Rattle.std.specs.List.{prefix_len}
 use Rattle.std.proofs.lemmas.List.{get_or-map}
 use Rattle.hg_keys.specs.declared.base85.TheConstants.{VALUES}
@@ -34,12 +35,15 @@ pub value_at : (byte : ℕ) → byte < 256 → get_or VALUES byte 0 ≡ digit_va
 unfolding digit_value
 value_at byte less =
     let len : byte < length (counted 256 0) = omega (arith, counted_length 256 0) in
-    ap (λ (values : List ℕ). get_or values byte 0) values_table ∙ get_or-map place_of (counted 256 0) byte 0 0 len ∙ ap place_of (counted_at 256 0 byte less ∙ omega arith)
+    ap (λ (values : List ℕ). get_or values byte 0) values_table
+    ∙ get_or-map place_of (counted 256 0) byte 0 0 len
+    ∙ ap place_of (counted_at 256 0 byte less ∙ omega arith)
 
 -- the digit of a value has that value
 pub digit_back : (value : ℕ) → value < 85 → digit_value (digit_at value) ≡ value
 unfolding digit_value digit_at
-digit_back value less = sym (get_or-map place_of all_digits value 0 0 less) ∙ ap (λ (values : List ℕ). get_or values value 0) digits_table ∙ counted_at 85 0 value less ∙ omega arith
+digit_back value less = sym (get_or-map place_of all_digits value 0 0 less)
+    ∙ ap (λ (values : List ℕ). get_or values value 0) digits_table ∙ counted_at 85 0 value less ∙ omega arith
 
 prefix_at_most : (p : ℕ → Bool) (xs : List ℕ) → prefix_len p xs ≤ length xs
 prefix_at_most p [] = omega arith

@@ -11,7 +11,8 @@ use Rattle.hg_log.proofs.ParentLemmas.{ordered, parents_kept, not_later, leads_s
 use Rattle.hg_log.proofs.ParentLemmas.{ancestor_leads}
 
 pub ancestors_earlier : (rows : List Changeset) (a r : ℕ) → AreLawful rows → IsAncestor rows a r → a ≤ r
-ancestors_earlier rows a r lawful is = not_later (parents_of rows) (ordered rows lawful) a r (ancestor_leads rows lawful a r is)
+ancestors_earlier rows a r lawful is =
+    not_later (parents_of rows) (ordered rows lawful) a r (ancestor_leads rows lawful a r is)
 
 pub ancestors_on : (rows : List Changeset) (a b r : ℕ) → IsAncestor rows a b → IsAncestor rows b r
     → IsAncestor rows a r
@@ -23,7 +24,10 @@ pub ancestors_kept : (rows : List Changeset) (n a r : ℕ) → AreLawful rows �
 ancestors_kept rows n a r lawful within low =
     let cut : AreLawful (take n rows) = lawful_taken rows n within lawful in
     let same = λ (k : ℕ) (below : k < n). parents_kept rows n k within lawful below in (
-      (λ is. leads_ancestor rows lawful a r (omega arith) (leads_same (parents_of (take n rows)) (parents_of rows) n (ordered (take n rows) cut) same a r low (ancestor_leads (take n rows) cut a r is))),
+      (λ is. leads_ancestor rows lawful a r (omega arith)
+          (leads_same (parents_of (take n rows)) (parents_of rows) n
+          (ordered (take n rows) cut) same a r low (ancestor_leads (take n rows) cut a r is))),
       (λ is. leads_ancestor (take n rows) cut a r (omega (arith, length-take-le n rows within))
-          (leads_same (parents_of rows) (parents_of (take n rows)) n (ordered rows lawful) (λ k below. sym (same k below)) a r low (ancestor_leads rows lawful a r is))),
+          (leads_same (parents_of rows) (parents_of (take n rows)) n (ordered rows lawful)
+          (λ k below. sym (same k below)) a r low (ancestor_leads rows lawful a r is))),
     )

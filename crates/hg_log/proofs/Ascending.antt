@@ -23,15 +23,19 @@ abbrev Ascends : List (List ℕ) → Type 0
 Ascends [] = Unit {0}
 Ascends (id ∷ ids) = AllByRecursion (λ other. is_less other id ≡ false) ids × Ascends ids
 
-ascends_far : (ids : List (List ℕ)) → ((i j : ℕ) (d : List ℕ) → i ≤ j → j < length ids → is_less (get_or ids j d) (get_or ids i d) ≡ false) → Ascends ids
+ascends_far : (ids : List (List ℕ))
+    → ((i j : ℕ) (d : List ℕ) → i ≤ j → j < length ids → is_less (get_or ids j d) (get_or ids i d) ≡ false)
+    → Ascends ids
 ascends_far [] far = tt
 ascends_far (id ∷ ids) far = (
-  recursion_from_All (λ other. is_less other id ≡ false) ids (λ k d within. far 0 (suc k) d (omega arith) (omega arith)),
+  recursion_from_All (λ other. is_less other id ≡ false) ids
+      (λ k d within. far 0 (suc k) d (omega arith) (omega arith)),
   ascends_far ids (λ i j d below within. far (suc i) (suc j) d (omega arith) (omega arith)),
 )
 
 ascends_sorted : (ids : List (List ℕ)) → IsSorted (slice_cmp nat_cmp) ids → Ascends ids
-ascends_sorted ids sorted = ascends_far ids (sorted_far is_less (ranks_by nat_list_cmp_total (λ (id : List ℕ). id)) ids sorted)
+ascends_sorted ids sorted =
+    ascends_far ids (sorted_far is_less (ranks_by nat_list_cmp_total (λ (id : List ℕ). id)) ids sorted)
 
 -- what neither is less than is equal
 neither_less : (r s : Ordering) → r ≡ ordering_reverse s → is_lt r ≡ false → is_lt s ≡ false → r ≡ Equal
@@ -72,16 +76,22 @@ both_ascend (id ∷ ids) [] up up' same = absurd (omega (arith, times_itself id 
 both_ascend (id ∷ ids) (other ∷ others) up up' same =
     let at_itself : (x : List ℕ) → is_less x x ≡ false = λ x. ap is_lt (tied_itself nat_list_cmp_total x) in
     let id_in : 0 < times id (other ∷ others) = subst (λ (n : ℕ). 0 < n) (same id) (times_itself id ids) in
-    let other_in : 0 < times other (id ∷ ids) = subst (λ (n : ℕ). 0 < n) (sym (same other)) (times_itself other others) in
-    let id_not : is_less id other ≡ false = counted (λ x. is_less x other ≡ false) (other ∷ others) id id_in (at_itself other, up'.0) in
-    let other_not : is_less other id ≡ false = counted (λ x. is_less x id ≡ false) (id ∷ ids) other other_in (at_itself id, up.0) in
+    let other_in : 0 < times other (id ∷ ids) = subst (λ (n : ℕ). 0 < n) (sym (same other))
+    (times_itself other others) in
+    let id_not : is_less id other ≡ false = counted (λ x. is_less x other ≡ false) (other ∷ others) id id_in
+    (at_itself other, up'.0) in
+    let other_not : is_less other id ≡ false = counted (λ x. is_less x id ≡ false) (id ∷ ids) other other_in
+    (at_itself id, up.0) in
     let equal : slice_cmp nat_cmp id other ≡ Equal =
-    neither_less (slice_cmp nat_cmp id other) (slice_cmp nat_cmp other id) (nat_list_cmp_total.antisymm id other) id_not other_not in
-    let first : id ≡ other = (bytes_eq-Decides id other).0 (sym (is_eq-slice_cmp id other) ∙ ap is_eq equal) in
+    neither_less (slice_cmp nat_cmp id other) (slice_cmp nat_cmp other id)
+    (nat_list_cmp_total.antisymm id other) id_not other_not in
+    let first : id ≡ other = (bytes_eq-Decides id other).0 (sym (is_eq-slice_cmp id other)
+    ∙ ap is_eq equal) in
     let rest : AreSameIds ids others =
     λ x. omega (arith, same x, times-cons x id ids, times-cons x other others, ap (one_if x) first) in
     ap (λ x. x ∷ ids) first ∙ ap (λ xs. other ∷ xs) (both_ascend ids others up.1 up'.1 rest)
 
 pub same_ascending : (ids others : List (List ℕ)) → IsSorted (slice_cmp nat_cmp) ids
     → IsSorted (slice_cmp nat_cmp) others → AreSameIds ids others → ids ≡ others
-same_ascending ids others sorted sorted_too same = both_ascend ids others (ascends_sorted ids sorted) (ascends_sorted others sorted_too) same
+same_ascending ids others sorted sorted_too same =
+    both_ascend ids others (ascends_sorted ids sorted) (ascends_sorted others sorted_too) same

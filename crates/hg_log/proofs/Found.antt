@@ -33,7 +33,8 @@ not_above r top (Some p) low le = omega arith
 -- an ancestor stands no later
 pub ancestor_low : (graph : List Parents) → AllAreEarlier graph → (a r : ℕ) → Reaches graph a r → a ≤ r
 ancestor_low graph earlier a r (itself within) = omega arith
-ancestor_low graph earlier a r (of_parent p q has reach) = omega (arith, ancestor_low graph earlier a p reach, parent_low graph earlier p q has)
+ancestor_low graph earlier a r (of_parent p q has reach) =
+    omega (arith, ancestor_low graph earlier a p reach, parent_low graph earlier p q has)
 
 -- what has an ancestor is a row
 pub reached_within : (graph : List Parents) (a r : ℕ) → Reaches graph a r → r < length graph
@@ -41,17 +42,21 @@ reached_within graph a r (itself within) = within
 reached_within graph a r (of_parent p q has reach) = slice_get_within graph q has.parents has.row_at
 
 parent_in : (graph : List Parents) → AllAreEarlier graph → (p r : ℕ) → HasParent graph p r → p < length graph
-parent_in graph earlier p r has = omega (arith, parent_low graph earlier p r has, slice_get_within graph r has.parents has.row_at)
+parent_in graph earlier p r has =
+    omega (arith, parent_low graph earlier p r has, slice_get_within graph r has.parents has.row_at)
 
 -- a parent of an ancestor is an ancestor
 pub reach_more : (graph : List Parents) → AllAreEarlier graph → (p c r : ℕ) → HasParent graph p c
     → Reaches graph c r → Reaches graph p r
-reach_more graph earlier p c r has (itself within) = of_parent p c has (itself (parent_in graph earlier p c has))
-reach_more graph earlier p c r has (of_parent q s step reach) = of_parent q s step (reach_more graph earlier p c q has reach)
+reach_more graph earlier p c r has (itself within) =
+    of_parent p c has (itself (parent_in graph earlier p c has))
+reach_more graph earlier p c r has (of_parent q s step reach) =
+    of_parent q s step (reach_more graph earlier p c q has reach)
 
 -- ---- the search
 
--- the rows from `at` on are done: each that is marked is no child of `low`, and its parents after `low` are marked;
+-- the rows from `at` on are done: each that is marked is no child of `low`, and its parents after `low` are
+-- marked;
 -- marked rows stand after `low` and are ancestors of `high`
 pub record AreFound (graph : List Parents) (low high at : ℕ) (marks : List Bool) : Type 0 where
   pub sound : (r : ℕ) → IsMarked high marks r → (low < r) × Reaches graph r high
@@ -65,7 +70,8 @@ pub found_first : (graph : List Parents) (low high : ℕ) (none marks : List Boo
 found_first graph low high none marks less within empty marked = record {
   sound = λ r m. elim ((marked r).0 m) [
     | inl old ↦ absurd (no_marks high r (subst (λ (ms : List Bool). IsMarked high ms r) empty old))
-    | inr new ↦ let is = new.0 in let same : high ≡ r = cc in (new.1, subst (λ x. Reaches graph x high) same (itself within))
+    | inr new ↦ let is = new.0 in let same : high ≡ r = cc in
+        (new.1, subst (λ x. Reaches graph x high) same (itself within))
   ];
   top = (marked high).1 (inr (refl, less));
   closed = λ child p above m has. absurd (let below = m.below in omega arith);
@@ -77,14 +83,19 @@ pub found_skip : (graph : List Parents) (low high at : ℕ) (marks : List Bool)
 found_skip graph low high at marks found unseen = record {
   sound = found.sound;
   top = found.top;
-  closed = λ child p above m has. elim (cases_eq child at) [ inl e ↦ absurd (unseen (subst (IsMarked high marks) e m)) | inr ne ↦ found.closed child p (omega (arith, ne)) m has ];
+  closed = λ child p above m has.
+      elim (cases_eq child at) [
+        | inl e ↦ absurd (unseen (subst (IsMarked high marks) e m))
+        | inr ne ↦ found.closed child p (omega (arith, ne)) m has
+      ];
 }
 
 -- a marked row that is no child of `low` is done once its parents are marked
 pub found_step : (graph : List Parents) → AllAreEarlier graph
     → (low high at : ℕ) (marks one two : List Bool) (parents : Parents)
     → AreFound graph low high (at + 1) marks → IsMarked high marks at
-    → slice_get graph at ≡ Some parents → ¬ ((parents.p1 ≡ Some low) ⊎ (parents.p2 ≡ Some low)) → AreMarked low high parents.p1 marks one → AreMarked low high parents.p2 one two
+    → slice_get graph at ≡ Some parents → ¬ ((parents.p1 ≡ Some low) ⊎ (parents.p2 ≡ Some low))
+    → AreMarked low high parents.p1 marks one → AreMarked low high parents.p2 one two
     → AreFound graph low high at two
 found_step graph earlier low high at marks one two parents found seen row_at other first second = record {
   sound = λ r m. elim ((second r).0 m) [
@@ -101,13 +112,16 @@ found_step graph earlier low high at marks one two parents found seen row_at oth
 }
   where
     new : (r : ℕ) → (parents.p1 ≡ Some r) ⊎ (parents.p2 ≡ Some r) → Reaches graph r high
-    new r named = reach_more graph earlier r at high (record { parents = parents; row_at = row_at; named = named }) (found.sound at seen).1
+    new r named = reach_more graph earlier r at high
+        (record { parents = parents; row_at = row_at; named = named }) (found.sound at seen).1
 
     kept : (r : ℕ) → IsMarked high marks r → IsMarked high two r
     kept r m = (second r).1 (inl ((first r).1 (inl m)))
 
     not_parent : (r : ℕ) → at < r → (parents.p1 ≡ Some r) ⊎ (parents.p2 ≡ Some r) → ⊥
-    not_parent r above named = absurd (let low_r = parent_low graph earlier r at (record { parents = parents; row_at = row_at; named = named }) in omega arith)
+    not_parent r above named =
+        absurd (let low_r = parent_low graph earlier
+        r at (record { parents = parents; row_at = row_at; named = named }) in omega arith)
 
     old : (r : ℕ) → at < r → IsMarked high two r → IsMarked high marks r
     old r above m = elim ((second r).0 m) [
@@ -120,20 +134,26 @@ found_step graph earlier low high at marks one two parents found seen row_at oth
         let same : has.parents ≡ parents = let is = has.row_at in cc in
         elim has.named [
           | inl e ↦
-              let first_is : parents.p1 ≡ Some p = sym (ap (λ (q : Parents). q.p1) same) ∙ e in
-              ((λ is. other (inl (first_is ∙ ap (λ (x : ℕ). Some x) is))), λ high_p. (second p).1 (inl ((first p).1 (inr (first_is, high_p)))))
+              let first_is : parents.p1 ≡ Some p = sym (ap (λ (q : Parents). q.p1) same) ∙ e in (
+                (λ is. other (inl (first_is ∙ ap (λ (x : ℕ). Some x) is))),
+                λ high_p. (second p).1 (inl ((first p).1 (inr (first_is, high_p)))),
+              )
           | inr e ↦
-              let second_is : parents.p2 ≡ Some p = sym (ap (λ (q : Parents). q.p2) same) ∙ e in
-              ((λ is. other (inr (second_is ∙ ap (λ (x : ℕ). Some x) is))), λ high_p. (second p).1 (inr (second_is, high_p)))
+              let second_is : parents.p2 ≡ Some p = sym (ap (λ (q : Parents). q.p2) same) ∙ e in (
+                (λ is. other (inr (second_is ∙ ap (λ (x : ℕ). Some x) is))),
+                λ high_p. (second p).1 (inr (second_is, high_p)),
+              )
         ]
 
 -- a child of `low` that is marked makes it an ancestor
 pub found_it : (graph : List Parents) → AllAreEarlier graph
     → (low high at : ℕ) (marks : List Bool) (parents : Parents) → AreFound graph low high (at + 1) marks
     → IsMarked high marks at
-    → slice_get graph at ≡ Some parents → (parents.p1 ≡ Some low) ⊎ (parents.p2 ≡ Some low) → Reaches graph low high
+    → slice_get graph at ≡ Some parents → (parents.p1 ≡ Some low) ⊎ (parents.p2 ≡ Some low)
+    → Reaches graph low high
 found_it graph earlier low high at marks parents found seen row_at named =
-    reach_more graph earlier low at high (record { parents = parents; row_at = row_at; named = named }) (found.sound at seen).1
+    reach_more graph earlier low at high (record { parents = parents; row_at = row_at; named = named })
+    (found.sound at seen).1
 
 -- where all marked rows are done, `low` is no ancestor
 pub found_none : (graph : List Parents) → AllAreEarlier graph → (low high at : ℕ) (marks : List Bool)

@@ -1,19 +1,24 @@
--- A list has each head once just where it is as long as that of the heads, no id stands in it twice, and each is a head's.
-use Rattle.std.proofs.Common.{◌≡◌, ◌≢◌, ℕ, ◌<◌, ◌≤◌, Bool, true, false, cond, List, [], ◌∷◌, length, Option, Some}
-use Rattle.std.proofs.Common.{None, refl, sym, ap, ◌∙◌, subst, inl, inr, arith, AllPairs, Contains, bytes_eq, map, get_or, ◌||◌}
+-- A list has each head once just where it is as long as that of the heads, no id stands in it twice, and each
+-- is a head's.
+use Rattle.std.proofs.Common.{◌≡◌, ◌≢◌, ℕ, ◌<◌, ◌≤◌, Bool, true, false, cond, List, [], ◌∷◌, length, Option}
+use Rattle.std.proofs.Common.{Some}
+use Rattle.std.proofs.Common.{None, refl, sym, ap, ◌∙◌, subst, inl, inr, arith, AllPairs, Contains, bytes_eq}
+use Rattle.std.proofs.Common.{map, get_or, ◌||◌}
 use Rattle.std.specs.Prelude.{nat_lt}
 use Rattle.std.specs.List.{IsDistinct, AllByRecursion}
 use Rattle.std.specs.Set.{is_member}
 use Rattle.std.specs.Cmp.{IsEquivalence, both_ways}
 use Rattle.std.proofs.lemmas.Bool.{or_cases, and_from, and_parts, lt-ltb, true≢false}
-use Rattle.std.proofs.lemmas.Map.Made.{is_member-Decides, length-le_from_is_member, IsDistinct-from_AllPairs, AllPairs-from_IsDistinct}
+use Rattle.std.proofs.lemmas.Map.Made.{is_member-Decides, length-le_from_is_member, IsDistinct-from_AllPairs}
+use Rattle.std.proofs.lemmas.Map.Made.{AllPairs-from_IsDistinct}
 use Rattle.std.proofs.lemmas.Slice.Eq.{bytes_eq-Decides}
 use Rattle.hg_types.specs.NullId.{null_id}
 use Rattle.hg_log.specs.Changeset.{Changeset}
 use Rattle.hg_log.specs.Rows.{AreLawful}
 use Rattle.hg_log.specs.Parents.{rev_of}
 use Rattle.hg_log.specs.Heads.{IsHead}
-use Rattle.hg_log.specs.HeadCount.{head_revs, head_count, head_ids, id_at, is_head, is_head_at, is_head_id, is_childless, AreSameIds}
+use Rattle.hg_log.specs.HeadCount.{head_revs, head_count, head_ids, id_at, is_head, is_head_at, is_head_id}
+use Rattle.hg_log.specs.HeadCount.{is_childless, AreSameIds}
 use Rattle.hg_log.proofs.RowLemmas.{has_within, unnamed, no_parent}
 use Rattle.hg_log.proofs.ParentLemmas.{rev_found, found_row}
 use Rattle.hg_log.proofs.HeadCounts.{free, freed}
@@ -58,7 +63,8 @@ module _ (ids others : List (List ℕ)) (distinct : IsDistinct bytes_eq ids) whe
           | inl e ↦ subst (λ x. is_member bytes_eq others x ≡ true) (sym ((bytes_eq-Decides q id).0 e)) is
           | inr e ↦ among q e
         ] in here in
-        let most : length (id ∷ ids) ≤ length others = length-le_from_is_member equal_ids (id ∷ ids) others (apart id ids none, distinct) each in
+        let most : length (id ∷ ids) ≤ length others = length-le_from_is_member equal_ids (id ∷ ids) others
+        (apart id ids none, distinct) each in
         omega (arith, most)
 
     all_there : length others ≤ length ids → (id : List ℕ) → is_member bytes_eq others id ≡ true
@@ -73,7 +79,8 @@ not_longer : (ids others : List (List ℕ)) → AllPairs (λ a b. a ≢ b) ids
     → ((id : List ℕ) → Contains ids id → Contains others id) → length ids ≤ length others
 not_longer ids others distinct there =
     length-le_from_is_member equal_ids ids others (IsDistinct-from_AllPairs bytes_eq-Decides ids distinct)
-    (λ q is. (is_member-Decides bytes_eq-Decides others q).1 (there q ((is_member-Decides bytes_eq-Decides ids q).0 is)))
+    (λ q is. (is_member-Decides bytes_eq-Decides others q).1
+    (there q ((is_member-Decides bytes_eq-Decides ids q).0 is)))
 
 -- ---- the list of the heads
 
@@ -106,13 +113,15 @@ module _ (row : Changeset) (others : List Changeset) (lawful : AreLawful (row �
       record { rev = r; has = has; childless = unnamed rows r id has (free rows lawful r both.1) }
 
   some_listed : (id : List ℕ) → is_head_id rows id ≡ true → Contains (head_ids rows) id
-  some_listed id is = subst (λ ids. Contains ids id) (sym shown) (head_id rows lawful id (head_at id (rev_of rows id) refl is))
+  some_listed id is = subst (λ ids. Contains ids id) (sym shown)
+      (head_id rows lawful id (head_at id (rev_of rows id) refl is))
 
   listed_some : (id : List ℕ) → Contains (head_ids rows) id → is_head_id rows id ≡ true
   listed_some id found =
       let head = id_head rows lawful id (subst (λ ids. Contains ids id) shown found) in
       ap (is_head_at rows) (rev_found rows head.rev id lawful head.has)
-      ∙ and_from (nat_lt head.rev (length rows)) (is_childless rows head.rev) (lt-ltb head.rev (length rows) (has_within rows head.rev id head.has))
+      ∙ and_from (nat_lt head.rev (length rows)) (is_childless rows head.rev)
+      (lt-ltb head.rev (length rows) (has_within rows head.rev id head.has))
       (freed rows lawful head.rev (no_parent rows head.rev id head.has head.childless))
 
   some_differ : AllPairs (λ a b. a ≢ b) (head_ids rows)
@@ -134,19 +143,31 @@ heads_differ [] lawful = none_differ
 heads_differ (row ∷ rows) lawful = some_differ row rows lawful
 
 -- as many ids as there are heads, none twice, and each a head's
-pub heads_told : (rows : List Changeset) → AreLawful rows → (ids : List (List ℕ)) → length ids ≡ head_count rows
-    → AllPairs (λ a b. a ≢ b) ids → ((id : List ℕ) → Contains ids id → is_head_id rows id ≡ true) → AreSameIds ids (head_ids rows)
+pub heads_told : (rows : List Changeset) → AreLawful rows → (ids : List (List ℕ))
+    → length ids ≡ head_count rows
+    → AllPairs (λ a b. a ≢ b) ids → ((id : List ℕ) → Contains ids id → is_head_id rows id ≡ true)
+    → AreSameIds ids (head_ids rows)
 heads_told rows lawful ids as_many distinct each =
     let among = λ (q : List ℕ) (is : is_member bytes_eq ids q ≡ true).
-    (is_member-Decides bytes_eq-Decides (head_ids rows) q).1 (listed rows lawful q (each q ((is_member-Decides bytes_eq-Decides ids q).0 is))) in
-    same_ids ids (head_ids rows) distinct (heads_differ rows lawful) (λ id found. listed rows lawful id (each id found))
+    (is_member-Decides bytes_eq-Decides (head_ids rows) q).1
+    (listed rows lawful q (each q ((is_member-Decides bytes_eq-Decides ids q).0 is))) in
+    same_ids ids (head_ids rows) distinct (heads_differ rows lawful)
+    (λ id found. listed rows lawful id (each id found))
     (λ id found. (is_member-Decides bytes_eq-Decides ids id).0
-    (all_there ids (head_ids rows) (IsDistinct-from_AllPairs bytes_eq-Decides ids distinct) among (omega (arith, as_many, count_value rows)) id ((is_member-Decides bytes_eq-Decides (head_ids rows) id).1 found)))
+    (all_there ids (head_ids rows) (IsDistinct-from_AllPairs bytes_eq-Decides ids distinct) among
+    (omega (arith, as_many, count_value rows)) id
+    ((is_member-Decides bytes_eq-Decides (head_ids rows) id).1 found)))
 
-pub told_heads : (rows : List Changeset) → AreLawful rows → (ids : List (List ℕ)) → AreSameIds ids (head_ids rows)
-    → (length ids ≡ head_count rows) × AllPairs (λ a b. a ≢ b) ids × ((id : List ℕ) → Contains ids id → is_head_id rows id ≡ true)
+pub told_heads : (rows : List Changeset) → AreLawful rows → (ids : List (List ℕ))
+    → AreSameIds ids (head_ids rows)
+    → (length ids ≡ head_count rows) × AllPairs (λ a b. a ≢ b) ids
+    × ((id : List ℕ) → Contains ids id → is_head_id rows id ≡ true)
 told_heads rows lawful ids same =
     let distinct = same_distinct ids (head_ids rows) same (heads_differ rows lawful) in
     let most = not_longer ids (head_ids rows) distinct (same_members ids (head_ids rows) same) in
-    let least = not_longer (head_ids rows) ids (heads_differ rows lawful) (same_members (head_ids rows) ids (λ id. sym (same id))) in
-    (omega (arith, most, least, count_value rows), distinct, λ id found. from_listed rows lawful id (same_members ids (head_ids rows) same id found))
+    let least = not_longer (head_ids rows) ids (heads_differ rows lawful)
+    (same_members (head_ids rows) ids (λ id. sym (same id))) in (
+      omega (arith, most, least, count_value rows),
+      distinct,
+      λ id found. from_listed rows lawful id (same_members ids (head_ids rows) same id found),
+    )

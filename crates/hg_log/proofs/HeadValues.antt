@@ -1,4 +1,5 @@
--- A list meets the relation of heads just where it ascends and has each id as often as the value of the heads.
+-- A list meets the relation of heads just where it ascends and has each id as often as the value of the
+-- heads.
 use Rattle.std.proofs.Common.{◌≡◌, ◌≢◌, ℕ, ◌-◌, ◌<◌, ◌↔◌, List, [], ◌∷◌, length, map, slice_index, refl}
 use Rattle.std.proofs.Common.{sym, ap, ◌∙◌, subst, arith, AllPairs, Contains, IsSorted, count_by, bytes_eq}
 use Rattle.std.proofs.Common.{cond}
@@ -23,7 +24,8 @@ use Rattle.hg_log.proofs.SameIds.{same_ids, same_members, same_distinct}
 use Rattle.hg_log.proofs.Ascending.{same_ascending}
 
 has_at : (rows : List Changeset) (r : ℕ) → r < length rows → HasNode rows r (id_at rows r)
-has_at rows r low = let found = slice_get_in rows r low in record { row = found.0; row_at = found.1; node_is = sym (ap id_of found.1) }
+has_at rows r low = let found = slice_get_in rows r low in
+    record { row = found.0; row_at = found.1; node_is = sym (ap id_of found.1) }
 
 -- the ids of the value are those of the heads, each once
 module _ (rows : List Changeset) (lawful : AreLawful rows) where
@@ -34,19 +36,27 @@ module _ (rows : List Changeset) (lawful : AreLawful rows) where
       record { rev = r; has = has; childless = unnamed rows r (id_at rows r) has (free rows lawful r is.1) }
 
   head_in : (node : List ℕ) (head : IsHead rows node) → Contains (head_revs rows) head.rev
-  head_in node head = to_heads rows lawful head.rev (has_within rows head.rev node head.has) (freed rows lawful head.rev (no_parent rows head.rev node head.has head.childless))
+  head_in node head = to_heads rows lawful head.rev (has_within rows head.rev node head.has)
+      (freed rows lawful head.rev (no_parent rows head.rev node head.has head.childless))
 
   pub id_head : (node : List ℕ) → Contains (map (id_at rows) (head_revs rows)) node → IsHead rows node
   id_head node found =
-      let k_in : found.0 < length (head_revs rows) = omega (arith, found.1, length-map (head_revs rows) (id_at rows)) in
-      let id : id_at rows (slice_index (head_revs rows) found.0) ≡ node = sym (get_or-map (id_at rows) (head_revs rows) found.0 0 node k_in) ∙ found.2 in
-      subst (IsHead rows) id (is_head (slice_index (head_revs rows) found.0) (Contains-get_or (head_revs rows) found.0 0 k_in))
+      let k_in : found.0 < length (head_revs rows) = omega
+      (arith, found.1, length-map (head_revs rows) (id_at rows)) in
+      let id : id_at rows (slice_index (head_revs rows) found.0) ≡ node = sym
+      (get_or-map (id_at rows) (head_revs rows) found.0 0 node k_in) ∙ found.2 in
+      subst (IsHead rows) id (is_head (slice_index (head_revs rows) found.0)
+      (Contains-get_or (head_revs rows) found.0 0 k_in))
 
   pub head_id : (node : List ℕ) → IsHead rows node → Contains (map (id_at rows) (head_revs rows)) node
   head_id node head =
       let found = head_in node head in
-      let id : id_at rows head.rev ≡ node = ap id_of head.has.row_at ∙ head.has.node_is in
-      (found.0, omega (arith, found.1, length-map (head_revs rows) (id_at rows)), get_or-map (id_at rows) (head_revs rows) found.0 head.rev node found.1 ∙ ap (id_at rows) found.2 ∙ id)
+      let id : id_at rows head.rev ≡ node = ap id_of head.has.row_at ∙ head.has.node_is in (
+        found.0,
+        omega (arith, found.1, length-map (head_revs rows) (id_at rows)),
+        get_or-map (id_at rows) (head_revs rows) found.0 head.rev node found.1 ∙ ap (id_at rows) found.2
+            ∙ id,
+      )
 
   pub ids_distinct : AllPairs (λ a b. a ≢ b) (map (id_at rows) (head_revs rows))
   ids_distinct i j d less j_in same =
@@ -55,18 +65,23 @@ module _ (rows : List Changeset) (lawful : AreLawful rows) where
       let one = from_heads rows lawful (slice_index revs i) (Contains-get_or revs i 0 (omega arith)) in
       let two = from_heads rows lawful (slice_index revs j) (Contains-get_or revs j 0 j_low) in
       let ids : id_at rows (slice_index revs i) ≡ id_at rows (slice_index revs j) =
-      sym (get_or-map (id_at rows) revs i 0 d (omega arith)) ∙ same ∙ get_or-map (id_at rows) revs j 0 d j_low in
+      sym (get_or-map (id_at rows) revs i 0 d (omega arith)) ∙ same
+      ∙ get_or-map (id_at rows) revs j 0 d j_low in
       heads_distinct rows lawful i j 0 less j_low
-      (same_rev rows (slice_index revs i) (slice_index revs j) (id_at rows (slice_index revs j)) lawful (subst (HasNode rows (slice_index revs i)) ids (has_at rows (slice_index revs i) one.0)) (has_at rows (slice_index revs j) two.0))
+      (same_rev rows (slice_index revs i) (slice_index revs j) (id_at rows (slice_index revs j)) lawful
+      (subst (HasNode rows (slice_index revs i)) ids (has_at rows (slice_index revs i) one.0))
+      (has_at rows (slice_index revs j) two.0))
 
   -- where there are rows, the last is a head
   some_head : 0 < length rows → 0 < length (head_revs rows)
   some_head some =
       let none = λ (child : ℕ) (is : IsParent rows (length rows - 1) child).
-      let after : length rows - 1 < child = ordered rows lawful (length rows - 1) child (is_parent rows (length rows - 1) child lawful is) in
+      let after : length rows - 1 < child = ordered rows lawful (length rows - 1) child
+      (is_parent rows (length rows - 1) child lawful is) in
       let within : child < length rows = slice_get_within rows child is.child is.child_at in
       let never : ⊥ = absurd (omega arith) in never in
-      let found = to_heads rows lawful (length rows - 1) (omega arith) (freed rows lawful (length rows - 1) none) in
+      let found = to_heads rows lawful (length rows - 1) (omega arith)
+      (freed rows lawful (length rows - 1) none) in
       omega (arith, found.1)
 
 or_null_some : (ids : List (List ℕ)) → 0 < length ids → or_null ids ≡ ids
@@ -76,20 +91,25 @@ or_null_some (id ∷ ids) some = refl
 pub ids_shown : (rows : List Changeset) → AreLawful rows → 0 < length rows
     → head_ids rows ≡ map (id_at rows) (head_revs rows)
 unfolding head_ids
-ids_shown rows lawful some = or_null_some (map (id_at rows) (head_revs rows)) (omega (arith, length-map (head_revs rows) (id_at rows), some_head rows lawful some))
+ids_shown rows lawful some =
+    or_null_some (map (id_at rows) (head_revs rows))
+    (omega (arith, length-map (head_revs rows) (id_at rows), some_head rows lawful some))
 
 -- where there are rows
 value_of : (rows : List Changeset) → AreLawful rows → 0 < length rows → (heads : List (List ℕ))
     → AreHeadsOf rows heads → AreSameIds heads (head_ids rows)
 value_of rows lawful some heads are =
     subst (AreSameIds heads) (sym (ids_shown rows lawful some))
-    (same_ids heads (map (id_at rows) (head_revs rows)) are.distinct (ids_distinct rows lawful) (λ id found. head_id rows lawful id ((are.each id).0 found)) (λ id found. (are.each id).1 (id_head rows lawful id found)))
+    (same_ids heads (map (id_at rows) (head_revs rows)) are.distinct (ids_distinct rows lawful)
+    (λ id found. head_id rows lawful id ((are.each id).0 found))
+    (λ id found. (are.each id).1 (id_head rows lawful id found)))
 
 heads_from : (rows : List Changeset) → AreLawful rows → 0 < length rows → (heads : List (List ℕ))
     → AreSameIds heads (head_ids rows) → IsSorted (slice_cmp nat_cmp) heads → AreHeadsOf rows heads
 heads_from rows lawful some heads same sorted =
     let ids = map (id_at rows) (head_revs rows) in
-    let as_often : AreSameIds heads (map (id_at rows) (head_revs rows)) = subst (AreSameIds heads) (ids_shown rows lawful some) same in
+    let as_often : AreSameIds heads (map (id_at rows) (head_revs rows)) = subst (AreSameIds heads)
+    (ids_shown rows lawful some) same in
     record {
       each = λ node. (
         (λ found. id_head rows lawful node (same_members heads ids as_often node found)),
@@ -118,18 +138,23 @@ are_heads : (rows : List Changeset) (heads : List (List ℕ)) → AreLawful rows
     → AreSameIds heads (head_ids rows) → IsSorted (slice_cmp nat_cmp) heads → AreHeads rows heads
 unfolding head_ids head_revs
 are_heads [] heads lawful same sorted = same_ascending heads (null_id ∷ []) sorted (one_sorted null_id) same
-are_heads (row ∷ rows) heads lawful same sorted = heads_from (row ∷ rows) lawful (omega arith) heads same sorted
+are_heads (row ∷ rows) heads lawful same sorted =
+    heads_from (row ∷ rows) lawful (omega arith) heads same sorted
 
 -- the law
 pub heads_by_value : (rows : List Changeset) (heads : List (List ℕ)) → AreLawful rows
     → AreHeads rows heads ↔ (AreSameIds heads (head_ids rows) × IsSorted (slice_cmp nat_cmp) heads)
-heads_by_value rows heads lawful = (λ are. (heads_value rows lawful heads are, heads_sorted rows heads are), λ both. are_heads rows heads lawful both.0 both.1)
+heads_by_value rows heads lawful = (
+  λ are. (heads_value rows lawful heads are, heads_sorted rows heads are),
+  λ both. are_heads rows heads lawful both.0 both.1,
+)
 
 count_shown : (rows : List Changeset) (revs : List ℕ)
     → cond (length revs == 0) 1 (length revs) ≡ length (or_null (map (id_at rows) revs))
 count_shown rows [] = refl
 count_shown rows (r ∷ revs) =
-    cond-false (length (r ∷ revs) == 0) 1 (length (r ∷ revs)) (ne_eqb (length (r ∷ revs)) 0 (λ e. omega arith)) ∙ sym (length-map (r ∷ revs) (id_at rows))
+    cond-false (length (r ∷ revs) == 0) 1 (length (r ∷ revs))
+    (ne_eqb (length (r ∷ revs)) 0 (λ e. omega arith)) ∙ sym (length-map (r ∷ revs) (id_at rows))
 
 pub count_value : (rows : List Changeset) → head_count rows ≡ length (head_ids rows)
 unfolding head_count head_ids

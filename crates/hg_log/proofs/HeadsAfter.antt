@@ -32,12 +32,15 @@ same_kept : (p q : ℕ → Bool) (a n : ℕ) → ((r : ℕ) → a ≤ r → r < 
     → filter p (range_with_len a n) ≡ filter q (range_with_len a n)
 same_kept p q a zero same = refl
 same_kept p q a (suc n) same =
-    ap (λ b. cond b (a ∷ filter p (range_with_len (a + 1) n)) (filter p (range_with_len (a + 1) n))) (same a (omega arith) (omega arith))
-    ∙ ap (λ ks. cond (q a) (a ∷ ks) ks) (same_kept p q (a + 1) n (λ r low high. same r (omega arith) (omega arith)))
+    ap (λ b. cond b (a ∷ filter p (range_with_len (a + 1) n)) (filter p (range_with_len (a + 1) n)))
+    (same a (omega arith) (omega arith))
+    ∙ ap (λ ks. cond (q a) (a ∷ ks) ks)
+    (same_kept p q (a + 1) n (λ r low high. same r (omega arith) (omega arith)))
 
 any-append : (p : ℕ → Bool) (xs ys : List ℕ) → list_any p (xs ++ ys) ≡ (list_any p xs || list_any p ys)
 any-append p [] ys = refl
-any-append p (x ∷ xs) ys = ap (λ b. p x || b) (any-append p xs ys) ∙ or_assoc (p x) (list_any p xs) (list_any p ys)
+any-append p (x ∷ xs) ys = ap (λ b. p x || b) (any-append p xs ys)
+    ∙ or_assoc (p x) (list_any p xs) (list_any p ys)
   where
     or_assoc : (a b c : Bool) → (a || (b || c)) ≡ ((a || b) || c)
     or_assoc true b c = refl
@@ -49,7 +52,8 @@ filter_twice p q [] = refl
 filter_twice p q (x ∷ xs) = by (p x) (filter_twice p q xs)
   where
     by : (b : Bool) → filter (λ r. p r && q r) xs ≡ filter q (filter p xs)
-        → cond (b && q x) (x ∷ filter (λ r. p r && q r) xs) (filter (λ r. p r && q r) xs) ≡ filter q (cond b (x ∷ filter p xs) (filter p xs))
+        → cond (b && q x) (x ∷ filter (λ r. p r && q r) xs) (filter (λ r. p r && q r) xs) ≡ filter q
+        (cond b (x ∷ filter p xs) (filter p xs))
     by true rest = ap (λ ks. cond (q x) (x ∷ ks) ks) rest
     by false rest = rest
 
@@ -71,26 +75,39 @@ module _ (rows : List Changeset) (row : Changeset) (lawful : AreLawful (rows ++ 
   names_same : (r child : ℕ) → child < length rows → names (rows ++ row ∷ []) r child ≡ names rows r child
   names_same r child low =
       let same : parents_of rows child ≡ parents_of (rows ++ row ∷ []) child =
-      ap (λ (rs : List Changeset). parents_of rs child) (sym before) ∙ parents_kept (rows ++ row ∷ []) (length rows) child (omega (arith, length_push rows row)) lawful low in
+      ap (λ (rs : List Changeset). parents_of rs child) (sym before)
+      ∙ parents_kept (rows ++ row ∷ []) (length rows) child (omega (arith, length_push rows row)) lawful
+      low in
       ap (λ ps. is_number ps.0 r || is_number ps.1 r) (sym same)
 
   still : (r : ℕ)
-      → is_childless (rows ++ row ∷ []) r ≡ (is_childless rows r && not (names (rows ++ row ∷ []) r (length rows)))
+      → is_childless (rows ++ row ∷ []) r ≡ (is_childless rows r
+      && not (names (rows ++ row ∷ []) r (length rows)))
   still r =
       let all : List Changeset = rows ++ row ∷ [] in
-      let any : list_any (names all r) (range_with_len 0 (length all)) ≡ (list_any (names all r) (range_with_len 0 (length rows)) || (names all r (0 + length rows) || false)) =
-      ap (λ n. list_any (names all r) (range_with_len 0 n)) len ∙ ap (list_any (names all r)) (range_more 0 (length rows)) ∙ any-append (names all r) (range_with_len 0 (length rows)) ((0 + length rows) ∷ []) in
-      let old : list_any (names all r) (range_with_len 0 (length rows)) ≡ list_any (names rows r) (range_with_len 0 (length rows)) =
-      same_any (names all r) (names rows r) 0 (length rows) (λ child low high. names_same r child (omega arith)) in
+      let any : list_any (names all r)
+      (range_with_len 0 (length all)) ≡ (list_any (names all r) (range_with_len 0 (length rows))
+      || (names all r (0 + length rows) || false)) =
+      ap (λ n. list_any (names all r) (range_with_len 0 n)) len
+      ∙ ap (list_any (names all r)) (range_more 0 (length rows))
+      ∙ any-append (names all r) (range_with_len 0 (length rows)) ((0 + length rows) ∷ []) in
+      let old : list_any (names all r) (range_with_len 0 (length rows)) ≡ list_any (names rows r)
+      (range_with_len 0 (length rows)) =
+      same_any (names all r) (names rows r) 0 (length rows)
+      (λ child low high. names_same r child (omega arith)) in
       let last : 0 + length rows ≡ length rows = omega arith in
-      ap not (any ∙ ap (λ b. b || (names all r (0 + length rows) || false)) old ∙ ap (λ n. list_any (names rows r) (range_with_len 0 (length rows)) || (names all r n || false)) last)
+      ap not (any ∙ ap (λ b. b || (names all r (0 + length rows) || false)) old
+      ∙ ap (λ n. list_any (names rows r) (range_with_len 0 (length rows))
+      || (names all r n || false)) last)
       ∙ not_either (list_any (names rows r) (range_with_len 0 (length rows))) (names all r (length rows))
 
   -- the new row is nobody's parent
   new_free : is_childless (rows ++ row ∷ []) (length rows) ≡ true
   new_free = freed (rows ++ row ∷ []) lawful (length rows) (λ child is.
-      let after : length rows < child = ordered (rows ++ row ∷ []) lawful (length rows) child (is_parent (rows ++ row ∷ []) (length rows) child lawful is) in
-      let within : child < length (rows ++ row ∷ []) = slice_get_within (rows ++ row ∷ []) child is.child is.child_at in
+      let after : length rows < child = ordered (rows ++ row ∷ []) lawful (length rows) child
+      (is_parent (rows ++ row ∷ []) (length rows) child lawful is) in
+      let within : child < length (rows ++ row ∷ []) = slice_get_within (rows ++ row
+      ∷ []) child is.child is.child_at in
       absurd (omega (arith, len)))
 
   pub heads_after : head_revs (rows ++ row ∷ []) ≡ heads_with rows row
@@ -98,11 +115,17 @@ module _ (rows : List Changeset) (row : Changeset) (lawful : AreLawful (rows ++ 
   heads_after =
       let all : List Changeset = rows ++ row ∷ [] in
       let left : ℕ → Bool = λ r. not (names all r (length rows)) in
-      let parts : filter (is_childless all) (range_with_len 0 (length all)) ≡ filter (is_childless all) (range_with_len 0 (length rows)) ++ filter (is_childless all) ((0 + length rows) ∷ []) =
-      ap (λ n. filter (is_childless all) (range_with_len 0 n)) len ∙ ap (filter (is_childless all)) (range_more 0 (length rows)) ∙ filter-append (is_childless all) (range_with_len 0 (length rows)) ((0 + length rows) ∷ []) in
-      let old : filter (is_childless all) (range_with_len 0 (length rows)) ≡ filter left (filter (is_childless rows) (range_with_len 0 (length rows))) =
-      same_kept (is_childless all) (λ r. is_childless rows r && left r) 0 (length rows) (λ r low high. still r) ∙ filter_twice (is_childless rows) left (range_with_len 0 (length rows)) in
+      let parts : filter (is_childless all) (range_with_len 0 (length all)) ≡ filter (is_childless all)
+      (range_with_len 0 (length rows)) ++ filter (is_childless all) ((0 + length rows) ∷ []) =
+      ap (λ n. filter (is_childless all) (range_with_len 0 n)) len
+      ∙ ap (filter (is_childless all)) (range_more 0 (length rows))
+      ∙ filter-append (is_childless all) (range_with_len 0 (length rows)) ((0 + length rows) ∷ []) in
+      let old : filter (is_childless all) (range_with_len 0 (length rows)) ≡ filter left
+      (filter (is_childless rows) (range_with_len 0 (length rows))) =
+      same_kept (is_childless all) (λ r. is_childless rows r && left r) 0 (length rows)
+      (λ r low high. still r) ∙ filter_twice (is_childless rows) left (range_with_len 0 (length rows)) in
       let last : 0 + length rows ≡ length rows = omega arith in
       let new : filter (is_childless all) ((0 + length rows) ∷ []) ≡ length rows ∷ [] =
       ap (λ n. filter (is_childless all) (n ∷ [])) last ∙ ap (λ b. cond b (length rows ∷ []) []) new_free in
-      parts ∙ ap (λ ks. ks ++ filter (is_childless all) ((0 + length rows) ∷ [])) old ∙ ap (λ ks. filter left (filter (is_childless rows) (range_with_len 0 (length rows))) ++ ks) new
+      parts ∙ ap (λ ks. ks ++ filter (is_childless all) ((0 + length rows) ∷ [])) old
+      ∙ ap (λ ks. filter left (filter (is_childless rows) (range_with_len 0 (length rows))) ++ ks) new

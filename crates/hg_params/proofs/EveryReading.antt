@@ -1,5 +1,6 @@
 -- Any bytes are a header or have a fault, and give stream parameters or have a fault.
-use Rattle.std.proofs.Common.{◌≡◌, ◌<◌, ◌⊎◌, ℕ, List, [], ◌∷◌, length, map, Result, Ok, Err, refl, sym, ◌∙◌, inl, inr, arith, All, get_or}
+use Rattle.std.proofs.Common.{◌≡◌, ◌<◌, ◌⊎◌, ℕ, List, [], ◌∷◌, length, map, Result, Ok, Err, refl, sym, ◌∙◌}
+use Rattle.std.proofs.Common.{inl, inr, arith, All, get_or}
 use Rattle.std.specs.Str.{bytes_eq}
 use Rattle.std.proofs.lemmas.Bool.{cases_Bool, cases_lt, false≢true}
 use Rattle.std.proofs.lemmas.List.{get_or_past}
@@ -7,7 +8,8 @@ use Rattle.std.proofs.lemmas.List.Elements.{All-get_or}
 use Rattle.std.proofs.lemmas.Slice.Eq.{bytes_eq-Decides}
 use Rattle.hg_params.specs.declared.fault.ParamFault.{ParamFault}
 use Rattle.hg_params.specs.declared.fault.ParamFault.TheVariants.{Leftover, BadType, RepeatedKey}
-use Rattle.hg_params.specs.Header.{Fields, is_kind, all_params, keys_of, AreDistinct, HasFields, head_of, IsHeaderFault}
+use Rattle.hg_params.specs.Header.{Fields, is_kind, all_params, keys_of, AreDistinct, HasFields, head_of}
+use Rattle.hg_params.specs.Header.{IsHeaderFault}
 use Rattle.hg_params.specs.Laws.{HasSomeReading, HasSomeParamsReading}
 use Rattle.hg_params.specs.code.Reading.{Front, front_at, fields_in}
 use Rattle.hg_params.specs.StreamParams.{faults_of, pieces, stream_param}
@@ -57,25 +59,36 @@ unfolding IsHeaderFault
 of_fields bytes f has =
     elim (cases_Bool (is_kind f.kind)) [
       | inl is ↦ elim (distinct_or_not (keys_of (all_params f))) [
-        | inl distinct ↦ inl (head_of f, record { fields = f; sound = record { has = has; kind = is; distinct = distinct }; says = refl })
+        | inl distinct ↦ inl (
+          head_of f,
+          record {
+            fields = f;
+            sound = record { has = has; kind = is; distinct = distinct };
+            says = refl;
+          },
+        )
         | inr twice ↦ inr (RepeatedKey, record { fields = f; has = has; kind = is; repeated = twice })
       ]
       | inr none ↦ inr (BadType, bad_type bytes f has none)
     ]
 
 -- fields, and what stands behind them
-of_front : {A : Type 0} (bytes : List ℕ) (front : Front) (rest : List ℕ) → ReadsFields bytes front rest → HasSomeReading A bytes
+of_front : {A : Type 0} (bytes : List ℕ) (front : Front) (rest : List ℕ) → ReadsFields bytes front rest
+    → HasSomeReading A bytes
 of_front bytes front [] reads = of_fields bytes (fields_in front) (has_fields bytes front [] reads refl)
-of_front bytes front (byte ∷ rest) reads = inr (Leftover, leftover bytes front (byte ∷ rest) reads (omega arith))
+of_front bytes front (byte ∷ rest) reads =
+    inr (Leftover, leftover bytes front (byte ∷ rest) reads (omega arith))
 
-of_result : {A : Type 0} (bytes : List ℕ) → IsBytes bytes → (read : Result (Front × List ℕ) ParamFault) → front_at bytes ≡ read → HasSomeReading A bytes
+of_result : {A : Type 0} (bytes : List ℕ) → IsBytes bytes → (read : Result (Front × List ℕ) ParamFault)
+    → front_at bytes ≡ read → HasSomeReading A bytes
 of_result bytes are (Ok found) e = of_front bytes found.0 found.1 (front_take bytes found.0 found.1 are e)
 of_result bytes are (Err fault) e = inr (fault, fields_fault bytes fault fault e refl)
 
 pub every_header : {A : Type 0} (bytes : List ℕ) → All IsByte bytes → HasSomeReading A bytes
 every_header bytes each = of_result bytes (bytes_are bytes each) (front_at bytes) refl
 
-of_faults : {A : Type 0} (bytes : List ℕ) (faults : List ParamFault) → faults_of bytes ≡ faults → HasSomeParamsReading A bytes
+of_faults : {A : Type 0} (bytes : List ℕ) (faults : List ParamFault) → faults_of bytes ≡ faults
+    → HasSomeParamsReading A bytes
 of_faults bytes [] e = inl (map stream_param (pieces bytes), record { sound = e; says = refl })
 of_faults bytes (fault ∷ later) e = inr (fault, (later, e))
 

@@ -17,11 +17,13 @@ take_less : {X : Type 0} (n m : ℕ) (xs : List X) → n ≤ m → take n (take 
 take_less {X} zero m xs low = refl
 take_less {X} (suc n) zero xs low = absurd (omega (arith, low))
 take_less {X} (suc n) (suc m) [] low = refl
-take_less {X} (suc n) (suc m) (x ∷ xs) low = ap (λ (ys : List X). x ∷ ys) (take_less n m xs (omega (arith, low)))
+take_less {X} (suc n) (suc m) (x ∷ xs) low =
+    ap (λ (ys : List X). x ∷ ys) (take_less n m xs (omega (arith, low)))
 
 front_on : {X : Type 0} (xs ys zs : List X) → length xs ≤ length ys → take (length xs) ys ≡ xs
     → take (length ys) zs ≡ ys → take (length xs) zs ≡ xs
-front_on xs ys zs within one two = sym (take_less (length xs) (length ys) zs within) ∙ ap (take (length xs)) two ∙ one
+front_on xs ys zs within one two = sym (take_less (length xs) (length ys) zs within)
+    ∙ ap (take (length xs)) two ∙ one
 
 module _ {A : Type 0} where
   -- ---- growing
@@ -41,10 +43,12 @@ module _ {A : Type 0} where
   pub grown_on : (old middle new : Store A) → IsGrown old middle → IsGrown middle new → IsGrown old new
   grown_on old middle new one two = record {
     rows_within = omega (arith, one.rows_within, two.rows_within);
-    rows_front = front_on old.log.rows middle.log.rows new.log.rows one.rows_within one.rows_front two.rows_front;
+    rows_front = front_on old.log.rows middle.log.rows new.log.rows one.rows_within one.rows_front
+        two.rows_front;
     limits = two.limits ∙ one.limits;
     markers_within = omega (arith, one.markers_within, two.markers_within);
-    markers_front = front_on old.markers middle.markers new.markers one.markers_within one.markers_front two.markers_front;
+    markers_front = front_on old.markers middle.markers new.markers one.markers_within one.markers_front
+        two.markers_front;
     phases_marked = two.phases_marked ∙ one.phases_marked;
     bookmarks_marked = two.bookmarks_marked ∙ one.bookmarks_marked;
   }

@@ -1,5 +1,6 @@
 -- Replies that tell a number, and those to a call of pushkey.
-use Rattle.std.proofs.Common.{◌≡◌, ℕ, ◌<◌, ◌^◌, Bool, true, false, length, decimal, Option, Some, Result, Ok, Err, cond, sym, ap, ◌∙◌, arith}
+use Rattle.std.proofs.Common.{◌≡◌, ℕ, ◌<◌, ◌^◌, Bool, true, false, length, decimal, Option, Some, Result, Ok}
+use Rattle.std.proofs.Common.{Err, cond, sym, ap, ◌∙◌, arith}
 use Rattle.std.proofs.lemmas.Fmt.{length-decimal-le}
 use Rattle.hg_types.specs.declared.part.Part.{Part}
 use Rattle.hg_keys.specs.declared.keys.KeyCall.{KeyCall}
@@ -23,9 +24,15 @@ replied true reply made on is = ap Some is
 replied false reply made on is = absurd cc
 
 -- a call that does not refuse the push, and its reply
-pub key_done : {A : Type 0} (repo : Repository A) (replying : Bool) (place : ℕ) (part : Part A) (call : KeyCall A) (keys : Keys A) (done : Bool) (reply : Option (Part A)) {test : Bool}
+pub key_done : {A : Type 0} (repo : Repository A) (replying : Bool) (place : ℕ) (part : Part A)
+    (call : KeyCall A) (keys : Keys A) (done : Bool) (reply : Option (Part A)) {test : Bool}
     → test ≡ is_refused part done → test ≡ false → reply ≡ reply_where replying (reply_to_key part.id done)
-    → handle_done repo replying place part call keys done ≡ Ok (record { repo = with_keys repo keys; reply = reply })
+    → handle_done repo replying place part call keys done ≡ Ok
+    (record { repo = with_keys repo keys; reply = reply })
 key_done {A} repo replying place part call keys done reply is not told =
-    ap (λ (b : Bool). cond {A = Result (Handled A) (Refusal A)} b (Err (KeyFailed place part.id call)) (Ok (record { repo = with_keys repo keys; reply = reply_where replying (reply_to_key part.id done) }))) (sym is ∙ not)
+    ap (λ (b : Bool). cond {A = Result (Handled A) (Refusal A)} b (Err (KeyFailed place part.id call))
+    (Ok (record {
+      repo = with_keys repo keys;
+      reply = reply_where replying (reply_to_key part.id done);
+    }))) (sym is ∙ not)
     ∙ ap (λ (r : Option (Part A)). Ok (record { repo = with_keys repo keys; reply = r })) (sym told)

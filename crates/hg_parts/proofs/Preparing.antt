@@ -1,5 +1,6 @@
 -- What is read of a part is handled as the part is, and what is kept of it is enough.
-use Rattle.std.proofs.Common.{ℕ, ◌≡◌, ◌∙◌, Bool, false, List, [], ◌∷◌, Option, Some, None, Result, Ok, Err, refl, sym, ap}
+use Rattle.std.proofs.Common.{ℕ, ◌≡◌, ◌∙◌, Bool, false, List, [], ◌∷◌, Option, Some, None, Result, Ok, Err}
+use Rattle.std.proofs.Common.{refl, sym, ap}
 use Rattle.hg_types.specs.declared.entry.Entry.{Entry}
 use Rattle.hg_types.specs.declared.node.Node.{Node}
 use Rattle.hg_types.specs.declared.part.Part.{Part}
@@ -16,16 +17,21 @@ use Rattle.hg_parts.specs.declared.prepared.Reading.{Reading}
 use Rattle.hg_parts.specs.declared.prepared.Reading.TheVariants as reading
 use Rattle.hg_parts.specs.declared.source.Source.{Source}
 use Rattle.hg_parts.specs.declared.table.PartType.{PartType}
-use Rattle.hg_parts.specs.declared.table.PartType.TheVariants.{ReplyCaps, CheckHeads, CheckPhases, CheckBookmarks}
-use Rattle.hg_parts.specs.declared.table.PartType.TheVariants.{ChangeGroup, PhaseHeads, Bookmarks, Obsmarkers, Pushkey}
+use Rattle.hg_parts.specs.declared.table.PartType.TheVariants.{ReplyCaps, CheckHeads, CheckPhases}
+use Rattle.hg_parts.specs.declared.table.PartType.TheVariants.{CheckBookmarks}
+use Rattle.hg_parts.specs.declared.table.PartType.TheVariants.{ChangeGroup, PhaseHeads, Bookmarks, Obsmarkers}
+use Rattle.hg_parts.specs.declared.table.PartType.TheVariants.{Pushkey}
 use Rattle.hg_parts.specs.declared.table.PartType.TheVariants.{Output, ErrorAbort}
 use Rattle.hg_parts.specs.Repository.{Repository}
-use Rattle.hg_parts.specs.PartTypes.{Row, Support, Supported, Unsupported, support_in, support_by, support_of, unknown_names}
+use Rattle.hg_parts.specs.PartTypes.{Row, Support, Supported, Unsupported, support_in, support_by, support_of}
+use Rattle.hg_parts.specs.PartTypes.{unknown_names}
 use Rattle.hg_parts.specs.PartTypes.{names_against, unsupported_names, is_reply_caps, row_of}
 use Rattle.hg_parts.specs.Handle.{handle, handle_as}
-use Rattle.hg_parts.specs.Prepared.{handle_reading, is_read, is_replycaps, kept_where, read_as, reading_of, IsMadeOf}
+use Rattle.hg_parts.specs.Prepared.{handle_reading, is_read, is_replycaps, kept_where, read_as, reading_of}
+use Rattle.hg_parts.specs.Prepared.{IsMadeOf}
 use Rattle.hg_parts.specs.parts.Unsupported.{handle_unsupported}
-use Rattle.hg_parts.specs.parts.Changegroup.{handle_decoded, handle_entries, handle_target, reading_in as group_in, target_of, version_of}
+use Rattle.hg_parts.specs.parts.Changegroup.{handle_decoded, handle_entries, handle_target}
+use Rattle.hg_parts.specs.parts.Changegroup.{reading_in as group_in, target_of, version_of}
 use Rattle.hg_parts.specs.parts.PhaseHeads.{handle_read as handle_heads, reading_in as heads_in}
 use Rattle.hg_parts.specs.parts.Obsmarkers.{handle_read as handle_read_markers, reading_in as markers_in}
 
@@ -39,19 +45,22 @@ unfolding names_of
 names_by part_type [] = refl
 names_by part_type (name ∷ names) = refl
 
-names_in : {A : Type 0} (params : List (Param A)) (row : Option Row) → names_of (support_in params row) ≡ names_against params row
+names_in : {A : Type 0} (params : List (Param A)) (row : Option Row)
+    → names_of (support_in params row) ≡ names_against params row
 unfolding names_of
 names_in params None = refl
 names_in params (Some row) = names_by row.part_type (unknown_names row.known params)
 
 module _ {A : Type 0} (source : Source) (repo : Repository A) (replying : Bool) (place : ℕ) where
   group_decoded : {E : Type 0} (part : Part A) (target : Phase) (decoded : Result (List (Entry A)) E)
-      → handle_decoded source repo replying place part target decoded ≡ handle_reading source repo replying place part (group_in (Some target) decoded)
+      → handle_decoded source repo replying place part target decoded ≡ handle_reading source repo replying
+      place part (group_in (Some target) decoded)
   group_decoded part target (Ok entries) = refl
   group_decoded part target (Err fault) = refl
 
   group_read : (part : Part A) (target : Option Phase)
-      → handle_target source repo replying place part target ≡ handle_reading source repo replying place part (group_in target (outcome_of (version_of part.params) part.payload))
+      → handle_target source repo replying place part target ≡ handle_reading source repo replying place part
+      (group_in target (outcome_of (version_of part.params) part.payload))
   group_read part (Some target) = group_decoded part target (outcome_of (version_of part.params) part.payload)
   group_read part None = refl
 
@@ -61,12 +70,14 @@ module _ {A : Type 0} (source : Source) (repo : Repository A) (replying : Bool) 
   heads_read part (Err fault) = refl
 
   markers_read : (part : Part A) (added : Result (List (Marker A)) MarkerFault)
-      → handle_read_markers repo replying place part added ≡ handle_reading source repo replying place part (markers_in added)
+      → handle_read_markers repo replying place part added ≡ handle_reading source repo replying place part
+      (markers_in added)
   markers_read part (Ok added) = refl
   markers_read part (Err fault) = refl
 
   support_read : (part : Part A) (support : Support) → names_of support ≡ unsupported_names part
-      → handle_as source repo replying place part support ≡ handle_reading source repo replying place part (read_as part support)
+      → handle_as source repo replying place part support ≡ handle_reading source repo replying place part
+      (read_as part support)
   unfolding names_of
   support_read part (Unsupported names) same = ap (handle_unsupported repo place part) same
   support_read part (Supported ReplyCaps) same = refl
@@ -82,12 +93,15 @@ module _ {A : Type 0} (source : Source) (repo : Repository A) (replying : Bool) 
   support_read part (Supported ErrorAbort) same = refl
 
   -- a part is read, and then handled
-  pub part_read : (part : Part A) → handle source repo replying place part ≡ handle_reading source repo replying place part (reading_of part)
+  pub part_read : (part : Part A)
+      → handle source repo replying place part ≡ handle_reading source repo replying place part
+      (reading_of part)
   part_read part = support_read part (support_of part) (names_in part.params (row_of part.kind))
 
   -- the payload is looked at no more where it was read
   kept_enough : (part : Part A) (told : Reading A)
-      → handle_reading source repo replying place (kept_where (is_read told) part) told ≡ handle_reading source repo replying place part told
+      → handle_reading source repo replying place (kept_where (is_read told) part) told ≡ handle_reading
+      source repo replying place part told
   unfolding handle_entries
   kept_enough part reading.Unsupported = refl
   kept_enough part reading.Malformed = refl
@@ -105,25 +119,31 @@ module _ {A : Type 0} (source : Source) (repo : Repository A) (replying : Bool) 
 
   -- a prepared part is handled as each part that it may have been made of
   pub made_handled : (part : Part A) (prepared : Prepared A) → IsMadeOf part prepared
-      → handle source repo replying place part ≡ handle_reading source repo replying place prepared.part prepared.reading
+      → handle source repo replying place part ≡ handle_reading source repo replying place prepared.part
+      prepared.reading
   unfolding IsMadeOf
   made_handled part prepared made =
-      part_read part ∙ (sym (kept_enough part (reading_of part)) ∙ sym (ap (λ (p : Prepared A). handle_reading source repo replying place p.part p.reading) made))
+      part_read part ∙ (sym (kept_enough part (reading_of part))
+      ∙ sym (ap (λ (p : Prepared A). handle_reading source repo replying place p.part p.reading) made))
 
-group_starts : {A E : Type 0} (target : Option Phase) (decoded : Result (List (Entry A)) E) → is_replycaps (group_in target decoded) ≡ false
+group_starts : {A E : Type 0} (target : Option Phase) (decoded : Result (List (Entry A)) E)
+    → is_replycaps (group_in target decoded) ≡ false
 group_starts (Some target) (Ok entries) = refl
 group_starts (Some target) (Err fault) = refl
 group_starts None decoded = refl
 
-heads_start : (A : Type 0) (entries : Result (List (Phase × Node)) EntryFault) → is_replycaps (heads_in {A = A} entries) ≡ false
+heads_start : (A : Type 0) (entries : Result (List (Phase × Node)) EntryFault)
+    → is_replycaps (heads_in {A = A} entries) ≡ false
 heads_start A (Ok entries) = refl
 heads_start A (Err fault) = refl
 
-markers_start : {A : Type 0} (added : Result (List (Marker A)) MarkerFault) → is_replycaps (markers_in added) ≡ false
+markers_start : {A : Type 0} (added : Result (List (Marker A)) MarkerFault)
+    → is_replycaps (markers_in added) ≡ false
 markers_start (Ok added) = refl
 markers_start (Err fault) = refl
 
-support_starts : {A : Type 0} (part : Part A) (support : Support) → is_replycaps (read_as part support) ≡ is_reply_caps support
+support_starts : {A : Type 0} (part : Part A) (support : Support)
+    → is_replycaps (read_as part support) ≡ is_reply_caps support
 support_starts part (Unsupported names) = refl
 support_starts part (Supported ReplyCaps) = refl
 support_starts part (Supported CheckHeads) = refl
@@ -132,12 +152,15 @@ support_starts part (Supported CheckBookmarks) = refl
 support_starts part (Supported PhaseHeads) = heads_start _ (entries_of part.payload)
 support_starts part (Supported Bookmarks) = refl
 support_starts part (Supported Obsmarkers) = markers_start (markers_of part.payload)
-support_starts part (Supported ChangeGroup) = group_starts (target_of part.params) (outcome_of (version_of part.params) part.payload)
+support_starts part (Supported ChangeGroup) =
+    group_starts (target_of part.params) (outcome_of (version_of part.params) part.payload)
 support_starts part (Supported Pushkey) = refl
 support_starts part (Supported Output) = refl
 support_starts part (Supported ErrorAbort) = refl
 
 -- it starts replies where the part does
-pub made_starts : {A : Type 0} (part : Part A) (prepared : Prepared A) → IsMadeOf part prepared → is_replycaps prepared.reading ≡ is_reply_caps (support_of part)
+pub made_starts : {A : Type 0} (part : Part A) (prepared : Prepared A) → IsMadeOf part prepared
+    → is_replycaps prepared.reading ≡ is_reply_caps (support_of part)
 unfolding IsMadeOf
-made_starts {A} part prepared made = ap (λ (p : Prepared A). is_replycaps p.reading) made ∙ support_starts part (support_of part)
+made_starts {A} part prepared made = ap (λ (p : Prepared A). is_replycaps p.reading) made
+    ∙ support_starts part (support_of part)

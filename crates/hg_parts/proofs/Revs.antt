@@ -19,7 +19,9 @@ use Rattle.hg_parts.specs.parts.Changegroup.{revs_of, result_text}
 
 some_more : {X Y : Type 0} (h : X → Option Y) (xs : List X) (i : ℕ) (d : X) → i < length xs
     → filter_map h (take (i + 1) xs) ≡ filter_map h (take i xs) ++ option_to_list (h (get_or xs i d))
-some_more {X} {Y} h xs i d within = ap (filter_map h) (take_more xs i d within) ∙ filter_map-append h (take i xs) (get_or xs i d ∷ []) ∙ ap (λ (ys : List Y). filter_map h (take i xs) ++ ys) (one (h (get_or xs i d)))
+some_more {X} {Y} h xs i d within = ap (filter_map h) (take_more xs i d within)
+    ∙ filter_map-append h (take i xs) (get_or xs i d ∷ [])
+    ∙ ap (λ (ys : List Y). filter_map h (take i xs) ++ ys) (one (h (get_or xs i d)))
   where
     one : (o : Option Y) → cons_option o [] ≡ option_to_list o
     one None = refl
@@ -28,22 +30,29 @@ some_more {X} {Y} h xs i d within = ap (filter_map h) (take_more xs i d within) 
 -- the numbers of one entry more
 pub revs_more : {A : Type 0} (rows : List Changeset) (entries : List (Entry A)) (i : ℕ) (entry : Entry A)
     → i < length entries → entry ≡ get_or entries i entry
-    → revs_of rows (take (i + 1) entries) ≡ revs_of rows (take i entries) ++ option_to_list (rev_of rows entry.node.0)
+    → revs_of rows (take (i + 1) entries) ≡ revs_of rows (take i entries)
+    ++ option_to_list (rev_of rows entry.node.0)
 unfolding revs_of
-revs_more {A} rows entries i entry within here = some_more (λ (e : Entry A). rev_of rows e.node.0) entries i entry within ∙ ap (λ (e : Entry A). revs_of rows (take i entries) ++ option_to_list (rev_of rows e.node.0)) (sym here)
+revs_more {A} rows entries i entry within here =
+    some_more (λ (e : Entry A). rev_of rows e.node.0) entries i entry within
+    ∙ ap (λ (e : Entry A). revs_of rows (take i entries) ++ option_to_list (rev_of rows e.node.0))
+    (sym here)
 
 pub within_more : (n : ℕ) (xs : List ℕ) (o : Option ℕ) → All (λ x. x < n) xs
     → ((x : ℕ) → o ≡ Some x → x < n) → All (λ x. x < n) (xs ++ option_to_list o)
 within_more n xs None all some = subst (λ ys. All (λ x. x < n) ys) (sym (append-nil xs)) all
 within_more n xs (Some v) all some = λ k d low. elim (cases_lt k (length xs)) [
   | inl less ↦ subst (λ (x : ℕ). x < n) (sym (get_or_append_left xs (v ∷ []) d k less)) (all k d less)
-  | inr more ↦ subst (λ (x : ℕ). x < n) (sym (get_or_push xs v d k (omega (arith, length_push xs v)))) (some v refl)
+  | inr more ↦ subst (λ (x : ℕ). x < n) (sym (get_or_push xs v d k (omega (arith, length_push xs v))))
+      (some v refl)
 ]
 
 pub rev_within : (rows : List Changeset) (node : List ℕ) (o : Option ℕ)
     → IfSome o (λ rev. HasNode rows rev node) → (x : ℕ) → o ≡ Some x → x < length rows
 rev_within rows node None found x is = absurd cc
-rev_within rows node (Some r) found x is = let same : r ≡ x = cc in subst (λ k. k < length rows) same (slice_get_within rows r found.row found.row_at)
+rev_within rows node (Some r) found x is =
+    let same : r ≡ x = cc in
+    subst (λ k. k < length rows) same (slice_get_within rows r found.row found.row_at)
 
 -- ---- the reply
 
@@ -53,7 +62,8 @@ short n few fits = length-decimal-le 10 n (omega arith) few fits
 text_short : (before after : ℕ) → before < 2 ^ 32 → after < 2 ^ 32 → length (result_text before after) < 256
 unfolding result_text
 text_short before after before_few after_few =
-    cond_both (nat_le before after) (decimal (after - before + 1)) (codes "-" ++ decimal (before - after + 1)) (λ (text : List ℕ). length text < 256)
+    cond_both (nat_le before after) (decimal (after - before + 1)) (codes "-" ++ decimal (before - after + 1))
+    (λ (text : List ℕ). length text < 256)
     (λ more. let s = short (after - before + 1) (omega arith) (omega arith) in omega arith)
     (λ fewer. let s = short (before - after + 1) (omega arith) (omega arith) in omega arith)
 

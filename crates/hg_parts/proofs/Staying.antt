@@ -68,7 +68,8 @@ use Rattle.hg_parts.proofs.Adding.{on_known_more}
 
 -- What the crates below say of rows, phases, markers, bookmarks and keys: their laws, as calls give them.
 pub record Laws (A : Type 0) : Type 0 where
-  pub rows_stay : (log : Log) (entry : Entry A) → AreLawfulRows log.rows → AreLawfulRows (answer_of log entry).1.rows
+  pub rows_stay : (log : Log) (entry : Entry A) → AreLawfulRows log.rows
+      → AreLawfulRows (answer_of log entry).1.rows
   pub leaves : (log : Log) (entry : Entry A)
       → IfOk (answer_of log entry).0 (λ added. Leaves log entry added (answer_of log entry).1)
   pub behind : (old new : List Changeset) (phases : List Phase)
@@ -162,10 +163,12 @@ module _ {A : Type 0} (laws : Laws A) where
   grown_new pairs t rows new phases row is lawful before =
       let longer : length new ≡ length rows + 1 = ap length is ∙ length_push rows row in
       let front : take (length rows) new ≡ rows =
-      ap (take (length rows)) is ∙ take-append-le (length rows) rows (row ∷ []) (omega arith) ∙ take-length rows in
+      ap (take (length rows)) is ∙ take-append-le (length rows) rows (row ∷ []) (omega arith)
+      ∙ take-length rows in
       let count = before.phases.count in
       let still : AreLawfulPhases (parents_of new) phases =
-      laws.behind rows new phases lawful (omega (arith, longer)) front (omega (arith, count)) before.phases.lawful in
+      laws.behind rows new phases lawful (omega (arith, longer)) front
+      (omega (arith, count)) before.phases.lawful in
       record {
         rows = lawful;
         phases = record {
@@ -202,7 +205,8 @@ module _ {A : Type 0} (laws : Laws A) where
   each_added pairs limits t [] grown are = are
   each_added pairs limits t (entry ∷ entries) grown are =
       let log : Log = record { rows = grown.rows; limits = limits } in
-      then_grown pairs (changegroup.grown_by t grown.phases (answer_of log entry)) (changegroup.add_each limits t entries)
+      then_grown pairs (changegroup.grown_by t grown.phases (answer_of log entry))
+      (changegroup.add_each limits t entries)
       (grown_by pairs t log grown.phases entry (answer_of log entry) (laws.rows_stay log entry are.rows)
       (laws.leaves log entry) are)
       (λ next. each_added pairs limits t entries next)
@@ -216,7 +220,8 @@ module _ {A : Type 0} (laws : Laws A) where
 
   -- ---- each type of part
 
-  module _ (repo : Repository A) (lawful : IsLawful repo) (place : ℕ) (part : Part A) (bytes : IsBytes part.payload) where
+  module _ (repo : Repository A) (lawful : IsLawful repo) (place : ℕ) (part : Part A)
+      (bytes : IsBytes part.payload) where
     have_phases : HavePhases repo.rows repo.phases
     have_phases = record { count = lawful.count; lawful = lawful.phases }
 
@@ -268,7 +273,8 @@ module _ {A : Type 0} (laws : Laws A) where
         rows = lawful.rows;
         count = lawful.count;
         phases = lawful.phases;
-        markers = laws.merged_stay repo.markers added lawful.markers ((laws.are_read part.payload added bytes).0 is).each;
+        markers = laws.merged_stay repo.markers added lawful.markers
+            ((laws.are_read part.payload added bytes).0 is).each;
         names = lawful.names;
         bookmarks = lawful.bookmarks;
       }
@@ -287,7 +293,8 @@ module _ {A : Type 0} (laws : Laws A) where
       })
       pushed call (Err fault) kept = tt
 
-      key_call : (call : Option (KeyCall A)) → LeavesLawful (pushkey.handle_call repo replying place part call)
+      key_call : (call : Option (KeyCall A))
+          → LeavesLawful (pushkey.handle_call repo replying place part call)
       key_call (Some call) = pushed call (key_pushed repo.rows (pushkey.keys_of repo) call)
           (laws.keys_stay repo.rows (pushkey.keys_of repo) call lawful.rows (record {
             count = lawful.count;

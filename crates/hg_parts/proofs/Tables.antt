@@ -21,7 +21,8 @@ pub none_unknown : {A : Type 0} (part_type : PartType) (known : List (List ℕ))
 none_unknown part_type known [] none = refl
 none_unknown part_type known (param ∷ params) none =
     let rest = filter (is_unknown known) params in
-    elim (is_unknown known param) as (λ b. (b || list_any (is_unknown known) params) ≡ false → support_by part_type (map (λ p. p.key) (cond b (param ∷ rest) rest)) ≡ Supported part_type) [
+    elim (is_unknown known param) as (λ b. (b || list_any (is_unknown known) params) ≡ false
+    → support_by part_type (map (λ p. p.key) (cond b (param ∷ rest) rest)) ≡ Supported part_type) [
       | true ↦ λ one. absurd (true≢false one)
       | false ↦ λ none. none_unknown part_type known params none
     ] none
@@ -33,37 +34,50 @@ pub some_unknown : {A : Type 0} (part_type : PartType) (known : List (List ℕ))
 some_unknown part_type known [] some = absurd (true≢false (sym some))
 some_unknown part_type known (param ∷ params) some =
     let rest = filter (is_unknown known) params in
-    elim (is_unknown known param) as (λ b. (b || list_any (is_unknown known) params) ≡ true → support_by part_type (map (λ p. p.key) (cond b (param ∷ rest) rest)) ≡ Unsupported (map (λ p. p.key) (cond b (param ∷ rest) rest))) [
+    elim (is_unknown known param) as (λ b. (b || list_any (is_unknown known) params) ≡ true
+    → support_by part_type (map (λ p. p.key) (cond b (param ∷ rest) rest)) ≡ Unsupported
+    (map (λ p. p.key) (cond b (param ∷ rest) rest))) [
       | true ↦ λ one. refl
       | false ↦ λ some. some_unknown part_type known params some
     ] some
 
 -- one parameter more, which is unknown
-pub unknown_names-more_yes : {A : Type 0} (known : List (List ℕ)) (params : List (Param A)) (i : ℕ) (param : Param A)
+pub unknown_names-more_yes : {A : Type 0} (known : List (List ℕ)) (params : List (Param A)) (i : ℕ)
+    (param : Param A)
     → i < length params → param ≡ get_or params i param → is_unknown known param ≡ true
     → unknown_names known (take (i + 1) params) ≡ unknown_names known (take i params) ++ param.key ∷ []
 unknown_names-more_yes known params i param within here unknown =
-    let more : filter (is_unknown known) (take (i + 1) params) ≡ filter (is_unknown known) (take i params) ++ param ∷ [] =
-    filter_more (is_unknown known) params i param within ∙ ap (λ p. filter (is_unknown known) (take i params) ++ cond (is_unknown known p) (p ∷ []) []) (sym here) ∙ ap (λ b. filter (is_unknown known) (take i params) ++ cond b (param ∷ []) []) unknown in
-    ap (map (λ p. p.key)) more ∙ map-append (λ p. p.key) (filter (is_unknown known) (take i params)) (param ∷ [])
+    let more : filter (is_unknown known) (take (i + 1) params) ≡ filter (is_unknown known) (take i params)
+    ++ param ∷ [] =
+    filter_more (is_unknown known) params i param within
+    ∙ ap (λ p. filter (is_unknown known) (take i params) ++ cond (is_unknown known p) (p ∷ []) [])
+    (sym here) ∙ ap (λ b. filter (is_unknown known) (take i params) ++ cond b (param ∷ []) []) unknown in
+    ap (map (λ p. p.key)) more
+    ∙ map-append (λ p. p.key) (filter (is_unknown known) (take i params)) (param ∷ [])
 
 -- one parameter more, which is not
-pub unknown_names-more_no : {A : Type 0} (known : List (List ℕ)) (params : List (Param A)) (i : ℕ) (param : Param A)
+pub unknown_names-more_no : {A : Type 0} (known : List (List ℕ)) (params : List (Param A)) (i : ℕ)
+    (param : Param A)
     → i < length params → param ≡ get_or params i param → is_unknown known param ≡ false
     → unknown_names known (take (i + 1) params) ≡ unknown_names known (take i params)
 unknown_names-more_no known params i param within here unknown =
-    let more : filter (is_unknown known) (take (i + 1) params) ≡ filter (is_unknown known) (take i params) ++ [] =
-    filter_more (is_unknown known) params i param within ∙ ap (λ p. filter (is_unknown known) (take i params) ++ cond (is_unknown known p) (p ∷ []) []) (sym here) ∙ ap (λ b. filter (is_unknown known) (take i params) ++ cond b (param ∷ []) []) unknown in
+    let more : filter (is_unknown known) (take (i + 1) params) ≡ filter (is_unknown known) (take i params)
+    ++ [] =
+    filter_more (is_unknown known) params i param within
+    ∙ ap (λ p. filter (is_unknown known) (take i params) ++ cond (is_unknown known p) (p ∷ []) [])
+    (sym here) ∙ ap (λ b. filter (is_unknown known) (take i params) ++ cond b (param ∷ []) []) unknown in
     ap (map (λ p. p.key)) (more ∙ append-nil (filter (is_unknown known) (take i params)))
 
 -- what is found among values is the value of what is found
-pub found-map : {X Y : Type 0} (p : Y → Bool) (f : X → Y) (xs : List X) (found : Option X) → found ≡ find (λ x. p (f x)) xs → option_map f found ≡ find p (map f xs)
+pub found-map : {X Y : Type 0} (p : Y → Bool) (f : X → Y) (xs : List X) (found : Option X)
+    → found ≡ find (λ x. p (f x)) xs → option_map f found ≡ find p (map f xs)
 found-map {X} {Y} p f xs found is = ap (option_map f) is ∙ found-in xs
   where
     found-in : (xs : List X) → option_map f (find (λ x. p (f x)) xs) ≡ find p (map f xs)
     found-in [] = refl
     found-in (x ∷ xs) =
-        elim (p (f x)) as (λ b. option_map f (cond b (Some x) (find (λ x. p (f x)) xs)) ≡ cond b (Some (f x)) (find p (map f xs))) [
+        elim (p (f x)) as (λ b. option_map f (cond b (Some x) (find (λ x. p (f x)) xs)) ≡ cond b (Some (f x))
+        (find p (map f xs))) [
           | true ↦ refl
           | false ↦ found-in xs
         ]

@@ -27,7 +27,10 @@ is_reply {A} kind key value id can few = record {
     mandatory_fit = omega arith;
     advisory_fit = omega arith;
     in_order = refl;
-    params_fit = All-push (FitsParam {A = A}) (first ∷ []) second (All-push (FitsParam {A = A}) [] first no_params (record { key = omega arith; value = id_short id few })) (record { key = can.key_fits; value = can.value_fits });
+    params_fit = All-push (FitsParam {A = A}) (first ∷ []) second
+        (All-push (FitsParam {A = A}) [] first no_params
+        (record { key = omega arith; value = id_short id few }))
+        (record { key = can.key_fits; value = can.value_fits });
     distinct = ((can.key_differs, tt), (tt, tt));
   };
   bare = refl;

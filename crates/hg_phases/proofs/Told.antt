@@ -1,8 +1,11 @@
 -- What the standings of rows tell: their phases, and the roots among them.
-use Rattle.std.proofs.Common.{◌≡◌, ℕ, zero, suc, ◌+◌, ◌-◌, ◌<◌, ◌≤◌, Bool, true, false, cond, List, [], ◌∷◌, ◌++◌, length, take, drop, map, get_or, Option, None, Some, refl, sym, ap, ◌∙◌, subst, arith, filter, length-append}
+use Rattle.std.proofs.Common.{◌≡◌, ℕ, zero, suc, ◌+◌, ◌-◌, ◌<◌, ◌≤◌, Bool, true, false, cond, List, [], ◌∷◌}
+use Rattle.std.proofs.Common.{◌++◌, length, take, drop, map, get_or, Option, None, Some, refl, sym, ap, ◌∙◌}
+use Rattle.std.proofs.Common.{subst, arith, filter, length-append}
 use Rattle.std.specs.List.{range_with_len}
 use Rattle.std.proofs.lemmas.Bool.{cond_both}
-use Rattle.std.proofs.lemmas.List.{append-nil, append_assoc, take-append-drop, take_more, length-map, length-take-le}
+use Rattle.std.proofs.lemmas.List.{append-nil, append_assoc, take-append-drop, take_more, length-map}
+use Rattle.std.proofs.lemmas.List.{length-take-le}
 use Rattle.std.proofs.lemmas.List.{get_or_append_left, get_or-append_right}
 use Rattle.std.proofs.Math.Seq.{take-append_seam}
 use Rattle.hg_types.specs.declared.phase.Phase.{Phase}
@@ -10,7 +13,8 @@ use Rattle.hg_types.specs.declared.phase.Phase.TheVariants.{Public, Draft, Secre
 use Rattle.hg_phases.specs.declared.standing.Standing.{Standing}
 use Rattle.hg_phases.specs.declared.standing.Standing.TheVariants.{PublicOnPublic}
 use Rattle.hg_phases.specs.Roots.{begins}
-use Rattle.hg_phases.specs.Standing.{standing_of, phase_told, phases_told, is_told, told_from, told, standing_at}
+use Rattle.hg_phases.specs.Standing.{standing_of, phase_told, phases_told, is_told, told_from, told}
+use Rattle.hg_phases.specs.Standing.{standing_at}
 use Rattle.hg_phases.proofs.Ranges.{AreWithin, first_within, seam}
 
 -- the phase that went in comes out
@@ -24,7 +28,8 @@ phase_of_standing Secret Draft = refl
 phase_of_standing Secret Secret = refl
 
 -- a row is told as a root where it begins the phase
-pub told_begins : (target phase above : Phase) → is_told target (standing_of phase above) ≡ begins target above phase
+pub told_begins : (target phase above : Phase)
+    → is_told target (standing_of phase above) ≡ begins target above phase
 told_begins Public Public Public = refl
 told_begins Public Public Draft = refl
 told_begins Public Public Secret = refl
@@ -57,24 +62,33 @@ pub told_none : (t : Phase) (n : ℕ) → told_from t n [] ≡ []
 unfolding told_from
 told_none t n = refl
 
-pub told_append : (t : Phase) (n : ℕ) (xs ys : List Standing) → told_from t n (xs ++ ys) ≡ told_from t n xs ++ told_from t (n + length xs) ys
+pub told_append : (t : Phase) (n : ℕ) (xs ys : List Standing) → told_from t n (xs ++ ys) ≡ told_from t n xs
+    ++ told_from t (n + length xs) ys
 unfolding told_from
 told_append t n [] ys = let here : n + 0 ≡ n = omega arith in ap (λ (k : ℕ). told_from t k ys) (sym here)
 told_append t n (x ∷ xs) ys =
     let next : (n + 1) + length xs ≡ n + suc (length xs) = omega arith in
-    let rest : told_from t (n + 1) (xs ++ ys) ≡ told_from t (n + 1) xs ++ told_from t (n + suc (length xs)) ys = told_append t (n + 1) xs ys ∙ ap (λ (k : ℕ). told_from t (n + 1) xs ++ told_from t k ys) next in
-    both (is_told t x) n (told_from t (n + 1) (xs ++ ys)) (told_from t (n + 1) xs) (told_from t (n + suc (length xs)) ys) rest
+    let rest : told_from t (n + 1) (xs ++ ys) ≡ told_from t (n + 1) xs
+    ++ told_from t (n + suc (length xs)) ys = told_append t (n + 1) xs ys
+    ∙ ap (λ (k : ℕ). told_from t (n + 1) xs ++ told_from t k ys) next in
+    both (is_told t x) n (told_from t (n + 1) (xs ++ ys)) (told_from t (n + 1) xs)
+    (told_from t (n + suc (length xs)) ys) rest
   where
-    both : (b : Bool) (k : ℕ) (zs us vs : List ℕ) → zs ≡ us ++ vs → cond b (k ∷ zs) zs ≡ cond b (k ∷ us) us ++ vs
-    both b k zs us vs is = cond_both b (k ∷ zs) zs (λ ws. ws ≡ cond b (k ∷ us) us ++ vs) (λ e. ap (λ (ws : List ℕ). k ∷ ws) is ∙ ap (λ c. cond c (k ∷ us) us ++ vs) (sym e)) (λ e. is ∙ ap (λ c. cond c (k ∷ us) us ++ vs) (sym e))
+    both : (b : Bool) (k : ℕ) (zs us vs : List ℕ) → zs ≡ us ++ vs → cond b (k ∷ zs) zs ≡ cond b (k ∷ us) us
+        ++ vs
+    both b k zs us vs is = cond_both b (k ∷ zs) zs (λ ws. ws ≡ cond b (k ∷ us) us ++ vs)
+        (λ e. ap (λ (ws : List ℕ). k ∷ ws) is ∙ ap (λ c. cond c (k ∷ us) us ++ vs) (sym e)) (λ e. is
+        ∙ ap (λ c. cond c (k ∷ us) us ++ vs) (sym e))
 
 -- one row more
-pub told_push : (t : Phase) (n : ℕ) (xs : List Standing) (x : Standing) → told_from t n (xs ++ x ∷ []) ≡ told_from t n xs ++ cond (is_told t x) ((n + length xs) ∷ []) []
+pub told_push : (t : Phase) (n : ℕ) (xs : List Standing) (x : Standing)
+    → told_from t n (xs ++ x ∷ []) ≡ told_from t n xs ++ cond (is_told t x) ((n + length xs) ∷ []) []
 unfolding told_from
 told_push t n xs x = told_append t n xs (x ∷ [])
 
 -- and where it is a root, or not, among the first rows
-pub told_more : (t : Phase) (xs : List Standing) (i : ℕ) → i < length xs → is_told t (standing_at xs i) ≡ true → told t (take (i + 1) xs) ≡ told t (take i xs) ++ i ∷ []
+pub told_more : (t : Phase) (xs : List Standing) (i : ℕ) → i < length xs → is_told t (standing_at xs i) ≡ true
+    → told t (take (i + 1) xs) ≡ told t (take i xs) ++ i ∷ []
 told_more t xs i within is =
     let at : 0 + length (take i xs) ≡ i = omega (arith, length-take-le i xs (omega (arith, within))) in
     ap (told t) (take_more xs i PublicOnPublic within)
@@ -82,7 +96,8 @@ told_more t xs i within is =
     ∙ ap (λ b. told t (take i xs) ++ cond b ((0 + length (take i xs)) ∷ []) []) is
     ∙ ap (λ (k : ℕ). told t (take i xs) ++ k ∷ []) at
 
-pub told_same : (t : Phase) (xs : List Standing) (i : ℕ) → i < length xs → is_told t (standing_at xs i) ≡ false → told t (take (i + 1) xs) ≡ told t (take i xs)
+pub told_same : (t : Phase) (xs : List Standing) (i : ℕ) → i < length xs
+    → is_told t (standing_at xs i) ≡ false → told t (take (i + 1) xs) ≡ told t (take i xs)
 told_same t xs i within is =
     ap (told t) (take_more xs i PublicOnPublic within)
     ∙ told_push t 0 (take i xs) (standing_at xs i)
@@ -90,18 +105,29 @@ told_same t xs i within is =
     ∙ append-nil (told t (take i xs))
 
 -- how many there are depends on the rows alone
-pub told_count : (t : Phase) (n m : ℕ) (xs : List Standing) → length (told_from t n xs) ≡ length (told_from t m xs)
+pub told_count : (t : Phase) (n m : ℕ) (xs : List Standing)
+    → length (told_from t n xs) ≡ length (told_from t m xs)
 unfolding told_from
 told_count t n m [] = refl
-told_count t n m (x ∷ xs) = both (is_told t x) n m (told_from t (n + 1) xs) (told_from t (m + 1) xs) (told_count t (n + 1) (m + 1) xs)
+told_count t n m (x ∷ xs) =
+    both (is_told t x) n m (told_from t (n + 1) xs) (told_from t (m + 1) xs) (told_count t (n + 1) (m + 1) xs)
   where
-    both : (b : Bool) (j k : ℕ) (us vs : List ℕ) → length us ≡ length vs → length (cond b (j ∷ us) us) ≡ length (cond b (k ∷ vs) vs)
-    both b j k us vs is = cond_both b (j ∷ us) us (λ ws. length ws ≡ length (cond b (k ∷ vs) vs)) (λ e. ap (λ (n : ℕ). suc n) is ∙ ap (λ c. length (cond c (k ∷ vs) vs)) (sym e)) (λ e. is ∙ ap (λ c. length (cond c (k ∷ vs) vs)) (sym e))
+    both : (b : Bool) (j k : ℕ) (us vs : List ℕ) → length us ≡ length vs
+        → length (cond b (j ∷ us) us) ≡ length (cond b (k ∷ vs) vs)
+    both b j k us vs is = cond_both b (j ∷ us) us (λ ws. length ws ≡ length (cond b (k ∷ vs) vs))
+        (λ e. ap (λ (n : ℕ). suc n) is ∙ ap (λ c. length (cond c (k ∷ vs) vs)) (sym e)) (λ e. is
+        ∙ ap (λ c. length (cond c (k ∷ vs) vs)) (sym e))
 
 -- the first rows have no more than all
-pub told_fewer : (t : Phase) (n k : ℕ) (xs : List Standing) → length (told_from t n (take k xs)) ≤ length (told_from t n xs)
+pub told_fewer : (t : Phase) (n k : ℕ) (xs : List Standing)
+    → length (told_from t n (take k xs)) ≤ length (told_from t n xs)
 told_fewer t n k xs =
-    omega (arith, ap (λ ys. length (told_from t n ys)) (take-append-drop k xs), ap length (told_append t n (take k xs) (drop k xs)), length-append (told_from t n (take k xs)) (told_from t (n + length (take k xs)) (drop k xs)))
+    omega (
+      arith,
+      ap (λ ys. length (told_from t n ys)) (take-append-drop k xs),
+      ap length (told_append t n (take k xs) (drop k xs)),
+      length-append (told_from t n (take k xs)) (told_from t (n + length (take k xs)) (drop k xs)),
+    )
 
 -- there are no more than rows
 pub told_at_most : (t : Phase) (n : ℕ) (xs : List Standing) → length (told_from t n xs) ≤ length xs
@@ -109,7 +135,8 @@ unfolding told_from
 told_at_most t n [] = omega arith
 told_at_most t n (x ∷ xs) =
     let rest : length (told_from t (n + 1) xs) ≤ length xs = told_at_most t (n + 1) xs in
-    cond_both (is_told t x) (n ∷ told_from t (n + 1) xs) (told_from t (n + 1) xs) (λ ks. length ks ≤ suc (length xs)) (λ e. omega (arith, rest)) (λ e. omega (arith, rest))
+    cond_both (is_told t x) (n ∷ told_from t (n + 1) xs) (told_from t (n + 1) xs)
+    (λ ks. length ks ≤ suc (length xs)) (λ e. omega (arith, rest)) (λ e. omega (arith, rest))
 
 -- each root is a row
 pub told_within : (t : Phase) (n : ℕ) (xs : List Standing) → AreWithin n (n + length xs) (told_from t n xs)
@@ -117,8 +144,10 @@ unfolding told_from
 told_within t n [] = λ k at. absurd (omega (arith, at))
 told_within t n (x ∷ xs) =
     let rest : AreWithin (n + 1) ((n + 1) + length xs) (told_from t (n + 1) xs) = told_within t (n + 1) xs in
-    let wider : AreWithin n (n + suc (length xs)) (told_from t (n + 1) xs) = λ k at. let w = rest k at in (omega (arith, w.0), omega (arith, w.1)) in
-    cond_both (is_told t x) (n ∷ told_from t (n + 1) xs) (told_from t (n + 1) xs) (AreWithin n (n + suc (length xs)))
+    let wider : AreWithin n (n + suc (length xs)) (told_from t (n + 1) xs) = λ k at. let w = rest k at in
+    (omega (arith, w.0), omega (arith, w.1)) in
+    cond_both (is_told t x) (n ∷ told_from t (n + 1) xs) (told_from t (n + 1) xs)
+    (AreWithin n (n + suc (length xs)))
     (λ is. first_within n (n + suc (length xs)) (told_from t (n + 1) xs) (omega arith) wider)
     (λ is. wider)
 
@@ -129,50 +158,69 @@ pub record IsCount (numbers : List ℕ) (low count : ℕ) : Type 0 where
   pub before : 0 < count → get_or numbers (count - 1) 0 < low
 
 -- the roots of the rows below one, and those of the others
-pub told_split : (t : Phase) (low : ℕ) (xs : List Standing) → low ≤ length xs → told t xs ≡ told t (take low xs) ++ told_from t low (drop low xs)
+pub told_split : (t : Phase) (low : ℕ) (xs : List Standing) → low ≤ length xs
+    → told t xs ≡ told t (take low xs) ++ told_from t low (drop low xs)
 told_split t low xs within =
     let at : 0 + length (take low xs) ≡ low = omega (arith, length-take-le low xs within) in
-    ap (told t) (sym (take-append-drop low xs)) ∙ told_append t 0 (take low xs) (drop low xs) ∙ ap (λ (k : ℕ). told t (take low xs) ++ told_from t k (drop low xs)) at
+    ap (told t) (sym (take-append-drop low xs)) ∙ told_append t 0 (take low xs) (drop low xs)
+    ∙ ap (λ (k : ℕ). told t (take low xs) ++ told_from t k (drop low xs)) at
 
-below_low : (t : Phase) (low : ℕ) (xs : List Standing) → low ≤ length xs → (k : ℕ) → k < length (told t (take low xs)) → get_or (told t (take low xs)) k 0 < low
-below_low t low xs within k k_in = let w = told_within t 0 (take low xs) k k_in in omega (arith, w.1, length-take-le low xs within)
+below_low : (t : Phase) (low : ℕ) (xs : List Standing) → low ≤ length xs → (k : ℕ)
+    → k < length (told t (take low xs)) → get_or (told t (take low xs)) k 0 < low
+below_low t low xs within k k_in = let w = told_within t 0 (take low xs) k k_in in
+    omega (arith, w.1, length-take-le low xs within)
 
-above_low : (t : Phase) (low : ℕ) (xs : List Standing) (k : ℕ) → k < length (told_from t low (drop low xs)) → low ≤ get_or (told_from t low (drop low xs)) k 0
+above_low : (t : Phase) (low : ℕ) (xs : List Standing) (k : ℕ) → k < length (told_from t low (drop low xs))
+    → low ≤ get_or (told_from t low (drop low xs)) k 0
 above_low t low xs k k_in = let w = told_within t low (drop low xs) k k_in in w.0
 
 -- the roots below a row are those before the first that is not below it
-pub cut_is : (t : Phase) (low d : ℕ) (xs : List Standing) → low ≤ length xs → IsCount (told t xs) low d → take d (told t xs) ≡ told t (take low xs)
+pub cut_is : (t : Phase) (low d : ℕ) (xs : List Standing) → low ≤ length xs → IsCount (told t xs) low d
+    → take d (told t xs) ≡ told t (take low xs)
 cut_is t low d xs within count =
     let ys : List ℕ = told t (take low xs) in
     let zs : List ℕ = told_from t low (drop low xs) in
     let all : told t xs ≡ ys ++ zs = told_split t low xs within in
     let moved : IsCount (ys ++ zs) low d = subst (λ us. IsCount us low d) all count in
-    ap (take d) all ∙ seam ys zs low d (below_low t low xs within) (above_low t low xs) moved.within moved.from moved.before
+    ap (take d) all ∙ seam ys zs low d (below_low t low xs within)
+    (above_low t low xs) moved.within moved.from moved.before
 
 -- and there are so many of them
-pub count_is : (t : Phase) (low : ℕ) (xs : List Standing) → low ≤ length xs → IsCount (told t xs) low (length (told t (take low xs)))
+pub count_is : (t : Phase) (low : ℕ) (xs : List Standing) → low ≤ length xs
+    → IsCount (told t xs) low (length (told t (take low xs)))
 count_is t low xs within =
     let ys : List ℕ = told t (take low xs) in
     let zs : List ℕ = told_from t low (drop low xs) in
     subst (λ us. IsCount us low (length ys)) (sym (told_split t low xs within)) (record {
       within = omega (arith, length-append ys zs);
-      from = λ k from k_in. let above = above_low t low xs (k - length ys) (omega (arith, length-append ys zs, k_in, from)) in omega (arith, get_or-append_right ys zs (length ys) k 0 refl from);
-      before = λ some. let below = below_low t low xs within (length ys - 1) (omega (arith, some)) in omega (arith, get_or_append_left ys zs 0 (length ys - 1) (omega (arith, some)));
+      from = λ k from k_in. let above = above_low t low xs (k - length ys)
+          (omega (arith, length-append ys zs, k_in, from)) in
+          omega (arith, get_or-append_right ys zs (length ys) k 0 refl from);
+      before = λ some. let below = below_low t low xs within (length ys - 1) (omega (arith, some)) in
+          omega (arith, get_or_append_left ys zs 0 (length ys - 1) (omega (arith, some)));
     })
 
-pub take_told : (t : Phase) (low : ℕ) (xs : List Standing) → low ≤ length xs → take (length (told t (take low xs))) (told t xs) ≡ told t (take low xs)
-take_told t low xs within = ap (take (length (told t (take low xs)))) (told_split t low xs within) ∙ take-append_seam (told t (take low xs)) (told_from t low (drop low xs))
+pub take_told : (t : Phase) (low : ℕ) (xs : List Standing) → low ≤ length xs
+    → take (length (told t (take low xs))) (told t xs) ≡ told t (take low xs)
+take_told t low xs within = ap (take (length (told t (take low xs)))) (told_split t low xs within)
+    ∙ take-append_seam (told t (take low xs)) (told_from t low (drop low xs))
 
 -- standings that a function gives to rows in turn, and what they tell
-pub told_range : (t : Phase) (f : ℕ → Standing) (p : ℕ → Bool) (low n : ℕ) → ((r : ℕ) → low ≤ r → r < low + n → is_told t (f r) ≡ p r) → told_from t low (map f (range_with_len low n)) ≡ filter p (range_with_len low n)
+pub told_range : (t : Phase) (f : ℕ → Standing) (p : ℕ → Bool) (low n : ℕ)
+    → ((r : ℕ) → low ≤ r → r < low + n → is_told t (f r) ≡ p r)
+    → told_from t low (map f (range_with_len low n)) ≡ filter p (range_with_len low n)
 unfolding told_from
 told_range t f p low zero same = refl
 told_range t f p low (suc n) same =
     let first : is_told t (f low) ≡ p low = same low (omega arith) (omega arith) in
-    let rest : told_from t (low + 1) (map f (range_with_len (low + 1) n)) ≡ filter p (range_with_len (low + 1) n) = told_range t f p (low + 1) n (λ r from below. same r (omega arith) (omega arith)) in
-    ap (λ b. cond b (low ∷ told_from t (low + 1) (map f (range_with_len (low + 1) n))) (told_from t (low + 1) (map f (range_with_len (low + 1) n)))) first
+    let rest : told_from t (low + 1) (map f (range_with_len (low + 1) n)) ≡ filter p
+    (range_with_len (low + 1) n) = told_range t f p (low + 1) n
+    (λ r from below. same r (omega arith) (omega arith)) in
+    ap (λ b. cond b (low ∷ told_from t (low + 1) (map f (range_with_len (low + 1) n)))
+    (told_from t (low + 1) (map f (range_with_len (low + 1) n)))) first
     ∙ ap (λ (ks : List ℕ). cond (p low) (low ∷ ks) ks) rest
 
-pub phases_range : (f : ℕ → Standing) (h : ℕ → Phase) (ks : List ℕ) → ((r : ℕ) → phase_told (f r) ≡ h r) → phases_told (map f ks) ≡ map h ks
+pub phases_range : (f : ℕ → Standing) (h : ℕ → Phase) (ks : List ℕ) → ((r : ℕ) → phase_told (f r) ≡ h r)
+    → phases_told (map f ks) ≡ map h ks
 phases_range f h [] same = refl
 phases_range f h (k ∷ ks) same = λ i. same k i ∷ phases_range f h ks same i

@@ -18,5 +18,6 @@ pub in_turn_lawful : {A : Type 0} → RunsStay A → (of : ℕ → List (Part A)
     → OneByOne run_push of first journal last → IsLawful last
 in_turn_lawful stay of bytes first [] last lawful same = subst IsLawful same lawful
 in_turn_lawful {A} stay of bytes first (p ∷ journal) last lawful all =
-    let next : IsLawful all.0 = subst (λ run. IfOk run (λ (done : Repository A × Done A). IsLawful done.0)) all.2 (stay _ first (of p) lawful (bytes p)) in
+    let next : IsLawful all.0 = subst (λ run. IfOk run (λ (done : Repository A × Done A). IsLawful done.0))
+    all.2 (stay _ first (of p) lawful (bytes p)) in
     in_turn_lawful stay of bytes all.0 journal last next all.3

@@ -1,5 +1,6 @@
 -- A bundle can carry the part that tells why a push was aborted.
-use Rattle.std.proofs.Common.{ℕ, ◌≡◌, ◌≢◌, ◌<◌, List, [], ◌∷◌, ◌++◌, refl, ap, arith, take, length, get_or, true, All}
+use Rattle.std.proofs.Common.{ℕ, ◌≡◌, ◌≢◌, ◌<◌, List, [], ◌∷◌, ◌++◌, refl, ap, arith, take, length, get_or}
+use Rattle.std.proofs.Common.{true, All}
 use Rattle.std.specs.Prelude.{codes, decimal}
 use Rattle.std.proofs.lemmas.List.{length-take}
 use Rattle.std.proofs.lemmas.List.Elements.{All-cons, All-from_recursion}
@@ -10,11 +11,15 @@ use Rattle.hg_params.specs.Header.{AreDistinct, is_kind}
 use Rattle.hg_params.specs.Writing.{FitsParam}
 use Rattle.hg_stream.specs.Written.{CanBeWritten}
 use Rattle.hg_parts.specs.declared.refusal.Refusal.{Refusal}
-use Rattle.hg_parts.specs.declared.refusal.Refusal.TheVariants.{Unsupported, Raced, KeyFailed, BadPart, BadChangeset, UnknownNode, ClientAbort, NoMemory}
+use Rattle.hg_parts.specs.declared.refusal.Refusal.TheVariants.{Unsupported, Raced, KeyFailed, BadPart}
+use Rattle.hg_parts.specs.declared.refusal.Refusal.TheVariants.{BadChangeset, UnknownNode, ClientAbort}
+use Rattle.hg_parts.specs.declared.refusal.Refusal.TheVariants.{NoMemory}
 use Rattle.hg_parts.specs.Refusal.{message_of}
 use Rattle.hg_push.specs.declared.outcome.Reason.{Reason}
-use Rattle.hg_push.specs.declared.outcome.Reason.TheVariants.{Refused, Cut, WrongIndex, NoMemory as without_memory}
-use Rattle.hg_push.specs.Reply.{error_part, telling, unsupported_part, key_part, refusal_part, cut_part, reason_part}
+use Rattle.hg_push.specs.declared.outcome.Reason.TheVariants.{Refused, Cut, WrongIndex}
+use Rattle.hg_push.specs.declared.outcome.Reason.TheVariants.{NoMemory as without_memory}
+use Rattle.hg_push.specs.Reply.{error_part, telling, unsupported_part, key_part, refusal_part, cut_part}
+use Rattle.hg_push.specs.Reply.{reason_part}
 
 short : (value : List ℕ) → length (take 255 value) < 256
 short value = omega (arith, length-take 255 value)
@@ -28,7 +33,8 @@ unfolding AreDistinct
 two_keys key other differ = ((differ, tt), (tt, tt))
 
 -- a part with one parameter, whose value was cut
-one_stands : {A : Type 0} (kind key value : List ℕ) → is_kind kind ≡ true → length kind < 256 → length key < 256 → CanBeWritten {A = A} (error_part kind (telling key value ∷ []))
+one_stands : {A : Type 0} (kind key value : List ℕ) → is_kind kind ≡ true → length kind < 256
+    → length key < 256 → CanBeWritten {A = A} (error_part kind (telling key value ∷ []))
 one_stands kind key value is_one kind_fits key_fits = record {
   header = record {
     kind_is = is_one;
@@ -36,13 +42,16 @@ one_stands kind key value is_one kind_fits key_fits = record {
     in_order = refl;
     mandatory_fit = omega arith;
     advisory_fit = omega arith;
-    params_fit = All-from_recursion FitsParam (telling key value ∷ []) (record { key = key_fits; value = short value }, tt);
+    params_fit = All-from_recursion FitsParam (telling key value ∷ [])
+        (record { key = key_fits; value = short value }, tt);
     distinct = one_key key;
   };
   payload = omega arith;
 }
 
-two_stand : {A : Type 0} (kind key value key' value' : List ℕ) → is_kind kind ≡ true → length kind < 256 → length key < 256 → length key' < 256 → key ≢ key' → CanBeWritten {A = A} (error_part kind (telling key value ∷ telling key' value' ∷ []))
+two_stand : {A : Type 0} (kind key value key' value' : List ℕ) → is_kind kind ≡ true → length kind < 256
+    → length key < 256 → length key' < 256 → key ≢ key'
+    → CanBeWritten {A = A} (error_part kind (telling key value ∷ telling key' value' ∷ []))
 two_stand kind key value key' value' is_one kind_fits key_fits key_fits' differ = record {
   header = record {
     kind_is = is_one;
@@ -50,24 +59,31 @@ two_stand kind key value key' value' is_one kind_fits key_fits key_fits' differ 
     in_order = refl;
     mandatory_fit = omega arith;
     advisory_fit = omega arith;
-    params_fit = All-from_recursion FitsParam (telling key value ∷ telling key' value' ∷ []) (record { key = key_fits; value = short value }, (record { key = key_fits'; value = short value' }, tt));
+    params_fit = All-from_recursion FitsParam (telling key value ∷ telling key' value' ∷ []) (
+      record { key = key_fits; value = short value },
+      (record { key = key_fits'; value = short value' }, tt),
+    );
     distinct = two_keys key key' differ;
   };
   payload = omega arith;
 }
 
-abort_stands : {A : Type 0} (message : List ℕ) → CanBeWritten {A = A} (error_part (codes "ERROR:ABORT") (telling (codes "message") message ∷ []))
+abort_stands : {A : Type 0} (message : List ℕ)
+    → CanBeWritten {A = A} (error_part (codes "ERROR:ABORT") (telling (codes "message") message ∷ []))
 abort_stands message = one_stands _ _ message refl (omega arith) (omega arith)
 
-race_stands : {A : Type 0} (message : List ℕ) → CanBeWritten {A = A} (error_part (codes "ERROR:PUSHRACED") (telling (codes "message") message ∷ []))
+race_stands : {A : Type 0} (message : List ℕ)
+    → CanBeWritten {A = A} (error_part (codes "ERROR:PUSHRACED") (telling (codes "message") message ∷ []))
 race_stands message = one_stands _ _ message refl (omega arith) (omega arith)
 
 unlike : codes "parttype" ≢ codes "params"
 unlike e = let n : 8 ≡ 6 = ap length e in omega (arith, n)
 
-unsupported_stands : {A : Type 0} (kind : List ℕ) (names : List (List ℕ)) → CanBeWritten {A = A} (unsupported_part kind names)
+unsupported_stands : {A : Type 0} (kind : List ℕ) (names : List (List ℕ))
+    → CanBeWritten {A = A} (unsupported_part kind names)
 unsupported_stands kind [] = one_stands _ _ kind refl (omega arith) (omega arith)
-unsupported_stands kind (name ∷ names) = two_stand _ _ kind _ _ refl (omega arith) (omega arith) (omega arith) unlike
+unsupported_stands kind (name ∷ names) =
+    two_stand _ _ kind _ _ refl (omega arith) (omega arith) (omega arith) unlike
 
 first : List ℕ → ℕ
 first bytes = get_or bytes 0 0
@@ -85,7 +101,8 @@ unfolding first
 new_old e = let n : 110 ≡ 111 = ap first e in omega (arith, n)
 
 -- the five names of the parameters of `error:pushkey`
-key_names : AreDistinct (codes "in-reply-to" ∷ codes "namespace" ∷ codes "key" ∷ codes "new" ∷ codes "old" ∷ [])
+key_names : AreDistinct (codes "in-reply-to" ∷ codes "namespace" ∷ codes "key" ∷ codes "new" ∷ codes "old"
+    ∷ [])
 unfolding AreDistinct
 key_names = (
   ((λ e. cc), ((λ e. cc), ((λ e. cc), ((λ e. cc), tt)))),
@@ -132,8 +149,10 @@ refusal_stands (Unsupported place kind params) = unsupported_stands kind params
 refusal_stands (Raced place text) = race_stands (message_of text)
 refusal_stands (KeyFailed place id call) = key_stands id call
 refusal_stands (BadPart place) = abort_stands (codes "part " ++ decimal place ++ codes " is malformed")
-refusal_stands (BadChangeset place fault) = abort_stands (codes "part " ++ decimal place ++ codes " holds a bad changeset")
-refusal_stands (UnknownNode place) = abort_stands (codes "part " ++ decimal place ++ codes " names an unknown node")
+refusal_stands (BadChangeset place fault) =
+    abort_stands (codes "part " ++ decimal place ++ codes " holds a bad changeset")
+refusal_stands (UnknownNode place) =
+    abort_stands (codes "part " ++ decimal place ++ codes " names an unknown node")
 refusal_stands (ClientAbort place) = abort_stands (codes "client aborted")
 refusal_stands NoMemory = abort_stands (codes "out of memory")
 
@@ -149,4 +168,5 @@ reason_stands WrongIndex = abort_stands (codes "bad end mark")
 reason_stands without_memory = abort_stands (codes "out of memory")
 
 pub reason_sent : {A : Type 0} (reason : Reason (Refusal A)) → All CanBeWritten (reason_part reason ∷ [])
-reason_sent reason = All-cons CanBeWritten (reason_part reason) [] (reason_stands reason) (λ k d within. absurd (omega arith))
+reason_sent reason = All-cons CanBeWritten (reason_part reason) [] (reason_stands reason)
+    (λ k d within. absurd (omega arith))

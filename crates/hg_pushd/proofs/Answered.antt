@@ -1,5 +1,6 @@
 -- One bundle, from the opening of its push to the status.
-use Rattle.std.proofs.Common.{ℕ, Bool, true, ◌≡◌, ◌≤◌, ◌<◌, ◌^◌, List, [], sym, ◌∙◌, ap, subst, arith, length, ◌++◌}
+use Rattle.std.proofs.Common.{ℕ, Bool, true, ◌≡◌, ◌≤◌, ◌<◌, ◌^◌, List, [], sym, ◌∙◌, ap, subst, arith, length}
+use Rattle.std.proofs.Common.{◌++◌}
 use Rattle.std.specs.List.{concat}
 use Rattle.hg_types.specs.declared.part.Part.{Part}
 use Rattle.hg_types.specs.declared.limits.Limits.{Limits}
@@ -35,42 +36,61 @@ allowed = record {
 
 -- the law `parts_are_few`
 abbrev pub PartsAreFew : Type 0 → Type 0
-PartsAreFew A = (limits : Limits) (state : State) (bytes : List ℕ) (parts : List (Part A)) → Tells state limits bytes parts → length parts ≤ limits.parts
+PartsAreFew A = (limits : Limits) (state : State) (bytes : List ℕ) (parts : List (Part A))
+    → Tells state limits bytes parts → length parts ≤ limits.parts
 
-pub few_received : {A : Type 0} → PartsAreFew A → (before after : Input) (ending : Ending) (parts : List (Part A)) → Received standard_limits before after ending parts → length parts < 2 ^ 32
-few_received law before after ending parts r = omega (arith, law standard_limits (state_at ending) (concat r.pieces ++ r.taken) parts r.tells)
+pub few_received : {A : Type 0} → PartsAreFew A
+    → (before after : Input) (ending : Ending) (parts : List (Part A))
+    → Received standard_limits before after ending parts → length parts < 2 ^ 32
+few_received law before after ending parts r =
+    omega (arith, law standard_limits (state_at ending) (concat r.pieces ++ r.taken) parts r.tells)
 
 -- an opened push was received, run and ended
-pub takes : {A : Type 0} (input left : Input) (old mid new : BookOf A) (push : ℕ) (ending : Ending) (parts : List (Part A)) (how : Outcome (Done A) (Refusal A)) → Received standard_limits input left ending parts
-    → Opens old push mid → is_opened mid push ≡ true → ((first : RepositoryOf A) (h : History A) → Holds run_push first h old → Holds run_push first h mid) → new.next ≡ mid.next
-    → ((first : RepositoryOf A) (before : History A) → HasTaken first before push mid [] → Leaves first before push (items_of push parts (mark_of ending)) how new) → Takes input left old new ending how
+pub takes : {A : Type 0} (input left : Input) (old mid new : BookOf A) (push : ℕ) (ending : Ending)
+    (parts : List (Part A)) (how : Outcome (Done A) (Refusal A))
+    → Received standard_limits input left ending parts
+    → Opens old push mid → is_opened mid push ≡ true
+    → ((first : RepositoryOf A) (h : History A) → Holds run_push first h old → Holds run_push first h mid)
+    → new.next ≡ mid.next
+    → ((first : RepositoryOf A) (before : History A) → HasTaken first before push mid []
+    → Leaves first before push (items_of push parts (mark_of ending)) how new)
+    → Takes input left old new ending how
 takes {A} input left old mid new push ending parts how received opens opened holds next leaves = record {
   parts = parts;
   received = received;
   next = next ∙ ap (λ (b : BookOf A). b.next) opens.1;
-  leaves = λ first before idle. subst (λ (p : ℕ). Leaves first before p (items_of p parts (mark_of ending)) how new) opens.0 (leaves first before (begins first before push old mid idle opens opened holds));
+  leaves = λ first before idle.
+      subst (λ (p : ℕ). Leaves first before p (items_of p parts (mark_of ending)) how new) opens.0
+      (leaves first before (begins first before push old mid idle opens opened holds));
 }
 
 -- a book over the empty repository is idle, and its first push has the number 0
-pub begins_empty : {A : Type 0} (publishing : Bool) (repo : RepositoryOf A) (b : BookOf A) → repo ≡ empty_repository publishing → (b.first_push ≡ repo.settings.first_push) × (b.next ≡ repo.settings.first_push) → b.rows ≡ []
+pub begins_empty : {A : Type 0} (publishing : Bool) (repo : RepositoryOf A) (b : BookOf A)
+    → repo ≡ empty_repository publishing → (b.first_push ≡ repo.settings.first_push)
+    × (b.next ≡ repo.settings.first_push) → b.rows ≡ []
     → Holds run_push repo [] b → (b.next ≡ 0) × IsIdle {A = A} (empty_repository publishing) [] b
 begins_empty {A} publishing repo b is numbers rows holds = (
   numbers.1 ∙ ap (λ (r : RepositoryOf A). r.settings.first_push) is,
   record { holds = subst (λ (r : RepositoryOf A). Holds run_push r [] b) is holds; rows = rows },
 )
 
-pub answers : {A : Type 0} (publishing : Bool) (input input_after : Input) (output output_after : Output) (status : ℕ) (old new : BookOf A) (ending : Ending) (how : Outcome (Done A) (Refusal A)) (sending : Sending) → old.next ≡ 0
+pub answers : {A : Type 0} (publishing : Bool) (input input_after : Input) (output output_after : Output)
+    (status : ℕ) (old new : BookOf A) (ending : Ending) (how : Outcome (Done A) (Refusal A))
+    (sending : Sending) → old.next ≡ 0
     → IsIdle {A = A} (empty_repository publishing) [] old → Takes input input_after old new ending how
-    → length (reply_of how) ≤ greatest_reply → IsSentTo sending output output_after (reply_of how) → status ≡ status_of ending how sending
+    → length (reply_of how) ≤ greatest_reply → IsSentTo sending output output_after (reply_of how)
+    → status ≡ status_of ending how sending
     → Answered A publishing input input_after output output_after status
-answers {A} publishing input input_after output output_after status old new ending how sending none idle t short sent is = record {
-  ending = ending;
-  parts = t.parts;
-  received = t.received;
-  how = how;
-  ends = subst (λ (p : ℕ). Ends {A = A} (empty_repository publishing) [] p (items_of p t.parts (mark_of ending)) how) none (t.leaves (empty_repository publishing) [] idle).ends;
-  short = short;
-  sending = sending;
-  sent = sent;
-  status_is = is;
-}
+answers {A} publishing input input_after output output_after status old new ending how sending none idle t
+    short sent is = record {
+      ending = ending;
+      parts = t.parts;
+      received = t.received;
+      how = how;
+      ends = subst (λ (p : ℕ). Ends {A = A} (empty_repository publishing) [] p
+          (items_of p t.parts (mark_of ending)) how) none (t.leaves (empty_repository publishing) [] idle).ends;
+      short = short;
+      sending = sending;
+      sent = sent;
+      status_is = is;
+    }

@@ -13,7 +13,8 @@ use Rattle.hg_parts.specs.declared.refusal.Refusal.{Refusal}
 use Rattle.hg_push.specs.declared.outcome.Outcome.{Outcome}
 use Rattle.hg_push.specs.declared.outcome.Outcome.TheVariants.{Done as done_with, Aborted}
 use Rattle.hg_push.specs.declared.outcome.Reason.{Reason}
-use Rattle.hg_push.specs.History.{History, is_closed, is_of, outcome, part_in, parts_after, parts as ran_parts}
+use Rattle.hg_push.specs.History.{History, is_closed, is_of, outcome, part_in, parts_after}
+use Rattle.hg_push.specs.History.{parts as ran_parts}
 use Rattle.hg_push.specs.Lengths.{greatest_reply, most_parts}
 use Rattle.hg_push.specs.Reply.{CanBeTold, reply_of}
 use Rattle.hg_push.specs.Run.{RepositoryOf, run_push}
@@ -73,7 +74,8 @@ few_parts p (x ∷ before) =
     let kept : length (ran_parts p before) ≤ most = omega (arith, had, more) in
     let grown : length (ran_parts p before ++ part_in x.item.what) ≤ most =
     omega (arith, length-append (ran_parts p before) (part_in x.item.what), had, more) in
-    let mine = either x.refused (ran_parts p before) (ran_parts p before ++ part_in x.item.what) most kept grown in
+    let mine = either x.refused (ran_parts p before) (ran_parts p before
+    ++ part_in x.item.what) most kept grown in
     let after = parts_after (ran_parts p before) x in
     either (is_of p x && not (is_closed p before)) after (ran_parts p before) most mine kept
 
@@ -89,12 +91,15 @@ pub reply_short : {A : Type 0} → DoneAreShort A → AbortedAreShort A → Part
     (how : Outcome (Done A) (Refusal A)) → Received standard_limits input left ending parts
     → Ends first [] push (items_of push parts (mark_of ending)) how → length (reply_of how) ≤ greatest_reply
 reply_short {A} done_short aborted_short law first push input left ending parts how received e =
-    let count : length parts ≤ most_parts = law standard_limits (state_at ending) (concat received.pieces ++ received.taken) parts received.tells in
+    let count : length parts ≤ most_parts = law standard_limits (state_at ending) (concat received.pieces
+    ++ received.taken) parts received.tells in
     let all = given_parts push 0 (length parts) parts (mark_of ending) (mark_empty ending) in
     let history = e.places ++ [] in
     let items : items_in history ≡ items_of push parts (mark_of ending) =
     ap (λ (h : History A). items_in h) (append-nil e.places) ∙ e.items_are in
     let same : length (all_parts (items_in history)) ≡ length parts =
-    ap (λ (items : List (Item A)). length (all_parts items)) items ∙ ap (λ (ps : List (Part A)). length ps) all in
+    ap (λ (items : List (Item A)). length (all_parts items)) items
+    ∙ ap (λ (ps : List (Part A)). length ps) all in
     let ran = few_parts push history in
-    outcome_short done_short aborted_short first push history how e.ended e.told (omega (arith, ran, same, count))
+    outcome_short done_short aborted_short first push history how e.ended e.told
+    (omega (arith, ran, same, count))

@@ -10,7 +10,8 @@ use Rattle.hg_parts.specs.Repository.{Repository}
 use Rattle.hg_parts.specs.Handled.{Handled, Outcome}
 use Rattle.hg_parts.specs.Handle.{handle}
 use Rattle.hg_repo.specs.declared.done.Done.{Done}
-use Rattle.hg_repo.specs.Run.{Progress, start, with_reply, progress_after, and_then, run_from, run_of, done_by}
+use Rattle.hg_repo.specs.Run.{Progress, start, with_reply, progress_after, and_then, run_from, run_of}
+use Rattle.hg_repo.specs.Run.{done_by}
 
 -- the law `replies_have_no_payload`
 abbrev pub LeaveBare : Type 0 → Type 0

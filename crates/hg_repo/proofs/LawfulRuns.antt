@@ -21,11 +21,13 @@ module _ {A : Type 0} (stay : PartsStay A) (source : Source) where
 
   after_part : (result : Outcome A) (next : Handled A → Result (Progress A) (Refusal A))
       → IfOk result (λ given. IsLawful given.repo)
-      → ((given : Handled A) → IsLawful given.repo → ComesLawful (next given)) → ComesLawful (and_then result next)
+      → ((given : Handled A) → IsLawful given.repo → ComesLawful (next given))
+      → ComesLawful (and_then result next)
   after_part (Ok given) next lawful rest = rest given lawful
   after_part (Err refusal) next lawful rest = tt
 
-  comes_lawful : (place : ℕ) (progress : Progress A) (parts : List (Part A)) → IsLawful progress.repo → HaveBytes parts
+  comes_lawful : (place : ℕ) (progress : Progress A) (parts : List (Part A)) → IsLawful progress.repo
+      → HaveBytes parts
       → ComesLawful (run_from source place progress parts)
   comes_lawful place progress [] lawful bytes = lawful
   comes_lawful place progress (part ∷ parts) lawful bytes =
@@ -43,4 +45,5 @@ module _ {A : Type 0} (stay : PartsStay A) (source : Source) where
       → IfOk (run_of source repo parts) (λ done. IsLawful done.0)
   unfolding run_of
   run_lawful repo parts lawful bytes =
-      done_lawful (length parts) (run_from source 0 (start repo) parts) (comes_lawful 0 (start repo) parts lawful bytes)
+      done_lawful (length parts) (run_from source 0 (start repo) parts)
+      (comes_lawful 0 (start repo) parts lawful bytes)

@@ -5,5 +5,6 @@ use Rattle.hg_types.specs.declared.item.Taken.{Taken}
 use Rattle.hg_serve.specs.Histories.{newest_first}
 
 -- one place more comes first as the book tells it
-pub one_more : {A : Type 0} (h : List (Taken A)) (e : Taken A) → newest_first (h ++ e ∷ []) ≡ e ∷ newest_first h
+pub one_more : {A : Type 0} (h : List (Taken A)) (e : Taken A) → newest_first (h ++ e ∷ []) ≡ e
+    ∷ newest_first h
 one_more h e = reverse-append h (e ∷ [])

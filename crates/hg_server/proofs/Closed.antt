@@ -16,7 +16,8 @@ pub closes : {A : Type 0} (first named repo : Repository A) (before after : Outp
     → first ≡ named → serial_run named history ≡ record { repo = repo; journal = journal } → shown ≡ journal
     → Sends sending count before after (closing_text repo shown) → status ≡ status_of failed no_memory sending
     → Ends first before after status
-closes first named repo before after status count history journal shown sending failed no_memory same run all sent is =
+closes first named repo before after status count history journal shown sending failed no_memory same run all
+    sent is =
     inr (record {
       history = history;
       repo = repo;

@@ -1,4 +1,5 @@
--- A stream read block by block and chunk by chunk: its places, where a whole block leads, and how a run of them may end.
+-- A stream read block by block and chunk by chunk: its places, where a whole block leads, and how a run of
+-- them may end.
 use Rattle.std.specs.Prelude.{◌≡◌, ℕ, ◌<◌, ◌≤◌, ◌^◌, List, [], ◌∷◌, ◌++◌, length, ◌⊎◌}
 use Rattle.std.specs.List.{flat_map}
 use Rattle.hg_types.specs.declared.limits.Limits.{Limits}
@@ -11,7 +12,9 @@ use Rattle.hg_params.specs.declared.fault.ParamFault.{ParamFault}
 use Rattle.hg_params.specs.Header.{IsHeaderFault}
 use Rattle.hg_params.specs.StreamParams.{AreStreamParams, IsStreamParamsFault}
 use Rattle.hg_stream.specs.declared.fault.StreamFault.{StreamFault}
-use Rattle.hg_stream.specs.declared.fault.StreamFault.TheVariants.{NegativeSize, Params, Header, Chunk, NestedInterrupt, ClientAbort, Unsupported, TooLarge}
+use Rattle.hg_stream.specs.declared.fault.StreamFault.TheVariants.{NegativeSize, Params, Header, Chunk}
+use Rattle.hg_stream.specs.declared.fault.StreamFault.TheVariants.{NestedInterrupt, ClientAbort, Unsupported}
+use Rattle.hg_stream.specs.declared.fault.StreamFault.TheVariants.{TooLarge}
 use Rattle.hg_stream.specs.declared.interrupting.Verdict.{Verdict}
 use Rattle.hg_stream.specs.declared.interrupting.Verdict.TheVariants.{Dropped, Aborts, Refused}
 use Rattle.hg_stream.specs.Block.{sized, IsBlock, IsPartialBlock, IsNegativeSize, IsOversize}
@@ -22,7 +25,8 @@ use Rattle.hg_stream.specs.Faults.{IsChunkFault}
 
 -- ---- places
 
--- behind the magic; behind whole frames; in a payload, behind chunks with that data; behind a size of -1 there; and in the
+-- behind the magic; behind whole frames; in a payload, behind chunks with that data; behind a size of -1
+-- there; and in the
 -- payload of an interrupting part, behind chunks with that data
 pub data Place (A : Type 0) : Type 0 where
   AtParams : Place A
@@ -50,7 +54,8 @@ pub record TakesParams {A : Type 0} (limits : Limits) (taken : List ℕ) (next :
   pub spelled : taken ≡ sized block
   pub leads : next ≡ AtHeader []
 
-pub record TakesHeader {A : Type 0} (limits : Limits) (parts : List (Part A)) (taken : List ℕ) (next : Place A) : Type 0 where
+pub record TakesHeader {A : Type 0} (limits : Limits) (parts : List (Part A)) (taken : List ℕ)
+    (next : Place A) : Type 0 where
   pub few : length parts < limits.parts
   pub header : List ℕ
   pub head : Head A
@@ -65,7 +70,8 @@ pub record IsNextChunk (limits : Limits) (whole taken chunk : List ℕ) : Type 0
   pub spelled : taken ≡ chunk_bytes chunk
 
 -- an interrupting part's header, which is dropped
-pub record TakesInnerHeader {A : Type 0} (parts : List (Part A)) (head : Head A) (payload taken : List ℕ) (next : Place A) : Type 0 where
+pub record TakesInnerHeader {A : Type 0} (parts : List (Part A)) (head : Head A) (payload taken : List ℕ)
+    (next : Place A) : Type 0 where
   pub header : List ℕ
   pub inner_head : Head A
   pub reads : HasHead header inner_head
@@ -74,20 +80,29 @@ pub record TakesInnerHeader {A : Type 0} (parts : List (Part A)) (head : Head A)
   pub leads : next ≡ AtInnerChunk parts head payload []
 
 -- in a payload: a chunk, an interruption, the end of the payload
-pub data TakesChunk {A : Type 0} (limits : Limits) (parts : List (Part A)) (head : Head A) (payload taken : List ℕ) (next : Place A) : Type 0 where
-  next_chunk : (c : List ℕ) → IsNextChunk limits payload taken c → next ≡ AtChunk parts head (payload ++ c) → TakesChunk limits parts head payload taken next
-  pause : taken ≡ interruption → next ≡ AtInnerHeader parts head payload → TakesChunk limits parts head payload taken next
-  payload_end : taken ≡ closing → next ≡ AtHeader (parts ++ part_of head payload ∷ []) → TakesChunk limits parts head payload taken next
+pub data TakesChunk {A : Type 0} (limits : Limits) (parts : List (Part A)) (head : Head A)
+    (payload taken : List ℕ) (next : Place A) : Type 0 where
+  next_chunk : (c : List ℕ) → IsNextChunk limits payload taken c → next ≡ AtChunk parts head (payload ++ c)
+      → TakesChunk limits parts head payload taken next
+  pause : taken ≡ interruption → next ≡ AtInnerHeader parts head payload
+      → TakesChunk limits parts head payload taken next
+  payload_end : taken ≡ closing → next ≡ AtHeader (parts ++ part_of head payload ∷ [])
+      → TakesChunk limits parts head payload taken next
 
 -- behind an interruption: nothing comes between, or a part
-pub data TakesInner {A : Type 0} (parts : List (Part A)) (head : Head A) (payload taken : List ℕ) (next : Place A) : Type 0 where
+pub data TakesInner {A : Type 0} (parts : List (Part A)) (head : Head A) (payload taken : List ℕ)
+    (next : Place A) : Type 0 where
   no_part : taken ≡ closing → next ≡ AtChunk parts head payload → TakesInner parts head payload taken next
   a_part : TakesInnerHeader parts head payload taken next → TakesInner parts head payload taken next
 
 -- in the payload of an interrupting part: a chunk, its end
-pub data TakesInnerChunk {A : Type 0} (limits : Limits) (parts : List (Part A)) (head : Head A) (payload inner taken : List ℕ) (next : Place A) : Type 0 where
-  inner_chunk : (c : List ℕ) → IsNextChunk limits inner taken c → next ≡ AtInnerChunk parts head payload (inner ++ c) → TakesInnerChunk limits parts head payload inner taken next
-  inner_end : taken ≡ closing → next ≡ AtChunk parts head payload → TakesInnerChunk limits parts head payload inner taken next
+pub data TakesInnerChunk {A : Type 0} (limits : Limits) (parts : List (Part A)) (head : Head A)
+    (payload inner taken : List ℕ) (next : Place A) : Type 0 where
+  inner_chunk : (c : List ℕ) → IsNextChunk limits inner taken c
+      → next ≡ AtInnerChunk parts head payload (inner ++ c)
+      → TakesInnerChunk limits parts head payload inner taken next
+  inner_end : taken ≡ closing → next ≡ AtChunk parts head payload
+      → TakesInnerChunk limits parts head payload inner taken next
 
 -- these bytes, a whole block or chunk, lead from the place to the next
 abbrev pub Leads : {A : Type 0} → Limits → Place A → List ℕ → Place A → Type 0
@@ -95,7 +110,8 @@ Leads limits AtParams taken next = TakesParams limits taken next
 Leads limits (AtHeader parts) taken next = TakesHeader limits parts taken next
 Leads limits (AtChunk parts head payload) taken next = TakesChunk limits parts head payload taken next
 Leads limits (AtInnerHeader parts head payload) taken next = TakesInner parts head payload taken next
-Leads limits (AtInnerChunk parts head payload inner) taken next = TakesInnerChunk limits parts head payload inner taken next
+Leads limits (AtInnerChunk parts head payload inner) taken next =
+    TakesInnerChunk limits parts head payload inner taken next
 
 -- ---- runs
 
@@ -107,7 +123,8 @@ pub record Step (A : Type 0) : Type 0 where
 -- the steps lead from one place to another
 abbrev pub IsRun : {A : Type 0} → Limits → Place A → List (Step A) → Place A → Type 0
 IsRun limits from [] to = from ≡ to
-IsRun limits from (step ∷ steps) to = Leads limits from step.taken step.place × IsRun limits step.place steps to
+IsRun limits from (step ∷ steps) to = Leads limits from step.taken step.place
+    × IsRun limits step.place steps to
 
 abbrev pub run_bytes : {A : Type 0} → List (Step A) → List ℕ
 run_bytes steps = flat_map (λ step. step.taken) steps
@@ -172,11 +189,15 @@ pub data FailsInner (A : Type 0) (rest : List ℕ) (fault : StreamFault) : Type 
 
 -- these bytes decide that at the place
 abbrev pub DecidesAt : {A : Type 0} → Decision → Limits → Place A → List ℕ → Type 0
-DecidesAt (Faulty fault) limits AtParams rest = RefusesSize limits.params rest fault ⊎ RefusesParams limits.params rest fault
-DecidesAt (Faulty fault) limits (AtHeader parts) rest = RefusesSize (header_room limits parts) rest fault ⊎ RefusesHeader (header_room limits parts) rest fault
-DecidesAt (Faulty fault) limits (AtChunk parts head payload) rest = RefusesChunk limits.payload payload rest fault
+DecidesAt (Faulty fault) limits AtParams rest = RefusesSize limits.params rest fault
+    ⊎ RefusesParams limits.params rest fault
+DecidesAt (Faulty fault) limits (AtHeader parts) rest = RefusesSize (header_room limits parts) rest fault
+    ⊎ RefusesHeader (header_room limits parts) rest fault
+DecidesAt (Faulty fault) limits (AtChunk parts head payload) rest =
+    RefusesChunk limits.payload payload rest fault
 DecidesAt {A} (Faulty fault) limits (AtInnerHeader parts head payload) rest = FailsInner A rest fault
-DecidesAt (Faulty fault) limits (AtInnerChunk parts head payload inner) rest = RefusesChunk limits.payload inner rest fault ⊎ ((rest ≡ interruption) × (fault ≡ NestedInterrupt))
+DecidesAt (Faulty fault) limits (AtInnerChunk parts head payload inner) rest =
+    RefusesChunk limits.payload inner rest fault ⊎ ((rest ≡ interruption) × (fault ≡ NestedInterrupt))
 DecidesAt Closed limits (AtHeader parts) rest = rest ≡ closing
 DecidesAt Closed limits place rest = ⊥
 
@@ -193,7 +214,8 @@ pub record ReadsOn {A : Type 0} (limits : Limits) (bytes : List ℕ) (parts : Li
   pub spelled : bytes ≡ magic ++ (run_bytes steps ++ rest)
 
 -- behind the magic a run, and then what decides
-pub record Settles {A : Type 0} (decision : Decision) (limits : Limits) (bytes : List ℕ) (parts : List (Part A)) : Type 0 where
+pub record Settles {A : Type 0} (decision : Decision) (limits : Limits) (bytes : List ℕ)
+    (parts : List (Part A)) : Type 0 where
   pub steps : List (Step A)
   pub place : Place A
   pub rest : List ℕ

@@ -8,4 +8,7 @@ returns-in_err-files-clause-fault c =
     rw (p.1, p.2) (manifests_broken c.in_err-files.field-0.0 c.args.bytes.now c.in_err-files.ensures.fault)
 
 pub returns-clause-fault : goal.returns-clause-fault
-returns-clause-fault c = err_weaker c.skip_files.result _ _ (λ fault broken. files_broken fault c.args.bytes.now c.in_ok-files.files.now c.in_ok-files.ensures.ok broken) c.skip_files.ensures.fault
+returns-clause-fault c =
+    err_weaker c.skip_files.result _ _
+    (λ fault broken. files_broken fault c.args.bytes.now c.in_ok-files.files.now c.in_ok-files.ensures.ok
+    broken) c.skip_files.ensures.fault

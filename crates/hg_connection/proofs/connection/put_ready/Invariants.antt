@@ -7,7 +7,9 @@ use Rattle.hg_connection.proofs.connection.put_ready.Given as goal
 
 abbrev pub invariant-parts : goal.invariant-parts
 invariant-parts g l = record {
-  carries : (bytes : List ℕ) (given : List (Part g.row.A.Denot)) → Carries l.server l.fn.sender l.fn.bundle bytes given → (all : List (Part g.row.A.Denot)) × Carries l.server l.sender l.bundle bytes all;
+  carries : (bytes : List ℕ) (given : List (Part g.row.A.Denot))
+      → Carries l.server l.fn.sender l.fn.bundle bytes given → (all : List (Part g.row.A.Denot))
+      × Carries l.server l.sender l.bundle bytes all;
   goes : GoesOn l.fn.sender l.sender l.sender.putter.put;
   state : state_of l.bundle ≡ state_of l.fn.bundle;
   limits : limits_of l.bundle ≡ limits_of l.fn.bundle;

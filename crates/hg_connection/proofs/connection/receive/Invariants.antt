@@ -5,6 +5,7 @@ use Rattle.hg_connection.proofs.connection.receive.Given as goal
 
 abbrev pub invariant-turns : goal.invariant-turns
 invariant-turns g l = record {
-  reads : Reads l.server l.fn.inbox l.inbox (g.I.Reader.told l.fn.reader) (g.I.Reader.told l.reader) l.fn.sender l.sender l.bundle l._turn;
+  reads : Reads l.server l.fn.inbox l.inbox (g.I.Reader.told l.fn.reader)
+      (g.I.Reader.told l.reader) l.fn.sender l.sender l.bundle l._turn;
   limits : limits_of l.bundle ≡ limits_of l.fn.bundle;
 }

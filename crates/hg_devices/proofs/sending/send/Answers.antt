@@ -5,10 +5,16 @@ use Rattle.hg_devices.proofs.Writing.{breaks_off, finishes}
 use Rattle.hg_devices.proofs.sending.send.Goals as goal
 
 pub returns-then-sent-bytes : goal.returns-then-sent-bytes
-returns-then-sent-bytes g c = breaks_off _ _ c.args.bytes.now c.write_each-sent.result c.write_each-sent.ensures (omega (arith, c.if-sent-bytes.true))
+returns-then-sent-bytes g c =
+    breaks_off _ _ c.args.bytes.now c.write_each-sent.result c.write_each-sent.ensures
+    (omega (arith, c.if-sent-bytes.true))
 
 pub returns-in-Ok : goal.returns-in-Ok
-returns-in-Ok g c = finishes Whole _ _ _ c.args.bytes.now c.write_each-sent.result Flushed c.write_each-sent.ensures (omega (arith, c.if-sent-bytes.false)) c.in-Ok.ensures refl (λ pieces. (refl, refl))
+returns-in-Ok g c = finishes Whole _ _ _ c.args.bytes.now c.write_each-sent.result Flushed
+    c.write_each-sent.ensures (omega (arith, c.if-sent-bytes.false)) c.in-Ok.ensures refl
+    (λ pieces. (refl, refl))
 
 pub returns-in-Err : goal.returns-in-Err
-returns-in-Err g c = finishes Broken _ _ _ c.args.bytes.now c.write_each-sent.result NotFlushed c.write_each-sent.ensures (omega (arith, c.if-sent-bytes.false)) c.in-Err.ensures refl (λ pieces. inr (refl, refl))
+returns-in-Err g c = finishes Broken _ _ _ c.args.bytes.now c.write_each-sent.result NotFlushed
+    c.write_each-sent.ensures (omega (arith, c.if-sent-bytes.false)) c.in-Err.ensures refl
+    (λ pieces. inr (refl, refl))

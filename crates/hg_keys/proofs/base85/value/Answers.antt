@@ -3,7 +3,8 @@ use Rattle.hg_keys.proofs.Tables.{value_at, value_small}
 use Rattle.hg_keys.proofs.base85.value.Goals as goal
 
 pub returns-clause-value : goal.returns-clause-value
-returns-clause-value c = let less : c.args.byte < 256 = omega arith in c.from.ensures ∙ value_at c.args.byte less
+returns-clause-value c = let less : c.args.byte < 256 = omega arith in c.from.ensures
+    ∙ value_at c.args.byte less
 
 pub returns-clause-small : goal.returns-clause-small
 returns-clause-small c =

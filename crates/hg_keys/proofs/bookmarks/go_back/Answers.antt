@@ -11,6 +11,9 @@ loop-change-preserved g c =
     let pairs = c.loop-change.pairs.items in
     let popped = c.in-Some.ensures.items in
     record {
-      base = ap (base_of rest) c.undo.ensures.pairs ∙ base_popped changes rest c.in-Some.change pairs popped ∙ c.loop-change.invariant.base;
-      back = back_popped changes rest c.in-Some.change pairs c.undo.new.pairs.items (vec_capacity c.loop-change.pairs) (vec_capacity c.undo.new.pairs) popped c.undo.ensures.pairs c.undo.ensures.room c.loop-change.invariant.back;
+      base = ap (base_of rest) c.undo.ensures.pairs ∙ base_popped changes rest c.in-Some.change pairs popped
+          ∙ c.loop-change.invariant.base;
+      back = back_popped changes rest c.in-Some.change pairs c.undo.new.pairs.items
+          (vec_capacity c.loop-change.pairs) (vec_capacity c.undo.new.pairs) popped c.undo.ensures.pairs
+          c.undo.ensures.room c.loop-change.invariant.back;
     }

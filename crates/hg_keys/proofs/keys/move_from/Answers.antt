@@ -9,7 +9,9 @@ pub returns-then-number-2-clause-count : goal.returns-then-number-2-clause-count
 returns-then-number-2-clause-count g c =
     elim c.match-rev.branch [
       | in-Some+in_ok-advance-in-Some w ↦
-          ap (λ (m : Marked). length m.current.phases) w.phases-is ∙ ap length w.in_ok-advance-in-Some.ensures.ok ∙ length_advanced _ _ _ _ ∙ c.requires.count
+          ap (λ (m : Marked). length m.current.phases) w.phases-is
+          ∙ ap length w.in_ok-advance-in-Some.ensures.ok ∙ length_advanced _ _ _ _ ∙ c.requires.count
       | in-None+in_ok-advance-in-None w ↦
-          ap (λ (m : Marked). length m.current.phases) w.phases-is ∙ ap length w.in_ok-advance-in-None.ensures.ok ∙ length_advanced _ _ _ _ ∙ c.requires.count
+          ap (λ (m : Marked). length m.current.phases) w.phases-is
+          ∙ ap length w.in_ok-advance-in-None.ensures.ok ∙ length_advanced _ _ _ _ ∙ c.requires.count
     ]

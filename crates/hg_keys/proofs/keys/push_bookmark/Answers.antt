@@ -11,6 +11,9 @@ pub returns-clause-known : goal.returns-clause-known
 returns-clause-known g c =
     let rows = c.args.log.now.rows in
     let pairs = c.args.bookmarks.now.current in
-    let set : c.set.new.self.current ≡ with_bookmark pairs c.args.key.now c.in-Some.target = ap (λ (marked : Marked). marked.current) c.in_ok-set.ensures.ok in
-    let known : is_known_target rows c.in-Some.target ≡ true = (and_parts _ _ (sym c.is_settable.ensures ∙ c.if-not-is_settable.false)).1 in
-    λ all. subst (λ (ps : Pairs). AreOnKnown rows ps) (sym set) (with_on_known rows pairs c.args.key.now c.in-Some.target known all)
+    let set : c.set.new.self.current ≡ with_bookmark pairs c.args.key.now c.in-Some.target =
+    ap (λ (marked : Marked). marked.current) c.in_ok-set.ensures.ok in
+    let known : is_known_target rows c.in-Some.target ≡ true =
+    (and_parts _ _ (sym c.is_settable.ensures ∙ c.if-not-is_settable.false)).1 in
+    λ all. subst (λ (ps : Pairs). AreOnKnown rows ps) (sym set)
+    (with_on_known rows pairs c.args.key.now c.in-Some.target known all)

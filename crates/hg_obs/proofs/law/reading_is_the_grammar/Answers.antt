@@ -5,4 +5,5 @@ pub returns-clause-markers : goal.returns-clause-markers
 returns-clause-markers g c = λ bytes markers fits. (found bytes markers fits, read_again bytes markers fits)
 
 pub returns-clause-faults : goal.returns-clause-faults
-returns-clause-faults g c = λ bytes fault fits other. (first_fault bytes fault fits, fault_told fault bytes fits other)
+returns-clause-faults g c =
+    λ bytes fault fits other. (first_fault bytes fault fits, fault_told fault bytes fits other)

@@ -5,4 +5,8 @@ use Rattle.hg_obs.proofs.markers.add_each.Given as goal
 -- so far the list is a merge of what came, and behind that comes what is left
 abbrev pub invariant-loop-marker : goal.invariant-loop-marker
 invariant-loop-marker g l =
-    record { markers : l.list.keys ≡ merged l.fn.list.keys l.yielded; comes : l.fn.added ≡ l.yielded ++ l.marker-iterator.rest.items }
+    record {
+      markers : l.list.keys ≡ merged l.fn.list.keys l.yielded;
+      comes : l.fn.added ≡ l.yielded
+          ++ l.marker-iterator.rest.items;
+    }

@@ -12,7 +12,11 @@ returns-clause-found g c = λ node.
     let old = c.args.places.now.entries in
     let updated = IfOk-at_ok _ c.unwrap.ensures c.entry.ensures.update in
     let left = unwrap_or (lookup (same_node c.args.predecessor) old) c.args.place in
-    let kept : c.or_insert.result.now ≡ left = c.or_insert.ensures.value ∙ ap (λ found. unwrap_or found c.args.place) (IfOk-at_ok _ c.unwrap.ensures c.entry.ensures.value) in
-    let found = noted_first old (map_with_value c.unwrap.result c.or_insert.result.now).entries c.args.predecessor c.args.place node _ refl
-    ((updated.0 c.or_insert.result.now).0 node ∙ ap (λ first. cond (same_node c.args.predecessor node) (Some first) (lookup (same_node node) old)) kept) in
+    let kept : c.or_insert.result.now ≡ left = c.or_insert.ensures.value
+    ∙ ap (λ found. unwrap_or found c.args.place) (IfOk-at_ok _ c.unwrap.ensures c.entry.ensures.value) in
+    let found = noted_first old (map_with_value c.unwrap.result c.or_insert.result.now).entries
+    c.args.predecessor c.args.place node _ refl
+    ((updated.0 c.or_insert.result.now).0 node
+    ∙ ap (λ first. cond (same_node c.args.predecessor node) (Some first) (lookup (same_node node) old))
+    kept) in
     grind (arith, common_steps, found)

@@ -7,6 +7,8 @@ pub loop-place-preserved : goal.loop-place-preserved
 loop-place-preserved g c = record {
   places = λ node.
       c.note.ensures.found node
-      ∙ noted_next c.args.markers.now c.loop-place.place c.index-markers-place.result _ node c.loop-place-test.true (c.loop-place.invariant.places node);
-  room = room_stays (length c.args.markers.now) c.loop-place.place _ _ c.loop-place.invariant.room c.note.ensures.room;
+      ∙ noted_next c.args.markers.now c.loop-place.place c.index-markers-place.result _ node
+      c.loop-place-test.true (c.loop-place.invariant.places node);
+  room = room_stays (length c.args.markers.now) c.loop-place.place _ _ c.loop-place.invariant.room
+      c.note.ensures.room;
 }

@@ -6,11 +6,15 @@ use Rattle.hg_obs.proofs.read.marker_of.Goals as goal
 
 pub returns-then-contains : goal.returns-then-contains
 returns-then-contains g c =
-    let null = sym (any_null c.in_ok-lent.lent.successors.now) ∙ sym c.contains.ensures.value ∙ c.if-contains.true in
-    marker_is c.args.bytes.now (fields_of_lent c.in_ok-lent.lent) c.in_ok-lent.rest.now _ _ c.in_ok-lent.ensures (sym c.is_metadata.ensures ∙ c.if-not-is_metadata.false) null
+    let null = sym (any_null c.in_ok-lent.lent.successors.now) ∙ sym c.contains.ensures.value
+    ∙ c.if-contains.true in
+    marker_is c.args.bytes.now (fields_of_lent c.in_ok-lent.lent) c.in_ok-lent.rest.now _ _
+    c.in_ok-lent.ensures (sym c.is_metadata.ensures ∙ c.if-not-is_metadata.false) null
 
 pub returns : goal.returns
 returns g c =
-    let null = sym (any_null c.in_ok-lent.lent.successors.now) ∙ sym c.contains.ensures.value ∙ c.if-contains.false in
-    marker_is c.args.bytes.now (fields_of_lent c.in_ok-lent.lent) c.in_ok-lent.rest.now _ _ c.in_ok-lent.ensures (sym c.is_metadata.ensures ∙ c.if-not-is_metadata.false) null
+    let null = sym (any_null c.in_ok-lent.lent.successors.now) ∙ sym c.contains.ensures.value
+    ∙ c.if-contains.false in
+    marker_is c.args.bytes.now (fields_of_lent c.in_ok-lent.lent) c.in_ok-lent.rest.now _ _
+    c.in_ok-lent.ensures (sym c.is_metadata.ensures ∙ c.if-not-is_metadata.false) null
     ∙ ap (λ (m : Marker g.row.A.Denot). Ok (m, c.in_ok-lent.rest.now)) (sym c.in_ok-marker.ensures)

@@ -8,12 +8,16 @@ use Rattle.hg_params.proofs.params.are_distinct.Goals as goal
 pub returns-then-has_key : goal.returns-then-has_key
 returns-then-has_key g c = (
   λ e. absurd (false≢true e),
-  λ d. absurd (not_distinct c.in-Some.first.now c.in-Some.later.now c.loop-first.rest.now c.as_slice.result.now c.has_key.result c.in-Some.ensures.cases.0 c.as_slice.ensures c.has_key.ensures c.if-has_key.true (c.loop-first.invariant.1 d)),
+  λ d. absurd (not_distinct c.in-Some.first.now c.in-Some.later.now c.loop-first.rest.now
+      c.as_slice.result.now c.has_key.result c.in-Some.ensures.cases.0 c.as_slice.ensures c.has_key.ensures
+      c.if-has_key.true (c.loop-first.invariant.1 d)),
 )
 
 pub loop-first-preserved : goal.loop-first-preserved
 loop-first-preserved g c =
-    let step = distinct_more c.in-Some.first.now c.in-Some.later.now c.loop-first.rest.now c.as_slice.result.now c.has_key.result c.in-Some.ensures.cases.0 c.as_slice.ensures c.has_key.ensures c.if-has_key.false in
+    let step = distinct_more c.in-Some.first.now c.in-Some.later.now c.loop-first.rest.now
+    c.as_slice.result.now c.has_key.result c.in-Some.ensures.cases.0 c.as_slice.ensures c.has_key.ensures
+    c.if-has_key.false in
     (λ d. c.loop-first.invariant.0 (step.0 d), λ d. step.1 (c.loop-first.invariant.1 d))
 
 pub returns : goal.returns

@@ -14,4 +14,6 @@ pub returns-in_ok-value-in-Some : goal.returns-in_ok-value-in-Some
 returns-in_ok-value-in-Some g c =
     let piece = c.args.piece.now in
     param_cut piece _ _ (name_cut piece _ _ c.split_once.ensures.before c.in_ok-name.ensures)
-    (value_cut piece c.in-Some.text.now _ (sym (ap (option_map (λ text. text.now)) c.in-Some.is) ∙ c.split_once.ensures.behind) (c.in_ok-value-in-Some.ensures ∙ ap (λ text. percent_decode text.now) c.in-Some.text-is))
+    (value_cut piece c.in-Some.text.now _ (sym (ap (option_map (λ text. text.now)) c.in-Some.is)
+    ∙ c.split_once.ensures.behind) (c.in_ok-value-in-Some.ensures
+    ∙ ap (λ text. percent_decode text.now) c.in-Some.text-is))

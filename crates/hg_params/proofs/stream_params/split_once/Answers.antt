@@ -4,7 +4,8 @@ use Rattle.hg_params.proofs.stream_params.split_once.Goals as goal
 
 pub returns-in-Some-clause-behind : goal.returns-in-Some-clause-behind
 returns-in-Some-clause-behind c =
-    ap (λ xs. Some xs) (rest_whole (c.in-Some.place + 1) c.args.text.now) ∙ sym (behind_some (λ b. b == c.args.byte) c.args.text.now c.in-Some.place c.in-Some.ensures)
+    ap (λ xs. Some xs) (rest_whole (c.in-Some.place + 1) c.args.text.now)
+    ∙ sym (behind_some (λ b. b == c.args.byte) c.args.text.now c.in-Some.place c.in-Some.ensures)
 
 pub returns-in-None-clause-behind : goal.returns-in-None-clause-behind
 returns-in-None-clause-behind c = sym (behind_none (λ b. b == c.args.byte) c.args.text.now c.in-None.ensures)

@@ -14,7 +14,8 @@ none_unread bytes e = ap pieces (sym e)
 
 pub returns-in-empty : goal.returns-in-empty
 unfolding pieces_of
-returns-in-empty c = none_unread c.args.bytes.now (nil_from_length c.args.bytes.now (omega (arith, c.in-empty.len_below)))
+returns-in-empty c = none_unread c.args.bytes.now
+    (nil_from_length c.args.bytes.now (omega (arith, c.in-empty.len_below)))
 
 pub returns-in-len1-up : goal.returns-in-len1-up
 returns-in-len1-up c = some_unread c.args.bytes.now (omega (arith, c.in-len1-up.len_at_least))

@@ -5,5 +5,6 @@ use Rattle.hg_params.proofs.writable.are_in_order.Goals as goal
 
 pub returns : goal.returns
 returns g c =
-    let told = c.are_mandatory.ensures ∙ ap (λ n. list_all (λ p. p.mandatory) (take n c.args.params.now)) c.count_mandatory.ensures in
+    let told = c.are_mandatory.ensures
+    ∙ ap (λ n. list_all (λ p. p.mandatory) (take n c.args.params.now)) c.count_mandatory.ensures in
     (λ e. order_from_front c.args.params.now (sym told ∙ e), λ h. told ∙ front_from_order c.args.params.now h)

@@ -6,4 +6,5 @@ use Rattle.hg_params.proofs.write.append_sizes.Given as goal
 
 -- those of the parameters so far are there
 abbrev pub invariant-loop-param : goal.invariant-loop-param
-invariant-loop-param g l = l.out.items ≡ l.fn.out.items ++ flat_map param_sizes (map key_value (take l.param-index l.params))
+invariant-loop-param g l =
+    l.out.items ≡ l.fn.out.items ++ flat_map param_sizes (map key_value (take l.param-index l.params))

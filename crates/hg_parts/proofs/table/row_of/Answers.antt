@@ -9,5 +9,7 @@ use Rattle.hg_parts.proofs.table.row_of.Goals as goal
 pub returns : goal.returns
 unfolding row_of
 returns c =
-    found-map (λ row. str_eq_ignore_ascii_case row.name c.args.kind.now) row_value c.rows.result.now (option_copied c.find_row.result) c.find_row.ensures
-    ∙ ap (λ (rows : List Row). find (λ row. str_eq_ignore_ascii_case row.name c.args.kind.now) rows) c.rows.ensures
+    found-map (λ row. str_eq_ignore_ascii_case row.name c.args.kind.now) row_value c.rows.result.now
+    (option_copied c.find_row.result) c.find_row.ensures
+    ∙ ap (λ (rows : List Row). find (λ row. str_eq_ignore_ascii_case row.name c.args.kind.now) rows)
+    c.rows.ensures

@@ -15,13 +15,21 @@ loop-row-preserved c =
     let i = c.loop-row.row-index in
     elim c.if-is_root.branch [
       | then-is_root w ↦
-          let more : told t (take (i + 1) rows) ≡ told t (take i rows) ++ i ∷ [] = told_more t rows i c.loop-row-test.true (sym c.is_root.ensures ∙ w.if-is_root.true) in
+          let more : told t (take (i + 1) rows) ≡ told t (take i rows) ++ i
+          ∷ [] = told_more t rows i c.loop-row-test.true (sym c.is_root.ensures ∙ w.if-is_root.true) in
           record {
-            told = omega (arith, w.count-is, c.loop-row.invariant.told, ap length more, length_push (told t (take i rows)) i);
+            told = omega (
+              arith,
+              w.count-is,
+              c.loop-row.invariant.told,
+              ap length more,
+              length_push (told t (take i rows)) i,
+            );
             few = omega (arith, w.count-is, c.loop-row.invariant.few);
           }
       | else-is_root w ↦
-          let same : told t (take (i + 1) rows) ≡ told t (take i rows) = told_same t rows i c.loop-row-test.true (sym c.is_root.ensures ∙ w.if-is_root.false) in
+          let same : told t (take (i + 1) rows) ≡ told t (take i rows) =
+          told_same t rows i c.loop-row-test.true (sym c.is_root.ensures ∙ w.if-is_root.false) in
           record {
             told = omega (arith, w.count-is, c.loop-row.invariant.told, ap length same);
             few = omega (arith, w.count-is, c.loop-row.invariant.few);
@@ -29,4 +37,6 @@ loop-row-preserved c =
     ]
 
 pub returns : goal.returns
-returns c = c.loop-row.invariant.told ∙ ap (λ xs. length (told c.args.target xs)) (take_all c.loop-row.row-index c.args.rows.now c.loop-row-test.false)
+returns c = c.loop-row.invariant.told
+    ∙ ap (λ xs. length (told c.args.target xs))
+    (take_all c.loop-row.row-index c.args.rows.now c.loop-row-test.false)

@@ -26,9 +26,30 @@ returns-clause-room g c =
     let low = c.args.low in
     let d = c.count_below.result in
     let is : c.as_slice.result.now ≡ told t rows = c.as_slice.ensures.value ∙ c.requires.told in
-    let count : IsCount (told t rows) low d = subst (λ xs. IsCount xs low d) is (record { within = c.count_below.ensures.within; from = c.count_below.ensures.from; before = c.count_below.ensures.before }) in
+    let count : IsCount (told t rows) low d = subst (λ xs. IsCount xs low d) is
+    (record {
+      within = c.count_below.ensures.within;
+      from = c.count_below.ensures.from;
+      before = c.count_below.ensures.before;
+    }) in
     let within : d ≤ length (told t rows) = count.within in
-    let front : d ≡ length (told t (take low rows)) = omega (arith, ap length (cut_is t low d rows c.requires.low count), length-take-le d (told t rows) within) in
-    let all : length (told t (take low rows ++ tail)) ≡ length (told t (take low rows)) + length (told t tail) =
-    ap length (told_append t 0 (take low rows) tail) ∙ length-append (told t (take low rows)) (told_from t (0 + length (take low rows)) tail) ∙ ap (λ n. length (told t (take low rows)) + n) (told_count t (0 + length (take low rows)) 0 tail) in
-    omega (arith, all, front, c.count_told.ensures, c.in_ok-reserve.ensures.ok, c.reserve.ensures.len, c.saturating_sub.ensures, c.len.ensures)
+    let front : d ≡ length (told t (take low rows)) = omega (
+      arith,
+      ap length (cut_is t low d rows c.requires.low count),
+      length-take-le d (told t rows) within,
+    ) in
+    let all : length (told t (take low rows ++ tail)) ≡ length (told t (take low rows)) + length
+    (told t tail) =
+    ap length (told_append t 0 (take low rows) tail)
+    ∙ length-append (told t (take low rows)) (told_from t (0 + length (take low rows)) tail)
+    ∙ ap (λ n. length (told t (take low rows)) + n) (told_count t (0 + length (take low rows)) 0 tail) in
+    omega (
+      arith,
+      all,
+      front,
+      c.count_told.ensures,
+      c.in_ok-reserve.ensures.ok,
+      c.reserve.ensures.len,
+      c.saturating_sub.ensures,
+      c.len.ensures,
+    )

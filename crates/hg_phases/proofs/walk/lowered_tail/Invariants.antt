@@ -6,6 +6,7 @@ use Rattle.hg_phases.proofs.walk.lowered_tail.Given as goal
 
 abbrev pub invariant-loop-place : goal.invariant-loop-place
 invariant-loop-place g l = record {
-  made : l.tail.items ≡ lowered_rows (parents_of l.log.rows) l.target (phases_told l.rows) l.marks (length l.rows - length l.marks) l.place;
+  made : l.tail.items ≡ lowered_rows (parents_of l.log.rows) l.target (phases_told l.rows) l.marks
+      (length l.rows - length l.marks) l.place;
   room : vec_len l.tail + length l.marks ≤ vec_capacity l.tail + l.place;
 }

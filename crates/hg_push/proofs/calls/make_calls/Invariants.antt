@@ -11,5 +11,6 @@ invariant-loop-call g l = record {
   calls : l.fn.calls.items ≡ l.yielded ++ into_iter_items l.call-iterator;
   left : into_iter_len l.call-iterator ≡ length (into_iter_items l.call-iterator);
   room : vec_len l.answers + length (into_iter_items l.call-iterator) ≤ vec_capacity l.answers;
-  answered : (first : RepositoryOf g.row.A.Denot) (c : Course g.row.A.Denot) → Follows run_push first c l.fn.book → AnswersSoFar run_push first c l.yielded l.answers.items l.book;
+  answered : (first : RepositoryOf g.row.A.Denot) (c : Course g.row.A.Denot)
+      → Follows run_push first c l.fn.book → AnswersSoFar run_push first c l.yielded l.answers.items l.book;
 }

@@ -3,4 +3,9 @@ use Rattle.hg_push.proofs.Withouts.{aborted_outcome, aborted_serial, without_gon
 use Rattle.hg_push.proofs.laws.aborted_changes_nothing.Goals as goal
 
 pub returns : goal.returns
-returns g c = record { state = aborted_serial run_push; outcomes = aborted_outcome run_push; gone = without_gone; others = without_others }
+returns g c = record {
+  state = aborted_serial run_push;
+  outcomes = aborted_outcome run_push;
+  gone = without_gone;
+  others = without_others;
+}

@@ -12,5 +12,6 @@ returns g c = record {
   handled = λ capacity events first p done is.
       let all = all_complete run_push first capacity events p done is in
       let ran = done_in run_push first p (run_all events (start capacity)).history done is in
-      c.done_runs_handle_all.ensures Push ran.before _ ran.after done ran.answered ∙ ap (λ ps. range_with_len 0 (length ps)) all.parts;
+      c.done_runs_handle_all.ensures Push ran.before _ ran.after done ran.answered
+      ∙ ap (λ ps. range_with_len 0 (length ps)) all.parts;
 }

@@ -14,5 +14,6 @@ returns g c = record {
   handled = λ first p h put done orderly front is.
       let all = complete_of run_push first p h front.0 put done front.1 (orderly_list 0 put orderly) is in
       let ran = done_in run_push first p h done is in
-      c.done_runs_handle_all.ensures Push ran.before _ ran.after done ran.answered ∙ ap (λ ps. range_with_len 0 (length ps)) all.1.parts;
+      c.done_runs_handle_all.ensures Push ran.before _ ran.after done ran.answered
+      ∙ ap (λ ps. range_with_len 0 (length ps)) all.1.parts;
 }

@@ -7,4 +7,5 @@ use Rattle.hg_push.proofs.laws.done_pushes_keep_the_repository_lawful.Goals as g
 pub returns : goal.returns
 returns g c = λ first h lawful bytes.
     let s = serial run_push first h in
-    in_turn_lawful c.runs_keep_repositories_lawful.ensures (λ p. parts p h) bytes first s.journal s.repo lawful (one_by_one run_push first h)
+    in_turn_lawful c.runs_keep_repositories_lawful.ensures (λ p. parts p h) bytes first s.journal s.repo
+    lawful (one_by_one run_push first h)

@@ -4,4 +4,9 @@ use Rattle.hg_push.proofs.Trims.{trimmed_serial, trimmed_outcome}
 use Rattle.hg_push.proofs.laws.nothing_after.Goals as goal
 
 pub returns : goal.returns
-returns g c = record { state = trimmed_serial run_push; outcomes = trimmed_outcome run_push; left = trimmed_left; others = trimmed_others }
+returns g c = record {
+  state = trimmed_serial run_push;
+  outcomes = trimmed_outcome run_push;
+  left = trimmed_left;
+  others = trimmed_others;
+}

@@ -4,7 +4,8 @@ use Rattle.hg_pushd.proofs.Items.{HasStepped}
 use Rattle.hg_pushd.proofs.push.step_parts.Given as goal
 
 abbrev pub invariant-loop-part : goal.invariant-loop-part
-invariant-loop-part g l = HasStepped l.fn.book l.book l.push l.index (ready_of l.bundle) (ready_of l.fn.bundle)
+invariant-loop-part g l =
+    HasStepped l.fn.book l.book l.push l.index (ready_of l.bundle) (ready_of l.fn.bundle)
 
 abbrev pub decreases-loop-part : goal.decreases-loop-part
 decreases-loop-part g l = length (ready_of l.bundle)

@@ -4,4 +4,5 @@ use Rattle.hg_pushd.proofs.seed.grow.Goals as goal
 
 pub returns-clause-gives : goal.returns-clause-gives
 returns-clause-gives g c =
-    refused_so _ _ _ _ _ _ c.empty_repository-repo.ensures (c.as_slice.ensures.value ∙ c.in-Ok.ensures) c.refused.ensures c.in-Err.ensures.gives.1
+    refused_so _ _ _ _ _ _ c.empty_repository-repo.ensures (c.as_slice.ensures.value
+    ∙ c.in-Ok.ensures) c.refused.ensures c.in-Err.ensures.gives.1

@@ -9,5 +9,6 @@ invariant-loop-place g l = record {
   sound : IsSound l.settings l.store;
   grown : IsGrown l.initial.store l.store;
   replies : AreReplies l.place l.replies;
-  reached : IsReached l.source (repository_of l.settings l.initial.store) l.parts l.place (record { repo = repository_of l.settings l.store; replying = l.replying; replies = l.replies });
+  reached : IsReached l.source (repository_of l.settings l.initial.store) l.parts l.place
+      (record { repo = repository_of l.settings l.store; replying = l.replying; replies = l.replies });
 }

@@ -1,4 +1,5 @@
-use Rattle.std.proofs.Common.{rules, ◌≡◌, ◌∙◌, ◌+◌, ◌||◌, List, length, false, inl, Err, refl, sym, ap, subst, arith}
+use Rattle.std.proofs.Common.{rules, ◌≡◌, ◌∙◌, ◌+◌, ◌||◌, List, length, false, inl, Err, refl, sym, ap, subst}
+use Rattle.std.proofs.Common.{arith}
 use Rattle.std.proofs.lemmas.Bool.{or_left}
 use Rattle.std.specs.Vec.Iter.{into_iter_items}
 use Rattle.hg_types.specs.declared.part.Part.{Part}
@@ -10,7 +11,8 @@ use Rattle.hg_parts.specs.Store.{repository_of}
 use Rattle.hg_parts.proofs.CallerLemmas.{grown_same, grown_on}
 use Rattle.hg_repo.specs.Run.{Progress, run_of, PartsGive}
 use Rattle.hg_repo.specs.Replies.{AreReplies}
-use Rattle.hg_repo.proofs.PreparedRuns.{IsReachedBy, no_items, reached_none, next_handled, next_refused, all_handled}
+use Rattle.hg_repo.proofs.PreparedRuns.{IsReachedBy, no_items, reached_none, next_handled, next_refused}
+use Rattle.hg_repo.proofs.PreparedRuns.{all_handled}
 use Rattle.hg_repo.proofs.Replies.{no_replies, one_more}
 use Rattle.hg_repo.proofs.run.run_prepared.Goals as goal
 use Rattle.hg_repo.proofs.run.run_prepared.Goals.{then-replying, else-replying}
@@ -27,9 +29,13 @@ loop-part-init g c =
       left = omega (arith, gives.1, counts, c.args.prepared.ok);
       sound = c.requires.sound;
       grown = grown_same _;
-      replies = subst (λ (rs : List (Part g.row.A.Denot)). AreReplies 0 rs) (sym c.new-replies.ensures) no_replies;
-      reached = subst (λ (left : List (Prepared g.row.A.Denot)). IsReachedBy c.args.source repo all left 0 (record { repo = repo; replying = false; replies = c.new-replies.result })) (sym gives.0)
-          (subst (λ (rs : List (Part g.row.A.Denot)). IsReachedBy c.args.source repo all all 0 (record { repo = repo; replying = false; replies = rs })) (sym c.new-replies.ensures) (reached_none c.args.source repo all));
+      replies = subst (λ (rs : List (Part g.row.A.Denot)). AreReplies 0 rs)
+          (sym c.new-replies.ensures) no_replies;
+      reached = subst (λ (left : List (Prepared g.row.A.Denot)). IsReachedBy c.args.source repo all left 0
+          (record { repo = repo; replying = false; replies = c.new-replies.result })) (sym gives.0)
+          (subst (λ (rs : List (Part g.row.A.Denot)). IsReachedBy c.args.source repo all all 0
+          (record { repo = repo; replying = false; replies = rs })) (sym c.new-replies.ensures)
+          (reached_none c.args.source repo all));
     }
 
 pub loop-part-preserved : goal.loop-part-preserved
@@ -43,13 +49,22 @@ loop-part-preserved g c =
     let steps = c.in-Some.ensures.steps in
     let counts = ap length steps.0 in
     let left = into_iter_items c.next.new.self in
-    let progress : Progress g.row.A.Denot = record { repo = now; replying = c.loop-part.replying; replies = c.loop-part.replies } in
+    let progress : Progress g.row.A.Denot = record {
+      repo = now;
+      replying = c.loop-part.replying;
+      replies = c.loop-part.replies;
+    } in
     let given : Handled g.row.A.Denot = record { repo = next; reply = c.in_ok-reply.reply } in
-    let before = subst (λ (left : List (Prepared g.row.A.Denot)). IsReachedBy c.args.source repo all left c.loop-part.place progress) steps.0 c.loop-part.invariant.reached in
-    let reached = next_handled c.args.source repo all left c.in-Some.part c.loop-part.place progress given starts before (λ part made. c.in_ok-reply.ensures.gives part made) (λ part made. c.starts_replies-starts.ensures part made) in
+    let before = subst (λ (left : List (Prepared g.row.A.Denot)).
+    IsReachedBy c.args.source repo all left c.loop-part.place progress) steps.0
+    c.loop-part.invariant.reached in
+    let reached = next_handled c.args.source repo all left c.in-Some.part c.loop-part.place progress given
+    starts before (λ part made. c.in_ok-reply.ensures.gives part made)
+    (λ part made. c.starts_replies-starts.ensures part made) in
     let replying : (c.loop-part.replying || starts) ≡ c.if-replying.replying =
     elim c.if-replying.branch [
-      | then-replying w ↦ or_left c.loop-part.replying starts w.if-replying.true ∙ sym w.if-replying.true ∙ sym w.replying-is
+      | then-replying w ↦ or_left c.loop-part.replying starts w.if-replying.true ∙ sym w.if-replying.true
+          ∙ sym w.replying-is
       | else-replying w ↦ ap (λ b. b || starts) w.if-replying.false ∙ sym w.replying-is
     ] in
     record {
@@ -58,13 +73,20 @@ loop-part-preserved g c =
       left = omega (arith, counts, steps.1, c.loop-part.invariant.left);
       sound = c.in_ok-reply.ensures.sound;
       grown = grown_on _ _ _ c.loop-part.invariant.grown c.in_ok-reply.ensures.grown;
-      replies = subst (λ (rs : List (Part g.row.A.Denot)). AreReplies (c.loop-part.place + 1) rs) (sym c.in_ok-keep_reply.ensures.kept) (one_more c.loop-part.place c.loop-part.replies c.in_ok-reply.reply c.loop-part.invariant.replies c.in_ok-reply.ensures.reply);
-      reached = subst (λ b. IsReachedBy c.args.source repo all left (c.loop-part.place + 1) (record { repo = next; replying = b; replies = c.keep_reply.new.replies })) replying
-          (subst (λ rs. IsReachedBy c.args.source repo all left (c.loop-part.place + 1) (record { repo = next; replying = c.loop-part.replying || starts; replies = rs })) (sym c.in_ok-keep_reply.ensures.kept) reached);
+      replies = subst (λ (rs : List (Part g.row.A.Denot)). AreReplies (c.loop-part.place + 1) rs)
+          (sym c.in_ok-keep_reply.ensures.kept)
+          (one_more c.loop-part.place c.loop-part.replies c.in_ok-reply.reply c.loop-part.invariant.replies
+          c.in_ok-reply.ensures.reply);
+      reached = subst (λ b. IsReachedBy c.args.source repo all left (c.loop-part.place + 1)
+          (record { repo = next; replying = b; replies = c.keep_reply.new.replies })) replying
+          (subst (λ rs. IsReachedBy c.args.source repo all left (c.loop-part.place + 1)
+          (record { repo = next; replying = c.loop-part.replying || starts; replies = rs }))
+          (sym c.in_ok-keep_reply.ensures.kept) reached);
     }
 
 pub returns-in_err-reply-clause-grown : goal.returns-in_err-reply-clause-grown
-returns-in_err-reply-clause-grown g c = grown_on _ _ _ c.loop-part.invariant.grown c.in_err-reply.ensures.grown
+returns-in_err-reply-clause-grown g c =
+    grown_on _ _ _ c.loop-part.invariant.grown c.in_err-reply.ensures.grown
 
 pub returns-in_err-reply-clause-gives : goal.returns-in_err-reply-clause-gives
 returns-in_err-reply-clause-gives g c =
@@ -73,14 +95,22 @@ returns-in_err-reply-clause-gives g c =
     let repo : Repository g.row.A.Denot = repository_of settings c.args.store.now in
     let next : Repository g.row.A.Denot = repository_of settings c.handle_prepared.new.store in
     let refusal = c.in_err-reply.field-0.0 in
-    let progress : Progress g.row.A.Denot = record { repo = repository_of settings c.loop-part.store; replying = c.loop-part.replying; replies = c.loop-part.replies } in
-    let before = subst (λ (left : List (Prepared g.row.A.Denot)). IsReachedBy c.args.source repo all left c.loop-part.place progress) c.in-Some.ensures.steps.0 c.loop-part.invariant.reached in
+    let progress : Progress g.row.A.Denot = record {
+      repo = repository_of settings c.loop-part.store;
+      replying = c.loop-part.replying;
+      replies = c.loop-part.replies;
+    } in
+    let before = subst (λ (left : List (Prepared g.row.A.Denot)).
+    IsReachedBy c.args.source repo all left c.loop-part.place progress) c.in-Some.ensures.steps.0
+    c.loop-part.invariant.reached in
     let told : c.from_residual.result ≡ Err refusal = search rules in
     λ parts made. subst (λ result. PartsGive (run_of c.args.source repo parts) next result) (sym told)
-    (next_refused c.args.source repo all (into_iter_items c.next.new.self) c.in-Some.part c.loop-part.place progress refusal before (λ part one. c.in_err-reply.ensures.gives part one) parts made)
+    (next_refused c.args.source repo all (into_iter_items c.next.new.self) c.in-Some.part c.loop-part.place
+    progress refusal before (λ part one. c.in_err-reply.ensures.gives part one) parts made)
 
 pub returns-in_err-keep_reply-clause-grown : goal.returns-in_err-keep_reply-clause-grown
-returns-in_err-keep_reply-clause-grown g c = grown_on _ _ _ c.loop-part.invariant.grown c.in_ok-reply.ensures.grown
+returns-in_err-keep_reply-clause-grown g c =
+    grown_on _ _ _ c.loop-part.invariant.grown c.in_ok-reply.ensures.grown
 
 pub returns-in_err-keep_reply-clause-gives : goal.returns-in_err-keep_reply-clause-gives
 returns-in_err-keep_reply-clause-gives g c =
@@ -88,15 +118,24 @@ returns-in_err-keep_reply-clause-gives g c =
     let repo : Repository g.row.A.Denot = repository_of settings c.args.store.now in
     let next : Repository g.row.A.Denot = repository_of settings c.handle_prepared.new.store in
     let told : c.from_residual-in_err-keep_reply.result ≡ Err NoMemory = search rules in
-    λ parts made. subst (λ result. PartsGive (run_of c.args.source repo parts) next result) (sym told) (inl refl)
+    λ parts made. subst (λ result. PartsGive (run_of c.args.source repo parts) next result) (sym told)
+    (inl refl)
 
 pub returns-clause-gives : goal.returns-clause-gives
 returns-clause-gives g c =
     let all = c.args.prepared.items in
     let settings = c.args.settings.now in
     let repo : Repository g.row.A.Denot = repository_of settings c.args.store.now in
-    let progress : Progress g.row.A.Denot = record { repo = repository_of settings c.loop-part.store; replying = c.loop-part.replying; replies = c.loop-part.replies } in
-    let none : length (into_iter_items c.loop-part.part-iterator) ≡ 0 = sym c.loop-part.invariant.left ∙ c.in-None.ensures.steps.0 in
+    let progress : Progress g.row.A.Denot = record {
+      repo = repository_of settings c.loop-part.store;
+      replying = c.loop-part.replying;
+      replies = c.loop-part.replies;
+    } in
+    let none : length (into_iter_items c.loop-part.part-iterator) ≡ 0 = sym c.loop-part.invariant.left
+    ∙ c.in-None.ensures.steps.0 in
     let here : c.loop-part.place ≡ c.len-count.result = omega (arith, c.loop-part.invariant.count, none) in
-    let reached = subst (λ (left : List (Prepared g.row.A.Denot)). IsReachedBy c.args.source repo all left c.loop-part.place progress) (no_items _ none) c.loop-part.invariant.reached in
-    λ parts made. all_handled c.args.source repo all c.loop-part.place c.len-count.result progress c.in_ok-handled.handled reached here c.in_ok-handled.ensures parts made
+    let reached = subst (λ (left : List (Prepared g.row.A.Denot)).
+    IsReachedBy c.args.source repo all left c.loop-part.place progress)
+    (no_items _ none) c.loop-part.invariant.reached in
+    λ parts made. all_handled c.args.source repo all c.loop-part.place c.len-count.result progress
+    c.in_ok-handled.handled reached here c.in_ok-handled.ensures parts made

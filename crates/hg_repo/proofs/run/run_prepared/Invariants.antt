@@ -14,5 +14,7 @@ invariant-loop-part g l = record {
   sound : IsSound l.settings l.store;
   grown : IsGrown l.fn.store l.store;
   replies : AreReplies l.place l.replies;
-  reached : IsReachedBy l.source (repository_of l.settings l.fn.store) l.fn.prepared.items (into_iter_items l.part-iterator) l.place (record { repo = repository_of l.settings l.store; replying = l.replying; replies = l.replies });
+  reached : IsReachedBy l.source (repository_of l.settings l.fn.store) l.fn.prepared.items
+      (into_iter_items l.part-iterator) l.place
+      (record { repo = repository_of l.settings l.store; replying = l.replying; replies = l.replies });
 }

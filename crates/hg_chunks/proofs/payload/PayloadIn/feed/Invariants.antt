@@ -8,7 +8,8 @@ invariant-loop-taken g l = record {
   within : l.taken ≤ length l.piece;
   limit : l.self.limit ≡ l.fn.self.limit;
   reading : phase_of l.self ≡ Reading;
-  took : (whole rest : List ℕ) → Holds l.fn.self whole rest → Stops More l.self whole rest (take l.taken l.piece);
+  took : (whole rest : List ℕ) → Holds l.fn.self whole rest
+      → Stops More l.self whole rest (take l.taken l.piece);
 }
 
 abbrev pub decreases-loop-taken : goal.decreases-loop-taken

@@ -6,14 +6,16 @@ use Rattle.hg_log.specs.Add.{Agrees}
 use Rattle.hg_log.specs.Add.IsAnswer.{known, mismatch, too_many, added}
 use Rattle.hg_log.specs.Answer.{text_of}
 use Rattle.hg_log.proofs.RowLemmas.{lacks_unknown}
-use Rattle.hg_log.proofs.Answering.{answer_known, answer_no_text, answer_mismatch, answer_too_many, answer_added}
+use Rattle.hg_log.proofs.Answering.{answer_known, answer_no_text, answer_mismatch, answer_too_many}
+use Rattle.hg_log.proofs.Answering.{answer_added}
 use Rattle.hg_log.proofs.changelog.Changelog.add.Goals as goal
 
 pub returns-then-knows-clause-answer : goal.returns-then-knows-clause-answer
 returns-then-knows-clause-answer g c = λ _. known (c.if-knows.ensures.0 refl)
 
 pub returns-then-knows-clause-value : goal.returns-then-knows-clause-value
-returns-then-knows-clause-value g c = λ _. answer_known c.args.self.now c.args.entry.now (c.if-knows.ensures.0 refl)
+returns-then-knows-clause-value g c =
+    λ _. answer_known c.args.self.now c.args.entry.now (c.if-knows.ensures.0 refl)
 
 pub returns-then-knows-clause-leaves : goal.returns-then-knows-clause-leaves
 returns-then-knows-clause-leaves g c = (c.if-knows.ensures.0 refl, refl)
@@ -24,7 +26,8 @@ returns-in_err-text-clause-value g c = λ other.
     let log : Log = c.args.self.now in
     let fault : AddFault = c.in_err-text.field-0.0 in
     let result : c.from_residual-in_err-text.result ≡ Err fault = p.1 ∙ ap (λ (f : AddFault). Err f) p.2 in
-    let read : Err fault ≡ text_of log c.args.entry.now = c.in_err-text.ensures.value (λ refused. other (result ∙ ap (λ (f : AddFault). Err f) cc)) in
+    let read : Err fault ≡ text_of log c.args.entry.now = c.in_err-text.ensures.value
+    (λ refused. other (result ∙ ap (λ (f : AddFault). Err f) cc)) in
     rw result (answer_no_text log c.args.entry.now fault c.in_ok-parents.ensures.known read)
 
 pub returns-then-not-agrees : goal.returns-then-not-agrees
@@ -35,7 +38,8 @@ returns-then-not-agrees g c =
     absurd (let no_way : false ≡ true = c.if-not-agrees.ensures.1 shown in cc) in
     record {
       answer = λ _. mismatch c.in_ok-text.text c.in_ok-text.ensures.text other;
-      value = λ _. answer_mismatch log c.args.entry.now c.in_ok-text.text c.in_ok-parents.ensures.known (c.in_ok-text.ensures.value (λ e. absurd cc)) other;
+      value = λ _. answer_mismatch log c.args.entry.now c.in_ok-text.text c.in_ok-parents.ensures.known
+          (c.in_ok-text.ensures.value (λ e. absurd cc)) other;
       leaves = tt;
       err = refl;
     }
@@ -43,28 +47,39 @@ returns-then-not-agrees g c =
 pub returns-then-rev-self : goal.returns-then-rev-self
 returns-then-rev-self g c =
     let log : Log = c.args.self.now in
-    let agrees : Agrees c.args.entry.now c.in_ok-text.text = rw (← c.as_slice.ensures) (c.if-not-agrees.ensures.0 refl) in
+    let agrees : Agrees c.args.entry.now c.in_ok-text.text = rw (← c.as_slice.ensures)
+    (c.if-not-agrees.ensures.0 refl) in
     let high : log.limits.revisions ≤ c.len-rev.result = rw (← c.self.view_is) c.if-rev-self.true in
     let full : log.limits.revisions ≤ length log.rows = omega (arith, c.len-rev.ensures.len) in
     record {
       answer = λ _. too_many c.in_ok-text.text c.in_ok-text.ensures.text agrees full;
-      value = λ _. answer_too_many log c.args.entry.now c.in_ok-text.text c.in_ok-parents.ensures.known (c.in_ok-text.ensures.value (λ e. absurd cc)) agrees full;
+      value = λ _. answer_too_many log c.args.entry.now c.in_ok-text.text c.in_ok-parents.ensures.known
+          (c.in_ok-text.ensures.value (λ e. absurd cc)) agrees full;
       leaves = tt;
       err = refl;
     }
 
 pub append-requires-clause-new : goal.append-requires-clause-new
-append-requires-clause-new g c = lacks_unknown c.args.self.now.rows c.args.entry.now.node.0 c.in_ok-parents.ensures.known.unknown
+append-requires-clause-new g c =
+    lacks_unknown c.args.self.now.rows c.args.entry.now.node.0 c.in_ok-parents.ensures.known.unknown
 
 pub returns-in-Ok : goal.returns-in-Ok
 returns-in-Ok g c =
     let log : Log = c.args.self.now in
-    let agrees : Agrees c.args.entry.now c.in_ok-text.text = rw (← c.as_slice.ensures) (c.if-not-agrees.ensures.0 refl) in
+    let agrees : Agrees c.args.entry.now c.in_ok-text.text = rw (← c.as_slice.ensures)
+    (c.if-not-agrees.ensures.0 refl) in
     let low : c.len-rev.result < log.limits.revisions = rw (← c.self.view_is) c.if-rev-self.false in
     let room : length log.rows < log.limits.revisions = omega (arith, c.len-rev.ensures.len) in
     record {
-      answer = λ _. rw (c.in-Ok.ensures.ok, c.len-rev.ensures.len) (added c.in_ok-text.text c.in_ok-text.ensures.text agrees room);
-      value = λ _. rw (c.in-Ok.ensures.ok, c.len-rev.ensures.len) (answer_added log c.args.entry.now c.in_ok-text.text c.in_ok-parents.ensures.known (c.in_ok-text.ensures.value (λ e. absurd cc)) agrees room);
-      leaves = record { next = c.len-rev.ensures.len; text = c.in_ok-text.text; appended = c.in-Ok.ensures.ok };
+      answer = λ _. rw (c.in-Ok.ensures.ok, c.len-rev.ensures.len)
+          (added c.in_ok-text.text c.in_ok-text.ensures.text agrees room);
+      value = λ _. rw (c.in-Ok.ensures.ok, c.len-rev.ensures.len)
+          (answer_added log c.args.entry.now c.in_ok-text.text c.in_ok-parents.ensures.known
+          (c.in_ok-text.ensures.value (λ e. absurd cc)) agrees room);
+      leaves = record {
+        next = c.len-rev.ensures.len;
+        text = c.in_ok-text.text;
+        appended = c.in-Ok.ensures.ok;
+      };
       err = tt;
     }

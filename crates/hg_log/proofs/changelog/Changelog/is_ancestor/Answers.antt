@@ -16,5 +16,6 @@ returns g c =
     rw (← c.self.view_is) (record {
       answer = ((λ is. there (c.in_ok-answer.ensures.0 is)), (λ is. c.in_ok-answer.ensures.1 (here is)));
       value = both_ways c.in_ok-answer.answer (is_ancestor rows c.args.ancestor c.args.rev)
-          (λ is. test.1 (there (c.in_ok-answer.ensures.0 is))) (λ is. c.in_ok-answer.ensures.1 (here (test.0 is)));
+          (λ is. test.1 (there (c.in_ok-answer.ensures.0 is)))
+          (λ is. c.in_ok-answer.ensures.1 (here (test.0 is)));
     })

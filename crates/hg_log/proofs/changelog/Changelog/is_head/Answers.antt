@@ -5,4 +5,5 @@ use Rattle.hg_log.proofs.changelog.Changelog.is_head.Goals as goal
 pub returns : goal.returns
 returns g c =
     let rows = rows_of c.self.inside.rows.entries in
-    rw (← c.self.view_is) (head_told rows c.self.inside.graph c.self.inside.limits c.self.invariant c.args.rev c.is_childless.result c.is_childless.ensures)
+    rw (← c.self.view_is) (head_told rows c.self.inside.graph c.self.inside.limits c.self.invariant c.args.rev
+    c.is_childless.result c.is_childless.ensures)

@@ -9,5 +9,11 @@ use Rattle.hg_log.proofs.changelog.Changelog.parents.Goals as goal
 pub returns : goal.returns
 returns g c =
     let entry : Node × Row g.row.A.Denot = (c.unwrap.result.0.now, c.unwrap.result.1.now) in
-    let at : slice_get c.self.inside.rows.entries c.args.rev ≡ Some entry = sym c.get_index.ensures.entry ∙ ap (option_map deref_pair) c.unwrap.ensures in
-    rw (← c.self.view_is) (record { row = changeset entry; row_at = row_at c.self.inside.rows.entries c.args.rev entry at; p1_is = refl; p2_is = refl })
+    let at : slice_get c.self.inside.rows.entries c.args.rev ≡ Some entry = sym c.get_index.ensures.entry
+    ∙ ap (option_map deref_pair) c.unwrap.ensures in
+    rw (← c.self.view_is) (record {
+      row = changeset entry;
+      row_at = row_at c.self.inside.rows.entries c.args.rev entry at;
+      p1_is = refl;
+      p2_is = refl;
+    })

@@ -9,5 +9,10 @@ use Rattle.hg_log.proofs.changelog.Changelog.text.Goals as goal
 pub returns : goal.returns
 returns g c =
     let entry : Node × Row g.row.A.Denot = (c.unwrap.result.0.now, c.unwrap.result.1.now) in
-    let at : slice_get c.self.inside.rows.entries c.args.rev ≡ Some entry = sym c.get_index.ensures.entry ∙ ap (option_map deref_pair) c.unwrap.ensures in
-    rw (← c.self.view_is) (record { row = changeset entry; row_at = row_at c.self.inside.rows.entries c.args.rev entry at; text_is = sym c.as_slice.ensures })
+    let at : slice_get c.self.inside.rows.entries c.args.rev ≡ Some entry = sym c.get_index.ensures.entry
+    ∙ ap (option_map deref_pair) c.unwrap.ensures in
+    rw (← c.self.view_is) (record {
+      row = changeset entry;
+      row_at = row_at c.self.inside.rows.entries c.args.rev entry at;
+      text_is = sym c.as_slice.ensures;
+    })

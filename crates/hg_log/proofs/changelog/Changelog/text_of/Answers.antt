@@ -19,19 +19,29 @@ returns-in_default-clause-fault g c = λ _. unknown_base c.requires c.in_default
 
 pub returns-in-Ok-clause-text : goal.returns-in-Ok-clause-text
 returns-in-Ok-clause-text g c =
-    let fits : length c.in-Ok.text.items ≤ c.args.self.now.limits.text = rw (← c.self.view_is) c.in-Ok.ensures.fits in
-    let applies : Applies c.in-Some.base.now c.args.entry.now.delta c.in-Ok.text.items = rw (← c.as_slice.ensures) c.in-Ok.ensures.text in
-    rw c.from_vec.ensures (record { parents = c.requires; base = c.in-Some.base.now; base_is = c.in-Some.ensures.known; outcome_is = gives c.in-Ok.text.items applies fits })
+    let fits : length c.in-Ok.text.items ≤ c.args.self.now.limits.text =
+    rw (← c.self.view_is) c.in-Ok.ensures.fits in
+    let applies : Applies c.in-Some.base.now c.args.entry.now.delta c.in-Ok.text.items =
+    rw (← c.as_slice.ensures) c.in-Ok.ensures.text in
+    rw c.from_vec.ensures (record {
+      parents = c.requires;
+      base = c.in-Some.base.now;
+      base_is = c.in-Some.ensures.known;
+      outcome_is = gives c.in-Ok.text.items applies fits;
+    })
 
 pub returns-in_default-clause-value : goal.returns-in_default-clause-value
-returns-in_default-clause-value g c = λ _. text_no_base c.args.self.now c.args.entry.now c.in_default.ensures.unknown
+returns-in_default-clause-value g c =
+    λ _. text_no_base c.args.self.now c.args.entry.now c.in_default.ensures.unknown
 
 pub returns-in-Ok-clause-value : goal.returns-in-Ok-clause-value
 returns-in-Ok-clause-value g c = λ _.
     let base = c.in-Some.base.now in
     let lawful : AreLawful c.args.self.now.rows = rw (← c.self.view_is) c.self.invariant.lawful in
-    let read : outcome_of base c.args.entry.now.delta c.args.self.now.limits.text ≡ Ok c.in-Ok.text.items = rw (← c.as_slice.ensures, ← c.self.view_is) c.in-Ok.ensures.outcome in
-    rw c.from_vec.ensures (sym (ap told_text read) ∙ text_on_base c.args.self.now c.args.entry.now base lawful c.in-Some.ensures.known)
+    let read : outcome_of base c.args.entry.now.delta c.args.self.now.limits.text ≡ Ok c.in-Ok.text.items =
+    rw (← c.as_slice.ensures, ← c.self.view_is) c.in-Ok.ensures.outcome in
+    rw c.from_vec.ensures (sym (ap told_text read)
+    ∙ text_on_base c.args.self.now c.args.entry.now base lawful c.in-Some.ensures.known)
 
 pub returns-in-Err : goal.returns-in-Err
 returns-in-Err g c =
@@ -39,16 +49,25 @@ returns-in-Err g c =
     let f = c.in-Err.fault in
     let base = c.in-Some.base.now in
     let delta = c.args.entry.now.delta in
-    let short : f ≡ fault.Short → BreaksAt fault.Short base delta = λ is. rw (← c.as_slice.ensures) (e.short (cc)) in
-    let backwards : f ≡ fault.Backwards → BreaksAt fault.Backwards base delta = λ is. rw (← c.as_slice.ensures) (e.backwards (cc)) in
-    let past : f ≡ fault.PastEnd → BreaksAt fault.PastEnd base delta = λ is. rw (← c.as_slice.ensures) (e.past_end (cc)) in
-    let long : f ≡ fault.TooLong → GivesTooMuch base delta c.args.self.now.limits.text = λ is. rw (← c.as_slice.ensures, ← c.self.view_is) (e.too_long (cc)) in
+    let short : f ≡ fault.Short
+    → BreaksAt fault.Short base delta = λ is. rw (← c.as_slice.ensures) (e.short (cc)) in
+    let backwards : f ≡ fault.Backwards
+    → BreaksAt fault.Backwards base delta = λ is. rw (← c.as_slice.ensures) (e.backwards (cc)) in
+    let past : f ≡ fault.PastEnd
+    → BreaksAt fault.PastEnd base delta = λ is. rw (← c.as_slice.ensures) (e.past_end (cc)) in
+    let long : f ≡ fault.TooLong
+    → GivesTooMuch base delta c.args.self.now.limits.text = λ is.
+    rw (← c.as_slice.ensures, ← c.self.view_is) (e.too_long (cc)) in
     let lawful : AreLawful c.args.self.now.rows = rw (← c.self.view_is) c.self.invariant.lawful in
-    let read : Fails f (outcome_of base delta c.args.self.now.limits.text) = rw (← c.as_slice.ensures, ← c.self.view_is) e.outcome in
+    let read : Fails f (outcome_of base delta c.args.self.now.limits.text) =
+    rw (← c.as_slice.ensures, ← c.self.view_is) e.outcome in
     let value : told_as f ≢ NoMemory → Err (told_as f) ≡ text_of c.args.self.now c.args.entry.now = λ other.
-    told_value f (outcome_of base delta c.args.self.now.limits.text) read other ∙ text_on_base c.args.self.now c.args.entry.now base lawful c.in-Some.ensures.known in
+    told_value f (outcome_of base delta c.args.self.now.limits.text) read other
+    ∙ text_on_base c.args.self.now c.args.entry.now base lawful c.in-Some.ensures.known in
     record {
       text = tt;
-      fault = rw c.from.ensures (told c.args.self.now c.args.entry.now base f c.requires c.in-Some.ensures.known short backwards past long);
+      fault = rw c.from.ensures
+          (told c.args.self.now c.args.entry.now base f c.requires c.in-Some.ensures.known short backwards
+          past long);
       value = rw c.from.ensures (λ other. value (λ e. other (ap (λ (x : AddFault). Err x) e)));
     }

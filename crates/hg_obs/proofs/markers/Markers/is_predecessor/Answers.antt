@@ -5,4 +5,7 @@ use Rattle.hg_obs.proofs.markers.Markers.is_predecessor.Goals as goal
 pub returns : goal.returns
 returns g c =
     let answer = c.contains_key.ensures ∙ ap is_some (c.self.invariant c.args.node.now) in
-    rw (← c.self.view_is) ((λ yes. has_place c.args.node.now c.self.inside.list.keys (sym answer ∙ yes)), (λ is. answer ∙ gets_place c.args.node.now c.self.inside.list.keys is))
+    rw (← c.self.view_is) (
+      (λ yes. has_place c.args.node.now c.self.inside.list.keys (sym answer ∙ yes)),
+      (λ is. answer ∙ gets_place c.args.node.now c.self.inside.list.keys is),
+    )

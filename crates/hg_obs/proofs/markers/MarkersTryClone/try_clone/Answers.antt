@@ -7,6 +7,8 @@ use Rattle.hg_obs.proofs.markers.MarkersTryClone.try_clone.Goals as goal
 pub returns : goal.returns
 returns g c =
     rw (← c.self.view_is) (
-    c.in_ok-merge.ensures.ok ∙ ap (λ (ms : List (Marker g.row.A.Denot)). merged ms c.in_ok-copies.copies) c.new-copy.ensures
-    ∙ ap (λ (ms : List (Marker g.row.A.Denot)). merged [] ms) (c.in_ok-copies.ensures ∙ c.as_slice.ensures.keys) ∙ merged_distinct c.self.inside.list.keys c.as_slice.ensures.unique
+    c.in_ok-merge.ensures.ok
+    ∙ ap (λ (ms : List (Marker g.row.A.Denot)). merged ms c.in_ok-copies.copies) c.new-copy.ensures
+    ∙ ap (λ (ms : List (Marker g.row.A.Denot)). merged [] ms) (c.in_ok-copies.ensures
+    ∙ c.as_slice.ensures.keys) ∙ merged_distinct c.self.inside.list.keys c.as_slice.ensures.unique
     )

@@ -14,11 +14,16 @@ loop-entry-preserved g c =
     let entry = c.entry-item.result in
     let pairs = c.loop-entry.bookmarks.current in
     let set : c.set.new.self.current ≡ with_bookmark pairs entry.1 entry.0 =
-    ap (λ (marked : Marked). marked.current) c.in_ok-set.ensures.ok ∙ ap (λ (name : List ℕ). with_bookmark pairs name entry.0) c.as_slice.ensures in
-    let known = next_known rows entries i entry c.loop-entry-test.true c.entry-item.is c.loop-entry.invariant.known in
+    ap (λ (marked : Marked). marked.current) c.in_ok-set.ensures.ok
+    ∙ ap (λ (name : List ℕ). with_bookmark pairs name entry.0) c.as_slice.ensures in
+    let known = next_known rows entries i entry c.loop-entry-test.true c.entry-item.is
+    c.loop-entry.invariant.known in
     record {
-      pairs = subst (λ (ps : Pairs). AreOnKnown rows ps) (sym set) (with_on_known rows pairs entry.1 entry.0 known.0 c.loop-entry.invariant.pairs);
+      pairs = subst (λ (ps : Pairs). AreOnKnown rows ps) (sym set)
+          (with_on_known rows pairs entry.1 entry.0 known.0 c.loop-entry.invariant.pairs);
       marked = ap (λ (marked : Marked). marked.marked) c.in_ok-set.ensures.ok ∙ c.loop-entry.invariant.marked;
       known = known.1;
-      rest = ap (λ (ps : Pairs). set_each (drop (i + 1) entries) ps) set ∙ set_next entries i entry pairs c.loop-entry-test.true c.entry-item.is ∙ c.loop-entry.invariant.rest;
+      rest = ap (λ (ps : Pairs). set_each (drop (i + 1) entries) ps) set
+          ∙ set_next entries i entry pairs c.loop-entry-test.true c.entry-item.is
+          ∙ c.loop-entry.invariant.rest;
     }

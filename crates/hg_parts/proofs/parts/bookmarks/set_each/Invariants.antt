@@ -9,5 +9,6 @@ invariant-loop-entry g l = record {
   pairs : AreOnKnown l.log.rows l.bookmarks.current;
   marked : l.bookmarks.marked ≡ l.initial.bookmarks.marked;
   known : are_known l.log.rows (drop l.entry-index l.entries) ≡ true;
-  rest : set_each (drop l.entry-index l.entries) l.bookmarks.current ≡ set_each l.entries l.initial.bookmarks.current;
+  rest : set_each (drop l.entry-index l.entries) l.bookmarks.current ≡ set_each l.entries
+      l.initial.bookmarks.current;
 }

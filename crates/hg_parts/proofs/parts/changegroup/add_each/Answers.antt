@@ -15,16 +15,20 @@ loop-entry-preserved g c =
         markers = c.in_ok-add_one.ensures.others.markers ∙ c.loop-entry.invariant.others.markers;
         bookmarks = c.in_ok-add_one.ensures.others.bookmarks ∙ c.loop-entry.invariant.others.bookmarks;
       };
-      reached = add_step c.args.settings.now.limits c.args.t c.args.entries.now c.loop-entry.entry-index c.entry-item.result start c.loop-entry.store.log c.loop-entry.store.phases.current.phases next
-          c.loop-entry.invariant.sound.limits c.loop-entry-test.true c.entry-item.is c.loop-entry.invariant.reached c.in_ok-add_one.ensures.gives;
+      reached = add_step c.args.settings.now.limits c.args.t c.args.entries.now c.loop-entry.entry-index
+          c.entry-item.result start c.loop-entry.store.log c.loop-entry.store.phases.current.phases next
+          c.loop-entry.invariant.sound.limits c.loop-entry-test.true c.entry-item.is
+          c.loop-entry.invariant.reached c.in_ok-add_one.ensures.gives;
     }
 
 pub returns-clause-gives : goal.returns-clause-gives
 returns-clause-gives g c =
     let start : Grown = grown_of c.args.store.now in
     let now : Grown = grown_of c.loop-entry.store in
-    let all : c.loop-entry.entry-index ≡ length c.args.entries.now = omega (arith, c.loop-entry-test.false, c.loop-entry.auto.entry-index-end) in
-    add_all c.args.settings.now.limits c.args.t c.args.entries.now c.loop-entry.entry-index start now all c.loop-entry.invariant.reached
+    let all : c.loop-entry.entry-index ≡ length c.args.entries.now = omega
+    (arith, c.loop-entry-test.false, c.loop-entry.auto.entry-index-end) in
+    add_all c.args.settings.now.limits c.args.t c.args.entries.now c.loop-entry.entry-index start now all
+    c.loop-entry.invariant.reached
 
 pub returns-in_err-add_one-clause-gives : goal.returns-in_err-add_one-clause-gives
 returns-in_err-add_one-clause-gives g c =
@@ -32,9 +36,13 @@ returns-in_err-add_one-clause-gives g c =
     let now : Grown = grown_of c.add_one.new.store in
     let fault = c.in_err-add_one.field-0.0 in
     let told : c.from_residual.result ≡ Err fault = search rules in
-    subst (λ result. AddGives (add_each c.args.settings.now.limits c.args.t c.args.entries.now start) now result) (sym told)
+    subst (λ result. AddGives (add_each c.args.settings.now.limits c.args.t c.args.entries.now start) now
+    result) (sym told)
     (elim c.in_err-add_one.ensures.gives [
       | inl none ↦ inl none
-      | inr refused ↦ inr (add_fault c.args.settings.now.limits c.args.t c.args.entries.now c.loop-entry.entry-index c.entry-item.result start c.loop-entry.store.log c.loop-entry.store.phases.current.phases fault
-          c.loop-entry.invariant.sound.limits c.loop-entry-test.true c.entry-item.is c.loop-entry.invariant.reached refused)
+      | inr refused ↦ inr (add_fault c.args.settings.now.limits c.args.t c.args.entries.now
+          c.loop-entry.entry-index c.entry-item.result start c.loop-entry.store.log
+          c.loop-entry.store.phases.current.phases fault
+          c.loop-entry.invariant.sound.limits c.loop-entry-test.true c.entry-item.is
+          c.loop-entry.invariant.reached refused)
     ])

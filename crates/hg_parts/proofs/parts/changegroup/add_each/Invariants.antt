@@ -9,5 +9,6 @@ invariant-loop-entry g l = record {
   sound : IsSound l.settings l.store;
   grown : IsGrown l.initial.store l.store;
   others : AreOthersSame l.initial.store l.store;
-  reached : add_each l.settings.limits l.t l.entries (grown_of l.initial.store) ≡ add_each l.settings.limits l.t (drop l.entry-index l.entries) (grown_of l.store);
+  reached : add_each l.settings.limits l.t l.entries (grown_of l.initial.store) ≡ add_each l.settings.limits
+      l.t (drop l.entry-index l.entries) (grown_of l.store);
 }

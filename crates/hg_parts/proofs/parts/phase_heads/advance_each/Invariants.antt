@@ -9,5 +9,6 @@ invariant-loop-entry g l = record {
   fits : AreFor l.log.rows l.phases.current;
   count : length l.phases.current.phases ≡ length l.log.rows;
   marked : l.phases.marked ≡ l.initial.phases.marked;
-  rest : advance_each l.log.rows (drop l.entry-index l.entries) l.phases.current.phases ≡ advance_each l.log.rows l.entries l.initial.phases.current.phases;
+  rest : advance_each l.log.rows (drop l.entry-index l.entries) l.phases.current.phases ≡ advance_each
+      l.log.rows l.entries l.initial.phases.current.phases;
 }

@@ -5,8 +5,10 @@ use Rattle.hg_parts.proofs.parts.phase_heads.advance_one.Goals as goal
 
 pub returns-in_ok-advance-in-Some-clause-count : goal.returns-in_ok-advance-in-Some-clause-count
 returns-in_ok-advance-in-Some-clause-count g c =
-    ap (λ (phases : List Phase). length phases) c.in_ok-advance-in-Some.ensures.ok ∙ length_advanced _ _ _ _ ∙ c.requires.count
+    ap (λ (phases : List Phase). length phases) c.in_ok-advance-in-Some.ensures.ok ∙ length_advanced _ _ _ _
+    ∙ c.requires.count
 
 pub returns-in_ok-advance-in-None-clause-count : goal.returns-in_ok-advance-in-None-clause-count
 returns-in_ok-advance-in-None-clause-count g c =
-    ap (λ (phases : List Phase). length phases) c.in_ok-advance-in-None.ensures.ok ∙ length_advanced _ _ _ _ ∙ c.requires.count
+    ap (λ (phases : List Phase). length phases) c.in_ok-advance-in-None.ensures.ok ∙ length_advanced _ _ _ _
+    ∙ c.requires.count

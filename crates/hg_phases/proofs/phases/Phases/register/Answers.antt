@@ -21,21 +21,34 @@ invariant_of-self-2 g c =
     let was = old.index.rows.items in
     let x = c.of-row.result in
     let now = c.push_reserved.new.self.items in
-    let grown : now ≡ was ++ x ∷ [] = c.push_reserved.ensures.items ∙ ap (λ xs. xs ++ x ∷ []) c.reserve.ensures.items in
-    let base : base_of old.index.marked now old.index.kept.items ≡ base_of old.index.marked was old.index.kept.items =
-    ap (λ xs. base_of old.index.marked xs old.index.kept.items) grown ∙ base_add old.index.marked was (x ∷ []) old.index.kept.items c.self.invariant.within in
+    let grown : now ≡ was ++ x ∷ [] = c.push_reserved.ensures.items
+    ∙ ap (λ xs. xs ++ x ∷ []) c.reserve.ensures.items in
+    let base : base_of old.index.marked now old.index.kept.items ≡ base_of old.index.marked was
+    old.index.kept.items =
+    ap (λ xs. base_of old.index.marked xs old.index.kept.items) grown
+    ∙ base_add old.index.marked was (x ∷ []) old.index.kept.items c.self.invariant.within in
     let next : c.args.rev ≡ length (phases_told was) = rw (← c.self.view_is) at c.requires.next in
     let at : c.args.rev ≡ length was = next ∙ length-map was phase_told in
-    let drafts : c.push_if.new.numbers.items ≡ old.draft.items ++ cond (is_told Draft x) (c.args.rev ∷ []) [] =
-    c.push_if.ensures.items ∙ ap (λ xs. xs ++ cond c.is_root.result (c.args.rev ∷ []) []) c.reserve-2.ensures.items ∙ ap (λ b. old.draft.items ++ cond b (c.args.rev ∷ []) []) c.is_root.ensures in
-    let secrets : c.push_if-2.new.numbers.items ≡ old.secret.items ++ cond (is_told Secret x) (c.args.rev ∷ []) [] =
-    c.push_if-2.ensures.items ∙ ap (λ xs. xs ++ cond c.is_root-2.result (c.args.rev ∷ []) []) c.reserve-3.ensures.items ∙ ap (λ b. old.secret.items ++ cond b (c.args.rev ∷ []) []) c.is_root-2.ensures in
+    let drafts : c.push_if.new.numbers.items ≡ old.draft.items
+    ++ cond (is_told Draft x) (c.args.rev ∷ []) [] =
+    c.push_if.ensures.items ∙ ap (λ xs. xs ++ cond c.is_root.result (c.args.rev ∷ []) [])
+    c.reserve-2.ensures.items
+    ∙ ap (λ b. old.draft.items ++ cond b (c.args.rev ∷ []) []) c.is_root.ensures in
+    let secrets : c.push_if-2.new.numbers.items ≡ old.secret.items
+    ++ cond (is_told Secret x) (c.args.rev ∷ []) [] =
+    c.push_if-2.ensures.items
+    ∙ ap (λ xs. xs ++ cond c.is_root-2.result (c.args.rev ∷ []) []) c.reserve-3.ensures.items
+    ∙ ap (λ b. old.secret.items ++ cond b (c.args.rev ∷ []) []) c.is_root-2.ensures in
     let longer : length now ≡ length was + 1 = ap length grown ∙ length_push was x in
-    sound_changed was now old.index.kept.items old.index.kept.items old.index.marked old.index.marked old.draft.items old.secret.items c.push_if.new.numbers.items c.push_if-2.new.numbers.items
-    (vec_capacity old.draft) (vec_capacity old.secret) (vec_capacity c.push_if.new.numbers) (vec_capacity c.push_if-2.new.numbers) c.self.invariant
+    sound_changed was now old.index.kept.items old.index.kept.items old.index.marked old.index.marked
+    old.draft.items old.secret.items c.push_if.new.numbers.items c.push_if-2.new.numbers.items
+    (vec_capacity old.draft) (vec_capacity old.secret) (vec_capacity c.push_if.new.numbers)
+    (vec_capacity c.push_if-2.new.numbers) c.self.invariant
     (omega (arith, longer, at, c.ranges.rev.fits)) (omega (arith, longer)) refl c.self.invariant.replaced base
-    (told_added Draft was now x old.draft.items c.push_if.new.numbers.items c.args.rev c.self.invariant.draft at grown drafts)
-    (told_added Secret was now x old.secret.items c.push_if-2.new.numbers.items c.args.rev c.self.invariant.secret at grown secrets)
+    (told_added Draft was now x old.draft.items c.push_if.new.numbers.items c.args.rev
+    c.self.invariant.draft at grown drafts)
+    (told_added Secret was now x old.secret.items c.push_if-2.new.numbers.items c.args.rev
+    c.self.invariant.secret at grown secrets)
     (omega (arith, c.reserve-2.ensures.capacity, c.push_if.ensures.room))
     (omega (arith, c.reserve-3.ensures.capacity, c.push_if-2.ensures.room))
 
@@ -45,22 +58,33 @@ returns-clause-ok g c =
     let was = old.index.rows.items in
     let x = c.of-row.result in
     let now = c.push_reserved.new.self.items in
-    let grown : now ≡ was ++ x ∷ [] = c.push_reserved.ensures.items ∙ ap (λ xs. xs ++ x ∷ []) c.reserve.ensures.items in
+    let grown : now ≡ was ++ x ∷ [] = c.push_reserved.ensures.items
+    ∙ ap (λ xs. xs ++ x ∷ []) c.reserve.ensures.items in
     let next : c.args.rev ≡ length (phases_told was) = rw (← c.self.view_is) at c.requires.next in
     let at : c.args.rev ≡ length was = next ∙ length-map was phase_told in
     let rows = c.args.log.now.rows in
     let above = c.greater-above.result in
     let seen = c.as_slice-rows.ensures.value in
-    let first : c.phase_of.result ≡ phase_of (phases_told was) (parents_of rows (length (phases_told was))).0 =
-    c.phase_of.ensures ∙ ap (λ xs. phase_of (phases_told xs) c.parent_revs-p1.result.0) seen ∙ ap (phase_of (phases_told was)) (c.parent_revs-p1.ensures.first ∙ ap (λ k. (parents_of rows k).0) next) in
-    let second : c.phase_of-2.result ≡ phase_of (phases_told was) (parents_of rows (length (phases_told was))).1 =
-    c.phase_of-2.ensures ∙ ap (λ xs. phase_of (phases_told xs) c.parent_revs-p1.result.1) seen ∙ ap (phase_of (phases_told was)) (c.parent_revs-p1.ensures.second ∙ ap (λ k. (parents_of rows k).1) next) in
+    let first : c.phase_of.result ≡ phase_of (phases_told was)
+    (parents_of rows (length (phases_told was))).0 =
+    c.phase_of.ensures ∙ ap (λ xs. phase_of (phases_told xs) c.parent_revs-p1.result.0) seen
+    ∙ ap (phase_of (phases_told was)) (c.parent_revs-p1.ensures.first
+    ∙ ap (λ k. (parents_of rows k).0) next) in
+    let second : c.phase_of-2.result ≡ phase_of (phases_told was)
+    (parents_of rows (length (phases_told was))).1 =
+    c.phase_of-2.ensures ∙ ap (λ xs. phase_of (phases_told xs) c.parent_revs-p1.result.1) seen
+    ∙ ap (phase_of (phases_told was)) (c.parent_revs-p1.ensures.second
+    ∙ ap (λ k. (parents_of rows k).1) next) in
     let above_is : above ≡ phase_above (parents_of rows) (phases_told was) (length (phases_told was)) =
-    c.greater-above.ensures ∙ ap (λ y. greater y c.phase_of-2.result) first ∙ ap (λ y. greater (phase_of (phases_told was) (parents_of rows (length (phases_told was))).0) y) second in
-    let phase_is : phase_told x ≡ greater c.args.target above = ap phase_told c.of-row.ensures ∙ phase_of_standing c.greater.result above ∙ c.greater.ensures in
+    c.greater-above.ensures ∙ ap (λ y. greater y c.phase_of-2.result) first
+    ∙ ap (λ y. greater (phase_of (phases_told was) (parents_of rows (length (phases_told was))).0) y)
+    second in
+    let phase_is : phase_told x ≡ greater c.args.target above = ap phase_told c.of-row.ensures
+    ∙ phase_of_standing c.greater.result above ∙ c.greater.ensures in
     let index : phases_told now ≡ phases_told was ++ greater c.args.target above ∷ [] =
     ap phases_told grown ∙ map_push phase_told was x ∙ ap (λ p. phases_told was ++ p ∷ []) phase_is in
-    rw (← c.self.view_is) (index ∙ registered_is (parents_of rows) c.args.target above (phases_told was) above_is)
+    rw (← c.self.view_is) (index
+    ∙ registered_is (parents_of rows) c.args.target above (phases_told was) above_is)
 
 pub returns-clause-fits : goal.returns-clause-fits
 returns-clause-fits g c =
@@ -68,36 +92,62 @@ returns-clause-fits g c =
     let was = old.index.rows.items in
     let x = c.of-row.result in
     let now = c.push_reserved.new.self.items in
-    let grown : now ≡ was ++ x ∷ [] = c.push_reserved.ensures.items ∙ ap (λ xs. xs ++ x ∷ []) c.reserve.ensures.items in
+    let grown : now ≡ was ++ x ∷ [] = c.push_reserved.ensures.items
+    ∙ ap (λ xs. xs ++ x ∷ []) c.reserve.ensures.items in
     let next : c.args.rev ≡ length (phases_told was) = rw (← c.self.view_is) at c.requires.next in
     let at : c.args.rev ≡ length was = next ∙ length-map was phase_told in
     let rows = c.args.log.now.rows in
     let above = c.greater-above.result in
     let seen = c.as_slice-rows.ensures.value in
-    let first : c.phase_of.result ≡ phase_of (phases_told was) (parents_of rows (length (phases_told was))).0 =
-    c.phase_of.ensures ∙ ap (λ xs. phase_of (phases_told xs) c.parent_revs-p1.result.0) seen ∙ ap (phase_of (phases_told was)) (c.parent_revs-p1.ensures.first ∙ ap (λ k. (parents_of rows k).0) next) in
-    let second : c.phase_of-2.result ≡ phase_of (phases_told was) (parents_of rows (length (phases_told was))).1 =
-    c.phase_of-2.ensures ∙ ap (λ xs. phase_of (phases_told xs) c.parent_revs-p1.result.1) seen ∙ ap (phase_of (phases_told was)) (c.parent_revs-p1.ensures.second ∙ ap (λ k. (parents_of rows k).1) next) in
+    let first : c.phase_of.result ≡ phase_of (phases_told was)
+    (parents_of rows (length (phases_told was))).0 =
+    c.phase_of.ensures ∙ ap (λ xs. phase_of (phases_told xs) c.parent_revs-p1.result.0) seen
+    ∙ ap (phase_of (phases_told was)) (c.parent_revs-p1.ensures.first
+    ∙ ap (λ k. (parents_of rows k).0) next) in
+    let second : c.phase_of-2.result ≡ phase_of (phases_told was)
+    (parents_of rows (length (phases_told was))).1 =
+    c.phase_of-2.ensures ∙ ap (λ xs. phase_of (phases_told xs) c.parent_revs-p1.result.1) seen
+    ∙ ap (phase_of (phases_told was)) (c.parent_revs-p1.ensures.second
+    ∙ ap (λ k. (parents_of rows k).1) next) in
     let above_is : above ≡ phase_above (parents_of rows) (phases_told was) (length (phases_told was)) =
-    c.greater-above.ensures ∙ ap (λ y. greater y c.phase_of-2.result) first ∙ ap (λ y. greater (phase_of (phases_told was) (parents_of rows (length (phases_told was))).0) y) second in
-    let phase_is : phase_told x ≡ greater c.args.target above = ap phase_told c.of-row.ensures ∙ phase_of_standing c.greater.result above ∙ c.greater.ensures in
+    c.greater-above.ensures ∙ ap (λ y. greater y c.phase_of-2.result) first
+    ∙ ap (λ y. greater (phase_of (phases_told was) (parents_of rows (length (phases_told was))).0) y)
+    second in
+    let phase_is : phase_told x ≡ greater c.args.target above = ap phase_told c.of-row.ensures
+    ∙ phase_of_standing c.greater.result above ∙ c.greater.ensures in
     let index : phases_told now ≡ phases_told was ++ greater c.args.target above ∷ [] =
     ap phases_told grown ∙ map_push phase_told was x ∙ ap (λ p. phases_told was ++ p ∷ []) phase_is in
-    let drafts : c.push_if.new.numbers.items ≡ old.draft.items ++ cond (is_told Draft x) (c.args.rev ∷ []) [] =
-    c.push_if.ensures.items ∙ ap (λ xs. xs ++ cond c.is_root.result (c.args.rev ∷ []) []) c.reserve-2.ensures.items ∙ ap (λ b. old.draft.items ++ cond b (c.args.rev ∷ []) []) c.is_root.ensures in
-    let secrets : c.push_if-2.new.numbers.items ≡ old.secret.items ++ cond (is_told Secret x) (c.args.rev ∷ []) [] =
-    c.push_if-2.ensures.items ∙ ap (λ xs. xs ++ cond c.is_root-2.result (c.args.rev ∷ []) []) c.reserve-3.ensures.items ∙ ap (λ b. old.secret.items ++ cond b (c.args.rev ∷ []) []) c.is_root-2.ensures in
-    let kept : Phasing = record { phases = phases_told was; draft = old.draft.items; secret = old.secret.items } in
+    let drafts : c.push_if.new.numbers.items ≡ old.draft.items
+    ++ cond (is_told Draft x) (c.args.rev ∷ []) [] =
+    c.push_if.ensures.items ∙ ap (λ xs. xs ++ cond c.is_root.result (c.args.rev ∷ []) [])
+    c.reserve-2.ensures.items
+    ∙ ap (λ b. old.draft.items ++ cond b (c.args.rev ∷ []) []) c.is_root.ensures in
+    let secrets : c.push_if-2.new.numbers.items ≡ old.secret.items
+    ++ cond (is_told Secret x) (c.args.rev ∷ []) [] =
+    c.push_if-2.ensures.items
+    ∙ ap (λ xs. xs ++ cond c.is_root-2.result (c.args.rev ∷ []) []) c.reserve-3.ensures.items
+    ∙ ap (λ b. old.secret.items ++ cond b (c.args.rev ∷ []) []) c.is_root-2.ensures in
+    let kept : Phasing = record {
+      phases = phases_told was;
+      draft = old.draft.items;
+      secret = old.secret.items;
+    } in
     let fits : AreFor rows kept = rw (← c.self.view_is) at c.requires.fits in
     let room : length (phases_told was) < length rows = rw next at c.requires.row in
-    let draft : c.push_if.new.numbers.items ≡ kept.draft ++ cond (begins Draft above (greater c.args.target above)) (length (phases_told was) ∷ []) [] =
-    drafts ∙ ap (λ b. kept.draft ++ cond b (c.args.rev ∷ []) []) (ap (is_told Draft) c.of-row.ensures ∙ told_begins Draft c.greater.result above ∙ ap (begins Draft above) c.greater.ensures)
+    let draft : c.push_if.new.numbers.items ≡ kept.draft
+    ++ cond (begins Draft above (greater c.args.target above)) (length (phases_told was) ∷ []) [] =
+    drafts ∙ ap (λ b. kept.draft ++ cond b (c.args.rev ∷ []) []) (ap (is_told Draft) c.of-row.ensures
+    ∙ told_begins Draft c.greater.result above ∙ ap (begins Draft above) c.greater.ensures)
     ∙ ap (λ k. kept.draft ++ cond (begins Draft above (greater c.args.target above)) (k ∷ []) []) next in
-    let secret : c.push_if-2.new.numbers.items ≡ kept.secret ++ cond (begins Secret above (greater c.args.target above)) (length (phases_told was) ∷ []) [] =
-    secrets ∙ ap (λ b. kept.secret ++ cond b (c.args.rev ∷ []) []) (ap (is_told Secret) c.of-row.ensures ∙ told_begins Secret c.greater.result above ∙ ap (begins Secret above) c.greater.ensures)
+    let secret : c.push_if-2.new.numbers.items ≡ kept.secret
+    ++ cond (begins Secret above (greater c.args.target above)) (length (phases_told was) ∷ []) [] =
+    secrets ∙ ap (λ b. kept.secret ++ cond b (c.args.rev ∷ []) []) (ap (is_told Secret) c.of-row.ensures
+    ∙ told_begins Secret c.greater.result above ∙ ap (begins Secret above) c.greater.ensures)
     ∙ ap (λ k. kept.secret ++ cond (begins Secret above (greater c.args.target above)) (k ∷ []) []) next in
-    for_parts rows (phases_told now) (phases_told was ++ greater c.args.target above ∷ []) c.push_if.new.numbers.items _ c.push_if-2.new.numbers.items _ index draft secret
-    (registered_for rows kept c.args.target above (ordered rows c.len-lawful.ensures.lawful) fits room above_is)
+    for_parts rows (phases_told now) (phases_told was ++ greater c.args.target above
+    ∷ []) c.push_if.new.numbers.items _ c.push_if-2.new.numbers.items _ index draft secret
+    (registered_for rows kept c.args.target above (ordered rows c.len-lawful.ensures.lawful) fits room
+    above_is)
 
 pub returns-clause-marked : goal.returns-clause-marked
 returns-clause-marked g c =
@@ -105,7 +155,10 @@ returns-clause-marked g c =
     let was = old.index.rows.items in
     let x = c.of-row.result in
     let now = c.push_reserved.new.self.items in
-    let grown : now ≡ was ++ x ∷ [] = c.push_reserved.ensures.items ∙ ap (λ xs. xs ++ x ∷ []) c.reserve.ensures.items in
-    let base : base_of old.index.marked now old.index.kept.items ≡ base_of old.index.marked was old.index.kept.items =
-    ap (λ xs. base_of old.index.marked xs old.index.kept.items) grown ∙ base_add old.index.marked was (x ∷ []) old.index.kept.items c.self.invariant.within in
+    let grown : now ≡ was ++ x ∷ [] = c.push_reserved.ensures.items
+    ∙ ap (λ xs. xs ++ x ∷ []) c.reserve.ensures.items in
+    let base : base_of old.index.marked now old.index.kept.items ≡ base_of old.index.marked was
+    old.index.kept.items =
+    ap (λ xs. base_of old.index.marked xs old.index.kept.items) grown
+    ∙ base_add old.index.marked was (x ∷ []) old.index.kept.items c.self.invariant.within in
     rw (← c.self.view_is) (ap (marked_as old.is_marked) base)

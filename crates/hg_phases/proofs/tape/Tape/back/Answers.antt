@@ -15,7 +15,8 @@ back-preserved g c =
     let rest = c.pop.new.self.items in
     let change = c.in-Some.change in
     let popped = c.in-Some.ensures.items in
-    let all = All-pop (λ (r : Replaced). r.row < marked) c.back.self.kept.items rest (Some change) popped c.back.invariant.replaced in
+    let all = All-pop (λ (r : Replaced). r.row < marked) c.back.self.kept.items rest
+    (Some change) popped c.back.invariant.replaced in
     let low = c.min-low.result in
     let less : low ≤ c.back.low = omega (arith, c.min-low.ensures) in
     let here : low ≤ change.row = omega (arith, c.min-low.ensures) in
@@ -23,7 +24,8 @@ back-preserved g c =
       marked = c.back.invariant.marked;
       len = length-set rows change.row change.standing ∙ c.back.invariant.len;
       replaced = all.0;
-      base = sym (undone_push rest change rows) ∙ ap (λ ks. undone ks rows) (sym popped) ∙ c.back.invariant.base;
+      base = sym (undone_push rest change rows) ∙ ap (λ ks. undone ks rows) (sym popped)
+          ∙ c.back.invariant.base;
       low = omega (arith, less, c.back.invariant.low);
       front =
           take-set-le low rows change.row change.standing here

@@ -16,5 +16,6 @@ returns-clause-follows g c = record {
   first_push = ap (λ (s : Settings). s.first_push) c.settings.ensures;
   next = ap (λ (s : Settings). s.first_push) c.settings.ensures;
   limit = ap (λ (s : Settings). s.limits.rows) c.settings-2.ensures;
-  waiting = ap (λ (rows : List (Row (Done g.row.A.Denot) (Refusal g.row.A.Denot) g.row.A.Denot)). map (λ row. row.push) rows) c.new-2.ensures.items;
+  waiting = ap (λ (rows : List (Row (Done g.row.A.Denot) (Refusal g.row.A.Denot) g.row.A.Denot)).
+      map (λ row. row.push) rows) c.new-2.ensures.items;
 }

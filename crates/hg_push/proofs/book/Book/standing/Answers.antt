@@ -6,16 +6,29 @@ use Rattle.hg_push.proofs.Searching.{rows_in_order}
 use Rattle.hg_push.proofs.book.Book.standing.Goals as goal
 
 pub place_of-requires : goal.place_of-requires
-place_of-requires g c = rw c.as_slice.ensures.value (rows_in_order (is_between c.self.inside.first_push c.self.inside.next) c.self.inside.rows.items c.self.invariant.0)
+place_of-requires g c = rw c.as_slice.ensures.value
+    (rows_in_order (is_between c.self.inside.first_push c.self.inside.next) c.self.inside.rows.items
+    c.self.invariant.0)
 
 pub returns-in-Some-clause-opened : goal.returns-in-Some-clause-opened
 returns-in-Some-clause-opened g c = λ first h holds opened.
-    c.row_standing.ensures ∙ row_tells run_push first h _ c.args.push c.in-Some.at _ (subst (λ b. Holds run_push first h b) (sym c.self.view_is) holds) (subst (λ b. is_opened b c.args.push ≡ true) (sym c.self.view_is) opened) (sym (rw c.as_slice.ensures.value at c.in-Some.ensures)) c.index.ensures
+    c.row_standing.ensures ∙ row_tells run_push first h _ c.args.push c.in-Some.at _
+    (subst (λ b. Holds run_push first h b) (sym c.self.view_is) holds)
+    (subst (λ b. is_opened b c.args.push ≡ true) (sym c.self.view_is) opened)
+    (sym (rw c.as_slice.ensures.value at c.in-Some.ensures)) c.index.ensures
 
 pub returns-then-has_push-clause-opened : goal.returns-then-has_push-clause-opened
 returns-then-has_push-clause-opened g c = λ first h holds opened.
-    (journal_tells run_push first h _ c.args.push (subst (λ b. Holds run_push first h b) (sym c.self.view_is) holds) (subst (λ b. is_opened b c.args.push ≡ true) (sym c.self.view_is) opened) (sym (rw c.as_slice.ensures.value at c.in-None.ensures))).0 (sym (rw c.as_slice-in-None.ensures.value at c.if-has_push.ensures))
+    (journal_tells run_push first h _ c.args.push
+    (subst (λ b. Holds run_push first h b) (sym c.self.view_is) holds)
+    (subst (λ b. is_opened b c.args.push ≡ true) (sym c.self.view_is) opened)
+    (sym (rw c.as_slice.ensures.value at c.in-None.ensures))).0
+    (sym (rw c.as_slice-in-None.ensures.value at c.if-has_push.ensures))
 
 pub returns-else-has_push-clause-opened : goal.returns-else-has_push-clause-opened
 returns-else-has_push-clause-opened g c = λ first h holds opened.
-    (journal_tells run_push first h _ c.args.push (subst (λ b. Holds run_push first h b) (sym c.self.view_is) holds) (subst (λ b. is_opened b c.args.push ≡ true) (sym c.self.view_is) opened) (sym (rw c.as_slice.ensures.value at c.in-None.ensures))).1 (sym (rw c.as_slice-in-None.ensures.value at c.if-has_push.ensures))
+    (journal_tells run_push first h _ c.args.push
+    (subst (λ b. Holds run_push first h b) (sym c.self.view_is) holds)
+    (subst (λ b. is_opened b c.args.push ≡ true) (sym c.self.view_is) opened)
+    (sym (rw c.as_slice.ensures.value at c.in-None.ensures))).1
+    (sym (rw c.as_slice-in-None.ensures.value at c.if-has_push.ensures))

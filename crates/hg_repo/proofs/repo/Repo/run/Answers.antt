@@ -10,15 +10,20 @@ use Rattle.hg_repo.proofs.repo.Repo.run.Goals as goal
 pub invariant_of-self-in-Err : goal.invariant_of-self-in-Err
 invariant_of-self-in-Err g c =
     let store : Store g.row.A.Denot = c.self.inside.store in
-    let can = can_go_back_on store c.mark-mark.result c.mark-mark.new.self c.run_parts.new.store c.mark-mark.ensures.mark c.in-Err.ensures.grown in
+    let can = can_go_back_on store c.mark-mark.result c.mark-mark.new.self c.run_parts.new.store
+    c.mark-mark.ensures.mark c.in-Err.ensures.grown in
     rw (c.back_to.ensures store can) (sound_unmarked c.self.inside.settings store c.self.invariant)
 
 pub returns-in-Err-clause-gives : goal.returns-in-Err-clause-gives
 returns-in-Err-clause-gives g c =
     let store : Store g.row.A.Denot = c.self.inside.store in
-    let can = can_go_back_on store c.mark-mark.result c.mark-mark.new.self c.run_parts.new.store c.mark-mark.ensures.mark c.in-Err.ensures.grown in
+    let can = can_go_back_on store c.mark-mark.result c.mark-mark.new.self c.run_parts.new.store
+    c.mark-mark.ensures.mark c.in-Err.ensures.grown in
     let refusal = c.in-Err.refusal in (
-      ap (λ (s : Store g.row.A.Denot). repository_of c.self.inside.settings s) (c.back_to.ensures store can) ∙ c.self.view_is,
-      subst (λ (repo : Repository g.row.A.Denot). (refusal ≡ NoMemory) ⊎ (run_of c.args.source repo c.args.parts.now ≡ Err refusal))
-          (ap (λ (s : Store g.row.A.Denot). repository_of c.self.inside.settings s) c.mark-mark.ensures.store ∙ c.self.view_is) c.in-Err.ensures.gives,
+      ap (λ (s : Store g.row.A.Denot). repository_of c.self.inside.settings s) (c.back_to.ensures store can)
+          ∙ c.self.view_is,
+      subst (λ (repo : Repository g.row.A.Denot). (refusal ≡ NoMemory)
+          ⊎ (run_of c.args.source repo c.args.parts.now ≡ Err refusal))
+          (ap (λ (s : Store g.row.A.Denot). repository_of c.self.inside.settings s) c.mark-mark.ensures.store
+          ∙ c.self.view_is) c.in-Err.ensures.gives,
     )

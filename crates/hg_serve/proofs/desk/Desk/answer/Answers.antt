@@ -28,15 +28,21 @@ returns g c =
     let mine = c.ended.invariant.2 in
     let P : List (Taken g.row.A.Denot) → Type 0 = λ h. IsPrefix (of push (items_of h)) claim.put in
     let Q : List (Taken g.row.A.Denot) → Type 0 = λ h. of push (items_of h) ≡ claim.put in
-    let taken' = subst P same (put_prefix g.J.Naming.capacity c.finish-takes.new.self push claim awaits mine f.known) in
+    let taken' = subst P same
+    (put_prefix g.J.Naming.capacity c.finish-takes.new.self push claim awaits mine f.known) in
     let ended' = subst (λ (h : List (Taken g.row.A.Denot)). ending first push h ≡ Some how) same r.outcome in
     let orderly' = put_orderly g.J.Naming.capacity c.finish-takes.new.self push claim awaits mine f.known in
     let law = c.done_had_all_of_its_list.ensures in
-    let inner : Answers g.J.Naming.capacity first push claim.put (seen c.ended.inside.visitor) how c.finish-takes.result after = record {
-      earlier = subst (IsPrefix (seen c.ended.inside.visitor)) same (prefix_again _ _ _ c.begin.ensures.earlier f.later);
+    let inner : Answers g.J.Naming.capacity first push claim.put
+    (seen c.ended.inside.visitor) how c.finish-takes.result after = record {
+      earlier = subst (IsPrefix (seen c.ended.inside.visitor)) same
+          (prefix_again _ _ _ c.begin.ensures.earlier f.later);
       taken = taken';
-      all = λ isnt. subst Q same (put_all c.closed_pushes_have_ended.ensures first g.J.Naming.capacity c.finish-takes.new.self push claim awaits mine f.known f.closed
-          (λ o. (let both : Some how ≡ Some (Aborted NoMemory) = sym r.outcome ∙ o in let is : how ≡ Aborted NoMemory = cc in isnt is)));
+      all = λ isnt. subst Q same
+          (put_all c.closed_pushes_have_ended.ensures first g.J.Naming.capacity c.finish-takes.new.self push
+          claim awaits mine f.known f.closed
+          (λ o. (let both : Some how ≡ Some (Aborted NoMemory) = sym r.outcome ∙ o in
+          let is : how ≡ Aborted NoMemory = cc in isnt is)));
       legal = subst (λ (h : List (Taken g.row.A.Denot)). IsHistory (newest_first h)) same r.legal;
       ended = ended';
       complete = ran_all law.complete first push after claim.put how orderly' taken' ended';
@@ -45,4 +51,5 @@ returns g c =
       bound = f.takes;
       last = λ some. subst (λ (h : List (Taken g.row.A.Denot)). ClosesLast first push h) same (f.last some);
     } in
-    subst (λ (v : EndedView g.row.A.Denot). Answers g.J.Naming.capacity first v.push v.put v.history how c.finish-takes.result after) c.ended.view_is inner
+    subst (λ (v : EndedView g.row.A.Denot). Answers g.J.Naming.capacity first v.push v.put v.history how
+    c.finish-takes.result after) c.ended.view_is inner

@@ -15,8 +15,13 @@ returns-clause-row g c =
     let p = (claim_at c.args.marked).push in
     let old = taker_view c.self.inside.taker in
     let now = taker_view c.hear.new.taker in
-    let is : now ≡ record old { joined = p ∷ old.joined; awaited = Some (claim_at c.args.marked); heard = seen c.args.visitor.now } =
-    l.view ∙ ap (λ (t : TakerView g.row.A.Denot). record t { heard = seen c.args.visitor.now }) c.join.ensures.view in
+    let is : now ≡ record old {
+      joined = p ∷ old.joined;
+      awaited = Some (claim_at c.args.marked);
+      heard = seen c.args.visitor.now;
+    } =
+    l.view ∙ ap (λ (t : TakerView g.row.A.Denot). record t { heard = seen c.args.visitor.now })
+    c.join.ensures.view in
     let joined' = ap (λ (t : TakerView g.row.A.Denot). t.joined) is in
     let noted' = ap (λ (t : TakerView g.row.A.Denot). t.noted) is in
     let k = knows (AsTaker now) now l.fact.0 refl l.fact.1 in
@@ -29,8 +34,13 @@ returns-clause-noted g c =
     let p = (claim_at c.args.marked).push in
     let old = taker_view c.self.inside.taker in
     let now = taker_view c.hear.new.taker in
-    let is : now ≡ record old { joined = p ∷ old.joined; awaited = Some (claim_at c.args.marked); heard = seen c.args.visitor.now } =
-    l.view ∙ ap (λ (t : TakerView g.row.A.Denot). record t { heard = seen c.args.visitor.now }) c.join.ensures.view in
+    let is : now ≡ record old {
+      joined = p ∷ old.joined;
+      awaited = Some (claim_at c.args.marked);
+      heard = seen c.args.visitor.now;
+    } =
+    l.view ∙ ap (λ (t : TakerView g.row.A.Denot). record t { heard = seen c.args.visitor.now })
+    c.join.ensures.view in
     let joined' = ap (λ (t : TakerView g.row.A.Denot). t.joined) is in
     let k = knows (AsTaker now) now l.fact.0 refl l.fact.1 in
     k.joined p (ap (has p) joined' ∙ has_here p old.joined)
@@ -38,4 +48,9 @@ returns-clause-noted g c =
 pub returns-clause-known : goal.returns-clause-known
 returns-clause-known g c =
     let l = c.hear.ensures in
-    record { items = l.fact.0; stands = l.fact.1; taken = history_items c.hear.new.taker; room = l.taker.0.room ∙ c.requires.queue.1 }
+    record {
+      items = l.fact.0;
+      stands = l.fact.1;
+      taken = history_items c.hear.new.taker;
+      room = l.taker.0.room ∙ c.requires.queue.1;
+    }

@@ -9,7 +9,8 @@ abbrev pub invariant-spending : goal.invariant-spending
 invariant-spending g l = record {
   role : IsTakerIn g.J.Naming.table g.J.Naming.capacity l.taker;
   kept : history l.taker ≡ history l.initial.taker;
-  done : (spent : List (List (Taken g.row.A.Denot))) × (l.initial.clients.items ≡ l.clients.items ++ spent) × All (λ h. IsPrefix h (history l.initial.taker)) spent;
+  done : (spent : List (List (Taken g.row.A.Denot))) × (l.initial.clients.items ≡ l.clients.items ++ spent)
+      × All (λ h. IsPrefix h (history l.initial.taker)) spent;
 }
 
 abbrev pub decreases-spending : goal.decreases-spending

@@ -12,10 +12,15 @@ pub returns-clause-fresh : goal.returns-clause-fresh
 returns-clause-fresh g c = each c.open.result c.open.ensures.fresh
   where
     m : IsPrefix (seen c.meet.new.visitor) c.meet.new.self.history
-    m = (c.meet.ensures.earlier.0, ap (λ s. s ++ c.meet.ensures.earlier.0) c.meet.ensures.visitor.1 ∙ c.meet.ensures.earlier.1)
+    m = (
+      c.meet.ensures.earlier.0,
+      ap (λ s. s ++ c.meet.ensures.earlier.0) c.meet.ensures.visitor.1
+          ∙ c.meet.ensures.earlier.1,
+    )
 
     each : (r : Result (Putter g.row.A.Denot) OpenFault)
         → IfOk r (λ p. has (putter_view p).push c.meet.new.self.taker.noted ≡ false)
         → IfOk r (λ p. of (putter_view p).push (items_of (seen c.meet.new.visitor)) ≡ [])
-    each (Ok p) h = fresh_of g.J.Naming.capacity c.meet.new.self (putter_view p).push (seen c.meet.new.visitor) c.meet.ensures.known h m
+    each (Ok p) h = fresh_of g.J.Naming.capacity c.meet.new.self (putter_view p).push
+        (seen c.meet.new.visitor) c.meet.ensures.known h m
     each (Err e) h = tt

@@ -25,9 +25,11 @@ invariant_of-self g c =
     let history' : history c.tell.new.self ≡ history c.self.inside.taker ++ taken x refused ∷ [] =
     c.tell.ensures.history ∙ (λ i. settled' i ++ settle (last' i) refused) in
     let of_noted = ap (has x.push) (sym noted') ∙ e.noted in
-    turned _ _ _ c.self.inside.book c.step-refused.new.self c.self.inside.taker c.tell.new.self c.self.inside.kept x refused
+    turned _ _ _ c.self.inside.book c.step-refused.new.self c.self.inside.taker c.tell.new.self
+    c.self.inside.kept x refused
     c.step-refused.ensures.pushes (λ h. c.step-refused.ensures.holds _ h) of_noted
-    (c.tell.ensures.queue _ _ (taker_named _ _ _ _ _ c.requires.queue.0 c.requires.queue.1 c.take.ensures.taker))
+    (c.tell.ensures.queue _ _
+    (taker_named _ _ _ _ _ c.requires.queue.0 c.requires.queue.1 c.take.ensures.taker))
     (ap (λ (t : TakerView g.row.A.Denot). t.noted) c.tell.ensures.view ∙ noted')
     (ap (λ (t : TakerView g.row.A.Denot). t.joined) c.tell.ensures.view ∙ joined')
     history' o
@@ -38,7 +40,8 @@ returns-in-Some-clause-turned g c =
     let now = taker_view c.take.new.taker in
     let x = c.in-Some.item in
     let refused = c.step-refused.result in
-    let is : now ≡ record old { settled = history c.self.inside.taker; last = Some x } = c.in-Some.ensures.view in
+    let is : now ≡ record old { settled = history c.self.inside.taker; last = Some x } =
+    c.in-Some.ensures.view in
     let last' : now.last ≡ Some x = ap (λ (t : TakerView g.row.A.Denot). t.last) is in
     let settled' = ap (λ (t : TakerView g.row.A.Denot). t.settled) is in
     let more = ap (λ (d : DeskView g.row.A.Denot). d.history ++ taken x refused ∷ []) c.self.view_is in
@@ -52,5 +55,6 @@ returns-in-Some-clause-known g c =
       items = f.0;
       stands = stands_at _ _ f.0 (ap (λ (t : TakerView g.row.A.Denot). AsTaker t) (sym view')) f.1;
       taken = history_items c.tell.new.self;
-      room = ap (λ (t : TakerView g.row.A.Denot). t.capacity) view' ∙ (c.take.ensures.taker.room ∙ c.requires.queue.1);
+      room = ap (λ (t : TakerView g.row.A.Denot). t.capacity) view'
+          ∙ (c.take.ensures.taker.room ∙ c.requires.queue.1);
     }

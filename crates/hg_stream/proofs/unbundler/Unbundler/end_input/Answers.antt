@@ -12,8 +12,11 @@ returns-in_default g c = record {
   failed = λ fault e. absurd (c.in_default.not-Failed fault (stage_failed c.args.self.now.stage fault e));
   holds = λ given bytes h.
       let going = goes_on c.args.self.now.stage c.in_default.not-Ended c.in_default.not-Failed in
-      let told : Tells Reading (limits_of c.args.self.now) bytes (given ++ ready_of c.args.self.now) = subst (λ s. Tells s (limits_of c.args.self.now) bytes (given ++ ready_of c.args.self.now)) going h.tells in
-      let kept : Keeps Reading c.args.self.now bytes (given ++ ready_of c.args.self.now) = subst (λ s. Keeps s c.args.self.now bytes (given ++ ready_of c.args.self.now)) going h.keeps in
+      let told : Tells Reading (limits_of c.args.self.now) bytes (given ++ ready_of c.args.self.now) = subst
+      (λ s. Tells s (limits_of c.args.self.now) bytes (given ++ ready_of c.args.self.now)) going
+      h.tells in
+      let kept : Keeps Reading c.args.self.now bytes (given ++ ready_of c.args.self.now) = subst
+      (λ s. Keeps s c.args.self.now bytes (given ++ ready_of c.args.self.now)) going h.keeps in
       record { keeps = kept.0.left; tells = told };
   ready = refl;
   limits = refl;

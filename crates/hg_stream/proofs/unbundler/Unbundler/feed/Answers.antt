@@ -8,12 +8,15 @@ returns-in_default g c =
     record {
       count = c.feed_on.ensures.count;
       all = c.feed_on.ensures.all;
-      ok = fed_ok c.feed_on.result c.args.self.now c.feed_on.new.self c.args.piece.now going c.feed_on.ensures.ok;
-      err = fed_err c.feed_on.result c.args.self.now c.feed_on.new.self c.args.piece.now going c.feed_on.ensures.err;
+      ok = fed_ok c.feed_on.result c.args.self.now c.feed_on.new.self c.args.piece.now going
+          c.feed_on.ensures.ok;
+      err = fed_err c.feed_on.result c.args.self.now c.feed_on.new.self c.args.piece.now going
+          c.feed_on.ensures.err;
       failed = c.feed_on.ensures.failed;
       goes_on = c.feed_on.ensures.goes_on;
       not_truncated = c.feed_on.ensures.not_truncated;
-      still_failed = λ fault e. absurd (c.in_default.not-Failed fault (stage_failed c.args.self.now.stage fault e));
+      still_failed = λ fault e.
+          absurd (c.in_default.not-Failed fault (stage_failed c.args.self.now.stage fault e));
       still_ended = λ e. absurd (c.in_default.not-Ended (stage_ended c.args.self.now.stage e));
       limits = c.feed_on.ensures.limits;
     }

@@ -8,10 +8,19 @@ use Rattle.hg_stream.proofs.unbundler.Unbundler.finish_part.Goals as goal
 
 pub returns-clause-ok : goal.returns-clause-ok
 returns-clause-ok g c = λ front parts inside left.
-    let pushed : c.push_back.new.self.items ≡ c.args.self.now.ready.items ++ c.make_part.result ∷ [] = search rules in
-    let is : c.make_part.result ≡ part_of c.args.self.now.head c.args.payload = c.make_part.ensures ∙ ap (λ h. part_of h c.args.payload) c.replace-head.ensures.value in
-    let now : c.saturating_sub-self.result + length (parts ++ part_of c.args.self.now.head c.args.payload ∷ []) ≡ c.args.self.now.limits.parts =
-    omega (arith, length-append parts (part_of c.args.self.now.head c.args.payload ∷ []), c.saturating_sub-self.ensures, left, inside.few) in
+    let pushed : c.push_back.new.self.items ≡ c.args.self.now.ready.items ++ c.make_part.result
+    ∷ [] = search rules in
+    let is : c.make_part.result ≡ part_of c.args.self.now.head c.args.payload = c.make_part.ensures
+    ∙ ap (λ h. part_of h c.args.payload) c.replace-head.ensures.value in
+    let now : c.saturating_sub-self.result + length (parts ++ part_of c.args.self.now.head c.args.payload
+    ∷ []) ≡ c.args.self.now.limits.parts =
+    omega (
+      arith,
+      length-append parts (part_of c.args.self.now.head c.args.payload ∷ []),
+      c.saturating_sub-self.ensures,
+      left,
+      inside.few,
+    ) in
     record {
       ready = pushed ∙ ap (λ p. c.args.self.now.ready.items ++ p ∷ []) is;
       at = record {
@@ -20,7 +29,11 @@ returns-clause-ok g c = λ front parts inside left.
           front = front ++ closing;
           rest = [];
           has = closes_part _ front parts _ _ inside;
-          waits = record { holds = c.restart.ensures.empty; most_is = c.restart.ensures.most ∙ c.header_room.ensures ∙ room_is c.saturating_sub-self.result c.args.self.now.limits _ now };
+          waits = record {
+            holds = c.restart.ensures.empty;
+            most_is = c.restart.ensures.most
+                ∙ c.header_room.ensures ∙ room_is c.saturating_sub-self.result c.args.self.now.limits _ now;
+          };
           spelled = sym (append-nil _);
         };
       };

@@ -17,7 +17,8 @@ returns-in-Err-clause-past g c =
       past.1,
       λ bytes parts at going full. (
         c.in-Err.ensures.kept.0,
-        ap (λ n. n + length parts) c.in-Err.ensures.kept.1 ∙ at.left ∙ ap (λ l. l.parts) (sym c.advance.ensures.limits),
+        ap (λ n. n + length parts) c.in-Err.ensures.kept.1 ∙ at.left
+            ∙ ap (λ l. l.parts) (sym c.advance.ensures.limits),
         past.2 bytes parts at going full,
       ),
     )
@@ -31,11 +32,17 @@ returns-clause-past g c = (
       let some = c.in_default.ensures.some going_on in
       let one : c.in_default.field-0 ≡ 1 = omega (arith, some, c.in_default.ensures.count) in
       let moved = c.in_default.ensures.ok bytes parts at in
-      let both = rw one at (reading_or_whole_of c.advance.new.self (bytes ++ take c.in_default.field-0 (c.args.byte ∷ [])) (parts ++ moved.0) moved.1.at) in
-      let read : IsReading c.args.self.now.limits (bytes ++ c.args.byte ∷ []) (parts ++ moved.0) ⊎ IsWhole c.args.self.now.limits (bytes ++ c.args.byte ∷ []) (parts ++ moved.0) =
-      subst (λ l. IsReading l (bytes ++ c.args.byte ∷ []) (parts ++ moved.0) ⊎ IsWhole l (bytes ++ c.args.byte ∷ []) (parts ++ moved.0)) c.advance.ensures.limits both in (
-        c.truncate.ensures.items ∙ ap (take c.len-finished.result) moved.1.ready ∙ take_at c.args.self.now.ready.items moved.0 c.len-finished.result (sym c.args.self.now.ready.ok.0 ∙ sym c.len-finished.ensures),
+      let both = rw one at (reading_or_whole_of c.advance.new.self (bytes
+      ++ take c.in_default.field-0 (c.args.byte ∷ [])) (parts ++ moved.0) moved.1.at) in
+      let read : IsReading c.args.self.now.limits (bytes ++ c.args.byte ∷ []) (parts ++ moved.0)
+      ⊎ IsWhole c.args.self.now.limits (bytes ++ c.args.byte ∷ []) (parts ++ moved.0) =
+      subst (λ l. IsReading l (bytes ++ c.args.byte ∷ []) (parts ++ moved.0)
+      ⊎ IsWhole l (bytes ++ c.args.byte ∷ []) (parts ++ moved.0)) c.advance.ensures.limits both in (
+        c.truncate.ensures.items ∙ ap (take c.len-finished.result) moved.1.ready
+            ∙ take_at c.args.self.now.ready.items moved.0 c.len-finished.result
+            (sym c.args.self.now.ready.ok.0 ∙ sym c.len-finished.ensures),
         at.left ∙ ap (λ l. l.parts) (sym c.advance.ensures.limits),
-        by_length bytes c.args.byte (parts ++ moved.0) (reading_of c.args.self.now bytes parts at going) read refl (omega (arith, length-append bytes (c.args.byte ∷ []), full)) refl,
+        by_length bytes c.args.byte (parts ++ moved.0) (reading_of c.args.self.now bytes parts at going) read
+            refl (omega (arith, length-append bytes (c.args.byte ∷ []), full)) refl,
       ),
 )

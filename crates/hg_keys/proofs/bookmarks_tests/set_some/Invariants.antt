@@ -1,6 +1,0 @@
-use Rattle.std.proofs.Common.{◌≡◌}
-use Rattle.hg_keys.proofs.bookmarks_tests.set_some.Given as goal
-
--- the mark stays
-abbrev pub invariant-loop-name : goal.invariant-loop-name
-invariant-loop-name g l = l.bookmarks.marked ≡ l.initial.bookmarks.marked

@@ -1,6 +1,0 @@
-use Rattle.std.proofs.Common.{◌≡◌}
-use Rattle.hg_keys.proofs.many_tests.set_many.Given as goal
-
--- the mark stays
-abbrev pub invariant-loop-number : goal.invariant-loop-number
-invariant-loop-number g l = l.bookmarks.marked ≡ l.initial.bookmarks.marked

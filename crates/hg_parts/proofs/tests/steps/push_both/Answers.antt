@@ -1,7 +1,0 @@
-use Rattle.hg_parts.proofs.Growing.{sound_unmarked, can_go_back_on}
-use Rattle.hg_parts.proofs.tests.steps.push_both.Goals as goal
-
-pub invariant_of-held-in-Err : goal.invariant_of-held-in-Err
-invariant_of-held-in-Err g c =
-    rw (c.back_to.ensures c.held.inside.store (can_go_back_on _ _ _ _ c.mark-mark.ensures.mark c.in-Err.ensures.grown))
-    (sound_unmarked _ _ c.held.invariant)

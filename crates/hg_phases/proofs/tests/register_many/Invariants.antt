@@ -1,6 +1,0 @@
-use Rattle.std.proofs.Common.{◌≡◌}
-use Rattle.hg_phases.specs.Phases.{AreFor}
-use Rattle.hg_phases.proofs.tests.register_many.Given as goal
-
-abbrev pub invariant-rows : goal.invariant-rows
-invariant-rows g l = record { fits : AreFor l.log.rows l.phases.current; marked : l.phases.marked ≡ l.fn.phases.marked }

@@ -1,5 +1,0 @@
-use Rattle.hg_queue.specs.Words.{IsTakerOf}
-use Rattle.hg_queue.proofs.tests.take_many.Given as goal
-
-abbrev pub invariant-parts : goal.invariant-parts
-invariant-parts g l = IsTakerOf l.queue l.taker

@@ -1,4 +1,0 @@
-use Rattle.hg_queue.proofs.tests.take_refused.Goals as goal
-
-pub returns : goal.returns
-returns g c = c.tell.ensures.queue _ _ c.take.ensures.taker
