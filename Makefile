@@ -2,14 +2,15 @@
 #
 #   make run     prove and build the program, and let it take a push that Mercurial sent
 #   make build   leave the program at build/hg_pushd
-#   make test    prove everything from nothing, refuse the wrong bodies, run the tests, and run the built program:
-#                on examples, for clients, under a limit of memory, and for a minute on random bundles
+#   make test    prove everything from nothing, refuse the wrong bodies, run the tests, and run the built
+#                program: on examples, for clients, under a limit of memory, and on random bundles
 #   make bench   measure the program; bench/*/run.sh measure the crates below it
 
 PROGRAM := build/hg_pushd
-SOURCES := crates.txt $(shell find crates -name out -prune -o -type f \( -name '*.rt' -o -name '*.antt' \) -print 2>/dev/null)
+SOURCES := crates.txt $(shell find crates -name out -prune -o -type f \
+	\( -name '*.rt' -o -name '*.antt' \) -print 2>/dev/null)
 
-# The program keeps payloads in memory: with this the C library asks the system for huge pages to keep them in.
+# The program keeps payloads in memory: with this the C library asks the system for huge pages for them.
 HUGE_PAGES := GLIBC_TUNABLES=glibc.malloc.hugetlb=1
 
 # a push that `hg push` sent
@@ -20,8 +21,10 @@ PUSHED := examples/pushes/first-changesets/01.hg20
 build: $(PROGRAM)
 
 $(PROGRAM): $(SOURCES)
-	@command -v rt > /dev/null || { echo 'hg_pushd is built with the Rattle toolchain: its command rt is not on the path.'; exit 1; }
-	@echo 'From nothing this takes about 20 minutes on four processors; where crates did not change, a minute or two.'
+	@command -v rt > /dev/null || \
+	    { echo 'hg_pushd is built with the Rattle toolchain: its command rt is not on the path.'; exit 1; }
+	@echo 'From nothing this takes about 25 minutes on four processors;'
+	@echo 'where crates did not change, a minute or two.'
 	@python3 tools/prove.py
 	@echo 'Building the program.'
 	@cd crates/hg_pushd && rt run -- one < ../../examples/first-push.hg20 > /dev/null
@@ -34,7 +37,8 @@ run: $(PROGRAM)
 	@python3 examples/show.py $(PUSHED)
 	@$(HUGE_PAGES) $(PROGRAM) one < $(PUSHED) > build/reply.hg20 && echo 'Status 0: the push is done. The reply:'
 	@python3 examples/show.py build/reply.hg20
-	@echo 'What the repository then holds. A changeset a line: its number, its id, its phase, whether it is obsolete.'
+	@echo 'What the repository then holds.'
+	@echo 'A changeset a line: its number, its id, its phase, whether it is obsolete.'
 	@$(HUGE_PAGES) $(PROGRAM) replay $(PUSHED)
 	@bash examples/serve-demo.sh $(PROGRAM)
 
@@ -42,10 +46,13 @@ test:
 	@python3 tools/index.py --check
 	@python3 tools/pictures.py --check
 	@python3 tools/costs.py --check
-	@echo 'Proving every crate from nothing, trying the wrong bodies, running the tests: about 80 minutes on four processors.'
+	@echo 'Proving every crate and its tests from nothing, trying the wrong bodies, running the tests:'
+	@echo 'about 55 minutes on four processors.'
 	@rt ci
 	@# the program that the gate has just built, or else a new one
-	@if [ -x crates/hg_pushd/out/hg_pushd ]; then mkdir -p build && cp crates/hg_pushd/out/hg_pushd $(PROGRAM); else $(MAKE) --no-print-directory build; fi
+	@if [ -x crates/hg_pushd/out/hg_pushd ]; \
+	    then mkdir -p build && cp crates/hg_pushd/out/hg_pushd $(PROGRAM); \
+	    else $(MAKE) --no-print-directory build; fi
 	@bash examples/check.sh $(PROGRAM)
 	@bash examples/serve.sh $(PROGRAM)
 	@bash examples/hostile.sh $(PROGRAM)

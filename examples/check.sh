@@ -8,53 +8,64 @@ room=$(mktemp -d)
 trap 'rm -rf "$room"' EXIT
 failed=0
 
+# wrong TEXT: something is not as wanted
+wrong() {
+    echo "$1"
+    failed=1
+}
+
 # check NAME STATUS OUTPUT LINE WORDS..: standard input is $room/in; OUTPUT is a file; LINE is the first line
 # on standard error.
 check() {
     local name=$1 status=$2 output=$3 line=$4 got=0
     shift 4
     "$program" "$@" < "$room/in" > "$room/out" 2> "$room/err" || got=$?
-    if [ "$got" != "$status" ] || ! cmp -s "$room/out" "$output" || [ "$(head -n 1 "$room/err")" != "$line" ]; then
-        echo "$name: status $got, not $status, or another output or line than wanted"
-        failed=1
-    fi
+    [ "$got" = "$status" ] && cmp -s "$room/out" "$output" && [ "$(head -n 1 "$room/err")" = "$line" ] ||
+        wrong "$name: status $got, not $status, or another output or line than wanted"
 }
 
 : > "$room/nothing"
 printf 'HG20\0\0\0\0\0\0\0\0' > "$room/empty"
-printf 'HG20\0\0\0\0\0\0\0\x2a\x0bERROR:ABORT\0\0\0\0\x01\0\x07\x0fmessagestream fault 10\0\0\0\0\0\0\0\0' > "$room/truncated"
+# aborted MESSAGE: the reply to a push whose reading failed with these fifteen letters
+aborted() {
+    printf 'HG20\0\0\0\0\0\0\0\x2a\x0bERROR:ABORT\0\0\0\0\x01\0\x07\x0fmessage%s\0\0\0\0\0\0\0\0' "$1"
+}
+aborted 'stream fault 10' > "$room/truncated"
 "$program" --version > "$room/version" || failed=1
-[[ $(cat "$room/version") =~ ^hg_pushd\ [0-9]+\.[0-9]+\.[0-9]+$ ]] || { echo 'the version is not told'; failed=1; }
+[[ $(cat "$room/version") =~ ^hg_pushd\ [0-9]+\.[0-9]+\.[0-9]+$ ]] || wrong 'the version is not told'
 
 cp "$here/first-push.hg20" "$room/in"
 check 'the first push' 0 "$room/empty" '' one
 check 'the first push is published' 0 "$room/empty" '' one --publishing
-check 'a missing subcommand' 2 "$room/nothing" "error: 'hg_pushd' requires a subcommand but one was not provided"
+check 'a missing subcommand' 2 "$room/nothing" \
+    "error: 'hg_pushd' requires a subcommand but one was not provided"
 check 'a bad word' 2 "$room/nothing" "error: unrecognized subcommand 'two'" two
-check 'a word that is not text' 2 "$room/nothing" 'error: a word of the command line is not UTF-8' "$(printf '\xff')"
+check 'a word that is not text' 2 "$room/nothing" 'error: a word of the command line is not UTF-8' \
+    "$(printf '\xff')"
 head -c 80 "$here/first-push.hg20" > "$room/in"
 check 'a bundle that is cut short' 1 "$room/truncated" 'hg_pushd: push aborted' one
 for command in one replay serve; do
     "$program" $command --help > "$room/help" || failed=1
-    grep -q "^Example: hg_pushd $command " "$room/help" || { echo "the help of $command has no example"; failed=1; }
+    grep -q "^Example: hg_pushd $command " "$room/help" || wrong "the help of $command has no example"
 done
-"$program" --help | grep -q '^Status: 0 ' || { echo 'the help tells no status'; failed=1; }
+"$program" --help | grep -q '^Status: 0 ' || wrong 'the help tells no status'
 
 # Input that cannot be read: none, one for writing alone, and a folder. Output that cannot be written: none, a
 # full device, and a pipe that nobody reads. Standard error may be any of these.
-printf 'HG20\0\0\0\0\0\0\0\x2a\x0bERROR:ABORT\0\0\0\0\x01\0\x07\x0fmessageconnection lost\0\0\0\0\0\0\0\0' > "$room/lost"
+aborted 'connection lost' > "$room/lost"
 # told NAME: the last command had the status 3 and told so
 told() {
-    [ "$1" = 3 ] && [ "$(cat "$room/err")" = 'hg_pushd: device fault' ] || { echo "$2 is not told: status $1"; failed=1; }
+    [ "$1" = 3 ] && [ "$(cat "$room/err")" = 'hg_pushd: device fault' ] ||
+        wrong "$2 is not told: status $1"
 }
 "$program" one <&- > "$room/out" 2> "$room/err"
 told $? 'a closed standard input'
-cmp -s "$room/out" "$room/lost" || { echo 'a closed standard input has another reply'; failed=1; }
+cmp -s "$room/out" "$room/lost" || wrong 'a closed standard input has another reply'
 "$program" one 0> "$room/out" > "$room/out" 2> "$room/err"
 told $? 'a standard input for writing'
 "$program" one < "$room" > "$room/out" 2> "$room/err"
 told $? 'a folder'
-cmp -s "$room/out" "$room/lost" || { echo 'a folder has another reply'; failed=1; }
+cmp -s "$room/out" "$room/lost" || wrong 'a folder has another reply'
 "$program" one < "$here/first-push.hg20" >&- 2> "$room/err"
 told $? 'a closed standard output'
 "$program" one < "$here/first-push.hg20" > /dev/full 2> "$room/err"
@@ -64,14 +75,17 @@ exec 5<> "$room/pipe" 6> "$room/pipe" 5>&-
 "$program" one < "$here/first-push.hg20" >&6 2> "$room/err"
 told $? 'a pipe that nobody reads'
 exec 6>&-
-"$program" one < "$here/first-push.hg20" 2>&- > "$room/out" && cmp -s "$room/out" "$room/empty" || { echo 'a closed standard error stops a push'; failed=1; }
+"$program" one < "$here/first-push.hg20" 2>&- > "$room/out" && cmp -s "$room/out" "$room/empty" ||
+    wrong 'a closed standard error stops a push'
 "$program" one < "$room/nothing" 2> /dev/full > "$room/out"
-[ $? = 1 ] && cmp -s "$room/out" "$room/truncated" || { echo 'a full standard error changes a status'; failed=1; }
+[ $? = 1 ] && cmp -s "$room/out" "$room/truncated" ||
+    wrong 'a full standard error changes a status'
 
 # Pushes that Mercurial sent, one by one: the first of each row onto the empty repository is done, and the
 # second, which rests on the first, is refused there. A reply tells of changesets that have one head more, or
 # of none.
-printf 'HG20\0\0\0\0\0\0\0\x2f\x11reply:changegroup\0\0\0\0\0\x02\x0b\x01\x06\x01in-reply-to2return1\0\0\0\0\0\0\0\0' > "$room/changesets"
+printf 'HG20\0\0\0\0\0\0\0\x2f\x11reply:changegroup\0\0\0\0\0\x02\x0b\x01\x06\x01%s\0\0\0\0\0\0\0\0' \
+    in-reply-to2return1 > "$room/changesets"
 first="$here/pushes/first-changesets"
 cp "$first/01.hg20" "$room/in"
 check 'the first changesets' 0 "$room/changesets" '' one
@@ -84,7 +98,8 @@ for row in "$here"/pushes/*/; do
         [ $push = 01 ] && wanted=$(head -n 1 "$row/statuses")
         got=0
         "$program" "${words[@]}" < "$row/$push.hg20" > "$room/out" 2> "$room/err" || got=$?
-        [ "$got" = "$wanted" ] && [ "$(head -c 4 "$room/out")" = HG20 ] || { echo "$row$push: status $got, not $wanted, or no reply"; failed=1; }
+        [ "$got" = "$wanted" ] && [ "$(head -c 4 "$room/out")" = HG20 ] ||
+            wrong "$row$push: status $got, not $wanted, or no reply"
     done
 done
 
@@ -100,12 +115,15 @@ for row in "$here"/pushes/*/; do
 done
 
 # Files that do not open, and one that opens and cannot be read: its push is cut, and the others follow.
-check 'a replay of nothing' 2 "$room/nothing" 'error: the following required arguments were not provided:' replay
+check 'a replay of nothing' 2 "$room/nothing" \
+    'error: the following required arguments were not provided:' replay
 check 'a missing file' 3 "$room/nothing" 'hg_pushd: device fault' replay "$first/01.hg20" "$room/missing"
 check 'a folder' 3 "$first/report" 'hg_pushd: device fault' replay "$room" "$first/01.hg20"
-check 'a file that is not read' 3 "$first/report" 'hg_pushd: device fault' replay /proc/self/mem "$first/01.hg20"
+check 'a file that is not read' 3 "$first/report" 'hg_pushd: device fault' \
+    replay /proc/self/mem "$first/01.hg20"
 check 'no bundle without an end' 1 "$first/report" 'hg_pushd: push aborted' replay /dev/zero "$first/01.hg20"
-check 'a push that was cut short' 1 "$first/report" 'hg_pushd: push aborted' replay "$room/truncated" "$first/01.hg20"
+check 'a push that was cut short' 1 "$first/report" 'hg_pushd: push aborted' \
+    replay "$room/truncated" "$first/01.hg20"
 "$program" replay "$first/01.hg20" > /dev/full 2> "$room/err"
 told $? 'a full device for a report'
 [ $failed = 0 ] && echo 'The program: all runs as wanted.'

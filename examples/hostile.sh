@@ -2,5 +2,8 @@
 # Clients that ask for more memory than there is: examples/hostile.sh PROGRAM. It ends by itself.
 set -u
 here=$(cd "$(dirname "$0")" && pwd)
-command -v python3 > /dev/null || { echo 'python3 is missing: the server was not tried under a limit.'; exit 1; }
+if ! command -v python3 > /dev/null; then
+    echo 'python3 is missing: the server was not tried under a limit.'
+    exit 1
+fi
 exec timeout 900 python3 "$here/hostile.py" "$@"

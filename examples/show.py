@@ -34,7 +34,7 @@ def text_of(data):
 
 
 def changeset(text):
-    """A changeset's description, user, branch and files: its text has a line each for manifest, user and date."""
+    """A changeset's description, user, branch and files: manifest, user and date have a line each."""
     head, _, description = text.partition(b"\n\n")
     lines = head.split(b"\n")
     extra = lines[2].split(b" ", 2)[2:] if len(lines) > 2 else []

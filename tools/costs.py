@@ -4,8 +4,8 @@
     tools/costs.py            writes the table between its two marks
     tools/costs.py --check    fails where the page's table is another one
 
-Lines are counted in the sources, seconds come from docs/proof-costs.csv (`tools/measure.py`). A step that was not
-measured has no seconds there.
+Lines are counted in the sources, seconds come from docs/proof-costs.csv (`tools/measure.py`). A step that was
+not measured has no seconds there.
 """
 import os
 import sys
@@ -24,16 +24,17 @@ def read(path):
 def lines(crate):
     """Lines of a crate's code, tests, definitions and proofs."""
     found = dict.fromkeys(KINDS, 0)
-    for at, folders, names in os.walk(f"{ROOT}/crates/{crate}"):
-        folders[:] = [it for it in folders if it not in ("out", "must-fail")]
-        inside = os.path.relpath(at, f"{ROOT}/crates/{crate}")
-        for name in names:
-            if not name.endswith((".rt", ".antt")):
-                continue
-            kind = {"src": "code", "specs": "definitions", "proofs": "proofs"}[inside.split("/")[0]]
-            if kind == "code" and "tests" in f"{inside}/{name}":
-                kind = "tests"
-            found[kind] += read(f"{at}/{name}").count("\n")
+    for folder in (crate, f"{crate}_tests"):
+        for at, folders, names in os.walk(f"{ROOT}/crates/{folder}"):
+            folders[:] = [it for it in folders if it not in ("out", "must-fail")]
+            inside = os.path.relpath(at, f"{ROOT}/crates")
+            for name in names:
+                if not name.endswith((".rt", ".antt")):
+                    continue
+                kind = {"src": "code", "specs": "definitions", "proofs": "proofs"}[inside.split("/")[1]]
+                if kind == "code" and "tests" in f"{inside}/{name}":
+                    kind = "tests"
+                found[kind] += read(f"{at}/{name}").count("\n")
     return found
 
 

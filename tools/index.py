@@ -39,9 +39,16 @@ def read(path):
 
 
 def crates():
+    """The crates in their order, without those that hold the tests of another."""
     for line in read(f"{ROOT}/crates.txt").splitlines():
-        if line.strip() and not line.startswith("#"):
-            yield re.split(r"[ :]", line)[0]
+        name = re.split(r"[ :]", line)[0]
+        if line.strip() and not line.startswith("#") and not name.endswith("_tests"):
+            yield name
+
+
+def is_of_tests(path):
+    """Whether a file holds tests: in a crate of their own, or, for the topmost crates, beside the code."""
+    return "_tests/" in path or "/tests" in path
 
 
 def files(folder, suffix):
@@ -135,7 +142,7 @@ def reached(function, by_name, seen=None):
     all_of_it = [function]
     for name in sorted(function.called):
         for callee in by_name.get(name, []):
-            if not callee.is_given and "/tests" not in callee.path:
+            if not callee.is_given and not is_of_tests(callee.path):
                 all_of_it += reached(callee, by_name, seen)
     return all_of_it
 
@@ -209,8 +216,8 @@ def is_of_code(module):
 
 
 def strays(crate):
-    """What stands in a crate's specs/ where it should not: a use of a module of specs/code/ in another one, and
-    a module that the crate's page does not name."""
+    """What stands in a crate's specs/ where it should not: a use of a module of specs/code/ in another one,
+    and a module that the crate's page does not name."""
     page = read(f"{ROOT}/docs/crates/{crate}.md")
     for path in files(f"{ROOT}/crates/{crate}/specs", ".antt"):
         module = os.path.relpath(path, f"{ROOT}/crates/{crate}/specs")[:-5]
@@ -231,7 +238,8 @@ def main():
     known = {crate: definitions(crate) for crate in crates()}
     for crate in crates():
         every, imports = [], {}
-        for path in files(f"{ROOT}/crates/{crate}/src", ".rt"):
+        folders = (f"{ROOT}/crates/{crate}/src", f"{ROOT}/crates/{crate}_tests/src")
+        for path in (path for folder in folders for path in files(folder, ".rt")):
             imports[path] = {}
             for below, module, group in GHOST.findall(read(path)):
                 for entry in group.split(","):
@@ -250,7 +258,7 @@ def main():
             # a constant or a type is turned for the whole file
             for function in within or here:
                 turned[id(function)].append(name)
-        in_tests = [f for f in every if "/tests" in f.path]
+        in_tests = [f for f in every if is_of_tests(f.path)]
         runs = defaultdict(list)
         for test in (f for f in in_tests if f.is_test):
             called, left = set(), [test]
@@ -260,7 +268,7 @@ def main():
                 called |= one.called & set(by_name)
                 for name in one.called & set(by_name):
                     for helper in by_name[name]:
-                        if "/tests" in helper.path and id(helper) not in seen:
+                        if is_of_tests(helper.path) and id(helper) not in seen:
                             seen.add(id(helper))
                             left.append(helper)
             for name in called:
@@ -271,7 +279,8 @@ def main():
             inside = os.path.relpath(function.path, f"{ROOT}/crates/{crate}/src")
             module = inside.split("/")[0].removesuffix(".rt")
             is_given = (function.of or function.name) in given or module in opened
-            function.is_given = function.public and "/tests" not in function.path and (is_given or is_program)
+            is_code = function.public and not is_of_tests(function.path)
+            function.is_given = is_code and (is_given or is_program)
             if function.is_given:
                 public.append(function)
         say("")

@@ -1,9 +1,9 @@
 """Lets Mercurial take the pushes of make.py: beside.py FOLDER REPORT PUSHES..
 
-A repository is made in FOLDER, which is not there yet, and each file of PUSHES is one push to it, in order. It
-is handled as Mercurial's server handles it: by `exchange.unbundle`, in this one process, without a network. The
-report of what the repository then holds is written to REPORT in the words of `hg_pushd replay`. One line tells
-the processor time of the pushes in seconds, and the most memory that the process held, in bytes.
+A repository is made in FOLDER, which is not there yet, and each file of PUSHES is one push to it, in order.
+It is handled as Mercurial's server handles it: by `exchange.unbundle`, in this one process, without a network.
+The report of what the repository then holds is written to REPORT in the words of `hg_pushd replay`. One line
+tells the processor time of the pushes in seconds, and the most memory that the process held, in bytes.
 """
 
 import os

@@ -147,13 +147,15 @@ def memory():
     done, told = peaks(names)
     print("memory beyond the text, in bytes a changeset at 200,000, by the peak of the process:")
     print(f"  where the pushes are done {done / 200000 - 140:.0f}, with the report {told / 200000 - 140:.0f}")
-    print(f"  for each of the second 100,000: {(done - few) / 100000 - 140:.0f} and {(told - few_told) / 100000 - 140:.0f}")
+    later, later_told = ((all - first) / 100000 - 140 for all, first in ((done, few), (told, few_told)))
+    print(f"  for each of the second 100,000: {later:.0f} and {later_told:.0f}")
 
 
 def is_same_as(report, paths):
     """Whether the program reports the same of the same pushes."""
+    ours = subprocess.run([program, "replay", *paths], stdout=subprocess.PIPE, check=True).stdout
     with open(report, "rb") as told:
-        return told.read() == subprocess.run([program, "replay", *paths], stdout=subprocess.PIPE, check=True).stdout
+        return told.read() == ours
 
 
 def mercurial(label, count, names):
@@ -175,9 +177,11 @@ def beside():
     if subprocess.run([PYTHON, "-c", "import mercurial"], stderr=subprocess.DEVNULL).returncode != 0:
         print("Mercurial is not installed here")
         return
-    print("beside Mercurial", subprocess.run(["hg", "--version", "-q"], stdout=subprocess.PIPE, text=True).stdout.strip())
+    version = subprocess.run(["hg", "--version", "-q"], stdout=subprocess.PIPE, text=True).stdout.strip()
+    print("beside Mercurial", version)
     mercurial("changesets of one push of 20,000", 20000, ["line.hg20"])
-    mercurial("pushes of one changeset, 2,000", 2000, [os.path.join("single", name) for name in names_in("single")[:2000]])
+    single = [os.path.join("single", name) for name in names_in("single")[:2000]]
+    mercurial("pushes of one changeset, 2,000", 2000, single)
 
 
 one()
