@@ -1,0 +1,68 @@
+//! Parts nearly as long as a payload may be are prepared, over memory that has room for what they mean.
+
+use super::*;
+use hg_parts::prepare;
+
+/// A payload of nearly 64 MiB: its front, and so many rows behind it.
+fn longest(alloc: Global, front: &[u8], row: &[u8], rows: usize) -> Result<Seq<u8>, NoMemory> {
+    let mut bytes = Vec::with_capacity(alloc, 67_108_864)?;
+    bytes.extend_from_slice(front)?;
+    for _ in 0..rows {
+        bytes.extend_from_slice(row)?;
+    }
+    Ok(Seq::from_vec(bytes))
+}
+
+/// Whether a part of that type and payload has that length, and is prepared.
+fn is_prepared(alloc: Global, kind: &[u8], payload: Seq<u8>, length: usize) -> bool {
+    match Seq::copy_of(alloc, kind) {
+        Ok(kind) => {
+            let is_long = payload.len() == length;
+            let part = Part {
+                kind,
+                id: 1,
+                params: Seq::new(alloc),
+                payload,
+            };
+            prepare(alloc, part).is_ok() && is_long
+        }
+        Err(_) => false,
+    }
+}
+
+/// 2,793,813 entries, each the phase public and the null id.
+#[test]
+fn the_longest_phase_heads(rt: HostRuntime) -> Result<(), Fail> {
+    let payload = longest(rt.alloc(), &[], &[0; 65_544], 1_023)?;
+    assert!(rt; is_prepared(rt.alloc(), b"PHASE-HEADS", payload, 67_051_512));
+    Ok(())
+}
+
+/// A changeset of version 01 whose delta takes all but 92 bytes.
+#[test]
+fn the_longest_changegroup(rt: HostRuntime) -> Result<(), Fail> {
+    let length = 67_043_320u32.to_be_bytes();
+    let payload = longest(rt.alloc(), &length, &[0; 65_536], 1_023)?;
+    assert!(rt; is_prepared(rt.alloc(), b"CHANGEGROUP", payload, 67_043_332));
+    Ok(())
+}
+
+/// 13,091 markers behind the version, each of the null id with 255 successors.
+#[test]
+fn the_longest_marker_data(rt: HostRuntime) -> Result<(), Fail> {
+    let mut row = [0; 5_126];
+    row[0] = 255;
+    let payload = longest(rt.alloc(), &[0], &row, 13_091)?;
+    assert!(rt; is_prepared(rt.alloc(), b"OBSMARKERS", payload, 67_104_467));
+    Ok(())
+}
+
+/// Payloads that are kept as they are, or not looked at.
+#[test]
+fn the_longest_of_other_types(rt: HostRuntime) -> Result<(), Fail> {
+    for kind in [b"CHECK:HEADS".as_slice(), b"BOOKMARKS", b"OUTPUT"] {
+        let payload = longest(rt.alloc(), &[], &[0; 65_540], 1_023)?;
+        assert!(rt; is_prepared(rt.alloc(), kind, payload, 67_047_420));
+    }
+    Ok(())
+}
