@@ -126,43 +126,56 @@ fn tells_done<A: Allocator + Copy>(book: &mut Book<A>, push: u32, parts: usize) 
 
 /// Whether the push is told as a race at that place.
 fn tells_race<A: Allocator + Copy>(book: &mut Book<A>, push: u32, at: u32) -> bool {
-    matches!(
-        book.take_reply(push),
-        Some(Outcome::Aborted(Reason::Refused(Refusal::Raced { place, .. }))) if place == at
-    )
+    is_race(&book.take_reply(push), at)
 }
 
 /// Whether the push is told as aborted for want of memory.
 fn tells_no_memory<A: Allocator + Copy>(book: &mut Book<A>, push: u32) -> bool {
-    matches!(
-        book.take_reply(push),
-        Some(Outcome::Aborted(Reason::NoMemory))
-    )
+    is_without_memory(&book.take_reply(push))
 }
 
 /// Whether the push is told as aborted by the index of its end mark.
 fn tells_wrong_index<A: Allocator + Copy>(book: &mut Book<A>, push: u32) -> bool {
-    matches!(
-        book.take_reply(push),
-        Some(Outcome::Aborted(Reason::WrongIndex))
-    )
+    has_wrong_index(&book.take_reply(push))
 }
 
 /// Whether the push is told as cut off for that reason.
 fn tells_cut<A: Allocator + Copy>(book: &mut Book<A>, push: u32, reason: CutReason) -> bool {
-    matches!(
-        book.take_reply(push),
-        Some(Outcome::Aborted(Reason::Cut(told))) if told == reason
-    )
+    is_cut(&book.take_reply(push), reason)
 }
 
 fn tells_nothing<A: Allocator + Copy>(book: &mut Book<A>, push: u32) -> bool {
     book.take_reply(push).is_none()
 }
 
-fn is_done<A: Allocator>(outcome: &Option<Outcome<Done<A>, Refusal<A>>>, parts: usize) -> bool {
-    match outcome {
+/// What a push is told, where it is closed.
+type Reply<A> = Option<Outcome<Done<A>, Refusal<A>>>;
+
+fn is_done<A: Allocator>(reply: &Reply<A>, parts: usize) -> bool {
+    match reply {
         Some(Outcome::Done(done)) => done.handled.len() == parts,
+        _ => false,
+    }
+}
+
+fn is_race<A: Allocator>(reply: &Reply<A>, at: u32) -> bool {
+    match reply {
+        Some(Outcome::Aborted(Reason::Refused(Refusal::Raced { place, .. }))) => *place == at,
+        _ => false,
+    }
+}
+
+fn is_without_memory<A: Allocator>(reply: &Reply<A>) -> bool {
+    matches!(reply, Some(Outcome::Aborted(Reason::NoMemory)))
+}
+
+fn has_wrong_index<A: Allocator>(reply: &Reply<A>) -> bool {
+    matches!(reply, Some(Outcome::Aborted(Reason::WrongIndex)))
+}
+
+fn is_cut<A: Allocator>(reply: &Reply<A>, reason: CutReason) -> bool {
+    match reply {
+        Some(Outcome::Aborted(Reason::Cut(told))) => *told == reason,
         _ => false,
     }
 }
