@@ -1,5 +1,5 @@
-//! Openings that are refused, by the limit on rows and behind the last number; and as many parts as a push
-//! may have.
+//! Openings that are refused, by the limit on rows and behind the last number; as many parts as a push may
+//! have; and as many pushes as may be open.
 
 use super::*;
 
@@ -115,5 +115,62 @@ pub fn most_parts<J: Naming<Global>, R: Wait + Abort>(
 fn as_many_parts_as_a_push_may_have(rt: HostRuntime) -> Result<(), Fail> {
     let closed = played(&rt, rt.alloc(), 64, settings(0, 1), Scene::MostParts);
     assert_eq!(rt; closed.journal.as_slice(), [0].as_slice());
+    Ok(())
+}
+
+/// Opens 1,024 pushes.
+fn open_most<J: Naming<Global>, R: Wait + Abort>(
+    rt: &R,
+    alloc: Global,
+    server: &Server<J>,
+) -> Vec<Sender<J>> {
+    let mut senders = Vec::new(alloc);
+    for _ in 0..1_024 {
+        let sender = open(rt, server, client(rt, server));
+        match senders.push(sender) {
+            Ok(()) => {}
+            Err(AllocFailed { value: _sender, .. }) => panic!(rt; "no memory for a sender"),
+        }
+    }
+    senders
+}
+
+/// Ends the pushes, the last one first, and says whether each is done.
+fn answer_all<J: Naming<Global>, R: Wait + Abort>(
+    rt: &R,
+    server: &Server<J>,
+    senders: Vec<Sender<J>>,
+    clients: &mut Vec<Client<J>>,
+) -> bool {
+    let mut senders = senders;
+    let mut all = true;
+    'answering: while let Some(sender) = senders.pop() {
+        let (answer, client) = finish(rt, server, sender);
+        all = is_done(&answer, 0) && all;
+        add(rt, clients, client);
+    }
+    senders.destroy_empty();
+    all
+}
+
+/// While 1,024 pushes are open, the next one is refused; each of them is answered.
+pub fn most_open<J: Naming<Global>, R: Wait + Abort>(
+    rt: &R,
+    alloc: Global,
+    server: &Server<J>,
+) -> Vec<Client<J>> {
+    let senders = open_most(rt, alloc, server);
+    let next = refused_as(rt, server, client(rt, server), OpenFault::TooManyOpen);
+    let mut clients = Vec::new(alloc);
+    add(rt, &mut clients, next);
+    let all = answer_all(rt, server, senders, &mut clients);
+    assert!(rt; all);
+    clients
+}
+
+#[test]
+fn as_many_pushes_as_may_be_open(rt: HostRuntime) -> Result<(), Fail> {
+    let closed = played(&rt, rt.alloc(), 64, settings(0, 1_024), Scene::MostOpen);
+    assert_eq!(rt; closed.journal.len(), 1_024);
     Ok(())
 }
