@@ -47,11 +47,20 @@ fn the_longest_changegroup(rt: HostRuntime) -> Result<(), Fail> {
     Ok(())
 }
 
-/// 13,091 markers behind the version, each of the null id with 255 successors.
+/// A marker with 255 successors and no metadata, whose ids are all the same.
+fn longest_row() -> [u8; 5_126] {
+    let mut row = [1; 5_126];
+    row[0] = 255;
+    for at in 1..6 {
+        row[at] = 0;
+    }
+    row
+}
+
+/// 13,091 such markers behind the version.
 #[test]
 fn the_longest_marker_data(rt: HostRuntime) -> Result<(), Fail> {
-    let mut row = [0; 5_126];
-    row[0] = 255;
+    let row = longest_row();
     let payload = longest(rt.alloc(), &[0], &row, 13_091)?;
     assert!(rt; is_prepared(rt.alloc(), b"OBSMARKERS", payload, 67_104_467));
     Ok(())
