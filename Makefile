@@ -23,8 +23,8 @@ build: $(PROGRAM)
 $(PROGRAM): $(SOURCES)
 	@command -v rt > /dev/null || \
 	    { echo 'hg_pushd is built with the Rattle toolchain: its command rt is not on the path.'; exit 1; }
-	@echo 'From nothing this takes about 25 minutes on four processors;'
-	@echo 'where crates did not change, a minute or two.'
+	@echo 'From nothing this takes up to 40 minutes on four processors;'
+	@echo 'where crates did not change, some minutes.'
 	@python3 tools/prove.py
 	@echo 'Building the program.'
 	@cd crates/hg_pushd && rt run -- one < ../../examples/first-push.hg20 > /dev/null

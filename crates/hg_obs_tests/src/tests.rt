@@ -98,7 +98,11 @@ fn data_of(alloc: Global, successor: u8, meta: &[u8]) -> Result<Vec<u8>, AllocEr
 }
 
 /// Merges the markers of the data, and answers how many are new.
-fn merge_data(markers: &mut Markers, alloc: Global, bytes: &[u8]) -> Result<u64, MarkerFault> {
+fn merge_data<A: Allocator + Copy>(
+    markers: &mut Markers<A>,
+    alloc: A,
+    bytes: &[u8],
+) -> Result<u64, MarkerFault> {
     let read = read_markers(alloc, bytes)?;
     Ok(markers.merge(read)?)
 }
@@ -127,6 +131,20 @@ fn one_marker_twice(rt: HostRuntime) -> Result<(), Fail> {
     Ok(())
 }
 
+/// Whether markers with that metadata are merged in turn, as is said beside each.
+fn are_merged(
+    markers: &mut Markers,
+    alloc: Global,
+    forms: &[(&[u8], Result<u64, MarkerFault>)],
+) -> Result<bool, AllocError> {
+    let mut all = true;
+    for (meta, added) in forms {
+        let bytes = data_of(alloc, 34, meta)?;
+        all = merge_data(markers, alloc, &bytes) == *added && all;
+    }
+    Ok(all)
+}
+
 #[test]
 fn metadata_in_three_forms(rt: HostRuntime) -> Result<(), Fail> {
     let mut markers = Markers::new(rt.alloc(), RandomState::new(&rt)?);
@@ -136,12 +154,22 @@ fn metadata_in_three_forms(rt: HostRuntime) -> Result<(), Fail> {
         (b"user:a", Ok(0)),
         (b"user", Err(MarkerFault::BadMetadata)),
     ];
-    for (meta, added) in forms {
-        let bytes = data_of(rt.alloc(), 34, meta)?;
-        assert!(rt; merge_data(&mut markers, rt.alloc(), &bytes) == added);
-    }
-    assert!(rt; markers.list().len() == 2);
+    let merged = are_merged(&mut markers, rt.alloc(), &forms);
+    assert!(rt; merged == Ok(true) && markers.list().len() == 2);
     Ok(())
+}
+
+/// Whether the data of one marker is read so, and with a byte behind it is not.
+fn is_read(
+    alloc: Global,
+    successor: u8,
+    meta: &[u8],
+    read: Result<usize, MarkerFault>,
+) -> Result<bool, AllocError> {
+    let mut bytes = data_of(alloc, successor, meta)?;
+    let alone = count(alloc, &bytes) == read;
+    bytes.push(0)?;
+    Ok(alone && count(alloc, &bytes) == Err(read.err().unwrap_or(MarkerFault::Short)))
 }
 
 #[test]
@@ -163,10 +191,7 @@ fn pieces_of_metadata_and_null_successors(rt: HostRuntime) -> Result<(), Fail> {
         (0, b"", Err(null)),
     ];
     for (successor, meta, read) in forms {
-        let mut bytes = data_of(rt.alloc(), successor, meta)?;
-        assert!(rt; count(rt.alloc(), &bytes) == read);
-        bytes.push(0)?;
-        assert!(rt; count(rt.alloc(), &bytes) == Err(read.err().unwrap_or(MarkerFault::Short)));
+        assert!(rt; is_read(rt.alloc(), successor, meta, read)?);
     }
     Ok(())
 }
@@ -204,20 +229,30 @@ fn merge_of_shared_markers(rt: HostRuntime) -> Result<(), Fail> {
     Ok(())
 }
 
+/// Whether the two lists are cut back to so many markers.
+fn is_cut(markers: &mut Markers, left: usize) -> bool {
+    if left <= markers.list().len() {
+        markers.cut_back(left);
+    }
+    let (first, second) = (
+        markers.is_predecessor(&node(1)),
+        markers.is_predecessor(&node(2)),
+    );
+    markers.list().len() == left && first == (left > 0) && second == (left > 1)
+}
+
+/// Whether the two lists are cut back to nothing, and a copy of them stays.
+fn is_copied(alloc: Global, markers: &mut Markers) -> Result<bool, NoMemory> {
+    merge_two_lists(alloc, markers)?;
+    let copy = markers.try_clone(alloc)?;
+    let cut = is_cut(markers, 2) && is_cut(markers, 1) && is_cut(markers, 0);
+    Ok(cut && copy.list().len() == 3 && copy.is_predecessor(&node(2)))
+}
+
 #[test]
 fn cut_back_and_copy(rt: HostRuntime) -> Result<(), Fail> {
     let mut markers = Markers::new(rt.alloc(), RandomState::new(&rt)?);
-    merge_two_lists(rt.alloc(), &mut markers)?;
-    let copy = markers.try_clone(rt.alloc())?;
-    for left in [2usize, 1, 0] {
-        if left <= markers.list().len() {
-            markers.cut_back(left);
-        }
-        assert!(rt; markers.list().len() == left);
-        assert!(rt; markers.is_predecessor(&node(1)) == (left > 0));
-        assert!(rt; markers.is_predecessor(&node(2)) == (left > 1));
-    }
-    assert!(rt; copy.list().len() == 3 && copy.is_predecessor(&node(2)));
+    assert!(rt; is_copied(rt.alloc(), &mut markers)?);
     Ok(())
 }
 
@@ -251,51 +286,82 @@ const TEN: [(u8, u8); 10] = [
 /// Reads two markers, merges them, copies the list and writes both, in that memory. Behind that ten more are
 /// merged.
 fn reach<A: Allocator + Copy>(alloc: A, state: RandomState) -> Reached {
-    let read = match read_markers(alloc, &TWO) {
-        Ok(read) => read,
-        Err(MarkerFault::NoMemory) => return Reached::Reading,
-        Err(_) => return Reached::Wrong,
-    };
-    let mut markers = Markers::new(alloc, state);
-    match markers.merge(read) {
-        Ok(2) => {}
-        Ok(_) => return Reached::Wrong,
-        Err(NoMemory) => {
-            let changed = !markers.list().is_empty() || markers.is_predecessor(&node(17));
-            return if changed {
-                Reached::Wrong
-            } else {
-                Reached::Merging
-            };
-        }
+    match read_markers(alloc, &TWO) {
+        Ok(read) => merge_two(alloc, Markers::new(alloc, state), read),
+        Err(MarkerFault::NoMemory) => Reached::Reading,
+        Err(_) => Reached::Wrong,
     }
-    let copy = match markers.try_clone(alloc) {
-        Ok(copy) => copy,
-        Err(NoMemory) => return Reached::Copying,
-    };
+}
+
+/// Merges the two markers that were read into the empty list.
+fn merge_two<A: Allocator + Copy>(
+    alloc: A,
+    markers: Markers<A>,
+    read: Seq<Marker<A>, A>,
+) -> Reached {
+    let mut markers = markers;
+    match markers.merge(read) {
+        Ok(added) => copy_two(alloc, markers, added == 2),
+        Err(NoMemory) => merging(markers.list().is_empty() && !markers.is_predecessor(&node(17))),
+    }
+}
+
+/// What a merge reached that was refused and left the list as it was, or did not.
+fn merging(unchanged: bool) -> Reached {
+    if unchanged {
+        Reached::Merging
+    } else {
+        Reached::Wrong
+    }
+}
+
+/// Copies the list of two markers, if as many were merged.
+fn copy_two<A: Allocator + Copy>(alloc: A, markers: Markers<A>, merged: bool) -> Reached {
+    match markers.try_clone(alloc) {
+        Ok(copy) => write_two(alloc, markers, merged, copy.list()),
+        Err(NoMemory) => Reached::Copying,
+    }
+}
+
+/// Writes the copy's markers. A marker is there whole or not at all.
+fn write_two<A: Allocator + Copy>(
+    alloc: A,
+    markers: Markers<A>,
+    merged: bool,
+    copy: &[Marker<A>],
+) -> Reached {
     let mut out = Vec::new(alloc);
-    match write_all(copy.list(), &mut out) {
-        // A marker is there whole or not at all.
-        Err(NoMemory) if out.is_empty() || out.len() == 52 => Reached::Writing,
-        Ok(()) if out.as_slice() == &TWO[1..] => merge_ten(alloc, markers),
-        _ => Reached::Wrong,
+    let written = write_all(copy, &mut out).is_ok();
+    if merged && written && out.as_slice() == &TWO[1..] {
+        merge_ten(alloc, markers)
+    } else if merged && !written && (out.is_empty() || out.len() == 52) {
+        Reached::Writing
+    } else {
+        Reached::Wrong
     }
 }
 
 /// Merges ten markers into a list of two.
 fn merge_ten<A: Allocator + Copy>(alloc: A, markers: Markers<A>) -> Reached {
     let mut markers = markers;
-    let Ok(ten) = list_of(alloc, &TEN) else {
-        return Reached::MergingMore;
-    };
-    let (known, unknown) = (node(17), node(1));
-    match markers.merge(ten) {
-        Ok(10) if markers.list().len() == 12 && markers.is_predecessor(&unknown) => Reached::End,
-        Err(NoMemory)
-            if markers.list().len() == 2
-                && markers.is_predecessor(&known)
-                && !markers.is_predecessor(&unknown) => { Reached::MergingMore }
-        _ => Reached::Wrong,
+    match list_of(alloc, &TEN) {
+        Ok(ten) => {
+            let added = markers.merge(ten);
+            end_of_ten(added, &markers)
+        }
+        Err(NoMemory) => Reached::MergingMore,
+    }
+}
+
+/// What the merge of ten reached: all of them are in the list, or none.
+fn end_of_ten<A: Allocator>(added: Result<u64, NoMemory>, markers: &Markers<A>) -> Reached {
+    let (count, first) = (markers.list().len(), markers.is_predecessor(&node(1)));
+    if added == Ok(10) && count == 12 && first {
+        Reached::End
+    } else if added == Err(NoMemory) && count == 2 && !first && markers.is_predecessor(&node(17)) {
+        Reached::MergingMore
+    } else {
+        Reached::Wrong
     }
 }
 
@@ -319,28 +385,43 @@ fn each_growth_refused(rt: HostRuntime) -> Result<(), Fail> {
     Ok(())
 }
 
-#[test]
-fn no_memory_for_looking_and_cutting(rt: HostRuntime) -> Result<(), Fail> {
-    let heap = LocalHeap::new(rt.alloc(), 8192)?;
-    let mut markers = Markers::new(&heap, RandomState::new(&rt)?);
-    let added = markers.merge(read_markers(&heap, &TWO)?)?;
-    assert!(rt; added == 2);
-    // What is left of the heap is taken, down to the last byte.
-    let mut taken = Vec::new(rt.alloc());
+/// Takes what is left of the heap, down to the last byte.
+fn fill<'h>(
+    heap: &'h LocalHeap,
+    taken: &mut Vec<Vec<u8, &'h LocalHeap>>,
+) -> Result<(), AllocError> {
     for size in [4096usize, 2048, 1024, 512, 256, 128, 64, 32, 16, 8, 4, 2, 1] {
         for _ in 0..16u32 {
-            if let Ok(block) = Vec::<u8, _>::with_capacity(&heap, size) {
+            if let Ok(block) = Vec::<u8, _>::with_capacity(heap, size) {
                 taken.push(block)?;
             }
         }
     }
-    assert!(rt; Vec::<u8, _>::with_capacity(&heap, 1).is_err());
-    assert!(rt; markers.list().len() == 2 && markers.is_predecessor(&node(34)));
+    Ok(())
+}
+
+/// Whether the list of two markers is looked at, and cut to the first.
+fn is_cut_to_one<A: Allocator>(markers: &mut Markers<A>) -> bool {
+    let two = markers.list().len() == 2 && markers.is_predecessor(&node(34));
     if markers.list().len() > 1 {
         markers.cut_back(1);
     }
-    assert!(rt; markers.list().len() == 1);
-    assert!(rt; markers.is_predecessor(&node(17)) && !markers.is_predecessor(&node(34)));
+    let (first, second) = (
+        markers.is_predecessor(&node(17)),
+        markers.is_predecessor(&node(34)),
+    );
+    two && markers.list().len() == 1 && first && !second
+}
+
+#[test]
+fn no_memory_for_looking_and_cutting(rt: HostRuntime) -> Result<(), Fail> {
+    let state = RandomState::new(&rt)?;
+    let heap = LocalHeap::new(rt.alloc(), 8192)?;
+    let mut markers = Markers::new(&heap, state);
+    let merged = merge_data(&mut markers, &heap, &TWO) == Ok(2);
+    let mut taken = Vec::new(rt.alloc());
+    let filled = fill(&heap, &mut taken).is_ok() && Vec::<u8, _>::with_capacity(&heap, 1).is_err();
+    assert!(rt; merged && filled && is_cut_to_one(&mut markers));
     Ok(())
 }
 
@@ -357,27 +438,50 @@ fn numbered(alloc: Global, count: u32) -> Result<Vec<u8>, AllocError> {
     Ok(bytes)
 }
 
+/// Merges the markers of the data, and answers the bytes of the heap in use when they were read and when they
+/// were merged.
+fn merge_in_use<'h>(
+    heap: &'h LocalHeap,
+    markers: &mut Markers<&'h LocalHeap>,
+    bytes: &[u8],
+) -> Result<[usize; 2], MarkerFault> {
+    let data = read_markers(heap, bytes)?;
+    let read = heap.used();
+    markers.merge(data)?;
+    Ok([read, heap.used()])
+}
+
+/// Whether a list that is not empty takes two markers more.
+fn takes_two_more<A: Allocator + Copy>(alloc: A, markers: &mut Markers<A>) -> bool {
+    let is_list = !markers.list().is_empty() && !markers.is_predecessor(&Node::NULL);
+    is_list && merge_data(markers, alloc, &TWO) == Ok(2)
+}
+
+/// The bytes of the heap in use when the list is copied. Two more markers join the copy.
+fn copy_in_use<'h>(
+    heap: &'h LocalHeap,
+    markers: &Markers<&'h LocalHeap>,
+) -> Result<usize, MarkerFault> {
+    let mut copy = markers.try_clone(heap)?;
+    let copied = heap.used();
+    if takes_two_more(heap, &mut copy) {
+        Ok(copied)
+    } else {
+        Err(MarkerFault::Short)
+    }
+}
+
 /// The bytes of a heap in use where the list is empty, where the markers of the data are read, merged and
 /// copied, and where the list is looked at and cut to nothing.
 fn in_use(heap: &LocalHeap, state: RandomState, bytes: &[u8]) -> Result<[usize; 5], MarkerFault> {
     let mut markers = Markers::new(heap, state);
     let empty = heap.used();
-    let data = read_markers(heap, bytes)?;
-    let read = heap.used();
-    markers.merge(data)?;
-    let merged = heap.used();
-    let mut copy = markers.try_clone(heap)?;
-    let copied = heap.used();
-    if copy.is_predecessor(&Node::NULL) || copy.list().is_empty() {
-        return Ok([copied; 5]);
-    }
-    // Two more join the many.
-    if copy.merge(read_markers(heap, &TWO)?)? != 2 {
-        return Ok([copied; 5]);
-    }
-    drop(copy);
+    let merge = merge_in_use(heap, &mut markers, bytes);
+    let copy = copy_in_use(heap, &markers);
     markers.cut_back(0);
-    Ok([empty, read, merged, copied, heap.used()])
+    let cut = heap.used();
+    let [read, merged] = merge?;
+    Ok([empty, read, merged, copy?, cut])
 }
 
 /// Over an ample heap nothing is refused, however many markers come, and no call keeps more than came:

@@ -41,25 +41,37 @@ fn is_handed_out<A: Allocator + Copy>(book: Book<A>, push: u32) -> bool {
 
 /// A0 B0 A1 B1 B end A end, where the second part of A is a race on heads, and that of B is none. The items
 /// are clones, and an advisory parameter of B's first part is ignored.
+fn interleave<A: Allocator + Copy>(alloc: A, book: &mut Book<A>) -> bool {
+    let (caps, heads) = (b"REPLYCAPS".as_slice(), b"CHECK:HEADS".as_slice());
+    let first = put_clone(alloc, book, 0, 0, part(alloc, caps, b""));
+    let other = put_clone(alloc, book, 1, 0, part_with(alloc, caps, false, b"x", b"1"));
+    let raced = put_clone(alloc, book, 0, 1, part(alloc, heads, b""));
+    let checked = put_clone(alloc, book, 1, 1, part(alloc, heads, &NULL));
+    first && other && raced && checked && end(book, 1, 2) && end(book, 0, 2)
+}
+
+/// Whether A is told as a race and B as done, before and after the replies are taken.
+fn second_is_told<A: Allocator + Copy>(book: &mut Book<A>) -> bool {
+    let before = has_journal(book, &[1]) && second_is_done(book);
+    let told = tells_race(book, 0, 1) && tells_done(book, 1, 2);
+    before && told && second_is_done(book) && tells_nothing(book, 0)
+}
+
 #[test]
 fn two_pushes_interleaved(rt: HostRuntime) -> Result<(), Fail> {
     let state = RandomState::new(&rt)?;
-    let alloc = rt.alloc();
-    let mut book = empty_book(alloc, state);
+    let mut book = empty_book(rt.alloc(), state);
     let opened = book.open() == Ok(0) && book.open() == Ok(1);
-    let (caps, heads) = (b"REPLYCAPS".as_slice(), b"CHECK:HEADS".as_slice());
-    let ignored = part_with(alloc, caps, false, b"x", b"1");
-    let first = put_clone(alloc, &mut book, 0, 0, part(alloc, caps, b""))
-        && put_clone(alloc, &mut book, 1, 0, ignored);
-    let second = put_clone(alloc, &mut book, 0, 1, part(alloc, heads, b""))
-        && put_clone(alloc, &mut book, 1, 1, part(alloc, heads, &NULL));
-    let ended = end(&mut book, 1, 2) && end(&mut book, 0, 2);
-    assert!(rt; opened && first && second && ended);
-    let before = has_journal(&book, &[1]) && second_is_done(&book);
-    let told = tells_race(&mut book, 0, 1) && tells_done(&mut book, 1, 2);
-    let after = second_is_done(&book) && tells_nothing(&mut book, 0);
-    assert!(rt; before && told && after && is_handed_out(book, 1));
+    let told = opened && interleave(rt.alloc(), &mut book) && second_is_told(&mut book);
+    assert!(rt; is_handed_out(book, 1) && told);
     Ok(())
+}
+
+/// Whether a push without parts is done.
+fn is_empty_done<A: Allocator + Copy>(book: &mut Book<A>) -> bool {
+    let opened = book.open() == Ok(0) && book.standing(0) == Standing::Open;
+    let ended = tells_nothing(book, 0) && end(book, 0, 0);
+    opened && ended && tells_done(book, 0, 0) && has_journal(book, &[0])
 }
 
 /// The empty bundle is a push without parts.
@@ -67,23 +79,34 @@ fn two_pushes_interleaved(rt: HostRuntime) -> Result<(), Fail> {
 fn empty_bundle(rt: HostRuntime) -> Result<(), Fail> {
     let state = RandomState::new(&rt)?;
     let mut book = empty_book(rt.alloc(), state);
-    let opened = book.open() == Ok(0) && book.standing(0) == Standing::Open;
-    let ended = tells_nothing(&mut book, 0) && end(&mut book, 0, 0);
-    let told = tells_done(&mut book, 0, 0) && has_journal(&book, &[0]);
-    assert!(rt; opened && ended && told);
+    let told = is_empty_done(&mut book);
+    drop(book);
+    assert!(rt; told);
     Ok(())
+}
+
+/// Whether a check of other heads than those of the empty repository is told as a race.
+fn is_raced<A: Allocator + Copy>(alloc: A, book: &mut Book<A>) -> bool {
+    let opened = book.open() == Ok(0);
+    let checked = put(book, 0, 0, part(alloc, b"CHECK:HEADS", b"")) && end(book, 0, 1);
+    opened && checked && tells_race(book, 0, 0) && has_journal(book, &[])
+}
+
+/// Whether nothing is in the book's repository.
+fn has_empty_repo<A: Allocator + Copy>(alloc: A, state: RandomState, book: &Book<A>) -> bool {
+    let empty = Repo::new(alloc, settings(0, 1), state);
+    let is_same = book.repo().is_same(&empty);
+    drop(empty);
+    is_same
 }
 
 #[test]
 fn race_on_heads(rt: HostRuntime) -> Result<(), Fail> {
     let state = RandomState::new(&rt)?;
-    let alloc = rt.alloc();
-    let mut book = empty_book(alloc, state);
-    let opened = book.open() == Ok(0);
-    let put = put(&mut book, 0, 0, part(alloc, b"CHECK:HEADS", b"")) && end(&mut book, 0, 1);
-    let told = tells_race(&mut book, 0, 0) && has_journal(&book, &[]);
-    let other = Repo::new(alloc, settings(0, 1), state);
-    assert!(rt; opened && put && told && book.repo().is_same(&other));
+    let mut book = empty_book(rt.alloc(), state);
+    let raced = is_raced(rt.alloc(), &mut book) && has_empty_repo(rt.alloc(), state, &book);
+    drop(book);
+    assert!(rt; raced);
     Ok(())
 }
 
@@ -91,8 +114,16 @@ fn race_on_heads(rt: HostRuntime) -> Result<(), Fail> {
 fn too_many_rows(rt: HostRuntime) -> Result<(), Fail> {
     let state = RandomState::new(&rt)?;
     let mut book = book_from(rt.alloc(), state, 0, 1);
-    assert!(rt; book.open() == Ok(0) && book.open() == Err(OpenFault::TooManyOpen));
+    let full = book.open() == Ok(0) && book.open() == Err(OpenFault::TooManyOpen);
+    drop(book);
+    assert!(rt; full);
     Ok(())
+}
+
+/// Whether the push with that number is the last that can be opened. Its reply is taken.
+fn is_last<A: Allocator + Copy>(book: &mut Book<A>, last: u32) -> bool {
+    let ended = book.open() == Ok(last) && end(book, last, 0);
+    ended && tells_done(book, last, 0) && book.open() == Err(OpenFault::Exhausted)
 }
 
 /// A row is free again once its reply was taken, and the numbers end.
@@ -101,10 +132,26 @@ fn last_push_number(rt: HostRuntime) -> Result<(), Fail> {
     let state = RandomState::new(&rt)?;
     let last = 4_294_967_294;
     let mut book = book_from(rt.alloc(), state, last, 1);
-    let ended = book.open() == Ok(last) && end(&mut book, last, 0);
-    let told = tells_done(&mut book, last, 0);
-    assert!(rt; ended && told && book.open() == Err(OpenFault::Exhausted));
+    let told = is_last(&mut book, last);
+    drop(book);
+    assert!(rt; told);
     Ok(())
+}
+
+/// Puts a part `output` where it was made.
+fn put_output<A: Allocator + Copy>(alloc: A, book: &mut Book<A>, push: u32, index: u32) -> bool {
+    put(book, push, index, part(alloc, b"output", b""))
+}
+
+/// Whether a push whose end mark counts too many parts is aborted, and items of it and of a push that was
+/// never opened are dropped.
+fn are_dropped<A: Allocator + Copy>(alloc: A, book: &mut Book<A>) -> bool {
+    let closed = book.open() == Ok(0) && put_output(alloc, book, 0, 0) && end(book, 0, 2);
+    let aborted = book.standing(0) == Standing::Aborted;
+    let dropped = put_output(alloc, book, 0, 1) && put_output(alloc, book, 9, 0);
+    let unknown = book.standing(9) == Standing::Unknown;
+    let told = tells_wrong_index(book, 0) && tells_nothing(book, 9);
+    closed && aborted && dropped && unknown && told
 }
 
 /// An end mark that counts too many parts, then items of a push that is closed and of one that was never
@@ -112,29 +159,28 @@ fn last_push_number(rt: HostRuntime) -> Result<(), Fail> {
 #[test]
 fn items_by_hand(rt: HostRuntime) -> Result<(), Fail> {
     let state = RandomState::new(&rt)?;
-    let alloc = rt.alloc();
-    let mut book = empty_book(alloc, state);
-    let opened = book.open() == Ok(0);
-    let closed = put(&mut book, 0, 0, part(alloc, b"output", b"")) && end(&mut book, 0, 2);
-    let aborted = book.standing(0) == Standing::Aborted;
-    let late = put(&mut book, 0, 1, part(alloc, b"output", b""));
-    let stray = put(&mut book, 9, 0, part(alloc, b"output", b""));
-    let unknown = book.standing(9) == Standing::Unknown;
-    let told = tells_wrong_index(&mut book, 0) && tells_nothing(&mut book, 9);
-    assert!(rt; opened && closed && aborted && late && stray && unknown && told);
+    let mut book = empty_book(rt.alloc(), state);
+    let told = are_dropped(rt.alloc(), &mut book);
+    drop(book);
+    assert!(rt; told);
     Ok(())
+}
+
+/// Whether a push that is cut off is told so, whatever is put behind the cut.
+fn is_cut_off<A: Allocator + Copy>(alloc: A, book: &mut Book<A>) -> bool {
+    let opened = book.open() == Ok(0) && cut(book, 0, 0, CutReason::ReadFailed);
+    let late = put_output(alloc, book, 0, 0) && end(book, 0, 1);
+    opened && late && tells_cut(book, 0, CutReason::ReadFailed) && has_journal(book, &[])
 }
 
 /// Parts that come after a cut are dropped, and so is a later end mark.
 #[test]
 fn parts_after_a_cut(rt: HostRuntime) -> Result<(), Fail> {
     let state = RandomState::new(&rt)?;
-    let alloc = rt.alloc();
-    let mut book = empty_book(alloc, state);
-    let opened = book.open() == Ok(0) && cut(&mut book, 0, 0, CutReason::ReadFailed);
-    let late = put(&mut book, 0, 0, part(alloc, b"output", b"")) && end(&mut book, 0, 1);
-    let told = tells_cut(&mut book, 0, CutReason::ReadFailed) && has_journal(&book, &[]);
-    assert!(rt; opened && late && told);
+    let mut book = empty_book(rt.alloc(), state);
+    let told = is_cut_off(rt.alloc(), &mut book);
+    drop(book);
+    assert!(rt; told);
     Ok(())
 }
 
@@ -149,30 +195,71 @@ fn five_calls<A: Allocator + Copy>(alloc: A) -> Result<Vec<Call<A>, A>, NoMemory
     Ok(calls)
 }
 
-fn are_answered<A: Allocator>(answers: &[Answer<Done<A>, Refusal<A>>]) -> bool {
-    match answers {
-        [
-            Answer::Opened(Ok(7)),
-            Answer::Opened(Err(OpenFault::TooManyOpen)),
-            Answer::Reply(None),
-            Answer::Stepped(false),
-            Answer::Reply(reply),
-        ] => is_done(reply, 0),
+fn has_opened<A: Allocator>(answer: &Answer<Done<A>, Refusal<A>>, push: usize) -> bool {
+    match answer {
+        Answer::Opened(Ok(opened)) => *opened as usize == push,
         _ => false,
     }
+}
+
+/// Whether the answer is that there are as many open pushes as there may be.
+fn has_no_row<A: Allocator>(answer: &Answer<Done<A>, Refusal<A>>) -> bool {
+    match answer {
+        Answer::Opened(opened) => *opened == Err(OpenFault::TooManyOpen),
+        _ => false,
+    }
+}
+
+/// Whether the answer is that there is no reply yet.
+fn has_no_reply<A: Allocator>(answer: &Answer<Done<A>, Refusal<A>>) -> bool {
+    matches!(answer, Answer::Reply(None))
+}
+
+/// Whether the answer is that the item was taken, and memory was there.
+fn has_stepped<A: Allocator>(answer: &Answer<Done<A>, Refusal<A>>) -> bool {
+    matches!(answer, Answer::Stepped(false))
+}
+
+/// Whether the answer is the reply to a push without parts.
+fn has_reply<A: Allocator>(answer: &Answer<Done<A>, Refusal<A>>) -> bool {
+    match answer {
+        Answer::Reply(reply) => is_done(reply, 0),
+        _ => false,
+    }
+}
+
+/// Whether that is the answer to the call of the five at that place.
+fn is_answered<A: Allocator>(place: usize, answer: &Answer<Done<A>, Refusal<A>>) -> bool {
+    match place {
+        0 => has_opened(answer, 7),
+        1 => has_no_row(answer),
+        2 => has_no_reply(answer),
+        3 => has_stepped(answer),
+        _ => has_reply(answer),
+    }
+}
+
+fn are_answered<A: Allocator>(answers: &[Answer<Done<A>, Refusal<A>>]) -> bool {
+    let mut all = answers.len() == 5;
+    for (place, answer) in answers.iter().enumerate() {
+        all = is_answered(place, answer) && all;
+    }
+    all
+}
+
+/// Whether the five calls are answered as they should be.
+fn five_are_answered<A: Allocator + Copy>(alloc: A, book: &mut Book<A>) -> Result<bool, NoMemory> {
+    let answers = make_calls(alloc, book, five_calls(alloc)?)?;
+    Ok(are_answered(answers.as_slice()))
 }
 
 #[test]
 fn a_list_of_calls(rt: HostRuntime) -> Result<(), Fail> {
     let state = RandomState::new(&rt)?;
-    let alloc = rt.alloc();
-    let calls = five_calls(alloc)?;
-    let mut book = book_from(alloc, state, 7, 1);
-    let all = match make_calls(alloc, &mut book, calls) {
-        Ok(answers) => are_answered(answers.as_slice()),
-        Err(NoMemory) => false,
-    };
-    assert!(rt; all);
+    let mut book = book_from(rt.alloc(), state, 7, 1);
+    let told = five_are_answered(rt.alloc(), &mut book) == Ok(true);
+    drop(book);
+    assert!(rt; told);
     Ok(())
 }
 
@@ -184,13 +271,6 @@ fn a_thousand_openings<A: Allocator + Copy>(alloc: A) -> Result<Vec<Call<A>, A>,
     Ok(calls)
 }
 
-fn has_opened<A: Allocator>(answer: &Answer<Done<A>, Refusal<A>>, push: usize) -> bool {
-    match answer {
-        Answer::Opened(Ok(opened)) => *opened as usize == push,
-        _ => false,
-    }
-}
-
 /// Whether the answers tell the pushes from that number on.
 fn have_opened<A: Allocator>(answers: &[Answer<Done<A>, Refusal<A>>], first: usize) -> bool {
     let mut all = answers.len() == 1_000;
@@ -200,17 +280,19 @@ fn have_opened<A: Allocator>(answers: &[Answer<Done<A>, Refusal<A>>], first: usi
     all
 }
 
+/// Whether a thousand openings have their answers.
+fn are_opened<A: Allocator + Copy>(alloc: A, book: &mut Book<A>) -> Result<bool, NoMemory> {
+    let answers = make_calls(alloc, book, a_thousand_openings(alloc)?)?;
+    Ok(have_opened(answers.as_slice(), 7))
+}
+
 /// A thousand calls have a thousand answers, where memory is ample.
 #[test]
 fn a_long_list_of_calls(rt: HostRuntime) -> Result<(), Fail> {
     let state = RandomState::new(&rt)?;
-    let alloc = rt.alloc();
-    let calls = a_thousand_openings(alloc)?;
-    let mut book = book_from(alloc, state, 7, 1_024);
-    let all = match make_calls(alloc, &mut book, calls) {
-        Ok(answers) => have_opened(answers.as_slice(), 7),
-        Err(NoMemory) => false,
-    };
-    assert!(rt; all);
+    let mut book = book_from(rt.alloc(), state, 7, 1_024);
+    let told = are_opened(rt.alloc(), &mut book) == Ok(true);
+    drop(book);
+    assert!(rt; told);
     Ok(())
 }

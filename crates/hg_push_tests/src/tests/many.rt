@@ -29,16 +29,23 @@ fn size_of_reply<A: Allocator + Copy>(alloc: A, book: &mut Book<A>) -> Option<us
     }
 }
 
+/// Whether the push of all parts is told in as many bytes as its reply should have.
+fn all_are_done<A: Allocator + Copy>(alloc: A, state: RandomState) -> bool {
+    let mut book = empty_book(alloc, state);
+    let put = book.open() == Ok(0) && put_all(alloc, &mut book) && end(&mut book, 0, PARTS);
+    let size = size_of_reply(alloc, &mut book);
+    drop(book);
+    put && size == Some(509_961)
+}
+
 /// All parts are staged and run, and each but the first leaves a reply, which takes 51 bytes of a bundle. The
 /// bundle has 12 more.
 #[test]
 fn as_many_parts_as_a_push_may_have(rt: HostRuntime) -> Result<(), Fail> {
     let state = RandomState::new(&rt)?;
     let heap = LocalHeap::new(rt.alloc(), 1 << 25)?;
-    let mut book = empty_book(&heap, state);
-    let put = book.open() == Ok(0) && put_all(&heap, &mut book) && end(&mut book, 0, PARTS);
-    let size = size_of_reply(&heap, &mut book);
-    assert!(rt; put && size == Some(509_961) && heap.free() > 1 << 24);
+    let done = all_are_done(&heap, state);
+    assert!(rt; done && heap.free() > 1 << 24);
     Ok(())
 }
 
@@ -71,13 +78,20 @@ fn are_answered<A: Allocator + Copy>(alloc: A, book: &mut Book<A>) -> Result<boo
     Ok(all && answers.len() == 20_000)
 }
 
+/// Whether the calls are answered and the pushes done.
+fn all_are_answered<A: Allocator + Copy>(alloc: A, state: RandomState) -> bool {
+    let mut book = empty_book(alloc, state);
+    let answered = are_answered(alloc, &mut book) == Ok(true) && are_done(&mut book);
+    drop(book);
+    answered
+}
+
 /// Thousands of pushes that are done join the journal, and thousands of calls are answered.
 #[test]
 fn many_pushes_and_many_calls(rt: HostRuntime) -> Result<(), Fail> {
     let state = RandomState::new(&rt)?;
     let heap = LocalHeap::new(rt.alloc(), 1 << 24)?;
-    let mut book = empty_book(&heap, state);
-    let is_answered = are_answered(&heap, &mut book)?;
-    assert!(rt; is_answered && are_done(&mut book) && heap.free() > 1 << 23);
+    let answered = all_are_answered(&heap, state);
+    assert!(rt; answered && heap.free() > 1 << 23);
     Ok(())
 }

@@ -117,32 +117,54 @@ fn begin_full<'a>(
     begun && heap.free() == 0
 }
 
+/// Whether a cut and a wrong end mark are answered as ever over a full heap.
+fn are_closed(alloc: Global, heap: &LocalHeap, state: RandomState) -> bool {
+    let mut book = empty_book(heap, state);
+    let mut blocks = Blocks::new(alloc);
+    let full = begin_full(&mut book, &mut blocks, heap);
+    let closed = full && end(&mut book, 2, 1) && cut(&mut book, 1, 1, CutReason::GaveUp);
+    blocks.fill(heap);
+    let told = tells_cut(&mut book, 1, CutReason::GaveUp) && tells_wrong_index(&mut book, 2);
+    drop(book);
+    drop(blocks);
+    closed && told
+}
+
 /// Where every growth is refused, a cut and a wrong end mark are answered as ever.
 #[test]
 fn closing_takes_no_memory(rt: HostRuntime) -> Result<(), Fail> {
     let state = RandomState::new(&rt)?;
     let heap = LocalHeap::new(rt.alloc(), 1 << 14)?;
-    let mut book = empty_book(&heap, state);
-    let mut blocks = Blocks::new(rt.alloc());
-    let full = begin_full(&mut book, &mut blocks, &heap);
-    let closed = end(&mut book, 2, 1) && cut(&mut book, 1, 1, CutReason::GaveUp);
-    blocks.fill(&heap);
-    let told = tells_cut(&mut book, 1, CutReason::GaveUp) && tells_wrong_index(&mut book, 2);
-    assert!(rt; full && closed && told);
+    let closed = are_closed(rt.alloc(), &heap, state);
+    assert!(rt; closed);
     Ok(())
 }
 
-/// Whether the book has the first push as done, and hands it out.
-fn is_told<A: Allocator + Copy>(book: Book<A>) -> bool {
-    let mut book = book;
-    let standings = book.standing(0) == Standing::Done
-        && book.standing(1) == Standing::Open
-        && book.standing(9) == Standing::Unknown;
-    let replies = tells_nothing(&mut book, 1) && tells_done(&mut book, 0, 0);
+/// Whether the first push is done, the second open, and another one unknown.
+fn have_standings<A: Allocator + Copy>(book: &Book<A>) -> bool {
+    let unknown = book.standing(9) == Standing::Unknown;
+    unknown && book.standing(0) == Standing::Done && book.standing(1) == Standing::Open
+}
+
+/// Whether the book tells the first push as done, and the second not yet.
+fn is_told<A: Allocator + Copy>(book: &mut Book<A>) -> bool {
+    let told = have_standings(book) && tells_nothing(book, 1) && tells_done(book, 0, 0);
     let after = book.standing(0) == Standing::Done && book.journal() == [0].as_slice();
-    let publishes = book.repo().settings().publishing;
+    told && after && !book.repo().settings().publishing
+}
+
+/// Whether the book hands out that first push alone.
+fn is_handed_out<A: Allocator + Copy>(book: Book<A>) -> bool {
     let (_, journal) = book.into_parts();
-    standings && replies && after && !publishes && journal.as_slice() == [0].as_slice()
+    journal.as_slice() == [0].as_slice()
+}
+
+/// Whether a book over a full heap tells what it holds, and hands it out.
+fn all_is_told(alloc: Global, heap: &LocalHeap, state: RandomState) -> bool {
+    let mut book = empty_book(heap, state);
+    let mut blocks = Blocks::new(alloc);
+    let told = begin_full(&mut book, &mut blocks, heap) && is_told(&mut book);
+    is_handed_out(book) && told
 }
 
 /// A book over a full heap tells what it holds, and hands it out.
@@ -150,11 +172,24 @@ fn is_told<A: Allocator + Copy>(book: Book<A>) -> bool {
 fn telling_takes_no_memory(rt: HostRuntime) -> Result<(), Fail> {
     let state = RandomState::new(&rt)?;
     let heap = LocalHeap::new(rt.alloc(), 1 << 14)?;
-    let mut book = empty_book(&heap, state);
-    let mut blocks = Blocks::new(rt.alloc());
-    let full = begin_full(&mut book, &mut blocks, &heap);
-    assert!(rt; full && is_told(book));
+    let told = all_is_told(rt.alloc(), &heap, state);
+    assert!(rt; told);
     Ok(())
+}
+
+/// Whether a part of a push that is done, and the end of one that was never opened, are dropped over a full
+/// heap.
+fn are_dropped(alloc: Global, heap: &LocalHeap, state: RandomState) -> bool {
+    let late = output(heap);
+    let mut book = empty_book(heap, state);
+    let mut blocks = Blocks::new(alloc);
+    let full = begin_full(&mut book, &mut blocks, heap);
+    let dropped = put(&mut book, 0, 1, late);
+    blocks.fill(heap);
+    let ended = end(&mut book, 9, 0);
+    drop(book);
+    drop(blocks);
+    full && dropped && ended
 }
 
 /// Over a full heap an item that is dropped is answered as ever.
@@ -162,14 +197,35 @@ fn telling_takes_no_memory(rt: HostRuntime) -> Result<(), Fail> {
 fn dropping_takes_no_memory(rt: HostRuntime) -> Result<(), Fail> {
     let state = RandomState::new(&rt)?;
     let heap = LocalHeap::new(rt.alloc(), 1 << 14)?;
-    let late = output(&heap);
-    let mut book = empty_book(&heap, state);
-    let mut blocks = Blocks::new(rt.alloc());
-    let full = begin_full(&mut book, &mut blocks, &heap);
-    let dropped = put(&mut book, 0, 1, late);
-    blocks.fill(&heap);
-    assert!(rt; full && dropped && end(&mut book, 9, 0));
+    let dropped = are_dropped(rt.alloc(), &heap, state);
+    assert!(rt; dropped);
     Ok(())
+}
+
+/// Whether an opening, a run and a part are refused for want of memory over a full heap.
+fn are_refused<'a>(
+    book: &mut Book<&'a LocalHeap>,
+    blocks: &mut Blocks<'a>,
+    heap: &'a LocalHeap,
+) -> bool {
+    let first = output(heap);
+    let full = first.is_ok() && begin_full(book, blocks, heap);
+    let unopened = book.open() == Err(OpenFault::NoMemory);
+    let unrun = !end(book, 1, 1) && tells_no_memory(book, 1);
+    blocks.fill(heap);
+    let unstaged = !put(book, 2, 0, first) && tells_no_memory(book, 2);
+    full && unopened && unrun && unstaged
+}
+
+/// The same in a book of its own. Once there is memory again, the next opening has the next number.
+fn refuses_all(alloc: Global, heap: &LocalHeap, state: RandomState) -> bool {
+    let mut book = empty_book(heap, state);
+    let mut blocks = Blocks::new(alloc);
+    let refused = are_refused(&mut book, &mut blocks, heap);
+    drop(blocks);
+    let opened = book.open() == Ok(3);
+    drop(book);
+    refused && opened
 }
 
 /// An opening, a part and a run that memory is refused for. The opening uses no number.
@@ -177,17 +233,8 @@ fn dropping_takes_no_memory(rt: HostRuntime) -> Result<(), Fail> {
 fn growths_are_refused(rt: HostRuntime) -> Result<(), Fail> {
     let state = RandomState::new(&rt)?;
     let heap = LocalHeap::new(rt.alloc(), 1 << 14)?;
-    let first = output(&heap);
-    let was_made = first.is_ok();
-    let mut book = empty_book(&heap, state);
-    let mut blocks = Blocks::new(rt.alloc());
-    let full = begin_full(&mut book, &mut blocks, &heap);
-    let unopened = book.open() == Err(OpenFault::NoMemory);
-    let unrun = !end(&mut book, 1, 1) && tells_no_memory(&mut book, 1);
-    blocks.fill(&heap);
-    let unstaged = !put(&mut book, 2, 0, first) && tells_no_memory(&mut book, 2);
-    drop(blocks);
-    assert!(rt; was_made && full && unopened && unrun && unstaged && book.open() == Ok(3));
+    let refused = refuses_all(rt.alloc(), &heap, state);
+    assert!(rt; refused);
     Ok(())
 }
 
@@ -225,16 +272,23 @@ fn put_many<'a>(book: &mut Book<&'a LocalHeap>, heap: &'a LocalHeap, push: u32) 
     all && free.saturating_sub(heap.free()) <= 224_000
 }
 
+/// Whether as many pushes as the limit allows are opened, and one of them is done with 1,000 parts.
+fn all_are_put(heap: &LocalHeap, state: RandomState) -> bool {
+    let mut book = empty_book(heap, state);
+    let put = open_all(&mut book) && put_many(&mut book, heap, 7) && end(&mut book, 7, 1_000);
+    let told = tells_done(&mut book, 7, 1_000);
+    drop(book);
+    put && told
+}
+
 /// As many open pushes as the limit allows, and one of them with 1,000 parts, over a heap of which half is
 /// never used: no growth is refused, so none is told.
 #[test]
 fn near_the_limits(rt: HostRuntime) -> Result<(), Fail> {
     let state = RandomState::new(&rt)?;
     let heap = LocalHeap::new(rt.alloc(), 1 << 21)?;
-    let mut book = empty_book(&heap, state);
-    let put = open_all(&mut book) && put_many(&mut book, &heap, 7) && end(&mut book, 7, 1_000);
-    let told = tells_done(&mut book, 7, 1_000);
-    assert!(rt; put && told && heap.free() > 1 << 20);
+    let put = all_are_put(&heap, state);
+    assert!(rt; put && heap.free() > 1 << 20);
     Ok(())
 }
 
@@ -247,18 +301,26 @@ fn leaves_memory<'a>(book: &mut Book<&'a LocalHeap>, heap: &'a LocalHeap) -> boo
     dropped && as_before && closed && tells_done(book, 0, 0) && heap.free() >= free
 }
 
+/// Whether the first part of a push takes little, and what takes nothing leaves the memory that is there.
+fn takes_little(heap: &LocalHeap, state: RandomState) -> bool {
+    let first = output(heap);
+    let mut book = empty_book(heap, state);
+    let begun = begin(&mut book, heap);
+    let free = heap.free();
+    let taken = put(&mut book, 2, 0, first);
+    let room = free.saturating_sub(heap.free());
+    let left = leaves_memory(&mut book, heap);
+    drop(book);
+    begun && taken && room <= 9 * 144 && left
+}
+
 /// Where memory is to spare, what takes none leaves it: items that are dropped, closings and all that is
 /// asked. The first part of a push takes room for 9, of 144 bytes each over this heap.
 #[test]
 fn memory_is_left(rt: HostRuntime) -> Result<(), Fail> {
     let state = RandomState::new(&rt)?;
     let heap = LocalHeap::new(rt.alloc(), 1 << 16)?;
-    let first = output(&heap);
-    let mut book = empty_book(&heap, state);
-    let begun = begin(&mut book, &heap);
-    let free = heap.free();
-    let taken = put(&mut book, 2, 0, first);
-    let room = free.saturating_sub(heap.free());
-    assert!(rt; begun && taken && room <= 9 * 144 && leaves_memory(&mut book, &heap));
+    let left = takes_little(&heap, state);
+    assert!(rt; left);
     Ok(())
 }

@@ -57,7 +57,15 @@ fn reply_size<A: Allocator + Copy>(alloc: A, book: &mut Book<A>, push: u32) -> u
     }
 }
 
-/// The size of the reply to a push of a check of heads and the front of a changegroup.
+/// Puts a check of heads and the front of a changegroup. It is false where memory was refused.
+fn is_run<A: Allocator + Copy>(alloc: A, book: &mut Book<A>, heads: &[u8], size: usize) -> bool {
+    let opened = book.open() == Ok(0);
+    let checked = put(book, 0, 0, part(alloc, b"CHECK:HEADS", heads));
+    let grouped = put(book, 0, 1, front_of_group(alloc, size));
+    opened && checked && grouped && end(book, 0, 2)
+}
+
+/// The size of the reply to such a push.
 fn answered_with<A: Allocator + Copy>(
     alloc: A,
     state: RandomState,
@@ -65,15 +73,10 @@ fn answered_with<A: Allocator + Copy>(
     size: usize,
 ) -> usize {
     let mut book = empty_book(alloc, state);
-    let opened = book.open() == Ok(0);
-    let checked = put(&mut book, 0, 0, part(alloc, b"CHECK:HEADS", heads));
-    let grouped = put(&mut book, 0, 1, front_of_group(alloc, size));
-    let ended = end(&mut book, 0, 2);
-    if opened && checked && grouped && ended {
-        reply_size(alloc, &mut book, 0)
-    } else {
-        0
-    }
+    let is_run = is_run(alloc, &mut book, heads, size);
+    let told = reply_size(alloc, &mut book, 0);
+    drop(book);
+    if is_run { told } else { 0 }
 }
 
 /// A race in part 0 is told before a malformed part 1, though that was read before its turn: 64 bytes. With
@@ -110,16 +113,22 @@ fn large_group<A: Allocator + Copy>(alloc: A) -> Result<Part<A>, NoMemory> {
     Ok(group)
 }
 
-/// Whether a push of the large changegroup is done, and its bytes are given back when it is staged.
-fn content_is_dropped(heap: &LocalHeap, state: RandomState) -> bool {
-    let mut book = empty_book(heap, state);
-    let opened = book.open() == Ok(0);
+/// Whether the bytes of the large changegroup are given back when it is staged.
+fn gives_content_back<'a>(book: &mut Book<&'a LocalHeap>, heap: &'a LocalHeap) -> bool {
     let free = heap.free();
     let group = large_group(heap);
     let came = free.saturating_sub(heap.free()) >= CONTENT;
-    let staged = put(&mut book, 0, 0, group);
-    let left = free.saturating_sub(heap.free()) <= 4_096;
-    opened && came && staged && left && end(&mut book, 0, 1) && tells_done(&mut book, 0, 1)
+    let staged = put(book, 0, 0, group);
+    came && staged && free.saturating_sub(heap.free()) <= 4_096
+}
+
+/// Whether a push of the large changegroup is done, and its bytes are given back when it is staged.
+fn content_is_dropped(heap: &LocalHeap, state: RandomState) -> bool {
+    let mut book = empty_book(heap, state);
+    let staged = book.open() == Ok(0) && gives_content_back(&mut book, heap);
+    let done = staged && end(&mut book, 0, 1) && tells_done(&mut book, 0, 1);
+    drop(book);
+    done
 }
 
 /// A push whose file has 60 MiB: the file is not kept, where there is room for a second one and where there
