@@ -207,51 +207,63 @@ fn answer_to(example: Example) -> Expected {
     }
 }
 
+/// One part.
+fn one<A: Allocator + Copy>(
+    alloc: A,
+    kind: &[u8],
+    payload: &[u8],
+) -> Result<Seq<Part<A>, A>, NoMemory>
+    ensures { IfOk result (λ parts. length parts ≤ 2) }
+{
+    list(alloc, part(alloc, kind, 5, payload)?, None)
+}
+
+/// One part with one parameter.
+fn one_with<A: Allocator + Copy>(
+    alloc: A,
+    kind: &[u8],
+    mandatory: bool,
+    key: &[u8],
+) -> Result<Seq<Part<A>, A>, NoMemory>
+    ensures { IfOk result (λ parts. length parts ≤ 2) }
+{
+    let plain = part(alloc, kind, 0, b"")?;
+    list(alloc, with_param(alloc, plain, mandatory, key)?, None)
+}
+
+/// Two parts, each a type and a payload.
+fn two<A: Allocator + Copy>(
+    alloc: A,
+    first: (&[u8], &[u8]),
+    second: (&[u8], &[u8]),
+) -> Result<Seq<Part<A>, A>, NoMemory>
+    ensures { IfOk result (λ parts. length parts ≤ 2) }
+{
+    let one = part(alloc, first.0, 7, first.1)?;
+    let other = part(alloc, second.0, 0, second.1)?;
+    list(alloc, one, Some(other))
+}
+
 fn parts_of<A: Allocator + Copy>(alloc: A, example: Example) -> Result<Seq<Part<A>, A>, NoMemory>
     ensures { IfOk result (λ parts. length parts ≤ 2) }
 {
-    let (first, second) = match example {
-        Example::NoParts => return Ok(Seq::new(alloc)),
-        Example::FirstPushWithChecks => (
-            part(alloc, b"REPLYCAPS", 0, b"")?,
-            Some(part(alloc, b"CHECK:HEADS", 1, &NULL)?),
-        ),
-        Example::RaceOnHeads => (part(alloc, b"CHECK:HEADS", 0, b"")?, None),
-        Example::RaceAtPlaceOne => (
-            part(alloc, b"OUTPUT", 7, b"text")?,
-            Some(part(alloc, b"Check:Heads", 0, &[1; 20])?),
-        ),
-        Example::TwiceTheNullId => (part(alloc, b"CHECK:HEADS", 0, &[0; 40])?, None),
-        Example::ShortIds => (part(alloc, b"CHECK:HEADS", 0, &[0; 19])?, None),
-        Example::UnknownAdvisory => (part(alloc, b"frob", 5, b"")?, None),
-        Example::UnknownMandatory => (part(alloc, b"FROB", 5, b"")?, None),
-        Example::UnknownParameter => (
-            with_param(alloc, part(alloc, b"REPLYCAPS", 0, b"")?, true, b"x")?,
-            None,
-        ),
-        Example::UnknownParameterOfAdvisory => (
-            with_param(alloc, part(alloc, b"replycaps", 0, b"")?, true, b"x")?,
-            None,
-        ),
-        Example::AdvisoryParameter => (
-            with_param(alloc, part(alloc, b"REPLYCAPS", 0, b"")?, false, b"x")?,
-            None,
-        ),
-        Example::KnownParameters => (
-            with_param(alloc, part(alloc, b"error:abort", 0, b"")?, true, b"hint")?,
-            None,
-        ),
-        Example::ClientAbort => (part(alloc, b"ERROR:ABORT", 0, b"")?, None),
-        Example::UnsupportedBeforeRace => (
-            part(alloc, b"FROB", 0, b"")?,
-            Some(part(alloc, b"CHECK:HEADS", 1, b"")?),
-        ),
-        Example::RaceBeforeUnsupported => (
-            part(alloc, b"CHECK:HEADS", 0, b"")?,
-            Some(part(alloc, b"FROB", 1, b"")?),
-        ),
-    };
-    list(alloc, first, second)
+    match example {
+        Example::NoParts => Ok(Seq::new(alloc)),
+        Example::FirstPushWithChecks => two(alloc, (b"REPLYCAPS", b""), (b"CHECK:HEADS", &NULL)),
+        Example::RaceOnHeads => one(alloc, b"CHECK:HEADS", b""),
+        Example::RaceAtPlaceOne => two(alloc, (b"OUTPUT", b"text"), (b"Check:Heads", &[1; 20])),
+        Example::TwiceTheNullId => one(alloc, b"CHECK:HEADS", &[0; 40]),
+        Example::ShortIds => one(alloc, b"CHECK:HEADS", &[0; 19]),
+        Example::UnknownAdvisory => one(alloc, b"frob", b""),
+        Example::UnknownMandatory => one(alloc, b"FROB", b""),
+        Example::UnknownParameter => one_with(alloc, b"REPLYCAPS", true, b"x"),
+        Example::UnknownParameterOfAdvisory => one_with(alloc, b"replycaps", true, b"x"),
+        Example::AdvisoryParameter => one_with(alloc, b"REPLYCAPS", false, b"x"),
+        Example::KnownParameters => one_with(alloc, b"error:abort", true, b"hint"),
+        Example::ClientAbort => one(alloc, b"ERROR:ABORT", b""),
+        Example::UnsupportedBeforeRace => two(alloc, (b"FROB", b""), (b"CHECK:HEADS", b"")),
+        Example::RaceBeforeUnsupported => two(alloc, (b"CHECK:HEADS", b""), (b"FROB", b"")),
+    }
 }
 
 /// Whether a run of these parts on the empty repository answers as expected, or None where memory was
@@ -266,7 +278,10 @@ fn answer_in<A: Allocator + Copy>(
 {
     let mut repo = Repo::new(alloc, settings(), state);
     let answer = repo.run(Source::Push, parts);
-    is_expected(&answer, answer_to(example))
+    let told = is_expected(&answer, answer_to(example));
+    drop(answer);
+    drop(repo);
+    told
 }
 
 /// Runs an example, and tells whether its answer is as expected. The inner None says that memory was refused
@@ -277,7 +292,11 @@ fn run_in<A: Allocator + Copy>(
     example: Example,
 ) -> Option<Option<bool>> {
     match parts_of(alloc, example) {
-        Ok(parts) => Some(answer_in(alloc, state, example, parts.as_slice())),
+        Ok(parts) => {
+            let told = answer_in(alloc, state, example, parts.as_slice());
+            drop(parts);
+            Some(told)
+        }
         Err(NoMemory) => None,
     }
 }
@@ -364,14 +383,24 @@ fn has_nothing(repo: &Repo, copy: &Repo) -> bool {
     has_null_head(copy) & (*copy.settings() == settings()) & repo.is_same(copy)
 }
 
+/// Whether the repository and a copy of it have nothing.
+fn is_cloned(alloc: Global, repo: &Repo) -> bool {
+    match repo.try_clone(alloc) {
+        Ok(copy) => {
+            let is = has_nothing(repo, &copy);
+            drop(copy);
+            is
+        }
+        Err(NoMemory) => false,
+    }
+}
+
 #[test]
 fn the_empty_repository(rt: HostRuntime) -> Result<(), Fail> {
     let state = RandomState::new(&rt)?;
     let repo = Repo::new(rt.alloc(), settings(), state);
-    let is = match repo.try_clone(rt.alloc()) {
-        Ok(copy) => has_nothing(&repo, &copy),
-        Err(NoMemory) => false,
-    };
+    let is = is_cloned(rt.alloc(), &repo);
+    drop(repo);
     assert!(rt; is);
     Ok(())
 }
@@ -382,7 +411,10 @@ fn a_race_has_its_text(rt: HostRuntime) {
 }
 
 fn no_heads(heap: &LocalHeap, state: RandomState) -> bool {
-    Repo::new(heap, settings(), state).heads().is_err()
+    let repo = Repo::new(heap, settings(), state);
+    let refused = repo.heads().is_err();
+    drop(repo);
+    refused
 }
 
 #[test]
@@ -445,6 +477,7 @@ fn all_answered(heap: &LocalHeap, state: RandomState) -> Option<bool> {
         named.as_slice(),
         heads.as_slice(),
     );
+    drop(repo);
     Some(is & (heap.free() > 1 << 18))
 }
 
@@ -473,8 +506,12 @@ fn taken_by<'a>(
     let mut repo = Repo::new(heap, settings(), state);
     let answer = repo.run(Source::Push, parts);
     let same = is_expected(&answer, answer_to(example)) == Some(true);
-    let left = repo.is_same(&Repo::new(heap, settings(), state));
+    let empty = Repo::new(heap, settings(), state);
+    let left = repo.is_same(&empty);
     let taken = free.saturating_sub(heap.free());
+    drop(answer);
+    drop(empty);
+    drop(repo);
     if same & left { Some(taken) } else { None }
 }
 

@@ -63,7 +63,11 @@ fn pushed_beside<'h>(
     parts: &[Part<&'h LocalHeap>],
 ) -> Came {
     match repo.try_clone(ample) {
-        Ok(copy) => pushed(repo, &copy, parts),
+        Ok(copy) => {
+            let came = pushed(repo, &copy, parts);
+            drop(copy);
+            came
+        }
         Err(NoMemory) => Came::Wrong,
     }
 }
@@ -77,13 +81,17 @@ fn came_over<'h>(
     parts: &[Part<&'h LocalHeap>],
 ) -> Came {
     let mut repo = Repo::new(heap, settings(), state);
-    match ending_of(&mut repo, Source::Seed, seed) {
+    let empty = Repo::new(heap, settings(), state);
+    let ending = ending_of(&mut repo, Source::Seed, seed);
+    let unseeded = repo.is_same(&empty);
+    let came = match ending {
         Some(Ending::Done(1, 0)) => pushed_beside(ample, &mut repo, parts),
-        Some(Ending::NoMemory) if repo.is_same(&Repo::new(heap, settings(), state)) => {
-            Came::Unseeded
-        }
+        Some(Ending::NoMemory) if unseeded => Came::Unseeded,
         _ => Came::Wrong,
-    }
+    };
+    drop(empty);
+    drop(repo);
+    came
 }
 
 /// The same, of a push that is told by its recipes.
@@ -191,7 +199,10 @@ fn runs_none<'h>(
     blocks.fill(heap);
     let none = ending_of(&mut repo, Source::Push, &[]) == Some(Ending::Done(0, 0));
     let full = ending_of(&mut repo, Source::Push, parts) == Some(Ending::NoMemory);
-    begun && none && full && heap.free() == 0 && reports_in_turn(&repo, blocks)
+    let is_full = heap.free() == 0;
+    let told = reports_in_turn(&repo, blocks);
+    drop(repo);
+    begun && none && full && is_full && told
 }
 
 static MARKED_ROOT: [Recipe; 2] = [ROOT, MARKED];

@@ -89,21 +89,37 @@ fn ran_beside<'h>(
     }
 }
 
-/// The same behind the seed. What is run, and the copy, are in the ample heap.
-fn came_of(
-    heap: &LocalHeap,
-    ample: &LocalHeap,
+/// The same beside a copy. What is run, and the copy, are in the ample heap.
+fn ran_behind<'h>(
+    repo: &mut Repo<&'h LocalHeap>,
+    ample: &'h LocalHeap,
+    push: &'static [Recipe],
+) -> Came {
+    match repo.try_clone(ample) {
+        Ok(copy) => {
+            let came = ran_beside(repo, &copy, ample, push);
+            drop(copy);
+            came
+        }
+        Err(NoMemory) => Came::Wrong,
+    }
+}
+
+/// The same behind the seed.
+fn came_of<'h>(
+    heap: &'h LocalHeap,
+    ample: &'h LocalHeap,
     state: RandomState,
     push: &'static [Recipe],
 ) -> Came {
     let mut repo = Repo::new(heap, settings(), state);
-    if !seed(&mut repo, ample) {
-        return Came::Unseeded;
-    }
-    match repo.try_clone(ample) {
-        Ok(copy) => ran_beside(&mut repo, &copy, ample, push),
-        Err(NoMemory) => Came::Wrong,
-    }
+    let came = if seed(&mut repo, ample) {
+        ran_behind(&mut repo, ample, push)
+    } else {
+        Came::Unseeded
+    };
+    drop(repo);
+    came
 }
 
 /// What was seen over heaps of each multiple of 16 bytes, in the order of the variants.
@@ -173,7 +189,9 @@ fn tells_over_full<'h>(
     let mut repo = Repo::new(heap, settings(), state);
     let begun = runs(&mut repo, Source::Push, parts);
     fill(heap, blocks);
-    begun && heap.free() == 0 && tells_all(&repo)
+    let told = begun && heap.free() == 0 && tells_all(&repo);
+    drop(repo);
+    told
 }
 
 fn tells_of_kept<'h>(
@@ -278,10 +296,13 @@ fn ending_under(
 {
     let mut repo = Repo::new(alloc, settings, state);
     let empty = Repo::new(alloc, settings, state);
-    match all_made(alloc, push) {
+    let ends = match all_made(alloc, push) {
         Ok(parts) => ends_with(&mut repo, &empty, parts.as_slice()),
         Err(NoMemory) => Ends::Other,
-    }
+    };
+    drop(empty);
+    drop(repo);
+    ends
 }
 
 /// A text of as many bytes as are allowed, and one more, which is told in place of its hash; and changesets

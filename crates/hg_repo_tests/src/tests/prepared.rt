@@ -70,7 +70,11 @@ fn answer_to_prepared<A: Allocator + Copy>(
         return Some(false);
     }
     let mut repo = Repo::new(alloc, settings(), state);
-    is_expected(&repo.run_prepared(Source::Push, prepared), expected)
+    let answer = repo.run_prepared(Source::Push, prepared);
+    let told = is_expected(&answer, expected);
+    drop(answer);
+    drop(repo);
+    told
 }
 
 /// Prepares the parts and runs them. None says that memory was refused.

@@ -262,7 +262,9 @@ fn tells(alloc: Global, state: RandomState, runs: &'static [Run], text: &[u8]) -
     for run in runs {
         all = ends(alloc, &mut repo, run) && all;
     }
-    reports(&repo, text) && all
+    let told = reports(&repo, text);
+    drop(repo);
+    told && all
 }
 
 static NOTHING: [Run; 1] = [(Source::Push, &[], Ending::Done(0, 0))];
@@ -484,7 +486,9 @@ fn goes_back(alloc: Global, repo: &mut Repo) -> bool {
     match repo.try_clone(alloc) {
         Ok(copy) => {
             let back = ends(alloc, repo, &REFUSED_CHILD) && repo.is_same(&copy);
-            back && ends(alloc, repo, &GIVEN_CHILD) && !repo.is_same(&copy)
+            let done = ends(alloc, repo, &GIVEN_CHILD) && !repo.is_same(&copy);
+            drop(copy);
+            back && done
         }
         Err(NoMemory) => false,
     }
@@ -512,6 +516,7 @@ fn a_key_that_fails_behind_a_child(rt: HostRuntime) -> Result<(), Fail> {
     let seeded = ends(alloc, &mut repo, &SEEDED[0]);
     let back = goes_back(alloc, &mut repo);
     let head = is_head(&repo, B);
+    drop(repo);
     assert!(rt; seeded && back && head);
     Ok(())
 }
