@@ -275,14 +275,12 @@ fn roots(alloc: Global, state: RandomState) -> Result<bool, NoMemory> {
     let first = run(alloc, &mut held, Source::Push, &good);
     let again = run(alloc, &mut held, Source::Push, &good);
     let wrong = run(alloc, &mut held, Source::Push, &bad);
-    Ok(
-        first == Came::Told(false, b'1')
-            && again == Came::Told(false, b'1')
-            && wrong == Came::Refused(5)
-            && held.store.log.len() == 1
-            && phase_of(&held, 0) == Some(Phase::Draft)
-            && phase_of(&held, 1) == None,
-    )
+    let phases = (phase_of(&held, 0), phase_of(&held, 1));
+    let rows = held.store.log.len();
+    drop(held);
+    let came = (first, again, wrong);
+    let told = Came::Told(false, b'1');
+    Ok(came == (told, told, Came::Refused(5)) && rows == 1 && phases == (Some(Phase::Draft), None))
 }
 
 #[test]
@@ -303,11 +301,9 @@ fn merge(alloc: Global, state: RandomState) -> Result<bool, NoMemory> {
     let mut held = empty(alloc, state, false);
     let forks = run(alloc, &mut held, Source::Push, &forked);
     let merges = run(alloc, &mut held, Source::Push, &merged);
-    Ok(
-        forks == Came::Told(false, b'3')
-            && merges == Came::Told(true, b'2')
-            && held.store.log.head_count() == 2,
-    )
+    let heads = held.store.log.head_count();
+    drop(held);
+    Ok(forks == Came::Told(false, b'3') && merges == Came::Told(true, b'2') && heads == 2)
 }
 
 #[test]
@@ -334,11 +330,9 @@ fn bases(alloc: Global, state: RandomState) -> Result<bool, NoMemory> {
     let mut held = empty(alloc, state, false);
     let before = run(alloc, &mut held, Source::Push, &both);
     let after = run(alloc, &mut held, Source::Push, &first);
-    Ok(
-        before == Came::Told(false, b'2')
-            && after == Came::Told(false, b'1')
-            && held.store.log.rev(&b.node) == Some(2),
-    )
+    let rev = held.store.log.rev(&b.node);
+    drop(held);
+    Ok(before == Came::Told(false, b'2') && after == Came::Told(false, b'1') && rev == Some(2))
 }
 
 #[test]
@@ -377,13 +371,9 @@ fn seeded(
     let first = run(alloc, &mut held, Source::Seed, &seed);
     let before = phase_of(&held, 0);
     let second = run(alloc, &mut held, Source::Push, &push);
-    Ok((
-        first,
-        second,
-        before,
-        phase_of(&held, 0),
-        phase_of(&held, 1),
-    ))
+    let (a, b) = (phase_of(&held, 0), phase_of(&held, 1));
+    drop(held);
+    Ok((first, second, before, a, b))
 }
 
 #[test]
@@ -469,7 +459,9 @@ fn alone(alloc: Global, state: RandomState, example: Example) -> Option<Came> {
     match part(alloc, kind, key, value, payload) {
         Ok(part) => {
             let mut held = empty(alloc, state, false);
-            Some(run(alloc, &mut held, Source::Push, &part))
+            let came = run(alloc, &mut held, Source::Push, &part);
+            drop(held);
+            Some(came)
         }
         Err(_) => None,
     }
@@ -515,7 +507,9 @@ fn small<'h>(
         Ok(part) => {
             let mut held = empty(heap, state, false);
             let came = run(heap, &mut held, Source::Push, &part);
-            Some((came, held.store.log.len()))
+            let rows = held.store.log.len();
+            drop(held);
+            Some((came, rows))
         }
         Err(_) => None,
     }

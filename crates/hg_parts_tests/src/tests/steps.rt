@@ -530,7 +530,9 @@ fn key_behind_a_group(
     let mut held = empty(alloc, state, false);
     let _came = run(alloc, &mut held, Source::Seed, &seed);
     let came = push_both(alloc, &mut held, &child, &key);
-    Ok((came, held.store.log.len(), phase_of(&held, 0)))
+    let (rows, phase) = (held.store.log.len(), phase_of(&held, 0));
+    drop(held);
+    Ok((came, rows, phase))
 }
 
 #[test]
