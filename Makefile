@@ -47,7 +47,7 @@ test:
 	@python3 tools/pictures.py --check
 	@python3 tools/costs.py --check
 	@echo 'Proving every crate and its tests from nothing, trying the wrong bodies, running the tests:'
-	@echo 'about 55 minutes on four processors.'
+	@echo '50 minutes to two hours on four processors, by their speed.'
 	@rt ci
 	@# the program that the gate has just built, or else a new one
 	@if [ -x crates/hg_pushd/out/hg_pushd ]; \
