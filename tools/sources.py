@@ -1,0 +1,164 @@
+"""The functions of the crates, as their files have them, and the crates in their order.
+
+Tools that speak of functions share it: a function is named as the prover names it, by the module and the type
+that it belongs to.
+"""
+import os
+import re
+
+ROOT = os.path.dirname(os.path.dirname(os.path.abspath(__file__)))
+
+FUNCTION = re.compile(r"^(\s*)(pub(?:\([a-z]+\))? )?(?:const )?fn (\w+)")
+TYPE = re.compile(r"^(?:pub(?:\([a-z]+\))? )?(?:struct|enum|trait|type) (\w+)", re.M)
+IMPL = re.compile(r"(?:unsafe )?impl\b")
+
+
+def read(path):
+    with open(path, encoding="utf-8") as file:
+        return file.read()
+
+
+def rows(top=ROOT):
+    """Each crate's line of crates.txt, by its name, in the order of that file."""
+    lines = [line for line in read(f"{top}/crates.txt").splitlines() if line.strip() and not line.startswith("#")]
+    return {line.split(":")[0].split()[0]: line for line in lines}
+
+
+def uses(top=ROOT):
+    """The crates of the repository that each crate uses, from below."""
+    lines = rows(top)
+    return {name: [it for it in line.partition(":")[2].split() if it in lines] for name, line in lines.items()}
+
+
+def below(crate, used):
+    """The crates that a crate stands on, with those that these stand on."""
+    return {it for dep in used[crate] for it in (dep, *below(dep, used))}
+
+
+def files(folder, suffix):
+    """The files below a folder whose names end so, in order; what the prover made is left out."""
+    for place, folders, names in os.walk(folder):
+        folders[:] = sorted(it for it in folders if it != "out")
+        for name in sorted(names):
+            if name.endswith(suffix):
+                yield os.path.join(place, name)
+
+
+def without_arguments(text):
+    """A type or a trait without what stands in angle brackets."""
+    depth, kept = 0, []
+    for at, sign in enumerate(text):
+        if sign == "<":
+            depth += 1
+        elif sign == ">" and text[at - 1] != "-":
+            depth -= 1
+        elif depth == 0:
+            kept.append(sign)
+    return "".join(kept)
+
+
+def last_word(text):
+    """The name that a path ends with: `fmt::Debug` is `Debug`, `&mut W` is `W`."""
+    words = re.findall(r"\w+", without_arguments(text))
+    return words[-1] if words else ""
+
+
+def parts_of_impl(line):
+    """The trait, or nothing, and the type of an `impl` line."""
+    head = line.split(" where")[0].rstrip(" {").removeprefix("unsafe ").removeprefix("impl")
+    given = re.search(r"\bFrom<(.*)> for ", head)
+    of_trait, is_trait, of_type = without_arguments(head).rpartition(" for ")
+    if given:
+        return f"From{last_word(given[1])}", last_word(of_type)
+    return (last_word(of_trait) if is_trait else ""), last_word(of_type)
+
+
+class Function:
+    """A function of a file: its name, its type and trait, and where it stands in the text."""
+
+    def __init__(self, path, name, public, of, of_trait, module, start, begin, end):
+        self.path, self.name, self.public, self.of, self.of_trait = path, name, public, of, of_trait
+        self.module, self.start, self.begin, self.end = module, start, begin, end
+        self.is_test = False
+
+    def full_name(self, homes):
+        """Its name as the prover has it, below the crate. A function of a type stands where the type does, one of
+        a trait's impl where the impl does."""
+        if not self.of:
+            return "::".join([*self.module, self.name])
+        if self.of_trait:
+            return "::".join([*self.module, f"{self.of}{self.of_trait}", self.name])
+        return "::".join([*homes.get(self.of, self.module), self.of, self.name])
+
+
+def module_of(path, folder):
+    """The module that a file holds, as a list of names."""
+    inside = os.path.relpath(path, folder).removesuffix(".rt").removesuffix(".rs").split("/")
+    if inside[-1] in ("lib", "main", "mod"):
+        inside.pop()
+    return inside
+
+
+def functions_of(path, folder):
+    """The functions of a file, in their order, and those inside of traits with a body."""
+    text = read(path)
+    lines = text.split("\n")
+    offsets, place = [], 0
+    for line in lines:
+        offsets.append(place)
+        place += len(line) + 1
+    number, of, of_trait = 0, "", ""
+    while number < len(lines):
+        line = lines[number]
+        if IMPL.match(line):
+            head = line
+            while not head.rstrip().endswith(("{", "}")) and number + 1 < len(lines):
+                number += 1
+                head += f" {lines[number].strip()}"
+            of_trait, of = parts_of_impl(head)
+            # an impl on a type parameter is named by its trait alone
+        elif line.startswith("}"):
+            of, of_trait = "", ""
+        found = FUNCTION.match(line)
+        if not found:
+            number += 1
+            continue
+        indent, first = found.group(1), number
+        # the body begins with the first line that ends with a brace at the signature's own depth
+        begin = first
+        ends = re.compile(rf"^{indent}(\{{.*|.*[^=] \{{|.*\{{\}}|.*;)$")
+        while begin < len(lines) and not ends.match(lines[begin]):
+            begin += 1
+        end = begin
+        if begin < len(lines) and not lines[begin].rstrip().endswith(("{}", "}", ";")):
+            while end + 1 < len(lines) and lines[end + 1] != f"{indent}}}":
+                end += 1
+            end += 1
+        stop = offsets[end + 1] if end + 1 < len(lines) else len(text)
+        public = (found.group(2) or "").strip() == "pub"
+        inner = (of, of_trait) if indent else ("", "")
+        function = Function(path, found.group(3), public, *inner, module_of(path, folder), offsets[first],
+                            offsets[min(begin, len(lines) - 1)], stop)
+        function.is_test = any("#[test]" in it for it in lines[max(0, first - 3):first])
+        yield function
+        number = end + 1
+
+
+def homes_of(folder):
+    """The module in which each type of a crate is defined."""
+    found = {}
+    for path in files(folder, ".rt"):
+        for name in TYPE.findall(read(path)):
+            found.setdefault(name, module_of(path, folder))
+    return found
+
+
+def functions(folder):
+    """Every function below a crate's src/, by its full name; tests and what belongs to them are left out."""
+    homes, found = homes_of(folder), {}
+    for path in files(folder, ".rt"):
+        if "/tests" in path.removeprefix(folder):
+            continue
+        for function in functions_of(path, folder):
+            found[function.full_name(homes)] = function
+    return found

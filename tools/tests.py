@@ -1,0 +1,75 @@
+#!/usr/bin/env python3
+"""Runs the tests, compiled with checks and not proved.
+
+    tests.py                runs all of them
+    tests.py CRATE..        runs those of these crates (hg_log_tests, hg_server, ..)
+    tests.py --list         prints the groups that the gate runs
+
+Several crates of tests are compiled as one, with what they stand on, in a stand of their own. A test that
+fails, faults, reads or writes out of bounds, or takes more than its time fails the run.
+"""
+import re
+import subprocess
+import sys
+import tempfile
+
+import sources
+import stands
+
+# the most that the tests of a group may take together, compiled with checks
+SECONDS = "900"
+# crates of tests that are compiled together; what stands in none of them is run alone
+GROUPS = {
+    "formats": ["hg_types_tests", "hg_chunks_tests", "hg_params_tests", "hg_stream_tests", "hg_delta_tests",
+                "hg_cgroup_tests", "hg_obs_tests"],
+    "changelog": ["hg_log_tests", "hg_phases_tests", "hg_keys_tests", "hg_checks_tests"],
+    "repository": ["hg_parts_tests", "hg_repo_tests", "hg_push_tests"],
+    "threads": ["hg_queue_tests", "hg_serve_tests", "hg_connection_tests"],
+}
+
+
+def groups():
+    """The tests that are run at once: crates by the name of their group."""
+    there = stands.tests()
+    made = {name: [it for it in members if it in there] for name, members in GROUPS.items()}
+    grouped = {it for members in made.values() for it in members}
+    made.update({it: [it] for it in there if it not in grouped})
+    return {name: members for name, members in made.items() if members}
+
+
+def run(name, members):
+    """Runs the tests of some crates; returns how many passed, and how many failed."""
+    with tempfile.TemporaryDirectory(prefix="tests-") as place:
+        stand = f"{place}/stand"
+        if len(members) == 1:
+            stands.make(stand, members, keeps_tests_of=members)
+            crate = members[0]
+        else:
+            crate = f"{name}_tests"
+            stands.join_tests(stand, crate, members)
+        words = ["rt", "try", "--test", "--seconds", SECONDS]
+        ran = subprocess.run(words, cwd=f"{stand}/crates/{crate}", stdout=subprocess.PIPE,
+                             stderr=subprocess.STDOUT, check=False, encoding="utf-8", errors="replace")
+        told = re.findall(r"^test result: \w+\. (\d+) passed; (\d+) failed", ran.stdout, re.M)
+        if not told or ran.returncode:
+            print(ran.stdout[-6000:])
+        passed, failed = (int(told[0][0]), int(told[0][1])) if told else (0, 0)
+        return passed, failed or int(ran.returncode != 0 or not passed)
+
+
+def main(words):
+    made = groups()
+    if words == ["--list"]:
+        print("\n".join(made))
+        return 0
+    passed = failed = 0
+    for name in words or made:
+        done, missed = run(name, made.get(name, [name]))
+        print(f"{name}: {done} tests passed, {missed} failed", flush=True)
+        passed, failed = passed + done, failed + missed
+    print(f"{passed} passed, {failed} failed")
+    return 1 if failed else 0
+
+
+if __name__ == "__main__":
+    sys.exit(main(sys.argv[1:]))
