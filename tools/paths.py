@@ -5,8 +5,9 @@
                              docs/index.md out, which is made of the sources
 
 A name stands in code quotes or is the target of a link. It is looked for from the root, from the document's
-own folder, and in the crate that the document or its section is of; in another crate only where the paragraph
-names that crate, or where the section is of none. What a program makes (build/..) has to be named by a script.
+own folder, and in the crate that the document or its section is of; in another crate only where the
+paragraph names that crate, or where the section is of none. What a program makes (build/..) has to be named
+by a script.
 """
 
 import glob
@@ -47,7 +48,7 @@ def anchors(path):
 
 
 def paragraphs(text):
-    """The paragraphs of a document without its code: the line, the crate of the section or none, the words."""
+    """The paragraphs of a document without its code: the line, the crate of the section if any, the words."""
     text = re.sub(r"```.*?```", lambda code: "\n" * code.group(0).count("\n"), text, flags=re.S)
     number, crate = 1, None
     for paragraph in re.split(r"(?<=\n)(?=\n)", text):

@@ -4,8 +4,8 @@
 //! the payloads of `changegroup`, `phase-heads` and `obsmarkers`. A payload that was read is dropped, and the
 //! content of manifests and files with it; so is that of a part that is not supported or has a fault. All
 //! other payloads stay, also those of `replycaps`, `output`, `pushkey` and `error:abort`, which nobody looks
-//! at. What is left is a [`Prepared`]. A fault that reading finds is kept there, and told when the part's turn
-//! comes: a part before it may refuse the push for another reason.
+//! at. What is left is a [`Prepared`]. A fault that reading finds is kept there, and told when the part's
+//! turn comes: a part before it may refuse the push for another reason.
 
 ghost use Rattle.std.specs.Prelude.{◌≡◌, IfOk};
 ghost use Rattle.hg_types.specs.declared.part.Part.{Part as AnyPart};
