@@ -12,8 +12,8 @@
 //!   changeset before it.
 //! - 02: node, p1, p2, base, link node.
 //!
-//! This is Mercurial's `internals.changegroups`. Of manifests and files only the chunks are checked, and
-//! nothing is kept.
+//! This is Mercurial's `internals.changegroups`, "Delta Groups", "Changeset Segment", "Manifest Segment" and
+//! "Filelogs Segment". Of manifests and files only the chunks are checked, and nothing is kept.
 //!
 //! [`decode`] gives the [`Entry`](hg_types::Entry) of each changeset, or the first fault.
 #![tactic(auto)]

@@ -4,8 +4,8 @@
 //! changesets of bookmarks. None of them changes anything, and nothing here starts a thread or waits.
 //!
 //! The payload of `check:heads` is ids of 20 bytes each. That of `check:phases` is entries as `phase-heads`
-//! has them, and that of `check:bookmarks` as `bookmarks` has them (Mercurial's `internals.bundles`, and its
-//! `phases`).
+//! has them, and that of `check:bookmarks` as `bookmarks` has them (Mercurial's `internals.bundle2`,
+//! "check:heads", "check:phases" and "check:bookmarks").
 #![tactic(auto)]
 
 mod bookmarks;

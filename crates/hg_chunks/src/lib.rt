@@ -4,7 +4,7 @@
 //! [`SizeField`] is one size that comes byte by byte. What an interruption holds is read by who feeds
 //! the reader. Nothing here starts a thread or waits.
 //!
-//! The format is the payload of Mercurial's `internals.bundles` for `HG20`:
+//! The format is that of a part's payload in Mercurial's `internals.bundle2`, "Payload Part":
 //!
 //! | bytes | what |
 //! |---|---|

@@ -1,4 +1,5 @@
--- Base-85: the value of each group of digits, and the digits of each group of bytes.
+-- Base-85: the value of each group of digits, and the digits of each group of bytes. The digits are those of
+-- RFC 1924, section 4.2.
 use Rattle.std.specs.Prelude.{◌≡◌, ◌+◌, ◌-◌, ◌*◌, ◌/◌, ◌%◌, ◌^◌, ◌==◌, ℕ, Bool, List, [], ◌∷◌, ◌++◌, length}
 use Rattle.std.specs.Prelude.{map, take, replicate, fold, codes, slice_index, nat_lt, Result, Ok, Err}
 use Rattle.std.specs.Prelude.{if◌then◌else◌}

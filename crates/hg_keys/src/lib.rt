@@ -1,11 +1,12 @@
 //! Base-85, bookmarks and pushkey.
 //!
 //! [`base85_encode`] and [`base85_decode`] are the two directions of Mercurial's base-85, in which a pushkey
-//! carries marker data. [`Bookmarks`] is a map from names to changesets, with a mark to go back to. Nothing
-//! here starts a thread or waits.
+//! carries marker data: its digits are those of RFC 1924, section 4.2, and five of them give four bytes.
+//! [`Bookmarks`] is a map from names to changesets, with a mark to go back to. Nothing here starts a thread
+//! or waits.
 //!
-//! [`read_bookmarks`] reads the payload of the parts `bookmarks` and `check:bookmarks`, as Mercurial's
-//! `internals.bundles` has them: entries, up to its end.
+//! [`read_bookmarks`] reads the payload of the parts `bookmarks` and `check:bookmarks`: entries, up to its
+//! end (Mercurial's `internals.bundle2`, "Bundle2 Part Types", "bookmarks" and "check:bookmarks").
 //!
 //! | bytes | field |
 //! |---|---|
@@ -13,7 +14,8 @@
 //! | 2 | N, the number of bytes of the name; the most significant byte first |
 //! | N | the name |
 //!
-//! [`push_key`] sets a key of a namespace. It answers true where that took effect, or was so already.
+//! [`push_key`] sets a key of a namespace (Mercurial's `internals.wireprotocol`, "Commands", "pushkey"). It
+//! answers true where that took effect, or was so already.
 //!
 //! - `phases`: the key is the id of a known changeset, in 40 hexadecimal digits of either case; the values
 //!   are `0`, `1` or `2`. Where the present phase is the old value and the new one is lower, the changeset

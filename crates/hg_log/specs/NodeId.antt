@@ -1,4 +1,5 @@
--- The id of a changeset: SHA-1 of the lesser parent id, the greater parent id, and the text.
+-- The id of a changeset: SHA-1 of the lesser parent id, the greater parent id, and the text
+-- (`internals.revlogs`, "Hash Computation").
 use Rattle.std.specs.Prelude.{ℕ, List, ◌++◌, if◌then◌else◌, Bool}
 use Rattle.std.specs.Ordering.{nat_cmp, is_le}
 use Rattle.std.specs.Cmp.Lexicographic.{slice_cmp}

@@ -8,7 +8,7 @@ use hg_types::Node;
 use sha1::Sha1;
 
 /// The id of a changeset with these parents and this text: SHA-1 of the lesser parent id, the greater parent
-/// id, and the text.
+/// id, and the text (Mercurial's `internals.revlogs`, "Hash Computation").
 pub fn node_id(p1: &Node, p2: &Node, text: &[u8]) -> Node
     ensures { result.0 ≡ node_id_of p1.now.0 p2.now.0 text.now }
 {

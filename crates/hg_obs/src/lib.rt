@@ -3,8 +3,8 @@
 //! Nothing here starts a thread or waits. [`read_markers`] reads marker data, which a client sends, and
 //! [`Markers`] is the list of distinct markers, to which more are merged and which is cut back again.
 //!
-//! Marker data is of format 0 of Mercurial's obsolete module. It is one version byte, 0, and markers up
-//! to its end. Numbers are big-endian. A marker is
+//! Marker data is of version 0 (Mercurial's module `mercurial.obsolete`, "Format"). It is one version byte,
+//! 0, and markers up to its end. Numbers are big-endian. A marker is
 //!
 //! | bytes | field |
 //! |---|---|

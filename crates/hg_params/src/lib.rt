@@ -1,7 +1,8 @@
 //! The headers of a bundle's parts, and a bundle's stream parameters: their reading, which is exact, and
 //! their writing.
 //!
-//! The formats are those of Mercurial's `internals.bundles`, for bundle2. A header is, in this order:
+//! The formats are those of Mercurial's `internals.bundle2`, "Payload Part" and "Stream Level Parameters".
+//! A header is, in this order:
 //!
 //! - one byte with the size of the type, and the type;
 //! - the part's id, 32 bits, big-endian;

@@ -1,5 +1,4 @@
--- The table of part types, and which parts it supports (`internals.bundles`: the types and the parameters
--- of parts).
+-- The table of part types, and which parts it supports (`internals.bundle2`, "Bundle2 Part Types").
 use Rattle.std.specs.Prelude.{ℕ, Bool, true, false, not, ◌&&◌, List, [], ◌∷◌, map, filter, find, Option}
 use Rattle.std.specs.Prelude.{Some, None, codes, bytes_eq}
 use Rattle.std.specs.List.{list_any}

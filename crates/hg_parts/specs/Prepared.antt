@@ -52,7 +52,7 @@ reading_of part = read_as part (support_of part)
 
 -- ---- what is kept
 
--- the payload is wanted no more: it was read, or is not looked at
+-- the payload is dropped: it was read, or the part is not supported or has a fault
 abbrev pub is_read : {A : Type 0} → Reading A → Bool
 is_read reading.Unsupported = true
 is_read reading.Malformed = true

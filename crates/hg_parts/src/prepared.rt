@@ -2,8 +2,10 @@
 //!
 //! What a part's bytes tell without the repository is read when the part comes: whether it is supported, and
 //! the payloads of `changegroup`, `phase-heads` and `obsmarkers`. A payload that was read is dropped, and the
-//! content of manifests and files with it. What is left is a [`Prepared`]. A fault that reading finds is kept
-//! there, and told when the part's turn comes: a part before it may refuse the push for another reason.
+//! content of manifests and files with it; so is that of a part that is not supported or has a fault. All
+//! other payloads stay, also those of `replycaps`, `output`, `pushkey` and `error:abort`, which nobody looks
+//! at. What is left is a [`Prepared`]. A fault that reading finds is kept there, and told when the part's
+//! turn comes: a part before it may refuse the push for another reason.
 
 ghost use Rattle.std.specs.Prelude.{◌≡◌, IfOk};
 ghost use Rattle.hg_types.specs.declared.part.Part.{Part as AnyPart};
@@ -47,7 +49,7 @@ pub enum Reading<A: Allocator = Global> {
 #[derive(Drop)]
 pub struct Prepared<A: Allocator = Global> {
     pub(crate) reading: Reading<A>,
-    /// Without its payload, where that was read or is not looked at.
+    /// Without its payload, where that was read, or the part is not supported or has a fault.
     pub(crate) part: Part<A>,
 }
 
@@ -79,7 +81,7 @@ fn keep<A: Allocator>(alloc: A, mut part: Part<A>, reading: Reading<A>) -> Prepa
     Prepared { reading, part }
 }
 
-/// Whether the payload is wanted no more.
+/// Whether the payload is dropped.
 fn is_read<A: Allocator>(reading: &Reading<A>) -> bool
     ensures { result ≡ is_read reading.now }
 {

@@ -2,7 +2,7 @@
 //! supports. What a type asks is picked in `handle`.
 //!
 //! A part is supported where its type is in the table, and each of its mandatory parameters is known for
-//! that type (Mercurial's `internals.bundles`, on parts and their parameters).
+//! that type (Mercurial's `internals.bundle2`, "Payload Part" and "Bundle2 Part Types").
 
 ghost use Rattle.std.specs.Prelude.{◌≡◌, IfOk, IfNone, IfSome, option_map, option_copied, bytes_eq, find};
 ghost use Rattle.std.specs.Prelude.{map};

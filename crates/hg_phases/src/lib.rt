@@ -11,8 +11,8 @@
 //! | 4 | the number of a phase: public 0, draft 1, secret 2; the most significant byte first |
 //! | 20 | the id of a changeset |
 //!
-//! This is Mercurial's `phases`, and the parts of its `internals.bundles`. Nothing here starts a thread or
-//! waits.
+//! This is Mercurial's `phases`, "What are phases?", and its `internals.bundle2`, "phase-heads" and
+//! "check:phases". Nothing here starts a thread or waits.
 #![tactic(auto)]
 
 mod entries;

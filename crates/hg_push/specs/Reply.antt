@@ -1,5 +1,5 @@
--- The reply to a push: the parts that tell how it ended (`bundle2`: "error:abort", "error:pushraced",
--- "error:pushkey", "error:unsupportedcontent").
+-- The reply to a push: the parts that tell how it ended (`internals.bundle2`, "error:abort",
+-- "error:pushraced", "error:pushkey" and "error:unsupportedcontent").
 use Rattle.std.specs.Prelude.{ℕ, ◌<◌, ◌^◌, List, [], ◌∷◌, ◌++◌, All, length, take, codes, decimal, true}
 use Rattle.std.specs.List.{join_with_byte}
 use Rattle.hg_types.specs.declared.part.Part.{Part}

@@ -17,8 +17,8 @@ use std::alloc::Allocator;
 const LONGEST_VALUE: usize = 255;
 
 /// The bytes of the reply to a push that ended so: the bundle of its reply parts, which are numbered by
-/// their places (`bundle2`). A push that is done tells what its run left, and an aborted one the one part
-/// that says why.
+/// their places (Mercurial's `internals.bundle2`, "Bundle2 Part Types"). A push that is done tells what its
+/// run left, and an aborted one the one part that says why.
 pub fn reply_bytes<A: Allocator + Copy>(
     alloc: A,
     outcome: &Outcome<Done<A>, Refusal<A>>,

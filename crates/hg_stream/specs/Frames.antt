@@ -1,4 +1,5 @@
--- The grammar of a bundle: the magic, the stream parameters, frames and the end mark, joined.
+-- The grammar of a bundle: the magic, the stream parameters, frames and the end mark, joined
+-- (`internals.bundle2`, "Stream Format").
 use Rattle.std.specs.Prelude.{◌≡◌, ℕ, ◌<◌, ◌≤◌, ◌^◌, List, [], ◌∷◌, ◌++◌, length}
 use Rattle.std.specs.List.{flat_map, AllByRecursion}
 use Rattle.hg_types.specs.declared.limits.Limits.{Limits}

@@ -1,9 +1,9 @@
 //! `bookmarks`: names, and the changeset that each is to be on.
 //!
 //! The payload is entries of an id of 20 bytes, the size of a name in two bytes, the most significant first,
-//! and the name (Mercurial's `internals.bundles`); the id of 20 bytes ff deletes the name. A payload that
-//! ends inside an entry is a fault of format. Every changeset has to be known. Then each name is set or
-//! deleted, in order, whatever it is.
+//! and the name (Mercurial's `internals.bundle2`, "Bundle2 Part Types", "bookmarks"); the id of 20 bytes ff
+//! deletes the name. A payload that ends inside an entry is a fault of format. Every changeset has to be
+//! known. Then each name is set or deleted, in order, whatever it is.
 
 ghost use Rattle.std.specs.Prelude.{◌≡◌, true, OnOk};
 ghost use Rattle.hg_parts.specs.Handled.{NothingGives};

@@ -1,7 +1,7 @@
 //! `changegroup`: changesets that join the changelog.
 //!
-//! The payload is a changegroup of version 01 or 02 (Mercurial's `internals.changegroups`). Three
-//! parameters are known.
+//! The payload is a changegroup of version 01 or 02 (Mercurial's `internals.bundle2`, "Bundle2 Part Types",
+//! "changegroup"). Three parameters are known.
 //!
 //! | name | value |
 //! |---|---|
@@ -12,7 +12,8 @@
 //! Its entries are added in order, and each new row is registered at the phase of its source: a push has
 //! that of the server, public where it publishes and draft else. A push then advances all changesets of the
 //! group to that phase, those that were known too. The reply `reply:changegroup` tells in `return` one more
-//! than the heads that came, or, where heads went, one less than their number below zero.
+//! than the heads that came, or, where heads went, one less than their number below zero (Mercurial's
+//! `internals.wireprotocol`, "Commands", "unbundle").
 
 ghost use Rattle.std.specs.Prelude.{◌≡◌, ◌<◌, ◌^◌, ◌++◌, All, length, string_bytes, IfOk, IfSome, OnOk};
 ghost use Rattle.std.specs.Option.{option_to_list};

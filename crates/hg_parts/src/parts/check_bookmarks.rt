@@ -1,9 +1,9 @@
 //! `check:bookmarks`: the bookmarks that the client saw before it made its bundle.
 //!
 //! The payload is entries of an id of 20 bytes, the size of a name in two bytes, the most significant first,
-//! and the name (Mercurial's `internals.bundles`); the id of 20 bytes ff says that the name is no bookmark. A
-//! payload that ends inside an entry is a fault of format. The first entry decides whose changeset is not
-//! known, or whose name is on another one: the push is raced then.
+//! and the name (Mercurial's `internals.bundle2`, "check:bookmarks"); the id of 20 bytes ff says that the
+//! name is no bookmark. A payload that ends inside an entry is a fault of format. The first entry decides
+//! whose changeset is not known, or whose name is on another one: the push is raced then.
 
 ghost use Rattle.hg_types.specs.declared.limits.Settings.{Settings};
 ghost use Rattle.hg_parts.specs.Handled.{NothingGives};

@@ -1,7 +1,7 @@
 //! `check:heads`: the heads that the client saw before it made its bundle.
 //!
-//! The payload is ids of 20 bytes each (Mercurial's `internals.bundles`). Another length is a fault of
-//! format. The push is raced where the ids are not the heads of the whole log, secret and obsolete
+//! The payload is ids of 20 bytes each (Mercurial's `internals.bundle2`, "check:heads"). Another length is a
+//! fault of format. The push is raced where the ids are not the heads of the whole log, secret and obsolete
 //! changesets included: sorted, the two lists are to be equal.
 
 ghost use Rattle.hg_types.specs.declared.limits.Settings.{Settings};

@@ -1,8 +1,8 @@
 //! `check:phases`: the phases that the client saw before it made its bundle.
 //!
 //! The payload is entries of 24 bytes: the number of a phase in four bytes, the most significant first, and
-//! an id (Mercurial's `internals.bundles`, and its `phases`). Another length or phase is a fault of format.
-//! The first entry decides whose changeset is not known, or in another phase: the push is raced then.
+//! an id (Mercurial's `internals.bundle2`, "check:phases"). Another length or phase is a fault of format. The
+//! first entry decides whose changeset is not known, or in another phase: the push is raced then.
 
 ghost use Rattle.std.specs.Prelude.{◌≤◌, length};
 ghost use Rattle.hg_types.specs.declared.limits.Settings.{Settings};

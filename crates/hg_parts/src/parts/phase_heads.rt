@@ -1,9 +1,9 @@
 //! `phase-heads`: changesets that are in a lower phase at the client.
 //!
 //! The payload is entries of 24 bytes: the number of a phase in four bytes, the most significant first, and
-//! an id (Mercurial's `internals.bundles`, and its `phases`). Another length or phase is a fault of format.
+//! an id (Mercurial's `internals.bundle2`, "phase-heads"). Another length or phase is a fault of format.
 //! Every changeset has to be known. Then each and its ancestors are advanced to its phase, in order: none
-//! gets a higher one.
+//! gets a higher one (Mercurial's `phases`, "What are phases?").
 
 ghost use Rattle.std.specs.Prelude.{◌≡◌, length, IfOk, OnOk};
 ghost use Rattle.hg_phases.specs.Phases.{AreFor};

@@ -1,10 +1,10 @@
 //! `pushkey`: a key of a namespace that is to have another value.
 //!
-//! Its parameters `namespace`, `key`, `old` and `new` are the call (Mercurial's `internals.bundles`); that
-//! one is missing is a fault of format, and so are a dump of markers that is no base-85 and one that is no
-//! marker data. What the namespaces do, the crate `hg_keys` tells. A mandatory part whose call does not take
-//! effect refuses the push. The reply `reply:pushkey` tells in `return` whether it did, 1 or 0. The payload
-//! is not looked at.
+//! Its parameters `namespace`, `key`, `old` and `new` are the call (Mercurial's `internals.bundle2`, "Bundle2
+//! Part Types", "pushkey"); that one is missing is a fault of format, and so are a dump of markers that is no
+//! base-85 and one that is no marker data. What the namespaces do, the crate `hg_keys` tells. A mandatory
+//! part whose call does not take effect refuses the push. The reply `reply:pushkey` tells in `return` whether
+//! it did, 1 or 0. The payload is not looked at.
 
 ghost use Rattle.std.specs.Prelude.{◌≡◌, Some, IfOk, IfSome, OnOk};
 ghost use Rattle.hg_parts.specs.Handled.{HandleGives};

@@ -1,0 +1,118 @@
+#!/usr/bin/env python3
+"""Whether the files and headings that the documents name are there.
+
+    tools/paths.py --check   reads README.md and docs, and fails on a name that leads nowhere; it leaves
+                             docs/index.md out, which is made of the sources
+
+A name stands in code quotes or is the target of a link. It is looked for from the root, from the document's
+own folder, and in the crate that the document or its section is of; in another crate only where the
+paragraph names that crate, or where the section is of none. What a program makes (build/..) has to be named
+by a script.
+"""
+
+import glob
+import os
+import re
+import sys
+
+ROOT = os.path.dirname(os.path.dirname(os.path.abspath(__file__)))
+
+ENDINGS = "antt c csv edit hg20 md py rt sh toml txt"
+
+FILE = re.compile(rf"^[\w*./+-]*\w\.({'|'.join(ENDINGS.split())})$")
+FOLDER = re.compile(r"^(bench|build|crates|docs|examples|proofs|specs|src|tests|tools)/")
+QUOTED = re.compile(r"`([^`\n]+)`")
+LINK = re.compile(r"\]\(([^)]+)\)")
+OF_CRATE = re.compile(r"\bhg_\w+")
+
+
+def read(path):
+    with open(path, encoding="utf-8") as file:
+        return file.read()
+
+
+def documents():
+    yield "README.md"
+    for path in sorted(glob.glob(f"{ROOT}/docs/**/*.*", recursive=True)):
+        if path.endswith((".md", ".txt")) and path != f"{ROOT}/docs/index.md":
+            yield os.path.relpath(path, ROOT)
+
+
+def slug(heading):
+    """The anchor of a heading."""
+    return re.sub(r"[^\w\- ]", "", heading.strip().lower()).replace(" ", "-")
+
+
+def anchors(path):
+    return {slug(heading) for heading in re.findall(r"^#+ (.*)$", read(path), re.M)}
+
+
+def paragraphs(text):
+    """The paragraphs of a document without its code: the line, the crate of the section if any, the words."""
+    text = re.sub(r"```.*?```", lambda code: "\n" * code.group(0).count("\n"), text, flags=re.S)
+    number, crate = 1, None
+    for paragraph in re.split(r"(?<=\n)(?=\n)", text):
+        heading = re.match(r"\s*#+ (.*)", paragraph)
+        if heading:
+            named = OF_CRATE.match(heading.group(1))
+            crate = named.group(0) if named else None if heading.group(0).strip().startswith("## ") else crate
+        if not re.match(r"\n?    ", paragraph):
+            yield number, crate, paragraph
+        number += paragraph.count("\n")
+
+
+def is_made(name):
+    """Whether a script makes it."""
+    made = os.path.basename(name.rstrip("/"))
+    scripts = [f"{ROOT}/Makefile", *glob.glob(f"{ROOT}/bench/**/*.sh", recursive=True)]
+    return any(re.search(rf"\b{re.escape(made)}\b", read(script)) for script in scripts)
+
+
+def is_there(name, document, crate, words):
+    """Whether a path leads to a file or a folder."""
+    if name.startswith("build/"):
+        return is_made(name)
+    if any(glob.glob(f"{ROOT}/{start}/{name}") for start in (".", os.path.dirname(document))):
+        return True
+    for path in glob.glob(f"{ROOT}/*/**/{name}", recursive=True):
+        parts = os.path.relpath(path, ROOT).split("/")
+        of = parts[1].removesuffix("_tests") if parts[0] == "crates" else None
+        if "out" not in parts and (None in (of, crate) or of == crate or of in OF_CRATE.findall(words)):
+            return True
+    return False
+
+
+def faults_of_link(target, document):
+    place, _, anchor = target.partition("#")
+    path = os.path.normpath(f"{ROOT}/{os.path.dirname(document)}/{place}") if place else f"{ROOT}/{document}"
+    if not os.path.exists(path):
+        yield f"no {place}"
+    elif anchor and anchor not in anchors(path):
+        yield f"{os.path.relpath(path, ROOT)} has no heading #{anchor}"
+
+
+def faults(document):
+    text = read(f"{ROOT}/{document}")
+    for number, crate, words in paragraphs(text):
+        own = re.search(r"docs/crates/(hg_\w+)\.md", document)
+        for quoted in QUOTED.findall(words):
+            for name in quoted.split():
+                looks = FILE.match(name) or FOLDER.match(name)
+                if looks and not is_there(name, document, own.group(1) if own else crate, words):
+                    yield number, f"no {name}"
+        for target in LINK.findall(re.sub(r"\s+", " ", words)):
+            if "://" not in target:
+                yield from ((number, fault) for fault in faults_of_link(target, document))
+
+
+def main():
+    wrong = 0
+    for document in documents():
+        for number, fault in faults(document):
+            print(f"paths: {document}:{number}: {fault}")
+            wrong += 1
+    return 1 if wrong else 0
+
+
+if __name__ == "__main__":
+    sys.exit(main() if sys.argv[1:] == ["--check"] else __doc__)
