@@ -1,53 +1,66 @@
 #!/usr/bin/env python3
-"""Makes the table of docs/proof-costs.md: the lines of each crate, and what its proofs were measured to take.
+"""What each crate's proof, wrong bodies and tests may take, and what they were measured to take.
 
-    tools/costs.py            writes the table between its two marks
-    tools/costs.py --check    fails where the page's table is another one
+    tools/costs.py            writes the table of docs/proof-costs.md
+    tools/costs.py --check    fails where that table is another one, where a piece takes more than its budget, and
+                              where the longest chain of crates does
+    tools/costs.py --take     takes what the last run of the gate measured into docs/proof-costs.csv
 
-Lines are counted in the sources, seconds come from docs/proof-costs.csv (`tools/measure.py`). A step that was
-not measured has no seconds there.
+docs/proof-costs.csv has a line for each piece: its name, processor seconds, budget. Lines of code, tests,
+definitions and proofs are counted in the sources.
 """
+import csv
 import os
 import sys
 
-ROOT = os.path.dirname(os.path.dirname(os.path.abspath(__file__)))
-PAGE = f"{ROOT}/docs/proof-costs.md"
+import measure
+import sources
+
+PAGE, FIGURES = f"{sources.ROOT}/docs/proof-costs.md", f"{sources.ROOT}/docs/proof-costs.csv"
+MEASURED = f"{sources.ROOT}/build/gate/costs.csv"
 BEGIN, END = "<!-- table -->\n", "<!-- end -->\n"
 KINDS = ("code", "tests", "definitions", "proofs")
-
-
-def read(path):
-    with open(path, encoding="utf-8") as file:
-        return file.read()
+CHAIN = "longest chain"
+COLUMNS = [it for step in measure.STEPS for it in (step, f"{step}, budget")]
 
 
 def lines(crate):
     """Lines of a crate's code, tests, definitions and proofs."""
     found = dict.fromkeys(KINDS, 0)
     for folder in (crate, f"{crate}_tests"):
-        for at, folders, names in os.walk(f"{ROOT}/crates/{folder}"):
-            folders[:] = [it for it in folders if it not in ("out", "must-fail")]
-            inside = os.path.relpath(at, f"{ROOT}/crates")
-            for name in names:
-                if not name.endswith((".rt", ".antt")):
-                    continue
-                kind = {"src": "code", "specs": "definitions", "proofs": "proofs"}[inside.split("/")[1]]
-                if kind == "code" and "tests" in f"{inside}/{name}":
-                    kind = "tests"
-                found[kind] += read(f"{at}/{name}").count("\n")
+        top = f"{sources.ROOT}/crates/{folder}"
+        for path in [*sources.files(top, ".rt"), *sources.files(top, ".antt")]:
+            inside = os.path.relpath(path, f"{sources.ROOT}/crates")
+            part = inside.split("/")[1]
+            kind = {"src": "code", "specs": "definitions", "proofs": "proofs"}[part]
+            if kind == "code" and "tests" in inside:
+                kind = "tests"
+            found[kind] += sources.read(path).count("\n")
     return found
 
 
-def edits(crate):
-    folder = f"{ROOT}/crates/{crate}/must-fail"
-    return sum(name.endswith(".edit") for name in os.listdir(folder)) if os.path.isdir(folder) else 0
+def wrong_bodies(crate):
+    return sum(1 for _ in sources.files(f"{sources.ROOT}/crates/{crate}/wrong", ".edit"))
 
 
-def measured():
-    """The seconds of each crate, by step, and the line that tells of the run."""
-    told, _, *rows = read(f"{ROOT}/docs/proof-costs.csv").splitlines()
-    fields = (row.split(",") for row in rows)
-    return told.lstrip("# "), {crate: [int(it) if it else None for it in steps] for crate, *steps in fields}
+def figures():
+    """The line that tells of the run, and what each piece took and may take."""
+    told, *rows = sources.read(FIGURES).splitlines()
+    found = {row["piece"]: {it: int(row[it]) for it in COLUMNS if row[it]} for row in csv.DictReader(rows)}
+    return told.removeprefix("# "), found
+
+
+def chain(seconds):
+    """The longest chain of crates that stand on each other, and its seconds."""
+    used, best = sources.uses(), {}
+
+    def longest(crate):
+        if crate not in best:
+            below = max((longest(it) for it in used[crate]), default=(0, []))
+            best[crate] = (below[0] + seconds.get(crate, 0), [*below[1], crate])
+        return best[crate]
+
+    return max(longest(it) for it in used if not it.endswith("_tests"))
 
 
 def shown(number):
@@ -55,28 +68,71 @@ def shown(number):
 
 
 def table():
-    told, seconds = measured()
-    heads = (*KINDS, "proof, s", "tests, s", "edits", "edits, s")
-    out = [f"| crate | {' | '.join(heads)} |", "|---" * 9 + "|"]
-    sums = [0] * 8
-    for crate, (proof, tests, tried) in seconds.items():
-        count = lines(crate)
-        row = [*(count[kind] for kind in KINDS), proof, tests, edits(crate), tried]
-        sums = [None if a is None or b is None else a + b for a, b in zip(sums, row)]
-        out.append(f"| `{crate}` | " + " | ".join(map(shown, row)) + " |")
-    out.append("| all | " + " | ".join(map(shown, sums)) + " |")
-    out += ["", told[0].upper() + told[1:] + "."]
+    told, found = figures()
+    crates = [it for it in sources.rows() if not it.endswith("_tests")]
+    out = ["| crate | code | tests | definitions | proofs | wrong bodies | proof, s | of | wrong bodies, s | of |",
+           "|---" * 10 + "|"]
+    sums = [0] * 9
+    for crate in crates:
+        count, piece = lines(crate), found.get(crate, {})
+        row = [*(count[kind] for kind in KINDS), wrong_bodies(crate), *(piece.get(it) for it in COLUMNS[:4])]
+        sums = [a + (b or 0) for a, b in zip(sums, row)]
+        out.append(f"| `{crate}` | {' | '.join(map(shown, row))} |")
+    out.append(f"| all | {' | '.join(map(shown, sums))} |")
+    out += ["", "| tests that are compiled together | s | of |", "|---|---|---|"]
+    for name, piece in found.items():
+        if "tests" in piece:
+            out.append(f"| {name} | {shown(piece['tests'])} | {shown(piece.get('tests, budget'))} |")
+    took, names = chain({it: piece.get("proof", 0) for it, piece in found.items()})
+    out += ["", f"The longest chain has {len(names)} crates, `{names[0]}` to `{names[-1]}`: {took:,} s.",
+            f"{told[0].upper()}{told[1:]}."]
     return "\n".join(out) + "\n"
 
 
+def beyond():
+    """What takes more than its budget."""
+    _, found = figures()
+    for name, piece in found.items():
+        for step in measure.STEPS:
+            if step in piece and piece[step] > piece.get(f"{step}, budget", 0):
+                yield f"{name}: {step} take {piece[step]} s of {piece.get(f'{step}, budget', 0)}"
+    took, _ = chain({it: piece.get("proof", 0) for it, piece in found.items()})
+    most = found.get(CHAIN, {}).get("proof, budget", 0)
+    if took > most:
+        yield f"the longest chain of crates takes {took} s of {most}"
+
+
+def take():
+    """Takes the last run's figures. A piece that is new gets a budget of a quarter more than it took."""
+    told, *rows = sources.read(MEASURED).splitlines()
+    _, found = figures()
+    for row in csv.DictReader(rows):
+        piece = found.setdefault(row["crate"], {})
+        for step in measure.STEPS:
+            if row[step]:
+                piece[step] = int(row[step])
+                piece.setdefault(f"{step}, budget", -(-piece[step] * 5 // 40) * 10)
+    with open(FIGURES, "w", encoding="utf-8", newline="") as file:
+        file.write(f"# {told.removeprefix('# ')}\n")
+        made = csv.DictWriter(file, ["piece", *COLUMNS], lineterminator="\n")
+        made.writeheader()
+        made.writerows({"piece": name, **piece} for name, piece in found.items())
+
+
 def main(words):
-    page = read(PAGE)
+    if words == ["--take"]:
+        take()
+        return 0
+    page = sources.read(PAGE)
     begin, end = page.index(BEGIN) + len(BEGIN), page.index(END)
     made = page[:begin] + table() + page[end:]
     if words == ["--check"]:
+        said = [f"costs: {it}" for it in beyond()]
         if made != page:
-            print("costs: docs/proof-costs.md has another table: python3 tools/costs.py")
-        return int(made != page)
+            said.append("costs: docs/proof-costs.md has another table: python3 tools/costs.py")
+        for it in said:
+            print(it)
+        return int(bool(said))
     with open(PAGE, "w", encoding="utf-8") as file:
         file.write(made)
     return 0

@@ -73,6 +73,7 @@ class Side:
         self.changed = threading.Condition()
         self.waiting = [("tests", it) for it in tests.groups()]
         self.waiting += [("wrong bodies", it) for it in self.with_wrong_bodies()]
+        self.waiting += [("judging", "hg_delta")]
 
     def with_wrong_bodies(self):
         """The crates that have wrong bodies, those with the most lines of proof first."""
@@ -116,14 +117,16 @@ class Side:
             if not task:
                 return
             kind, name = task
-            if kind == "tests":
-                words = ["tools/tests.py", name]
-            else:
-                words = ["tools/wrong_bodies.py", "--built", self.stand, name]
+            words = {
+                "tests": ["tools/tests.py", name],
+                "wrong bodies": ["tools/wrong_bodies.py", "--built", self.stand, name],
+                "judging": ["tools/test_wrong_bodies.py", "--built", self.stand],
+            }[kind]
             status, said, seconds = logged(f"{kind.replace(' ', '-')}-{name}", [
                 "nice", "-n", "10", sys.executable, *words], cwd=sources.ROOT)
             passed, failed = counted(said) or (0, 1)
-            self.costs[name, kind] = seconds
+            if kind != "judging":
+                self.costs[name, kind] = seconds
             if status or failed:
                 print(said[-4000:])
             text = f"{passed} passed, {failed} failed" if failed or status else f"{passed} passed"
@@ -172,8 +175,6 @@ def check_documents(count):
         if status:
             print(said[-4000:])
         count.add(f"tools/{name}.py --check", int(not status), status)
-    status, said, _ = logged("self-test", [sys.executable, "tools/test_wrong_bodies.py", "--fast"], cwd=sources.ROOT)
-    count.add("how wrong bodies are judged", *(counted(said) or (0, 1)))
 
 
 def speed():

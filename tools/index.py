@@ -122,7 +122,7 @@ def functions_of(crate, path):
 
 def edits_of(crate):
     """The wrong bodies of a crate: name, file and the text that each replaces."""
-    folder = f"{ROOT}/crates/{crate}/must-fail"
+    folder = f"{ROOT}/crates/{crate}/wrong"
     for path in files(folder, ".edit"):
         file, name = None, os.path.basename(path)[:-5]
         text = read(path)

@@ -42,7 +42,7 @@ def below(crate, uses):
 def sources(crate):
     """The files that the prover reads of a crate."""
     for at, folders, names in os.walk(f"{ROOT}/crates/{crate}"):
-        folders[:] = [it for it in folders if it not in ("out", "must-fail")]
+        folders[:] = [it for it in folders if it not in ("out", "wrong")]
         yield from (f"{at}/{name}" for name in names)
 
 

@@ -4,7 +4,6 @@
     tools/wrong_bodies.py [CRATE..]                 over the crates below, as `make build` left them
     tools/wrong_bodies.py --built FOLDER [CRATE..]  over those of another folder
     tools/wrong_bodies.py --write [CRATE..]         writes at the head of each what was seen to refuse it
-    tools/wrong_bodies.py --self-test               tests this script on a small crate
 
 They stand in crates/NAME/wrong/*.edit:
 
@@ -31,6 +30,8 @@ import types
 import sources
 
 PARTS = ("src", "specs", "proofs")
+# what the prover said in each check
+LOGS = f"{sources.ROOT}/build/wrong"
 # what a proof file says that names something which the edit took away
 GONE = re.compile(r"has no field|is not in scope|is no name|has no `|operand is missing|cannot continue")
 
@@ -167,7 +168,11 @@ class Crate:
                 if function not in asked and not fn.of_trait:
                     self.hole(room, function)
             self.rounds += 1
-            return self.prover.check(self.name, room, sorted(asked), kept)
+            said = self.prover.check(self.name, room, sorted(asked), kept)
+            os.makedirs(LOGS, exist_ok=True)
+            with open(f"{LOGS}/{self.name}-{self.rounds}.log", "w", encoding="utf-8") as log:
+                log.write(said)
+            return said
 
     def try_round(self, chosen, texts, kept):
         """Tries edits in one check. Where that could not read them, tries each half."""
@@ -239,9 +244,20 @@ def open_goals(crate, said):
             elif reason.startswith("it stands on") and "which antt refuses" in reason:
                 own = f"Rattle.{crate}.proofs.{plain(name).replace('::', '.')}."
                 goals += [it.rpartition(".")[2] for it in quoted if it.startswith(own)]
+        if told.startswith("not proved") and not goals:
+            goals = refused_answers(plain(name), said)
         if goals:
             found[plain(name)] = goals
     return found
+
+
+def refused_answers(name, said):
+    """The goals whose answers, in the files of a function's proof, are refused; none where a file names what is not
+    there any more, which says nothing of the clause."""
+    errors = re.findall(rf"^\./proofs/{name.replace('::', '/')}/\w+\.antt:\d+:\d+: error: (.*)$", said, re.M)
+    if any(GONE.search(re.sub(r"`[^`]*`", "", it)) for it in errors):
+        return []
+    return [it for error in errors for it in re.findall(r"^`([^`]+)`", error)]
 
 
 def judge(edit, asked, goals, said):
@@ -259,12 +275,11 @@ def judge(edit, asked, goals, said):
 
 
 def spoken(goal):
-    """A goal in words: `returns-clause-ok` is the clause `ok`."""
-    if goal == "returns-clause" or goal == "returns":
-        return "its clause"
-    if goal.startswith("returns-clause-"):
-        return f"clause {goal.removeprefix('returns-clause-')}"
-    return goal
+    """A goal in words: `returns-in-Ok-clause-text` is the clause `text`, where the function returns in that case."""
+    found = re.fullmatch(r"returns\b.*?(?:-clause(?:-([A-Za-z]\w*))?(?:-\d+)?)?", goal)
+    if not found:
+        return goal
+    return f"clause {found[1]}" if found[1] else "its clause"
 
 
 def write_head(edit):
