@@ -1,0 +1,12 @@
+-- Texts that are cut at a byte, and texts that are joined.
+use Rattle.std.specs.Prelude.{ℕ, ◌+◌, drop, Bool, List, [], ◌∷◌, ◌++◌, Option}
+use Rattle.std.specs.List.{position}
+use Rattle.std.specs.Option.{option_map}
+
+-- what stands behind the first byte that passes, where one does
+unfoldable pub behind_first : (ℕ → Bool) → List ℕ → Option (List ℕ)
+behind_first test text = option_map (λ place. drop (place + 1) text) (position test text)
+
+-- a text with a byte at its end
+abbrev pub ended : ℕ → List ℕ → List ℕ
+ended byte text = text ++ byte ∷ []
