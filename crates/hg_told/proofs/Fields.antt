@@ -7,7 +7,9 @@ use Rattle.std.specs.Option.{option_map}
 use Rattle.std.proofs.lemmas.List.{take_more}
 use Rattle.hg_told.specs.declared.form.Field.{Field}
 use Rattle.hg_told.specs.Text.{behind_first}
-use Rattle.hg_told.specs.Form.{values_in, value_in, is_equals, plain_of, field_of}
+use Rattle.hg_told.specs.declared.batch.Command.{Command}
+use Rattle.hg_told.specs.Form.{values_in, value_in, is_equals}
+use Rattle.hg_told.specs.Batch.{is_space, arguments_of, command_of}
 
 picked : {A : Type 0} (b : Bool) (o : Option (List ℕ)) (field : Field A) (rest : List (Field A))
     → last_or o (map (λ (f : Field A). f.value) (if b then (field ∷ rest) else rest))
@@ -43,19 +45,36 @@ unwrapped : (o : Option (Bor (List ℕ))) (none : Bor (List ℕ)) → none.now �
 unwrapped None none empty = empty
 unwrapped (Some text) none empty = refl
 
--- a piece that was cut at its first `=`
-pub field_cut : {A : Type 0} (piece first : List ℕ) (behind : Option (Bor (List ℕ))) (none : Bor (List ℕ))
-    (name value : List ℕ) → first ≡ before_first is_equals piece
+-- a piece that was cut at its first `=`, with what is read of both sides
+pub field_cut : {A : Type 0} (read : List ℕ → List ℕ) (piece first : List ℕ) (behind : Option (Bor (List ℕ)))
+    (none : Bor (List ℕ)) (name value : List ℕ) → first ≡ before_first is_equals piece
     → option_map (λ (text : Bor (List ℕ)). text.now) behind ≡ behind_first is_equals piece → none.now ≡ []
-    → name ≡ plain_of first → value ≡ plain_of (unwrap_or behind none).now
-    → (let made : Field A = record { name = name; value = value } in made) ≡ field_of piece
-unfolding field_of
-field_cut {A} piece first behind none name value before after empty named valued =
+    → name ≡ read first → value ≡ read (unwrap_or behind none).now
+    → (let made : Field A = record { name = name; value = value } in made)
+    ≡ record {
+      name = read (before_first is_equals piece);
+      value = read (unwrap_or (behind_first is_equals piece) []);
+    }
+field_cut {A} read piece first behind none name value before after empty named valued =
     let made : List ℕ → List ℕ → Field A = λ n v. record { name = n; value = v } in
-    ap (λ (n : List ℕ). made n value) (named ∙ ap plain_of before)
-    ∙ ap (λ (v : List ℕ). made (plain_of (before_first is_equals piece)) v)
-    (valued ∙ ap plain_of (unwrapped behind none empty)
-    ∙ ap (λ (o : Option (List ℕ)). plain_of (unwrap_or o [])) after)
+    ap (λ (n : List ℕ). made n value) (named ∙ ap read before)
+    ∙ ap (λ (v : List ℕ). made (read (before_first is_equals piece)) v)
+    (valued ∙ ap read (unwrapped behind none empty)
+    ∙ ap (λ (o : Option (List ℕ)). read (unwrap_or o [])) after)
+
+-- a command that was cut at its first space
+pub command_cut : {A : Type 0} (piece first : List ℕ) (behind : Option (Bor (List ℕ))) (none : Bor (List ℕ))
+    (name : List ℕ) (arguments : List (Field A)) → first ≡ before_first is_space piece
+    → option_map (λ (text : Bor (List ℕ)). text.now) behind ≡ behind_first is_space piece → none.now ≡ []
+    → name ≡ first → arguments ≡ arguments_of (unwrap_or behind none).now
+    → (let made : Command A = record { name = name; arguments = arguments } in made) ≡ command_of piece
+unfolding command_of
+command_cut {A} piece first behind none name arguments before after empty named told =
+    let made : List ℕ → List (Field A) → Command A = λ n a. record { name = n; arguments = a } in
+    ap (λ (n : List ℕ). made n arguments) (named ∙ before)
+    ∙ ap (λ (a : List (Field A)). made (before_first is_space piece) a)
+    (told ∙ ap arguments_of (unwrapped behind none empty)
+    ∙ ap (λ (o : Option (List ℕ)). arguments_of (unwrap_or o [])) after)
 
 next_value : {A : Type 0} (fields : List (Field A)) (i : ℕ) (field : Field A) (name : List ℕ)
     → i < length fields → field ≡ get_or fields i field → value_in (take (i + 1) fields) name

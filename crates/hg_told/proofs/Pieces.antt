@@ -108,3 +108,21 @@ pub all_pieces : {Y : Type 0} (f : List ℕ → List Y) (pieces own : List (Bor 
 all_pieces f pieces own n cut made past lent same so =
     so ∙ ap (λ (ps : List (Bor (List ℕ))). flat_map f (texts ps)) (take_all n pieces past ∙ lent)
     ∙ ap (flat_map f) same
+
+-- what one thing is made of each piece
+pub mapped_more : {Y : Type 0} (f : List ℕ → Y) (pieces : List (Bor (List ℕ))) (i : ℕ)
+    (d : Bor (List ℕ)) (now next : List Y) (y : Y) → i < length pieces → now ≡ map f (texts (take i pieces))
+    → next ≡ now ++ y ∷ [] → y ≡ f (get_or pieces i d).now → next ≡ map f (texts (take (i + 1) pieces))
+mapped_more {Y} f pieces i d now next y within so more made =
+    more
+    ∙ ap (λ (ys : List Y). ys ++ y ∷ []) so
+    ∙ ap (λ (z : Y). map f (texts (take i pieces)) ++ z ∷ []) made
+    ∙ sym (map-append f (texts (take i pieces)) ((get_or pieces i d).now ∷ []))
+    ∙ ap (map f) (sym (texts_more pieces i d within))
+
+pub mapped_all : {Y : Type 0} (f : List ℕ → Y) (pieces own : List (Bor (List ℕ))) (n : ℕ)
+    (cut : List (List ℕ)) (made : List Y) → length pieces ≤ n → pieces ≡ own → texts own ≡ cut
+    → made ≡ map f (texts (take n pieces)) → made ≡ map f cut
+mapped_all f pieces own n cut made past lent same so =
+    so ∙ ap (λ (ps : List (Bor (List ℕ))). map f (texts ps)) (take_all n pieces past ∙ lent)
+    ∙ ap (map f) same

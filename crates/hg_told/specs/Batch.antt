@@ -1,6 +1,6 @@
 -- Several commands in one: commands between `;`, and their answers between `;`.
 use Rattle.std.specs.Prelude.{ℕ, ◌==◌, Bool, ◌||◌, List, [], ◌∷◌, map, Option, Some, None, if◌then◌else◌}
-use Rattle.std.specs.Prelude.{unwrap_or}
+use Rattle.std.specs.Prelude.{is_some, unwrap_or}
 use Rattle.std.specs.List.{slice_split, before_first, flat_map, join_with_byte}
 use Rattle.hg_told.specs.declared.form.Field.{Field}
 use Rattle.hg_told.specs.declared.batch.Command.{Command}
@@ -23,7 +23,7 @@ letter_of b =
     else if b == 61 then Some 101 else None
 
 abbrev pub needs_escape : ℕ → Bool
-needs_escape b = b == 58 || b == 44 || b == 59 || b == 61
+needs_escape b = is_some (letter_of b)
 
 -- and the byte that a letter stands for
 abbrev pub byte_of : ℕ → Option ℕ
@@ -34,6 +34,10 @@ byte_of letter =
 abbrev pub escape_by : ℕ → Option ℕ → List ℕ
 escape_by b None = b ∷ []
 escape_by b (Some letter) = 58 ∷ letter ∷ []
+
+-- the bytes that part commands, arguments and values
+abbrev pub is_separator : ℕ → Bool
+is_separator b = b == 44 || b == 59 || b == 61
 
 -- a text with its `:`, `,`, `;` and `=` escaped
 unfoldable pub escaped : List ℕ → List ℕ

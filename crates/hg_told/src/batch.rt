@@ -115,7 +115,7 @@ fn unescape<A: Allocator + Copy>(alloc: A, text: &[u8]) -> Result<Seq<u8, A>, No
     let mut bytes = Vec::new(alloc);
     let mut place = 0;
     while place < text.len() {
-        let (byte, len) = first_of(&text[place..]);
+        let (byte, len) = read_first(&text[place..]);
         bytes.push(byte)?;
         place += len;
     }
@@ -123,7 +123,7 @@ fn unescape<A: Allocator + Copy>(alloc: A, text: &[u8]) -> Result<Seq<u8, A>, No
 }
 
 /// The first byte that a text stands for, and how many bytes tell it.
-fn first_of(text: &[u8]) -> (u8, usize)
+fn read_first(text: &[u8]) -> (u8, usize)
     requires { 0 < length text.now }
     ensures within { result.1 ≤ length text.now }
     ensures some { 0 < result.1 }
@@ -168,6 +168,5 @@ fn escape<A: Allocator>(text: &mut Vec<u8, A>, bytes: &[u8]) -> Result<(), NoMem
 fn place_of_escape(text: &[u8]) -> Option<usize>
     ensures { result ≡ position needs_escape text.now }
 {
-    text.iter()
-        .position(|byte| matches!(*byte, b':' | b',' | b';' | b'='))
+    text.iter().position(|byte| letter_of(*byte).is_some())
 }

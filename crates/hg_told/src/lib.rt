@@ -4,14 +4,26 @@
 //! Each text is a function of values that are borrowed: nothing is changed, and the only refusal is a want of
 //! memory. [`read_form`] and [`read_batch`] read the two forms of arguments, [`joined_answers`] writes the
 //! answers of a batch. [`heads_text`], [`known_text`], [`listkeys_text`], [`lookup_text`] and
-//! [`branchmap_text`] are the bodies of the answers to the commands of those names; [`capabilities`] is a
+//! [`branchmap_text`] are the bodies of the answers to the commands of those names; [`capabilities_text`] is a
 //! constant. Whatever bytes are asked, there is an answer. Nothing here starts a thread or waits.
 //!
 //! The commands and their texts are those of Mercurial's `internals.wireprotocol`, as a client of its version
 //! 6.3 sends and reads them.
 #![tactic(auto)]
 
+mod batch;
+mod capabilities;
 mod form;
+mod heads;
+mod laws;
+mod listkeys;
+mod lookup;
 mod text;
 
+pub use batch::{Command, joined_answers, read_batch};
+pub use capabilities::capabilities_text;
+pub use heads::{heads_text, known_text};
+pub use laws::{escapes_are_read_back, forms_are_read_back};
+pub use listkeys::listkeys_text;
+pub use lookup::{Named, lookup_text};
 pub use form::{Field, read_form, value_of};

@@ -3,9 +3,11 @@
 ghost use Rattle.std.specs.Prelude.{◌≡◌, ◌+◌, ◌-◌, ◌==◌, [], ◌∷◌, ◌++◌, drop, length, map, take, IfOk, OnOk, Some};
 ghost use Rattle.std.specs.List.{before_first, position, slice_split};
 ghost use Rattle.std.specs.Option.{option_map};
-ghost use Rattle.hg_told.specs.Text.{behind_first};
+ghost use Rattle.hex.specs.Hex.{encode_lower};
+ghost use Rattle.hg_keys.specs.PushKey.{node_in_hex as hex_node};
+ghost use Rattle.hg_told.specs.Text.{behind_first, ended};
 
-use hg_types::{NoMemory, Seq};
+use hg_types::{NoMemory, Node, Seq};
 use std::alloc::Allocator;
 
 /// The pieces of a text that such bytes part. The empty text is one empty piece.
@@ -41,4 +43,47 @@ pub fn split_once(text: &[u8], byte: u8) -> (&[u8], Option<&[u8]>)
         Some(place) => (&text[..place], Some(&text[place + 1..])),
         None => (text, None),
     }
+}
+
+/// The 40 lower-case digits of an id.
+pub fn digits_of(node: &Node) -> [u8; 40]
+    ensures { result ≡ encode_lower node.now.0 }
+{
+    let mut digits = [0; 40];
+    hex::encode_to_slice(node.0.as_slice(), &mut digits).unwrap();
+    digits
+}
+
+/// The id that 40 digits in either case are.
+#[tactic(auto, unfolding(hg_keys::specs::PushKey::node_in_hex))]
+pub fn node_in_hex(text: &[u8]) -> Option<Node>
+    ensures { result ≡ hex_node text.now }
+{
+    let mut id = [0; 20];
+    match hex::decode_to_slice(text, &mut id) {
+        Ok(()) => Some(Node(id)),
+        Err(_) => None,
+    }
+}
+
+/// Adds the digits of an id, and a byte.
+pub fn push_id<A: Allocator>(
+    text: &mut Vec<u8, A>,
+    node: &Node,
+    byte: u8,
+) -> Result<(), NoMemory>
+    ensures { OnOk result (text.new.items ≡ text.old.items ++ ended byte (encode_lower node.now.0)) }
+{
+    let digits = digits_of(node);
+    text.extend_from_slice(digits.as_slice())?;
+    text.push(byte)?;
+    Ok(())
+}
+
+/// A text of words or lines with a byte behind each, without the last.
+pub fn joined<A: Allocator>(mut text: Vec<u8, A>) -> Seq<u8, A>
+    ensures { result ≡ take (length text.items - 1) text.items }
+{
+    let _ = text.pop();
+    Seq::from_vec(text)
 }
