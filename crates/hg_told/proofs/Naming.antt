@@ -1,7 +1,9 @@
 -- The last changeset, and the changesets whose digits a key begins.
 use Rattle.std.proofs.Common.{◌≡◌, ℕ, ◌+◌, ◌-◌, ◌<◌, ◌≤◌, Bool, true, false, List, [], ◌∷◌, ◌++◌, length, take, drop}
 use Rattle.std.proofs.Common.{filter, Some, None, Option, slice_get, refl, sym, ap, ◌∙◌, arith, eqb-true}
-use Rattle.std.specs.Prelude.{if◌then◌else◌, ◌==◌}
+use Rattle.std.specs.Prelude.{if◌then◌else◌, ◌==◌, nat_eq, is_some}
+use Rattle.std.specs.List.{starts_with}
+use Rattle.hex.specs.Hex.{encode_lower}
 use Rattle.std.proofs.lemmas.List.{append-nil, take-append-drop}
 use Rattle.std.proofs.lemmas.List.Elements.{filter-append}
 use Rattle.hg_types.specs.declared.node.Node.{Node}
@@ -99,3 +101,43 @@ begun_second key rows i row node here begins so =
     ∙ ap (λ (rs : List Changeset). rs ++ rest) (filtered test rows i row here)
     ∙ ap (λ (b : Bool). (before ++ (if b then (row ∷ []) else [])) ++ rest) begins
     ∙ ap (λ (rs : List Changeset). (rs ++ row ∷ []) ++ rest) one.1))
+
+some_not : (node : Node) → is_some (Some node) ≡ false → ⊥
+some_not node e = cc
+
+none_not : is_some (let none : Option Node = None in none) ≡ true → ⊥
+none_not e = cc
+
+begins_row : (key : List ℕ) (row : Changeset) (node : Node) (b : Bool) → row.node ≡ node.0
+    → starts_with nat_eq (encode_lower node.0) key ≡ b → is_begun key row ≡ b
+begins_row key row node b named begins =
+    ap (λ (id : List ℕ). starts_with nat_eq (encode_lower id) key) named ∙ begins
+
+-- what is found after a row that the key begins, where none was found before
+pub found_first : (key : List ℕ) (rows : List Changeset) (i : ℕ) (row : Changeset) (node : Node)
+    (found : Option Node) → slice_get rows i ≡ Some row → row.node ≡ node.0
+    → starts_with nat_eq (encode_lower node.0) key ≡ true → is_some found ≡ false
+    → id_or found Unknown ≡ one_of (filter (is_begun key) (take i rows))
+    → Id node ≡ one_of (filter (is_begun key) (take (i + 1) rows))
+found_first key rows i row node None here named begins none so =
+    begun_first key rows i row node here named (begins_row key row node true named begins) so
+found_first key rows i row node (Some other) here named begins none so = absurd (some_not other none)
+
+-- where one was
+pub found_second : (key : List ℕ) (rows : List Changeset) (i : ℕ) (row : Changeset) (node : Node)
+    (found : Option Node) → slice_get rows i ≡ Some row → row.node ≡ node.0
+    → starts_with nat_eq (encode_lower node.0) key ≡ true → is_some found ≡ true
+    → id_or found Unknown ≡ one_of (filter (is_begun key) (take i rows))
+    → Ambiguous ≡ one_of (filter (is_begun key) rows)
+found_second key rows i row node None here named begins some so = absurd (none_not some)
+found_second key rows i row node (Some other) here named begins some so =
+    begun_second key rows i row other here (begins_row key row node true named begins) so
+
+-- after a row that the key does not begin
+pub found_other : (key : List ℕ) (rows : List Changeset) (i : ℕ) (row : Changeset) (node : Node) (found : Named)
+    → slice_get rows i ≡ Some row → row.node ≡ node.0
+    → starts_with nat_eq (encode_lower node.0) key ≡ false
+    → found ≡ one_of (filter (is_begun key) (take i rows))
+    → found ≡ one_of (filter (is_begun key) (take (i + 1) rows))
+found_other key rows i row node found here named other so =
+    begun_other key rows i row found here (begins_row key row node false named other) so

@@ -8,8 +8,8 @@ use Rattle.hg_told.specs.declared.form.Field.{Field}
 abbrev pub is_special : ℕ → Bool
 is_special b = b == 38 || b == 61 || b == 43 || b == 37
 
--- The text spells the bytes: any byte but those may stand for itself, a space may be a `+`, and any byte may be
--- `%` and two hexadecimal digits of either case.
+-- The text spells the bytes: any byte but those may stand for itself, a space may be a `+`, and any byte may
+-- be `%` and two hexadecimal digits of either case.
 pub data IsSpelled : List ℕ → List ℕ → Type 0 where
   nothing : IsSpelled [] []
   itself : (b : ℕ) (text bytes : List ℕ) → is_special b ≡ false → IsSpelled text bytes

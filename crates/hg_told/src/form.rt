@@ -17,8 +17,8 @@ pub struct Field<A: Allocator = Global> {
     pub value: Seq<u8, A>,
 }
 
-/// Reads a form, which is all of the text. Pieces are parted by `&`, and an empty piece is none. The first `=`
-/// parts name and value; where it is lacking the value is empty. In both `+` is a space and `%` with two
+/// Reads a form, which is all of the text. Pieces are parted by `&`, and an empty piece is none. The first
+/// `=` parts name and value; where it is lacking the value is empty. In both `+` is a space and `%` with two
 /// hexadecimal digits is a byte; anything else stands for itself.
 pub fn read_form<A: Allocator + Copy>(
     alloc: A,

@@ -10,9 +10,9 @@ use hg_log::Changelog;
 use hg_types::{NoMemory, Seq};
 use std::alloc::Allocator;
 
-/// All heads, those that are obsolete or secret too, in the ascending order of their ids: 40 lower-case digits
-/// each, one space between, and a line feed. Where there are no changesets it is the null id. It costs by the
-/// number of heads.
+/// All heads, those that are obsolete or secret too, in the ascending order of their ids: 40 lower-case
+/// digits each, one space between, and a line feed. Where there are no changesets it is the null id. It costs
+/// by the number of heads.
 pub fn heads_text<A: Allocator + Copy>(
     alloc: A,
     log: &Changelog<A>,

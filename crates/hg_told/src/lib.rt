@@ -2,10 +2,10 @@
 //! behind a push, and the forms in which it asks.
 //!
 //! Each text is a function of values that are borrowed: nothing is changed, and the only refusal is a want of
-//! memory. [`read_form`] and [`read_batch`] read the two forms of arguments, [`joined_answers`] writes the
-//! answers of a batch. [`heads_text`], [`known_text`], [`listkeys_text`], [`lookup_text`] and
-//! [`branchmap_text`] are the bodies of the answers to the commands of those names; [`capabilities_text`] is a
-//! constant. Whatever bytes are asked, there is an answer. Nothing here starts a thread or waits.
+//! memory. [`read_form`] and [`read_batch`] read the two forms of arguments, and [`joined_answers`] writes
+//! the answers of a batch. [`heads_text`], [`known_text`], [`listkeys_text`] and [`lookup_text`] are the
+//! bodies of the answers to the commands of those names, and [`capabilities_text`] is a constant. Whatever
+//! bytes are asked, there is an answer. Nothing here starts a thread or waits.
 //!
 //! The commands and their texts are those of Mercurial's `internals.wireprotocol`, as a client of its version
 //! 6.3 sends and reads them.

@@ -3,7 +3,8 @@
 ghost use Rattle.std.specs.Prelude.{◌≡◌, [], nat_eq, map, IfOk, filter};
 ghost use Rattle.std.specs.List.{starts_with};
 ghost use Rattle.hex.specs.Hex.{encode_lower};
-ghost use Rattle.hg_told.specs.Lookup.{begun_by as begins, id_or, is_begun, known_of as known_id, lookup_line};
+ghost use Rattle.hg_told.specs.Lookup.{begun_by as begins, id_or, is_begun, known_of as known_id};
+ghost use Rattle.hg_told.specs.Lookup.{lookup_line};
 ghost use Rattle.hg_told.specs.Lookup.{lookup_text as told_lookup, named_by, one_of, tip_of as last_of};
 ghost use Rattle.hg_told.specs.Lookup.{without_line_feed};
 ghost use Rattle.hg_told.specs.declared.lookup.Named.TheVariants.{Id, Unknown};
@@ -22,8 +23,8 @@ pub enum Named {
     Unknown,
 }
 
-/// `1`, a space and the id that a key names; or `0`, a space and why it names none; and a line feed. It names,
-/// in this order:
+/// `1`, a space and the id that a key names; or `0`, a space and why it names none; and a line feed. It
+/// names, in this order:
 ///
 /// - `tip` and `.`: the last changeset, or the null id where there are none; `null`: the null id;
 /// - 40 digits of either case: the null id or that of a changeset that is here;

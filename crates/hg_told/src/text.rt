@@ -1,6 +1,6 @@
 //! Texts that are cut at a byte, and texts that are written piece by piece.
 
-ghost use Rattle.std.specs.Prelude.{◌≡◌, ◌+◌, ◌-◌, ◌==◌, [], ◌∷◌, ◌++◌, drop, length, map, take, IfOk, OnOk, Some};
+ghost use Rattle.std.specs.Prelude.{◌≡◌, ◌-◌, ◌==◌, ◌++◌, length, map, take, IfOk, OnOk};
 ghost use Rattle.std.specs.List.{before_first, position, slice_split};
 ghost use Rattle.std.specs.Option.{option_map};
 ghost use Rattle.hex.specs.Hex.{encode_lower};

@@ -1,0 +1,7 @@
+//! The tests of `hg_told`, over its contracts.
+#![tactic(auto)]
+
+#[cfg(test)]
+mod argument_tests;
+#[cfg(test)]
+mod repository_tests;
