@@ -7,6 +7,7 @@ mod Numbers
 mod Setting
 mod Adding
 mod Revs
+mod Heads
 mod Preparing
 mod Staying
 pub mod CallerLemmas

@@ -17,7 +17,8 @@ use Rattle.hg_types.specs.declared.part.Part.{Part}
 use Rattle.hg_parts.specs.Replies.{reply_where, CanReply}
 use Rattle.hg_parts.specs.parts.Changegroup.{revs_of, result_text}
 
-some_more : {X Y : Type 0} (h : X → Option Y) (xs : List X) (i : ℕ) (d : X) → i < length xs
+-- what a test gives of one more
+pub some_more : {X Y : Type 0} (h : X → Option Y) (xs : List X) (i : ℕ) (d : X) → i < length xs
     → filter_map h (take (i + 1) xs) ≡ filter_map h (take i xs) ++ option_to_list (h (get_or xs i d))
 some_more {X} {Y} h xs i d within = ap (filter_map h) (take_more xs i d within)
     ∙ filter_map-append h (take i xs) (get_or xs i d ∷ [])
@@ -53,6 +54,10 @@ rev_within rows node None found x is = absurd cc
 rev_within rows node (Some r) found x is =
     let same : r ≡ x = cc in
     subst (λ k. k < length rows) same (slice_get_within rows r found.row found.row_at)
+
+pub some_within : (n : ℕ) (o : Option ℕ) → IfSome o (λ x. x < n) → (x : ℕ) → o ≡ Some x → x < n
+some_within n None low x is = absurd cc
+some_within n (Some y) low x is = let same : y ≡ x = cc in omega (arith, low)
 
 -- ---- the reply
 

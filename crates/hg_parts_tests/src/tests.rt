@@ -2,6 +2,7 @@
 //! another.
 
 mod ample;
+mod heads;
 mod steps;
 
 use hg_log::node_id;

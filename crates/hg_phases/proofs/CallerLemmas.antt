@@ -1,5 +1,5 @@
 -- What proofs of other crates may cite of the phases of rows.
-use Rattle.std.proofs.Common.{◌≡◌, ◌≢◌, ◌↔◌, ℕ, ◌+◌, ◌<◌, ◌≤◌, List, length, take, Option, refl, sym, ap, ◌∙◌}
+use Rattle.std.proofs.Common.{◌≡◌, ◌≢◌, ◌↔◌, ℕ, ◌+◌, ◌<◌, ◌≤◌, List, [], ◌++◌, length, take, Option, refl, sym, ap, ◌∙◌}
 use Rattle.std.proofs.Common.{arith}
 use Rattle.std.proofs.lemmas.List.{length_push}
 use Rattle.std.proofs.lemmas.List.FromFn.{length-map-range_with_len}
@@ -17,7 +17,8 @@ use Rattle.hg_phases.specs.Phases.{registered, advanced, advanced_at, Phasing, n
 use Rattle.hg_phases.specs.Phases.{AreForSame}
 use Rattle.hg_phases.proofs.Ranges.{filter_same}
 use Rattle.hg_phases.proofs.Rising.{rises, registered_lawful, advanced_lawful}
-use Rattle.hg_phases.proofs.RootLaws.{root_tells, same_phases}
+use Rattle.hg_phases.proofs.Joining as joining
+use Rattle.hg_phases.proofs.RootLaws.{root_tells}
 
 above_kept : (old new : List Changeset) (phases : List Phase) (r : ℕ) → AreLawfulRows new →
     length old ≤ length new → take (length old) new ≡ old → r < length old →
@@ -87,23 +88,6 @@ roots_tell rows kept target r lawful fits not within =
     root_tells (parents_of rows) (ordered rows lawful) kept.phases target
     (above_public target not) fits.lawful r within
 
--- phases of as many rows with the same roots are the same
-pub same_by_roots : (kept other : Phasing) → AreForSame kept other →
-    length kept.phases ≡ length other.phases → kept.draft ≡ other.draft → kept.secret ≡ other.secret →
-    kept.phases ≡ other.phases
-same_by_roots kept other same len draft secret =
-    same_phases (parents_of same.rows)
-    (ordered same.rows same.lawful) kept.phases other.phases same.first.lawful same.second.lawful len
-    (sym same.first.draft ∙ draft ∙ same.second.draft) (sym same.first.secret ∙ secret ∙ same.second.secret)
-
--- the same phases have the same roots
-pub roots_by_phases : (kept other : Phasing) → AreForSame kept other → kept.phases ≡ other.phases →
-    (kept.draft ≡ other.draft) × (kept.secret ≡ other.secret)
-roots_by_phases kept other same phases = (
-  same.first.draft ∙ ap (λ ps. roots (parents_of same.rows) ps Draft) phases ∙ sym same.second.draft,
-  same.first.secret ∙ ap (λ ps. roots (parents_of same.rows) ps Secret) phases ∙ sym same.second.secret,
-)
-
 -- no rows have phases
 pub for_none : (rows : List Changeset) → AreFor rows no_rows
 unfolding roots_from
@@ -144,3 +128,19 @@ pub lawful_advanced : (rows : List Changeset) (target : Phase) (heads : List ℕ
     → AreLawful (parents_of rows) (advanced (parents_of rows) target heads phases)
 lawful_advanced rows target heads phases lawful law =
     advanced_lawful (parents_of rows) (ordered rows lawful) target heads phases law
+
+-- ---- advances one after another
+
+pub advances_joined : (parents : ℕ → Option ℕ × Option ℕ) (target : Phase) (heads more : List ℕ)
+    (phases : List Phase) → advanced parents target more (advanced parents target heads phases)
+    ≡ advanced parents target (heads ++ more) phases
+advances_joined = joining.advanced_joined
+
+pub advances_either : (parents : ℕ → Option ℕ × Option ℕ) (target other : Phase) (heads others : List ℕ)
+    (phases : List Phase) → advanced parents other others (advanced parents target heads phases)
+    ≡ advanced parents target heads (advanced parents other others phases)
+advances_either = joining.advanced_either
+
+pub advances_none : (parents : ℕ → Option ℕ × Option ℕ) (target : Phase) (phases : List Phase)
+    → advanced parents target [] phases ≡ phases
+advances_none = joining.advanced_none

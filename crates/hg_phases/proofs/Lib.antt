@@ -1,6 +1,7 @@
 mod Numbers
 mod Ranges
 mod Rising
+mod Joining
 mod Kept
 mod Marking
 mod Steps

@@ -5,7 +5,6 @@ use Rattle.std.proofs.Common.{◌⊎◌, arith, filter}
 use Rattle.std.specs.List.{range_with_len}
 use Rattle.std.proofs.lemmas.Bool.{cases_lt, cases_eq, cond_both, and_from, lt-ltb, le-leb, leb-true}
 use Rattle.hg_types.specs.declared.phase.Phase.{Phase}
-use Rattle.hg_types.specs.declared.phase.Phase.TheVariants.{Public, Draft, Secret}
 use Rattle.hg_types.specs.Phase.{number_of}
 use Rattle.hg_log.specs.Parents.{IsParentIn, AreOrdered}
 use Rattle.hg_log.specs.Parents.Leads.{itself, of_parent}
@@ -13,7 +12,6 @@ use Rattle.hg_phases.specs.Order.{greater, phase_at, phase_of, phase_above}
 use Rattle.hg_phases.specs.Roots.{is_root, roots_from, roots, HasRoot}
 use Rattle.hg_phases.specs.Phases.{AreLawful}
 use Rattle.hg_phases.proofs.Rising.{rises}
-use Rattle.hg_phases.proofs.Steps.{all_same}
 
 -- ---- what a test keeps of a range
 
@@ -105,46 +103,3 @@ module _ (parents : ℕ → Option ℕ × Option ℕ) (early : AreOrdered parent
     pub root_tells : AreLawful parents phases → (r : ℕ) → r < length phases
         → (number_of target ≤ number_of (phase_at phases r)) ↔ HasRoot parents (roots parents phases target) r
     root_tells lawful r within = (root_below (suc r) r (omega arith) within, root_high lawful r within)
-
--- ---- the same roots
-
-same_tests : (a b : Phase) → (1 ≤ number_of a → 1 ≤ number_of b) → (1 ≤ number_of b → 1 ≤ number_of a)
-    → (2 ≤ number_of a → 2 ≤ number_of b) → (2 ≤ number_of b → 2 ≤ number_of a) → a ≡ b
-same_tests Public Public to back to_secret back_secret = refl
-same_tests Public Draft to back to_secret back_secret = absurd (omega (arith, back (omega arith)))
-same_tests Public Secret to back to_secret back_secret = absurd (omega (arith, back (omega arith)))
-same_tests Draft Public to back to_secret back_secret = absurd (omega (arith, to (omega arith)))
-same_tests Draft Draft to back to_secret back_secret = refl
-same_tests Draft Secret to back to_secret back_secret = absurd (omega (arith, back_secret (omega arith)))
-same_tests Secret Public to back to_secret back_secret = absurd (omega (arith, to (omega arith)))
-same_tests Secret Draft to back to_secret back_secret = absurd (omega (arith, to_secret (omega arith)))
-same_tests Secret Secret to back to_secret back_secret = refl
-
-module _ (parents : ℕ → Option ℕ × Option ℕ) (early : AreOrdered parents) (phases others : List Phase)
-    (lawful : AreLawful parents phases) (lawful_others : AreLawful parents others)
-    (len : length phases ≡ length others) where
-  tests_pass : (target : Phase) → 0 < number_of target
-      → roots parents phases target ≡ roots parents others target → (r : ℕ) → r < length phases
-      → number_of target ≤ number_of (phase_at phases r) → number_of target ≤ number_of (phase_at others r)
-  tests_pass target some same r within high =
-      (root_tells parents early others target some lawful_others r (omega (arith, len, within))).1
-      (subst (λ ks. HasRoot parents ks r) same
-      ((root_tells parents early phases target some lawful r within).0 high))
-
-  tests_back : (target : Phase) → 0 < number_of target
-      → roots parents phases target ≡ roots parents others target → (r : ℕ) → r < length phases
-      → number_of target ≤ number_of (phase_at others r) → number_of target ≤ number_of (phase_at phases r)
-  tests_back target some same r within high =
-      (root_tells parents early phases target some lawful r within).1
-      (subst (λ ks. HasRoot parents ks r) (sym same)
-      ((root_tells parents early others target some lawful_others r (omega (arith, len, within))).0
-      high))
-
-  -- phases of as many rows with the same roots are the same
-  pub same_phases : roots parents phases Draft ≡ roots parents others Draft
-      → roots parents phases Secret ≡ roots parents others Secret → phases ≡ others
-  same_phases draft secret =
-      all_same phases others (length phases) len (omega arith)
-      (λ r within. same_tests (phase_at phases r) (phase_at others r)
-      (tests_pass Draft (omega arith) draft r within) (tests_back Draft (omega arith) draft r within)
-      (tests_pass Secret (omega arith) secret r within) (tests_back Secret (omega arith) secret r within))

@@ -86,58 +86,6 @@ pub told_push : (t : Phase) (n : ℕ) (xs : List Standing) (x : Standing)
 unfolding told_from
 told_push t n xs x = told_append t n xs (x ∷ [])
 
--- and where it is a root, or not, among the first rows
-pub told_more : (t : Phase) (xs : List Standing) (i : ℕ) → i < length xs → is_told t (standing_at xs i) ≡ true
-    → told t (take (i + 1) xs) ≡ told t (take i xs) ++ i ∷ []
-told_more t xs i within is =
-    let at : 0 + length (take i xs) ≡ i = omega (arith, length-take-le i xs (omega (arith, within))) in
-    ap (told t) (take_more xs i PublicOnPublic within)
-    ∙ told_push t 0 (take i xs) (standing_at xs i)
-    ∙ ap (λ b. told t (take i xs) ++ cond b ((0 + length (take i xs)) ∷ []) []) is
-    ∙ ap (λ (k : ℕ). told t (take i xs) ++ k ∷ []) at
-
-pub told_same : (t : Phase) (xs : List Standing) (i : ℕ) → i < length xs
-    → is_told t (standing_at xs i) ≡ false → told t (take (i + 1) xs) ≡ told t (take i xs)
-told_same t xs i within is =
-    ap (told t) (take_more xs i PublicOnPublic within)
-    ∙ told_push t 0 (take i xs) (standing_at xs i)
-    ∙ ap (λ b. told t (take i xs) ++ cond b ((0 + length (take i xs)) ∷ []) []) is
-    ∙ append-nil (told t (take i xs))
-
--- how many there are depends on the rows alone
-pub told_count : (t : Phase) (n m : ℕ) (xs : List Standing)
-    → length (told_from t n xs) ≡ length (told_from t m xs)
-unfolding told_from
-told_count t n m [] = refl
-told_count t n m (x ∷ xs) =
-    both (is_told t x) n m (told_from t (n + 1) xs) (told_from t (m + 1) xs) (told_count t (n + 1) (m + 1) xs)
-  where
-    both : (b : Bool) (j k : ℕ) (us vs : List ℕ) → length us ≡ length vs
-        → length (cond b (j ∷ us) us) ≡ length (cond b (k ∷ vs) vs)
-    both b j k us vs is = cond_both b (j ∷ us) us (λ ws. length ws ≡ length (cond b (k ∷ vs) vs))
-        (λ e. ap (λ (n : ℕ). suc n) is ∙ ap (λ c. length (cond c (k ∷ vs) vs)) (sym e)) (λ e. is
-        ∙ ap (λ c. length (cond c (k ∷ vs) vs)) (sym e))
-
--- the first rows have no more than all
-pub told_fewer : (t : Phase) (n k : ℕ) (xs : List Standing)
-    → length (told_from t n (take k xs)) ≤ length (told_from t n xs)
-told_fewer t n k xs =
-    omega (
-      arith,
-      ap (λ ys. length (told_from t n ys)) (take-append-drop k xs),
-      ap length (told_append t n (take k xs) (drop k xs)),
-      length-append (told_from t n (take k xs)) (told_from t (n + length (take k xs)) (drop k xs)),
-    )
-
--- there are no more than rows
-pub told_at_most : (t : Phase) (n : ℕ) (xs : List Standing) → length (told_from t n xs) ≤ length xs
-unfolding told_from
-told_at_most t n [] = omega arith
-told_at_most t n (x ∷ xs) =
-    let rest : length (told_from t (n + 1) xs) ≤ length xs = told_at_most t (n + 1) xs in
-    cond_both (is_told t x) (n ∷ told_from t (n + 1) xs) (told_from t (n + 1) xs)
-    (λ ks. length ks ≤ suc (length xs)) (λ e. omega (arith, rest)) (λ e. omega (arith, rest))
-
 -- each root is a row
 pub told_within : (t : Phase) (n : ℕ) (xs : List Standing) → AreWithin n (n + length xs) (told_from t n xs)
 unfolding told_from
@@ -174,18 +122,7 @@ above_low : (t : Phase) (low : ℕ) (xs : List Standing) (k : ℕ) → k < lengt
     → low ≤ get_or (told_from t low (drop low xs)) k 0
 above_low t low xs k k_in = let w = told_within t low (drop low xs) k k_in in w.0
 
--- the roots below a row are those before the first that is not below it
-pub cut_is : (t : Phase) (low d : ℕ) (xs : List Standing) → low ≤ length xs → IsCount (told t xs) low d
-    → take d (told t xs) ≡ told t (take low xs)
-cut_is t low d xs within count =
-    let ys : List ℕ = told t (take low xs) in
-    let zs : List ℕ = told_from t low (drop low xs) in
-    let all : told t xs ≡ ys ++ zs = told_split t low xs within in
-    let moved : IsCount (ys ++ zs) low d = subst (λ us. IsCount us low d) all count in
-    ap (take d) all ∙ seam ys zs low d (below_low t low xs within)
-    (above_low t low xs) moved.within moved.from moved.before
-
--- and there are so many of them
+-- there are as many below a row as the rows below it tell
 pub count_is : (t : Phase) (low : ℕ) (xs : List Standing) → low ≤ length xs
     → IsCount (told t xs) low (length (told t (take low xs)))
 count_is t low xs within =

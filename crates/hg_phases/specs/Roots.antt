@@ -1,14 +1,12 @@
 -- The roots of a phase: the rows of at least that phase that have no parent of at least that phase, in
 -- ascending order.
-use Rattle.std.specs.Prelude.{◌≡◌, ℕ, ◌≤◌, Bool, ◌&&◌, List, length, take, filter, Contains, Option, nat_le}
+use Rattle.std.specs.Prelude.{ℕ, Bool, ◌&&◌, List, length, filter, Contains, Option, nat_le}
 use Rattle.std.specs.Prelude.{nat_lt}
 use Rattle.std.specs.List.{range_with_len}
 use Rattle.hg_types.specs.declared.phase.Phase.{Phase}
 use Rattle.hg_types.specs.Phase.{number_of}
 use Rattle.hg_log.specs.Parents.{Leads}
-use Rattle.hg_phases.specs.declared.standing.Standing.{Standing}
 use Rattle.hg_phases.specs.Order.{phase_at, phase_above}
-use Rattle.hg_phases.specs.Standing.{told}
 
 -- a row of that phase, under parents of that greatest phase, is a root of the target
 abbrev pub begins : Phase → Phase → Phase → Bool
@@ -30,11 +28,3 @@ pub record HasRoot (parents : ℕ → Option ℕ × Option ℕ) (roots : List �
   pub root : ℕ
   pub is_one : Contains roots root
   pub leads : Leads parents root r
-
--- The roots are those of rows that were as these are below that row.
-pub record AreOfRows (target : Phase) (low : ℕ) (roots : List ℕ) (rows : List Standing) : Type 0 where
-  pub was : List Standing
-  pub told : roots ≡ told target was
-  pub front : take low was ≡ take low rows
-  pub within : low ≤ length rows
-  pub within_was : low ≤ length was

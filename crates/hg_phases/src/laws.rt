@@ -1,6 +1,6 @@
 //! What the definitions say together.
 
-ghost use Rattle.std.specs.Prelude.{◌≡◌, ◌≢◌, ◌↔◌, ℕ, ◌+◌, ◌<◌, ◌≤◌, List, Option, length, take};
+ghost use Rattle.std.specs.Prelude.{◌≡◌, ◌≢◌, ◌↔◌, ℕ, ◌+◌, ◌<◌, ◌≤◌, List, [], ◌++◌, Option, length, take};
 ghost use Rattle.hg_types.specs.declared.phase.Phase.{Phase};
 ghost use Rattle.hg_types.specs.declared.phase.Phase.TheVariants.{Public};
 ghost use Rattle.hg_types.specs.Phase.{number_of};
@@ -45,4 +45,19 @@ pub fn phases_stay_lawful()
         × Option ℕ) (target : Phase) (heads : List ℕ) (phases : List Phase)
         → (length (registered parents target phases) ≡ length phases + 1)
         × (length (advanced parents target heads phases) ≡ length phases) }
+{}
+
+/// Advances come together. What two of them to one phase make of the phases, one of the heads of both makes.
+/// Two to different phases make the same in either order, and one of no heads changes nothing.
+pub fn advances_come_together()
+    ensures joined { (parents : ℕ → Option ℕ
+        × Option ℕ) (target : Phase) (heads more : List ℕ) (phases : List Phase)
+        → advanced parents target more (advanced parents target heads phases)
+        ≡ advanced parents target (heads ++ more) phases }
+    ensures either { (parents : ℕ → Option ℕ
+        × Option ℕ) (target other : Phase) (heads others : List ℕ) (phases : List Phase)
+        → advanced parents other others (advanced parents target heads phases)
+        ≡ advanced parents target heads (advanced parents other others phases) }
+    ensures none { (parents : ℕ → Option ℕ × Option ℕ) (target : Phase) (phases : List Phase)
+        → advanced parents target [] phases ≡ phases }
 {}

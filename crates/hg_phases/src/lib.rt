@@ -20,12 +20,13 @@ mod fault;
 mod laws;
 mod order;
 mod phases;
-mod roots;
 mod standing;
 mod tape;
 mod walk;
 
 pub use entries::read_entries;
 pub use fault::EntryFault;
-pub use laws::{no_row_is_below_an_ancestor, phases_stay_lawful, roots_tell_phases};
+pub use laws::{
+    advances_come_together, no_row_is_below_an_ancestor, phases_stay_lawful, roots_tell_phases,
+};
 pub use phases::{Mark, Phases};

@@ -1,14 +1,12 @@
 //! The phases of a changelog's rows.
 
-ghost use Rattle.std.specs.Prelude.{◌≡◌, ◌≢◌, ◌↔◌, ◌<◌, [], ◌∷◌, ◌++◌, All, length, vec_len, vec_capacity};
-ghost use Rattle.std.specs.Prelude.{Some, None, IsTrue, IfOk, OnOk, OnErr, if◌then◌else◌};
+ghost use Rattle.std.specs.Prelude.{◌≡◌, ◌≢◌, ◌↔◌, ◌<◌, All, length, Some, None, IsTrue, IfOk, OnOk, OnErr};
 ghost use Rattle.hg_log.specs.Parents.{parents_of};
 ghost use Rattle.hg_phases.specs.Order.{phase_at};
 ghost use Rattle.hg_phases.specs.Phases.{registered, advanced, no_rows, AreFor, AreForSame};
 
 use crate::order::greater;
-use crate::roots::{are_same, make_room, tell};
-use crate::standing::{Standing, phase_at, phase_of};
+use crate::standing::{Standing, are_same, phase_at, phase_of};
 use crate::tape::Tape;
 use crate::walk::{lowered, lowered_tail};
 use hg_log::Changelog;
@@ -22,20 +20,18 @@ pub struct Mark {
     _private: (),
 }
 
-/// The phase of each row: one byte each, and beside them the roots of draft and of secret.
+/// The phase of each row, and the roots of draft and of secret: one byte for each row.
 ///
-/// The byte of a row also tells whether it is a root, so the roots of a mark are told by the rows of the
-/// mark, and what is kept for the way back is a number and a byte for each row that changed.
+/// The byte of a row tells its phase, and of which phases it is a root. What is kept for the way back is a
+/// number and a byte for each row that changed.
 #[derive(Drop)]
 pub struct Phases<A: Allocator = Global> {
     index: Tape<A>,
-    draft: Vec<u32, A>,
-    secret: Vec<u32, A>,
     is_marked: bool,
 }
 
 impl<A: Allocator> Model for Phases<A> {
-    ghost use Rattle.std.specs.Prelude.{Some, None, if◌then◌else◌, vec_capacity};
+    ghost use Rattle.std.specs.Prelude.{Some, None, if◌then◌else◌};
     ghost use Rattle.hg_types.specs.declared.phase.Phase.TheVariants.{Draft, Secret};
     ghost use Rattle.hg_phases.specs.Phases.{Marked};
 
@@ -47,8 +43,8 @@ impl<A: Allocator> Model for Phases<A> {
     ghost view = { λ p. record {
       current = record {
         phases = phases_told p.index.rows.items;
-        draft = p.draft.items;
-        secret = p.secret.items;
+        draft = told Draft p.index.rows.items;
+        secret = told Secret p.index.rows.items;
       };
       marked = if p.is_marked then Some (record {
         phases = phases_told (base_of p.index.marked p.index.rows.items p.index.kept.items);
@@ -57,8 +53,7 @@ impl<A: Allocator> Model for Phases<A> {
       }) else None;
     } };
 
-    ghost invariant = { λ p. IsSound p.index.rows.items p.index.kept.items p.index.marked
-        p.draft.items p.secret.items (vec_capacity p.draft) (vec_capacity p.secret) };
+    ghost invariant = { λ p. IsSound p.index.rows.items p.index.kept.items p.index.marked };
 }
 
 impl<A: Allocator + Copy> Phases<A> {
@@ -68,8 +63,6 @@ impl<A: Allocator + Copy> Phases<A> {
     {
         Phases {
             index: Tape::new(alloc),
-            draft: Vec::new(alloc),
-            secret: Vec::new(alloc),
             is_marked: false,
         }
     }
@@ -79,15 +72,8 @@ impl<A: Allocator + Copy> Phases<A> {
         ensures { IfOk result (λ copy. copy ≡ record { current = self.now.current; marked = None }) }
     {
         let index = self.index.copy(alloc)?;
-        let draft = Vec::from_slice(alloc, self.draft.as_slice())?;
-        let secret = Vec::from_slice(alloc, self.secret.as_slice())?;
         let is_marked = false;
-        Ok(Phases {
-            index,
-            draft,
-            secret,
-            is_marked,
-        })
+        Ok(Phases { index, is_marked })
     }
 
     /// Gives the next row the greatest of `target` and its parents' phases.
@@ -109,12 +95,7 @@ impl<A: Allocator + Copy> Phases<A> {
         let rows = self.index.rows.as_slice();
         let above = greater(phase_of(rows, p1), phase_of(rows, p2));
         let row = Standing::of(greater(target, above), above);
-        self.index.rows.reserve(1)?;
-        self.draft.reserve(1)?;
-        self.secret.reserve(1)?;
-        self.index.rows.push_reserved(row);
-        push_if(&mut self.draft, row.is_root(Phase::Draft), rev);
-        push_if(&mut self.secret, row.is_root(Phase::Secret), rev);
+        self.index.rows.push(row)?;
         Ok(())
     }
 
@@ -145,22 +126,8 @@ impl<A: Allocator + Copy> Phases<A> {
         let low = rows.len() - marks.len();
         let tail = lowered_tail(alloc, log, rows, marks.as_slice(), target)?;
         let new = tail.as_slice();
-        make_room(&mut self.draft, Phase::Draft, rows, low, new)?;
-        make_room(&mut self.secret, Phase::Secret, rows, low, new)?;
         self.index.keep(low, new)?;
         self.index.put(low, new);
-        tell(
-            &mut self.draft,
-            Phase::Draft,
-            low,
-            self.index.rows.as_slice(),
-        );
-        tell(
-            &mut self.secret,
-            Phase::Secret,
-            low,
-            self.index.rows.as_slice(),
-        );
         Ok(())
     }
 }
@@ -181,14 +148,12 @@ impl<A: Allocator> Phases<A> {
         phase_at(self.index.rows.as_slice(), rev as usize)
     }
 
-    /// Whether both have the same phases, where both are for the same rows. It compares their roots.
+    /// Whether both have the same phases, where both are for the same rows.
     pub fn is_same(&self, other: &Phases<A>) -> bool
         requires { AreForSame self.now.current other.now.current }
         ensures { IsTrue result ↔ (self.now.current.phases ≡ other.now.current.phases) }
     {
-        self.len() == other.len()
-            && are_same(self.draft.as_slice(), other.draft.as_slice())
-            && are_same(self.secret.as_slice(), other.secret.as_slice())
+        are_same(self.index.rows.as_slice(), other.index.rows.as_slice())
     }
 
     /// Marks the phases as they are. It takes no memory, and an earlier mark is gone.
@@ -200,37 +165,15 @@ impl<A: Allocator> Phases<A> {
         Mark { _private: () }
     }
 
-    /// Goes back to the phases of the moment of the mark, the last that was made. It takes no memory.
+    /// Goes back to the phases of the moment of the mark, the last that was made. It takes no memory, and
+    /// costs the rows that changed since then.
     pub fn back_to(&mut self, mark: Mark)
         requires { self.old.marked ≢ None }
         ensures back { self.old.marked ≡ Some self.new.current }
         ensures gone { self.new.marked ≡ None }
     {
         let Mark { _private } = mark;
-        let from = self.index.back();
-        tell(
-            &mut self.draft,
-            Phase::Draft,
-            from,
-            self.index.rows.as_slice(),
-        );
-        tell(
-            &mut self.secret,
-            Phase::Secret,
-            from,
-            self.index.rows.as_slice(),
-        );
+        self.index.back();
         self.is_marked = false;
-    }
-}
-
-/// Adds a number at the end where that is so, for which there is room.
-fn push_if<A: Allocator>(numbers: &mut Vec<u32, A>, test: bool, number: u32)
-    requires { vec_len numbers.old < vec_capacity numbers.old }
-    ensures items { numbers.new.items ≡ numbers.old.items ++ (if test then number ∷ [] else []) }
-    ensures room { vec_capacity numbers.new ≡ vec_capacity numbers.old }
-{
-    if test {
-        numbers.push_reserved(number);
     }
 }

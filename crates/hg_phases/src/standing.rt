@@ -88,3 +88,18 @@ pub fn phase_of(rows: &[Standing], parent: Option<u32>) -> Phase
         None => Phase::Public,
     }
 }
+
+/// Whether both lists of rows have the same phases.
+pub fn are_same(rows: &[Standing], others: &[Standing]) -> bool
+    ensures { IsTrue result ↔ (phases_told rows.now ≡ phases_told others.now) }
+{
+    if rows.len() != others.len() {
+        return false;
+    }
+    for row in 0..rows.len() {
+        if phase_at(rows, row).number() != phase_at(others, row).number() {
+            return false;
+        }
+    }
+    true
+}

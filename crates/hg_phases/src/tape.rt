@@ -106,26 +106,19 @@ impl<A: Allocator> Tape<A> {
         self.marked = self.rows.len();
     }
 
-    /// Goes back to what the rows were at the mark, which is gone then, and tells a row below which none has
-    /// changed.
-    pub fn back(&mut self) -> usize
+    /// Goes back to what the rows were at the mark, which is gone then.
+    pub fn back(&mut self)
         requires marked { self.old.marked ≤ vec_len self.old.rows }
         requires replaced { All (λ change. change.row < self.old.marked) self.old.kept.items }
         ensures rows { self.new.rows.items
             ≡ base_of self.old.marked self.old.rows.items self.old.kept.items }
         ensures kept { self.new.kept.items ≡ [] }
         ensures marked { self.new.marked ≡ 0 }
-        ensures within { result ≤ vec_len self.new.rows }
-        ensures front { take result self.new.rows.items ≡ take result self.old.rows.items }
     {
-        let mut low = self.marked;
         'back: while let Some(change) = self.kept.pop() {
-            let row = change.row as usize;
-            low = low.min(row);
-            self.rows[row] = change.standing;
+            self.rows[change.row as usize] = change.standing;
         }
         self.rows.truncate(self.marked);
         self.marked = 0;
-        low
     }
 }

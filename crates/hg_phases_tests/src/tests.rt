@@ -548,8 +548,20 @@ fn advancing<A: Allocator + Copy>(alloc: A, phases: &mut Phases<A>, log: &Change
     outcome_of(is_right && is_back, is_done)
 }
 
-/// What becomes of registering, copying, reading and advancing.
+/// What becomes of registering, copying, reading and advancing. A block is taken first, so that the smallest
+/// heap has room for none of them.
 fn steps<'h>(heap: &'h LocalHeap, log: &Changelog<&'h LocalHeap>) -> [Outcome; 4] {
+    match Vec::from_slice(heap, &[0u8; 16]) {
+        Ok(taken) => {
+            let outcomes = steps_behind(heap, log);
+            drop(taken);
+            outcomes
+        }
+        Err(_) => [Outcome::NotTried; 4],
+    }
+}
+
+fn steps_behind<'h>(heap: &'h LocalHeap, log: &Changelog<&'h LocalHeap>) -> [Outcome; 4] {
     let mut phases = no_phases(heap, log);
     let registered = registering(&mut phases, log);
     if registered == Outcome::Done {

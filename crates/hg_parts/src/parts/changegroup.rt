@@ -222,7 +222,10 @@ fn revs_of<A: Allocator + Copy>(
 }
 
 /// Adds a number, where there is one.
-fn push_some<A: Allocator>(numbers: &mut Vec<u32, A>, number: Option<u32>) -> Result<(), NoMemory>
+pub fn push_some<A: Allocator>(
+    numbers: &mut Vec<u32, A>,
+    number: Option<u32>,
+) -> Result<(), NoMemory>
     ensures { OnOk result (numbers.new.items ≡ numbers.old.items ++ option_to_list number) }
 {
     if let Some(number) = number {

@@ -3,15 +3,17 @@
 //! The payload is entries of 24 bytes: the number of a phase in four bytes, the most significant first, and
 //! an id (Mercurial's `internals.bundle2`, "phase-heads"). Another length or phase is a fault of format.
 //! Every changeset has to be known. Then each and its ancestors are advanced to its phase, in order: none
-//! gets a higher one (Mercurial's `phases`, "What are phases?").
+//! gets a higher one (Mercurial's `phases`, "What are phases?"). What the entries of one phase advance is advanced
+//! at once, which gives the same.
 
-ghost use Rattle.std.specs.Prelude.{◌≡◌, length, IfOk, OnOk};
+ghost use Rattle.std.specs.Prelude.{◌≡◌, ◌<◌, All, length, IfOk, IfSome, OnOk};
 ghost use Rattle.hg_phases.specs.Phases.{AreFor};
 ghost use Rattle.hg_parts.specs.Handled.{NothingGives};
 ghost use Rattle.hg_parts.specs.Store.{repository_of, IsSound, IsGrown};
-ghost use Rattle.hg_parts.specs.parts.PhaseHeads.{are_known, advanced_by, advance_each, handle_entries};
-ghost use Rattle.hg_parts.specs.parts.PhaseHeads.{read_phase_heads};
+ghost use Rattle.hg_parts.specs.parts.PhaseHeads.{are_known, advance_each, advanced_to, head_in, heads_of};
+ghost use Rattle.hg_parts.specs.parts.PhaseHeads.{handle_entries, read_phase_heads};
 
+use crate::parts::changegroup::push_some;
 use crate::prepared::Reading;
 use crate::refusal::Refusal;
 use crate::store::Store;
@@ -63,7 +65,7 @@ fn are_known<A: Allocator>(log: &Changelog<A>, entries: &[(Phase, Node)]) -> boo
     entries.iter().all(|entry| is_known(log, &entry.1))
 }
 
-/// Advances the changesets of the entries, in order.
+/// Advances the changesets of the entries, those of one phase together.
 fn advance_each<A: Allocator + Copy>(
     alloc: A,
     log: &Changelog<A>,
@@ -78,30 +80,60 @@ fn advance_each<A: Allocator + Copy>(
     ensures count { length phases.new.current.phases ≡ length log.now.rows }
     ensures marked { phases.new.marked ≡ phases.old.marked }
 {
-    for entry in entries {
-        advance_one(alloc, log, phases, entry)?;
-    }
+    advance_to(alloc, log, phases, Phase::Public, entries)?;
+    advance_to(alloc, log, phases, Phase::Draft, entries)?;
+    advance_to(alloc, log, phases, Phase::Secret, entries)?;
     Ok(())
 }
 
-/// Advances a changeset and its ancestors. The null id has no row.
-fn advance_one<A: Allocator + Copy>(
+/// Advances the changesets of the entries of one phase, and their ancestors.
+fn advance_to<A: Allocator + Copy>(
     alloc: A,
     log: &Changelog<A>,
     phases: &mut Phases<A>,
-    entry: &(Phase, Node),
+    target: Phase,
+    entries: &[(Phase, Node)],
 ) -> Result<(), NoMemory>
     requires fits { AreFor log.now.rows phases.old.current }
     requires count { length phases.old.current.phases ≡ length log.now.rows }
     ensures ok { OnOk result (phases.new.current.phases
-        ≡ advanced_by log.now.rows phases.old.current.phases entry.now) }
+        ≡ advanced_to log.now.rows target entries.now phases.old.current.phases) }
     ensures fits { AreFor log.now.rows phases.new.current }
     ensures count { length phases.new.current.phases ≡ length log.now.rows }
     ensures marked { phases.new.marked ≡ phases.old.marked }
 {
-    match log.rev(&entry.1) {
-        Some(rev) => phases.advance(alloc, log, entry.0, &[rev])?,
-        None => phases.advance(alloc, log, entry.0, &[])?,
-    }
+    let heads = heads_of(alloc, log, target, entries)?;
+    phases.advance(alloc, log, target, heads.as_slice())?;
     Ok(())
+}
+
+/// The numbers of the changesets of the entries of one phase.
+#[tactic(auto, unfolding(crate::specs::parts::PhaseHeads::heads_of))]
+fn heads_of<A: Allocator + Copy>(
+    alloc: A,
+    log: &Changelog<A>,
+    target: Phase,
+    entries: &[(Phase, Node)],
+) -> Result<Vec<u32, A>, NoMemory>
+    ensures heads { IfOk result (λ heads. heads.items ≡ heads_of log.now.rows target entries.now) }
+    ensures within { IfOk result (λ heads. All (λ head. head < length log.now.rows) heads.items) }
+{
+    let mut heads = Vec::new(alloc);
+    for entry in entries {
+        let head = head_in(log, target, entry);
+        push_some(&mut heads, head)?;
+    }
+    Ok(heads)
+}
+
+/// The number of an entry's changeset, where the entry has that phase. The null id has none.
+fn head_in<A: Allocator>(log: &Changelog<A>, target: Phase, entry: &(Phase, Node)) -> Option<u32>
+    ensures head { result ≡ head_in log.now.rows target entry.now }
+    ensures within { IfSome result (λ head. head < length log.now.rows) }
+{
+    if entry.0.number() == target.number() {
+        log.rev(&entry.1)
+    } else {
+        None
+    }
 }

@@ -1,10 +1,9 @@
 -- The way back: what was replaced since the mark.
-use Rattle.std.specs.Prelude.{◌≡◌, ℕ, zero, suc, ◌+◌, ◌<◌, ◌≤◌, ◌^◌, List, [], ◌∷◌, All, length, take}
+use Rattle.std.specs.Prelude.{ℕ, zero, suc, ◌+◌, ◌<◌, ◌≤◌, ◌^◌, List, [], ◌∷◌, All, length, take}
 use Rattle.std.specs.Prelude.{slice_set}
-use Rattle.hg_types.specs.declared.phase.Phase.TheVariants.{Draft, Secret}
 use Rattle.hg_phases.specs.declared.standing.Standing.{Standing}
 use Rattle.hg_phases.specs.declared.tape.Replaced.{Replaced}
-use Rattle.hg_phases.specs.Standing.{told, standing_at}
+use Rattle.hg_phases.specs.Standing.{standing_at}
 
 -- the rows before what was replaced, of which the last comes back first
 abbrev pub undone : List Replaced → List Standing → List Standing
@@ -20,14 +19,8 @@ unfoldable pub put_first : List Standing → ℕ → List Standing → ℕ → L
 put_first rows low tail zero = rows
 put_first rows low tail (suc n) = slice_set (put_first rows low tail n) (low + n) (standing_at tail n)
 
--- The rows of the mark are there, the roots are those that the rows tell, and there is room for those of the
--- mark.
-pub record IsSound (rows : List Standing) (kept : List Replaced) (marked : ℕ) (drafts secrets : List ℕ)
-    (draft_most secret_most : ℕ) : Type 0 where
+-- The rows of the mark are there, and what is kept is of them.
+pub record IsSound (rows : List Standing) (kept : List Replaced) (marked : ℕ) : Type 0 where
   pub few : length rows ≤ 2 ^ 32
   pub within : marked ≤ length rows
   pub replaced : All (λ change. change.row < marked) kept
-  pub draft : drafts ≡ told Draft rows
-  pub secret : secrets ≡ told Secret rows
-  pub draft_room : length (told Draft (base_of marked rows kept)) ≤ draft_most
-  pub secret_room : length (told Secret (base_of marked rows kept)) ≤ secret_most

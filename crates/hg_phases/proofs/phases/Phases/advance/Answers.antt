@@ -81,188 +81,6 @@ put-requires g c =
     let ok_rows = c.keep.new.self.rows.ok in
     omega (arith, size, low_is, ap (λ (v : Vec Standing g.row.A.Denot). length v.items) c.keep.ensures.rows)
 
-pub make_room-requires-clause-few_more : goal.make_room-requires-clause-few_more
-make_room-requires-clause-few_more g c =
-    let rows = c.args.log.now.rows in
-    let t = c.args.target in
-    let heads = c.args.heads.now in
-    let old = c.self.inside in
-    let was = old.index.rows.items in
-    let slice_is : c.as_slice-rows.result.now ≡ was = c.as_slice-rows.ensures.value in
-    let marks = c.in_ok-marks.marks.items in
-    let ok = c.in_ok-marks.marks.ok in
-    let are : AreLowered (parents_of rows) t heads (phases_told was) marks = subst
-    (λ (xs : List Standing). AreLowered (parents_of rows) t heads (phases_told xs) marks) slice_is
-    c.in_ok-marks.ensures in
-    let count : c.len.result ≡ length marks = omega (arith, c.len.ensures) in
-    let few : length marks ≤ length was = omega (arith, are.few, length-map was phase_told) in
-    let seen : c.as_slice.result.now ≡ marks = c.as_slice.ensures.value in
-    let low = length c.as_slice-rows.result.now - c.len.result in
-    let low_is : low + length marks ≡ length was = omega (arith, ap length slice_is, count, few) in
-    let place : length was - length marks ≡ low = omega (arith, low_is) in
-    let new = c.as_slice-new.result.now in
-    let tail_is : new ≡ lowered_rows (parents_of rows) t (phases_told was) marks low (length marks) =
-    c.as_slice-new.ensures.value ∙ c.in_ok-tail.ensures
-    ∙ ap (λ (xs : List Standing). lowered_rows (parents_of rows) t (phases_told xs) c.as_slice.result.now
-    (length xs - length c.as_slice.result.now) (length c.as_slice.result.now)) slice_is
-    ∙ ap (λ (ms : List Bool). lowered_rows (parents_of rows) t (phases_told was) ms (length was - length ms)
-    (length ms)) seen
-    ∙ ap (λ (n : ℕ). lowered_rows (parents_of rows) t (phases_told was) marks n (length marks)) place in
-    let size : length new ≡ length marks = ap length tail_is
-    ∙ rows_length (parents_of rows) t (phases_told was) marks low (length marks) in
-    omega (arith, size, few, c.self.invariant.few)
-
-pub make_room-requires-2-clause-few_more : goal.make_room-requires-2-clause-few_more
-make_room-requires-2-clause-few_more g c =
-    let rows = c.args.log.now.rows in
-    let t = c.args.target in
-    let heads = c.args.heads.now in
-    let old = c.self.inside in
-    let was = old.index.rows.items in
-    let slice_is : c.as_slice-rows.result.now ≡ was = c.as_slice-rows.ensures.value in
-    let marks = c.in_ok-marks.marks.items in
-    let ok = c.in_ok-marks.marks.ok in
-    let are : AreLowered (parents_of rows) t heads (phases_told was) marks = subst
-    (λ (xs : List Standing). AreLowered (parents_of rows) t heads (phases_told xs) marks) slice_is
-    c.in_ok-marks.ensures in
-    let count : c.len.result ≡ length marks = omega (arith, c.len.ensures) in
-    let few : length marks ≤ length was = omega (arith, are.few, length-map was phase_told) in
-    let seen : c.as_slice.result.now ≡ marks = c.as_slice.ensures.value in
-    let low = length c.as_slice-rows.result.now - c.len.result in
-    let low_is : low + length marks ≡ length was = omega (arith, ap length slice_is, count, few) in
-    let place : length was - length marks ≡ low = omega (arith, low_is) in
-    let new = c.as_slice-new.result.now in
-    let tail_is : new ≡ lowered_rows (parents_of rows) t (phases_told was) marks low (length marks) =
-    c.as_slice-new.ensures.value ∙ c.in_ok-tail.ensures
-    ∙ ap (λ (xs : List Standing). lowered_rows (parents_of rows) t (phases_told xs) c.as_slice.result.now
-    (length xs - length c.as_slice.result.now) (length c.as_slice.result.now)) slice_is
-    ∙ ap (λ (ms : List Bool). lowered_rows (parents_of rows) t (phases_told was) ms (length was - length ms)
-    (length ms)) seen
-    ∙ ap (λ (n : ℕ). lowered_rows (parents_of rows) t (phases_told was) marks n (length marks)) place in
-    let size : length new ≡ length marks = ap length tail_is
-    ∙ rows_length (parents_of rows) t (phases_told was) marks low (length marks) in
-    omega (arith, size, few, c.self.invariant.few)
-
-pub tell-requires : goal.tell-requires
-tell-requires g c =
-    let rows = c.args.log.now.rows in
-    let t = c.args.target in
-    let heads = c.args.heads.now in
-    let old = c.self.inside in
-    let was = old.index.rows.items in
-    let slice_is : c.as_slice-rows.result.now ≡ was = c.as_slice-rows.ensures.value in
-    let marks = c.in_ok-marks.marks.items in
-    let ok = c.in_ok-marks.marks.ok in
-    let are : AreLowered (parents_of rows) t heads (phases_told was) marks = subst
-    (λ (xs : List Standing). AreLowered (parents_of rows) t heads (phases_told xs) marks) slice_is
-    c.in_ok-marks.ensures in
-    let count : c.len.result ≡ length marks = omega (arith, c.len.ensures) in
-    let few : length marks ≤ length was = omega (arith, are.few, length-map was phase_told) in
-    let seen : c.as_slice.result.now ≡ marks = c.as_slice.ensures.value in
-    let low = length c.as_slice-rows.result.now - c.len.result in
-    let low_is : low + length marks ≡ length was = omega (arith, ap length slice_is, count, few) in
-    let place : length was - length marks ≡ low = omega (arith, low_is) in
-    let new = c.as_slice-new.result.now in
-    let tail_is : new ≡ lowered_rows (parents_of rows) t (phases_told was) marks low (length marks) =
-    c.as_slice-new.ensures.value ∙ c.in_ok-tail.ensures
-    ∙ ap (λ (xs : List Standing). lowered_rows (parents_of rows) t (phases_told xs) c.as_slice.result.now
-    (length xs - length c.as_slice.result.now) (length c.as_slice.result.now)) slice_is
-    ∙ ap (λ (ms : List Bool). lowered_rows (parents_of rows) t (phases_told was) ms (length was - length ms)
-    (length ms)) seen
-    ∙ ap (λ (n : ℕ). lowered_rows (parents_of rows) t (phases_told was) marks n (length marks)) place in
-    let size : length new ≡ length marks = ap length tail_is
-    ∙ rows_length (parents_of rows) t (phases_told was) marks low (length marks) in
-    let front : length (take low was) ≡ low = length-take-le low was (omega (arith, low_is)) in
-    let keep_rows : c.keep.new.self.rows.items ≡ was = ap (λ (v : Vec Standing g.row.A.Denot). v.items)
-    c.keep.ensures.rows in
-    let now = take low was ++ new in
-    let put_is : c.put.new.self.rows.items ≡ now = c.put.ensures.rows
-    ∙ ap (λ (xs : List Standing). take low xs ++ new) keep_rows in
-    let now_len : length now ≡ length was = omega (
-      arith,
-      length-append (take low was) new,
-      front,
-      size,
-      low_is,
-    ) in
-    let shown : c.as_slice-2.result.now ≡ now = c.as_slice-2.ensures.value ∙ put_is in
-    record {
-      told = record {
-        was = was;
-        told = c.make_room.ensures.items ∙ c.self.invariant.draft;
-        front = sym (ap (take low) shown ∙ take_at (take low was) new low front);
-        within = omega (arith, ap length shown, now_len, low_is);
-        within_was = omega (arith, low_is);
-      };
-      room = omega (
-        arith,
-        ap (λ (xs : List Standing). length (told Draft xs)) shown,
-        c.in_ok-make_room.ensures.room,
-        ap (λ (xs : List Standing). length (told Draft (take low xs ++ new))) slice_is,
-      );
-      few = omega (arith, ap length shown, now_len, c.self.invariant.few);
-    }
-
-pub tell-requires-2 : goal.tell-requires-2
-tell-requires-2 g c =
-    let rows = c.args.log.now.rows in
-    let t = c.args.target in
-    let heads = c.args.heads.now in
-    let old = c.self.inside in
-    let was = old.index.rows.items in
-    let slice_is : c.as_slice-rows.result.now ≡ was = c.as_slice-rows.ensures.value in
-    let marks = c.in_ok-marks.marks.items in
-    let ok = c.in_ok-marks.marks.ok in
-    let are : AreLowered (parents_of rows) t heads (phases_told was) marks = subst
-    (λ (xs : List Standing). AreLowered (parents_of rows) t heads (phases_told xs) marks) slice_is
-    c.in_ok-marks.ensures in
-    let count : c.len.result ≡ length marks = omega (arith, c.len.ensures) in
-    let few : length marks ≤ length was = omega (arith, are.few, length-map was phase_told) in
-    let seen : c.as_slice.result.now ≡ marks = c.as_slice.ensures.value in
-    let low = length c.as_slice-rows.result.now - c.len.result in
-    let low_is : low + length marks ≡ length was = omega (arith, ap length slice_is, count, few) in
-    let place : length was - length marks ≡ low = omega (arith, low_is) in
-    let new = c.as_slice-new.result.now in
-    let tail_is : new ≡ lowered_rows (parents_of rows) t (phases_told was) marks low (length marks) =
-    c.as_slice-new.ensures.value ∙ c.in_ok-tail.ensures
-    ∙ ap (λ (xs : List Standing). lowered_rows (parents_of rows) t (phases_told xs) c.as_slice.result.now
-    (length xs - length c.as_slice.result.now) (length c.as_slice.result.now)) slice_is
-    ∙ ap (λ (ms : List Bool). lowered_rows (parents_of rows) t (phases_told was) ms (length was - length ms)
-    (length ms)) seen
-    ∙ ap (λ (n : ℕ). lowered_rows (parents_of rows) t (phases_told was) marks n (length marks)) place in
-    let size : length new ≡ length marks = ap length tail_is
-    ∙ rows_length (parents_of rows) t (phases_told was) marks low (length marks) in
-    let front : length (take low was) ≡ low = length-take-le low was (omega (arith, low_is)) in
-    let keep_rows : c.keep.new.self.rows.items ≡ was = ap (λ (v : Vec Standing g.row.A.Denot). v.items)
-    c.keep.ensures.rows in
-    let now = take low was ++ new in
-    let put_is : c.put.new.self.rows.items ≡ now = c.put.ensures.rows
-    ∙ ap (λ (xs : List Standing). take low xs ++ new) keep_rows in
-    let now_len : length now ≡ length was = omega (
-      arith,
-      length-append (take low was) new,
-      front,
-      size,
-      low_is,
-    ) in
-    let shown : c.as_slice-3.result.now ≡ now = c.as_slice-3.ensures.value ∙ put_is in
-    record {
-      told = record {
-        was = was;
-        told = c.make_room-2.ensures.items ∙ c.self.invariant.secret;
-        front = sym (ap (take low) shown ∙ take_at (take low was) new low front);
-        within = omega (arith, ap length shown, now_len, low_is);
-        within_was = omega (arith, low_is);
-      };
-      room = omega (
-        arith,
-        ap (λ (xs : List Standing). length (told Secret xs)) shown,
-        c.in_ok-make_room-2.ensures.room,
-        ap (λ (xs : List Standing). length (told Secret (take low xs ++ new))) slice_is,
-      );
-      few = omega (arith, ap length shown, now_len, c.self.invariant.few);
-    }
-
 pub invariant_of-self-2 : goal.invariant_of-self-2
 invariant_of-self-2 g c =
     let rows = c.args.log.now.rows in
@@ -319,16 +137,9 @@ invariant_of-self-2 g c =
     (All-same (λ (r : Replaced). r.row < c.keep.new.self.marked) c.put.new.self.kept.items
     c.keep.new.self.kept.items kept_is c.keep.ensures.replaced) in
     sound_changed was c.put.new.self.rows.items old.index.kept.items c.put.new.self.kept.items
-    old.index.marked c.put.new.self.marked old.draft.items old.secret.items c.tell.new.roots.items
-    c.tell-2.new.roots.items
-    (vec_capacity old.draft) (vec_capacity old.secret) (vec_capacity c.tell.new.roots)
-    (vec_capacity c.tell-2.new.roots) c.self.invariant
+    old.index.marked c.put.new.self.marked c.self.invariant
     (omega (arith, ap length put_is, now_len, c.self.invariant.few))
-    (omega (arith, ap length put_is, now_len)) (mark_is ∙ c.keep.ensures.marked) replaced base
-    (c.tell.ensures.told ∙ ap (told Draft) c.as_slice-2.ensures.value) (c.tell-2.ensures.told
-    ∙ ap (told Secret) c.as_slice-3.ensures.value)
-    (omega (arith, c.make_room.ensures.more, c.tell.ensures.room))
-    (omega (arith, c.make_room-2.ensures.more, c.tell-2.ensures.room))
+    (omega (arith, ap length put_is, now_len)) (mark_is ∙ c.keep.ensures.marked) replaced
 
 pub returns-clause-ok : goal.returns-clause-ok
 returns-clause-ok g c =
@@ -372,19 +183,11 @@ returns-clause-ok g c =
       size,
       low_is,
     ) in
-    let fits_old : AreFor rows
-    (record { phases = phases_told was; draft = old.draft.items; secret = old.secret.items }) =
-    rw (← c.self.view_is) at c.requires.fits in
     let fits : AreFor rows (record {
       phases = phases_told was;
       draft = told Draft was;
       secret = told Secret was;
-    }) =
-    subst (λ (ks : List ℕ). AreFor rows
-    (record { phases = phases_told was; draft = told Draft was; secret = ks })) c.self.invariant.secret
-    (subst (λ (ks : List ℕ). AreFor rows
-    (record { phases = phases_told was; draft = ks; secret = old.secret.items }))
-    c.self.invariant.draft fits_old) in
+    }) = rw (← c.self.view_is) at c.requires.fits in
     rw (← c.self.view_is) (ap phases_told put_is
     ∙ phases_advanced rows was t heads marks low (ordered rows c.len-lawful.ensures.lawful) fits are
     low_is new tail_is)
@@ -431,22 +234,13 @@ returns-clause-fits g c =
       size,
       low_is,
     ) in
-    let fits_old : AreFor rows
-    (record { phases = phases_told was; draft = old.draft.items; secret = old.secret.items }) =
-    rw (← c.self.view_is) at c.requires.fits in
     let fits : AreFor rows (record {
       phases = phases_told was;
       draft = told Draft was;
       secret = told Secret was;
-    }) =
-    subst (λ (ks : List ℕ). AreFor rows
-    (record { phases = phases_told was; draft = told Draft was; secret = ks })) c.self.invariant.secret
-    (subst (λ (ks : List ℕ). AreFor rows
-    (record { phases = phases_told was; draft = ks; secret = old.secret.items }))
-    c.self.invariant.draft fits_old) in
-    for_parts rows (phases_told c.put.new.self.rows.items) (phases_told now) c.tell.new.roots.items
-    (told Draft now) c.tell-2.new.roots.items (told Secret now)
-    (ap phases_told put_is) (c.tell.ensures.told ∙ ap (told Draft) (c.as_slice-2.ensures.value ∙ put_is))
-    (c.tell-2.ensures.told ∙ ap (told Secret) (c.as_slice-3.ensures.value ∙ put_is))
+    }) = rw (← c.self.view_is) at c.requires.fits in
+    for_parts rows (phases_told c.put.new.self.rows.items) (phases_told now)
+    (told Draft c.put.new.self.rows.items) (told Draft now) (told Secret c.put.new.self.rows.items)
+    (told Secret now) (ap phases_told put_is) (ap (told Draft) put_is) (ap (told Secret) put_is)
     (told_for rows was t heads marks low (ordered rows c.len-lawful.ensures.lawful) fits are low_is new
     tail_is)

@@ -1,5 +1,4 @@
 use Rattle.std.proofs.Common.{◌≡◌, ◌∙◌, ◌+◌, ◌<◌, ◌≤◌, ◌^◌, [], ◌∷◌, ◌++◌, cond, length, refl, sym, ap, arith}
-use Rattle.std.specs.Vec.{vec_capacity}
 use Rattle.std.proofs.lemmas.List.{length-map, length_push, map_push}
 use Rattle.hg_types.specs.declared.phase.Phase.TheVariants.{Draft, Secret}
 use Rattle.hg_log.specs.Parents.{parents_of}
@@ -7,7 +6,7 @@ use Rattle.hg_log.proofs.CallerLemmas.{ordered}
 use Rattle.hg_phases.specs.Order.{greater, phase_of, phase_above}
 use Rattle.hg_phases.specs.Roots.{begins}
 use Rattle.hg_phases.specs.Phases.{Phasing, AreFor}
-use Rattle.hg_phases.specs.Standing.{phase_told, phases_told, is_told}
+use Rattle.hg_phases.specs.Standing.{phase_told, phases_told, is_told, told}
 use Rattle.hg_phases.specs.code.Tape.{base_of}
 use Rattle.hg_phases.proofs.Kept.{registered_is, registered_for}
 use Rattle.hg_phases.proofs.Told.{phase_of_standing, told_begins}
@@ -20,46 +19,22 @@ invariant_of-self-2 g c =
     let old = c.self.inside in
     let was = old.index.rows.items in
     let x = c.of-row.result in
-    let now = c.push_reserved.new.self.items in
-    let grown : now ≡ was ++ x ∷ [] = c.push_reserved.ensures.items
-    ∙ ap (λ xs. xs ++ x ∷ []) c.reserve.ensures.items in
-    let base : base_of old.index.marked now old.index.kept.items ≡ base_of old.index.marked was
-    old.index.kept.items =
-    ap (λ xs. base_of old.index.marked xs old.index.kept.items) grown
-    ∙ base_add old.index.marked was (x ∷ []) old.index.kept.items c.self.invariant.within in
+    let now = c.push.new.self.items in
+    let grown : now ≡ was ++ x ∷ [] = c.in_ok-push.ensures.items in
     let next : c.args.rev ≡ length (phases_told was) = rw (← c.self.view_is) at c.requires.next in
     let at : c.args.rev ≡ length was = next ∙ length-map was phase_told in
-    let drafts : c.push_if.new.numbers.items ≡ old.draft.items
-    ++ cond (is_told Draft x) (c.args.rev ∷ []) [] =
-    c.push_if.ensures.items ∙ ap (λ xs. xs ++ cond c.is_root.result (c.args.rev ∷ []) [])
-    c.reserve-2.ensures.items
-    ∙ ap (λ b. old.draft.items ++ cond b (c.args.rev ∷ []) []) c.is_root.ensures in
-    let secrets : c.push_if-2.new.numbers.items ≡ old.secret.items
-    ++ cond (is_told Secret x) (c.args.rev ∷ []) [] =
-    c.push_if-2.ensures.items
-    ∙ ap (λ xs. xs ++ cond c.is_root-2.result (c.args.rev ∷ []) []) c.reserve-3.ensures.items
-    ∙ ap (λ b. old.secret.items ++ cond b (c.args.rev ∷ []) []) c.is_root-2.ensures in
     let longer : length now ≡ length was + 1 = ap length grown ∙ length_push was x in
     sound_changed was now old.index.kept.items old.index.kept.items old.index.marked old.index.marked
-    old.draft.items old.secret.items c.push_if.new.numbers.items c.push_if-2.new.numbers.items
-    (vec_capacity old.draft) (vec_capacity old.secret) (vec_capacity c.push_if.new.numbers)
-    (vec_capacity c.push_if-2.new.numbers) c.self.invariant
-    (omega (arith, longer, at, c.ranges.rev.fits)) (omega (arith, longer)) refl c.self.invariant.replaced base
-    (told_added Draft was now x old.draft.items c.push_if.new.numbers.items c.args.rev
-    c.self.invariant.draft at grown drafts)
-    (told_added Secret was now x old.secret.items c.push_if-2.new.numbers.items c.args.rev
-    c.self.invariant.secret at grown secrets)
-    (omega (arith, c.reserve-2.ensures.capacity, c.push_if.ensures.room))
-    (omega (arith, c.reserve-3.ensures.capacity, c.push_if-2.ensures.room))
+    c.self.invariant (omega (arith, longer, at, c.ranges.rev.fits)) (omega (arith, longer)) refl
+    c.self.invariant.replaced
 
 pub returns-clause-ok : goal.returns-clause-ok
 returns-clause-ok g c =
     let old = c.self.inside in
     let was = old.index.rows.items in
     let x = c.of-row.result in
-    let now = c.push_reserved.new.self.items in
-    let grown : now ≡ was ++ x ∷ [] = c.push_reserved.ensures.items
-    ∙ ap (λ xs. xs ++ x ∷ []) c.reserve.ensures.items in
+    let now = c.push.new.self.items in
+    let grown : now ≡ was ++ x ∷ [] = c.in_ok-push.ensures.items in
     let next : c.args.rev ≡ length (phases_told was) = rw (← c.self.view_is) at c.requires.next in
     let at : c.args.rev ≡ length was = next ∙ length-map was phase_told in
     let rows = c.args.log.now.rows in
@@ -91,9 +66,8 @@ returns-clause-fits g c =
     let old = c.self.inside in
     let was = old.index.rows.items in
     let x = c.of-row.result in
-    let now = c.push_reserved.new.self.items in
-    let grown : now ≡ was ++ x ∷ [] = c.push_reserved.ensures.items
-    ∙ ap (λ xs. xs ++ x ∷ []) c.reserve.ensures.items in
+    let now = c.push.new.self.items in
+    let grown : now ≡ was ++ x ∷ [] = c.in_ok-push.ensures.items in
     let next : c.args.rev ≡ length (phases_told was) = rw (← c.self.view_is) at c.requires.next in
     let at : c.args.rev ≡ length was = next ∙ length-map was phase_told in
     let rows = c.args.log.now.rows in
@@ -117,35 +91,29 @@ returns-clause-fits g c =
     ∙ phase_of_standing c.greater.result above ∙ c.greater.ensures in
     let index : phases_told now ≡ phases_told was ++ greater c.args.target above ∷ [] =
     ap phases_told grown ∙ map_push phase_told was x ∙ ap (λ p. phases_told was ++ p ∷ []) phase_is in
-    let drafts : c.push_if.new.numbers.items ≡ old.draft.items
-    ++ cond (is_told Draft x) (c.args.rev ∷ []) [] =
-    c.push_if.ensures.items ∙ ap (λ xs. xs ++ cond c.is_root.result (c.args.rev ∷ []) [])
-    c.reserve-2.ensures.items
-    ∙ ap (λ b. old.draft.items ++ cond b (c.args.rev ∷ []) []) c.is_root.ensures in
-    let secrets : c.push_if-2.new.numbers.items ≡ old.secret.items
-    ++ cond (is_told Secret x) (c.args.rev ∷ []) [] =
-    c.push_if-2.ensures.items
-    ∙ ap (λ xs. xs ++ cond c.is_root-2.result (c.args.rev ∷ []) []) c.reserve-3.ensures.items
-    ∙ ap (λ b. old.secret.items ++ cond b (c.args.rev ∷ []) []) c.is_root-2.ensures in
+    let drafts : told Draft now ≡ told Draft was ++ cond (is_told Draft x) (c.args.rev ∷ []) [] =
+    told_added Draft was now x c.args.rev at grown in
+    let secrets : told Secret now ≡ told Secret was ++ cond (is_told Secret x) (c.args.rev ∷ []) [] =
+    told_added Secret was now x c.args.rev at grown in
     let kept : Phasing = record {
       phases = phases_told was;
-      draft = old.draft.items;
-      secret = old.secret.items;
+      draft = told Draft was;
+      secret = told Secret was;
     } in
     let fits : AreFor rows kept = rw (← c.self.view_is) at c.requires.fits in
     let room : length (phases_told was) < length rows = rw next at c.requires.row in
-    let draft : c.push_if.new.numbers.items ≡ kept.draft
+    let draft : told Draft now ≡ kept.draft
     ++ cond (begins Draft above (greater c.args.target above)) (length (phases_told was) ∷ []) [] =
     drafts ∙ ap (λ b. kept.draft ++ cond b (c.args.rev ∷ []) []) (ap (is_told Draft) c.of-row.ensures
     ∙ told_begins Draft c.greater.result above ∙ ap (begins Draft above) c.greater.ensures)
     ∙ ap (λ k. kept.draft ++ cond (begins Draft above (greater c.args.target above)) (k ∷ []) []) next in
-    let secret : c.push_if-2.new.numbers.items ≡ kept.secret
+    let secret : told Secret now ≡ kept.secret
     ++ cond (begins Secret above (greater c.args.target above)) (length (phases_told was) ∷ []) [] =
     secrets ∙ ap (λ b. kept.secret ++ cond b (c.args.rev ∷ []) []) (ap (is_told Secret) c.of-row.ensures
     ∙ told_begins Secret c.greater.result above ∙ ap (begins Secret above) c.greater.ensures)
     ∙ ap (λ k. kept.secret ++ cond (begins Secret above (greater c.args.target above)) (k ∷ []) []) next in
     for_parts rows (phases_told now) (phases_told was ++ greater c.args.target above
-    ∷ []) c.push_if.new.numbers.items _ c.push_if-2.new.numbers.items _ index draft secret
+    ∷ []) (told Draft now) _ (told Secret now) _ index draft secret
     (registered_for rows kept c.args.target above (ordered rows c.len-lawful.ensures.lawful) fits room
     above_is)
 
@@ -154,9 +122,8 @@ returns-clause-marked g c =
     let old = c.self.inside in
     let was = old.index.rows.items in
     let x = c.of-row.result in
-    let now = c.push_reserved.new.self.items in
-    let grown : now ≡ was ++ x ∷ [] = c.push_reserved.ensures.items
-    ∙ ap (λ xs. xs ++ x ∷ []) c.reserve.ensures.items in
+    let now = c.push.new.self.items in
+    let grown : now ≡ was ++ x ∷ [] = c.in_ok-push.ensures.items in
     let base : base_of old.index.marked now old.index.kept.items ≡ base_of old.index.marked was
     old.index.kept.items =
     ap (λ xs. base_of old.index.marked xs old.index.kept.items) grown

@@ -1,7 +1,7 @@
-use Rattle.std.proofs.Common.{◌≡◌, ◌∙◌, ◌<◌, ◌≤◌, length, take, sym, ap, arith}
+use Rattle.std.proofs.Common.{◌≡◌, ◌∙◌, ◌<◌, length, sym, ap}
 use Rattle.std.specs.List.{All}
 use Rattle.std.specs.Prelude.{Some}
-use Rattle.std.proofs.lemmas.List.{length-set, take-set-le, take-take}
+use Rattle.std.proofs.lemmas.List.{length-set}
 use Rattle.std.proofs.lemmas.List.Elements.{All-pop}
 use Rattle.hg_phases.specs.declared.tape.Replaced.{Replaced}
 use Rattle.hg_phases.specs.code.Tape.{undone}
@@ -17,19 +17,10 @@ back-preserved g c =
     let popped = c.in-Some.ensures.items in
     let all = All-pop (λ (r : Replaced). r.row < marked) c.back.self.kept.items rest
     (Some change) popped c.back.invariant.replaced in
-    let low = c.min-low.result in
-    let less : low ≤ c.back.low = omega (arith, c.min-low.ensures) in
-    let here : low ≤ change.row = omega (arith, c.min-low.ensures) in
     record {
       marked = c.back.invariant.marked;
       len = length-set rows change.row change.standing ∙ c.back.invariant.len;
       replaced = all.0;
       base = sym (undone_push rest change rows) ∙ ap (λ ks. undone ks rows) (sym popped)
           ∙ c.back.invariant.base;
-      low = omega (arith, less, c.back.invariant.low);
-      front =
-          take-set-le low rows change.row change.standing here
-          ∙ sym (take-take low c.back.low rows less)
-          ∙ ap (take low) c.back.invariant.front
-          ∙ take-take low c.back.low c.args.self.now.rows.items less;
     }
