@@ -1,0 +1,5 @@
+pub mod Sides
+pub mod Search
+pub mod Moves
+pub mod Lookups
+pub mod CallerLemmas
