@@ -1,6 +1,1 @@
-pub mod Receiving
-pub mod Taking
-pub mod Answering
-pub mod Replaying
-pub mod Seeding
 pub mod Serving

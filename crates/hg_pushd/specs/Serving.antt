@@ -3,10 +3,10 @@ use Rattle.std.specs.Prelude.{ℕ, ◌≡◌, Bool, Option, Some, None, Result, 
 use Rattle.hg_parts.specs.Repository.{Repository}
 use Rattle.hg_devices.specs.Devices.{Input, Output}
 use Rattle.hg_server.specs.Closing.{Ends}
-use Rattle.hg_pushd.specs.declared.seed.SeedFault.{SeedFault}
-use Rattle.hg_pushd.specs.declared.seed.SeedFault.TheVariants.{Aborted, ReadFailed, NoMemory}
-use Rattle.hg_pushd.specs.Answering.{empty_repository}
-use Rattle.hg_pushd.specs.Seeding.{Seeds}
+use Rattle.hg_replay.specs.declared.seed.SeedFault.{SeedFault}
+use Rattle.hg_replay.specs.declared.seed.SeedFault.TheVariants.{Aborted, ReadFailed, NoMemory}
+use Rattle.hg_replay.specs.Answering.{empty_repository}
+use Rattle.hg_replay.specs.Seeding.{Seeds}
 
 -- the repository before the first connection: the one that the seed gives, or the empty one
 abbrev pub Begins : {A : Type 0} → Bool → Option Input → Result (Repository A) SeedFault → Type 0

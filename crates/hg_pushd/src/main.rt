@@ -2,33 +2,18 @@
 //!
 //! `hg_pushd one` reads a bundle from standard input, runs it and writes the reply bundle to standard output.
 //! `hg_pushd replay` runs the bundles of files, one behind the other, and writes a report of what the
-//! repository then holds. [`run::run_one`] and [`replay::run_replay`] are these from any readers to any
-//! writer, proved from the bytes read to the bytes written. `hg_pushd serve` accepts connections and serves
-//! each on a thread: [`serve::serve_on`] is that, from its seed to its report, over `hg_server`. What readers
-//! and writers tell of how they were used is said by `hg_devices`, and `command` has the command line.
+//! repository then holds. [`hg_replay::run_one`] and [`hg_replay::run_replay`] are these from any readers to
+//! any writer, proved from the bytes read to the bytes written. `hg_pushd serve` accepts connections and
+//! serves each on a thread: [`serve::serve_on`] is that, from its seed to its report, over `hg_server`. What
+//! readers and writers tell of how they were used is said by `hg_devices`, and the command line is read by
+//! `hg_command`.
 #![tactic(auto)]
 
-mod command;
-mod ending;
-mod push;
-mod receiving;
-mod replay;
-mod report;
-mod run;
-mod seed;
-mod send;
 mod serve;
-mod serving;
-mod status;
-#[cfg(test)]
-mod tests;
 
-use crate::command::{Job, job_of, status_of, unreadable};
-use crate::replay::run_replay;
-use crate::run::run_one;
 use crate::serve::serve_on;
-use crate::serving::Serving;
-use clap::Error;
+use hg_command::{Job, Serving, asked_for, tell, words};
+use hg_replay::{run_one, run_replay};
 use std::fs::{File, Files};
 use std::hash::RandomState;
 use std::io;
@@ -39,23 +24,6 @@ use std::random::RandomSource;
 use std::sync::Wait;
 use std::thread::Threads;
 use std::time::Clock;
-
-/// The line that tells a status.
-fn line_of(status: u8) -> Option<&'static str> {
-    match status {
-        1 => Some("hg_pushd: push aborted"),
-        3 => Some("hg_pushd: device fault"),
-        4 => Some("hg_pushd: out of memory"),
-        _ => None,
-    }
-}
-
-/// Tells the status on standard error, where it is not 0.
-fn tell(rt: &HostRuntime, status: u8) {
-    if let Some(line) = line_of(status) {
-        let _ = eprintln!(rt; "{line}");
-    }
-}
 
 /// The files of these names, opened in their order. Of one that does not open the status is told.
 fn open_all<R: Files<File = File> + AllocGlobal>(rt: &R, names: &[&str]) -> Result<Vec<File>, u8> {
@@ -122,7 +90,7 @@ where
     };
     let listener = TcpListener::bind(rt, serving.listen)?;
     let mut report = File::create(rt, serving.report)?;
-    if asks_for_a_port(serving.listen) {
+    if serving.asks_for_a_port() {
         let bound = listener.local_addr()?;
         println!(rt; "listening on {bound}")?;
     }
@@ -138,34 +106,6 @@ where
         seed.as_mut(),
         &mut report,
     ))
-}
-
-/// Whether the system is to pick the port.
-fn asks_for_a_port(address: &str) -> bool {
-    match address.rsplit_once(':') {
-        Some((_, port)) => matches!(port.parse::<u16>(), Ok(0)),
-        None => false,
-    }
-}
-
-/// The words of the command line.
-fn words(rt: &HostRuntime) -> Result<Vec<String>, Error> {
-    match std::env::args(rt) {
-        Ok(words) => Ok(words.collect(rt.alloc())?),
-        Err(error) => Err(unreadable(rt.alloc(), &error)),
-    }
-}
-
-/// Prints the help or the version that was asked for, or what is wrong with the words, and gives the status.
-fn explain<R: Print + Eprint>(rt: &R, error: &Error) -> u8 {
-    let status = status_of(error);
-    if status == 4 {
-        return status;
-    }
-    match error.print(rt) {
-        Ok(_) => status,
-        Err(_) => 3,
-    }
 }
 
 /// Does what these words ask for, and gives the status. A system that gives no random bytes is a device that
@@ -184,9 +124,9 @@ where
         + Clock
         + Sync,
 {
-    let job = match job_of(rt.alloc(), words) {
+    let job = match asked_for(rt, words) {
         Ok(job) => job,
-        Err(error) => return explain(rt, &error),
+        Err(status) => return status,
     };
     let Ok(state) = RandomState::new(rt) else {
         return 3;
@@ -210,7 +150,7 @@ where
 fn main(rt: HostRuntime) -> ExitCode {
     let status = match words(&rt) {
         Ok(words) => obey(&rt, &words),
-        Err(error) => explain(&rt, &error),
+        Err(status) => status,
     };
     tell(&rt, status);
     ExitCode::from(status)

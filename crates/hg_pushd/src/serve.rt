@@ -5,9 +5,8 @@ ghost use Rattle.std.specs.Option.{option_map};
 ghost use Rattle.hg_types.specs.Limits.{IsAllowed};
 ghost use Rattle.hg_pushd.specs.Serving.{Begins, Serves, fault_status};
 
-use crate::run::empty_repository;
-use crate::seed::{SeedFault, seeded};
 use hg_devices::{Reader, Writer};
+use hg_replay::{SeedFault, empty_repository, seeded};
 use hg_repo::Repo;
 use hg_server::{Terms, serve_repository};
 use std::alloc::Global;

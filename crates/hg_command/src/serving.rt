@@ -1,0 +1,114 @@
+//! The words behind `serve`.
+
+use crate::command::publishing;
+use clap::{Arg, ArgAction, ArgMatches, Command, value_parser};
+use std::alloc::{AllocError, Global};
+
+/// What `serve` is asked for.
+#[derive(Clone, Copy, Debug)]
+pub struct Serving<'a> {
+    /// Where connections are accepted.
+    pub listen: &'a str,
+    /// How many connections are accepted.
+    pub connections: u32,
+    /// How many items the queue holds.
+    pub capacity: u32,
+    /// How many bundles a connection may send.
+    pub bundles: u32,
+    pub publishing: bool,
+    /// The file of a bundle that is run first.
+    pub seed: Option<&'a str>,
+    /// The file that the report is written to.
+    pub report: &'a str,
+}
+
+impl Serving<'_> {
+    /// Whether the system is to pick the port.
+    pub fn asks_for_a_port(&self) -> bool {
+        match self.listen.rsplit_once(':') {
+            Some((_, port)) => matches!(port.parse::<u16>(), Ok(0)),
+            None => false,
+        }
+    }
+}
+
+fn number<'a>(alloc: Global, name: &'a str, help: &'a str, most: i64, default: &'a str) -> Arg<'a> {
+    Arg::new(alloc, name)
+        .long(name)
+        .value_name("N")
+        .help(help)
+        .value_parser(value_parser!(u32).range(1..=most))
+        .default_value(default)
+}
+
+fn word<'a>(alloc: Global, name: &'a str, value: &'a str, help: &'a str) -> Arg<'a> {
+    Arg::new(alloc, name)
+        .long(name)
+        .value_name(value)
+        .help(help)
+        .action(ArgAction::Set)
+}
+
+/// The command `serve`.
+pub fn serve<'a>(alloc: Global) -> Result<Command<'a>, AllocError> {
+    let connections = Arg::new(alloc, "connections")
+        .long("connections")
+        .value_name("N")
+        .help("How many connections are accepted, 1 to 1024; the server ends behind the last")
+        .value_parser(value_parser!(u32).range(1..=1024))
+        .required(true);
+    Command::new(alloc, "serve")
+        .about("Serves TCP connections, and writes the report and the journal at the end")
+        .after_help(BEHIND)
+        .arg(word(
+            alloc,
+            "listen",
+            "ADDR",
+            "Where connections are accepted, as 127.0.0.1:8090; with port 0 on a free port, which is told",
+        )
+        .required(true))?
+        .arg(connections)?
+        .arg(number(
+            alloc,
+            "capacity",
+            "How many items of pushes the queue holds, 1 to 65536",
+            65_536,
+            "64",
+        ))?
+        .arg(number(
+            alloc,
+            "bundles",
+            "How many bundles a connection may send, 1 to 10000",
+            10_000,
+            "1",
+        ))?
+        .arg(publishing(alloc))?
+        .arg(word(alloc, "seed", "FILE", "A bundle that is run first"))?
+        .arg(word(alloc, "report", "FILE", "Where the report is written").required(true))
+}
+
+/// An example, and what becomes of a connection behind its last reply.
+const BEHIND: &str =
+    "Example: hg_pushd serve --listen 127.0.0.1:8090 --connections 100 --report report.txt\n\n\
+Behind its last reply a connection is shut down for writing, and what its client \
+still sends is read and dropped, up to 67108864 bytes and for up to 5 seconds.";
+
+fn number_of(matches: &ArgMatches<'_>, name: &str) -> u32 {
+    match matches.get_one::<u32>(name) {
+        Some(number) => number,
+        None => 1,
+    }
+}
+
+/// Reads what stands behind `serve`.
+pub fn read_serving<'a>(matches: &ArgMatches<'a>) -> Serving<'a> {
+    Serving {
+        listen: matches.get_str("listen").unwrap_or(""),
+        connections: number_of(matches, "connections"),
+        capacity: number_of(matches, "capacity"),
+        bundles: number_of(matches, "bundles"),
+        publishing: matches.get_flag("publishing"),
+        seed: matches.get_str("seed"),
+        report: matches.get_str("report").unwrap_or(""),
+    }
+}

@@ -1,0 +1,5 @@
+//! What the command line asks for.
+
+mod words;
+
+use std::test::*;

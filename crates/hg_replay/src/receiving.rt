@@ -1,0 +1,43 @@
+//! The bytes of one bundle, read from any reader.
+
+ghost use Rattle.std.specs.Prelude.{◌≡◌, []};
+ghost use Rattle.hg_types.specs.Limits.{standard_limits};
+ghost use Rattle.hg_stream.specs.Unbundler.{Holds, limits_of, ready_of, state_of};
+ghost use Rattle.hg_stream.specs.declared.state.State.TheVariants.{Reading};
+ghost use Rattle.hg_replay.specs.Receiving.{Received};
+
+use crate::ending::Ending;
+use hg_devices::Reader;
+use hg_stream::{State, Unbundler};
+use std::alloc::Allocator;
+
+/// How many bytes are read at a time, at most.
+const PIECE: usize = 4_096;
+
+/// How many bytes a bundle may have.
+const STREAM: u32 = 268_435_456;
+
+/// Reads up to the end mark, a fault, the end of the input or a failed read: at least one byte a turn, but
+/// for the last.
+pub fn receive<A: Allocator + Copy, R: Reader>(reader: &mut R, bundle: &mut Unbundler<A>) -> Ending
+    requires empty { Holds bundle.old [] [] }
+    requires reading { state_of bundle.old ≡ Reading }
+    requires limits { limits_of bundle.old ≡ standard_limits }
+    ensures { Received standard_limits (R.told reader.old) (R.told reader.new) result (ready_of bundle.new) }
+{
+    let mut buffer = [0u8; PIECE];
+    for _turn in 0..=STREAM {
+        let count = match reader.read(&mut buffer) {
+            Ok(0) => return Ending::InputEnded,
+            Ok(count) => count,
+            Err(_) => return Ending::ReadFailed,
+        };
+        let _ = bundle.feed(&buffer[..count]);
+        match bundle.state() {
+            State::Reading => {}
+            State::Ended => return Ending::Whole,
+            State::Failed(fault) => return Ending::Fault(fault),
+        }
+    }
+    unreachable!()
+}
