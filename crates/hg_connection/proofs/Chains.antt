@@ -33,7 +33,7 @@ use Rattle.hg_connection.specs.declared.served.Served.{Served}
 use Rattle.hg_connection.specs.Receiving.{IsNext, IsPiece, Keeps, Ran, state_at}
 use Rattle.hg_connection.specs.Connections.{Exchange, IsExchange, AreExchanges, AreWhole, Connects, EndsBy}
 use Rattle.hg_connection.specs.Connections.{Serves, TellsLast, TellsOf, bytes_of, reads_of, uses_of}
-use Rattle.hg_connection.specs.Connections.{replies_of, fault_of}
+use Rattle.hg_connection.specs.Connections.{replies_of, gone_of, fault_of}
 
 -- the bytes that were read behind the last end mark
 abbrev pub last_rest : {A : Type 0} → List ℕ → List (Exchange A) → List ℕ
@@ -59,6 +59,7 @@ pub record Goes {A : Type 0} (limits : Limits) (capacity : ℕ) (first : Reposit
   pub went : Appends out.taken sent.taken (replies_of whole)
   pub written : served.written ≡ length (replies_of whole)
   pub short : length (replies_of whole) ≤ number * greatest_reply
+  pub sent_all : replies_of whole ≡ gone_of whole
   pub fault : served.fault ≡ None
 
 module _ {A : Type 0} (limits : Limits) (capacity : ℕ) (first : RepositoryOf A) where
@@ -91,6 +92,10 @@ reads_more {A} xs x = flat_map_more (λ (y : Exchange A). y.reads) [] xs x
 uses_more : {A : Type 0} (xs : List (Exchange A)) (x : Exchange A) → uses_of xs
     ++ x.uses ≡ uses_of (xs ++ x ∷ [])
 uses_more {A} xs x = flat_map_more (λ (y : Exchange A). y.uses) [] xs x
+
+gone_more : {A : Type 0} (xs : List (Exchange A)) (x : Exchange A) → gone_of xs
+    ++ x.gone ≡ gone_of (xs ++ x ∷ [])
+gone_more {A} xs x = flat_map_more (λ (y : Exchange A). y.gone) [] xs x
 
 replies_more : {A : Type 0} (xs : List (Exchange A)) (x : Exchange A) → replies_of xs
     ++ reply_of x.how ≡ replies_of (xs ++ x ∷ [])
@@ -152,6 +157,7 @@ starts {A} limits capacity first input out before waiting served none s = record
   went = Appends-nil out.taken;
   written = s.2;
   short = omega arith;
+  sent_all = refl;
   fault = s.3;
 }
 
@@ -199,6 +205,7 @@ module _ {A : Type 0} (limits : Limits) (capacity : ℕ) (first : RepositoryOf A
         bound = subst (λ (l : List (Exchange A)). length (bytes_of l
             ++ dropped) ≤ most * limits.stream + 4096) (sym e) size;
         gone = replies_of g.whole;
+        gone_is = g.sent_all ∙ ap (λ (l : List (Exchange A)). gone_of l) (sym e);
         kept = [];
         replies = ap (λ (l : List (Exchange A)). replies_of l) e ∙ sym (append-nil (replies_of g.whole));
         went = g.went;
@@ -408,6 +415,7 @@ module _ {A : Type 0} (limits : Limits) (capacity : ℕ) (first : RepositoryOf A
         read = was_read;
         bound = omega (arith, b, le);
         gone = replies_of g.whole ++ x.gone;
+        gone_is = ap (λ (l : List ℕ). l ++ x.gone) g.sent_all ∙ gone_more g.whole x;
         kept = v.is.sent.rest;
         replies = sym (replies_more g.whole x)
             ∙ (ap (λ (l : List ℕ). replies_of g.whole ++ l) v.is.sent.reply_is
@@ -449,5 +457,6 @@ module _ {A : Type 0} (limits : Limits) (capacity : ℕ) (first : RepositoryOf A
         went = subst (λ (l : List ℕ). Appends out.taken sent.taken l) gone went_out;
         written = was_written ∙ ap (λ (l : List ℕ). length l) gone;
         short = short_on;
+        sent_all = sym gone ∙ (ap (λ (l : List ℕ). l ++ x.gone) g.sent_all ∙ gone_more g.whole x);
         fault = none_of told.fault none;
       }

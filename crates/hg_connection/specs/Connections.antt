@@ -116,6 +116,10 @@ uses_of xs = flat_map (λ x. x.uses) xs
 abbrev pub replies_of : {A : Type 0} → List (Exchange A) → List ℕ
 replies_of xs = flat_map (λ x. reply_of x.how) xs
 
+-- what went out of their replies
+abbrev pub gone_of : {A : Type 0} → List (Exchange A) → List ℕ
+gone_of xs = flat_map (λ x. x.gone) xs
+
 -- the answer that is told is that of the last bundle
 abbrev pub TellsLast : {A : Type 0} → Option (Answer A) → List (Exchange A) → Type 0
 TellsLast {A} None xs = xs ≡ []
@@ -142,8 +146,8 @@ EndsBy most whole (Some x) final dropped left (Some fault) =
 -- flushed, and one that ended it, if there is one. All reads and all uses of the writer are theirs, in their
 -- order, but for one read at the end. So behind a bundle whose reply was not written and flushed nothing was
 -- read, and behind a failed read no bundle was begun, and nothing was written behind the reply to the bundle
--- that it broke. The bytes that were read are those of the bundles and a rest; a front of the replies went
--- out, and all of them where there is no fault.
+-- that it broke. The bytes that were read are those of the bundles and a rest. A front of the replies went
+-- out, which is what went out of each, and all of them where there is no fault.
 pub record Connects {A : Type 0} (limits : Limits) (capacity : ℕ) (first : RepositoryOf A) (most : ℕ)
     (input left : Input) (out sent : Output) (before after : List (Taken A))
     (served : Served A) : Type 0 where
@@ -161,6 +165,7 @@ pub record Connects {A : Type 0} (limits : Limits) (capacity : ℕ) (first : Rep
   pub read : Consumes input.left left.left (bytes_of (whole ++ option_to_list last) ++ dropped)
   pub bound : length (bytes_of (whole ++ option_to_list last) ++ dropped) ≤ most * limits.stream + 4096
   pub gone : List ℕ
+  pub gone_is : gone ≡ gone_of (whole ++ option_to_list last)
   pub kept : List ℕ
   pub replies : replies_of (whole ++ option_to_list last) ≡ gone ++ kept
   pub went : Appends out.taken sent.taken gone

@@ -1,7 +1,9 @@
 -- A repository that is served, from its seed to its report.
-use Rattle.std.specs.Prelude.{ℕ, ◌≡◌, Bool, Option, Some, None, Result, Ok, Err}
+use Rattle.std.specs.Prelude.{ℕ, ◌≡◌, List, Bool, Option, Some, None, Result, Ok, Err}
 use Rattle.hg_parts.specs.Repository.{Repository}
 use Rattle.hg_devices.specs.Devices.{Input, Output}
+use Rattle.hg_server.specs.declared.terms.Terms.{Terms}
+use Rattle.hg_server.specs.Doors.{DoorUse}
 use Rattle.hg_server.specs.Closing.{Ends}
 use Rattle.hg_replay.specs.declared.seed.SeedFault.{SeedFault}
 use Rattle.hg_replay.specs.declared.seed.SeedFault.TheVariants.{Aborted, ReadFailed, NoMemory}
@@ -18,14 +20,18 @@ fault_status Aborted = 1
 fault_status ReadFailed = 3
 fault_status NoMemory = 4
 
--- Without a repository nothing is written, and the status says why. With one, it is served.
-abbrev pub EndsFrom : {A : Type 0} → Result (Repository A) SeedFault → Output → Output → ℕ → Type 0
-EndsFrom (Ok first) before after status = Ends first before after status
-EndsFrom (Err fault) before after status = (after ≡ before) × (status ≡ fault_status fault)
+-- Without a repository no connection is asked for and nothing is written, and the status says why. With one,
+-- it is served.
+abbrev pub EndsFrom : {A : Type 0} → Result (Repository A) SeedFault → Terms → Option (List DoorUse) →
+    Option (List DoorUse) → Output → Output → ℕ → Type 0
+EndsFrom (Ok first) terms door shut before after status = Ends first terms door shut before after status
+EndsFrom (Err fault) terms door shut before after status = (shut ≡ door) × (after ≡ before)
+    × (status ≡ fault_status fault)
 
--- A service from that seed, if there is one, wrote that report and has that status.
-pub record Serves (A : Type 0) (publishing : Bool) (seed : Option Input) (before after : Output)
-    (status : ℕ) : Type 0 where
+-- A service from that seed, if there is one, on these terms, used the door so, wrote that report and has that
+-- status.
+pub record Serves (A : Type 0) (publishing : Bool) (seed : Option Input) (terms : Terms)
+    (door shut : Option (List DoorUse)) (before after : Output) (status : ℕ) : Type 0 where
   pub first : Result (Repository A) SeedFault
   pub begins : Begins publishing seed first
-  pub ends : EndsFrom first before after status
+  pub ends : EndsFrom first terms door shut before after status

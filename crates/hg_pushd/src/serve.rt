@@ -1,6 +1,6 @@
 //! A repository served to connections.
 
-ghost use Rattle.std.specs.Prelude.{◌≡◌, IfOk};
+ghost use Rattle.std.specs.Prelude.{◌≡◌, IfOk, None};
 ghost use Rattle.std.specs.Option.{option_map};
 ghost use Rattle.hg_types.specs.Limits.{IsAllowed};
 ghost use Rattle.hg_pushd.specs.Serving.{Begins, Serves, fault_status};
@@ -8,7 +8,7 @@ ghost use Rattle.hg_pushd.specs.Serving.{Begins, Serves, fault_status};
 use hg_devices::{Reader, Writer};
 use hg_replay::{SeedFault, empty_repository, seeded};
 use hg_repo::Repo;
-use hg_server::{Terms, serve_repository};
+use hg_server::{Door, Terms, serve_repository};
 use std::alloc::Global;
 use std::hash::RandomState;
 use std::net::TcpListener;
@@ -35,6 +35,7 @@ pub fn serve_on<R: Threads + Wait + Clock + Sync, S: Reader, W: Writer>(
     report: &mut W,
 ) -> u8
     ensures { Serves Global publishing (option_map (λ s. S.told s.now) seed.entry)
+        (record { connections = connections; capacity = capacity; bundles = most }) None None
         (W.told report.old) (W.told report.new) result }
 {
     let terms = Terms {
@@ -42,9 +43,27 @@ pub fn serve_on<R: Threads + Wait + Clock + Sync, S: Reader, W: Writer>(
         capacity,
         bundles: most,
     };
+    let (status, _) = serve_from(rt, alloc, state, &listener, terms, publishing, seed, report);
+    status
+}
+
+/// The same, with the connections of any door, which comes back.
+pub fn serve_from<R: Threads + Wait + Clock + Sync, D: Door + Drop, S: Reader, W: Writer>(
+    rt: &R,
+    alloc: Global,
+    state: RandomState,
+    door: D,
+    terms: Terms,
+    publishing: bool,
+    seed: Option<&mut S>,
+    report: &mut W,
+) -> (u8, D)
+    ensures { Serves Global publishing (option_map (λ s. S.told s.now) seed.entry) terms
+        (D.told door) (D.told result.1) (W.told report.old) (W.told report.new) result.0 }
+{
     match first_repository(alloc, state, publishing, seed) {
-        Ok(repo) => serve_repository(rt, alloc, &listener, terms, repo, report),
-        Err(fault) => status_of(fault),
+        Ok(repo) => serve_repository(rt, alloc, door, terms, repo, report),
+        Err(fault) => (status_of(fault), door),
     }
 }
 

@@ -7,6 +7,7 @@ ghost use Rattle.hg_types.specs.Limits.{IsAllowed};
 
 mod beside;
 mod memory;
+mod telling;
 
 use super::*;
 use hg_repo::Repo;
@@ -99,7 +100,7 @@ fn each_client_gets_its_replies(rt: HostRuntime) {
     let short = client(&rt, &listener, b"HG2");
     let mut report = Vec::new(rt.alloc());
     let repo = empty_repository(&rt, rt.alloc());
-    let status = serve_repository(&rt, rt.alloc(), &listener, terms(3, 2), repo, &mut report);
+    let (status, _) = serve_repository(&rt, rt.alloc(), &listener, terms(3, 2), repo, &mut report);
     let told = was_sent(
         rt.alloc(),
         &three,
@@ -117,7 +118,7 @@ fn a_failed_accept_ends_the_service(rt: HostRuntime) {
     assert!(rt; listener.set_nonblocking(true).is_ok());
     let mut report = Vec::new(rt.alloc());
     let repo = empty_repository(&rt, rt.alloc());
-    let status = serve_repository(&rt, rt.alloc(), &listener, terms(2, 1), repo, &mut report);
+    let (status, _) = serve_repository(&rt, rt.alloc(), &listener, terms(2, 1), repo, &mut report);
     assert!(rt;
         status == 3
             && was_sent(rt.alloc(), &first, EMPTY)
@@ -145,6 +146,6 @@ fn a_report_that_fails(rt: HostRuntime) {
     let listener = listener(&rt);
     let first = client(&rt, &listener, EMPTY);
     let repo = empty_repository(&rt, rt.alloc());
-    let status = serve_repository(&rt, rt.alloc(), &listener, terms(1, 1), repo, &mut Full);
+    let (status, _) = serve_repository(&rt, rt.alloc(), &listener, terms(1, 1), repo, &mut Full);
     assert!(rt; status == 3 && was_sent(rt.alloc(), &first, EMPTY));
 }

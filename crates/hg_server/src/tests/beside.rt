@@ -38,7 +38,7 @@ fn served<R: RandomSource + Threads + Wait + Clock + Abort + Sync>(
 ) -> (u8, Vec<u8>) {
     let mut report = Vec::new(alloc);
     let repo = empty_repository(rt, alloc);
-    let status = serve_repository(rt, alloc, listener, terms, repo, &mut report);
+    let (status, _) = serve_repository(rt, alloc, listener, terms, repo, &mut report);
     (status, report)
 }
 

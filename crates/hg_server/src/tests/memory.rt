@@ -1,5 +1,6 @@
 //! Memory that is refused for a connection, and for the report, over heaps of rising size.
 
+ghost use Rattle.std.specs.Prelude.{◌≡◌, ◌≤◌};
 ghost use Rattle.hg_serve.specs.Desks.{Begins};
 
 use super::*;
@@ -27,6 +28,13 @@ const REFUSED_REPLY: &[u8] =
 const UNREAD_REPLY: &[u8] =
     b"HG20\0\0\0\0\0\0\0\x2a\x0bERROR:ABORT\0\0\0\0\x01\0\x07\x0fmessagestream fault 11\0\0\0\0\0\0\0\0";
 
+/// One connection of one bundle.
+const ONE: Terms = Terms {
+    connections: 1,
+    capacity: 1,
+    bundles: 1,
+};
+
 /// What became of a connection, as its client and the service tell it.
 #[derive(Clone, Copy, PartialEq, Eq)]
 enum Told {
@@ -51,15 +59,18 @@ fn served<J: Naming<A>, A: Allocator + Copy, R: Wait + Clock>(
     queue: PartQueue<A>,
     taker: Taker<A>,
     repo: Repo<A>,
+    terms: Terms,
 ) -> Option<(bool, usize)>
-    requires { Begins J.table J.capacity J.first queue taker repo }
+    requires begins { Begins J.table J.capacity J.first queue taker repo }
+    requires terms { (terms.capacity ≡ J.capacity) × (1 ≤ terms.bundles) × (terms.bundles ≤ 10000) }
 {
     let Ok(clients) = Vec::with_capacity(alloc, 1) else {
         return None;
     };
-    let service = Service::<J, A>::new(alloc, repo, queue, taker, clients);
-    service.connect(rt, alloc, stream, 1);
-    let (closed, no_memory) = service.close();
+    let service = Service::<J, A>::new(alloc, repo, queue, taker, clients, terms);
+    service.connect(rt, alloc, stream);
+    let no_memory = service.missed_memory();
+    let (closed, _) = service.close();
     Some((no_memory, closed.journal.len()))
 }
 
@@ -72,7 +83,8 @@ fn served_over<R: RandomSource + Wait + Clock + Abort>(
     let Ok((queue, taker)) = PartQueue::new(heap, 1) else {
         return None;
     };
-    served::<Brand, _, _>(rt, heap, stream, queue, taker, empty_repository(rt, heap))
+    let repo = empty_repository(rt, heap);
+    served::<Brand, _, _>(rt, heap, stream, queue, taker, repo, ONE)
 }
 
 /// A client of a server over a heap pushes. What became of it.
