@@ -1,11 +1,10 @@
 -- The way back: a change more, and the last one taken back.
-use Rattle.std.proofs.Common.{◌≡◌, ℕ, ◌<◌, ◌≤◌, Bool, true, false, ◌&&◌, cond, ltb, leb, List, [], ◌∷◌, ◌++◌}
-use Rattle.std.proofs.Common.{length, reverse, Option, Some, None, refl, sym, ap, ◌∙◌, subst, arith}
+use Rattle.std.proofs.Common.{◌≡◌, Bool, true, false, ◌&&◌, cond, List, [], ◌∷◌, ◌++◌}
+use Rattle.std.proofs.Common.{reverse, Option, Some, None, refl, sym, ap, ◌∙◌, subst}
 use Rattle.std.specs.Option.{option_to_list}
 use Rattle.std.specs.Cmp.{first_so, second_so}
 use Rattle.std.proofs.lemmas.List.{append-nil, reverse-append}
 use Rattle.hg_keys.specs.declared.bookmarks.Change.{Change}
-use Rattle.hg_keys.specs.declared.bookmarks.Change.TheVariants.{Added, Moved, Removed}
 use Rattle.hg_keys.specs.Bookmarks.{Pairs, AreInOrder}
 use Rattle.hg_keys.specs.code.Changes.{undone, all_undone, base_of, can_undo, can_undo_all, kept, IsSound}
 

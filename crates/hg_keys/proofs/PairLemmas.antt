@@ -1,14 +1,13 @@
 -- Where a name is among pairs in order, and what an edit there makes of them.
-use Rattle.std.proofs.Common.{◌≡◌, ℕ, suc, ◌+◌, ◌<◌, true, false, List, [], ◌∷◌, ◌++◌, length, get_or, set}
-use Rattle.std.proofs.Common.{take, drop, Option, Some, None, Result, Ok, Err, IfOk, IfErr, refl, sym, ap}
-use Rattle.std.proofs.Common.{◌∙◌, subst, arith, inl, inr, bytes_eq}
-use Rattle.std.specs.List.{insert, AllWithin, AllByRecursion}
-use Rattle.std.specs.Ordering.{is_lt, is_eq, ordering_index, ordering_reverse}
-use Rattle.std.specs.declared.cmp.Ordering.{Ordering}
+use Rattle.std.proofs.Common.{◌≡◌, ℕ, suc, ◌<◌, false, List, [], ◌∷◌, ◌++◌, length, get_or, set}
+use Rattle.std.proofs.Common.{take, drop, Option, Some, sym, ap}
+use Rattle.std.proofs.Common.{◌∙◌, subst, arith, inl, inr}
+use Rattle.std.specs.List.{insert, AllWithin}
+use Rattle.std.specs.Ordering.{is_lt}
 use Rattle.std.specs.declared.cmp.Ordering.TheVariants.{Less, Equal, Greater}
 use Rattle.std.proofs.lemmas.Bool.{cases_lt}
 use Rattle.std.proofs.lemmas.Cmp.{nat_list_cmp_total, tied_itself}
-use Rattle.std.proofs.lemmas.List.{take-append-drop, drop_more, set_split, set-set, set-get_or}
+use Rattle.std.proofs.lemmas.List.{set_split, set-set, set-get_or}
 use Rattle.std.proofs.lemmas.List.{get_or-set_same, get_or-set_other, get_or_default, length-set}
 use Rattle.hg_types.specs.declared.node.Node.{Node}
 use Rattle.hg_keys.specs.Bookmarks.{Pairs, name_cmp, is_before, AreInOrder, pair_of, with_bookmark}

@@ -1,8 +1,7 @@
 -- The way back: what takes back each change, by the place at which it was made.
 use Rattle.std.specs.Option.{option_to_list}
-use Rattle.std.specs.Prelude.{◌≡◌, ◌++◌, Option, if◌then◌else◌, ℕ, Bool, true, ◌&&◌, ◌-◌, ◌^◌, nat_lt, nat_le, List, []}
+use Rattle.std.specs.Prelude.{◌≡◌, ◌++◌, Option, if◌then◌else◌, Bool, true, ◌&&◌, ◌-◌, ◌^◌, nat_lt, nat_le, List, []}
 use Rattle.std.specs.Prelude.{◌∷◌, length, reverse, insert, remove}
-use Rattle.hg_types.specs.declared.node.Node.{Node}
 use Rattle.hg_keys.specs.declared.bookmarks.Change.{Change}
 use Rattle.hg_keys.specs.declared.bookmarks.Change.TheVariants.{Added, Moved, Removed}
 use Rattle.hg_names.specs.Names.{moved}

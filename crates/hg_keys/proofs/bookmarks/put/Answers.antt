@@ -1,12 +1,11 @@
-use Rattle.std.proofs.Common.{◌≡◌, ◌<◌, true, Some, None, IfSome, List, [], ℕ, length, refl, sym, ap, subst, ◌∙◌, get_or}
-use Rattle.std.proofs.Common.{arith}
-use Rattle.std.specs.List.{insert, remove, slice_get}
+use Rattle.std.proofs.Common.{◌≡◌, Some, None, IfSome, List, ℕ, sym, ap, subst, ◌∙◌, get_or}
+use Rattle.std.specs.List.{insert, remove}
 use Rattle.std.specs.declared.cmp.Ordering.TheVariants.{Less}
 use Rattle.std.proofs.lemmas.List.{take-append-drop}
 use Rattle.std.proofs.lemmas.List.Quantifiers.{all_pairs_remove}
 use Rattle.std.proofs.lemmas.Option.{slice_get-get_or, get_or_from_slice_get}
 use Rattle.hg_types.specs.declared.node.Node.{Node}
-use Rattle.hg_names.specs.Names.{IsAt, IsGap, moved}
+use Rattle.hg_names.specs.Names.{moved}
 use Rattle.hg_keys.specs.Bookmarks.{Pairs, AreInOrder, name_cmp, with_bookmark}
 use Rattle.hg_keys.proofs.Lists.{remove-insert, insert-remove}
 use Rattle.hg_keys.proofs.PairLemmas.{with_moved, with_place, with_gap, in_order_added, moved_back}
