@@ -71,7 +71,9 @@ fn order_of(number: u16) -> [u8; 6] {
     let mut order = [0u8; 6];
     let mut rest = number;
     for turn in 0..6usize {
-        let choices = u16::try_from(6usize.saturating_sub(turn)).unwrap_or(1).max(1);
+        let choices = u16::try_from(6usize.saturating_sub(turn))
+            .unwrap_or(1)
+            .max(1);
         let choice = usize::from(rest % choices);
         rest /= choices;
         let at = turn.saturating_add(choice);
@@ -93,7 +95,13 @@ fn add_and_delete(alloc: Global, joins: u16, leaves: u16) -> Result<bool, Fail> 
     let mut same = true;
     for number in order_of(joins) {
         let number = u16::from(number);
-        set(alloc, &mut bookmarks, wanted.as_mut_slice(), number, Some(node(1)))?;
+        set(
+            alloc,
+            &mut bookmarks,
+            wanted.as_mut_slice(),
+            number,
+            Some(node(1)),
+        )?;
         same = same && are(&bookmarks, wanted.as_slice());
     }
     let marked = Vec::from_slice(alloc, wanted.as_slice())?;
@@ -161,19 +169,61 @@ fn many_come_and_go(alloc: Global, joins: Order, leaves: Order) -> Result<bool, 
     let half = MANY / 2;
     let first = Some(node(1));
     let second = Some(node(2));
-    set_turns(alloc, &mut bookmarks, wanted.as_mut_slice(), joins, (0, half), first)?;
+    set_turns(
+        alloc,
+        &mut bookmarks,
+        wanted.as_mut_slice(),
+        joins,
+        (0, half),
+        first,
+    )?;
     let mut same = are(&bookmarks, wanted.as_slice());
     let marked = Vec::from_slice(alloc, wanted.as_slice())?;
     let mark = bookmarks.mark();
-    set_turns(alloc, &mut bookmarks, wanted.as_mut_slice(), joins, (half, MANY), second)?;
+    set_turns(
+        alloc,
+        &mut bookmarks,
+        wanted.as_mut_slice(),
+        joins,
+        (half, MANY),
+        second,
+    )?;
     same = same && are(&bookmarks, wanted.as_slice());
-    set_turns(alloc, &mut bookmarks, wanted.as_mut_slice(), leaves, (0, half), second)?;
+    set_turns(
+        alloc,
+        &mut bookmarks,
+        wanted.as_mut_slice(),
+        leaves,
+        (0, half),
+        second,
+    )?;
     same = same && are(&bookmarks, wanted.as_slice());
-    set_turns(alloc, &mut bookmarks, wanted.as_mut_slice(), leaves, (half / 2, MANY), None)?;
+    set_turns(
+        alloc,
+        &mut bookmarks,
+        wanted.as_mut_slice(),
+        leaves,
+        (half / 2, MANY),
+        None,
+    )?;
     same = same && are(&bookmarks, wanted.as_slice());
-    set_turns(alloc, &mut bookmarks, wanted.as_mut_slice(), leaves, (0, half / 2), None)?;
+    set_turns(
+        alloc,
+        &mut bookmarks,
+        wanted.as_mut_slice(),
+        leaves,
+        (0, half / 2),
+        None,
+    )?;
     same = same && are(&bookmarks, wanted.as_slice()) && bookmarks.len() == 0;
-    set_turns(alloc, &mut bookmarks, wanted.as_mut_slice(), joins, (half / 2, MANY), first)?;
+    set_turns(
+        alloc,
+        &mut bookmarks,
+        wanted.as_mut_slice(),
+        joins,
+        (half / 2, MANY),
+        first,
+    )?;
     same = same && are(&bookmarks, wanted.as_slice());
     let copy = bookmarks.try_clone(alloc)?;
     bookmarks.back_to(mark);
@@ -200,13 +250,34 @@ fn until_refused<A: Allocator + Copy>(
 ) -> Result<(bool, bool), Fail> {
     let mut bookmarks = Bookmarks::new(alloc);
     let mut wanted = none_of(rt_alloc, SOME)?;
-    let before = set_turns(alloc, &mut bookmarks, wanted.as_mut_slice(), order, (0, 20), Some(node(1)));
+    let before = set_turns(
+        alloc,
+        &mut bookmarks,
+        wanted.as_mut_slice(),
+        order,
+        (0, 20),
+        Some(node(1)),
+    );
     let mut same = are(&bookmarks, wanted.as_slice());
     let marked = Vec::from_slice(rt_alloc, wanted.as_slice())?;
     let mark = bookmarks.mark();
-    let gone = set_turns(alloc, &mut bookmarks, wanted.as_mut_slice(), order, (5, 15), None);
+    let gone = set_turns(
+        alloc,
+        &mut bookmarks,
+        wanted.as_mut_slice(),
+        order,
+        (5, 15),
+        None,
+    );
     same = same && are(&bookmarks, wanted.as_slice());
-    let come = set_turns(alloc, &mut bookmarks, wanted.as_mut_slice(), order, (10, 40), Some(node(2)));
+    let come = set_turns(
+        alloc,
+        &mut bookmarks,
+        wanted.as_mut_slice(),
+        order,
+        (10, 40),
+        Some(node(2)),
+    );
     same = same && are(&bookmarks, wanted.as_slice());
     bookmarks.back_to(mark);
     same = same && are(&bookmarks, marked.as_slice());

@@ -38,7 +38,12 @@ fn names_at_their_places(rt: HostRuntime) -> Result<(), Fail> {
     assert!(rt;
         are(
             &names,
-            &[(b"", node(2)), (b"ab", node(4)), (b"b", node(1)), (&[255], node(3))]
+            &[
+                (b"", node(2)),
+                (b"ab", node(4)),
+                (b"b", node(1)),
+                (&[255], node(3))
+            ]
         )
     );
     assert!(rt; names.place_of(b"a") == Err(1));
@@ -57,7 +62,12 @@ fn names_at_their_places(rt: HostRuntime) -> Result<(), Fail> {
     assert!(rt;
         are(
             &copy,
-            &[(b"", node(2)), (b"ab", node(4)), (b"b", node(9)), (&[255], node(3))]
+            &[
+                (b"", node(2)),
+                (b"ab", node(4)),
+                (b"b", node(9)),
+                (&[255], node(3))
+            ]
         )
     );
     assert!(rt; names.place_of(b"ab") == Ok(1));
@@ -66,7 +76,11 @@ fn names_at_their_places(rt: HostRuntime) -> Result<(), Fail> {
 
 /// Puts many names in, each before the first, in the middle or behind the last, and whether each is then where
 /// it belongs.
-fn put_many<A: Allocator + Copy>(alloc: A, names: &mut Names<A>, half: u16) -> Result<(), NoMemory> {
+fn put_many<A: Allocator + Copy>(
+    alloc: A,
+    names: &mut Names<A>,
+    half: u16,
+) -> Result<(), NoMemory> {
     for number in 0..half {
         let below = half.saturating_sub(1).saturating_sub(number);
         names.insert(0, Named::new(alloc, &below.to_be_bytes(), node(1))?);

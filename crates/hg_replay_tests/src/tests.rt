@@ -8,8 +8,8 @@ mod seeds;
 mod telling;
 mod uses;
 
-use hg_replay::run_one;
 use crate::tests::devices::{Sink, Source};
+use hg_replay::run_one;
 use std::alloc::{Allocator, Global};
 use std::hash::RandomState;
 use std::process::Abort;

@@ -45,10 +45,7 @@ fn read_command<A: Allocator + Copy>(alloc: A, piece: &[u8]) -> Result<Command<A
     Ok(Command { name, arguments })
 }
 
-fn read_arguments<A: Allocator + Copy>(
-    alloc: A,
-    text: &[u8],
-) -> Result<Seq<Field<A>, A>, NoMemory>
+fn read_arguments<A: Allocator + Copy>(alloc: A, text: &[u8]) -> Result<Seq<Field<A>, A>, NoMemory>
     ensures { IfOk result (λ fields. fields ≡ arguments_of text.now) }
 {
     let pieces = pieces(alloc, text, b',')?;
@@ -129,7 +126,10 @@ fn read_first(text: &[u8]) -> (u8, usize)
     ensures some { 0 < result.1 }
     ensures first { unescaped text.now ≡ result.0 ∷ unescaped (drop result.1 text.now) }
 {
-    if text.len() > 1 && text[0] == b':' && let Some(byte) = byte_of(text[1]) {
+    if text.len() > 1
+        && text[0] == b':'
+        && let Some(byte) = byte_of(text[1])
+    {
         return (byte, 2);
     }
     (text[0], 1)

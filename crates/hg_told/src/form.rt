@@ -20,10 +20,7 @@ pub struct Field<A: Allocator = Global> {
 /// Reads a form, which is all of the text. Pieces are parted by `&`, and an empty piece is none. The first
 /// `=` parts name and value; where it is lacking the value is empty. In both `+` is a space and `%` with two
 /// hexadecimal digits is a byte; anything else stands for itself.
-pub fn read_form<A: Allocator + Copy>(
-    alloc: A,
-    text: &[u8],
-) -> Result<Seq<Field<A>, A>, NoMemory>
+pub fn read_form<A: Allocator + Copy>(alloc: A, text: &[u8]) -> Result<Seq<Field<A>, A>, NoMemory>
     ensures { IfOk result (λ fields. fields ≡ fields_of text.now) }
 {
     let pieces = pieces(alloc, text, b'&')?;

@@ -13,10 +13,7 @@ use std::alloc::Allocator;
 /// All heads, those that are obsolete or secret too, in the ascending order of their ids: 40 lower-case
 /// digits each, one space between, and a line feed. Where there are no changesets it is the null id. It costs
 /// by the number of heads.
-pub fn heads_text<A: Allocator + Copy>(
-    alloc: A,
-    log: &Changelog<A>,
-) -> Result<Seq<u8, A>, NoMemory>
+pub fn heads_text<A: Allocator + Copy>(alloc: A, log: &Changelog<A>) -> Result<Seq<u8, A>, NoMemory>
     ensures { IfOk result (λ text. IsHeadsText log.now.rows text) }
 {
     let heads = log.heads(alloc)?;

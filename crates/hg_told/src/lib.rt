@@ -22,8 +22,8 @@ mod text;
 
 pub use batch::{Command, joined_answers, read_batch};
 pub use capabilities::capabilities_text;
+pub use form::{Field, read_form, value_of};
 pub use heads::{heads_text, known_text};
 pub use laws::{escapes_are_read_back, forms_are_read_back};
 pub use listkeys::listkeys_text;
 pub use lookup::{Named, lookup_text};
-pub use form::{Field, read_form, value_of};

@@ -197,11 +197,7 @@ fn push_namespaces<A: Allocator>(lines: &mut Vec<u8, A>) -> Result<(), NoMemory>
 }
 
 /// Adds a key, a tab, its value and a line feed.
-fn push_line<A: Allocator>(
-    lines: &mut Vec<u8, A>,
-    key: &[u8],
-    value: &[u8],
-) -> Result<(), NoMemory>
+fn push_line<A: Allocator>(lines: &mut Vec<u8, A>, key: &[u8], value: &[u8]) -> Result<(), NoMemory>
     ensures { OnOk result (lines.new.items ≡ lines.old.items ++ ended 10 (key_line key.now value.now)) }
 {
     lines.extend_from_slice(key)?;

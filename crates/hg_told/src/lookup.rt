@@ -47,11 +47,7 @@ pub fn lookup_text<A: Allocator + Copy>(
 }
 
 #[tactic(auto, unfolding(crate::specs::Lookup::lookup_line))]
-fn line_of<A: Allocator + Copy>(
-    alloc: A,
-    key: &[u8],
-    named: Named,
-) -> Result<Seq<u8, A>, NoMemory>
+fn line_of<A: Allocator + Copy>(alloc: A, key: &[u8], named: Named) -> Result<Seq<u8, A>, NoMemory>
     ensures { IfOk result (λ text. text ≡ lookup_line key.now named) }
 {
     match named {

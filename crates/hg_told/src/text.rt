@@ -67,11 +67,7 @@ pub fn node_in_hex(text: &[u8]) -> Option<Node>
 }
 
 /// Adds the digits of an id, and a byte.
-pub fn push_id<A: Allocator>(
-    text: &mut Vec<u8, A>,
-    node: &Node,
-    byte: u8,
-) -> Result<(), NoMemory>
+pub fn push_id<A: Allocator>(text: &mut Vec<u8, A>, node: &Node, byte: u8) -> Result<(), NoMemory>
     ensures { OnOk result (text.new.items ≡ text.old.items ++ ended byte (encode_lower node.now.0)) }
 {
     let digits = digits_of(node);

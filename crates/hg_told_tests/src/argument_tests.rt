@@ -57,11 +57,13 @@ fn a_batch_of_a_client(rt: HostRuntime) -> Result<(), Fail> {
     assert!(rt; commands[0].name.as_slice() == b"heads".as_slice());
     assert!(rt; commands[0].arguments.is_empty());
     assert!(rt; commands[1].name.as_slice() == b"known".as_slice());
-    assert!(rt; is_value(
-        commands[1].arguments.as_slice(),
-        b"nodes",
-        b"30b653f69f5c5d07bc0bd38d172d2c1224b7be72"
-    ));
+    assert!(rt;
+        is_value(
+            commands[1].arguments.as_slice(),
+            b"nodes",
+            b"30b653f69f5c5d07bc0bd38d172d2c1224b7be72"
+        )
+    );
     Ok(())
 }
 
@@ -94,8 +96,7 @@ fn answers_of_a_batch(rt: HostRuntime) -> Result<(), Fail> {
     assert!(rt; answers(rt.alloc(), &[b""])?.is_empty());
     assert!(rt; answers(rt.alloc(), &[b"0\n", b"1"])?.as_slice() == b"0\n;1".as_slice());
     assert!(rt;
-        answers(rt.alloc(), &[b":a,b;c=d", b"", b"="])?.as_slice()
-            == b":ca:ob:sc:ed;;:e".as_slice()
+        answers(rt.alloc(), &[b":a,b;c=d", b"", b"="])?.as_slice() == b":ca:ob:sc:ed;;:e".as_slice()
     );
     escapes_are_read_back();
     Ok(())

@@ -15,7 +15,8 @@ const NULL: Node = Node::NULL;
 const NULL_DIGITS: &[u8] = b"0000000000000000000000000000000000000000";
 
 /// What a client of Mercurial 6.3 was answered first.
-const CAPABILITIES: &[u8] = b"batch branchmap bundle2=HG20%0Abookmarks%0Achangegroup%3D01%2C02%0Aerror%3Dabort%2Cunsupportedcontent%2Cpushraced%2Cpushkey%0Aobsmarkers%3DV0%0Aphases%3Dheads%0Apushkey getbundle httpheader=1024 known lookup pushkey unbundle";
+const CAPABILITIES: &[u8] =
+    b"batch branchmap bundle2=HG20%0Abookmarks%0Achangegroup%3D01%2C02%0Aerror%3Dabort%2Cunsupportedcontent%2Cpushraced%2Cpushkey%0Aobsmarkers%3DV0%0Aphases%3Dheads%0Apushkey getbundle httpheader=1024 known lookup pushkey unbundle";
 
 /// Adds a changeset whose text is that number, and gives its id.
 fn put<A: Allocator + Copy>(
@@ -57,10 +58,12 @@ fn the_capabilities(rt: HostRuntime) {
 #[test]
 fn no_heads(rt: HostRuntime) -> Result<(), Fail> {
     let log = Changelog::new(rt.alloc(), RandomState::new(&rt)?, Limits::standard());
-    assert!(rt; is_text(
-        heads_text(rt.alloc(), &log),
-        b"0000000000000000000000000000000000000000\n"
-    ));
+    assert!(rt;
+        is_text(
+            heads_text(rt.alloc(), &log),
+            b"0000000000000000000000000000000000000000\n"
+        )
+    );
     Ok(())
 }
 
@@ -70,14 +73,16 @@ fn known_of_nothing(rt: HostRuntime) -> Result<(), Fail> {
     assert!(rt; is_text(known_text(rt.alloc(), &log, b""), b""));
     assert!(rt; is_text(known_text(rt.alloc(), &log, NULL_DIGITS), b"1"));
     assert!(rt; is_text(known_text(rt.alloc(), &log, b" "), b"00"));
-    assert!(rt; is_text(
-        known_text(
-            rt.alloc(),
-            &log,
-            b"30b653f69f5c5d07bc0bd38d172d2c1224b7be72 xyz 0000000000000000000000000000000000000000"
-        ),
-        b"001"
-    ));
+    assert!(rt;
+        is_text(
+            known_text(
+                rt.alloc(),
+                &log,
+                b"30b653f69f5c5d07bc0bd38d172d2c1224b7be72 xyz 0000000000000000000000000000000000000000"
+            ),
+            b"001"
+        )
+    );
     Ok(())
 }
 
@@ -98,10 +103,12 @@ fn a_batch(rt: HostRuntime) -> Result<(), Fail> {
             answers.push(known_text(rt.alloc(), &log, nodes)?)?;
         }
     }
-    assert!(rt; is_text(
-        joined_answers(rt.alloc(), answers.as_slice()),
-        b"0000000000000000000000000000000000000000\n;1"
-    ));
+    assert!(rt;
+        is_text(
+            joined_answers(rt.alloc(), answers.as_slice()),
+            b"0000000000000000000000000000000000000000\n;1"
+        )
+    );
     Ok(())
 }
 
@@ -150,9 +157,15 @@ fn keys_of_namespaces(rt: HostRuntime) -> Result<(), Fail> {
     let _child = put(alloc, &mut log, draft, NULL, 2).ok_or("not added")?;
     let other = put(alloc, &mut log, root, NULL, 3).ok_or("not added")?;
     let _secret = put(alloc, &mut log, root, NULL, 4).ok_or("not added")?;
-    for (rev, phase) in [Phase::Public, Phase::Draft, Phase::Draft, Phase::Draft, Phase::Secret]
-        .iter()
-        .enumerate()
+    for (rev, phase) in [
+        Phase::Public,
+        Phase::Draft,
+        Phase::Draft,
+        Phase::Draft,
+        Phase::Secret,
+    ]
+    .iter()
+    .enumerate()
     {
         phases.register(&log, rev as u32, *phase)?;
     }
@@ -240,14 +253,18 @@ fn what_keys_name(rt: HostRuntime) -> Result<(), Fail> {
     let alloc = rt.alloc();
     let mut log = Changelog::new(alloc, RandomState::new(&rt)?, Limits::standard());
     let mut bookmarks = Bookmarks::new(alloc);
-    assert!(rt; is_text(
-        lookup_text(alloc, &log, &bookmarks, b"tip"),
-        b"1 0000000000000000000000000000000000000000\n"
-    ));
-    assert!(rt; is_text(
-        lookup_text(alloc, &log, &bookmarks, b""),
-        b"0 unknown revision ''\n"
-    ));
+    assert!(rt;
+        is_text(
+            lookup_text(alloc, &log, &bookmarks, b"tip"),
+            b"1 0000000000000000000000000000000000000000\n"
+        )
+    );
+    assert!(rt;
+        is_text(
+            lookup_text(alloc, &log, &bookmarks, b""),
+            b"0 unknown revision ''\n"
+        )
+    );
     let mut tip = NULL;
     for number in 0..40u16 {
         tip = put(alloc, &mut log, NULL, NULL, number).ok_or("not added")?;
@@ -267,10 +284,12 @@ fn what_keys_name(rt: HostRuntime) -> Result<(), Fail> {
         assert!(rt; is_text(lookup_text(alloc, &log, &bookmarks, key), line.as_slice()));
     }
     for key in [b"null".as_slice(), NULL_DIGITS] {
-        assert!(rt; is_text(
-            lookup_text(alloc, &log, &bookmarks, key),
-            b"1 0000000000000000000000000000000000000000\n"
-        ));
+        assert!(rt;
+            is_text(
+                lookup_text(alloc, &log, &bookmarks, key),
+                b"1 0000000000000000000000000000000000000000\n"
+            )
+        );
     }
     // Of 40 ids two begin with one digit.
     let mut ambiguous = false;
@@ -282,19 +301,33 @@ fn what_keys_name(rt: HostRuntime) -> Result<(), Fail> {
             );
     }
     assert!(rt; ambiguous);
-    assert!(rt; is_text(
-        lookup_text(alloc, &log, &bookmarks, b"no\nsuch"),
-        b"0 unknown revision 'no such'\n"
-    ));
+    assert!(rt;
+        is_text(
+            lookup_text(alloc, &log, &bookmarks, b"no\nsuch"),
+            b"0 unknown revision 'no such'\n"
+        )
+    );
     bookmarks.set(alloc, b"no\nsuch", Some(tip))?;
-    assert!(rt; is_text(lookup_text(alloc, &log, &bookmarks, b"no\nsuch"), line.as_slice()));
+    assert!(rt;
+        is_text(
+            lookup_text(alloc, &log, &bookmarks, b"no\nsuch"),
+            line.as_slice()
+        )
+    );
     // A bookmark comes before a beginning, and an id before a bookmark.
     bookmarks.set(alloc, &digits[..12], Some(NULL))?;
-    assert!(rt; is_text(
-        lookup_text(alloc, &log, &bookmarks, &digits[..12]),
-        b"1 0000000000000000000000000000000000000000\n"
-    ));
+    assert!(rt;
+        is_text(
+            lookup_text(alloc, &log, &bookmarks, &digits[..12]),
+            b"1 0000000000000000000000000000000000000000\n"
+        )
+    );
     bookmarks.set(alloc, digits, Some(NULL))?;
-    assert!(rt; is_text(lookup_text(alloc, &log, &bookmarks, digits), line.as_slice()));
+    assert!(rt;
+        is_text(
+            lookup_text(alloc, &log, &bookmarks, digits),
+            line.as_slice()
+        )
+    );
     Ok(())
 }

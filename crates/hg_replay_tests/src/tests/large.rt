@@ -1,8 +1,7 @@
 //! Many reads, a long reply, a large payload, many readers, a long report and a seed of many parts.
 
 use super::*;
-use hg_replay::run_replay;
-use hg_replay::seeded;
+use hg_replay::{run_replay, seeded};
 use linked_list_allocator::LocalHeap;
 
 /// `replycaps`, and a part `obsmarkers` without markers, whose id is 5.

@@ -1,8 +1,8 @@
 //! Pushes that are replayed, and the report of what they give.
 
 use super::*;
-use hg_replay::run_replay;
 use crate::tests::telling::{TellingReader, TellingWriter, Use};
+use hg_replay::run_replay;
 use linked_list_allocator::LocalHeap;
 use std::io::ErrorKind;
 

@@ -12,7 +12,7 @@ returns-clause-first c =
 pub returns-2-clause-first : goal.returns-2-clause-first
 returns-2-clause-first c =
     elim c.else-text-gt1.branch [
-      else-text-gt1-via-else-text-gt1 w ↦ first_alone c.args.text.now c.requires w.if-text-gt1.false
+      | else-text-gt1-via-else-text-gt1 w ↦ first_alone c.args.text.now c.requires w.if-text-gt1.false
       | else-text-gt1-via-then-text-gt1+else-text-eq58 w ↦
           first_other c.args.text.now w.if-text-gt1.true w.if-text-eq58.false
       | else-text-gt1-via-then-text-gt1+then-text-eq58+in-None-1 w ↦

@@ -17,7 +17,7 @@ loop-field-preserved g c =
     let same : bytes_eq field.name name ≡ c.is_same.result =
     sym (c.is_same.ensures ∙ ap (λ (own : List ℕ). bytes_eq own name) c.as_slice.ensures) in
     elim c.if-is_same.branch [
-      then-is_same w ↦ ap (option_map (λ (t : Bor (List ℕ)). t.now)) w.found-is
+      | then-is_same w ↦ ap (option_map (λ (t : Bor (List ℕ)). t.now)) w.found-is
           ∙ ap (λ (v : List ℕ). Some v) w.as_slice-then-is_same.ensures
           ∙ sym (value_here fields i field name c.loop-field-test.true c.field-item.is
           (same ∙ w.if-is_same.true))

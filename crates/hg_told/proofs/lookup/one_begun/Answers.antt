@@ -17,7 +17,7 @@ pub loop-rev-preserved : goal.loop-rev-preserved
 loop-rev-preserved g c =
     let has = c.node-node.ensures in
     elim c.if-begins_digits.branch [
-      then-begins_digits+else-is_some w ↦ ap (λ (o : Option Node). id_or o Unknown) w.found-is
+      | then-begins_digits+else-is_some w ↦ ap (λ (o : Option Node). id_or o Unknown) w.found-is
           ∙ found_first c.args.key.now c.args.log.now.rows c.loop-rev.rev has.row c.node-node.result
           c.loop-rev.found has.row_at has.node_is (sym c.begins_digits.ensures ∙ w.if-begins_digits.true)
           (sym w.is_some.ensures ∙ w.if-is_some.false) c.loop-rev.invariant
