@@ -8,5 +8,8 @@ ghost use Rattle.hg_told.specs.Capabilities.{capabilities_told};
 pub fn capabilities_text() -> &'static [u8]
     ensures { result.now ≡ capabilities_told }
 {
-    b"batch branchmap bundle2=HG20%0Abookmarks%0Achangegroup%3D01%2C02%0Aerror%3Dabort%2Cunsupportedcontent%2Cpushraced%2Cpushkey%0Aobsmarkers%3DV0%0Aphases%3Dheads%0Apushkey getbundle httpheader=1024 known lookup pushkey unbundle".as_slice()
+    b"batch branchmap bundle2=HG20%0Abookmarks%0Achangegroup%3D01%2C02%0Aerror%3Dabort%2C\
+      unsupportedcontent%2Cpushraced%2Cpushkey%0Aobsmarkers%3DV0%0Aphases%3Dheads%0Apushkey \
+      getbundle httpheader=1024 known lookup pushkey unbundle"
+        .as_slice()
 }
