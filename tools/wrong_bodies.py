@@ -16,7 +16,8 @@ Many are tried at once, each function's at most once in a round. A round is one 
 which every other function has a hole in the place of its proof: nothing is proved again that was not turned.
 A wrong body is refused where the prover does not prove a goal of the function that its head names. That a
 caller is not proved any more, or that the check ends in some other way, counts for nothing: such a wrong body is
-tried once more alone, and what then is not refused fails the script, as does one that the compiler refuses.
+tried once more alone, and what then is not refused fails the script, as does one that the compiler refuses. One
+without a head is new: it is tried and reported, and fails nothing before `--write` has given it one.
 """
 import importlib.machinery
 import os
@@ -305,14 +306,16 @@ def main(words):
         edits = crate.try_all(edits_of(crate.folder))
         for edit in edits:
             if edit.why:
-                print(f"wrong body {name}/{edit.name}: NOT REFUSED: {edit.why}")
+                told = "NOT REFUSED" if edit.function else "without a head, and not refused"
+                print(f"wrong body {name}/{edit.name}: {told}: {edit.why}")
             elif writes and not edit.function:
                 write_head(edit)
             if not edit.why and "--seen" in words:
                 print(f"wrong body {name}/{edit.name}: {edit.seen}")
-        missed = sum(bool(it.why) for it in edits)
-        print(f"{name}: {len(edits) - missed} of {len(edits)} wrong bodies refused, in {crate.rounds} checks", flush=True)
-        failed, passed = failed + missed, passed + len(edits) - missed
+        refused = sum(not it.why for it in edits)
+        missed = sum(bool(it.why and it.function) for it in edits)
+        print(f"{name}: {refused} of {len(edits)} wrong bodies refused, in {crate.rounds} checks", flush=True)
+        failed, passed = failed + missed, passed + refused
     print(f"{passed} passed, {failed} failed")
     return 1 if failed else 0
 

@@ -16,13 +16,9 @@ const NULL_DIGITS: &[u8] = b"0000000000000000000000000000000000000000";
 
 /// What a client of Mercurial 6.3 was answered first.
 const CAPABILITIES: &[u8] =
-<<<<<<< ours
-    b"batch branchmap bundle2=HG20%0Abookmarks%0Achangegroup%3D01%2C02%0Aerror%3Dabort%2Cunsupportedcontent%2Cpushraced%2Cpushkey%0Aobsmarkers%3DV0%0Aphases%3Dheads%0Apushkey getbundle httpheader=1024 known lookup pushkey unbundle";
-=======
     b"batch branchmap bundle2=HG20%0Abookmarks%0Achangegroup%3D01%2C02%0Aerror%3Dabort%2C\
       unsupportedcontent%2Cpushraced%2Cpushkey%0Aobsmarkers%3DV0%0Aphases%3Dheads%0Apushkey \
       getbundle httpheader=1024 known lookup pushkey unbundle";
->>>>>>> theirs
 
 /// Adds a changeset whose text is that number, and gives its id.
 fn put<A: Allocator + Copy>(
