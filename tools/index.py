@@ -22,7 +22,7 @@ ROOT = os.path.dirname(os.path.dirname(os.path.abspath(__file__)))
 FUNCTION = re.compile(r"^(\s*)(pub(?:\([a-z]+\))? )?(?:const )?fn (\w+)")
 WORD_DEFINED = re.compile(r"(?:abbrev |unfoldable )?pub (?:record |data )?([\w']+)|record pub ([\w']+)")
 WORD = re.compile(r"[A-Za-z_][\w']*")
-GHOST = re.compile(r"ghost use Rattle\.(hg_\w+)\.specs\.([\w.]+)\.\{([^}]*)\}")
+GHOST = re.compile(r"(?m)^ghost use Rattle\.(hg_\w+)\.specs\.([\w.]+)\.\{([^}]*)\}")
 
 
 ABOUT = """\

@@ -64,7 +64,8 @@ def paragraphs(text):
 def is_made(name):
     """Whether a script makes it."""
     made = os.path.basename(name.rstrip("/"))
-    scripts = [f"{ROOT}/Makefile", *glob.glob(f"{ROOT}/bench/**/*.sh", recursive=True)]
+    scripts = [f"{ROOT}/Makefile", *glob.glob(f"{ROOT}/bench/**/*.sh", recursive=True),
+               *glob.glob(f"{ROOT}/tools/*.py")]
     return any(re.search(rf"\b{re.escape(made)}\b", read(script)) for script in scripts)
 
 

@@ -7,8 +7,8 @@
 //! bodies of the answers to the commands of those names, and [`capabilities_text`] is a constant. Whatever
 //! bytes are asked, there is an answer. Nothing here starts a thread or waits.
 //!
-//! The commands and their texts are those of Mercurial's `internals.wireprotocol`, as a client of its version
-//! 6.3 sends and reads them.
+//! The commands and their texts are those of Mercurial's `internals.wireprotocol`, "Commands", as a client of its
+//! version 6.3 sends and reads them.
 #![tactic(auto)]
 
 mod batch;
