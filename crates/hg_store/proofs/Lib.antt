@@ -1,0 +1,9 @@
+mod Frames
+mod Heads
+mod OneReading
+mod Fronts
+mod Reading
+mod Stepping
+mod Moments
+mod Crash
+mod Repair

@@ -1,0 +1,97 @@
+use Rattle.std.proofs.Common.{◌≡◌, ℕ, List, drop, sym, ap, ◌∙◌, subst}
+use Rattle.hg_store.specs.Files.{StandsFor}
+use Rattle.hg_store.proofs.Moments.{no_more, one_behind}
+use Rattle.hg_store.proofs.Repair.{ends_as, here_stands, is_torn, only_as, stands_as}
+use Rattle.hg_store.proofs.opening.recover.Goals as goal
+
+pub returns-in_err-bytes-clause-any_moment : goal.returns-in_err-bytes-clause-any_moment
+returns-in_err-bytes-clause-any_moment g c = λ head records stands only.
+    let read = no_more g.D.Device.moment g.D.Device.left_since c.args.device.now c.read.new.self
+    (StandsFor head records) (g.D.Device.may_leave c.args.device.now) (g.D.Device.may_leave c.read.new.self)
+    (g.met.D.Device.only_now c.args.device.now) (here_stands head records (g.D.Device.seen c.args.device.now)
+    (g.D.Device.may_leave c.args.device.now) stands only) c.read.ensures.time c.read.ensures.crash in
+    read
+
+pub returns-in_err-found-clause-any_moment : goal.returns-in_err-found-clause-any_moment
+returns-in_err-found-clause-any_moment g c = λ head records stands only.
+    let read = no_more g.D.Device.moment g.D.Device.left_since c.args.device.now c.read.new.self
+    (StandsFor head records) (g.D.Device.may_leave c.args.device.now) (g.D.Device.may_leave c.read.new.self)
+    (g.met.D.Device.only_now c.args.device.now) (here_stands head records (g.D.Device.seen c.args.device.now)
+    (g.D.Device.may_leave c.args.device.now) stands only) c.read.ensures.time c.read.ensures.crash in
+    read
+
+pub returns-then-found-clause-any_moment : goal.returns-then-found-clause-any_moment
+returns-then-found-clause-any_moment g c = λ head records stands only.
+    let read = no_more g.D.Device.moment g.D.Device.left_since c.args.device.now c.read.new.self
+    (StandsFor head records) (g.D.Device.may_leave c.args.device.now) (g.D.Device.may_leave c.read.new.self)
+    (g.met.D.Device.only_now c.args.device.now) (here_stands head records (g.D.Device.seen c.args.device.now)
+    (g.D.Device.may_leave c.args.device.now) stands only) c.read.ensures.time c.read.ensures.crash in
+    read
+
+pub returns-then-found-clause-torn : goal.returns-then-found-clause-torn
+returns-then-found-clause-torn g c = λ whole is.
+    let same : whole ≡ c.len.result = cc in (
+      is_torn c.in_ok-found.found.head c.in_ok-found.found.records (g.D.Device.seen c.args.device.now)
+          c.deref.result.now c.in_ok-found.found.end whole (c.deref.ensures.value ∙ c.in_ok-bytes.ensures.bytes)
+          c.in_ok-found.ensures.store (c.in_ok-found.ensures.torn c.if-found.true) (same ∙ c.len.ensures),
+      record { same = c.read.ensures.seen; outcomes = c.read.ensures.crash },
+    )
+
+pub returns-in_err-shut_gate-clause-any_moment : goal.returns-in_err-shut_gate-clause-any_moment
+returns-in_err-shut_gate-clause-any_moment g c = λ head records stands only.
+    let read = no_more g.D.Device.moment g.D.Device.left_since c.args.device.now c.read.new.self
+    (StandsFor head records) (g.D.Device.may_leave c.args.device.now) (g.D.Device.may_leave c.read.new.self)
+    (g.met.D.Device.only_now c.args.device.now) (here_stands head records (g.D.Device.seen c.args.device.now)
+    (g.D.Device.may_leave c.args.device.now) stands only) c.read.ensures.time c.read.ensures.crash in
+    let bytes = c.deref.ensures.value ∙ c.in_ok-bytes.ensures.bytes in
+    let ends = ends_as head c.in_ok-found.found.head records c.in_ok-found.found.records
+    (g.D.Device.seen c.args.device.now) c.deref.result.now (g.D.Device.seen c.read.new.self)
+    (drop c.in_ok-found.found.end c.deref.result.now) c.in_ok-found.found.end stands bytes
+    c.in_ok-found.ensures.store c.in_ok-found.ensures.end c.read.ensures.seen in
+    let now = only_as (g.D.Device.seen c.args.device.now) (g.D.Device.seen c.read.new.self)
+    (g.D.Device.may_leave c.args.device.now) (g.D.Device.may_leave c.read.new.self) only c.read.ensures.seen
+    c.read.ensures.crash in
+    one_behind g.D.Device.moment g.D.Device.left_since c.args.device.now c.read.new.self c.shut_gate.new.device
+    (StandsFor head records) (StandsFor head records) (StandsFor head records) read
+    (c.shut_gate.ensures.any_moment head records ends now) (λ f p. p) (λ f p. p)
+
+pub returns-clause-any_moment : goal.returns-clause-any_moment
+returns-clause-any_moment g c = λ head records stands only.
+    let read = no_more g.D.Device.moment g.D.Device.left_since c.args.device.now c.read.new.self
+    (StandsFor head records) (g.D.Device.may_leave c.args.device.now) (g.D.Device.may_leave c.read.new.self)
+    (g.met.D.Device.only_now c.args.device.now) (here_stands head records (g.D.Device.seen c.args.device.now)
+    (g.D.Device.may_leave c.args.device.now) stands only) c.read.ensures.time c.read.ensures.crash in
+    let bytes = c.deref.ensures.value ∙ c.in_ok-bytes.ensures.bytes in
+    let ends = ends_as head c.in_ok-found.found.head records c.in_ok-found.found.records
+    (g.D.Device.seen c.args.device.now) c.deref.result.now (g.D.Device.seen c.read.new.self)
+    (drop c.in_ok-found.found.end c.deref.result.now) c.in_ok-found.found.end stands bytes
+    c.in_ok-found.ensures.store c.in_ok-found.ensures.end c.read.ensures.seen in
+    let now = only_as (g.D.Device.seen c.args.device.now) (g.D.Device.seen c.read.new.self)
+    (g.D.Device.may_leave c.args.device.now) (g.D.Device.may_leave c.read.new.self) only c.read.ensures.seen
+    c.read.ensures.crash in
+    one_behind g.D.Device.moment g.D.Device.left_since c.args.device.now c.read.new.self c.shut_gate.new.device
+    (StandsFor head records) (StandsFor head records) (StandsFor head records) read
+    (c.shut_gate.ensures.any_moment head records ends now) (λ f p. p) (λ f p. p)
+
+pub returns-clause-read : goal.returns-clause-read
+returns-clause-read g c =
+    stands_as c.in_ok-found.found.head c.in_ok-found.found.records (g.D.Device.seen c.args.device.now)
+    c.deref.result.now c.in_ok-found.found.end (c.deref.ensures.value ∙ c.in_ok-bytes.ensures.bytes)
+    c.in_ok-found.ensures.store (c.in_ok-found.ensures.whole c.if-found.false)
+
+pub returns-clause-settled : goal.returns-clause-settled
+returns-clause-settled g c =
+    let stands = returns-clause-read g c in
+    let ends = ends_as c.in_ok-found.found.head c.in_ok-found.found.head c.in_ok-found.found.records
+    c.in_ok-found.found.records (g.D.Device.seen c.args.device.now) c.deref.result.now
+    (g.D.Device.seen c.read.new.self) (drop c.in_ok-found.found.end c.deref.result.now) c.in_ok-found.found.end
+    stands (c.deref.ensures.value ∙ c.in_ok-bytes.ensures.bytes) c.in_ok-found.ensures.store
+    c.in_ok-found.ensures.end c.read.ensures.seen in
+    record {
+      allowed = c.in_ok-found.ensures.store.begins.allowed;
+      each = c.in_ok-found.ensures.store.reads.each;
+      file = c.in_ok-shut_gate.ensures.at_rest c.in_ok-found.found.head c.in_ok-found.found.records ends;
+      place = c.in_ok-found.ensures.end;
+      chained = c.in_ok-found.ensures.digest;
+      durable = c.in_ok-shut_gate.ensures.durable;
+    }

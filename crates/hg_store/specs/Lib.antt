@@ -1,0 +1,5 @@
+pub mod Head
+pub mod Records
+pub mod Files
+pub mod Device
+pub mod Log

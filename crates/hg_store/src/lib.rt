@@ -1,0 +1,48 @@
+//! A store: a file of records, each on the disk before it is acknowledged. A crash leaves whole records,
+//! none skipped.
+//!
+//! A record is any bytes, as a bundle. [`put_record`] writes it behind its size and its digest, which takes
+//! in the digest of the record before; [`read_records`] reads the records of a store, up to its end or to a
+//! torn record. [`laws`] says that a store is read in one way, and that a front of it, cut anywhere, is
+//! read as the records that are whole in it. [`Log`] adds records on a [`Device`]. Nothing here starts a
+//! thread or waits.
+//!
+//! Numbers of several bytes have the high byte first. The head of a store has 38 bytes:
+//!
+//! | bytes | what |
+//! |---|---|
+//! | 8 | the letters `HGPUSHES` |
+//! | 1 | the version, 1 |
+//! | 1 | 1 where the server publishes, and else 0 |
+//! | 28 | the limits, seven numbers of four bytes, from `params` to `revisions` |
+//!
+//! The records follow, one behind the other:
+//!
+//! | bytes | what |
+//! |---|---|
+//! | 1 | the gate: 1 where a record follows, and 0 where none does |
+//! | 4 | the number of its bytes |
+//! | 20 | its digest: SHA-1 of the digest before and of the SHA-1 of its bytes |
+//! | size | its bytes |
+//!
+//! The digest before the first record is the SHA-1 of the head.
+//!
+//! A store ends at a gate that is 0, whatever stands behind it, or with the file. Less than a whole record
+//! behind a gate that is 1 is a torn record. Another gate is damage, and so is another digest in a whole
+//! record.
+#![tactic(auto)]
+
+mod device;
+mod head;
+pub mod laws;
+mod log;
+mod opening;
+mod read;
+mod record;
+
+pub use device::{Device, DeviceError};
+pub use head::{HEAD_SIZE, Head, HeadFault};
+pub use log::Log;
+pub use opening::{RecoverFault, recover};
+pub use read::{Found, ReadFault, read_records};
+pub use record::{NoRecord, next_record, put_record};

@@ -1,0 +1,120 @@
+//! A store that is opened again.
+
+ghost use Rattle.std.specs.Prelude.{◌≡◌, ◌<◌, ◌≤◌, ◌+◌, List, ℕ, IfOk, IsErrOf, OnOk, length, take};
+ghost use Rattle.hg_store.specs.Device.{IsUnchanged, LeavesOnly, MayBeCut, Only};
+ghost use Rattle.hg_store.specs.Files.{EndsAt, IsTornStore, IsUnread, StandsFor};
+ghost use Rattle.hg_store.specs.Log.{IsSettledAt, at_rest};
+ghost use Rattle.hg_store.specs.declared.head.Head.{Head};
+ghost use Rattle.hg_store.specs.declared.device.DeviceError.TheVariants.{Failed, Full};
+ghost use Rattle.hg_store.specs.declared.read.ReadFault.{ReadFault as AnyReadFault};
+ghost use Rattle.hg_store.specs.declared.opening.RecoverFault.TheVariants.{Device as device_fault};
+ghost use Rattle.hg_store.specs.declared.opening.RecoverFault.TheVariants.{Read as unread, Torn as torn_behind};
+
+use crate::device::{Device, DeviceError};
+use crate::log::put_synced;
+use crate::read::{Found, ReadFault, read_records};
+use std::alloc::Allocator;
+use thiserror::Error;
+
+/// Why a store is not opened.
+#[derive(Clone, Copy, Debug, PartialEq, Eq, Error)]
+pub enum RecoverFault {
+    /// It is not read. Nothing is changed.
+    #[error("a store that is not read: {0}")]
+    Read(ReadFault),
+    /// Behind so many whole records stands a torn one. Nothing is changed.
+    #[error("a torn record behind {0} whole ones")]
+    Torn(usize),
+    /// The device failed, or memory was refused.
+    #[error("{0}")]
+    Device(DeviceError),
+}
+
+impl From<ReadFault> for RecoverFault {
+    ghost use Rattle.std.specs.Prelude.{◌≡◌};
+    ghost use Rattle.hg_store.specs.declared.opening.RecoverFault.TheVariants.{Read as unread};
+
+    ghost from_gives = { λ fault told. told ≡ unread fault };
+
+    fn from(fault: ReadFault) -> Self {
+        RecoverFault::Read(fault)
+    }
+}
+
+impl From<DeviceError> for RecoverFault {
+    ghost use Rattle.std.specs.Prelude.{◌≡◌};
+    ghost use Rattle.hg_store.specs.declared.opening.RecoverFault.TheVariants.{Device as device_fault};
+
+    ghost from_gives = { λ fault told. told ≡ device_fault fault };
+
+    fn from(fault: DeviceError) -> Self {
+        RecoverFault::Device(fault)
+    }
+}
+
+/// Reads a store, and brings its end in order: what stands behind a shut gate is cut off, and where there
+/// is no gate a shut one is written; then all is on the device. A torn store and one that is not read are
+/// refused, and nothing in them is changed. After an `Err` of the device, recover again.
+pub fn recover<A: Allocator + Copy, D: Device>(
+    alloc: A,
+    device: &mut D,
+) -> Result<Found<A>, RecoverFault>
+    ensures read { IfOk result (λ found. StandsFor found.head found.records (D.seen device.old)) }
+    ensures settled { IfOk result (λ found. IsSettledAt D.seen D.may_leave found.head found.records device.new
+        found.end found.digest) }
+
+    // A crash at any moment of the call loses none of the records.
+    ensures any_moment { (head : Head) (records : List (List ℕ)) → StandsFor head records (D.seen device.old) →
+        Only (D.seen device.old) (D.may_leave device.old) →
+        LeavesOnly D.moment D.left_since device.old device.new (StandsFor head records) }
+
+    ensures torn { (whole : ℕ) → IsErrOf result (torn_behind whole) →
+        IsTornStore (D.seen device.old) whole × IsUnchanged D.seen D.may_leave device.old device.new }
+    ensures unread { (fault : AnyReadFault) → IsErrOf result (unread fault) →
+        IsUnread fault (D.seen device.old) × IsUnchanged D.seen D.may_leave device.old device.new }
+    ensures failed { IsErrOf result (device_fault Failed) → D.faults device.old < D.faults device.new }
+    ensures full { IsErrOf result (device_fault Full) → ⊥ }
+{
+    let bytes = device.read(alloc)?;
+    let found = read_records(alloc, &bytes)?;
+    if found.is_torn {
+        return Err(RecoverFault::Torn(found.records.len()));
+    }
+    shut_gate(device, found.end, bytes.len())?;
+    Ok(found)
+}
+
+/// Leaves a shut gate at the end of the records, and nothing behind it.
+fn shut_gate<D: Device>(device: &mut D, end: usize, len: usize) -> Result<(), DeviceError>
+    requires len { len ≡ length (D.seen device.old) }
+    requires end { end ≤ len }
+    ensures at_rest { (head : Head) (records : List (List ℕ)) → EndsAt head records end (D.seen device.old) →
+        OnOk result (D.seen device.new ≡ at_rest head records) }
+    ensures durable { OnOk result (Only (D.seen device.new) (D.may_leave device.new)) }
+    ensures any_moment { (head : Head) (records : List (List ℕ)) → EndsAt head records end (D.seen device.old) →
+        Only (D.seen device.old) (D.may_leave device.old) →
+        LeavesOnly D.moment D.left_since device.old device.new (StandsFor head records) }
+    ensures later { D.faults device.old ≤ D.faults device.new }
+    ensures failed { IsErrOf result DeviceError.Failed → D.faults device.old < D.faults device.new }
+    ensures full { IsErrOf result DeviceError.Full → ⊥ }
+{
+    if end < len {
+        return cut_synced(device, end + 1);
+    }
+    put_synced(device, end, &[0])
+}
+
+/// Cuts, and syncs.
+fn cut_synced<D: Device>(device: &mut D, len: usize) -> Result<(), DeviceError>
+    requires { len ≤ length (D.seen device.old) }
+    ensures cut { OnOk result (D.seen device.new ≡ take len (D.seen device.old)) }
+    ensures durable { OnOk result (Only (D.seen device.new) (D.may_leave device.new)) }
+    ensures any_moment { LeavesOnly D.moment D.left_since device.old device.new
+        (MayBeCut len (D.may_leave device.old)) }
+    ensures later { D.faults device.old ≤ D.faults device.new }
+    ensures failed { IsErrOf result DeviceError.Failed → D.faults device.old < D.faults device.new }
+    ensures full { IsErrOf result DeviceError.Full → ⊥ }
+{
+    device.cut(len)?;
+    device.sync()
+}

@@ -1,0 +1,178 @@
+//! Bytes that were made outside, a store cut at each of its lengths, damage in each of its bytes, and
+//! memory refused in turn.
+
+use hg_store::*;
+use hg_types::Limits;
+use linked_list_allocator::LocalHeap;
+use std::test::*;
+
+/// The head of a server that does not publish, with the standard limits: by hand.
+const HEAD: [u8; 38] = [
+    72, 71, 80, 85, 83, 72, 69, 83, 1, 0, 0, 1, 0, 0, 4, 0, 0, 0, 16, 0, 0, 0, 0, 0, 39, 16, 1, 0,
+    0, 0, 0, 0, 4, 0, 127, 255, 255, 255,
+];
+
+/// A store of the records `abc`, nothing, and 1, 0, 0, 0; made with Python's hashlib.
+const STORE: [u8; 120] = [
+    72, 71, 80, 85, 83, 72, 69, 83, 1, 0, 0, 1, 0, 0, 4, 0, 0, 0, 16, 0, 0, 0, 0, 0, 39, 16, 1, 0,
+    0, 0, 0, 0, 4, 0, 127, 255, 255, 255, 1, 0, 0, 0, 3, 249, 48, 197, 192, 199, 122, 101, 144,
+    113, 192, 134, 192, 213, 152, 236, 50, 12, 22, 222, 29, 97, 98, 99, 1, 0, 0, 0, 0, 28, 246,
+    175, 252, 99, 194, 96, 80, 45, 146, 212, 164, 139, 195, 118, 74, 47, 197, 1, 104, 1, 0, 0, 0,
+    4, 203, 197, 57, 210, 72, 78, 173, 243, 142, 96, 188, 157, 191, 97, 18, 171, 200, 51, 81, 197,
+    1, 0, 0, 0,
+];
+
+/// Where the head ends, and each record.
+const ENDS: [usize; 4] = [38, 66, 91, 120];
+
+fn standard(publishing: bool) -> Head {
+    Head {
+        publishing,
+        limits: Limits::standard(),
+    }
+}
+
+/// How many of the records end within so many bytes.
+fn whole_within(len: usize) -> usize {
+    let mut count = 0usize;
+    for end in [ENDS[1], ENDS[2], ENDS[3]] {
+        if end <= len {
+            count = count.saturating_add(1);
+        }
+    }
+    count
+}
+
+// The head by hand, written and read; each refusal by its name.
+#[test]
+fn heads_as_bytes(rt: HostRuntime) -> Result<(), Fail> {
+    let mut out = Vec::from_slice(rt.alloc(), &[7])?;
+    assert_eq!(rt; standard(false).put(&mut out), Ok(()));
+    assert_eq!(rt; &out[..1], [7].as_slice());
+    assert_eq!(rt; &out[1..], HEAD.as_slice());
+    assert_eq!(rt; Head::read(&HEAD), Ok(standard(false)));
+    assert_eq!(rt; Head::read(&STORE), Ok(standard(false)));
+
+    let mut other = HEAD;
+    other[9] = 1;
+    assert_eq!(rt; Head::read(&other), Ok(standard(true)));
+    other[9] = 2;
+    assert_eq!(rt; Head::read(&other), Err(HeadFault::Publishing));
+    other[8] = 2;
+    assert_eq!(rt; Head::read(&other), Err(HeadFault::Version));
+    other[0] = 104;
+    assert_eq!(rt; Head::read(&other), Err(HeadFault::Magic));
+    assert_eq!(rt; Head::read(&other[..37]), Err(HeadFault::TooShort));
+    for place in 0..7usize {
+        let mut zero = HEAD;
+        let mut above = HEAD;
+        let at = 10 + 4 * place;
+        for k in 0..4usize {
+            zero[at + k] = 0;
+            above[at + k] = 255;
+        }
+        assert_eq!(rt;
+            Head::read(&zero),
+            Err(HeadFault::BadLimits),
+            "limit {place}"
+        );
+        assert_eq!(rt;
+            Head::read(&above),
+            Err(HeadFault::BadLimits),
+            "limit {place}"
+        );
+    }
+    Ok(())
+}
+
+// The store is written as it was made outside, and read back.
+#[test]
+fn records_as_bytes(rt: HostRuntime) -> Result<(), Fail> {
+    let mut out = Vec::from_slice(rt.alloc(), &HEAD)?;
+    let found = read_records(rt.alloc(), &HEAD)?;
+    assert!(rt; found.records.is_empty());
+    assert_eq!(rt; found.end, 38);
+    let mut digest = found.digest;
+    for record in [b"abc".as_slice(), &[], &[1, 0, 0, 0]] {
+        digest = put_record(&mut out, &digest, record)?;
+    }
+    assert_eq!(rt; out.as_slice(), STORE.as_slice());
+    Ok(())
+}
+
+// A store cut at each of its lengths, and with a shut gate and anything behind it.
+#[test]
+fn a_store_cut_anywhere(rt: HostRuntime) -> Result<(), Fail> {
+    for len in 0..STORE.len() + 1 {
+        let file = &STORE[..len];
+        match read_records(rt.alloc(), file) {
+            Ok(found) => {
+                let whole = whole_within(len);
+                assert!(rt; len >= 38, "{len} bytes");
+                assert_eq!(rt; found.records.len(), whole, "{len} bytes");
+                assert_eq!(rt; found.end, ENDS[whole.min(3)], "{len} bytes");
+                assert_eq!(rt; found.is_torn, found.end != len, "{len} bytes");
+            }
+            Err(fault) => {
+                assert!(rt; len < 38, "{len} bytes");
+                assert_eq!(rt; fault, ReadFault::Head(HeadFault::TooShort));
+            }
+        }
+    }
+    for whole in 0..4usize {
+        let mut file = Vec::from_slice(rt.alloc(), &STORE[..ENDS[whole]])?;
+        file.extend_from_slice(&[0, 1, 2, 3])?;
+        let found = read_records(rt.alloc(), &file)?;
+        assert_eq!(rt; found.records.len(), whole);
+        assert_eq!(rt; found.end, ENDS[whole]);
+        assert!(rt; !found.is_torn);
+    }
+    Ok(())
+}
+
+// Each byte behind the head with each of its bits turned: the store is refused, or torn, or ends there.
+#[test]
+fn a_damaged_record(rt: HostRuntime) -> Result<(), Fail> {
+    for at in 38..STORE.len() {
+        for bit in 0..8u32 {
+            let mut file = STORE;
+            file[at] ^= 1u8 << bit;
+            let before = whole_within(at);
+            match read_records(rt.alloc(), &file) {
+                Ok(found) => {
+                    assert_eq!(rt; found.records.len(), before, "byte {at}, bit {bit}");
+                    let gate = ENDS[before.min(3)];
+                    let in_gate_or_size = at < gate.saturating_add(5);
+                    assert!(rt; in_gate_or_size, "byte {at}, bit {bit}");
+                }
+                Err(fault) => {
+                    assert_eq!(rt; fault, ReadFault::Damaged(before), "byte {at}, bit {bit}");
+                }
+            }
+        }
+    }
+    Ok(())
+}
+
+// Heaps of each size: the store is read whole, or memory is refused.
+#[test]
+fn memory_refused_to_the_reader(rt: HostRuntime) -> Result<(), Fail> {
+    let mut refused = 0usize;
+    let mut ample = 0usize;
+    for size in 0..600usize {
+        let heap = LocalHeap::new(rt.alloc(), size)?;
+        match read_records(&heap, &STORE) {
+            Ok(found) => {
+                assert_eq!(rt; found.records.len(), 3, "a heap of {size}");
+                ample = ample.saturating_add(1);
+            }
+            Err(fault) => {
+                assert_eq!(rt; fault, ReadFault::NoMemory, "a heap of {size}");
+                refused = refused.saturating_add(1);
+            }
+        }
+    }
+    assert!(rt; refused > 0);
+    assert!(rt; ample > 0);
+    Ok(())
+}
