@@ -84,8 +84,9 @@ def table():
         if "tests" in piece:
             out.append(f"| {name} | {shown(piece['tests'])} | {shown(piece.get('tests, budget'))} |")
     took, names = chain({it: piece.get("proof", 0) for it, piece in found.items()})
-    out += ["", f"The longest chain has {len(names)} crates, `{names[0]}` to `{names[-1]}`: {took:,} s.",
-            f"{told[0].upper()}{told[1:]}."]
+    is_whole = all("proof" in found.get(it, {}) for it in crates)
+    told_chain = f"{len(names)} crates, `{names[0]}` to `{names[-1]}`: {took:,} s" if is_whole else "no figure yet"
+    out += ["", f"The longest chain: {told_chain}. {told[0].upper()}{told[1:]}."]
     return "\n".join(out) + "\n"
 
 

@@ -4,6 +4,7 @@
     tools/wrong_bodies.py [CRATE..]                 over the crates below, as `make build` left them
     tools/wrong_bodies.py --built FOLDER [CRATE..]  over those of another folder
     tools/wrong_bodies.py --write [CRATE..]         writes at the head of each what was seen to refuse it
+    tools/wrong_bodies.py --headed [CRATE..]        leaves those without a head
 
 They stand in crates/NAME/wrong/*.edit:
 
@@ -303,7 +304,8 @@ def main(words):
     prover, failed, passed = Prover(built), 0, 0
     for name in names or [it for it in sources.rows() if os.path.isdir(f"{sources.ROOT}/crates/{it}/wrong")]:
         crate = Crate(prover, name)
-        edits = crate.try_all(edits_of(crate.folder))
+        there = edits_of(crate.folder)
+        edits = crate.try_all([it for it in there if it.function or "--headed" not in words])
         for edit in edits:
             if edit.why:
                 told = "NOT REFUSED" if edit.function else "without a head, and not refused"
@@ -314,7 +316,8 @@ def main(words):
                 print(f"wrong body {name}/{edit.name}: {edit.seen}")
         refused = sum(not it.why for it in edits)
         missed = sum(bool(it.why and it.function) for it in edits)
-        print(f"{name}: {refused} of {len(edits)} wrong bodies refused, in {crate.rounds} checks", flush=True)
+        left = f", {len(there) - len(edits)} without a head left" if len(edits) < len(there) else ""
+        print(f"{name}: {refused} of {len(edits)} wrong bodies refused{left}, in {crate.rounds} checks", flush=True)
         failed, passed = failed + missed, passed + refused
     print(f"{passed} passed, {failed} failed")
     return 1 if failed else 0
