@@ -70,6 +70,10 @@ def parts_of_impl(line):
     of_trait, is_trait, of_type = without_arguments(head).rpartition(" for ")
     if given:
         return f"From{last_word(given[1])}", last_word(of_type)
+    # an impl on a type at a built-in type: `Seq<u8, A>` is `Seq+u8+A`
+    made = re.search(r"\b([A-Z]\w*)<([^<>]*)>\s*$", head)
+    if not is_trait and made and re.search(r"\b(u\d+|i\d+|bool|char)\b", made[2]):
+        return "", "+".join([made[1], *re.findall(r"\w+", made[2])])
     return (last_word(of_trait) if is_trait else ""), last_word(of_type)
 
 
@@ -88,7 +92,7 @@ class Function:
             return "::".join([*self.module, self.name])
         if self.of_trait:
             return "::".join([*self.module, f"{self.of}{self.of_trait}", self.name])
-        return "::".join([*homes.get(self.of, self.module), self.of, self.name])
+        return "::".join([*homes.get(self.of.partition("+")[0], self.module), self.of, self.name])
 
 
 def module_of(path, folder):

@@ -167,7 +167,7 @@ class Crate:
                     it.write(text)
             for function, fn in self.functions.items():
                 # what stands in an impl of a trait is small, and its name in the prover's words is not always plain
-                if function not in asked and not fn.of_trait:
+                if function not in asked and not fn.of_trait and "+" not in function:
                     self.hole(room, function)
             self.rounds += 1
             said = self.prover.check(self.name, room, sorted(asked), kept)
@@ -224,7 +224,7 @@ class Crate:
 
 
 def first_error(said):
-    lines = [it for it in said.splitlines() if "error" in it] or said.splitlines()[:1] or ["the prover said nothing"]
+    lines = [it for it in said.splitlines() if ": error" in it] or said.splitlines()[:1] or ["the prover said nothing"]
     return f"it did not reach the prover: {lines[0][:200]}"
 
 
