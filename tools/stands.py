@@ -42,7 +42,7 @@ def drop_tests(crate):
         if os.path.exists(path):
             text = sources.read(path)
             with open(path, "w", encoding="utf-8") as file:
-                file.write(TESTS_INSIDE.sub("", text))
+                file.write(TESTS_INSIDE.sub("", text).rstrip("\n") + "\n")
 
 
 def copy_crate(crate, stand):
