@@ -1,8 +1,9 @@
 -- Lists that a test cuts in two, and edits that are taken back.
 use Rattle.std.proofs.Common.{◌≡◌, ℕ, zero, suc, ◌+◌, ◌-◌, ◌<◌, ◌≤◌, Bool, true, false, cond, List, [], ◌∷◌}
-use Rattle.std.proofs.Common.{◌++◌, length, get_or, take, drop, refl, sym, ap, ◌∙◌, arith, inl}
+use Rattle.std.proofs.Common.{◌++◌, length, get_or, take, drop, Some, None, refl, sym, ap, ◌∙◌, arith, inl}
 use Rattle.std.proofs.Common.{inr}
 use Rattle.std.specs.List.{filter, insert, remove, AllWithin, AllByRecursion, AllPairs}
+use Rattle.std.specs.Map.{lookup}
 use Rattle.std.proofs.lemmas.Bool.{cases_lt}
 use Rattle.std.proofs.lemmas.List.{append-nil, take-append-drop, length-take, length-drop, get_or-take}
 use Rattle.std.proofs.lemmas.List.{get_or-drop, take_at}
@@ -11,13 +12,13 @@ use Rattle.std.proofs.lemmas.List.Edits.{length-insert, get_or-insert_below, get
 use Rattle.std.proofs.lemmas.List.Edits.{get_or-insert_above}
 
 -- what holds at each place before one holds of each item of the front, and so for the rest
-within_take : {X : Type 0} (P : X → Type 0) (xs : List X) (k : ℕ) → AllWithin P xs 0 k
+pub within_take : {X : Type 0} (P : X → Type 0) (xs : List X) (k : ℕ) → AllWithin P xs 0 k
     → AllByRecursion P (take k xs)
 within_take P xs k each = recursion_from_All P (take k xs) (λ i d lt.
     let below : i < k = omega (arith, length-take k xs, lt) in
     rw (get_or-take k xs i d below) (each i d (omega arith) below))
 
-within_drop : {X : Type 0} (P : X → Type 0) (xs : List X) (k : ℕ) → AllWithin P xs k (length xs)
+pub within_drop : {X : Type 0} (P : X → Type 0) (xs : List X) (k : ℕ) → AllWithin P xs k (length xs)
     → AllByRecursion P (drop k xs)
 within_drop P xs k each =
     recursion_from_All P (drop k xs)
@@ -56,6 +57,20 @@ filter_rest p xs k fails passes =
     filter_parts p xs k ∙ ap (λ ys. ys ++ filter p (drop k xs))
     (filter_none p (take k xs) (within_take (λ x. p x ≡ false) xs k fails))
     ∙ filter_all p (drop k xs) (within_drop (λ x. p x ≡ true) xs k passes)
+
+-- a key that is not there
+pub lookup_none : {K X : Type 0} (test : K → Bool) (entries : List (K × X))
+    → AllByRecursion (λ e. test e.0 ≡ false) entries → lookup test entries ≡ None
+lookup_none test [] each = refl
+lookup_none test (e ∷ entries) each = ap (λ b. cond b (Some e.1) (lookup test entries)) each.0
+    ∙ lookup_none test entries each.1
+
+-- a key whose place is behind others
+pub lookup_behind : {K X : Type 0} (test : K → Bool) (front rest : List (K × X))
+    → AllByRecursion (λ e. test e.0 ≡ false) front → lookup test (front ++ rest) ≡ lookup test rest
+lookup_behind test [] rest each = refl
+lookup_behind test (e ∷ front) rest each = ap (λ b. cond b (Some e.1) (lookup test (front ++ rest))) each.0
+    ∙ lookup_behind test front rest each.1
 
 drop_past : {X : Type 0} (xs : List X) (i : ℕ) (y : X) → i ≤ length xs
     → drop (suc i) (take i xs ++ y ∷ drop i xs) ≡ drop i xs

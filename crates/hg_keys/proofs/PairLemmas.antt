@@ -1,24 +1,73 @@
 -- Where a name is among pairs in order, and what an edit there makes of them.
-use Rattle.std.proofs.Common.{◌≡◌, ℕ, suc, ◌<◌, false, List, [], ◌∷◌, ◌++◌, length, get_or, set}
-use Rattle.std.proofs.Common.{take, drop, Option, Some, sym, ap}
-use Rattle.std.proofs.Common.{◌∙◌, subst, arith, inl, inr}
-use Rattle.std.specs.List.{insert, AllWithin}
-use Rattle.std.specs.Ordering.{is_lt}
+use Rattle.std.proofs.Common.{◌≡◌, ℕ, suc, ◌+◌, ◌<◌, true, false, List, [], ◌∷◌, ◌++◌, length, get_or, set}
+use Rattle.std.proofs.Common.{take, drop, Option, Some, None, Result, Ok, Err, IfOk, IfErr, refl, sym, ap}
+use Rattle.std.proofs.Common.{◌∙◌, subst, arith, inl, inr, bytes_eq}
+use Rattle.std.specs.List.{insert, AllWithin, AllByRecursion}
+use Rattle.std.specs.List.Sorted.{IsSearchInRange, IsBinarySearchResult, IsNonDecreasingBy}
+use Rattle.std.specs.Ordering.{is_lt, is_eq, ordering_index, ordering_reverse}
+use Rattle.std.specs.declared.cmp.Ordering.{Ordering}
 use Rattle.std.specs.declared.cmp.Ordering.TheVariants.{Less, Equal, Greater}
 use Rattle.std.proofs.lemmas.Bool.{cases_lt}
 use Rattle.std.proofs.lemmas.Cmp.{nat_list_cmp_total, tied_itself}
-use Rattle.std.proofs.lemmas.List.{set_split, set-set, set-get_or}
+use Rattle.std.proofs.lemmas.Map.Text.{is_eq-slice_cmp}
+use Rattle.std.proofs.lemmas.Slice.Eq.{bytes_eq-Decides}
+use Rattle.std.proofs.lemmas.List.{take-append-drop, drop_more, set_split, set-set, set-get_or}
 use Rattle.std.proofs.lemmas.List.{get_or-set_same, get_or-set_other, get_or_default, length-set}
+use Rattle.std.proofs.lemmas.List.Sorted.{searchable_from_sorted}
 use Rattle.hg_types.specs.declared.node.Node.{Node}
-use Rattle.hg_keys.specs.Bookmarks.{Pairs, name_cmp, is_before, AreInOrder, pair_of, with_bookmark}
-use Rattle.hg_names.specs.Names.{IsAt, IsGap, moved}
-use Rattle.hg_names.proofs.CallerLemmas.{turned}
-use Rattle.hg_keys.proofs.Lists.{filter_front, filter_rest, all_pairs_insert}
+use Rattle.hg_keys.specs.Bookmarks.{Pairs, name_cmp, is_before, AreInOrder, node_of, pair_of, with_bookmark}
+use Rattle.hg_keys.specs.code.Changes.{moved}
+use Rattle.hg_keys.specs.code.Places.{IsAt, IsGap}
+use Rattle.hg_keys.proofs.Lists.{within_take, within_drop, filter_front, filter_rest, lookup_none}
+use Rattle.hg_keys.proofs.Lists.{lookup_behind, all_pairs_insert}
+
+-- the order of names, turned round
+turned : (a b : List ℕ) (o : Ordering) → name_cmp a b ≡ o → name_cmp b a ≡ ordering_reverse o
+turned a b o is = nat_list_cmp_total.antisymm b a ∙ ap ordering_reverse is
+
+-- a name that comes before or behind is another
+is_other : (a b : List ℕ) (o : Ordering) → name_cmp a b ≡ o → bytes_eq a b ≡ is_eq o
+is_other a b o is = sym (is_eq-slice_cmp a b) ∙ ap is_eq is
+
+names_equal : (a b : List ℕ) → name_cmp a b ≡ Equal → a ≡ b
+names_equal a b is = (bytes_eq-Decides a b).0 (is_other a b Equal is)
 
 equals_itself : (a b : List ℕ) → a ≡ b → name_cmp a b ≡ Equal
 equals_itself a b same = ap (name_cmp a) (sym same) ∙ tied_itself nat_list_cmp_total a
 
+-- comparisons with a name rise along the pairs, as a binary search asks
+rises : (pairs : Pairs) (name : List ℕ) → AreInOrder pairs
+    → IsNonDecreasingBy (λ pair. ordering_index (name_cmp pair.0 name)) pairs
+rises pairs name in_order =
+    searchable_from_sorted nat_list_cmp_total (λ pair. pair.0) pairs name
+    (λ k d low high. ap is_lt
+    (turned (get_or pairs k d).0 (get_or pairs (k + 1) d).0 Less
+    (in_order k (k + 1) d (omega arith) high)))
+
+-- a binary search ends at the name, or at its gap
+pub searched : (pairs : Pairs) (name : List ℕ) (r : Result ℕ ℕ) → AreInOrder pairs
+    → IsSearchInRange r (length pairs) → IsBinarySearchResult (λ pair. name_cmp pair.0 name) pairs r
+    → IfOk r (IsAt pairs name) × IfErr r (IsGap pairs name)
+searched pairs name (Ok place) in_order in_range equal =
+    (record { within = in_range; named = λ d. names_equal _ name (equal d) }, tt)
+searched pairs name (Err place) in_order in_range parted =
+    let sides = parted (rises pairs name in_order) in
+    (tt, record { within = in_range; lesser = sides.0; greater = sides.1 })
+
 module _ (pairs : Pairs) (name : List ℕ) (place : ℕ) (gap : IsGap pairs name place) where
+  -- a name with a gap is not there
+  pub absent : node_of pairs name ≡ None
+  absent =
+      let before : AllByRecursion (λ pair. bytes_eq pair.0 name ≡ false) (take place pairs) = within_take
+      (λ pair. bytes_eq pair.0 name ≡ false) pairs place
+      (λ k d low high. is_other _ name Less (gap.lesser k d low high)) in
+      let behind : AllByRecursion (λ pair. bytes_eq pair.0 name ≡ false) (drop place pairs) = within_drop
+      (λ pair. bytes_eq pair.0 name ≡ false) pairs place
+      (λ k d low high. is_other _ name Greater (gap.greater k d low high)) in
+      ap (λ ps. node_of ps name) (sym (take-append-drop place pairs))
+      ∙ lookup_behind (λ other. bytes_eq other name) (take place pairs) (drop place pairs) before
+      ∙ lookup_none (λ other. bytes_eq other name) (drop place pairs) behind
+
   -- a pair goes into the gap
   pub with_gap : (node : Option Node) → with_bookmark pairs name node ≡ take place pairs
       ++ (pair_of name node ++ drop place pairs)
@@ -79,6 +128,17 @@ module _ (pairs : Pairs) (name : List ℕ) (place : ℕ) (is_at : IsAt pairs nam
       let rest = filter_rest (λ pair. is_before name pair.0) pairs (suc place) upto_place
       (λ k d low high. ap is_lt (turned _ name Greater (greater k d low high))) in
       λ i. front i ++ (pair_of name node ++ rest i)
+
+  pub found : (d : List ℕ × Node) → node_of pairs name ≡ Some (get_or pairs place d).1
+  found d =
+      let before : AllByRecursion (λ pair. bytes_eq pair.0 name ≡ false) (take place pairs) = within_take
+      (λ pair. bytes_eq pair.0 name ≡ false) pairs place
+      (λ k e low high. is_other _ name Less (lesser k e low high)) in
+      let here : bytes_eq (get_or pairs place d).0 name ≡ true = (bytes_eq-Decides _ name).1
+      (is_at.named d) in
+      ap (λ ps. node_of ps name) (sym (take-append-drop place pairs))
+      ∙ lookup_behind (λ other. bytes_eq other name) (take place pairs) (drop place pairs) before
+      ∙ ap (λ ps. node_of ps name) (drop_more pairs place d is_at.within) ∙ rw here refl
 
   -- the name on another changeset
   pub with_moved : (node : Node) → with_bookmark pairs name (Some node) ≡ moved pairs place node

@@ -1,11 +1,31 @@
 -- Bookmarks: a map from names to changesets, as its pairs in the order of the names' bytes.
-use Rattle.std.specs.Prelude.{◌≡◌, ◌≢◌, ℕ, Bool, List, [], ◌∷◌, ◌++◌, filter, Option, Some, None}
-use Rattle.std.specs.Ordering.{is_lt}
+use Rattle.std.specs.Prelude.{◌≡◌, ◌≢◌, ℕ, Bool, List, [], ◌∷◌, ◌++◌, filter, AllPairs, Option, Some, None}
+use Rattle.std.specs.Prelude.{bytes_eq}
+use Rattle.std.specs.Map.{lookup}
+use Rattle.std.specs.Cmp.Lexicographic.{slice_cmp}
+use Rattle.std.specs.Ordering.{is_lt, nat_cmp}
+use Rattle.std.specs.declared.cmp.Ordering.{Ordering}
+use Rattle.std.specs.declared.cmp.Ordering.TheVariants.{Less}
 use Rattle.hg_types.specs.declared.node.Node.{Node}
-pub use Rattle.hg_names.specs.Names.{Pairs, name_cmp, AreInOrder, node_of}
+
+-- a name, and the changeset that it is on
+abbrev pub Pairs : Type 0
+Pairs = List (List ℕ × Node)
+
+-- names are compared byte by byte: the first difference decides, and else the lengths do
+abbrev pub name_cmp : List ℕ → List ℕ → Ordering
+name_cmp = slice_cmp nat_cmp
 
 abbrev pub is_before : List ℕ → List ℕ → Bool
 is_before name other = is_lt (name_cmp name other)
+
+-- each name comes before those behind it, so none is there twice
+abbrev pub AreInOrder : Pairs → Type 0
+AreInOrder pairs = AllPairs (λ pair other. name_cmp pair.0 other.0 ≡ Less) pairs
+
+-- the changeset that a name is on
+abbrev pub node_of : Pairs → List ℕ → Option Node
+node_of pairs name = lookup (λ other. bytes_eq other name) pairs
 
 -- a name on a changeset, or on none
 abbrev pub pair_of : List ℕ → Option Node → Pairs

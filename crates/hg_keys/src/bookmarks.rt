@@ -1,22 +1,26 @@
 //! Bookmarks: names for changesets, which move.
 
 ghost use Rattle.std.specs.Prelude.{◌≡◌, ◌≢◌, ◌<◌, ◌≤◌, ◌++◌, [], length, reverse, true, Some, None, IfSome};
-ghost use Rattle.std.specs.Prelude.{IfNone, IfOk, OnOk, OnErr, slice_get, vec_len, vec_capacity};
+ghost use Rattle.std.specs.Prelude.{IfNone, IfOk, IfErr, OnOk, OnErr, slice_get, slice_index_or, slice_set};
+ghost use Rattle.std.specs.Prelude.{insert, remove, vec_len, vec_capacity};
 ghost use Rattle.std.specs.Option.{option_to_list};
 ghost use Rattle.hg_keys.specs.Bookmarks.{AreInOrder, node_of, with_bookmark};
 ghost use Rattle.hg_keys.specs.code.Changes.{all_undone, base_of, can_undo, can_undo_all, kept, undone};
+ghost use Rattle.hg_keys.specs.code.Places.{IsAt, IsGap};
 
-use hg_names::{Named, Names};
-use hg_types::{NoMemory, Node};
+use hg_types::{NoMemory, Node, Seq};
 use std::alloc::{Allocator, Global};
 use std::marker::Model;
+
+/// A name, and the changeset that it is on.
+type Bookmark<A> = (Seq<u8, A>, Node);
 
 /// A change that was made after the mark, by the place at which it was made, with what it replaced.
 #[derive(Drop)]
 enum Change<A: Allocator = Global> {
     Added(usize),
     Moved(usize, Node),
-    Removed(usize, Named<A>),
+    Removed(usize, Bookmark<A>),
 }
 
 /// A moment to which the bookmarks can go back. What they were then is a part of the value that contracts
@@ -28,17 +32,17 @@ pub struct BookmarkMark {
 
 /// A map from names to changesets. Contracts see its pairs, in the order of the names' bytes.
 ///
-/// They are kept in a balanced tree: a name that is looked up, moved, added or deleted takes about as many
-/// steps as the logarithm of their number, and so does each change on the way back.
+/// A look-up halves the pairs that are left, and a name that is moved costs no more. A name that comes or
+/// goes moves the pairs behind it in memory.
 #[derive(Drop)]
 pub struct Bookmarks<A: Allocator = Global> {
-    pairs: Names<A>,
+    pairs: Vec<Bookmark<A>, A>,
     changes: Vec<Change<A>, A>,
     is_marked: bool,
 }
 
 impl<A: Allocator> Model for Bookmarks<A> {
-    ghost use Rattle.std.specs.Prelude.{Some, None, if◌then◌else◌};
+    ghost use Rattle.std.specs.Prelude.{Some, None, if◌then◌else◌, vec_capacity};
     ghost use Rattle.hg_keys.specs.Bookmarks.{Marked};
 
     ghost Value = { Marked };
@@ -46,11 +50,11 @@ impl<A: Allocator> Model for Bookmarks<A> {
     ghost use Rattle.hg_keys.specs.code.Changes.{base_of, IsSound};
 
     ghost view = { λ b. record {
-      current = b.pairs;
-      marked = if b.is_marked then Some (base_of b.changes.items b.pairs) else None;
+      current = b.pairs.items;
+      marked = if b.is_marked then Some (base_of b.changes.items b.pairs.items) else None;
     } };
 
-    ghost invariant = { λ b. IsSound b.pairs b.changes.items b.is_marked };
+    ghost invariant = { λ b. IsSound b.pairs.items b.changes.items (vec_capacity b.pairs) b.is_marked };
 }
 
 impl<A: Allocator + Copy> Bookmarks<A> {
@@ -59,7 +63,7 @@ impl<A: Allocator + Copy> Bookmarks<A> {
         ensures { result ≡ record { current = []; marked = None } }
     {
         Bookmarks {
-            pairs: Names::new(),
+            pairs: Vec::new(alloc),
             changes: Vec::new(alloc),
             is_marked: false,
         }
@@ -69,7 +73,7 @@ impl<A: Allocator + Copy> Bookmarks<A> {
     pub fn try_clone(&self, alloc: A) -> Result<Self, NoMemory>
         ensures { IfOk result (λ copy. copy ≡ record { current = self.now.current; marked = None }) }
     {
-        let pairs = self.pairs.try_clone(alloc)?;
+        let pairs = copies(alloc, self.pairs.as_slice())?;
         let is_marked = false;
         Ok(Bookmarks {
             pairs,
@@ -105,7 +109,10 @@ impl<A: Allocator> Bookmarks<A> {
     pub fn get(&self, name: &[u8]) -> Option<Node>
         ensures { result ≡ node_of self.now.current name.now }
     {
-        self.pairs.find(name)
+        match place_of(self.pairs.as_slice(), name) {
+            Ok(place) => Some(self.pairs[place].1),
+            Err(_) => None,
+        }
     }
 
     /// The name at a place in the order of the names' bytes, and the changeset that it is on.
@@ -113,7 +120,10 @@ impl<A: Allocator> Bookmarks<A> {
         ensures found { IfSome result (λ pair. slice_get self.now.current place ≡ Some (pair.0.now, pair.1)) }
         ensures none { IfNone result (length self.now.current ≤ place) }
     {
-        self.pairs.get(place)
+        match self.pairs.get(place) {
+            Some(pair) => Some((pair.0.as_slice(), pair.1)),
+            None => None,
+        }
     }
 
     /// Marks the bookmarks as they are. It takes no memory, and an earlier mark is gone.
@@ -137,36 +147,45 @@ impl<A: Allocator> Bookmarks<A> {
     }
 }
 
+/// Where a name is, or else where it would go.
+fn place_of<A: Allocator>(pairs: &[Bookmark<A>], name: &[u8]) -> Result<usize, usize>
+    requires { AreInOrder pairs.now }
+    ensures found { IfOk result (IsAt pairs.now name.now) }
+    ensures absent { IfErr result (IsGap pairs.now name.now) }
+{
+    pairs.binary_search_by(|pair| pair.0.as_slice().cmp(name))
+}
+
 /// Sets a name or deletes it, and tells the change, if there is one.
 fn put<A: Allocator + Copy>(
     alloc: A,
-    pairs: &mut Names<A>,
+    pairs: &mut Vec<Bookmark<A>, A>,
     name: &[u8],
     node: Option<Node>,
 ) -> Result<Option<Change<A>>, NoMemory>
-    requires { AreInOrder pairs.old }
-    ensures set { OnOk result (pairs.new ≡ with_bookmark pairs.old name.now node) }
-    ensures in_order { AreInOrder pairs.new }
-    ensures back { IfOk result (λ change. all_undone (option_to_list change) pairs.new
-        ≡ pairs.old) }
-    ensures can { IfOk result (λ change. can_undo_all (option_to_list change) pairs.new ≡ true) }
-    ensures err { OnErr result (pairs.new ≡ pairs.old) }
+    requires { AreInOrder pairs.old.items }
+    ensures set { OnOk result (pairs.new.items ≡ with_bookmark pairs.old.items name.now node) }
+    ensures in_order { AreInOrder pairs.new.items }
+    ensures back { IfOk result (λ change. all_undone (option_to_list change) pairs.new.items
+        ≡ pairs.old.items) }
+    ensures can { IfOk result (λ change. can_undo_all (vec_capacity pairs.new)
+        (option_to_list change) pairs.new.items ≡ true) }
+    ensures room { vec_capacity pairs.old ≤ vec_capacity pairs.new }
+    ensures err { OnErr result (pairs.new.items ≡ pairs.old.items) }
 {
-    match (pairs.place_of(name), node) {
+    match (place_of(pairs.as_slice(), name), node) {
         (Ok(place), Some(node)) => {
-            let was = pairs.move_at(place, node);
+            let was = pairs[place].1;
+            pairs[place].1 = node;
             Ok(Some(Change::Moved(place, was)))
         }
         (Ok(place), None) => {
-            let gone = pairs.remove(place);
-            Ok(Some(Change::Removed(place, gone)))
+            let pair = pairs.remove(place);
+            Ok(Some(Change::Removed(place, pair)))
         }
         (Err(place), Some(node)) => {
-            let named = Named::new(alloc, name, node)?;
-            if pairs.len() == usize::MAX {
-                return Err(NoMemory);
-            }
-            pairs.insert(place, named);
+            let name = Seq::copy_of(alloc, name)?;
+            pairs.insert(place, (name, node))?;
             Ok(Some(Change::Added(place)))
         }
         (Err(_), None) => Ok(None),
@@ -183,10 +202,10 @@ fn keep<A: Allocator>(changes: &mut Vec<Change<A>, A>, change: Option<Change<A>>
     }
 }
 
-/// Takes back all changes, the last first.
-fn go_back<A: Allocator>(pairs: &mut Names<A>, changes: &mut Vec<Change<A>, A>)
-    requires { can_undo_all (reverse changes.old.items) pairs.old ≡ true }
-    ensures { pairs.new ≡ base_of changes.old.items pairs.old }
+/// Takes back all changes, the last first. There is room for each pair that comes back.
+fn go_back<A: Allocator>(pairs: &mut Vec<Bookmark<A>, A>, changes: &mut Vec<Change<A>, A>)
+    requires { can_undo_all (vec_capacity pairs.old) (reverse changes.old.items) pairs.old.items ≡ true }
+    ensures { pairs.new.items ≡ base_of changes.old.items pairs.old.items }
 {
     while let Some(change) = changes.pop() {
         undo(pairs, change);
@@ -194,17 +213,31 @@ fn go_back<A: Allocator>(pairs: &mut Names<A>, changes: &mut Vec<Change<A>, A>)
 }
 
 /// Takes back one change.
-fn undo<A: Allocator>(pairs: &mut Names<A>, change: Change<A>)
-    requires { can_undo change pairs.old ≡ true }
-    ensures pairs { pairs.new ≡ undone change pairs.old }
+fn undo<A: Allocator>(pairs: &mut Vec<Bookmark<A>, A>, change: Change<A>)
+    requires { can_undo (vec_capacity pairs.old) change pairs.old.items ≡ true }
+    ensures pairs { pairs.new.items ≡ undone change pairs.old.items }
+    ensures room { vec_capacity pairs.old ≤ vec_capacity pairs.new }
 {
     match change {
         Change::Added(place) => {
             pairs.remove(place);
         }
-        Change::Moved(place, node) => {
-            pairs.move_at(place, node);
-        }
-        Change::Removed(place, gone) => pairs.insert(place, gone),
+        Change::Moved(place, node) => pairs[place].1 = node,
+        Change::Removed(place, pair) => pairs.insert(place, pair).unwrap(),
     }
+}
+
+/// A copy of each pair in turn.
+fn copies<A: Allocator + Copy>(
+    alloc: A,
+    pairs: &[Bookmark<A>],
+) -> Result<Vec<Bookmark<A>, A>, NoMemory>
+    ensures { IfOk result (λ copies. copies.items ≡ pairs.now) }
+{
+    let mut copies = Vec::with_capacity(alloc, pairs.len())?;
+    for pair in pairs {
+        let name = Seq::copy_of(alloc, pair.0.as_slice())?;
+        copies.push((name, pair.1))?;
+    }
+    Ok(copies)
 }

@@ -6,8 +6,6 @@ mod bookmarks_tests;
 #[cfg(test)]
 mod many_tests;
 #[cfg(test)]
-mod order_tests;
-#[cfg(test)]
 mod payload_tests;
 #[cfg(test)]
 mod push_tests;
