@@ -33,8 +33,8 @@ impl From<NoMemory> for RestoreFault {
     }
 }
 
-/// Runs the records as pushes, one behind the other. An `Err` says why one is not run: the repository is
-/// then what those before it lead to.
+/// Runs the records as pushes, one after the other. An `Err` says why one is not run. No clause says what the
+/// repository is then, except for its settings: the records before that one were run.
 pub fn replay_records<A: Allocator + Copy>(
     alloc: A,
     repo: &mut Repo<A>,
