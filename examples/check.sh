@@ -80,6 +80,12 @@ exec 6>&-
 "$program" one < "$room/nothing" 2> /dev/full > "$room/out"
 [ $? = 1 ] && cmp -s "$room/out" "$room/truncated" ||
     wrong 'a full standard error changes a status'
+"$program" two 2>&-
+[ $? = 2 ] || wrong 'a closed standard error changes the status of a bad word'
+"$program" two 2> /dev/full
+[ $? = 2 ] || wrong 'a full standard error changes the status of a bad word'
+"$program" --help > /dev/full 2> "$room/err"
+told $? 'a full device for the help'
 
 # Pushes that Mercurial sent, one by one: the first of each row onto the empty repository is done, and the
 # second, which rests on the first, is refused there. A reply tells of changesets that have one head more, or

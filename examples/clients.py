@@ -151,9 +151,11 @@ def serial_run(room, report, pushes):
     return order
 
 
-def refused(room, status, line, *words):
+def refused(room, status, line, *words, limit=None):
     """The program ends at once."""
-    got = subprocess.run([PROGRAM, "serve", *words], capture_output=True, timeout=30, cwd=room)
+    got = subprocess.run(
+        [PROGRAM, "serve", *words], capture_output=True, timeout=30, cwd=room, preexec_fn=limit
+    )
     want(f"status of {words}", got.returncode, status)
     if line:
         want(f"standard error of {words}", got.stderr.decode(), line + "\n")

@@ -13,7 +13,7 @@ clients.WAIT = 90
 
 MIB = 1 << 20
 # what a server has at its start, and the stack of a thread
-START, STACK = 4 * MIB, 9 * MIB
+START, STACK = 4 * MIB, MIB
 # room for the payloads of some pushes of 64 MiB, and not for those of eight
 ROOM = 400 * MIB
 # room for some 30 texts of 4 MiB
@@ -249,16 +249,24 @@ def settled(server):
 NO_ROOM = "hg_pushd: out of memory"
 
 
+def not_served(room, limit, *words):
+    """A server under a limit of its address space, for which there is too little memory to begin."""
+    under = lambda: resource.setrlimit(resource.RLIMIT_AS, (limit, limit))
+    here = ("--listen", "127.0.0.1:0", "--connections", "1", "--report", "report")
+    refused(room, 4, NO_ROOM, *here, *words, limit=under)
+    want("a report file", os.path.exists(os.path.join(room, "report")), False)
+
+
 @case
 def memory_is_refused_for_the_queue(room):
-    limited(room, START + MIB, 1, "--capacity", "65536").ended(4, "", NO_ROOM)
+    not_served(room, START + MIB, "--capacity", "65536")
 
 
 @case
 def memory_is_refused_for_the_seed(room):
     with open(os.path.join(room, "seed"), "wb") as file:
         file.write(bundle(CAPS, (b"output", (), bytes(60 * MIB))))
-    limited(room, START + 32 * MIB, 1, "--seed", "seed").ended(4, "", NO_ROOM)
+    not_served(room, START + 32 * MIB, "--seed", "seed")
 
 
 @case
@@ -273,7 +281,23 @@ def memory_is_refused_for_the_report(room):
     few = memory(server, "VmSize") + STACK + MIB
     resource.prlimit(server.process.pid, resource.RLIMIT_AS, (few, few))
     want("another reply", server.push(EMPTY), EMPTY)
-    server.ended(4, "", NO_ROOM)
+    server.ended(4, None, NO_ROOM)
+    want("a report file", os.path.exists(os.path.join(room, "report")), False)
+
+
+@case
+def a_thousand_connections_under_a_limit(room):
+    """1,024 connections stay open at once, each with a thread, and each pushes."""
+    tuned(ONE_ARENA)
+    most = resource.getrlimit(resource.RLIMIT_NOFILE)[1]
+    resource.setrlimit(resource.RLIMIT_NOFILE, (min(most, 4_096), most))
+    server = limited(room, START + 1_024 * STACK + 64 * MIB, 1_024, "--bundles", "2")
+    pushes, clients = Pushes(), connected(server, 1_024)
+    for place, client in enumerate(clients):
+        push_small(client, pushes, place, 1)
+    close(clients)
+    want("done pushes", len(pushes.done), 1_024)
+    ended_as_one_by_one(server, room, pushes, 1_024)
 
 
 play("Hostile clients: each was answered, and the others were served.")

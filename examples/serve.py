@@ -295,8 +295,9 @@ def seeds(room):
         else:
             here = ("--listen", "127.0.0.1:0", "--connections", "1")
             refused(room, status, line, *here, "--seed", "seed", "--report", "report")
-            with open(os.path.join(room, "report"), "rb") as file:
-                want("report", file.read(), b"")
+            # the report of the server before is still there
+            with open(os.path.join(room, "report")) as file:
+                want("report", file.read(), changeset(0, ROOT, 2) + journal(0))
 
 
 DEVICE = "hg_pushd: device fault"
@@ -364,12 +365,11 @@ def files_and_addresses(room):
         taken.listen()
         port = taken.getsockname()[1]
         without_report(room, 3, DEVICE, "--listen", f"127.0.0.1:{port}", *ONE, *REPORT)
-    for report in ("none/report", ".", "/dev/null/report"):
+    for report in ("none/report", ".", "none/", "", "/dev/null/report"):
         without_report(room, 3, DEVICE, *HERE, *ONE, "--report", report)
-    # these open, and cannot be read: the report's file is made before, and stays empty
+    # these open, and cannot be read
     for seed in (".", "/proc/self/mem"):
-        refused(room, 3, DEVICE, *HERE, *ONE, *REPORT, "--seed", seed)
-        want("size of the report", os.path.getsize(os.path.join(room, "report")), 0)
+        without_report(room, 3, DEVICE, *HERE, *ONE, *REPORT, "--seed", seed)
     with open("/dev/full", "w") as full:
         words = [PROGRAM, "serve", *HERE, *ONE, *REPORT]
         got = subprocess.run(words, stdout=full, stderr=subprocess.PIPE, timeout=30, cwd=room)
@@ -379,10 +379,96 @@ def files_and_addresses(room):
 @case
 def a_full_report(room):
     """The report is not written: the status tells it, and the replies were sent."""
-    os.symlink("/dev/full", os.path.join(room, "report"))
+    with open(os.path.join(room, "report"), "w") as file:
+        file.write("of yesterday")
+    os.symlink("/dev/full", os.path.join(room, "report.part"))
     server = served(room, 1)
     want("reply", server.push(ROOT_PUSH), ROOT_REPLY)
-    server.ended(3, None, "hg_pushd: device fault")
+    server.ended(3, "of yesterday", DEVICE)
+
+
+@case
+def a_report_comes_when_it_is_whole(room):
+    """What its file holds stays there until the new report is whole."""
+    with open(os.path.join(room, "report"), "w") as file:
+        file.write("of yesterday")
+    server = served(room, 1)
+    want("report of a server that runs", server.told(), "of yesterday")
+    want("reply", server.push(ROOT_PUSH), ROOT_REPLY)
+    server.ended(0, ROOT_REPORT + journal(0))
+    want("files", os.listdir(room), ["report"])
+
+
+@case
+def who_comes_late_is_refused(room):
+    """The last connection that is served is still open when a further one is refused."""
+    server = served(room, 1)
+    with server.connect() as client:
+        client.sendall(ROOT_PUSH[:100])
+        time.sleep(0.2)
+        try:
+            server.connect().close()
+            raise Wrong("one more connection is accepted")
+        except ConnectionRefusedError:
+            pass
+        client.sendall(ROOT_PUSH[100:])
+        want("reply", read_all(client), ROOT_REPLY)
+    server.ended(0, ROOT_REPORT + journal(0))
+
+
+@case
+def closed_descriptors(room):
+    """No file of the program's takes the place of a standard descriptor that is closed."""
+    with socket.socket() as free:
+        free.bind(("127.0.0.1", 0))
+        port = free.getsockname()[1]
+    path = os.path.join(room, "report")
+    for closed, listen, status in (((1,), 0, 3), ((0, 1, 2), 0, 3), ((0, 1, 2), port, 0), ((2,), port, 0)):
+        words = [PROGRAM, "serve", "--listen", f"127.0.0.1:{listen}", *ONE, "--report", path]
+        process = subprocess.Popen(words, preexec_fn=lambda: [os.close(place) for place in closed])
+        if status == 0:
+            want("reply", pushed_late(port), ROOT_REPLY)
+        want(f"status with {closed} closed", process.wait(30), status)
+        with open(path) as file:
+            want(f"report with {closed} closed", file.read(), ROOT_REPORT + journal(0) if status == 0 else "")
+        os.remove(path)
+
+
+def pushed_late(port):
+    """The reply to a push on that port, where a server is about to listen."""
+    for _ in range(200):
+        try:
+            with socket.create_connection(("127.0.0.1", port), WAIT) as client:
+                client.sendall(ROOT_PUSH)
+                client.shutdown(socket.SHUT_WR)
+                return read_all(client)
+        except ConnectionRefusedError:
+            time.sleep(0.05)
+    raise Wrong("nobody listens")
+
+
+@case
+def a_thousand_connections_at_once(room):
+    """1,024 connections are open, and half of its bundle was sent on each. Each push is done."""
+    most = resource.getrlimit(resource.RLIMIT_NOFILE)[1]
+    resource.setrlimit(resource.RLIMIT_NOFILE, (min(most, 4_096), most))
+    server = served(room, 1_024)
+    sent = [bundle(CAPS, group((b"%d" % place, NULL))) for place in range(1_024)]
+    clients = [server.connect() for _ in sent]
+    for client, bytes_of in zip(clients, sent):
+        client.sendall(bytes_of[:100])
+    for client, bytes_of in zip(reversed(clients), reversed(sent)):
+        client.sendall(bytes_of[100:])
+    replies = [read_all(client) for client in clients]
+    for client in clients:
+        client.close()
+    # the first changeset is one head where there was none
+    want("replies", sorted(replies), sorted([changesets(1, 1)] + [changesets(1, 2)] * 1_023))
+    server.ended(0, None)
+    lines = server.told().splitlines()
+    nodes = {line.split()[2] for line in lines if line[0] == "C"}
+    want("changesets", nodes, {node_of(b"%d" % place).hex() for place in range(1_024)})
+    want("pushes", sorted(int(line[2:]) for line in lines if line[0] == "J"), list(range(1_024)))
 
 
 @case
@@ -393,13 +479,15 @@ def too_few_descriptors(room):
     first = server.connect()
     first.sendall(ROOT_PUSH[:100])
     time.sleep(0.1)
-    others = [server.connect() for _ in range(3)]
-    time.sleep(0.1)
+    # there is no descriptor for another connection: the accept failed, and the listener was closed
+    try:
+        server.connect().close()
+        raise Wrong("one more connection is accepted")
+    except ConnectionRefusedError:
+        pass
     first.sendall(ROOT_PUSH[100:])
     want("reply", read_all(first), ROOT_REPLY)
     first.close()
-    for other in others:
-        other.close()
     server.ended(3, None, "hg_pushd: device fault")
     want("report", server.told(), ROOT_REPORT + journal(0))
 
@@ -407,14 +495,21 @@ def too_few_descriptors(room):
 @case
 def a_thread_that_does_not_start(room):
     """There is no room for one more stack: no more are accepted, and those that run are finished."""
+    os.environ["GLIBC_TUNABLES"] = "glibc.malloc.arena_max=1"
     server = served(room, 200)
+    del os.environ["GLIBC_TUNABLES"]
     pid = server.process.pid
     with open(f"/proc/{pid}/statm") as file:
-        room_left = int(file.read().split()[0]) * resource.getpagesize() + (200 << 20)
+        room_left = int(file.read().split()[0]) * resource.getpagesize() + (20 << 20)
     resource.prlimit(pid, resource.RLIMIT_AS, (room_left, room_left))
-    clients = [server.connect() for _ in range(100)]
-    for client in clients:
-        client.sendall(ROOT_PUSH[:100])
+    clients = []
+    try:
+        for _ in range(100):
+            clients.append(server.connect())
+            clients[-1].sendall(ROOT_PUSH[:100])
+    except OSError:
+        # the listener is closed behind a thread that did not start
+        pass
     time.sleep(0.5)
     answered = 0
     for client in clients:
@@ -424,7 +519,7 @@ def a_thread_that_does_not_start(room):
         except OSError:
             pass
         client.close()
-    if not 0 < answered < 100:
+    if not 0 < answered < len(clients) or len(clients) == 100 and answered == 100:
         raise Wrong(f"{answered} connections were served")
     server.ended(3, None, "hg_pushd: device fault")
     lines = server.told().splitlines()

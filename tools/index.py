@@ -1,8 +1,8 @@
 #!/usr/bin/env python3
 """From a clause to all that stands behind it: prints docs/index.md from the sources.
 
-For each crate a list of the public functions, with the wrong bodies that turn each and the tests that run it;
-and one of the words that their clauses use: where a word is defined, which heading of the public standard its
+For each crate a list of the public functions, with the wrong bodies that turn each, the clauses that were seen
+to refuse one, and the tests that run it; and one of the words that their clauses use: where a word is defined, which heading of the public standard its
 module states, and the functions that are promised by it.
 
 `index.py --check` compares docs/index.md with what it would print. It fails on a public function without a
@@ -27,9 +27,9 @@ GHOST = re.compile(r"(?m)^ghost use Rattle\.(hg_\w+)\.specs\.([\w.]+)\.\{([^}]*)
 
 ABOUT = """\
 Made by `tools/index.py` from the sources; `make test` compares it with them. For each crate the public
-functions, with the wrong bodies that turn each and the tests that run it; and the words that their clauses
-use, with the module of `specs/` that defines each, and the heading of the public standard that this module
-states. `docs/definitions.md` has a sentence on each word, `docs/wrong-bodies.md` one on each wrong body, and
+functions, with the wrong bodies that turn each, those that each clause was seen to refuse, and the tests that
+run it; and the words that their clauses use, with the module of `specs/` that defines each, and the heading of
+the public standard that this module states. `docs/definitions.md` has a sentence on each word, `docs/wrong-bodies.md` one on each wrong body, and
 `docs/worked-examples.md` one on each example."""
 
 
@@ -131,6 +131,17 @@ def edits_of(crate):
                 file = part[6:].strip()
             elif part.startswith("old: "):
                 yield name, f"{ROOT}/crates/{crate}/{file}", part[5:].rstrip("\n")
+
+
+def refusals_of(crate):
+    """Which wrong bodies each clause refuses, as their heads tell: by the function, then by the clause."""
+    found = defaultdict(lambda: defaultdict(list))
+    for path in files(f"{ROOT}/crates/{crate}/wrong", ".edit"):
+        head = re.match(r"breaks: ([\w:]+), (?:clause (\w+)|(its clause))$", read(path).split("\n")[0])
+        if head:
+            found[head.group(1)][f"clause `{head.group(2)}`" if head.group(2) else "the clause"].append(
+                os.path.basename(path)[:-5])
+    return found
 
 
 def reached(function, by_name, seen=None):
@@ -258,6 +269,7 @@ def main():
             # a constant or a type is turned for the whole file
             for function in within or here:
                 turned[id(function)].append(name)
+        refusals = refusals_of(crate)
         in_tests = [f for f in every if is_of_tests(f.path)]
         runs = defaultdict(list)
         for test in (f for f in in_tests if f.is_test):
@@ -301,7 +313,9 @@ def main():
             if names:
                 bodies = f"turned by {bodies}"
             tests = listed(runs[function.name])
-            say(bullet(f"`{shown}` (`{where}`): {bodies}{'; run by ' + tests if tests else ''}"))
+            seen = refusals[f"{where.removesuffix('.rt').replace('/', '::')}::{shown}"]
+            clauses = "".join(f"; {clause} refuses {listed(seen[clause])}" for clause in sorted(seen))
+            say(bullet(f"`{shown}` (`{where}`): {bodies}{clauses}{'; run by ' + tests if tests else ''}"))
             for word in dict.fromkeys(WORD.findall(function.clauses())):
                 if word in imports[function.path]:
                     used[imports[function.path][word]].append(shown)

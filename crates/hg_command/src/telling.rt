@@ -49,13 +49,14 @@ where
 }
 
 /// Prints the help or the version that was asked for, or what is wrong with the words, and gives the status.
+/// That of wrong words is the same where they cannot be told.
 fn explain<R: Print + Eprint>(rt: &R, error: &Error) -> u8 {
     let status = status_of(error);
     if status == 4 {
         return status;
     }
     match error.print(rt) {
-        Ok(_) => status,
-        Err(_) => 3,
+        Err(_) if status == 0 => 3,
+        _ => status,
     }
 }

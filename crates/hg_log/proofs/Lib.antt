@@ -5,6 +5,8 @@ mod Found
 mod RowLemmas
 mod Wholes
 mod ParentLemmas
+mod Children
+mod Linked
 mod Lookups
 mod Ascending
 mod SameIds

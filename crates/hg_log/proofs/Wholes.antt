@@ -13,8 +13,11 @@ use Rattle.hg_log.specs.Ancestors.{IsParent, IsAncestor}
 use Rattle.hg_log.specs.Ancestors.IsAncestor.{itself, of_parent}
 use Rattle.hg_log.specs.code.Graph.{HasParent, Reaches, AreEarlier}
 use Rattle.hg_log.specs.code.Graph.Reaches.{itself as itself_by_number, of_parent as of_parent_by_number}
+use Rattle.hg_log.specs.Parents.{parents_of}
+use Rattle.hg_log.specs.code.Family.{numbers, numbers_in}
 use Rattle.hg_log.specs.code.Inside.{IsAt, AreParentsOf, IsWhole}
 use Rattle.hg_log.proofs.Lists.{slice_get_pushed, slice_get_kept, slice_get_in}
+use Rattle.hg_log.proofs.ParentLemmas.{numbers_kept}
 use Rattle.hg_log.proofs.RowLemmas.{has_pushed, has_taken, lawful_pushed, lawful_taken, same_rev, not_null}
 
 at_pushed : (rows : List Changeset) (new : Changeset) (r : ℕ) (node : List ℕ) (o : Option ℕ)
@@ -187,3 +190,14 @@ module _ (rows : List Changeset) (graph : List Parents) (limits : Limits)
         | inl e ↦ number_low r p in_rows.0.p1 has.parents.p1 are.p1 e
         | inr e ↦ number_low r p in_rows.0.p2 has.parents.p2 are.p2 e
       ]
+
+  -- the numbers are those of the ids
+  pub numbers_whole : (r : ℕ) → r < length rows → numbers graph r ≡ parents_of rows r
+  numbers_whole r low =
+      let in_rows = slice_get_in rows r low in
+      let in_graph = slice_get_in graph r (omega (arith, low, whole.numbered.as_long)) in
+      let are = whole.numbered.each r in_rows.0 in_graph.0 in_rows.1 in_graph.1 in
+      let kept = numbers_kept rows r in_rows.0 in_graph.0 whole.lawful in_rows.1 are in
+      ap numbers_in in_graph.1
+      ∙ ap (λ (x : Option ℕ). (x, in_graph.0.p2)) kept.0
+      ∙ ap (λ (y : Option ℕ). ((parents_of rows r).0, y)) kept.1

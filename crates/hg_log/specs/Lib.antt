@@ -5,6 +5,7 @@ pub mod Ancestors
 pub mod Parents
 pub mod Heads
 pub mod HeadCount
+pub mod Children
 pub mod Add
 pub mod Answer
 pub mod code

@@ -1,4 +1,5 @@
 pub mod ChildCounts
+pub mod Family
 pub mod Graph
 pub mod Marks
 pub mod Inside

@@ -7,7 +7,8 @@ ghost use Rattle.hg_types.specs.NullId.{null_id};
 ghost use Rattle.hg_log.specs.Changeset.{Log};
 ghost use Rattle.hg_log.specs.NodeId.{node_id_of};
 ghost use Rattle.hg_log.specs.Ancestors.{IsAncestor};
-ghost use Rattle.hg_log.specs.Parents.{parents_of, rev_of, is_ancestor};
+ghost use Rattle.hg_log.specs.Parents.{parents_of, rev_of, is_ancestor, IsParentIn};
+ghost use Rattle.hg_log.specs.Children.{child_before};
 ghost use Rattle.hg_log.specs.HeadCount.{head_count, head_ids, is_head, AreSameIds};
 ghost use Rattle.hg_log.specs.Heads.{AreHeads, ids};
 ghost use Rattle.hg_log.specs.code.Inside.{IsAt, changeset};
@@ -114,6 +115,25 @@ impl<A: Allocator> Changelog<A> {
     {
         let parents = self.graph.parents(rev);
         (parents.p1, parents.p2)
+    }
+
+    /// The last of the changesets that have that one as a parent, by its number. It takes no memory and costs
+    /// the same however many changesets there are.
+    pub fn last_child(&self, rev: u32) -> Option<u32>
+        requires { rev < length self.now.rows }
+        ensures { result ≡ child_before (parents_of self.now.rows) rev (length self.now.rows) }
+    {
+        self.graph.last_child(rev)
+    }
+
+    /// The last of the changesets before `child` that have the same parent `rev` as it. It takes no memory and
+    /// costs the same however many changesets there are.
+    pub fn child_before(&self, rev: u32, child: u32) -> Option<u32>
+        requires within { child < length self.now.rows }
+        requires is_child { IsParentIn (parents_of self.now.rows) rev child }
+        ensures { result ≡ child_before (parents_of self.now.rows) rev child }
+    {
+        self.graph.child_before(rev, child)
     }
 
     /// The text of the changeset of that number.

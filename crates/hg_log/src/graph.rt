@@ -2,9 +2,12 @@
 
 ghost use Rattle.std.specs.Prelude.{◌≡◌, ◌⊎◌, ◌↔◌, ℕ, ◌+◌, ◌-◌, ◌<◌, ◌≤◌, ◌^◌, [], ◌∷◌, ◌++◌, length, take};
 ghost use Rattle.std.specs.Prelude.{IfOk, OnOk, OnErr, IfSome, IsTrue, slice_get, Some};
+ghost use Rattle.hg_log.specs.Children.{child_before};
 ghost use Rattle.hg_log.specs.code.Graph.{AreEarlier, AreChildless, HasParent, Reaches};
+ghost use Rattle.hg_log.specs.code.Family.{numbers};
 
 use crate::child_counts::ChildCounts;
+use crate::family::Family;
 use crate::marks::Marks;
 use std::alloc::{AllocError, Allocator, Global};
 use std::marker::Model;
@@ -23,12 +26,19 @@ impl Parents {
     {
         self.p1 == Some(row) || self.p2 == Some(row)
     }
+
+    /// Whether a row is the first of them.
+    pub fn begin_with(self, row: u32) -> bool
+        ensures { IsTrue result ↔ (self.p1 ≡ Some row) }
+    {
+        self.p1 == Some(row)
+    }
 }
 
 /// The parents of each row. A parent comes before its child.
 #[derive(Drop)]
 pub struct Graph<A: Allocator = Global> {
-    parents: Vec<Parents, A>,
+    family: Family<A>,
     children: ChildCounts<A>,
 }
 
@@ -40,9 +50,9 @@ impl<A: Allocator> Model for Graph<A> {
 
     ghost use Rattle.hg_log.specs.code.Graph.{AreCounted};
 
-    ghost view = { λ g. g.parents.items };
+    ghost view = { λ g. g.family };
 
-    ghost invariant = { λ g. AreCounted g.parents.items g.children };
+    ghost invariant = { λ g. AreCounted g.family g.children };
 }
 
 impl<A: Allocator + Copy> Graph<A> {
@@ -51,7 +61,7 @@ impl<A: Allocator + Copy> Graph<A> {
         ensures { result ≡ [] }
     {
         Graph {
-            parents: Vec::new(alloc),
+            family: Family::new(alloc),
             children: ChildCounts::new(alloc),
         }
     }
@@ -63,20 +73,20 @@ impl<A: Allocator + Copy> Graph<A> {
     pub fn is_ancestor(&self, ancestor: u32, row: u32) -> Result<bool, AllocError>
         ensures { IfOk result (λ answer. IsTrue answer ↔ Reaches self.now ancestor row) }
     {
-        if row as usize >= self.parents.len() || row < ancestor {
+        if row as usize >= self.family.len() || row < ancestor {
             return Ok(false);
         }
         if row == ancestor {
             return Ok(true);
         }
-        let mut marks = Marks::new(*self.parents.allocator(), ancestor, row);
+        let mut marks = Marks::new(self.family.allocator(), ancestor, row);
         marks.mark(Some(row))?;
         for child in (ancestor + 1..row + 1).rev() {
             if marks.end_above(child) {
                 return Ok(false);
             }
             if marks.has(child) {
-                let parents = self.parents[child as usize];
+                let parents = self.family.parents(child);
                 if parents.has(ancestor) {
                     return Ok(true);
                 }
@@ -93,7 +103,7 @@ impl<A: Allocator> Graph<A> {
     pub fn len(&self) -> usize
         ensures { result ≡ length self.now }
     {
-        self.parents.len()
+        self.family.len()
     }
 
     /// The parents of a row.
@@ -101,7 +111,23 @@ impl<A: Allocator> Graph<A> {
         requires { row < length self.now }
         ensures { slice_get self.now row ≡ Some result }
     {
-        self.parents[row as usize]
+        self.family.parents(row)
+    }
+
+    /// The newest child of a row.
+    pub fn last_child(&self, row: u32) -> Option<u32>
+        requires { row < length self.now }
+        ensures { result ≡ child_before (numbers self.now) row (length self.now) }
+    {
+        self.family.last_child(row)
+    }
+
+    /// The child that a row had before that one.
+    pub fn child_before(&self, row: u32, child: u32) -> Option<u32>
+        requires { HasParent self.now row child }
+        ensures { result ≡ child_before (numbers self.now) row child }
+    {
+        self.family.child_before(row, child)
     }
 
     /// Adds a row.
@@ -111,11 +137,13 @@ impl<A: Allocator> Graph<A> {
         ensures ok { OnOk result (self.new ≡ self.old ++ parents ∷ []) }
         ensures err { OnErr result (self.new ≡ self.old) }
     {
-        self.parents.reserve(1)?;
         self.children.push()?;
+        if let Err(refused) = self.family.push(parents) {
+            self.children.pop();
+            return Err(refused);
+        }
         self.children.add_child(parents.p1);
         self.children.add_child(parents.p2);
-        self.parents.push(parents)?;
         Ok(())
     }
 
@@ -123,7 +151,7 @@ impl<A: Allocator> Graph<A> {
     fn pop(&mut self)
         ensures { self.new ≡ take (length self.old - 1) self.old }
     {
-        if let Some(parents) = self.parents.pop() {
+        if let Some(parents) = self.family.pop() {
             self.children.pop();
             self.children.drop_child(parents.p1);
             self.children.drop_child(parents.p2);

@@ -10,6 +10,7 @@
 mod add;
 mod changelog;
 mod child_counts;
+mod family;
 mod graph;
 mod laws;
 mod marks;

@@ -370,12 +370,22 @@ fn cut(log: &mut Changelog, len: usize) {
     }
 }
 
+/// Whether the last child of a row is that one.
+fn has_last_child(log: &Changelog, rev: u32, child: Option<u32>) -> bool {
+    (rev as usize) < log.len() && log.last_child(rev) == child
+}
+
 fn is_cut_back(alloc: Global, log: &mut Changelog) -> bool {
     let rows = merged();
-    let is_put = put_all(alloc, log, &rows);
+    let is_put = put_all(alloc, log, &rows)
+        && has_last_child(log, 0, Some(3))
+        && has_last_child(log, 1, Some(4))
+        && has_last_child(log, 4, None);
     cut(log, 2);
     let is_cut = log.len() == 2 && log.rev(&SECOND).is_none() && !log.knows(&MERGE);
-    let has_one = has_heads(alloc, log, &[FIRST]);
+    let has_one = has_heads(alloc, log, &[FIRST])
+        && has_last_child(log, 0, Some(1))
+        && has_last_child(log, 1, None);
     let has_more = put_all(alloc, log, &rows[2..3]);
     let has_two = has_heads(alloc, log, &[FIRST, SECOND]);
     is_put && is_cut && has_one && has_more && has_two

@@ -3,6 +3,7 @@ mod Tables
 mod Growing
 mod Writable
 mod Bare
+mod Refusing
 mod Numbers
 mod Setting
 mod Adding

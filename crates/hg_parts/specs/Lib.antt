@@ -8,4 +8,5 @@ pub mod PartTypes
 pub mod parts
 pub mod Handle
 pub mod Prepared
+pub mod Refusing
 pub mod code

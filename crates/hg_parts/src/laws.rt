@@ -1,16 +1,19 @@
 //! What holds of stores. Each function changes nothing: what it ensures is a theorem, and a caller that
 //! calls it may rest on it.
 
-ghost use Rattle.std.specs.Prelude.{◌≡◌, [], ℕ, Bool, Ok, IfOk, IfSome};
+ghost use Rattle.std.specs.Prelude.{◌≡◌, [], ℕ, Bool, Ok, Err, IfOk, IfSome};
 ghost use Rattle.hg_types.specs.Bytes.{IsBytes};
 ghost use Rattle.hg_types.specs.declared.limits.Settings.{Settings as AnySettings};
 ghost use Rattle.hg_types.specs.declared.part.Part.{Part as AnyPart};
+ghost use Rattle.hg_parts.specs.declared.refusal.Refusal.{Refusal as AnyRefusal};
 ghost use Rattle.hg_parts.specs.declared.source.Source.{Source as AnySource};
 ghost use Rattle.hg_parts.specs.declared.store.Store.{Store as AnyStore};
 ghost use Rattle.hg_parts.specs.declared.store.StoreMark.{StoreMark as AnyMark};
 ghost use Rattle.hg_parts.specs.Repository.{IsLawful, Repository, empty_with};
 ghost use Rattle.hg_parts.specs.Handle.{handle};
 ghost use Rattle.hg_parts.specs.Handled.{Handled};
+ghost use Rattle.hg_parts.specs.PartTypes.{support_of};
+ghost use Rattle.hg_parts.specs.Refusing.{CanBeRefused};
 ghost use Rattle.hg_parts.specs.Store.{repository_of, empty_store, with_marks, without_marks, CanGoBack};
 ghost use Rattle.hg_parts.specs.Store.{IsGrown, IsSound};
 
@@ -27,6 +30,14 @@ pub fn replies_have_no_payload<A: Allocator>()
     ensures { (source : AnySource) (repo : Repository A) (replying : Bool) (place : ℕ) (part : AnyPart A)
         (given : Handled A) → handle source repo replying place part ≡ Ok given
         → IfSome given.reply (λ reply. reply.payload ≡ []) }
+{}
+
+/// A refusal tells the place of its part, and which types of part can give it. By the definitions alone no part
+/// is refused for want of memory, and none of its changesets: only code answers that.
+pub fn refusals_tell_their_parts<A: Allocator>()
+    ensures { (source : AnySource) (repo : Repository A) (replying : Bool) (place : ℕ) (part : AnyPart A)
+        (refusal : AnyRefusal A) → handle source repo replying place part ≡ Err refusal
+        → CanBeRefused place (support_of part) refusal }
 {}
 
 /// The empty repository is lawful, and a part that is handled on a lawful repository leaves a lawful one,

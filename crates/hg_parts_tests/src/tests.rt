@@ -6,7 +6,10 @@ mod heads;
 mod steps;
 
 use hg_log::node_id;
-use hg_parts::{RaceText, Refusal, Source, Store, handle_part, starts_replies};
+use hg_parts::laws::marks_keep_stores_sound;
+use hg_parts::{
+    RaceText, Refusal, Source, Store, handle_part, handle_prepared, prepare, starts_replies,
+};
 use hg_types::{Limits, NoMemory, Node, Param, Part, Phase, Seq, Settings};
 use linked_list_allocator::LocalHeap;
 use std::alloc::{Allocator, Global};
@@ -287,6 +290,32 @@ fn roots(alloc: Global, state: RandomState) -> Result<bool, NoMemory> {
 #[test]
 fn a_root_changeset(rt: HostRuntime) -> Result<(), Fail> {
     assert!(rt; roots(rt.alloc(), RandomState::new(&rt)?)?);
+    Ok(())
+}
+
+/// A root on a store, and a child of it, prepared, on a clone of that store.
+fn cloned(alloc: Global, state: RandomState) -> Result<bool, NoMemory> {
+    marks_keep_stores_sound::<Global>();
+    let mut held = empty(alloc, state, false);
+    let first = run(
+        alloc,
+        &mut held,
+        Source::Push,
+        &group(alloc, &[root(ROOT)])?,
+    );
+    let mut copy = held.store.try_clone(alloc)?;
+    let prepared = prepare(alloc, group(alloc, &[child(ROOT, NULL, b'b')])?)?;
+    let settings = held.settings;
+    let answer = handle_prepared(alloc, &mut copy, &settings, Source::Push, true, 0, prepared);
+    let rows = (held.store.log.len(), copy.log.len());
+    let told = Came::Told(false, b'1');
+    drop(held);
+    Ok(first == told && came_of(&answer) == told && rows == (1, 2))
+}
+
+#[test]
+fn a_prepared_part_on_a_clone(rt: HostRuntime) -> Result<(), Fail> {
+    assert!(rt; cloned(rt.alloc(), RandomState::new(&rt)?)?);
     Ok(())
 }
 

@@ -3,11 +3,12 @@ mod Ranges
 mod Rising
 mod Joining
 mod Kept
-mod Marking
+mod Standings
+mod Lowered
+mod Restood
 mod Steps
 mod RootLaws
 mod Told
-mod Lowering
 mod Soundness
 mod Undoing
 mod EntryLemmas

@@ -15,7 +15,7 @@ use Rattle.hg_phases.specs.declared.standing.Standing.TheVariants.{PublicOnPubli
 use Rattle.hg_phases.specs.Roots.{begins}
 use Rattle.hg_phases.specs.Standing.{standing_of, phase_told, phases_told, is_told, told_from, told}
 use Rattle.hg_phases.specs.Standing.{standing_at}
-use Rattle.hg_phases.proofs.Ranges.{AreWithin, first_within, seam}
+use Rattle.hg_phases.proofs.Ranges.{AreWithin, first_within}
 
 -- the phase that went in comes out
 pub phase_of_standing : (phase above : Phase) → phase_told (standing_of phase above) ≡ phase
@@ -98,49 +98,6 @@ told_within t n (x ∷ xs) =
     (AreWithin n (n + suc (length xs)))
     (λ is. first_within n (n + suc (length xs)) (told_from t (n + 1) xs) (omega arith) wider)
     (λ is. wider)
-
--- the place before which all numbers are below that one, and from which on none is
-pub record IsCount (numbers : List ℕ) (low count : ℕ) : Type 0 where
-  pub within : count ≤ length numbers
-  pub from : (k : ℕ) → count ≤ k → k < length numbers → low ≤ get_or numbers k 0
-  pub before : 0 < count → get_or numbers (count - 1) 0 < low
-
--- the roots of the rows below one, and those of the others
-pub told_split : (t : Phase) (low : ℕ) (xs : List Standing) → low ≤ length xs
-    → told t xs ≡ told t (take low xs) ++ told_from t low (drop low xs)
-told_split t low xs within =
-    let at : 0 + length (take low xs) ≡ low = omega (arith, length-take-le low xs within) in
-    ap (told t) (sym (take-append-drop low xs)) ∙ told_append t 0 (take low xs) (drop low xs)
-    ∙ ap (λ (k : ℕ). told t (take low xs) ++ told_from t k (drop low xs)) at
-
-below_low : (t : Phase) (low : ℕ) (xs : List Standing) → low ≤ length xs → (k : ℕ)
-    → k < length (told t (take low xs)) → get_or (told t (take low xs)) k 0 < low
-below_low t low xs within k k_in = let w = told_within t 0 (take low xs) k k_in in
-    omega (arith, w.1, length-take-le low xs within)
-
-above_low : (t : Phase) (low : ℕ) (xs : List Standing) (k : ℕ) → k < length (told_from t low (drop low xs))
-    → low ≤ get_or (told_from t low (drop low xs)) k 0
-above_low t low xs k k_in = let w = told_within t low (drop low xs) k k_in in w.0
-
--- there are as many below a row as the rows below it tell
-pub count_is : (t : Phase) (low : ℕ) (xs : List Standing) → low ≤ length xs
-    → IsCount (told t xs) low (length (told t (take low xs)))
-count_is t low xs within =
-    let ys : List ℕ = told t (take low xs) in
-    let zs : List ℕ = told_from t low (drop low xs) in
-    subst (λ us. IsCount us low (length ys)) (sym (told_split t low xs within)) (record {
-      within = omega (arith, length-append ys zs);
-      from = λ k from k_in. let above = above_low t low xs (k - length ys)
-          (omega (arith, length-append ys zs, k_in, from)) in
-          omega (arith, get_or-append_right ys zs (length ys) k 0 refl from);
-      before = λ some. let below = below_low t low xs within (length ys - 1) (omega (arith, some)) in
-          omega (arith, get_or_append_left ys zs 0 (length ys - 1) (omega (arith, some)));
-    })
-
-pub take_told : (t : Phase) (low : ℕ) (xs : List Standing) → low ≤ length xs
-    → take (length (told t (take low xs))) (told t xs) ≡ told t (take low xs)
-take_told t low xs within = ap (take (length (told t (take low xs)))) (told_split t low xs within)
-    ∙ take-append_seam (told t (take low xs)) (told_from t low (drop low xs))
 
 -- standings that a function gives to rows in turn, and what they tell
 pub told_range : (t : Phase) (f : ℕ → Standing) (p : ℕ → Bool) (low n : ℕ)

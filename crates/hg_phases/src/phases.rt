@@ -8,7 +8,7 @@ ghost use Rattle.hg_phases.specs.Phases.{registered, advanced, no_rows, AreFor, 
 use crate::order::greater;
 use crate::standing::{Standing, are_same, phase_at, phase_of};
 use crate::tape::Tape;
-use crate::walk::{lowered, lowered_tail};
+use crate::walk::advance_rows;
 use hg_log::Changelog;
 use hg_types::{NoMemory, Phase};
 use std::alloc::{Allocator, Global};
@@ -101,8 +101,9 @@ impl<A: Allocator + Copy> Phases<A> {
 
     /// Gives each head and each ancestor of one the lesser of `target` and its phase.
     ///
-    /// It walks down from the heads and stops where nothing is lowered, and looks for new roots from the
-    /// lowest row that is lowered on. Where memory is refused, the phases are unchanged.
+    /// It walks down from the heads and stops where nothing is lowered, and looks for new roots among the
+    /// children of the rows that are lowered: it costs by these rows and their children, wherever they stand.
+    /// Where memory is refused, the phases are unchanged.
     pub fn advance(
         &mut self,
         alloc: A,
@@ -121,13 +122,8 @@ impl<A: Allocator + Copy> Phases<A> {
         ensures err { OnErr result (self.new ≡ self.old) }
     {
         let _lawful = log.len();
-        let rows = self.index.rows.as_slice();
-        let marks = lowered(alloc, log, rows, target, heads)?;
-        let low = rows.len() - marks.len();
-        let tail = lowered_tail(alloc, log, rows, marks.as_slice(), target)?;
-        let new = tail.as_slice();
-        self.index.keep(low, new)?;
-        self.index.put(low, new);
+        let changes = advance_rows(alloc, log, &mut self.index.rows, target, heads)?;
+        self.index.keep(changes)?;
         Ok(())
     }
 }

@@ -1,8 +1,8 @@
 //! The rows that have a phase, which can go back to what they were at a mark, without memory.
 
-ghost use Rattle.std.specs.Prelude.{◌≡◌, ℕ, ◌+◌, ◌<◌, ◌≤◌, ◌^◌, [], ◌∷◌, ◌++◌, All, take, length, vec_len};
-ghost use Rattle.std.specs.Prelude.{vec_capacity, IfOk, OnOk};
-ghost use Rattle.hg_phases.specs.code.Tape.{base_of};
+ghost use Rattle.std.specs.Prelude.{◌≡◌, ◌<◌, ◌≤◌, [], ◌++◌, All, length, vec_len, slice_set, IfOk, OnOk};
+ghost use Rattle.std.specs.Prelude.{OnErr};
+ghost use Rattle.hg_phases.specs.code.Tape.{base_of, undone, of_marked, Follows};
 
 use crate::standing::Standing;
 use std::alloc::{AllocError, Allocator, Global};
@@ -53,47 +53,78 @@ impl<A: Allocator + Copy> Tape<A> {
     }
 }
 
+/// Replaces a row, and adds what it was to the changes. Where memory is refused, nothing is changed.
+pub fn replace<A: Allocator>(
+    rows: &mut Vec<Standing, A>,
+    changes: &mut Vec<Replaced, A>,
+    row: u32,
+    standing: Standing,
+) -> Result<(), AllocError>
+    requires { row < length rows.old.items }
+    ensures ok { OnOk result (rows.new.items ≡ slice_set rows.old.items row standing) }
+    ensures follows { Follows rows.old.items changes.old.items rows.new.items changes.new.items }
+{
+    let was = rows[row as usize];
+    changes.push(Replaced { row, standing: was })?;
+    rows[row as usize] = standing;
+    Ok(())
+}
+
+/// Takes changes back, the last first.
+pub fn undo<A: Allocator>(rows: &mut Vec<Standing, A>, changes: Vec<Replaced, A>)
+    requires { All (λ change. change.row < length rows.old.items) changes.items }
+    ensures { rows.new.items ≡ undone changes.items rows.old.items }
+{
+    let mut left = changes;
+    'back: while let Some(change) = left.pop() {
+        rows[change.row as usize] = change.standing;
+    }
+}
+
+/// Keeps those changes that are of the first rows, so many as were marked. Where memory is refused, nothing
+/// is kept of them.
+fn keep_marked<A: Allocator>(
+    kept: &mut Vec<Replaced, A>,
+    marked: usize,
+    changes: &[Replaced],
+) -> Result<(), AllocError>
+    ensures ok { OnOk result (kept.new.items ≡ kept.old.items ++ of_marked marked changes.now) }
+    ensures err { OnErr result (kept.new.items ≡ kept.old.items) }
+{
+    let before = kept.len();
+    for change in changes {
+        if (change.row as usize) < marked {
+            if let Err(refused) = kept.push(*change) {
+                kept.truncate(before);
+                return Err(refused.into());
+            }
+        }
+    }
+    Ok(())
+}
+
 impl<A: Allocator> Tape<A> {
-    /// Keeps what rows of the mark are, from that one on, where they are not what is to come.
+    /// Keeps changes that were made, for the way back.
     ///
-    /// What is kept is a number and a standing for each row that changes. Where memory is refused, what was
-    /// kept until then stays, and changes nothing of the way back.
-    pub fn keep(&mut self, low: usize, tail: &[Standing]) -> Result<(), AllocError>
-        requires marked { self.old.marked ≤ vec_len self.old.rows }
-        requires within { low + length tail.now ≡ vec_len self.old.rows }
-        requires few { vec_len self.old.rows ≤ 2 ^ 32 }
+    /// What is kept is a number and a standing for each change of a row of the mark. Where memory is refused,
+    /// the changes are taken back.
+    pub fn keep(&mut self, changes: Vec<Replaced, A>) -> Result<(), AllocError>
+        requires within { All (λ change. change.row < length self.old.rows.items) changes.items }
         requires replaced { All (λ change. change.row < self.old.marked) self.old.kept.items }
-        ensures rows { self.new.rows ≡ self.old.rows }
+        ensures ok { OnOk result (self.new.rows.items ≡ self.old.rows.items) }
+        ensures err { OnErr result (self.new.rows.items ≡ undone changes.items self.old.rows.items) }
         ensures marked { self.new.marked ≡ self.old.marked }
         ensures replaced { All (λ change. change.row < self.new.marked) self.new.kept.items }
         ensures base { base_of self.new.marked self.new.rows.items self.new.kept.items
-            ≡ base_of self.old.marked self.old.rows.items self.old.kept.items }
-        ensures ready { OnOk result
-            (base_of self.new.marked (take low self.old.rows.items ++ tail.now) self.new.kept.items
-            ≡ base_of self.old.marked self.old.rows.items self.old.kept.items) }
+            ≡ base_of self.old.marked (undone changes.items self.old.rows.items) self.old.kept.items }
     {
-        for place in 0..self.marked.saturating_sub(low) {
-            let row = low + place;
-            let standing = self.rows[row];
-            if !standing.is_same(tail[place]) {
-                self.kept.push(Replaced {
-                    row: row as u32,
-                    standing,
-                })?;
+        match keep_marked(&mut self.kept, self.marked, changes.as_slice()) {
+            Ok(()) => Ok(()),
+            Err(refused) => {
+                undo(&mut self.rows, changes);
+                Err(refused)
             }
         }
-        Ok(())
-    }
-
-    /// Replaces the rows from that one on by as many.
-    pub fn put(&mut self, low: usize, tail: &[Standing])
-        requires { low + length tail.now ≡ vec_len self.old.rows }
-        ensures rows { self.new.rows.items ≡ take low self.old.rows.items ++ tail.now }
-        ensures kept { self.new.kept ≡ self.old.kept }
-        ensures marked { self.new.marked ≡ self.old.marked }
-    {
-        self.rows.truncate(low);
-        let _put = self.rows.extend_from_slice(tail);
     }
 
     /// Marks the rows as they are.

@@ -1,151 +1,193 @@
-//! The walk down from the heads, which marks the rows that are lowered and stops where nothing is.
+//! What an advance does to rows: the walk down from the heads, which lowers rows and stops where nothing is
+//! lowered, and the look at those rows and their children for what they are roots of.
 
-ghost use Rattle.std.specs.Prelude.{◌≡◌, ◌≢◌, ℕ, ◌+◌, ◌-◌, ◌<◌, ◌≤◌, All, length, slice_index_or, true};
-ghost use Rattle.std.specs.Prelude.{false, IfSome, IfOk, OnOk};
-ghost use Rattle.hg_log.specs.Parents.{parents_of};
-ghost use Rattle.hg_phases.specs.Phases.{AreLawful};
+ghost use Rattle.std.specs.Prelude.{◌≡◌, ◌<◌, ◌≤◌, [], All, length, slice_set, IfSome, IfOk, OnOk, OnErr};
+ghost use Rattle.hg_log.specs.Parents.{parents_of, IsParentIn};
+ghost use Rattle.hg_phases.specs.Phases.{AreLawful, advanced};
 ghost use Rattle.hg_phases.specs.Standing.{phases_told};
-ghost use Rattle.hg_phases.specs.code.Walk.{AreMarked, AreLowered, lowered_at, lowered_of, lowered_row};
-ghost use Rattle.hg_phases.specs.code.Walk.{lowered_rows};
+ghost use Rattle.hg_phases.specs.code.Tape.{undone, Follows};
+ghost use Rattle.hg_phases.specs.code.Walk.{IsLowered, AreLowered, AreRestood, AreStanding, IsTouched};
+ghost use Rattle.hg_phases.specs.code.Walk.{standing_in};
 
 use crate::order::greater;
 use crate::standing::{Standing, phase_at, phase_of};
+use crate::tape::{Replaced, replace, undo};
 use hg_log::Changelog;
 use hg_types::Phase;
 use std::alloc::{AllocError, Allocator};
 
-/// Marks a place, and makes the marks up to it.
-fn mark_place<A: Allocator>(marks: &mut Vec<bool, A>, place: usize) -> Result<(), AllocError>
-    ensures longer { length marks.old.items ≤ length marks.new.items }
-    ensures most { length marks.new.items
-        ≤ length marks.old.items + (place + 1 - length marks.old.items) }
-    ensures place { OnOk result (slice_index_or marks.new.items place false ≡ true) }
-    ensures others { OnOk result ((k : ℕ) → k ≢ place
-        → slice_index_or marks.new.items k false ≡ slice_index_or marks.old.items k false) }
-{
-    'longer: while marks.len() <= place {
-        marks.push(false)?;
-    }
-    marks[place] = true;
-    Ok(())
-}
-
-/// Marks a row, where there is one and it is above the target.
-fn mark_above<A: Allocator>(
-    marks: &mut Vec<bool, A>,
-    rows: &[Standing],
+/// Gives a row the target as its phase and adds it to those that are lowered, where there is a row and it is
+/// above the target.
+fn lower<A: Allocator>(
+    rows: &mut Vec<Standing, A>,
+    changes: &mut Vec<Replaced, A>,
+    lowered: &mut Vec<u32, A>,
     target: Phase,
     row: Option<u32>,
 ) -> Result<(), AllocError>
-    requires { IfSome row (λ r. r < length rows.now) }
-    ensures { OnOk result (AreMarked target (phases_told rows.now) row marks.old.items marks.new.items) }
+    requires { IfSome row (λ r. r < length rows.old.items) }
+    ensures ok { OnOk result
+        (IsLowered target row rows.old.items lowered.old.items rows.new.items lowered.new.items) }
+    ensures follows { Follows rows.old.items changes.old.items rows.new.items changes.new.items }
 {
     let Some(rev) = row else { return Ok(()) };
-    if phase_of(rows, row).number() <= target.number() {
+    if phase_at(rows.as_slice(), rev as usize).number() <= target.number() {
         return Ok(());
     }
-    mark_place(marks, rows.len() - 1 - rev as usize)
+    lowered.push(rev)?;
+    replace(rows, changes, rev, Standing::of(target, target))
 }
 
-/// Marks the rows that an advance lowers.
-///
-/// The mark at place k is that of the row k places before the last, and the last mark is that of the lowest
-/// row that is lowered: no row below it is looked at but for its phase.
-pub fn lowered<A: Allocator + Copy>(
-    alloc: A,
+/// Gives the target as its phase to each row that an advance lowers, and lists them.
+fn lower_all<A: Allocator>(
     log: &Changelog<A>,
-    rows: &[Standing],
+    rows: &mut Vec<Standing, A>,
+    changes: &mut Vec<Replaced, A>,
+    lowered: &mut Vec<u32, A>,
     target: Phase,
     heads: &[u32],
-) -> Result<Vec<bool, A>, AllocError>
-    requires heads { All (λ head. head < length rows.now) heads.now }
-    requires rows { length rows.now ≤ length log.now.rows }
-    requires lawful { AreLawful (parents_of log.now.rows) (phases_told rows.now) }
-    ensures { IfOk result
-        (λ marks. AreLowered (parents_of log.now.rows) target heads.now (phases_told rows.now) marks.items) }
+) -> Result<(), AllocError>
+    requires heads { All (λ head. head < length rows.old.items) heads.now }
+    requires rows { length rows.old.items ≤ length log.now.rows }
+    requires lawful { AreLawful (parents_of log.now.rows) (phases_told rows.old.items) }
+    requires none { lowered.old.items ≡ [] }
+    ensures ok { OnOk result (AreLowered (parents_of log.now.rows) target heads.now rows.old.items
+        rows.new.items lowered.new.items) }
+    ensures follows { Follows rows.old.items changes.old.items rows.new.items changes.new.items }
 {
     let _few = log.len();
-    let mut marks = Vec::new(alloc);
     for head in heads {
-        mark_above(&mut marks, rows, target, Some(*head))?;
+        lower(rows, changes, lowered, target, Some(*head))?;
     }
     let mut place = 0;
-    'down: while place < marks.len() {
-        if marks[place] {
-            let row = rows.len() - 1 - place;
-            let (p1, p2) = log.parent_revs(row as u32);
-            mark_above(&mut marks, rows, target, p1)?;
-            mark_above(&mut marks, rows, target, p2)?;
-        }
+    'down: while place < lowered.len() {
+        let (p1, p2) = log.parent_revs(lowered[place]);
+        lower(rows, changes, lowered, target, p1)?;
+        lower(rows, changes, lowered, target, p2)?;
         place += 1;
     }
-    Ok(marks)
+    Ok(())
 }
 
-/// The phase that an advance gives to a row.
-fn lowered_at(rows: &[Standing], marks: &[bool], target: Phase, row: usize) -> Phase
-    requires { row < length rows.now }
-    ensures { result ≡ lowered_at target (phases_told rows.now) marks.now row }
-{
-    let place = rows.len() - 1 - row;
-    if place < marks.len() && marks[place] {
-        target
-    } else {
-        phase_at(rows, row)
-    }
-}
-
-/// The phase that an advance gives to a parent. Where there is no parent, it is public.
-fn lowered_of(rows: &[Standing], marks: &[bool], target: Phase, parent: Option<u32>) -> Phase
-    requires { IfSome parent (λ r. r < length rows.now) }
-    ensures { result ≡ lowered_of target (phases_told rows.now) marks.now parent }
-{
-    match parent {
-        Some(row) => lowered_at(rows, marks, target, row as usize),
-        None => Phase::Public,
-    }
-}
-
-/// What an advance makes of a row.
-fn lowered_row<A: Allocator>(
+/// Gives a row the standing that its phase and those of its parents make.
+fn restand<A: Allocator>(
     log: &Changelog<A>,
-    rows: &[Standing],
-    marks: &[bool],
-    target: Phase,
-    row: usize,
-) -> Standing
-    requires row { row < length rows.now }
-    requires rows { length rows.now ≤ length log.now.rows }
-    ensures { result ≡ lowered_row (parents_of log.now.rows) target (phases_told rows.now) marks.now row }
+    rows: &mut Vec<Standing, A>,
+    changes: &mut Vec<Replaced, A>,
+    row: u32,
+) -> Result<(), AllocError>
+    requires row { row < length rows.old.items }
+    requires rows { length rows.old.items ≤ length log.now.rows }
+    ensures ok { OnOk result (rows.new.items ≡ slice_set rows.old.items row
+        (standing_in (parents_of log.now.rows) (phases_told rows.old.items) row)) }
+    ensures follows { Follows rows.old.items changes.old.items rows.new.items changes.new.items }
 {
     let _few = log.len();
-    let (p1, p2) = log.parent_revs(row as u32);
-    let above = greater(
-        lowered_of(rows, marks, target, p1),
-        lowered_of(rows, marks, target, p2),
-    );
-    Standing::of(lowered_at(rows, marks, target, row), above)
+    let (p1, p2) = log.parent_revs(row);
+    let all = rows.as_slice();
+    let above = greater(phase_of(all, p1), phase_of(all, p2));
+    let standing = Standing::of(phase_at(all, row as usize), above);
+    if standing.is_same(rows[row as usize]) {
+        return Ok(());
+    }
+    replace(rows, changes, row, standing)
 }
 
-/// What an advance makes of the rows from the lowest that is lowered on.
-pub fn lowered_tail<A: Allocator + Copy>(
+/// Gives the children of a row the standing that their phases and those of their parents make.
+fn restand_children<A: Allocator>(
+    log: &Changelog<A>,
+    rows: &mut Vec<Standing, A>,
+    changes: &mut Vec<Replaced, A>,
+    row: u32,
+) -> Result<(), AllocError>
+    requires row { row < length rows.old.items }
+    requires rows { length rows.old.items ≤ length log.now.rows }
+    ensures ok { OnOk result (AreRestood (parents_of log.now.rows)
+        (λ r. IsParentIn (parents_of log.now.rows) row r) rows.old.items rows.new.items) }
+    ensures follows { Follows rows.old.items changes.old.items rows.new.items changes.new.items }
+{
+    let _few = log.len();
+    let mut next = log.last_child(row);
+    'children: while let Some(child) = next {
+        if (child as usize) < rows.len() {
+            restand(log, rows, changes, child)?;
+        }
+        next = log.child_before(row, child);
+    }
+    Ok(())
+}
+
+/// Gives rows and their children the standing that their phases and those of their parents make.
+fn restand_all<A: Allocator>(
+    log: &Changelog<A>,
+    rows: &mut Vec<Standing, A>,
+    changes: &mut Vec<Replaced, A>,
+    lowered: &[u32],
+) -> Result<(), AllocError>
+    requires lowered { All (λ row. row < length rows.old.items) lowered.now }
+    requires rows { length rows.old.items ≤ length log.now.rows }
+    ensures ok { OnOk result (AreRestood (parents_of log.now.rows)
+        (λ r. IsTouched (parents_of log.now.rows) lowered.now (length lowered.now) r)
+        rows.old.items rows.new.items) }
+    ensures follows { Follows rows.old.items changes.old.items rows.new.items changes.new.items }
+{
+    for row in lowered {
+        restand(log, rows, changes, *row)?;
+        restand_children(log, rows, changes, *row)?;
+    }
+    Ok(())
+}
+
+/// Makes of rows what an advance makes of them, unless memory is refused on the way.
+fn change_rows<A: Allocator + Copy>(
     alloc: A,
     log: &Changelog<A>,
-    rows: &[Standing],
-    marks: &[bool],
+    rows: &mut Vec<Standing, A>,
+    changes: &mut Vec<Replaced, A>,
     target: Phase,
-) -> Result<Vec<Standing, A>, AllocError>
-    requires marks { length marks.now ≤ length rows.now }
-    requires rows { length rows.now ≤ length log.now.rows }
-    ensures { IfOk result
-        (λ tail. tail.items
-        ≡ lowered_rows (parents_of log.now.rows) target (phases_told rows.now) marks.now
-        (length rows.now - length marks.now) (length marks.now)) }
+    heads: &[u32],
+) -> Result<(), AllocError>
+    requires heads { All (λ head. head < length rows.old.items) heads.now }
+    requires rows { length rows.old.items ≤ length log.now.rows }
+    requires lawful { AreLawful (parents_of log.now.rows) (phases_told rows.old.items) }
+    requires standing { AreStanding (parents_of log.now.rows) rows.old.items }
+    ensures phases { OnOk result (phases_told rows.new.items
+        ≡ advanced (parents_of log.now.rows) target heads.now (phases_told rows.old.items)) }
+    ensures standing { OnOk result (AreStanding (parents_of log.now.rows) rows.new.items) }
+    ensures follows { Follows rows.old.items changes.old.items rows.new.items changes.new.items }
 {
-    let mut tail = Vec::with_capacity(alloc, marks.len())?;
-    for place in 0..marks.len() {
-        let row = rows.len() - marks.len() + place;
-        tail.push_reserved(lowered_row(log, rows, marks, target, row));
+    let _lawful = log.len();
+    let mut lowered = Vec::new(alloc);
+    lower_all(log, rows, changes, &mut lowered, target, heads)?;
+    restand_all(log, rows, changes, lowered.as_slice())?;
+    Ok(())
+}
+
+/// Makes of rows what an advance makes of them, and gives what was changed. Where memory is refused, the rows
+/// are unchanged.
+pub fn advance_rows<A: Allocator + Copy>(
+    alloc: A,
+    log: &Changelog<A>,
+    rows: &mut Vec<Standing, A>,
+    target: Phase,
+    heads: &[u32],
+) -> Result<Vec<Replaced, A>, AllocError>
+    requires heads { All (λ head. head < length rows.old.items) heads.now }
+    requires rows { length rows.old.items ≤ length log.now.rows }
+    requires lawful { AreLawful (parents_of log.now.rows) (phases_told rows.old.items) }
+    requires standing { AreStanding (parents_of log.now.rows) rows.old.items }
+    ensures phases { OnOk result (phases_told rows.new.items
+        ≡ advanced (parents_of log.now.rows) target heads.now (phases_told rows.old.items)) }
+    ensures standing { OnOk result (AreStanding (parents_of log.now.rows) rows.new.items) }
+    ensures changes { IfOk result (λ changes. Follows rows.old.items [] rows.new.items changes.items) }
+    ensures err { OnErr result (rows.new.items ≡ rows.old.items) }
+{
+    let mut changes = Vec::new(alloc);
+    match change_rows(alloc, log, rows, &mut changes, target, heads) {
+        Ok(()) => Ok(changes),
+        Err(refused) => {
+            undo(rows, changes);
+            Err(refused)
+        }
     }
-    Ok(tail)
 }

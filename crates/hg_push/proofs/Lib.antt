@@ -21,3 +21,8 @@ mod Turns
 mod LawfulRows
 pub mod CallerLemmas
 mod Beginning
+mod Places
+mod Closings
+mod Memory
+mod Resting
+mod Refused

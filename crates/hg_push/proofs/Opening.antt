@@ -29,7 +29,7 @@ fresh_parts opened p [] new all = refl
 fresh_parts opened p (x ∷ h) new all = let other = fresh_step opened p x new all.0 in
     rw other (fresh_parts opened p h new all.1)
 
-fresh_outcome : {A R D E : Type 0} (run : Running A R D E) (first : R) (opened : ℕ → Bool) (p : ℕ)
+pub fresh_outcome : {A R D E : Type 0} (run : Running A R D E) (first : R) (opened : ℕ → Bool) (p : ℕ)
     (h : History A) → opened p ≡ false → AllByRecursion (λ x. opened x.item.push ≡ true) h
     → outcome run first p h ≡ None
 fresh_outcome run first opened p [] new all = refl

@@ -84,7 +84,7 @@ outcome_stays : {A R D E : Type 0} (run : Running A R D E) (first : R) (p : ℕ)
     → outcome run first p (x ∷ before) ≡ outcome run first p before
 outcome_stays run first p x before closed = either_way (is_of p x) (λ t. rw (t, closed) refl) (λ f. rw f refl)
 
-outcome_later : {A R D E : Type 0} (run : Running A R D E) (first : R) (p : ℕ) (late h : History A)
+pub outcome_later : {A R D E : Type 0} (run : Running A R D E) (first : R) (p : ℕ) (late h : History A)
     → is_closed p h ≡ true → outcome run first p (late ++ h) ≡ outcome run first p h
 outcome_later run first p [] h closed = refl
 outcome_later run first p (x ∷ late) h closed =
@@ -104,7 +104,7 @@ answered run first p late before x closing =
 
 -- ---- the pushes that are done later lead on from the repository
 
-record LeadsOn {A R D E : Type 0} (run : Running A R D E) (of : ℕ → List (Part A)) (from : R) (old : List ℕ)
+pub record LeadsOn {A R D E : Type 0} (run : Running A R D E) (of : ℕ → List (Part A)) (from : R) (old : List ℕ)
     (new : Serial R) : Type 0 where
   pub more : List ℕ
   pub spelled : new.journal ≡ old ++ more
@@ -141,7 +141,7 @@ leads_step run from old x before s new closed leads (Ran here taken mark done ra
           (rw (end_parts x.item.push x before mark) ran));
     }
 
-leads_on : {A R D E : Type 0} (run : Running A R D E) (first : R) (late h : History A)
+pub leads_on : {A R D E : Type 0} (run : Running A R D E) (first : R) (late h : History A)
     → LeadsOn run (λ p. parts p (late ++ h)) (serial run first h).repo (serial run first h).journal
     (serial run first (late ++ h))
 leads_on run first [] h =

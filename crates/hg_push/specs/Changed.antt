@@ -4,7 +4,8 @@ use Rattle.std.specs.Prelude.{if◌then◌else◌}
 use Rattle.hg_types.specs.declared.part.Part.{Part}
 use Rattle.hg_push.specs.declared.outcome.Outcome.TheVariants.{Done, Aborted}
 use Rattle.hg_push.specs.declared.outcome.Outcome.{Outcome}
-use Rattle.hg_push.specs.History.{History, Running, is_of, is_closed}
+use Rattle.hg_types.specs.declared.item.Taken.{Taken}
+use Rattle.hg_push.specs.History.{History, IsClosing, Running, is_of, is_closed}
 
 -- without the items of p after the place that closed it
 abbrev pub trimmed : {A : Type 0} → ℕ → History A → History A
@@ -41,3 +42,11 @@ abbrev pub is_done : {D E : Type 0} → Option (Outcome D E) → Bool
 is_done None = false
 is_done (Some (Done done)) = true
 is_done (Some (Aborted reason)) = false
+
+-- One place of the history closed the push.
+pub record IsClosedAt {A : Type 0} (p : ℕ) (h : History A) : Type 0 where
+  pub late : History A
+  pub place : Taken A
+  pub before : History A
+  pub spelled : h ≡ late ++ place ∷ before
+  pub closing : IsClosing p place before

@@ -8,3 +8,4 @@ pub mod Calls
 pub mod Reply
 pub mod Lengths
 pub mod Complete
+pub mod Places

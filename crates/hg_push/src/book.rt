@@ -8,8 +8,10 @@ ghost use Rattle.hg_push.specs.Book.{Holds, IsSameOpenings, is_opened, stepped, 
 ghost use Rattle.hg_push.specs.Calls.{Follows, course_of_new};
 ghost use Rattle.hg_push.specs.Rows.{IsShut, reply_in, row_of, rows_without, standing_of};
 ghost use Rattle.hg_push.specs.Reply.{CanBeTold};
+ghost use Rattle.hg_push.specs.Places.{TellsPlace, TellsRests};
 ghost use Rattle.hg_push.specs.Run.{RepositoryOf, run_push};
 
+use crate::journal::last_place;
 use crate::outcome::{Outcome, Standing};
 use crate::row::{Row, State};
 use crate::step::{
@@ -198,6 +200,29 @@ impl<A: Allocator + Copy> Book<A> {
         let at = closed_place(self.rows.as_slice(), push)?;
         let row = self.rows.remove(at);
         Some(outcome_of(row))
+    }
+
+    /// The place of a push in the journal: how many pushes were done before it. `None` where it is not done.
+    /// The journal is searched from its end, so the search is as long as pushes were done since.
+    pub fn place(&self, push: u32) -> Option<usize>
+        ensures { (first : RepositoryOf A) (h : History A) → Holds run_push first h self.now →
+            TellsPlace run_push first h push result }
+    {
+        last_place(self.journal.as_slice(), push)
+    }
+
+    /// How many done pushes, the first of the journal, the answer to a push rests on: where it is done, those
+    /// up to it and with it; where it is aborted, all that are done now. `None` while it has no answer. Asked
+    /// before the push's reply is taken, it searches the journal as `place` does.
+    pub fn rests(&self, push: u32) -> Option<usize>
+        ensures { (first : RepositoryOf A) (h : History A) → Holds run_push first h self.now →
+            TellsRests run_push first h push result }
+    {
+        match self.standing(push) {
+            Standing::Unknown | Standing::Open => None,
+            Standing::Aborted => Some(self.journal.len()),
+            Standing::Done => Some(last_place(self.journal.as_slice(), push)? + 1),
+        }
     }
 
     /// The numbers of the done pushes, in the order in which they were done.

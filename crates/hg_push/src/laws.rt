@@ -3,7 +3,8 @@
 //! its places also says what these definitions do, so that none of them can be empty.
 
 ghost use Rattle.std.specs.Prelude.{◌≡◌, ◌≢◌, ◌<◌, ◌≤◌, ◌^◌, ◌++◌, ◌∷◌, ◌&&◌, ◌↔◌, [], ℕ, Bool, List, Some};
-ghost use Rattle.std.specs.Prelude.{IsSome, IsTrue, count_by, length, ◌==◌, true, false, if◌then◌else◌};
+ghost use Rattle.std.specs.Prelude.{Err, IsSome, IsTrue, count_by, length, ◌==◌, true, false};
+ghost use Rattle.std.specs.Prelude.{if◌then◌else◌};
 ghost use Rattle.std.specs.List.{AllByRecursion, range_with_len};
 ghost use mathlib.Core.List.{IsPrefix};
 ghost use Rattle.hg_types.specs.declared.item.CutReason.{CutReason};
@@ -11,9 +12,11 @@ ghost use Rattle.hg_types.specs.declared.item.Item.{Item};
 ghost use Rattle.hg_types.specs.declared.item.Taken.{Taken as TakenItem};
 ghost use Rattle.hg_types.specs.declared.item.What.{What};
 ghost use Rattle.hg_types.specs.declared.item.What.TheVariants.{End, Cut};
+ghost use Rattle.hg_types.specs.declared.part.Part.{Part as AnyPart};
 ghost use Rattle.hg_push.specs.History.{History, IsClosing, IsHistory, decided, is_closed, is_mark};
 ghost use Rattle.hg_push.specs.History.{may_refuse, outcome, parts, serial, told};
-ghost use Rattle.hg_push.specs.Changed.{OneByOne, RanInTurn, is_done, trimmed, without};
+ghost use Rattle.hg_push.specs.Changed.{IsClosedAt, OneByOne, RanInTurn, is_done, trimmed, without};
+ghost use Rattle.hg_push.specs.Places.{IsPlace, RestsOn};
 ghost use Rattle.hg_push.specs.World.{Event, World, all_parts, happens, has_opened, items_in, items_of};
 ghost use Rattle.hg_push.specs.World.{next_item, run_all, start};
 ghost use Rattle.hg_push.specs.Complete.{IsComplete, IsOrderly};
@@ -25,10 +28,11 @@ ghost use Rattle.hg_push.specs.Book.{Holds};
 ghost use Rattle.hg_push.specs.Lengths.{greatest_reply, most_parts};
 ghost use Rattle.hg_push.specs.Reply.{CanBeTold, reply_of};
 ghost use Rattle.hg_push.specs.Run.{RepositoryOf, run_push};
+ghost use Rattle.hg_push.specs.declared.outcome.Outcome.{Outcome as AnyOutcome};
 ghost use Rattle.hg_push.specs.declared.outcome.Reason.{Reason as AnyReason};
 
 use crate::book::Book;
-use crate::outcome::Outcome;
+use crate::outcome::{Outcome, Reason};
 use hg_repo::laws::{
     done_runs_handle_all, done_runs_leave_few_replies, every_repository_is_lawful,
     runs_keep_repositories_lawful,
@@ -107,6 +111,26 @@ pub fn answered_where_closed<A: Allocator>()
         ≡ told (decided run_push (serial run_push first before).repo (parts p before) x) }
 {}
 
+/// A closed push has a place that closed it, and one alone: what closes a push closes it for good, and what
+/// stands before that place has not closed it.
+pub fn closed_pushes_have_a_closing_place<A: Allocator>()
+    ensures closed { (p : ℕ) (h : History A) → is_closed p h ≡ true → IsClosedAt p h }
+    ensures closes { (p : ℕ) (late before : History A) (x : TakenItem A) → IsClosing p x before →
+        is_closed p (late ++ x ∷ before) ≡ true }
+    ensures alone { (p : ℕ) (late before other_late other_before : History A) (x y : TakenItem A) →
+        IsClosing p x before → IsClosing p y other_before →
+        late ++ x ∷ before ≡ other_late ++ y ∷ other_before → (x ≡ y) × (before ≡ other_before) }
+{}
+
+/// Want of memory is no part's refusal: no run gives it, and so no push is told that its run was refused for
+/// it. Where memory was refused, the push is told `Reason::NoMemory`, and the place that closed it says so.
+pub fn memory_refuses_no_part<A: Allocator>()
+    ensures runs { (repo : RepositoryOf A) (ran : List (AnyPart A)) →
+        run_push repo ran ≢ Err AnyRefusal.NoMemory }
+    ensures outcomes { (first : RepositoryOf A) (p : ℕ) (h : History A) →
+        outcome run_push first p h ≢ Some (Outcome.Aborted (Reason.Refused AnyRefusal.NoMemory)) }
+{}
+
 /// The reply to a push has fewer than 2^32 bytes, where the push has at most 10,000 parts. A push that is
 /// done left at most one reply for each of its parts, without a payload; that these can be written is what
 /// `Book::take_reply` says of an outcome that it hands out. The reply to an aborted push is one part without
@@ -143,6 +167,39 @@ pub fn done_pushes_ran_in_turn<A: Allocator>()
         outcome run_push first p h ≡ Some (Outcome.Done done) →
         RanInTurn run_push (λ q. parts q h) first (serial run_push first h).journal
         (serial run_push first h).repo p done }
+{}
+
+/// A push that is done has a place in the journal, it has one alone, and no other push has any. It ran on the
+/// repository that as many pushes give, those before that place.
+pub fn done_pushes_have_a_place<A: Allocator>()
+    ensures done { (first : RepositoryOf A) (h : History A) (p : ℕ) (done : Done A) →
+        outcome run_push first p h ≡ Some (Outcome.Done done) →
+        (place : ℕ) × IsPlace run_push first h p place }
+    ensures no_other { (first : RepositoryOf A) (h : History A) (p place : ℕ) →
+        IsPlace run_push first h p place → is_done (outcome run_push first p h) ≡ true }
+    ensures alone { (first : RepositoryOf A) (h : History A) (p place other : ℕ) →
+        IsPlace run_push first h p place → IsPlace run_push first h p other → place ≡ other }
+    ensures ran { (first : RepositoryOf A) (h : History A) (p place : ℕ) (done : Done A) →
+        IsPlace run_push first h p place → outcome run_push first p h ≡ Some (Outcome.Done done) →
+        (turn : RanInTurn run_push (λ q. parts q h) first (serial run_push first h).journal
+        (serial run_push first h).repo p done) × (length turn.front ≡ place) }
+{}
+
+/// Journals only grow: the journal of a history begins that of each which goes on from it. What a closed push
+/// had stays, and so do its answer and its place; and no answer rests on more pushes than are done.
+pub fn journals_grow<A: Allocator>()
+    ensures journal { (first : RepositoryOf A) (late before : History A) →
+        IsPrefix (serial run_push first before).journal (serial run_push first (late ++ before)).journal }
+    ensures parts { (p : ℕ) (late before : History A) → is_closed p before ≡ true →
+        parts p (late ++ before) ≡ parts p before }
+    ensures outcomes { (first : RepositoryOf A) (p : ℕ) (late before : History A) →
+        is_closed p before ≡ true →
+        outcome run_push first p (late ++ before) ≡ outcome run_push first p before }
+    ensures places { (first : RepositoryOf A) (late before : History A) (p place : ℕ) →
+        IsPlace run_push first before p place → IsPlace run_push first (late ++ before) p place }
+    ensures rests { (first : RepositoryOf A) (h : History A) (p : ℕ)
+        (how : AnyOutcome (Done A) (AnyRefusal A)) (rests : ℕ) → RestsOn run_push first h p how rests →
+        rests ≤ length (serial run_push first h).journal }
 {}
 
 /// The repository that the done pushes of a book's history gave is lawful: ids agree with their hash, no

@@ -9,21 +9,30 @@
 //! `hg_command`.
 #![tactic(auto)]
 
+mod door;
+mod report;
 mod serve;
 
+use crate::door::Listening;
+use crate::report::Report;
 use crate::serve::serve_on;
 use hg_command::{Job, Serving, asked_for, tell, words};
 use hg_replay::{run_one, run_replay};
+use hg_server::Terms;
 use std::fs::{File, Files};
 use std::hash::RandomState;
 use std::io;
 use std::io::Input;
 use std::net::{Net, TcpListener, TcpStream};
+use std::os::fd::AsRawFd;
 use std::process::ExitCode;
 use std::random::RandomSource;
 use std::sync::Wait;
 use std::thread::Threads;
 use std::time::Clock;
+
+/// How many standard descriptors there are.
+const STANDARD: i32 = 3;
 
 /// The files of these names, opened in their order. Of one that does not open the status is told.
 fn open_all<R: Files<File = File> + AllocGlobal>(rt: &R, names: &[&str]) -> Result<Vec<File>, u8> {
@@ -71,8 +80,23 @@ fn replay_files<R: Files<File = File> + AllocGlobal + Print>(
     }
 }
 
-/// Opens the seed, binds, and creates the report, in this order; then serves. Where the system is to pick the
-/// port, the address is told on standard output. What fails before is the error.
+/// Takes the standard descriptors that are closed. A file of the program's would have their number, and get
+/// what is written to standard output or standard error. A folder takes nothing.
+fn take_closed<R: Files<File = File> + AllocGlobal>(rt: &R) -> io::Result<Vec<File>> {
+    let mut taken = Vec::new(rt.alloc());
+    for _ in 0..STANDARD {
+        let folder = File::open(rt, "/")?;
+        if folder.as_raw_fd() >= STANDARD {
+            break;
+        }
+        taken.push(folder)?;
+    }
+    Ok(taken)
+}
+
+/// Opens the seed, binds, and makes the file of the report, in this order; then serves. Where the system is
+/// to pick the port, the address is told on standard output before the first accept. What fails before the
+/// seed is run is the error, and so is a whole report that cannot be put in its place.
 fn serve_files<R>(rt: &R, state: RandomState, serving: &Serving<'_>) -> io::Result<u8>
 where
     R: Files<File = File>
@@ -84,28 +108,31 @@ where
         + Clock
         + Sync,
 {
+    let _taken = take_closed(rt)?;
     let mut seed = match serving.seed {
         Some(path) => Some(File::open(rt, path)?),
         None => None,
     };
     let listener = TcpListener::bind(rt, serving.listen)?;
-    let mut report = File::create(rt, serving.report)?;
-    if serving.asks_for_a_port() {
-        let bound = listener.local_addr()?;
-        println!(rt; "listening on {bound}")?;
-    }
-    Ok(serve_on(
+    let mut report = Report::create(rt, serving.report)?;
+    let terms = Terms {
+        connections: serving.connections,
+        capacity: serving.capacity,
+        bundles: serving.bundles,
+    };
+    let door = Listening::new(rt, listener, terms.connections, serving.asks_for_a_port());
+    let (status, _door) = serve_on(
         rt,
         rt.alloc(),
         state,
-        listener,
-        serving.connections,
-        serving.capacity,
-        serving.bundles,
+        door,
+        terms,
         serving.publishing,
         seed.as_mut(),
         &mut report,
-    ))
+    );
+    report.keep(rt, serving.report)?;
+    Ok(status)
 }
 
 /// Does what these words ask for, and gives the status. A system that gives no random bytes is a device that

@@ -1,6 +1,6 @@
 //! A repository served to connections.
 
-ghost use Rattle.std.specs.Prelude.{◌≡◌, IfOk, None};
+ghost use Rattle.std.specs.Prelude.{◌≡◌, IfOk};
 ghost use Rattle.std.specs.Option.{option_map};
 ghost use Rattle.hg_types.specs.Limits.{IsAllowed};
 ghost use Rattle.hg_pushd.specs.Serving.{Begins, Serves, fault_status};
@@ -11,44 +11,17 @@ use hg_repo::Repo;
 use hg_server::{Door, Terms, serve_repository};
 use std::alloc::Global;
 use std::hash::RandomState;
-use std::net::TcpListener;
 use std::sync::Wait;
 use std::thread::Threads;
 use std::time::Clock;
 
-/// Runs the seed, if there is one, on the empty repository, serves so many connections of up to `most`
-/// bundles each over a queue of that capacity, and writes the report and the journal.
+/// Runs the seed, if there is one, on the empty repository, serves connections of that door on these terms,
+/// and writes the report and the journal. The door comes back.
 ///
 /// The status is 0 where all were served and the report was written, 1 where the seed was aborted or is no
 /// whole bundle, 3 where a device failed, and 4 where memory was refused; of several, 3 before 4 before 1.
 /// Behind a seed that failed nothing is accepted and no report is written.
-pub fn serve_on<R: Threads + Wait + Clock + Sync, S: Reader, W: Writer>(
-    rt: &R,
-    alloc: Global,
-    state: RandomState,
-    listener: TcpListener,
-    connections: u32,
-    capacity: u32,
-    most: u32,
-    publishing: bool,
-    seed: Option<&mut S>,
-    report: &mut W,
-) -> u8
-    ensures { Serves Global publishing (option_map (λ s. S.told s.now) seed.entry)
-        (record { connections = connections; capacity = capacity; bundles = most }) None None
-        (W.told report.old) (W.told report.new) result }
-{
-    let terms = Terms {
-        connections,
-        capacity,
-        bundles: most,
-    };
-    let (status, _) = serve_from(rt, alloc, state, &listener, terms, publishing, seed, report);
-    status
-}
-
-/// The same, with the connections of any door, which comes back.
-pub fn serve_from<R: Threads + Wait + Clock + Sync, D: Door + Drop, S: Reader, W: Writer>(
+pub fn serve_on<R: Threads + Wait + Clock + Sync, D: Door + Drop, S: Reader, W: Writer>(
     rt: &R,
     alloc: Global,
     state: RandomState,

@@ -3,6 +3,7 @@ mod Runs
 mod Replies
 mod FewReplies
 mod LawfulRuns
+mod RefusedRuns
 mod PreparedRuns
 mod SameItems
 mod Reading

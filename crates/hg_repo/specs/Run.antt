@@ -1,6 +1,6 @@
 -- Running the parts of a push.
 use Rattle.std.specs.Prelude.{ℕ, ◌≡◌, Bool, false, ◌||◌, ◌+◌, ◌⊎◌, List, [], ◌∷◌, ◌++◌, length, Option, Some}
-use Rattle.std.specs.Prelude.{None, Result, Ok, Err, MatchResult}
+use Rattle.std.specs.Prelude.{None, Result, Ok, Err, MatchResult, slice_get}
 use Rattle.std.specs.List.{range_with_len, AllByRecursion}
 use Rattle.hg_types.specs.Bytes.{IsBytes}
 use Rattle.hg_types.specs.declared.part.Part.{Part}
@@ -12,6 +12,7 @@ use Rattle.hg_parts.specs.Repository.{Repository}
 use Rattle.hg_parts.specs.Handled.{Handled}
 use Rattle.hg_parts.specs.PartTypes.{support_of, is_reply_caps}
 use Rattle.hg_parts.specs.Handle.{handle}
+use Rattle.hg_parts.specs.Refusing.{CanBeRefused}
 
 -- How far a run has come: the repository so far, whether parts leave replies, and the replies so far.
 pub record Progress (A : Type 0) : Type 0 where
@@ -62,6 +63,11 @@ run_of source repo parts = done_by (length parts) (run_from source 0 (start repo
 -- the payload of each part is bytes, as it is of each part that code has
 abbrev pub HaveBytes : {A : Type 0} → List (Part A) → Type 0
 HaveBytes parts = AllByRecursion (λ part. IsBytes part.payload) parts
+
+-- the refusal is that of one of the parts, at its place, and a part of its support can be refused so
+abbrev pub IsRefusedIn : {A : Type 0} → List (Part A) → Refusal A → Type 0
+IsRefusedIn {A} parts refusal = (place : ℕ) × (part : Part A) × (slice_get parts place ≡ Some part)
+    × CanBeRefused place (support_of part) refusal
 
 -- What a run of code may answer and leave: what the definition says, or that memory was refused, and then
 -- nothing changed.

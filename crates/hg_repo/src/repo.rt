@@ -10,6 +10,7 @@ ghost use Rattle.hg_phases.specs.Order.{phase_at};
 ghost use Rattle.hg_types.specs.declared.part.Part.{Part as AnyPart};
 ghost use Rattle.hg_parts.specs.Prepared.{AreMadeOf};
 ghost use Rattle.hg_parts.specs.Repository.{empty_with, IsLawful};
+ghost use Rattle.hg_parts.specs.Store.{repository_of, IsSound};
 ghost use Rattle.hg_repo.specs.Reading.{can_be_obsolete, is_obsolete, is_predecessor, IsSame};
 ghost use Rattle.hg_repo.specs.Report.{report_of};
 ghost use Rattle.hg_repo.specs.Run.{run_of, RunGives};
@@ -55,6 +56,14 @@ impl<A: Allocator> Repo<A> {
         ensures { result.now ≡ self.now.settings }
     {
         &self.settings
+    }
+
+    /// What it holds: its changesets, the phase of each, its markers and its bookmarks.
+    pub fn store(&self) -> &Store<A>
+        ensures value { repository_of self.now.settings result.now ≡ self.now }
+        ensures sound { IsSound self.now.settings result.now }
+    {
+        &self.store
     }
 
     /// It changes nothing: every repository is lawful.
@@ -194,6 +203,7 @@ impl<A: Allocator + Copy> Repo<A> {
             RunGives (run_of source) self.old parts result self.new }
         ensures err { OnErr result (self.new ≡ self.old) }
         ensures replies { IfOk result (λ done. AreReplies (length prepared.items) done.replies) }
+        ensures settings { self.new.settings ≡ self.old.settings }
     {
         let before = self.store.mark();
         match run_prepared(

@@ -1,5 +1,6 @@
 -- How records run one behind the other.
 use Rattle.std.proofs.Common.{◌≡◌, ℕ, List, [], ◌∷◌, ◌++◌, Ok, Result, refl, sym, ap, ◌∙◌, subst, take, get_or, length, ◌+◌, ◌<◌}
+use Rattle.std.proofs.Common.{◌≢◌, ◌⊎◌, inl, inr, Err}
 use Rattle.std.proofs.lemmas.Grind.{take_at_read}
 use Rattle.std.proofs.Common.{zero, suc, ◌≤◌, arith}
 use Rattle.std.specs.List.{AllByRecursion}
@@ -13,7 +14,12 @@ use Rattle.hg_types.specs.declared.part.Part.{Part}
 use Rattle.hg_stream.specs.Laws.{AreReadInOneWay}
 use Rattle.hg_push.specs.Changed.{OneByOne}
 use Rattle.hg_push.specs.Run.{RepositoryOf, run_push}
-use Rattle.hg_restore.specs.Replays.{ReplaysOne, Replays, AreBundlesOf}
+use Rattle.hg_parts.specs.declared.refusal.Refusal.{Refusal}
+use Rattle.hg_parts.specs.declared.refusal.Refusal.TheVariants.{NoMemory as no_memory}
+use Rattle.hg_stream.specs.Frames.{IsBundle}
+use Rattle.hg_restore.specs.declared.restore.RestoreFault.{RestoreFault}
+use Rattle.hg_restore.specs.declared.restore.RestoreFault.TheVariants.{NoBundle, Refused, NoMemory}
+use Rattle.hg_restore.specs.Replays.{ReplaysOne, Replays, AreBundlesOf, IsUnrun}
 
 -- an `Ok` of two holds one first
 first_of : {X Y E : Type 0} (x u : X) (y v : Y) (answer : Result (X × Y) E) → answer ≡ Ok (x, y)
@@ -21,6 +27,10 @@ first_of : {X Y E : Type 0} (x u : X) (y v : Y) (answer : Result (X × Y) E) →
 first_of {X} {Y} x u y v answer p q =
     let both : (x, y) ≡ (u, v) = cc in
     ap (λ (two : X × Y). two.0) both
+
+-- an `Ok` is no `Err`
+ok_no_err : {X E : Type 0} (x : X) (e : E) → Ok x ≡ Err e → ⊥
+ok_no_err x e same = cc
 
 module _ {A : Type 0} (limits : Limits) where
   one_step : AreReadInOneWay A limits → (first a b : RepositoryOf A) (bytes : List ℕ)
@@ -119,3 +129,46 @@ recovery_lem read limits of first last journal head records n allowed of_head ra
       serial = rest.1;
       ran = journal_lem limits of first rest.0 (take front.count journal) (take front.count records) rest.1 rest.2;
     }
+
+-- why a push that is refused is told so
+pub unrun_lem : {A : Type 0} (limits : Limits) (repo : RepositoryOf A) (bytes : List ℕ) (parts : List (Part A))
+    (refusal : Refusal A) → IsBundle limits bytes parts
+    → (refusal ≡ no_memory) ⊎ (run_push repo parts ≡ Err refusal) → run_push repo parts ≢ Err no_memory
+    → (place : ℕ) (told : RestoreFault) → (refusal ≡ no_memory → told ≡ NoMemory)
+    → (refusal ≢ no_memory → told ≡ Refused place) → IsUnrun told place limits repo bytes
+unrun_lem limits repo bytes parts refusal bundle why never place told memory other =
+    elim why [
+      | inl is ↦ rw (memory is) tt
+      | inr ran ↦ rw (other (λ is. never (ran ∙ ap Err is))) (
+        refl,
+        record { parts = parts; bundle = bundle; refusal = refusal; ran = ran },
+      )
+    ]
+
+module _ {A : Type 0} (limits : Limits) (way : AreReadInOneWay A limits) where
+  -- a record that runs is no damage on the repository that it runs on
+  runs_here : (first next : RepositoryOf A) (bytes : List ℕ) (fault : RestoreFault) (place : ℕ)
+      → ReplaysOne limits first bytes next → IsUnrun fault place limits first bytes → fault ≡ NoMemory
+  runs_here first next bytes (NoBundle at) place one unrun = absurd (unrun.1 one.parts one.bundle)
+  runs_here first next bytes (Refused at) place one unrun =
+      let refused = unrun.1 in
+      let same = way bytes bytes [] [] one.parts refused.parts one.bundle.0 refused.bundle.0 refl in
+      let parts : one.parts ≡ refused.parts = same.1 in
+      let ran : run_push first one.parts ≡ run_push first refused.parts = ap (run_push first) parts in
+      let no = sym one.ran ∙ (ran ∙ refused.ran) in
+      absurd (ok_no_err _ _ no)
+  runs_here first next bytes NoMemory place one unrun = refl
+
+  pub undamaged_lem : (first last mid : RepositoryOf A) (records : List (List ℕ)) (fault : RestoreFault)
+      (place told : ℕ) (bytes : List ℕ) → place < length records → bytes ≡ get_or records place bytes
+      → Replays limits first (take place records) mid → IsUnrun fault told limits mid bytes
+      → Replays limits first records last → fault ≡ NoMemory
+  undamaged_lem first last mid [] fault place told bytes low is before unrun all = absurd (omega (arith, low))
+  undamaged_lem first last mid (record' ∷ others) fault zero told bytes low is before unrun all =
+      let here = subst (λ (r : RepositoryOf A). IsUnrun fault told limits r bytes) (sym before) unrun in
+      let one = subst (λ (b : List ℕ). ReplaysOne limits first b all.0) (sym is) all.1 in
+      runs_here first all.0 bytes fault told one here
+  undamaged_lem first last mid (record' ∷ others) fault (suc k) told bytes low is before unrun all =
+      let same : before.0 ≡ all.0 = one_step limits way first before.0 all.0 record' before.1 all.1 in
+      undamaged_lem all.0 last mid others fault k told bytes (omega (arith, low)) is
+      (subst (λ (r : RepositoryOf A). Replays limits r (take k others) mid) same before.2) unrun all.2

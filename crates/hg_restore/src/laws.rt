@@ -7,10 +7,12 @@ ghost use Rattle.hg_push.specs.Run.{RepositoryOf};
 ghost use Rattle.hg_push.specs.Changed.{OneByOne};
 ghost use Rattle.hg_push.specs.Run.{run_push};
 ghost use Rattle.hg_restore.specs.Recovery.{FrontRuns};
-ghost use Rattle.hg_restore.specs.Replays.{AreBundlesOf, Replays};
+ghost use Rattle.hg_restore.specs.Replays.{AreBundlesOf, Replays, StopsAt};
+ghost use Rattle.hg_restore.specs.declared.restore.RestoreFault.{RestoreFault as AnyFault};
 ghost use Rattle.hg_store.specs.declared.head.Head.{Head};
 ghost use Rattle.hg_types.specs.Limits.{IsAllowed};
 
+use crate::restore::RestoreFault;
 use hg_store::laws::a_front_is_read;
 use hg_stream::laws::bundles_are_read_in_one_way;
 use std::alloc::Allocator;
@@ -33,6 +35,15 @@ pub fn a_front_of_records_runs<A: Allocator>()
         Replays limits first front mid → Replays limits mid back last →
         Replays limits first (front ++ back) last }
 {}
+
+/// Records that run are told as damaged by nothing: where they do not run to their end, memory was refused.
+pub fn records_that_run_are_not_damaged<A: Allocator>()
+    ensures { (limits : AnyLimits) (first last mid : RepositoryOf A) (records : List (List ℕ))
+        (fault : AnyFault) → Replays limits first records last →
+        StopsAt limits first records fault mid → fault ≡ RestoreFault.NoMemory }
+{
+    bundles_are_read_in_one_way::<A>();
+}
 
 /// Where the records are the bundles of the pushes of a journal, in its order, running them is running the
 /// journal: they lead to the repository of the serial run.

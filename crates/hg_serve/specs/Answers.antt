@@ -1,4 +1,4 @@
--- What an answer promises.
+-- What an answer promises, and what a look at the repository promises.
 use Rattle.std.specs.Prelude.{◌≡◌, ℕ, ◌≤◌, ◌<◌, List, length, Some}
 use Rattle.std.specs.List.{range_with_len}
 use mathlib.Core.List.{IsPrefix}
@@ -15,7 +15,7 @@ use Rattle.hg_push.specs.History.{IsHistory, parts}
 use Rattle.hg_push.specs.Reply.{CanBeTold}
 use Rattle.hg_push.specs.Run.{RepositoryOf}
 use Rattle.hg_push.specs.World.{all_parts}
-use Rattle.hg_serve.specs.Histories.{newest_first, ending, ClosesLast}
+use Rattle.hg_serve.specs.Histories.{newest_first, ending, serial_run, ClosesLast}
 
 -- A push that put these items was answered so, at a history which goes on from the one that its client had
 -- seen.
@@ -40,3 +40,11 @@ pub record Answers {A : Type 0} (capacity : ℕ) (first : RepositoryOf A) (push 
   -- no more was taken for it than the queue holds, and nothing past the place that closed it
   pub bound : takes ≤ capacity
   pub last : 0 < takes → ClosesLast first push after
+
+-- A client that had seen one history has seen another one now, which goes on from it, and was told of this
+-- repository: the one that the done pushes of that history give, run one by one.
+pub record Looks {A : Type 0} (first : RepositoryOf A) (before after : List (Taken A))
+    (repo : RepositoryOf A) : Type 0 where
+  pub earlier : IsPrefix before after
+  pub legal : IsHistory (newest_first after)
+  pub ran : (serial_run first after).repo ≡ repo

@@ -14,13 +14,17 @@ ghost use Rattle.hg_queue.specs.Words.{IsPutterIn, IsMarkedIn, IsVisitorIn};
 ghost use Rattle.hg_push.specs.Reply.{CanBeTold};
 ghost use Rattle.hg_push.specs.History.{IsHistory};
 ghost use Rattle.hg_serve.specs.Histories.{newest_first, ending, serial_run, ClosesLast};
-ghost use Rattle.hg_serve.specs.Answers.{Answers};
+ghost use Rattle.hg_push.specs.Run.{RepositoryOf};
+ghost use Rattle.hg_serve.specs.Answers.{Answers, Looks};
 ghost use Rattle.hg_serve.specs.Desks.{IsQueueIn, IsSameBut, IsKnown, Awaits, HasNoRoom, HasNoNumber};
 ghost use Rattle.hg_serve.specs.Desks.{next_of, keeping, seating};
+
+mod meeting;
 
 use crate::client::{Client, Ended};
 use crate::gate::{Gate, Point};
 use crate::naming::Naming;
+use crate::question::Question;
 use hg_push::laws::{closed_pushes_have_ended, done_had_all_of_its_list};
 use hg_push::{Book, OpenFault, Outcome, Standing};
 use hg_queue::{Marked, PartQueue, Putter, Taker, Visitor};
@@ -274,8 +278,9 @@ impl<J: Naming<A>, A: Allocator + Copy> Desk<J, A> {
         gate: &mut G,
     ) -> (Answer<A>, Client<J, A>)
         requires queue { IsQueueIn J.table J.capacity queue.now × (J.capacity ≤ 65536) }
-        ensures { Answers J.capacity J.first ended.push ended.put ended.history
+        ensures answers { Answers J.capacity J.first ended.push ended.put ended.history
             result.0.outcome result.0.takes result.1 }
+        ensures shown { self.new.history ≡ result.1 }
     {
         let Ended {
             marked,
@@ -290,6 +295,35 @@ impl<J: Naming<A>, A: Allocator + Copy> Desk<J, A> {
         let outcome = self.reply(push);
         self.show(queue, &mut visitor);
         (Answer { outcome, takes }, Client { visitor, of })
+    }
+
+    /// Asks the question of the repository as it is. Its visitor has then seen the whole history, which goes
+    /// on from what it had seen. Nothing is taken.
+    pub(crate) fn look<T, Q: Question<A, T>>(
+        &mut self,
+        queue: &PartQueue<A>,
+        visitor: &mut Visitor<A>,
+        question: &Q,
+    ) -> T
+        requires queue { IsQueueIn J.table J.capacity queue.now }
+        requires visitor { IsVisitorIn J.table visitor.old }
+        ensures same { self.new.history ≡ self.old.history }
+        ensures visitor { IsVisitorIn J.table visitor.new × (seen visitor.new ≡ self.old.history) }
+        ensures looked { (repo : RepositoryOf A) × Looks J.first (seen visitor.old) (seen visitor.new) repo
+            × Q.tells question.now repo result }
+    {
+        self.meet(queue, visitor);
+        let answer = self.ask(question);
+        self.show(queue, visitor);
+        answer
+    }
+
+    /// Asks the question of the book's repository.
+    fn ask<T, Q: Question<A, T>>(&self, question: &Q) -> T
+        ensures legal { IsHistory (newest_first self.now.history) }
+        ensures told { Q.tells question.now (serial_run J.first self.now.history).repo result }
+    {
+        question.ask(self.book.repo())
     }
 
     /// The taker hears what the visitor has seen: a beginning of the history.

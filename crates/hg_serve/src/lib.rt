@@ -4,17 +4,19 @@
 //! [`Sender`] while its push is open, and an [`Ended`] once its mark was put. Parts are put without the lock.
 //! What was put is taken under it, by whoever waits for an answer or finds the queue full. Under the lock
 //! stands a [`Desk`]: the book, and the taker whose history the book holds. No part is read, no reply is
-//! written and nothing is put while the lock is held.
+//! written and nothing is put while the lock is held. A [`Question`] is asked of the repository under it.
 #![tactic(auto)]
 
 mod client;
 mod desk;
 mod gate;
 mod naming;
+mod question;
 mod server;
 
 pub use client::{Client, Ended, Sender};
 pub use desk::{Answer, Closed, Desk};
 pub use gate::{Gate, NoGate, Point};
 pub use naming::Naming;
+pub use question::Question;
 pub use server::{PutFault, Server};

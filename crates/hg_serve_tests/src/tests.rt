@@ -11,6 +11,7 @@ mod locked;
 mod meanwhile;
 mod memory;
 mod order;
+mod race;
 mod threads;
 
 use hg_push::{OpenFault, Outcome, Reason};
@@ -132,6 +133,7 @@ fn is_race<A: Allocator>(answer: &Answer<A>, at: u32) -> bool {
 #[derive(Clone, Copy)]
 enum Scene {
     Alternating,
+    Roots,
     Dropped,
     Limits,
     MostParts,
@@ -159,6 +161,7 @@ fn play<J: Naming<Global> + Send + Sync, R: Threads + Wait + Abort + Sync>(
     let server = Server::<J>::new(alloc, repo, queue, taker);
     let clients = match scene {
         Scene::Alternating => order::alternating(rt, alloc, &server),
+        Scene::Roots => race::roots(rt, alloc, &server),
         Scene::Dropped => order::dropped(rt, alloc, &server),
         Scene::Limits => limits::refused(rt, alloc, &server),
         Scene::MostParts => limits::most_parts(rt, alloc, &server),

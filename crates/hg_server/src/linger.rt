@@ -36,7 +36,7 @@ pub fn linger<R: Clock>(rt: &R, stream: &TcpStream) {
 }
 
 /// Reads and drops, up to the end of the input, or to a read that fails.
-fn drop_rest<R: Clock, I: Reader>(rt: &R, start: Instant, reader: &mut I) {
+pub(crate) fn drop_rest<R: Clock, I: Reader>(rt: &R, start: Instant, reader: &mut I) {
     let mut waste = [0u8; PIECE];
     let mut left = LINGER_BYTES as usize;
     for _turn in 0..LINGER_BYTES {
@@ -44,14 +44,19 @@ fn drop_rest<R: Clock, I: Reader>(rt: &R, start: Instant, reader: &mut I) {
         match reader.read(&mut waste[..room]) {
             Ok(0) => return,
             Ok(count) => left -= count,
-            // nothing came for so long
-            Err(error) if error.kind() == ErrorKind::WouldBlock => {}
+            // nothing came for so long, or a signal came
+            Err(error) if is_passing(error.kind()) => {}
             Err(_) => return,
         }
         if left == 0 || is_over(rt, start) {
             return;
         }
     }
+}
+
+/// Whether the read may be made again.
+fn is_passing(kind: ErrorKind) -> bool {
+    matches!(kind, ErrorKind::WouldBlock | ErrorKind::Interrupted)
 }
 
 /// Whether the time is over. A clock that fails says so too.

@@ -20,8 +20,11 @@ use std::marker::Brand;
 use std::net::TcpStream;
 use std::sync::Wait;
 use std::thread;
-use std::thread::{Scope, Threads};
+use std::thread::{Builder, Scope, Threads};
 use std::time::Clock;
+
+/// How many bytes the stack of a connection's thread has.
+const STACK: usize = 524_288;
 
 /// Starts a thread that serves the connection. The door hears whether it was started.
 fn start<'s, E, J: Naming<Global> + Send + Sync, R: Threads + Wait + Clock + Sync, D: Door>(
@@ -34,8 +37,9 @@ fn start<'s, E, J: Naming<Global> + Send + Sync, R: Threads + Wait + Clock + Syn
 ) -> bool
     ensures { Adds (D.told door.old) (D.told door.new) (Started service.now result ∷ []) }
 {
-    let started = scope
-        .spawn(move || service.connect(rt, alloc, stream))
+    let started = Builder::new()
+        .stack_size(STACK)
+        .spawn_scoped(scope, move || service.connect(rt, alloc, stream))
         .is_ok();
     door.hear_start(service.terms(), started);
     started

@@ -6,6 +6,7 @@
 ghost use Rattle.hg_types.specs.Limits.{IsAllowed};
 
 mod beside;
+mod lingering;
 mod memory;
 mod telling;
 

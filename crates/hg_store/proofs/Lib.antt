@@ -7,3 +7,7 @@ mod Stepping
 mod Moments
 mod Crash
 mod Repair
+mod Walks
+mod FileSteps
+mod Opens
+mod Cutting

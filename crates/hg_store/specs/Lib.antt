@@ -3,3 +3,7 @@ pub mod Records
 pub mod Files
 pub mod Device
 pub mod Log
+pub mod Calls
+pub mod History
+pub mod FileLaws
+pub mod Cuts

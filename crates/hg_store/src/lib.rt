@@ -32,17 +32,31 @@
 //! record.
 #![tactic(auto)]
 
+mod calls;
 mod device;
+mod file;
+mod folder;
 mod head;
+mod history;
+mod host;
 pub mod laws;
 mod log;
 mod opening;
+mod place;
 mod read;
 mod record;
+mod start;
 
+pub use calls::Calls;
 pub use device::{Device, DeviceError};
+pub use file::StoreFile;
+pub use folder::{create_store, cut_store, open_store, read_store};
 pub use head::{HEAD_SIZE, Head, HeadFault};
+pub use history::{Call, History};
+pub use host::HostFile;
 pub use log::Log;
 pub use opening::{RecoverFault, recover};
+pub use place::{NewFile, create_file, cut_file, put_whole};
 pub use read::{Found, ReadFault, read_records};
 pub use record::{NoRecord, next_record, put_record};
+pub use start::{Opened, StoreFault, open_file};

@@ -26,7 +26,7 @@ pub struct Log<D: Device> {
 }
 
 /// The records of a batch as they stand in a file, behind one with that digest, and the digest of the last.
-fn batch_bytes<A: Allocator + Copy>(
+pub(crate) fn batch_bytes<A: Allocator + Copy>(
     alloc: A,
     before: &[u8; 20],
     batch: &[Seq<u8, A>],

@@ -1,110 +1,30 @@
-//! A log on a device that fails at each of its calls in turn, and what a crash leaves there: writes that
+//! A store on a file that fails at each of its calls in turn, and what a crash leaves there: writes that
 //! are lost, made in part, or torn.
 
+use crate::paper::{Paper, outcomes};
 use hg_store::*;
-use hg_types::{Limits, Seq};
+use hg_types::{Limits, NoMemory, Seq};
+use linked_list_allocator::LocalHeap;
 use std::alloc::{Allocator, Global};
 use std::test::*;
 
-/// A file in memory that knows what was synced, and the write behind that. It fails when its calls are used
-/// up.
-#[derive(Drop)]
-struct Disk {
-    alloc: Global,
-    bytes: Vec<u8>,
-    synced: Vec<u8>,
-    /// Where the write that is not synced begins, and its bytes.
-    at: usize,
-    write: Vec<u8>,
-    calls: usize,
-}
-
-impl Disk {
-    fn new(alloc: Global, file: &[u8], calls: usize) -> Result<Disk, Fail> {
-        Ok(Disk {
-            alloc,
-            bytes: file.to_vec(alloc)?,
-            synced: file.to_vec(alloc)?,
-            at: 0,
-            write: Vec::new(alloc),
-            calls,
-        })
-    }
-
-    fn call(&mut self) -> Result<(), DeviceError> {
-        if self.calls == 0 {
-            return Err(DeviceError::Failed);
-        }
-        self.calls -= 1;
-        Ok(())
-    }
-}
-
-impl Device for Disk {
-    ghost use Rattle.std.specs.Prelude.{◌≡◌};
-
-    ghost seen = { λ m. m.bytes.items };
-
-    ghost may_leave = { λ m c. c ≡ m.bytes.items };
-
-    ghost moment = { λ m. 0 };
-
-    ghost left_since = { λ m t c. c ≡ m.bytes.items };
-
-    ghost faults = { λ m. 0 };
-
-    ghost counts_now = { λ m t c le now. now };
-
-    ghost only_now = { λ m c left. left };
-
-    fn read<A: Allocator + Copy>(&mut self, alloc: A) -> Result<Vec<u8, A>, DeviceError> {
-        self.call()?;
-        Ok(self.bytes.to_vec(alloc)?)
-    }
-
-    fn write_at(&mut self, at: usize, bytes: &[u8]) -> Result<(), DeviceError> {
-        self.at = at;
-        self.write = bytes.to_vec(self.alloc)?;
-        self.call()?;
-        self.bytes = overwritten(self.alloc, &self.bytes, at, bytes)?;
-        Ok(())
-    }
-
-    fn cut(&mut self, len: usize) -> Result<(), DeviceError> {
-        self.call()?;
-        self.bytes = self.bytes[..len].to_vec(self.alloc)?;
-        Ok(())
-    }
-
-    fn sync(&mut self) -> Result<(), DeviceError> {
-        self.call()?;
-        self.synced = self.bytes.to_vec(self.alloc)?;
-        self.write = Vec::new(self.alloc);
-        Ok(())
-    }
-}
-
-/// The bytes with others over them from a place on.
-fn overwritten(alloc: Global, old: &[u8], at: usize, bytes: &[u8]) -> Result<Vec<u8>, DeviceError> {
-    let mut new = old[..at].to_vec(alloc)?;
-    new.extend_from_slice(bytes)?;
-    let end = at.saturating_add(bytes.len());
-    if end < old.len() {
-        new.extend_from_slice(&old[end..])?;
-    }
-    Ok(new)
-}
+/// Calls of which none fails.
+const NO_LIMIT: usize = 1000;
 
 const RECORDS: [&[u8]; 4] = [b"first", b"", b"second", b"the third one"];
 
-/// A store of the first so many records, with a shut gate.
-fn store_of(alloc: Global, count: usize) -> Result<Vec<u8>, Fail> {
-    let head = Head {
+/// How the server is set up in these tests.
+fn standard() -> Head {
+    Head {
         publishing: true,
         limits: Limits::standard(),
-    };
+    }
+}
+
+/// A store of the first so many records, with a shut gate.
+fn store_of(alloc: Global, count: usize) -> Result<Vec<u8>, Fail> {
     let mut file = Vec::new(alloc);
-    head.put(&mut file)?;
+    standard().put(&mut file)?;
     let mut digest = read_records(alloc, &file)?.digest;
     for record in &RECORDS[..count] {
         digest = put_record(&mut file, &digest, record)?;
@@ -113,72 +33,106 @@ fn store_of(alloc: Global, count: usize) -> Result<Vec<u8>, Fail> {
     Ok(file)
 }
 
-/// Each file that a crash may leave: what was synced, with the write behind it lost, made in part with
-/// anything in its range, or made.
-fn outcomes(alloc: Global, disk: &Disk) -> Result<Vec<Vec<u8>>, Fail> {
-    let mut files = Vec::new(alloc);
-    files.push(disk.synced.to_vec(alloc)?)?;
-    if disk.write.is_empty() {
-        return Ok(files);
+/// The records from one place on, up to another.
+fn records<A: Allocator + Copy>(
+    alloc: A,
+    from: usize,
+    to: usize,
+) -> Result<Vec<Seq<u8, A>, A>, Fail> {
+    let mut batch = Vec::new(alloc);
+    for record in &RECORDS[from..to] {
+        batch.push(Seq::copy_of(alloc, record)?)?;
     }
-    files.push(overwritten(alloc, &disk.synced, disk.at, &disk.write)?)?;
-    if disk.write.len() == 1 {
-        return Ok(files);
-    }
-    for cut in 0..disk.write.len() {
-        for filling in [0u8, 1, 255] {
-            let mut torn = disk.write[..cut].to_vec(alloc)?;
-            while torn.len() < disk.write.len() {
-                torn.push(filling)?;
-            }
-            files.push(overwritten(alloc, &disk.synced, disk.at, &torn)?)?;
-            files.push(overwritten(alloc, &disk.synced, disk.at, &disk.write[..cut])?)?;
-        }
-    }
-    Ok(files)
+    Ok(batch)
 }
 
-// A batch of 1, 2 and 3 records behind one, where the device fails at each call in turn: each outcome has
-// the record from before it, with all of the batch or none, and it has the batch where it was acknowledged.
+/// The same of two records.
+fn two_records<A: Allocator + Copy>(alloc: A) -> Result<Vec<Seq<u8, A>, A>, NoMemory> {
+    let mut batch = Vec::new(alloc);
+    batch.push(Seq::copy_of(alloc, RECORDS[1])?)?;
+    batch.push(Seq::copy_of(alloc, RECORDS[2])?)?;
+    Ok(batch)
+}
+
+/// A store of one record on such a file. Reading takes one call, and bringing its end in order two.
+fn opened(alloc: Global, calls: usize, room: usize) -> Result<Opened<Paper>, Fail> {
+    let mut paper = Paper::new(alloc, &store_of(alloc, 1)?, calls.saturating_add(3))?;
+    paper.room = room;
+    Ok(open_file(alloc, paper, &standard())?)
+}
+
+/// Whether each outcome has the record from before the batch, with all of the batch or none, and with all
+/// where it was added.
+fn has_all_or_none(alloc: Global, paper: &Paper, size: usize, added: bool) -> Result<bool, Fail> {
+    let mut so = true;
+    for file in &outcomes(alloc, paper)? {
+        let left = read_records(alloc, file)?;
+        let all = left.records.len() == size.saturating_add(1);
+        let none = left.records.len() == 1 && !added;
+        so = so && !left.is_torn && (all || none);
+    }
+    Ok(so)
+}
+
+// A batch of 1, 2 and 3 records behind one, where the file fails at each call in turn.
 #[test]
-fn a_batch_on_a_device_that_fails(rt: HostRuntime) -> Result<(), Fail> {
+fn a_batch_on_a_file_that_fails(rt: HostRuntime) -> Result<(), Fail> {
     let alloc = rt.alloc();
     for size in 1..4usize {
         let after = store_of(alloc, size.saturating_add(1))?;
-        let mut batch = Vec::new(alloc);
-        for record in &RECORDS[1..size + 1] {
-            batch.push(Seq::copy_of(alloc, record)?)?;
-        }
+        let batch = records(alloc, 1, size.saturating_add(1))?;
         for calls in 0..5usize {
-            let before = store_of(alloc, 1)?;
-            let found = read_records(alloc, &before)?;
-            let mut log = Log {
-                device: Disk::new(alloc, &before, calls)?,
-                end: found.end,
-                digest: found.digest,
-            };
-            let result = log.append(alloc, &batch);
+            let mut opened = opened(alloc, calls, NO_LIMIT)?;
+            let result = opened.log.append(alloc, &batch);
             assert_eq!(rt; result.is_ok(), calls == 4, "{size} records, {calls} calls");
-            for file in &outcomes(alloc, &log.device)? {
-                let left = read_records(alloc, file)?;
-                let all = left.records.len() == size.saturating_add(1);
-                assert!(rt; !left.is_torn, "{size} records, {calls} calls");
-                assert!(rt;
-                    all || left.records.len() == 1,
-                    "{size} records, {calls} calls"
-                );
-                assert!(rt; all || calls < 4, "{size} records");
-            }
+            let paper = opened.log.device.into_calls();
+            let so = has_all_or_none(alloc, &paper, size, calls == 4)?;
+            assert!(rt; so, "{size} records, {calls} calls");
             if calls == 4 {
-                assert_eq!(rt; log.device.synced.as_slice(), after.as_slice());
+                assert_eq!(rt; paper.synced.as_slice(), after.as_slice());
             }
         }
     }
     Ok(())
 }
 
-// A store with and without its gate, and with anything behind it, is brought in order, also where the
-// device fails at each call in turn: each outcome has its records.
+// A disk that is full at each length behind the store: the batch is added where it has room.
+#[test]
+fn a_batch_on_a_full_disk(rt: HostRuntime) -> Result<(), Fail> {
+    let alloc = rt.alloc();
+    let before = store_of(alloc, 1)?.len();
+    let after = store_of(alloc, 3)?.len();
+    let batch = records(alloc, 1, 3)?;
+    for room in before..after.saturating_add(2) {
+        let mut opened = opened(alloc, NO_LIMIT, room)?;
+        let result = opened.log.append(alloc, &batch);
+        assert_eq!(rt; result.is_ok(), room >= after, "room for {room}");
+        let paper = opened.log.device.into_calls();
+        assert!(rt;
+            has_all_or_none(alloc, &paper, 2, room >= after)?,
+            "room for {room}"
+        );
+    }
+    Ok(())
+}
+
+// After a call that failed no other is made, though the file would take it.
+#[test]
+fn a_file_after_a_failure(rt: HostRuntime) -> Result<(), Fail> {
+    let alloc = rt.alloc();
+    let batch = records(alloc, 1, 2)?;
+    let room = store_of(alloc, 1)?.len();
+    let mut opened = opened(alloc, NO_LIMIT, room)?;
+    assert_eq!(rt; opened.log.append(alloc, &batch), Err(DeviceError::Failed));
+    assert_eq!(rt; opened.log.append(alloc, &batch), Err(DeviceError::Failed));
+    assert_eq!(rt; opened.log.device.sync(), Err(DeviceError::Failed));
+    let paper = opened.log.device.into_calls();
+    assert_eq!(rt; paper.steps.len(), 1);
+    Ok(())
+}
+
+// A store with and without its gate, and with anything behind it, is brought in order, also where the file
+// fails at each call in turn: each outcome has its records.
 #[test]
 fn a_store_that_is_opened_again(rt: HostRuntime) -> Result<(), Fail> {
     let alloc = rt.alloc();
@@ -192,19 +146,30 @@ fn a_store_that_is_opened_again(rt: HostRuntime) -> Result<(), Fail> {
             file.extend_from_slice(&[1, 2, 3, 0])?;
         }
         for calls in 0..4usize {
-            let mut disk = Disk::new(alloc, &file, calls)?;
-            match recover(alloc, &mut disk) {
+            let mut paper = Paper::new(alloc, &file, calls)?;
+            let mut device = match paper.begin(alloc) {
+                Ok(bytes) => StoreFile::of(paper, bytes),
+                Err(fault) => {
+                    assert_eq!(rt; fault, DeviceError::Failed);
+                    assert_eq!(rt; calls, 0);
+                    continue;
+                }
+            };
+            match recover(alloc, &mut device) {
                 Ok(found) => {
                     assert_eq!(rt; calls, 3);
                     assert_eq!(rt; found.records.len(), 2);
-                    assert_eq!(rt; disk.synced.as_slice(), rest.as_slice());
                 }
                 Err(fault) => {
                     assert_eq!(rt; fault, RecoverFault::Device(DeviceError::Failed));
                     assert!(rt; calls < 3, "{calls} calls");
                 }
             }
-            for file in &outcomes(alloc, &disk)? {
+            let paper = device.into_calls();
+            if calls == 3 {
+                assert_eq!(rt; paper.synced.as_slice(), rest.as_slice());
+            }
+            for file in &outcomes(alloc, &paper)? {
                 let left = read_records(alloc, file)?;
                 assert_eq!(rt; left.records.len(), 2);
                 assert!(rt; !left.is_torn);
@@ -214,36 +179,173 @@ fn a_store_that_is_opened_again(rt: HostRuntime) -> Result<(), Fail> {
     Ok(())
 }
 
-// A store cut inside of a record, one with damage, and one cut inside of its head are refused, and stay.
+/// Why a store of these bytes is not opened. It takes one call, so none that changes the file.
+fn refusal(alloc: Global, file: &[u8], head: &Head) -> Result<Option<StoreFault>, Fail> {
+    let paper = Paper::new(alloc, file, 1)?;
+    match open_file(alloc, paper, head) {
+        Ok(_) => Ok(None),
+        Err(fault) => Ok(Some(fault)),
+    }
+}
+
+// A store cut inside of a record, one with damage, one cut inside of its head, and one of another server.
 #[test]
 fn a_store_that_is_refused(rt: HostRuntime) -> Result<(), Fail> {
     let alloc = rt.alloc();
     let rest = store_of(alloc, 2)?;
-    let torn = rest.len() - 2;
-    let mut disk = Disk::new(alloc, &rest[..torn], 9)?;
-    match recover(alloc, &mut disk) {
-        Ok(_) => assert!(rt; false, "a torn store"),
-        Err(fault) => assert_eq!(rt; fault, RecoverFault::Torn(1)),
-    }
-    assert_eq!(rt; disk.bytes.as_slice(), &rest[..torn]);
+    let torn = RecoverFault::Torn(1);
+    let damaged = RecoverFault::Read(ReadFault::Damaged(0));
+    let short = RecoverFault::Read(ReadFault::Head(HeadFault::TooShort));
 
-    let mut damaged = rest.to_vec(alloc)?;
-    damaged[45] ^= 1;
-    let mut disk = Disk::new(alloc, &damaged, 9)?;
-    match recover(alloc, &mut disk) {
-        Ok(_) => assert!(rt; false, "a damaged store"),
-        Err(fault) => assert_eq!(rt; fault, RecoverFault::Read(ReadFault::Damaged(0))),
-    }
-    assert_eq!(rt; disk.bytes.as_slice(), damaged.as_slice());
+    let found = refusal(alloc, &rest[..rest.len() - 2], &standard())?;
+    assert_eq!(rt; found, Some(StoreFault::Recover(torn)));
+    let found = refusal(alloc, &rest[..37], &standard())?;
+    assert_eq!(rt; found, Some(StoreFault::Recover(short)));
+    let mut file = rest.to_vec(alloc)?;
+    file[45] ^= 1;
+    let found = refusal(alloc, &file, &standard())?;
+    assert_eq!(rt; found, Some(StoreFault::Recover(damaged)));
 
-    let mut disk = Disk::new(alloc, &rest[..37], 9)?;
-    match recover(alloc, &mut disk) {
-        Ok(_) => assert!(rt; false, "no head"),
-        Err(fault) => assert_eq!(rt;
-            fault,
-            RecoverFault::Read(ReadFault::Head(HeadFault::TooShort))
-        ),
+    let mut other = standard();
+    other.publishing = false;
+    let found = refusal(alloc, &rest, &other)?;
+    assert_eq!(rt; found, Some(StoreFault::OtherPublishing));
+    let mut other = standard();
+    other.limits.rows = 7;
+    let found = refusal(alloc, &rest, &other)?;
+    assert_eq!(rt; found, Some(StoreFault::OtherLimits));
+    Ok(())
+}
+
+// A new store, where the file fails at each call in turn, and whatever was in it: wherever it may have got
+// its name, each outcome is the whole store.
+#[test]
+fn a_store_that_is_made(rt: HostRuntime) -> Result<(), Fail> {
+    let alloc = rt.alloc();
+    let whole = store_of(alloc, 0)?;
+    let longer = store_of(alloc, 3)?;
+    for file in [&[], longer.as_slice()] {
+        for calls in 0..5usize {
+            let mut paper = Paper::new(alloc, file, calls)?;
+            let result = create_file(alloc, &mut paper, &standard());
+            assert_eq!(rt; result.is_ok(), calls == 4, "{calls} calls");
+            assert_eq!(rt; paper.is_named, calls >= 3, "{calls} calls");
+            if paper.is_named {
+                for left in &outcomes(alloc, &paper)? {
+                    assert_eq!(rt; left.as_slice(), whole.as_slice());
+                }
+            }
+        }
     }
-    assert_eq!(rt; disk.bytes.as_slice(), &rest[..37]);
+    Ok(())
+}
+
+// A store of three records is ended before each of them, and not behind them; a torn one also before the
+// torn record.
+#[test]
+fn a_store_that_is_cut(rt: HostRuntime) -> Result<(), Fail> {
+    let alloc = rt.alloc();
+    let rest = store_of(alloc, 3)?;
+    for at in 0..5usize {
+        for torn in [false, true] {
+            let len = if torn { rest.len() - 2 } else { rest.len() };
+            let count = if torn { 2usize } else { 3 };
+            let mut old = Paper::new(alloc, &rest[..len], 1)?;
+            let mut new = Paper::new(alloc, &[], NO_LIMIT)?;
+            let has_place = at < 3;
+            match cut_file(alloc, &mut old, &mut new, at) {
+                Ok(left_out) => {
+                    assert!(rt; has_place, "place {at}");
+                    assert!(rt; new.is_named);
+                    assert_eq!(rt; new.synced.as_slice(), store_of(alloc, at)?.as_slice());
+                    assert_eq!(rt; left_out.len(), count - at.min(count), "place {at}");
+                    for (left, record) in left_out.as_slice().iter().zip(&RECORDS[at..]) {
+                        assert_eq!(rt; left.as_slice(), *record);
+                    }
+                }
+                Err(fault) => {
+                    assert!(rt; !has_place, "place {at}");
+                    assert_eq!(rt; fault, StoreFault::NoPlace(count));
+                    assert!(rt; !new.is_named);
+                }
+            }
+            assert_eq!(rt; old.bytes.as_slice(), &rest[..len]);
+        }
+    }
+    Ok(())
+}
+
+// Heaps of each size: a store is opened and a batch is added, or memory is refused, and the file is then as
+// it was or has what was promised.
+#[test]
+fn memory_refused_to_a_store(rt: HostRuntime) -> Result<(), Fail> {
+    let alloc = rt.alloc();
+    let mut refused = 0usize;
+    let mut added = 0usize;
+    for size in 0..1200usize {
+        let heap = LocalHeap::new(alloc, size)?;
+        let paper = Paper::new(alloc, &store_of(alloc, 1)?, NO_LIMIT)?;
+        match open_file(&heap, paper, &standard()) {
+            Ok(opened) => {
+                let mut log = opened.log;
+                drop(opened.records);
+                let Ok(batch) = two_records(&heap) else {
+                    continue;
+                };
+                match log.append(&heap, &batch) {
+                    Ok(()) => added = added.saturating_add(1),
+                    Err(fault) => {
+                        assert_eq!(rt; fault, DeviceError::Memory, "a heap of {size}");
+                        let paper = log.device.into_calls();
+                        assert!(rt; paper.steps.is_empty(), "a heap of {size}");
+                        refused = refused.saturating_add(1);
+                    }
+                }
+            }
+            Err(fault) => {
+                let read = RecoverFault::Read(ReadFault::NoMemory);
+                let device = RecoverFault::Device(DeviceError::Memory);
+                let memory = fault == StoreFault::Recover(read)
+                    || fault == StoreFault::Recover(device);
+                assert!(rt; memory, "a heap of {size}");
+                refused = refused.saturating_add(1);
+            }
+        }
+    }
+    assert!(rt; refused > 0);
+    assert!(rt; added > 0);
+    Ok(())
+}
+
+// Heaps of each size: a store is cut, or memory is refused, and no file gets the name of a store.
+#[test]
+fn memory_refused_to_a_cut(rt: HostRuntime) -> Result<(), Fail> {
+    let alloc = rt.alloc();
+    let rest = store_of(alloc, 3)?;
+    let before = store_of(alloc, 1)?;
+    let mut refused = 0usize;
+    let mut cut = 0usize;
+    for size in 0..1600usize {
+        let heap = LocalHeap::new(alloc, size)?;
+        let mut old = Paper::new(alloc, &rest, 1)?;
+        let mut new = Paper::new(alloc, &[], NO_LIMIT)?;
+        match cut_file(&heap, &mut old, &mut new, 1) {
+            Ok(left_out) => {
+                assert_eq!(rt; left_out.len(), 2, "a heap of {size}");
+                assert_eq!(rt;
+                    new.synced.as_slice(),
+                    before.as_slice(),
+                    "a heap of {size}"
+                );
+                cut = cut.saturating_add(1);
+            }
+            Err(_) => {
+                assert!(rt; !new.is_named, "a heap of {size}");
+                refused = refused.saturating_add(1);
+            }
+        }
+    }
+    assert!(rt; refused > 0);
+    assert!(rt; cut > 0);
     Ok(())
 }

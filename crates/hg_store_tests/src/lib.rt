@@ -4,4 +4,8 @@
 #[cfg(test)]
 mod device_tests;
 #[cfg(test)]
+mod folder_tests;
+#[cfg(test)]
+mod paper;
+#[cfg(test)]
 mod tests;

@@ -40,7 +40,7 @@ pub none_yet : (A : Type 0) (name : List ℕ)
 unfolding value_in
 none_yet A name = refl
 
-unwrapped : (o : Option (Bor (List ℕ))) (none : Bor (List ℕ)) → none.now ≡ []
+pub unwrapped : (o : Option (Bor (List ℕ))) (none : Bor (List ℕ)) → none.now ≡ []
     → (unwrap_or o none).now ≡ unwrap_or (option_map (λ (text : Bor (List ℕ)). text.now) o) []
 unwrapped None none empty = empty
 unwrapped (Some text) none empty = refl

@@ -6,3 +6,7 @@ mod Ranges
 mod Naming
 mod EscapeLaws
 mod FormLaws
+mod Extras
+mod Gathering
+mod Hiding
+mod Quoting

@@ -6,3 +6,7 @@ pub mod Heads
 pub mod ListKeys
 pub mod Spelling
 pub mod Lookup
+pub mod Branch
+pub mod Hidden
+pub mod BranchMap
+pub mod code

@@ -12,18 +12,25 @@
 #![tactic(auto)]
 
 mod batch;
+mod behind;
+mod branch;
+mod branchmap;
 mod capabilities;
 mod form;
 mod heads;
+mod hidden;
 mod laws;
 mod listkeys;
 mod lookup;
 mod text;
 
 pub use batch::{Command, joined_answers, read_batch};
+pub use branch::branch_of;
+pub use branchmap::branchmap_text;
 pub use capabilities::capabilities_text;
 pub use form::{Field, read_form, value_of};
 pub use heads::{heads_text, known_text};
+pub use hidden::hidden_changesets;
 pub use laws::{escapes_are_read_back, forms_are_read_back};
 pub use listkeys::listkeys_text;
 pub use lookup::{Named, lookup_text};

@@ -4,4 +4,6 @@
 #[cfg(test)]
 mod argument_tests;
 #[cfg(test)]
+mod branch_tests;
+#[cfg(test)]
 mod repository_tests;

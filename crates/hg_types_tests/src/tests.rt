@@ -2,7 +2,10 @@
 
 mod ample;
 
-use hg_types::{CutReason, Item, Limits, NoMemory, Node, Param, Part, Phase, Seq, TryClone, What};
+use hg_types::{
+    CutReason, Item, Limits, NoMemory, Node, Param, Part, Phase, Seq, TryClone, What,
+    try_clone_each,
+};
 use linked_list_allocator::LocalHeap;
 use std::alloc::Allocator;
 use std::test::Fail;
@@ -65,6 +68,21 @@ fn a_clone_equals_its_source(rt: HostRuntime) -> Result<(), Fail> {
     assert_eq!(rt; first.len(), 3);
     let copy = first[0].try_clone(rt.alloc())?;
     assert!(rt; is_same_param(&first[0], &copy));
+    Ok(())
+}
+
+#[test]
+fn each_item_of_a_list_is_cloned(rt: HostRuntime) -> Result<(), Fail> {
+    let source = part(rt.alloc(), b"CHANGEGROUP")?;
+    let items = source.params.as_slice();
+    let copies = try_clone_each(rt.alloc(), items)?.into_vec();
+    assert_eq!(rt; copies.len(), 3);
+    assert!(rt;
+        items
+            .iter()
+            .zip(copies.iter())
+            .all(|(a, b)| is_same_param(a, b))
+    );
     Ok(())
 }
 
@@ -150,6 +168,10 @@ fn the_null_id_and_the_phases(rt: HostRuntime) {
     assert_eq!(rt; Phase::Public as u8, 0);
     assert_eq!(rt; Phase::Secret as u8, 2);
     assert!(rt; Phase::Public < Phase::Draft);
+    assert_eq!(rt; Phase::Secret.number(), 2);
+    assert_eq!(rt; Phase::from_number(1), Some(Phase::Draft));
+    assert_eq!(rt; Phase::from_number(3), None);
+    assert_eq!(rt; Phase::from_number(-1), None);
 }
 
 /// Whether a part and its clone could be made.

@@ -125,7 +125,7 @@ fn no_memory_for_looking_and_cutting(rt: HostRuntime) -> Result<(), Fail> {
 
 /// Puts so many rows: a root, its children, whose numbers are multiples of `every`, and a line of all others.
 /// Tells the last row of the line, where each answer was the next number and the heap has given no more than
-/// the texts want and 300 bytes a row, beside 1,024 at first.
+/// the texts want and 350 bytes a row, beside 1,024 at first.
 fn put_many<'h>(
     heap: &'h LocalHeap,
     deltas: &'h LocalHeap,
@@ -145,7 +145,7 @@ fn put_many<'h>(
         let given = if number == 0 { root } else { child };
         match put(deltas, log, given) {
             Ok(Added::New(rev))
-                if rev == number && heap.used() <= 1024 + 300 * (rev as usize + 1) => {}
+                if rev == number && heap.used() <= 1024 + 350 * (rev as usize + 1) => {}
             _ => return None,
         }
         if number % every != 0 {

@@ -1,9 +1,8 @@
 -- The way back: what was replaced since the mark.
-use Rattle.std.specs.Prelude.{ℕ, zero, suc, ◌+◌, ◌<◌, ◌≤◌, ◌^◌, List, [], ◌∷◌, All, length, take}
-use Rattle.std.specs.Prelude.{slice_set}
+use Rattle.std.specs.Prelude.{◌≡◌, ℕ, zero, suc, ◌+◌, ◌<◌, ◌≤◌, ◌^◌, List, [], ◌∷◌, All, length, take}
+use Rattle.std.specs.Prelude.{slice_set, filter, nat_lt}
 use Rattle.hg_phases.specs.declared.standing.Standing.{Standing}
 use Rattle.hg_phases.specs.declared.tape.Replaced.{Replaced}
-use Rattle.hg_phases.specs.Standing.{standing_at}
 
 -- the rows before what was replaced, of which the last comes back first
 abbrev pub undone : List Replaced → List Standing → List Standing
@@ -14,10 +13,16 @@ undone (change ∷ changes) rows = slice_set (undone changes rows) change.row ch
 abbrev pub base_of : ℕ → List Standing → List Replaced → List Standing
 base_of marked rows kept = take marked (undone kept rows)
 
--- the rows, where the first so many standings of the second list have come from that row on
-unfoldable pub put_first : List Standing → ℕ → List Standing → ℕ → List Standing
-put_first rows low tail zero = rows
-put_first rows low tail (suc n) = slice_set (put_first rows low tail n) (low + n) (standing_at tail n)
+-- those changes that are of the first rows
+abbrev pub of_marked : ℕ → List Replaced → List Replaced
+of_marked marked changes = filter (λ change. nat_lt change.row marked) changes
+
+-- Rows and the changes that led to them, and the same some changes later: both lead back to the same rows.
+pub record Follows (rows : List Standing) (changes : List Replaced) (new : List Standing)
+    (more : List Replaced) : Type 0 where
+  pub as_long : length new ≡ length rows
+  pub back : undone more new ≡ undone changes rows
+  pub within : All (λ change. change.row < length rows) changes → All (λ change. change.row < length rows) more
 
 -- The rows of the mark are there, and what is kept is of them.
 pub record IsSound (rows : List Standing) (kept : List Replaced) (marked : ℕ) : Type 0 where

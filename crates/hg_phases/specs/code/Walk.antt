@@ -1,67 +1,68 @@
--- Marks on the rows that are lowered. The mark at place k is that of the row k places before the last.
-use Rattle.std.specs.Prelude.{◌≡◌, ◌⊎◌, ◌↔◌, ℕ, ◌-◌, ◌<◌, ◌≤◌, Bool, true, false, List, length}
-use Rattle.std.specs.Prelude.{Option, Some, None, slice_index_or, map, if◌then◌else◌}
-use Rattle.std.specs.List.{range_with_len}
+-- What an advance does to rows on the way: which are lowered, and which get the standing that their phases
+-- make.
+use Rattle.std.specs.Prelude.{◌≡◌, ◌⊎◌, ℕ, ◌<◌, ◌≤◌, List, [], ◌∷◌, ◌++◌, length, All, Option, Some}
+use Rattle.std.specs.Prelude.{slice_index, slice_set}
 use Rattle.hg_types.specs.declared.phase.Phase.{Phase}
-use Rattle.hg_types.specs.declared.phase.Phase.TheVariants.{Public}
 use Rattle.hg_types.specs.Phase.{number_of}
+use Rattle.hg_log.specs.Parents.{IsParentIn}
 use Rattle.hg_phases.specs.declared.standing.Standing.{Standing}
-use Rattle.hg_phases.specs.Order.{greater, phase_at}
-use Rattle.hg_phases.specs.Phases.{is_reached}
-use Rattle.hg_phases.specs.Standing.{standing_of}
+use Rattle.hg_phases.specs.Order.{phase_at, phase_above}
+use Rattle.hg_phases.specs.Phases.{advanced}
+use Rattle.hg_phases.specs.Standing.{standing_of, standing_at, phases_told}
 
--- of n rows, row r is marked
-pub record IsMarked (n : ℕ) (marks : List Bool) (r : ℕ) : Type 0 where
-  pub within : r < n
-  pub is : slice_index_or marks (n - 1 - r) false ≡ true
+-- what a row is by its phase and those of its parents
+abbrev pub standing_in : (ℕ → Option ℕ × Option ℕ) → List Phase → ℕ → Standing
+standing_in parents phases r = standing_of (phase_at phases r) (phase_above parents phases r)
 
--- the row is there, and above the target
-pub record IsAbove (target : Phase) (phases : List Phase) (row : Option ℕ) (r : ℕ) : Type 0 where
-  pub here : row ≡ Some r
-  pub above : number_of target < number_of (phase_at phases r)
+-- each row is that
+abbrev pub AreStanding : (ℕ → Option ℕ × Option ℕ) → List Standing → Type 0
+AreStanding parents rows =
+    (r : ℕ) → r < length rows → standing_at rows r ≡ standing_in parents (phases_told rows) r
 
--- one row more is marked, where it is above the target
-pub record AreMarked (target : Phase) (phases : List Phase) (row : Option ℕ) (old new : List Bool)
-    : Type 0 where
-  pub longer : length old ≤ length new
-  pub few : length old ≤ length phases → length new ≤ length phases
-  pub each : (r : ℕ) → r < length phases
-      → IsMarked (length phases) new r ↔ (IsMarked (length phases) old r ⊎ IsAbove target phases row r)
+-- the row is there and above the target, and gets it; it is listed behind the others
+pub record IsMoved (target : Phase) (row : Option ℕ) (old : List Standing) (listed : List ℕ)
+    (new : List Standing) (more : List ℕ) : Type 0 where
+  pub rev : ℕ
+  pub here : row ≡ Some rev
+  pub within : rev < length old
+  pub above : number_of target < number_of (phase_at (phases_told old) rev)
+  pub rows : new ≡ slice_set old rev (standing_of target target)
+  pub list : more ≡ listed ++ rev ∷ []
 
--- the rows that an advance lowers are marked, and no others
+-- there is no such row, and nothing changes
+pub record IsLeft (target : Phase) (row : Option ℕ) (old : List Standing) (listed : List ℕ)
+    (new : List Standing) (more : List ℕ) : Type 0 where
+  pub below : (rev : ℕ) → row ≡ Some rev → number_of (phase_at (phases_told old) rev) ≤ number_of target
+  pub rows : new ≡ old
+  pub list : more ≡ listed
+
+abbrev pub IsLowered : Phase → Option ℕ → List Standing → List ℕ → List Standing → List ℕ → Type 0
+IsLowered target row old listed new more =
+    IsMoved target row old listed new more ⊎ IsLeft target row old listed new more
+
+-- the row stands at some place of the list
+abbrev pub IsListed : List ℕ → ℕ → Type 0
+IsListed listed r = (k : ℕ) × (k < length listed) × (slice_index listed k ≡ r)
+
+-- the phases are those after an advance, and each row is as before or listed
 pub record AreLowered (parents : ℕ → Option ℕ × Option ℕ) (target : Phase) (heads : List ℕ)
-    (phases : List Phase) (marks : List Bool) : Type 0 where
-  pub few : length marks ≤ length phases
-  pub each : (r : ℕ) → r < length phases
-      → IsMarked (length phases) marks r
-      ↔ ((is_reached parents heads r ≡ true) × (number_of target < number_of (phase_at phases r)))
+    (old new : List Standing) (listed : List ℕ) : Type 0 where
+  pub as_long : length new ≡ length old
+  pub within : All (λ row. row < length old) listed
+  pub phases : phases_told new ≡ advanced parents target heads (phases_told old)
+  pub each : (r : ℕ) → r < length old → (standing_at new r ≡ standing_at old r) ⊎ IsListed listed r
 
--- the new phase of a row
-abbrev pub lowered_at : Phase → List Phase → List Bool → ℕ → Phase
-lowered_at target phases marks r =
-    if slice_index_or marks (length phases - 1 - r) false then target else phase_at phases r
+-- the phases are the same, and each row is what they make it, or as before and not one of those that are asked
+-- for
+pub record AreRestood (parents : ℕ → Option ℕ × Option ℕ) (Asked : ℕ → Type 0) (old new : List Standing)
+    : Type 0 where
+  pub as_long : length new ≡ length old
+  pub phases : phases_told new ≡ phases_told old
+  pub each : (r : ℕ) → r < length old → (standing_at new r ≡ standing_in parents (phases_told old) r)
+      ⊎ ((standing_at new r ≡ standing_at old r) × (¬ (Asked r)))
 
--- the new phases of n rows from that one on
-unfoldable pub lowered_from : Phase → List Phase → List Bool → ℕ → ℕ → List Phase
-lowered_from target phases marks low n = map (lowered_at target phases marks) (range_with_len low n)
-
--- the new phase of a parent; where there is none, it is public
-abbrev pub lowered_of : Phase → List Phase → List Bool → Option ℕ → Phase
-lowered_of target phases marks None = Public
-lowered_of target phases marks (Some p) = lowered_at target phases marks p
-
--- the greatest new phase of a row's parents
-abbrev pub lowered_above : (ℕ → Option ℕ × Option ℕ) → Phase → List Phase → List Bool → ℕ → Phase
-lowered_above parents target phases marks r =
-    greater (lowered_of target phases marks (parents r).0) (lowered_of target phases marks (parents r).1)
-
--- what becomes of a row
-abbrev pub lowered_row : (ℕ → Option ℕ × Option ℕ) → Phase → List Phase → List Bool → ℕ → Standing
-lowered_row parents target phases marks r =
-    standing_of (lowered_at target phases marks r) (lowered_above parents target phases marks r)
-
--- what becomes of n rows from that one on
-unfoldable pub lowered_rows : (ℕ → Option ℕ × Option ℕ) → Phase → List Phase → List Bool → ℕ → ℕ →
-    List Standing
-lowered_rows parents target phases marks low n =
-    map (lowered_row parents target phases marks) (range_with_len low n)
+-- one of the first n listed rows is the row, or a parent of it
+pub record IsTouched (parents : ℕ → Option ℕ × Option ℕ) (listed : List ℕ) (n r : ℕ) : Type 0 where
+  pub place : ℕ
+  pub within : place < n
+  pub is : (slice_index listed place ≡ r) ⊎ IsParentIn parents (slice_index listed place) r

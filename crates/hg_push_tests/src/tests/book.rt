@@ -67,6 +67,34 @@ fn two_pushes_interleaved(rt: HostRuntime) -> Result<(), Fail> {
     Ok(())
 }
 
+/// Whether each push has its place: 2 and 0 are done in this order, 1 is aborted between them, 3 is open.
+fn have_places<A: Allocator + Copy>(book: &Book<A>) -> bool {
+    let done = book.place(2) == Some(0) && book.place(0) == Some(1);
+    done && book.place(1).is_none() && book.place(3).is_none() && book.place(4).is_none()
+}
+
+/// Whether their answers rest on one done push, on two, and, where it is aborted, on all.
+fn rest_on<A: Allocator + Copy>(book: &Book<A>) -> bool {
+    let done = book.rests(2) == Some(1) && book.rests(0) == Some(2);
+    done && book.rests(1) == Some(2) && book.rests(3).is_none() && book.rests(4).is_none()
+}
+
+/// Places and what answers rest on, before a reply is taken and after.
+#[test]
+fn what_answers_rest_on(rt: HostRuntime) -> Result<(), Fail> {
+    let state = RandomState::new(&rt)?;
+    let mut book = empty_book(rt.alloc(), state);
+    let mut opened = true;
+    for push in 0..4 {
+        opened = book.open() == Ok(push) && opened;
+    }
+    let ended = end(&mut book, 2, 0) && end(&mut book, 1, 7) && end(&mut book, 0, 0);
+    assert!(rt; opened && ended && have_places(&book) && rest_on(&book));
+    let told = tells_done(&mut book, 0, 0) && tells_wrong_index(&mut book, 1);
+    assert!(rt; told && have_places(&book) && rest_on(&book));
+    Ok(())
+}
+
 /// Whether a push without parts is done.
 fn is_empty_done<A: Allocator + Copy>(book: &mut Book<A>) -> bool {
     let opened = book.open() == Ok(0) && book.standing(0) == Standing::Open;

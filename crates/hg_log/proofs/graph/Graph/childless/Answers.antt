@@ -3,7 +3,7 @@ use Rattle.hg_log.proofs.graph.Graph.childless.Goals as goal
 
 pub returns : goal.returns
 returns g c =
-    let graph = c.self.inside.parents.items in
+    let graph = c.self.inside.family in
     let counts = c.self.inside.children in
     rw (← c.self.view_is) (record {
       each = λ row. let a = c.childless.ensures.each row in

@@ -1,7 +1,6 @@
 use Rattle.std.proofs.Common.{◌≡◌, ◌+◌, ◌-◌, ◌<◌, ◌≤◌, ℕ, length, true, false, Some, slice_get, subst, sym}
 use Rattle.std.proofs.Common.{◌∙◌, inl, inr, arith, refl}
 use Rattle.std.proofs.lemmas.Bool.{cases_lt}
-use Rattle.std.proofs.lemmas.Option.{slice_get_read}
 use Rattle.hg_log.specs.code.Graph.Reaches.{itself}
 use Rattle.hg_log.specs.code.Graph.{Reaches}
 use Rattle.hg_log.specs.code.Marks.{IsMarked}
@@ -11,7 +10,7 @@ use Rattle.hg_log.proofs.graph.Graph.is_ancestor.Goals as goal
 
 pub returns-then-row-len : goal.returns-then-row-len
 returns-then-row-len g c =
-    let graph = c.self.inside.parents.items in
+    let graph = c.self.inside.family in
     rw (← c.self.view_is) (
       (λ is. absurd (let e : false ≡ true = is in cc)),
       (λ reach.
@@ -25,7 +24,7 @@ returns-then-row-len g c =
 
 pub returns-then-row-ancestor-2 : goal.returns-then-row-ancestor-2
 returns-then-row-ancestor-2 g c =
-    let graph = c.self.inside.parents.items in
+    let graph = c.self.inside.family in
     let within : c.args.ancestor < length graph = omega (arith, c.len.ensures) in
     rw (← c.self.view_is) (
       (λ is. subst (λ (r : ℕ). Reaches graph c.args.ancestor r)
@@ -35,7 +34,7 @@ returns-then-row-ancestor-2 g c =
 
 pub loop-child-init : goal.loop-child-init
 loop-child-init g c =
-    let graph = c.self.inside.parents.items in
+    let graph = c.self.inside.family in
     let new = c.new-marks.ensures in
     let marked = rw (new.after, new.top) at c.in_ok-mark.ensures.marked in (
       c.in_ok-mark.ensures.after ∙ new.after,
@@ -49,7 +48,7 @@ loop-child-init g c =
 pub returns-then-end_above : goal.returns-then-end_above
 returns-then-end_above g c =
     let i = c.loop-child.invariant in
-    let graph = c.self.inside.parents.items in
+    let graph = c.self.inside.family in
     let none = rw i.1 at c.if-end_above.ensures in
     let all : (r : ℕ) → IsMarked c.args.row c.loop-child.marks.marked.items r → c.loop-child.child ≤ r =
     λ r m. elim (cases_lt r c.loop-child.child) [
@@ -63,46 +62,42 @@ returns-then-end_above g c =
 pub returns-then-has-2 : goal.returns-then-has-2
 returns-then-has-2 g c =
     let i = c.loop-child.invariant in
-    let graph = c.self.inside.parents.items in
-    let at : slice_get graph (c.loop-child.child - 1) ≡ Some c.index-parents.result.now = slice_get_read graph
-    (length graph) (c.loop-child.child - 1) _ refl
-    (omega (arith, i.3, c.len.ensures)) c.index-parents.ensures in
+    let graph = c.self.inside.family in
+    let at : slice_get graph (c.loop-child.child - 1) ≡ Some c.parents-parents.result =
+    c.parents-parents.ensures in
     let next : c.loop-child.child ≡ c.loop-child.child - 1 + 1 = omega (arith, i.2) in
     let found = subst (λ n. AreFound graph c.args.ancestor c.args.row n c.loop-child.marks.marked.items) next
     i.4 in
     let seen = rw i.1 at c.if-has.ensures in
     let reach = found_it graph c.self.invariant.earlier c.args.ancestor c.args.row
-    (c.loop-child.child - 1) c.loop-child.marks.marked.items c.index-parents.result.now found
+    (c.loop-child.child - 1) c.loop-child.marks.marked.items c.parents-parents.result found
     (seen.0 refl) at (c.if-has-2.ensures.0 refl) in
     rw (← c.self.view_is) ((λ is. reach), (λ r. refl))
 
 pub mark-requires-then-has : goal.mark-requires-then-has
 mark-requires-then-has g c =
     let i = c.loop-child.invariant in
-    let graph = c.self.inside.parents.items in
-    let at : slice_get graph (c.loop-child.child - 1) ≡ Some c.index-parents.result.now = slice_get_read graph
-    (length graph) (c.loop-child.child - 1) _ refl
-    (omega (arith, i.3, c.len.ensures)) c.index-parents.ensures in
-    not_above (c.loop-child.child - 1) c.loop-child.marks.top c.index-parents.result.now.p1
+    let graph = c.self.inside.family in
+    let at : slice_get graph (c.loop-child.child - 1) ≡ Some c.parents-parents.result =
+    c.parents-parents.ensures in
+    not_above (c.loop-child.child - 1) c.loop-child.marks.top c.parents-parents.result.p1
     (c.self.invariant.earlier _ _ at).0 (omega (arith, i.1, i.3))
 
 pub mark-requires-then-has-2 : goal.mark-requires-then-has-2
 mark-requires-then-has-2 g c =
     let i = c.loop-child.invariant in
-    let graph = c.self.inside.parents.items in
-    let at : slice_get graph (c.loop-child.child - 1) ≡ Some c.index-parents.result.now = slice_get_read graph
-    (length graph) (c.loop-child.child - 1) _ refl
-    (omega (arith, i.3, c.len.ensures)) c.index-parents.ensures in
-    not_above (c.loop-child.child - 1) c.mark-then-has.new.self.top c.index-parents.result.now.p2
+    let graph = c.self.inside.family in
+    let at : slice_get graph (c.loop-child.child - 1) ≡ Some c.parents-parents.result =
+    c.parents-parents.ensures in
+    not_above (c.loop-child.child - 1) c.mark-then-has.new.self.top c.parents-parents.result.p2
     (c.self.invariant.earlier _ _ at).1 (omega (arith, i.1, i.3, c.in_ok-mark-2.ensures.top))
 
 pub loop-child-preserved-in-Continue-branch-3 : goal.loop-child-preserved-in-Continue-branch-3
 loop-child-preserved-in-Continue-branch-3 g c =
     let i = c.loop-child.invariant in
-    let graph = c.self.inside.parents.items in
-    let at : slice_get graph (c.loop-child.child - 1) ≡ Some c.index-parents.result.now = slice_get_read graph
-    (length graph) (c.loop-child.child - 1) _ refl
-    (omega (arith, i.3, c.len.ensures)) c.index-parents.ensures in
+    let graph = c.self.inside.family in
+    let at : slice_get graph (c.loop-child.child - 1) ≡ Some c.parents-parents.result =
+    c.parents-parents.ensures in
     let next : c.loop-child.child ≡ c.loop-child.child - 1 + 1 = omega (arith, i.2) in
     let found = subst (λ n. AreFound graph c.args.ancestor c.args.row n c.loop-child.marks.marked.items) next
     i.4 in
@@ -116,7 +111,7 @@ loop-child-preserved-in-Continue-branch-3 g c =
       omega arith,
       omega (arith, i.3),
       found_step graph c.self.invariant.earlier c.args.ancestor c.args.row
-          (c.loop-child.child - 1) _ _ _ c.index-parents.result.now found (seen.0 refl) at
+          (c.loop-child.child - 1) _ _ _ c.parents-parents.result found (seen.0 refl) at
           (λ named. absurd (let e : false ≡ true = c.if-has-2.ensures.1 named in cc)) one two,
     )
 
@@ -124,14 +119,14 @@ pub loop-child-preserved : goal.loop-child-preserved
 loop-child-preserved g c =
     let i = c.loop-child.invariant in
     let next : c.loop-child.child ≡ c.loop-child.child - 1 + 1 = omega (arith, i.2) in
-    let found = subst (λ n. AreFound c.self.inside.parents.items c.args.ancestor c.args.row n
+    let found = subst (λ n. AreFound c.self.inside.family c.args.ancestor c.args.row n
     c.loop-child.marks.marked.items) next i.4 in
     let unseen = rw i.1 at c.if-has.ensures in (
       i.0,
       i.1,
       omega arith,
       omega (arith, i.3),
-      found_skip c.self.inside.parents.items c.args.ancestor c.args.row
+      found_skip c.self.inside.family c.args.ancestor c.args.row
           (c.loop-child.child - 1) c.loop-child.marks.marked.items found
           (λ m. absurd (let e : false ≡ true = unseen.1 m in cc)),
     )
@@ -139,7 +134,7 @@ loop-child-preserved g c =
 pub returns : goal.returns
 returns g c =
     let i = c.loop-child.invariant in
-    let graph = c.self.inside.parents.items in
+    let graph = c.self.inside.family in
     let all : (r : ℕ) → IsMarked c.args.row c.loop-child.marks.marked.items r
     → c.loop-child.child ≤ r = λ r m. let s = (i.4.sound r m).0 in omega (arith, i.2) in
     let never = found_none graph c.self.invariant.earlier c.args.ancestor c.args.row c.loop-child.child

@@ -14,8 +14,8 @@ use Rattle.hg_serve.proofs.Orders.{prefix_again}
 use Rattle.hg_serve.proofs.Waits.{put_prefix, put_all, put_orderly}
 use Rattle.hg_serve.proofs.desk.Desk.answer.Goals as goal
 
-pub returns : goal.returns
-returns g c =
+pub returns-clause-answers : goal.returns-clause-answers
+returns-clause-answers g c =
     let f = c.finish-takes.ensures in
     let r = c.reply-outcome.ensures in
     let push = c.ended.inside.push in

@@ -1,0 +1,42 @@
+-- How a response tells an answer.
+use Rattle.std.specs.Prelude.{ℕ, ◌⊎◌, List, [], ◌∷◌, ◌++◌, codes}
+use Rattle.http1.specs.Fields.{Header}
+use Rattle.http_server.specs.declared.response.Response.{Response}
+use Rattle.http_server.specs.Response.{IsResponse}
+use Rattle.hg_http.specs.declared.answer.Answer.{Answer}
+use Rattle.hg_http.specs.declared.answer.Answer.TheVariants.{Told, Refused, Forbidden, NotFound}
+use Rattle.hg_http.specs.declared.answer.Refusal.{Refusal}
+use Rattle.hg_http.specs.declared.answer.Refusal.TheVariants.{NotForced, BadBatch, PushesAlone, NotOpened}
+use Rattle.hg_http.specs.declared.answer.Refusal.TheVariants.{NoMemory, NoAnswer}
+
+abbrev pub line : List ℕ → List ℕ
+line text = text ++ 10 ∷ []
+
+-- the line that says why a command is not answered
+abbrev pub refusal_text : Refusal → List ℕ
+refusal_text NotForced = line (codes "unbundle takes forced heads alone")
+refusal_text BadBatch = line (codes "batch takes commands that read alone")
+refusal_text PushesAlone = line (codes "this address takes pushes alone")
+refusal_text NotOpened = line (codes "no push can be opened now")
+refusal_text NoMemory = line (codes "out of memory")
+refusal_text NoAnswer = line (codes "there is no memory for the answer")
+
+abbrev pub of_type : List ℕ → List Header
+of_type text = (codes "content-type", text) ∷ []
+
+-- the status, the fields and the body that tell an answer
+abbrev pub Says : {A : Type 0} → Answer A → Response → Type 0
+Says (Told text) response = IsResponse 200 (of_type (codes "application/mercurial-0.1")) text response
+Says (Refused why) response =
+    IsResponse 200 (of_type (codes "application/hg-error")) (refusal_text why) response
+Says Forbidden response = IsResponse 403 [] [] response
+Says NotFound response = IsResponse 404 [] [] response
+
+-- memory was refused for the answer, and the response says so: by a line, or by its status alone
+abbrev pub SaysNothing : Response → Type 0
+SaysNothing response =
+    IsResponse 200 (of_type (codes "application/hg-error")) (refusal_text NoAnswer) response
+    ⊎ IsResponse 500 [] [] response
+
+abbrev pub Tells : {A : Type 0} → Answer A → Response → Type 0
+Tells answer response = Says answer response ⊎ SaysNothing response

@@ -1,0 +1,117 @@
+//! The answers, and how a response tells them.
+
+ghost use Rattle.std.specs.Prelude.{◌≡◌, OnOk, codes};
+ghost use Rattle.http_server.specs.Response.{IsBlank, IsResponse};
+ghost use Rattle.hg_http.specs.Tellings.{of_type, refusal_text, Says, SaysNothing, Tells};
+
+use bytes::BufMut;
+use hg_types::Seq;
+use http::StatusCode;
+use http_header::{HeaderName, HeaderValue};
+use http_server::Response;
+use std::alloc::{AllocError, Allocator, Global};
+
+/// Why a command is not answered.
+#[derive(Clone, Copy, Debug, PartialEq, Eq)]
+pub enum Refusal {
+    /// 1: the heads of a push are not forced.
+    NotForced,
+    /// 2: a batch holds another command than those that only read, or none.
+    BadBatch,
+    /// 3: nothing can be pulled here.
+    PushesAlone,
+    /// 4: no push could be opened.
+    NotOpened,
+    /// 5: memory was refused before anything was changed.
+    NoMemory,
+    /// 6: memory was refused for the answer: a push that was asked for has ended.
+    NoAnswer,
+}
+
+impl Refusal {
+    /// The line that says so.
+    pub fn text(self) -> &'static [u8]
+        ensures { result.now ≡ refusal_text self }
+    {
+        match self {
+            Refusal::NotForced => b"unbundle takes forced heads alone\n".as_slice(),
+            Refusal::BadBatch => b"batch takes commands that read alone\n".as_slice(),
+            Refusal::PushesAlone => b"this address takes pushes alone\n".as_slice(),
+            Refusal::NotOpened => b"no push can be opened now\n".as_slice(),
+            Refusal::NoMemory => b"out of memory\n".as_slice(),
+            Refusal::NoAnswer => b"there is no memory for the answer\n".as_slice(),
+        }
+    }
+}
+
+/// What a request is answered.
+#[derive(Drop)]
+pub enum Answer<A: Allocator = Global> {
+    /// The text of a command, or the reply to a push.
+    Told(Seq<u8, A>),
+    /// A refusal, by a line that says why.
+    Refused(Refusal),
+    /// A command that changes something came in a form that a page in a browser could send.
+    Forbidden,
+    /// No command.
+    NotFound,
+}
+
+/// Fills a blank response with the answer. Where memory is refused for it, the response says so, by a line,
+/// or by its status where memory is refused for that as well.
+pub fn respond<A: Allocator>(answer: &Answer<A>, response: &mut Response)
+    requires { IsBlank response.old }
+    ensures { Tells answer.now response.new }
+{
+    if try_respond(answer, response).is_err() {
+        respond_nothing(response);
+    }
+}
+
+fn respond_nothing(response: &mut Response)
+    ensures { SaysNothing response.new }
+{
+    response.clear();
+    if refuse(response, Refusal::NoAnswer).is_err() {
+        response.clear();
+        response.status = StatusCode::INTERNAL_SERVER_ERROR;
+    }
+}
+
+fn try_respond<A: Allocator>(answer: &Answer<A>, response: &mut Response) -> Result<(), AllocError>
+    requires { IsBlank response.old }
+    ensures { OnOk result (Says answer.now response.new) }
+{
+    match answer {
+        Answer::Told(text) => tell(response, text.as_slice()),
+        Answer::Refused(why) => refuse(response, *why),
+        Answer::Forbidden => {
+            response.status = StatusCode::FORBIDDEN;
+            Ok(())
+        }
+        Answer::NotFound => {
+            response.status = StatusCode::NOT_FOUND;
+            Ok(())
+        }
+    }
+}
+
+fn tell(response: &mut Response, text: &[u8]) -> Result<(), AllocError>
+    requires { IsBlank response.old }
+    ensures { OnOk result (IsResponse 200 (of_type (codes "application/mercurial-0.1")) text.now
+        response.new) }
+{
+    let value = HeaderValue::from_static("application/mercurial-0.1");
+    response.add_header(HeaderName::from_static("content-type"), value)?;
+    response.body.put_slice(text)
+}
+
+fn refuse(response: &mut Response, why: Refusal) -> Result<(), AllocError>
+    requires { IsBlank response.old }
+    ensures { OnOk result (IsResponse 200 (of_type (codes "application/hg-error")) (refusal_text why)
+        response.new) }
+{
+    let value = HeaderValue::from_static("application/hg-error");
+    response.add_header(HeaderName::from_static("content-type"), value)?;
+    response.body.put_slice(why.text())
+}

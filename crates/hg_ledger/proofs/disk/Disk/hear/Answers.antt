@@ -1,0 +1,21 @@
+use Rattle.std.proofs.Common.{◌≡◌, ◌≤◌, ◌<◌, ◌+◌, ◌++◌, ◌∷◌, [], false, true, ℕ, List, refl, sym, ap, subst, ◌∙◌}
+use Rattle.std.proofs.Common.{arith, length}
+use mathlib.Core.List.{IsPrefix}
+use Rattle.hg_ledger.proofs.Keeping.{keeps_on}
+use Rattle.hg_ledger.proofs.Lists.{each_moves}
+use Rattle.hg_ledger.proofs.disk.Disk.hear.Goals as goal
+
+pub invariant_of-self : goal.invariant_of-self
+invariant_of-self g c =
+    let d = c.self.inside in
+    let i = c.self.invariant in
+    let first = g.J.Naming.first in
+    let old = d.witness in
+    let new = c.meet.new.witness in (
+      i.0,
+      λ b. keeps_on g.D.Device.seen g.D.Device.may_leave g.J.Storing.head g.J.Storing.stored first old new d.count
+          d.log (λ k bytes r. c.records_stay.ensures.later first old new k bytes c.meet.ensures.later r) (i.1 b),
+      each_moves first old new
+          (λ k bytes r. c.records_stay.ensures.later first old new k bytes c.meet.ensures.later r) d.count
+          d.batch.items i.2,
+    )

@@ -1,0 +1,27 @@
+use Rattle.std.proofs.Common.{◌≡◌, ◌≤◌, ◌<◌, ◌+◌, ◌++◌, ◌∷◌, [], false, true, ℕ, List, refl, sym, ap, subst, ◌∙◌}
+use Rattle.std.proofs.Common.{arith, length}
+use mathlib.Core.List.{IsPrefix}
+use Rattle.std.proofs.lemmas.List.Elements.{All-weaker}
+use Rattle.hg_ledger.specs.declared.waiting.Record.{Record}
+use Rattle.hg_ledger.specs.Records.{AreKept, IsRecordOf}
+use Rattle.hg_ledger.proofs.Keeping.{kept_on}
+use Rattle.hg_ledger.proofs.waiting.Waiting.note.Goals as goal
+
+pub invariant_of-self-2 : goal.invariant_of-self-2
+invariant_of-self-2 g c =
+    let w = c.self.inside in
+    let i = c.self.invariant in
+    let first = g.J.Naming.first in
+    let new = c.tell.new.client in
+    let there = c.args.disk.now.history in
+    let count : c.args.disk.now.count ≡ c.count-self-inside.result =
+    sym (c.count-self-inside.ensures ∙ ap (λ v. v.count) c.tell.ensures.same) in (
+      All-weaker (λ (r : Record g.row.A.Denot). IsRecordOf first w.witness r.place r.bytes)
+          (λ r. IsRecordOf first new r.place r.bytes)
+          (λ r p. c.records_stay.ensures.later first w.witness new r.place r.bytes c.tell.ensures.later p)
+          w.records.items i.0,
+      λ b. subst (λ (n : ℕ). AreKept g.D.Device.seen g.D.Device.may_leave g.J.Storing.head g.J.Storing.stored first
+          new n) count (kept_on g.D.Device.seen g.D.Device.may_leave g.J.Storing.head g.J.Storing.stored first
+          there new c.args.disk.now.count
+          (λ k bytes r. c.records_stay.ensures.later first there new k bytes c.tell.ensures.all r) c.kept.ensures),
+    )

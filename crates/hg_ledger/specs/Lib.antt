@@ -1,0 +1,4 @@
+pub mod Records
+pub mod Locks
+pub mod Steps
+pub mod code

@@ -1,0 +1,173 @@
+//! The device under its lock, with the records that are on it and the batch that is written next.
+
+ghost use Rattle.std.specs.Prelude.{◌≡◌, ◌≤◌, ◌+◌, ◌++◌, ◌∷◌, [], false, true, length, IfOk, IfErr, IfSome};
+ghost use mathlib.Core.List.{IsPrefix};
+ghost use Rattle.hg_types.specs.Limits.{IsAllowed};
+ghost use Rattle.hg_store.specs.Log.{IsSettled};
+ghost use Rattle.hg_ledger.specs.Records.{AreKept, IsRecordOf, Keeps};
+
+use crate::laws::records_stay;
+use crate::storing::Storing;
+use hg_serve::{Client, Server};
+use hg_store::{Device, Log};
+use hg_types::Seq;
+use std::alloc::{Allocator, Global};
+use std::marker::Model;
+use std::sync::Wait;
+
+/// How many records a batch has at most.
+pub const BATCH: usize = 64;
+
+/// How many records there are at most.
+const MOST: usize = 1 << 62;
+
+/// The device, how many records are on it behind those that it was opened with, and a batch that is not
+/// written yet. The records and the batch are, in order, the bundles of the first pushes of the journal that
+/// the witness has seen. After a write or a sync that failed nothing is known of the device.
+pub struct Disk<J: Storing<A>, D: Device, A: Allocator = Global> {
+    log: Log<D>,
+    count: usize,
+    batch: Vec<Seq<u8, A>, A>,
+    is_broken: bool,
+    witness: Client<J, A>,
+}
+
+impl<J: Storing<A>, D: Device, A: Allocator> Model for Disk<J, D, A> {
+    ghost use Rattle.std.specs.Prelude.{◌≡◌, ◌<◌, false};
+    ghost use Rattle.hg_ledger.specs.Locks.{DiskView};
+    ghost use Rattle.hg_ledger.specs.Records.{AreRecordsFrom, Keeps};
+    ghost use Rattle.hg_types.specs.Limits.{IsAllowed};
+
+    ghost Value = { DiskView A };
+
+    ghost view = { λ d. record {
+      count = d.count;
+      batch = d.batch.items;
+      is_broken = d.is_broken;
+      history = d.witness;
+    } };
+
+    ghost invariant = { λ d. IsAllowed J.first.settings.limits
+        × (d.is_broken ≡ false → Keeps D.seen D.may_leave J.head J.stored J.first d.witness d.count d.log)
+        × AreRecordsFrom J.first d.witness d.count d.batch.items };
+}
+
+impl<J: Storing<A>, D: Device, A: Allocator + Copy> Disk<J, D, A> {
+    /// A device with what it was opened with.
+    pub fn new(alloc: A, log: Log<D>, witness: Client<J, A>) -> Result<Self, (Log<D>, Client<J, A>)>
+        requires settled { IsSettled D.seen D.may_leave J.head J.stored log }
+        requires allowed { IsAllowed J.first.settings.limits }
+        ensures made { IfOk result (λ disk. disk
+            ≡ record { count = 0; batch = []; is_broken = false; history = witness }) }
+        ensures refused { IfErr result (λ back. back ≡ (log, witness)) }
+    {
+        match Vec::with_capacity(alloc, BATCH) {
+            Ok(batch) => Ok(Disk {
+                log,
+                count: 0,
+                batch,
+                is_broken: false,
+                witness,
+            }),
+            Err(_) => Err((log, witness)),
+        }
+    }
+
+    /// How many records are on the device behind those that it was opened with.
+    pub fn count(&self) -> usize
+        ensures { result ≡ self.now.count }
+    {
+        self.count
+    }
+
+    /// Whether a write or a sync failed.
+    pub fn is_broken(&self) -> bool
+        ensures { result ≡ self.now.is_broken }
+    {
+        self.is_broken
+    }
+
+    /// The place of the record that the batch takes next. `None` where it has room for no more.
+    pub fn next_place(&self) -> Option<usize>
+        ensures { IfSome result (λ place. place ≡ self.now.count + length self.now.batch) }
+    {
+        if self.count >= MOST || self.batch.len() >= self.batch.capacity() {
+            return None;
+        }
+        Some(self.count + self.batch.len())
+    }
+
+    /// The witness sees all that another client has seen.
+    pub fn hear<R: Wait>(&mut self, rt: &R, server: &Server<J, A>, client: &mut Client<J, A>)
+        ensures same { client.new ≡ client.old }
+        ensures all { IsPrefix client.old self.new.history }
+        ensures later { IsPrefix self.old.history self.new.history }
+        ensures records { (self.new.count ≡ self.old.count) × (self.new.batch ≡ self.old.batch)
+            × (self.new.is_broken ≡ self.old.is_broken) }
+    {
+        records_stay::<A>();
+        server.meet(rt, client, &mut self.witness);
+    }
+
+    /// Another client sees all that the witness has seen.
+    pub fn tell<R: Wait>(&mut self, rt: &R, server: &Server<J, A>, client: &mut Client<J, A>)
+        ensures same { self.new ≡ self.old }
+        ensures all { IsPrefix self.old.history client.new }
+        ensures later { IsPrefix client.old client.new }
+    {
+        server.meet(rt, &mut self.witness, client);
+    }
+
+    /// What it has is on the device.
+    pub fn kept(&self)
+        requires { self.now.is_broken ≡ false }
+        ensures { AreKept D.seen D.may_leave J.head J.stored J.first self.now.history self.now.count }
+    {
+        let _witness = &self.witness;
+    }
+
+    /// Takes the record of the push at the next place into the batch.
+    pub fn take_in(&mut self, bytes: Seq<u8, A>)
+        requires { IsRecordOf J.first self.old.history (self.old.count + length self.old.batch) bytes }
+        ensures { (self.new.history ≡ self.old.history) × (self.new.count ≡ self.old.count) }
+    {
+        if self.batch.push(bytes).is_err() {
+            self.is_broken = true;
+        }
+    }
+
+    /// Writes the batch and syncs. Where that fails, the device is broken from then on.
+    pub fn write(&mut self, alloc: A)
+        ensures lasting { self.old.is_broken ≡ true → self.new.is_broken ≡ true }
+        ensures history { self.new.history ≡ self.old.history }
+        ensures written { self.new.is_broken ≡ false →
+            (self.new.count ≡ self.old.count + length self.old.batch) × (self.new.batch ≡ []) }
+    {
+        if self.is_broken || self.batch.is_empty() {
+            return;
+        }
+        if self.count >= MOST || self.log.append(alloc, self.batch.as_slice()).is_err() {
+            self.is_broken = true;
+            return;
+        }
+        self.count += self.batch.len();
+        self.batch.clear();
+    }
+
+    /// The log, whether it is broken, and the client that has seen the history of its records.
+    pub fn into_parts(self) -> (Log<D>, bool, Client<J, A>)
+        ensures kept { result.1 ≡ false →
+            Keeps D.seen D.may_leave J.head J.stored J.first result.2 self.count result.0 }
+        ensures broken { result.1 ≡ self.is_broken }
+        ensures history { result.2 ≡ self.history }
+    {
+        let Disk {
+            log,
+            count: _,
+            batch: _,
+            is_broken,
+            witness,
+        } = self;
+        (log, is_broken, witness)
+    }
+}

@@ -1,0 +1,170 @@
+//! A ledger: what a server keeps, for threads.
+
+ghost use Rattle.std.specs.Prelude.{◌≡◌, ◌≤◌, ◌<◌, ◌-◌, ℕ, [], false, IfOk, IfSome};
+ghost use Rattle.hg_types.specs.Limits.{IsAllowed};
+ghost use Rattle.hg_store.specs.Log.{IsSettled};
+ghost use Rattle.hg_ledger.specs.Records.{AreKept, IsRecordOf, Keeps, done_in};
+
+use crate::disk::Disk;
+use crate::storing::Storing;
+use crate::waiting::{Receipt, Record, Room, Step, Waiting};
+use hg_serve::{Client, Server};
+use hg_store::{Device, Log};
+use hg_types::{NoMemory, Seq};
+use std::alloc::{Allocator, Global};
+use std::sync::{Condvar, Mutex, MutexGuard, Wait};
+use thiserror::Error;
+
+/// A write or a sync failed, now or earlier: whether the push will be there after the next start is not known.
+#[derive(Clone, Copy, Debug, PartialEq, Eq, Error)]
+#[error("the store failed")]
+pub struct NotStored;
+
+/// The records of a server's done pushes, on a device and on the way to it.
+///
+/// The locks are got in the order of the fields, and the server's lock behind them.
+pub struct Ledger<J: Storing<A>, D: Device, A: Allocator = Global> {
+    alloc: A,
+    waiting: Mutex<Waiting<J, D, A>>,
+    disk: Mutex<Disk<J, D, A>>,
+    written: Condvar,
+}
+
+/// What is left of a ledger.
+pub struct Parts<J: Storing<A>, D: Device, A: Allocator = Global> {
+    pub log: Log<D>,
+    pub is_broken: bool,
+    pub witnesses: (Client<J, A>, Client<J, A>),
+}
+
+impl<J: Storing<A>, D: Device, A: Allocator + Copy> Ledger<J, D, A> {
+    /// A ledger over a log that is open, with two clients of the server that have seen nothing. They come
+    /// back with the log where memory is refused.
+    pub fn new(
+        alloc: A,
+        log: Log<D>,
+        witnesses: (Client<J, A>, Client<J, A>),
+    ) -> Result<Self, Parts<J, D, A>>
+        requires settled { IsSettled D.seen D.may_leave J.head J.stored log }
+        requires allowed { IsAllowed J.first.settings.limits }
+    {
+        let (first, second) = witnesses;
+        match Disk::new(alloc, log, first) {
+            Ok(disk) => {
+                disk.kept();
+                Ok(Ledger {
+                    alloc,
+                    waiting: Mutex::new(Waiting::new(alloc, second)),
+                    disk: Mutex::new(disk),
+                    written: Condvar::new(),
+                })
+            }
+            Err((log, first)) => Err(Parts {
+                log,
+                is_broken: false,
+                witnesses: (first, second),
+            }),
+        }
+    }
+
+    /// Takes room for the record of a push that is not opened yet.
+    pub fn room<R: Wait>(&self, rt: &R) -> Result<Room, NoMemory> {
+        self.waiting.lock(rt).room()
+    }
+
+    /// Gives back the room of a push that was not opened, or was not done.
+    pub fn give_back<R: Wait>(&self, rt: &R, room: Room) {
+        self.waiting.lock(rt).give_back(room);
+    }
+
+    /// Keeps what a reply rests on: so many done pushes, of which the last is this record's, if there is one.
+    /// Waits until they are on the device; where no other thread writes, it writes.
+    pub fn keep<R: Wait>(
+        &self,
+        rt: &R,
+        server: &Server<J, A>,
+        client: &mut Client<J, A>,
+        room: Room,
+        rests: usize,
+        bundle: Option<Seq<u8, A>>,
+    ) -> Result<Receipt, NotStored>
+        requires rests { rests ≤ done_in J.first client.old }
+        requires bundle { IfSome bundle (λ bytes. (1 ≤ rests) × IsRecordOf J.first client.old (rests - 1) bytes) }
+        ensures same { client.new ≡ client.old }
+        ensures kept { IfOk result (λ _. AreKept D.seen D.may_leave J.head J.stored J.first client.old rests) }
+    {
+        match bundle {
+            None => self.give_back(rt, room),
+            Some(bytes) => {
+                let place = rests - 1;
+                let record = Record { place, bytes };
+                self.waiting
+                    .lock(rt)
+                    .hand_in(rt, server, client, room, record);
+            }
+        }
+        self.receipt(rt, server, client, rests)
+    }
+
+    /// Waits until so many done pushes are on the device.
+    pub fn receipt<R: Wait>(
+        &self,
+        rt: &R,
+        server: &Server<J, A>,
+        client: &mut Client<J, A>,
+        rests: usize,
+    ) -> Result<Receipt, NotStored>
+        requires { rests ≤ done_in J.first client.old }
+        ensures same { client.new ≡ client.old }
+        ensures kept { IfOk result (λ _. AreKept D.seen D.may_leave J.head J.stored J.first client.old rests) }
+    {
+        let mut waiting = self.waiting.lock(rt);
+        'waiting: for _ in rt.forever() {
+            match waiting.step(rt, server, client, rests) {
+                Step::Go(receipt) => return Ok(receipt),
+                Step::Stop => return Err(NotStored),
+                Step::Wait => waiting = self.written.wait(rt, waiting),
+                Step::Write => {
+                    self.write(rt, server, waiting);
+                    waiting = self.waiting.lock(rt);
+                }
+            }
+        }
+        unreachable!()
+    }
+
+    /// Writes a batch, and wakes those who wait for it. Others may hand in their records meanwhile.
+    fn write<R: Wait>(
+        &self,
+        rt: &R,
+        server: &Server<J, A>,
+        mut waiting: MutexGuard<'_, Waiting<J, D, A>>,
+    ) {
+        let mut disk = self.disk.lock(rt);
+        waiting.load(rt, server, &mut *disk);
+        drop(waiting);
+        disk.write(self.alloc);
+        self.waiting.lock(rt).note(rt, server, &mut *disk);
+        self.written.notify_all();
+    }
+
+    /// The log, whether it is broken, and the two clients.
+    pub fn into_parts(self) -> Parts<J, D, A>
+        ensures { result.is_broken ≡ false → (count : ℕ)
+            × Keeps D.seen D.may_leave J.head J.stored J.first result.witnesses.0 count result.log }
+    {
+        let Ledger {
+            alloc: _,
+            waiting,
+            disk,
+            written: _,
+        } = self;
+        let (log, is_broken, first) = disk.into_inner().into_parts();
+        let second = waiting.into_inner().into_witness();
+        Parts {
+            log,
+            is_broken,
+            witnesses: (first, second),
+        }
+    }
+}

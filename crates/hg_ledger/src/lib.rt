@@ -1,0 +1,18 @@
+//! What a server keeps of its pushes: the bundle of each done push is a record on a device, in the order of
+//! the journal, before a reply that rests on it is sent.
+//!
+//! A [`Ledger`] is shared by reference. Before a push is opened, [`Ledger::room`] takes the room for its record.
+//! [`Ledger::keep`] hands in the record, waits until all that the reply rests on is on the device, and gives
+//! a [`Receipt`]. Whoever comes first writes the records that wait, as one batch, while others hand in more or
+//! wait. After a write or a sync that failed nothing is kept any more, and each call says so.
+#![tactic(auto)]
+
+mod disk;
+pub mod laws;
+mod ledger;
+mod storing;
+mod waiting;
+
+pub use ledger::{Ledger, NotStored, Parts};
+pub use storing::Storing;
+pub use waiting::{Receipt, Room};

@@ -1,0 +1,241 @@
+//! The records that wait, under their lock.
+
+ghost use Rattle.std.specs.Prelude.{◌≡◌, ◌≤◌, false, true, length, IfSome};
+ghost use mathlib.Core.List.{IsPrefix};
+ghost use Rattle.hg_ledger.specs.Records.{AreKept, IsRecordOf, done_in};
+ghost use Rattle.hg_ledger.specs.Steps.{Tells};
+
+use crate::disk::{BATCH, Disk};
+use crate::laws::records_stay;
+use crate::storing::Storing;
+use hg_serve::{Client, Server};
+use hg_store::Device;
+use hg_types::{NoMemory, Seq};
+use std::alloc::{Allocator, Global};
+use std::marker::{Model, PhantomData};
+use std::sync::Wait;
+
+/// A record that is not on the device, and the place of its push in the journal.
+#[derive(Drop)]
+pub struct Record<A: Allocator = Global> {
+    pub place: usize,
+    pub bytes: Seq<u8, A>,
+}
+
+/// Room for one record among those that wait. It is spent by a record, or given back.
+pub struct Room {
+    taken: (),
+}
+
+/// All that a reply rests on is on the device. Only this crate makes one.
+#[derive(Drop)]
+pub struct Receipt {
+    rests: usize,
+}
+
+/// What a thread does next that waits for records to be on the device.
+#[derive(Drop)]
+pub enum Step {
+    /// They are.
+    Go(Receipt),
+    /// A write or a sync failed.
+    Stop,
+    /// Another thread writes, or the next record was not handed in yet.
+    Wait,
+    /// It writes. The next record waits here.
+    Write,
+}
+
+/// The records that wait, the highest place first, and room for more; how many are on the device, whether a
+/// thread writes, and whether a write or a sync failed.
+pub struct Waiting<J: Storing<A>, D: Device, A: Allocator = Global> {
+    records: Vec<Record<A>, A>,
+    rooms: usize,
+    count: usize,
+    is_writing: bool,
+    is_broken: bool,
+    witness: Client<J, A>,
+    of: PhantomData<D>,
+}
+
+impl<J: Storing<A>, D: Device, A: Allocator> Model for Waiting<J, D, A> {
+    ghost use Rattle.std.specs.Prelude.{◌≡◌, false};
+    ghost use Rattle.hg_ledger.specs.Locks.{AreWaiting, WaitingView};
+    ghost use Rattle.hg_ledger.specs.Records.{AreKept};
+
+    ghost Value = { WaitingView A };
+
+    ghost view = { λ w. record { count = w.count; is_broken = w.is_broken; history = w.witness } };
+
+    ghost invariant = { λ w. AreWaiting J.first w.witness w.records.items
+        × (w.is_broken ≡ false → AreKept D.seen D.may_leave J.head J.stored J.first w.witness w.count) };
+}
+
+impl<J: Storing<A>, D: Device, A: Allocator + Copy> Waiting<J, D, A> {
+    /// None wait.
+    pub fn new(alloc: A, witness: Client<J, A>) -> Self
+        requires { AreKept D.seen D.may_leave J.head J.stored J.first witness 0 }
+    {
+        Waiting {
+            records: Vec::new(alloc),
+            rooms: 0,
+            count: 0,
+            is_writing: false,
+            is_broken: false,
+            witness,
+            of: PhantomData,
+        }
+    }
+
+    /// Takes room for a record more.
+    pub fn room(&mut self) -> Result<Room, NoMemory> {
+        let rooms = self.rooms.saturating_add(1);
+        self.records.reserve(rooms)?;
+        self.rooms = rooms;
+        Ok(Room { taken: () })
+    }
+
+    /// Gives room back.
+    pub fn give_back(&mut self, room: Room) {
+        let Room { taken: () } = room;
+        self.rooms = self.rooms.saturating_sub(1);
+    }
+
+    /// Takes a record. Where there is no room for it, nothing is kept any more.
+    pub fn hand_in<R: Wait>(
+        &mut self,
+        rt: &R,
+        server: &Server<J, A>,
+        client: &mut Client<J, A>,
+        room: Room,
+        entry: Record<A>,
+    )
+        requires { IsRecordOf J.first client.old entry.place entry.bytes }
+        ensures { client.new ≡ client.old }
+    {
+        records_stay::<A>();
+        self.give_back(room);
+        server.meet(rt, client, &mut self.witness);
+        let at = place_for(self.records.as_slice(), entry.place);
+        if self.records.insert(at, entry).is_err() {
+            self.is_broken = true;
+        }
+    }
+
+    /// What comes next for a thread whose reply rests on so many done pushes.
+    pub fn step<R: Wait>(
+        &mut self,
+        rt: &R,
+        server: &Server<J, A>,
+        client: &mut Client<J, A>,
+        rests: usize,
+    ) -> Step
+        requires { rests ≤ done_in J.first client.old }
+        ensures same { client.new ≡ client.old }
+        ensures kept { Tells (AreKept D.seen D.may_leave J.head J.stored J.first client.old rests) result }
+    {
+        if self.is_broken {
+            return Step::Stop;
+        }
+        if rests <= self.count {
+            return Step::Go(self.grant(rt, server, client, rests));
+        }
+        if self.is_writing || !self.has_next() {
+            return Step::Wait;
+        }
+        Step::Write
+    }
+
+    /// The receipt for so many done pushes, which are on the device.
+    fn grant<R: Wait>(
+        &mut self,
+        rt: &R,
+        server: &Server<J, A>,
+        client: &mut Client<J, A>,
+        rests: usize,
+    ) -> Receipt
+        requires whole { self.old.is_broken ≡ false }
+        requires low { rests ≤ self.old.count }
+        requires done { rests ≤ done_in J.first client.old }
+        ensures same { client.new ≡ client.old }
+        ensures kept { AreKept D.seen D.may_leave J.head J.stored J.first client.old rests }
+    {
+        records_stay::<A>();
+        server.meet(rt, client, &mut self.witness);
+        Receipt { rests }
+    }
+
+    /// Whether the record that is written next waits here.
+    fn has_next(&self) -> bool {
+        match self.records.last() {
+            Some(record) => record.place == self.count,
+            None => false,
+        }
+    }
+
+    /// Moves the records that come next into the batch of a thread that writes.
+    pub fn load<R: Wait>(&mut self, rt: &R, server: &Server<J, A>, disk: &mut Disk<J, D, A>) {
+        records_stay::<A>();
+        self.is_writing = true;
+        disk.hear(rt, server, &mut self.witness);
+        'loading: for _ in 0..BATCH {
+            let Some(place) = disk.next_place() else {
+                return;
+            };
+            match self.pop_at(place) {
+                Some(record) => disk.take_in(record.bytes),
+                None => return,
+            }
+        }
+    }
+
+    /// The last record of those that wait, if it is the one at this place.
+    fn pop_at(&mut self, place: usize) -> Option<Record<A>>
+        ensures same { self.new.history ≡ self.old.history }
+        ensures found { IfSome result (λ found. IsRecordOf J.first self.old.history place found.bytes) }
+    {
+        match self.records.last() {
+            Some(record) if record.place == place => self.records.pop(),
+            _ => None,
+        }
+    }
+
+    /// Notes how far a thread came that wrote.
+    pub fn note<R: Wait>(&mut self, rt: &R, server: &Server<J, A>, disk: &mut Disk<J, D, A>)
+        ensures lasting { self.old.is_broken ≡ true → self.new.is_broken ≡ true }
+    {
+        records_stay::<A>();
+        self.is_writing = false;
+        if disk.is_broken() {
+            self.is_broken = true;
+            return;
+        }
+        disk.kept();
+        disk.tell(rt, server, &mut self.witness);
+        self.count = disk.count();
+    }
+
+    /// The client that has seen the history of the records. Those that wait are dropped.
+    pub fn into_witness(self) -> Client<J, A> {
+        let Waiting {
+            records: _,
+            rooms: _,
+            count: _,
+            is_writing: _,
+            is_broken: _,
+            witness,
+            of: _,
+        } = self;
+        witness
+    }
+}
+
+/// How many of the records, the highest place first, have no lower place than this one.
+fn place_for<A: Allocator>(records: &[Record<A>], place: usize) -> usize
+    ensures { result ≤ length records.now }
+{
+    match records.iter().position(|other| other.place < place) {
+        Some(at) => at,
+        None => records.len(),
+    }
+}

@@ -1,0 +1,331 @@
+//! What no contract says: that many threads push at one server and one ledger, and that after a stop at any
+//! call of the device what was answered is there again.
+
+ghost use Rattle.std.specs.Prelude.{◌≤◌};
+
+use crate::device::Memory;
+use hg_ledger::{Ledger, Parts, Storing};
+use hg_push::Outcome;
+use hg_queue::{PartQueue, Taker};
+use hg_repo::Repo;
+use hg_restore::replay_records;
+use hg_serve::{Client, Closed, Naming, NoGate, Server};
+use hg_store::{Head, Log, recover};
+use hg_types::{Limits, Part, Seq, Settings};
+use std::alloc::{AllocFailed, Global};
+use std::hash::RandomState;
+use std::marker::Brand;
+use std::process::Abort;
+use std::random::RandomSource;
+use std::sync::{Mutex, Wait};
+use std::test::*;
+use std::thread;
+use std::thread::Threads;
+
+/// How many threads push, and how often each.
+const THREADS: u8 = 8;
+
+const PUSHES: u8 = 24;
+
+fn settings() -> Settings {
+    Settings {
+        publishing: false,
+        limits: Limits::standard(),
+        first_push: 0,
+    }
+}
+
+fn state<R: RandomSource + Abort>(rt: &R) -> RandomState {
+    match RandomState::new(rt) {
+        Ok(state) => state,
+        Err(_) => panic!(*rt; "no random bytes"),
+    }
+}
+
+fn bytes<R: Abort>(rt: &R, alloc: Global, bytes: &[u8]) -> Seq<u8> {
+    match Seq::copy_of(alloc, bytes) {
+        Ok(copy) => copy,
+        Err(_) => panic!(rt; "no memory"),
+    }
+}
+
+/// A marker without successors, on a node that no other push has.
+fn marker<R: Abort>(rt: &R, alloc: Global, thread: u8, turn: u8) -> Vec<u8> {
+    let mut made = Vec::new(alloc);
+    let mut ok = made
+        .extend_from_slice(&[0, 0, 0, 0, 0, 0, 0, thread, turn])
+        .is_ok();
+    for _ in 0..18 {
+        ok = ok && made.push(7).is_ok();
+    }
+    assert!(rt; ok);
+    made
+}
+
+/// The part of a push, and the bundle that has it.
+fn part<R: Abort>(rt: &R, alloc: Global, payload: &[u8]) -> Part<Global> {
+    Part {
+        kind: bytes(rt, alloc, b"OBSMARKERS"),
+        id: 0,
+        params: Seq::new(alloc),
+        payload: bytes(rt, alloc, payload),
+    }
+}
+
+fn bundle<R: Abort>(rt: &R, alloc: Global, payload: &[u8]) -> Seq<u8> {
+    let mut made = Vec::new(alloc);
+    let size = payload.len() as u32;
+    let ok = made
+        .extend_from_slice(b"HG20\0\0\0\0\0\0\0\x11\x0aOBSMARKERS\0\0\0\0\0\0")
+        .is_ok()
+        && made.extend_from_slice(&size.to_be_bytes()).is_ok()
+        && made.extend_from_slice(payload).is_ok()
+        && made.extend_from_slice(&[0; 8]).is_ok();
+    assert!(rt; ok);
+    Seq::from_vec(made)
+}
+
+/// How many pushes are known to be kept: those that the last receipt rests on, and whether a call was refused.
+struct Told {
+    kept: Mutex<usize>,
+    refused: Mutex<usize>,
+}
+
+fn push_once<J: Storing<Global>, R: Wait + Abort>(
+    rt: &R,
+    alloc: Global,
+    server: &Server<J>,
+    ledger: &Ledger<J, Memory>,
+    client: Client<J>,
+    told: &Told,
+    payload: &[u8],
+) -> Client<J> {
+    let room = match ledger.room(rt) {
+        Ok(room) => room,
+        Err(_) => panic!(rt; "no room"),
+    };
+    let mut sender = match server.open(rt, client) {
+        Ok(sender) => sender,
+        Err((_client, _)) => panic!(rt; "no opening"),
+    };
+    assert!(rt;
+        server
+            .put(rt, &mut sender, part(rt, alloc, payload), &mut NoGate)
+            .is_ok()
+    );
+    let ended = server.end(rt, sender, &mut NoGate);
+    let (answer, rests, mut client) = server.answer_resting(rt, ended, &mut NoGate);
+    let record = match &answer.outcome {
+        Outcome::Done(_) => Some(bundle(rt, alloc, payload)),
+        Outcome::Aborted(_) => None,
+    };
+    match ledger.keep(rt, server, &mut client, room, rests, record) {
+        Ok(_receipt) => {
+            let mut kept = told.kept.lock(rt);
+            if *kept < rests {
+                *kept = rests;
+            }
+        }
+        Err(_) => {
+            let mut refused = told.refused.lock(rt);
+            *refused = (*refused).saturating_add(1);
+        }
+    }
+    client
+}
+
+fn push_all<J: Storing<Global>, R: Wait + Abort>(
+    rt: &R,
+    alloc: Global,
+    server: &Server<J>,
+    ledger: &Ledger<J, Memory>,
+    clients: &Mutex<Vec<Client<J>>>,
+    told: &Told,
+    thread: u8,
+) {
+    let mut mine = match server.client(rt) {
+        Ok(client) => client,
+        Err(_) => panic!(rt; "no client"),
+    };
+    for turn in 0..PUSHES {
+        // every third push is malformed, and so aborted
+        let payload = marker(rt, alloc, thread, turn);
+        let payload = if turn % 3 == 0 {
+            &payload[1..]
+        } else {
+            &payload[..]
+        };
+        mine = push_once(rt, alloc, server, ledger, mine, told, payload);
+    }
+    add(rt, &mut *clients.lock(rt), mine);
+}
+
+fn add<J: Naming<Global>, R: Abort>(rt: &R, clients: &mut Vec<Client<J>>, client: Client<J>) {
+    match clients.push(client) {
+        Ok(()) => {}
+        Err(AllocFailed { value: _client, .. }) => panic!(rt; "no memory for a client"),
+    }
+}
+
+/// What is left after a run.
+#[derive(Drop)]
+struct Left {
+    closed: Closed,
+    device: Memory,
+    kept: usize,
+    refused: usize,
+}
+
+fn play<J: Storing<Global> + Send + Sync, R: Threads + Wait + Abort + Sync>(
+    rt: &R,
+    alloc: Global,
+    queue: PartQueue,
+    taker: Taker,
+    repo: Repo,
+    log: Log<Memory>,
+) -> Left {
+    let server = Server::<J>::new(alloc, repo, queue, taker);
+    let first = match server.client(rt) {
+        Ok(client) => client,
+        Err(_) => panic!(rt; "no client"),
+    };
+    let second = match server.client(rt) {
+        Ok(client) => client,
+        Err(_) => panic!(rt; "no client"),
+    };
+    let ledger = match Ledger::new(alloc, log, (first, second)) {
+        Ok(ledger) => ledger,
+        Err(_parts) => panic!(rt; "no memory for a ledger"),
+    };
+    let clients = Mutex::new(Vec::new(alloc));
+    let told = Told {
+        kept: Mutex::new(0),
+        refused: Mutex::new(0),
+    };
+    let (list, lent, server_lent, told_lent) = (&clients, &ledger, &server, &told);
+    thread::scope(thread::scope_env(), rt, |scope| {
+        for thread in 0..THREADS {
+            let started = scope.spawn(move || push_all(
+                rt,
+                alloc,
+                server_lent,
+                lent,
+                list,
+                told_lent,
+                thread,
+            ));
+            assert!(rt; started.is_ok());
+        }
+    });
+    let mut clients = clients.into_inner();
+    let Parts {
+        log,
+        is_broken: _,
+        witnesses: (first, second),
+    } = ledger.into_parts();
+    add(rt, &mut clients, first);
+    add(rt, &mut clients, second);
+    let Log { device, .. } = log;
+    let Told { kept, refused } = told;
+    Left {
+        closed: server.close(clients),
+        device,
+        kept: kept.into_inner(),
+        refused: refused.into_inner(),
+    }
+}
+
+/// Runs the threads on a device that fails after so many calls.
+fn run<R: Threads + Wait + RandomSource + Abort + Sync>(
+    rt: &R,
+    alloc: Global,
+    calls: usize,
+) -> Left {
+    let head = Head {
+        publishing: false,
+        limits: Limits::standard(),
+    };
+    let mut file = Vec::new(alloc);
+    assert!(rt; head.put(&mut file).is_ok());
+    let mut device = match Memory::new(alloc, &file, calls) {
+        Ok(device) => device,
+        Err(_) => panic!(rt; "no memory for a device"),
+    };
+    let found = match recover(alloc, &mut device) {
+        Ok(found) => found,
+        Err(_) => panic!(rt; "no store"),
+    };
+    let log = Log {
+        device,
+        end: found.end,
+        digest: found.digest,
+    };
+    match PartQueue::new(alloc, 8) {
+        Ok((queue, taker)) => {
+            play::<Brand, R>(
+                rt,
+                alloc,
+                queue,
+                taker,
+                Repo::new(alloc, settings(), state(rt)),
+                log,
+            )
+        }
+        Err(_) => panic!(rt; "no memory for a queue"),
+    }
+}
+
+/// Starts again from what a crash leaves: what every reply rested on is there, in the order of the journal.
+fn starts_again<R: RandomSource + Abort>(rt: &R, alloc: Global, run: &Left, part: usize) -> usize {
+    let file = match run.device.crashed(part) {
+        Ok(file) => file,
+        Err(_) => panic!(rt; "no memory"),
+    };
+    let mut device = match Memory::new(alloc, &file, 9) {
+        Ok(device) => device,
+        Err(_) => panic!(rt; "no memory"),
+    };
+    let found = match recover(alloc, &mut device) {
+        Ok(found) => found,
+        Err(_) => panic!(rt; "no store is left"),
+    };
+    let mut repo = Repo::new(alloc, settings(), state(rt));
+    assert!(rt; replay_records(alloc, &mut repo, found.records.as_slice()).is_ok());
+    let count = found.records.len();
+    assert!(rt; run.kept <= count);
+    let all = run.closed.repo.markers();
+    assert!(rt; count <= all.len());
+    assert!(rt; repo.markers().len() == count);
+    for (again, first) in repo.markers().iter().zip(all) {
+        assert!(rt; again.predecessor == first.predecessor);
+    }
+    count
+}
+
+/// How many pushes are done: two of three of each thread.
+const DONE: usize = 8 * 16;
+
+#[test]
+fn eight_threads_are_all_kept(rt: HostRuntime) -> Result<(), Fail> {
+    let alloc = rt.alloc();
+    let left = run(&rt, alloc, 1_000_000);
+    assert!(rt; left.refused == 0);
+    assert!(rt; left.kept == DONE);
+    assert!(rt; starts_again(&rt, alloc, &left, 0) == DONE);
+    // two syncs a batch: some batches had more than one record
+    assert!(rt; left.device.syncs < 2 * DONE);
+    Ok(())
+}
+
+#[test]
+fn eight_threads_on_a_device_that_stops(rt: HostRuntime) -> Result<(), Fail> {
+    let alloc = rt.alloc();
+    for calls in 3..40usize {
+        let left = run(&rt, alloc, calls);
+        assert!(rt; left.refused > 0);
+        for part in [0, 1, 30, 100, 100_000] {
+            let _count = starts_again(&rt, alloc, &left, part);
+        }
+    }
+    Ok(())
+}

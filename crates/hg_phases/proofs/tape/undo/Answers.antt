@@ -1,0 +1,24 @@
+use Rattle.std.proofs.Common.{◌≡◌, ◌∙◌, ◌<◌, length, sym, ap}
+use Rattle.std.specs.List.{All}
+use Rattle.std.specs.Prelude.{Some}
+use Rattle.std.proofs.lemmas.List.{length-set}
+use Rattle.std.proofs.lemmas.List.Elements.{All-pop}
+use Rattle.hg_phases.specs.declared.tape.Replaced.{Replaced}
+use Rattle.hg_phases.specs.code.Tape.{undone}
+use Rattle.hg_phases.proofs.Undoing.{undone_push}
+use Rattle.hg_phases.proofs.tape.undo.Goals as goal
+
+pub back-preserved : goal.back-preserved
+back-preserved g c =
+    let rows = c.back.rows.items in
+    let rest = c.pop.new.self.items in
+    let change = c.in-Some.change in
+    let popped = c.in-Some.ensures.items in
+    let all = All-pop (λ (r : Replaced). r.row < length c.args.rows.now.items) c.back.left.items rest
+    (Some change) popped c.back.invariant.within in
+    record {
+      len = length-set rows change.row change.standing ∙ c.back.invariant.len;
+      within = all.0;
+      rest = sym (undone_push rest change rows) ∙ ap (λ ks. undone ks rows) (sym popped)
+          ∙ c.back.invariant.rest;
+    }

@@ -1,0 +1,29 @@
+use Rattle.std.proofs.Common.{◌≡◌, ◌∙◌, ap, subst, sym}
+use Rattle.hg_types.specs.Limits.{IsAllowed}
+use Rattle.hg_store.specs.Calls.{state_of}
+use Rattle.hg_store.specs.Files.{digest_behind, stored}
+use Rattle.hg_store.specs.Head.{HasHead}
+use Rattle.hg_store.specs.Log.{at_rest}
+use Rattle.std.proofs.Common.{length}
+use Rattle.hg_store.proofs.Opens.{head_is}
+use Rattle.hg_store.proofs.start.open_file.Goals as goal
+
+pub returns : goal.returns
+returns g c =
+    let s = c.in_ok-found.ensures.settled in
+    let records = c.in_ok-found.found.records in
+    let is = head_is c.args.head.now c.in_ok-found.found.head records
+    (state_of (g.C.Calls.history c.of-device.result.calls)).seen c.in_ok-bytes.bytes
+    (ap (λ calls. (state_of (g.C.Calls.history calls)).seen) c.of-device.ensures
+    ∙ ap (λ calls. (state_of calls).seen) c.in_ok-bytes.ensures) c.in_ok-found.ensures.read
+    (λ other has. c.in_ok-has_no_other_head.ensures.one other (subst (λ f. HasHead f other) (sym c.as_slice.ensures) has)) in
+    record {
+      settled = record {
+        allowed = subst (λ h. IsAllowed h.limits) is s.allowed;
+        each = s.each;
+        file = s.file ∙ ap (λ h. at_rest h records) is;
+        place = s.place ∙ ap (λ h. length (stored h records)) is;
+        chained = s.chained ∙ ap (λ h. digest_behind h records) is;
+        durable = s.durable;
+      };
+    }

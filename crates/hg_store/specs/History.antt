@@ -1,0 +1,13 @@
+-- What is noted of a call.
+use Rattle.std.specs.Prelude.{ℕ, List}
+use Rattle.hg_store.specs.declared.history.Call.{Call}
+use Rattle.hg_store.specs.declared.history.Call.TheVariants.{Began, Wrote, Shortened, Synced, Placed, GaveUp}
+use Rattle.hg_store.specs.Calls.{Event, began, wrote, shortened, synced, placed, gave_up}
+
+abbrev pub event_of : Call → Event
+event_of (Began bytes) = began bytes.now
+event_of (Wrote at bytes ok) = wrote at bytes.now ok
+event_of (Shortened len ok) = shortened len ok
+event_of (Synced ok) = synced ok
+event_of (Placed ok) = placed ok
+event_of GaveUp = gave_up

@@ -1,0 +1,132 @@
+//! A device over the calls on a file: what is known of the file by the calls that were made, and what they
+//! answered.
+
+ghost use Rattle.std.specs.Prelude.{◌≡◌, ◌∷◌, List, ℕ, Some, Ok, IfOk, MatchResult, false, is_ok, length};
+ghost use Rattle.hg_store.specs.Calls.{Event, LeftSince, MayLeave, began, gave_up, state_of};
+ghost use Rattle.hg_store.specs.FileLaws.{now_alone, now_counts};
+
+use crate::calls::Calls;
+use crate::device::{Device, DeviceError};
+use hg_types::Seq;
+use std::alloc::{Allocator, Global};
+use std::io;
+
+/// A file of the system as a device. What a read returns, and what a crash may leave, is what the calls
+/// make of the bytes that were read at first, where each call that answered Ok did what it says and each
+/// that failed was made, in part or not at all: that this is so of a disk is a premise, and no contract
+/// says it. After a call that failed no other is made.
+#[derive(Drop)]
+pub struct StoreFile<C: Calls, A: Allocator = Global> {
+    calls: C,
+    /// The bytes that were read, until they are given out or the file is changed.
+    unread: Option<Seq<u8, A>>,
+    /// Whether a call failed.
+    broken: bool,
+    ghost known: { broken ≡ (state_of (C.Calls.history calls)).failed },
+    ghost told: { (bytes : List ℕ) → unread ≡ Some bytes → bytes ≡ (state_of (C.Calls.history calls)).seen },
+}
+
+impl<C: Calls, A: Allocator + Copy> StoreFile<C, A> {
+    /// A file of which these bytes were read.
+    pub fn of(calls: C, bytes: Seq<u8, A>) -> Self
+        requires { (earlier : List Event) × (C.Calls.history calls ≡ began bytes ∷ earlier) }
+        ensures { result.calls ≡ calls }
+    {
+        StoreFile {
+            calls,
+            unread: Some(bytes),
+            broken: false,
+        }
+    }
+
+    /// Gives the file back, whose bytes may then be read anew.
+    pub fn into_calls(self) -> C
+        ensures { result ≡ self.calls }
+    {
+        let StoreFile {
+            calls,
+            unread: _,
+            broken: _,
+        } = self;
+        calls
+    }
+
+    /// Refuses a call.
+    fn refuse(&mut self)
+        ensures { C.Calls.history self.new.calls ≡ gave_up ∷ C.Calls.history self.old.calls }
+    {
+        self.unread = None;
+        self.calls.give_up();
+        self.broken = true;
+    }
+}
+
+/// The same error as a device reports it.
+pub(crate) fn told<T>(answer: io::Result<T>) -> Result<T, DeviceError>
+    ensures { MatchResult result (λ value. answer ≡ Ok value) (λ error. (error ≡ DeviceError.Failed)
+        × (is_ok answer ≡ false)) }
+{
+    match answer {
+        Ok(value) => Ok(value),
+        Err(_) => Err(DeviceError::Failed),
+    }
+}
+
+impl<C: Calls, A: Allocator + Copy> Device for StoreFile<C, A> {
+    ghost seen = { λ f. (state_of (C.Calls.history f.calls)).seen };
+
+    ghost may_leave = { λ f. MayLeave (state_of (C.Calls.history f.calls)) };
+
+    ghost moment = { λ f. length (C.Calls.history f.calls) };
+
+    ghost left_since = { λ f. LeftSince (C.Calls.history f.calls) };
+
+    ghost faults = { λ f. (state_of (C.Calls.history f.calls)).faults };
+
+    ghost counts_now = { λ f. now_counts (C.Calls.history f.calls) };
+
+    ghost only_now = { λ f. now_alone (C.Calls.history f.calls) };
+
+    /// The bytes that were read at first. They are given out once.
+    fn read<B: Allocator + Copy>(&mut self, alloc: B) -> Result<Vec<u8, B>, DeviceError> {
+        let Some(bytes) = &self.unread else {
+            self.refuse();
+            return Err(DeviceError::Failed);
+        };
+        let copy = Vec::from_slice(alloc, bytes.as_slice())?;
+        self.unread = None;
+        Ok(copy)
+    }
+
+    fn write_at(&mut self, at: usize, bytes: &[u8]) -> Result<(), DeviceError> {
+        if self.broken {
+            self.refuse();
+            return Err(DeviceError::Failed);
+        }
+        self.unread = None;
+        let answer = self.calls.write(at, bytes);
+        self.broken = answer.is_err();
+        told(answer)
+    }
+
+    fn cut(&mut self, len: usize) -> Result<(), DeviceError> {
+        if self.broken {
+            self.refuse();
+            return Err(DeviceError::Failed);
+        }
+        self.unread = None;
+        let answer = self.calls.shorten(len);
+        self.broken = answer.is_err();
+        told(answer)
+    }
+
+    fn sync(&mut self) -> Result<(), DeviceError> {
+        if self.broken {
+            self.refuse();
+            return Err(DeviceError::Failed);
+        }
+        let answer = self.calls.sync();
+        self.broken = answer.is_err();
+        told(answer)
+    }
+}

@@ -1,0 +1,53 @@
+//! The calls on a file so far, which only contracts see.
+
+ghost use Rattle.std.specs.Prelude.{◌≡◌, List, [], ◌∷◌};
+ghost use Rattle.std.specs.Borrow.{ftrue};
+ghost use Rattle.hg_store.specs.Calls.{Event};
+
+use std::marker::Model;
+
+/// Each call on a file with its answer, the newest first. It has no bytes, and its functions do nothing
+/// when they run: so what it says is as true as the code that notes it.
+#[derive(Drop)]
+pub struct History {
+    pub ghost events: { List Event },
+}
+
+impl Model for History {
+    ghost also_owns = { λ _. ftrue };
+}
+
+/// A call on a file, and whether it answered Ok.
+#[derive(Clone, Copy, Drop)]
+pub enum Call<'a> {
+    /// The file was synced, what the system kept of it was dropped, and these bytes were read.
+    Began(&'a [u8]),
+    /// These bytes were written from that place on.
+    Wrote(usize, &'a [u8], bool),
+    /// The file was cut to that length.
+    Shortened(usize, bool),
+    /// The file was synced.
+    Synced(bool),
+    /// The file got the name of the store, and its folder was synced.
+    Placed(bool),
+    /// No call was made.
+    GaveUp,
+}
+
+impl History {
+    ghost use Rattle.hg_store.specs.History.{event_of};
+
+    /// The history of a file that was not called yet.
+    pub fn new() -> History
+        ensures { result.events ≡ [] }
+    {
+        History {}
+    }
+
+    /// The history with one call more.
+    pub fn and(&self, _call: &Call<'_>) -> History
+        ensures { result.events ≡ event_of _call.now ∷ self.now.events }
+    {
+        History {}
+    }
+}

@@ -1,0 +1,117 @@
+//! A new file that gets the name of a store once it is whole.
+
+ghost use Rattle.std.specs.Prelude.{◌≡◌, ◌≤◌, ◌<◌, ◌∷◌, ◌⊎◌, [], List, ℕ, IfOk, IsErrOf, OnOk, is_ok, true, false};
+ghost use Rattle.std.specs.List.{AllByRecursion};
+ghost use Rattle.hg_store.specs.Calls.{IsPlaced, IsPlacedWhole, began, placed};
+ghost use Rattle.hg_store.specs.Cuts.{IsCutAt, IsNoPlaceOf};
+ghost use Rattle.hg_store.specs.Log.{at_rest};
+ghost use Rattle.hg_store.specs.Records.{IsRecord};
+ghost use Rattle.hg_store.specs.declared.start.StoreFault.TheVariants.{NoPlace};
+
+use crate::calls::Calls;
+use crate::device::DeviceError;
+use crate::file::told;
+use crate::head::Head;
+use crate::log::batch_bytes;
+use crate::read::read_records;
+use crate::start::StoreFault;
+use hg_types::{NoMemory, Seq};
+use sha1::Sha1;
+use std::alloc::Allocator;
+use std::io;
+
+/// A file that has not yet the name of a store.
+pub trait NewFile: Calls {
+    /// Gives it that name, in the place of a file that has it, and syncs the folder.
+    fn put_in_place(&mut self) -> io::Result<()>
+        ensures { Self.Calls.history self.new ≡ placed (is_ok result) ∷ Self.Calls.history self.old };
+}
+
+/// Writes a new file and gives it the name of a store, once these bytes and no others are on the disk.
+pub fn put_whole<N: NewFile>(file: &mut N, bytes: &[u8]) -> Result<(), DeviceError>
+    requires { N.Calls.history file.old ≡ [] }
+    ensures whole { IsPlacedWhole bytes.now (N.Calls.history file.new) }
+    ensures placed { OnOk result (IsPlaced (N.Calls.history file.new)) }
+{
+    told(file.shorten(0))?;
+    told(file.write(0, bytes))?;
+    told(file.sync())?;
+    told(file.put_in_place())
+}
+
+/// Writes the store of a server that is set up in this way, with no record, to a new file, and gives it its
+/// name.
+pub fn create_file<N: NewFile, A: Allocator + Copy>(
+    alloc: A,
+    new: &mut N,
+    head: &Head,
+) -> Result<(), StoreFault>
+    requires { N.Calls.history new.old ≡ [] }
+    ensures whole { IsPlacedWhole (at_rest head.now []) (N.Calls.history new.new) }
+    ensures placed { OnOk result (IsPlaced (N.Calls.history new.new)) }
+{
+    let none: Vec<Seq<u8, A>, A> = Vec::new(alloc);
+    let bytes = bytes_at_rest(alloc, head, &none)?;
+    put_whole(new, &bytes)?;
+    Ok(())
+}
+
+/// Ends a store before the record at this place: writes the records before it to a new file, and puts that
+/// in the place of the old one, in which nothing is changed. What it leaves out is returned. A place at
+/// which no record stands, and no torn one, is refused; then no new file gets the name.
+pub fn cut_file<C: Calls, N: NewFile, A: Allocator + Copy>(
+    alloc: A,
+    old: &mut C,
+    new: &mut N,
+    at: usize,
+) -> Result<Seq<Seq<u8, A>, A>, StoreFault>
+    requires { N.Calls.history new.old ≡ [] }
+    ensures cut { IfOk result (λ left_out. (bytes : List ℕ)
+        × (C.Calls.history old.new ≡ began bytes ∷ C.Calls.history old.old)
+        × IsCutAt bytes at left_out (N.Calls.history new.new)) }
+    ensures no_place { (count : ℕ) → IsErrOf result (NoPlace count) → (bytes : List ℕ)
+        × (C.Calls.history old.new ≡ began bytes ∷ C.Calls.history old.old)
+        × IsNoPlaceOf bytes at count × (N.Calls.history new.new ≡ []) }
+{
+    let bytes = old.begin(alloc)?;
+    let found = read_records(alloc, bytes.as_slice())?;
+    drop(bytes);
+    let count = found.records.len();
+    if !has_place(at, count, found.is_torn) {
+        return Err(StoreFault::NoPlace(count));
+    }
+    let mut records = found.records.into_vec();
+    let left_out = records.split_off(at)?;
+    let whole = bytes_at_rest(alloc, &found.head, &records)?;
+    put_whole(new, &whole)?;
+    Ok(Seq::from_vec(left_out))
+}
+
+/// Whether a record stands at the place, or a torn one behind so many whole ones.
+fn has_place(at: usize, count: usize, is_torn: bool) -> bool
+    ensures within { result ≡ true → at ≤ count }
+    ensures place { result ≡ true → (at < count) ⊎ ((at ≡ count) × (is_torn ≡ true)) }
+    ensures refused { result ≡ false → (count < at) ⊎ ((at ≡ count) × (is_torn ≡ false)) }
+{
+    if at == count {
+        return is_torn;
+    }
+    at < count
+}
+
+/// The bytes of a store with these records and a shut gate behind them.
+fn bytes_at_rest<A: Allocator + Copy>(
+    alloc: A,
+    head: &Head,
+    records: &[Seq<u8, A>],
+) -> Result<Vec<u8, A>, NoMemory>
+    requires { AllByRecursion IsRecord records.now }
+    ensures { IfOk result (λ bytes. bytes.items ≡ at_rest head.now records.now) }
+{
+    let mut bytes = Vec::new(alloc);
+    head.put(&mut bytes)?;
+    let (frames, _digest) = batch_bytes(alloc, &Sha1::digest(&bytes), records)?;
+    bytes.extend_from_slice(&frames)?;
+    bytes.push(0)?;
+    Ok(bytes)
+}

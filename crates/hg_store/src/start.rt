@@ -1,0 +1,161 @@
+//! A store in a file that is opened for more records, or cut.
+
+ghost use Rattle.std.specs.Prelude.{◌≡◌, ◌≢◌, IfOk, IsErrOf, OnOk};
+ghost use Rattle.hg_store.specs.Head.{HasHead};
+ghost use Rattle.hg_store.specs.Log.{IsSettled};
+ghost use Rattle.hg_store.specs.declared.head.Head.{Head as AnyHead};
+ghost use Rattle.hg_store.specs.declared.start.StoreFault.TheVariants.{OtherLimits, OtherPublishing};
+
+use crate::calls::Calls;
+use crate::device::{Device, DeviceError};
+use crate::file::StoreFile;
+use crate::head::Head;
+use crate::log::Log;
+use crate::opening::{RecoverFault, recover};
+use crate::read::ReadFault;
+use hg_types::{NoMemory, Seq};
+use std::alloc::{AllocError, Allocator, Global};
+use thiserror::Error;
+
+/// Why a store is not made, opened, read or cut.
+#[derive(Clone, Copy, Debug, PartialEq, Eq, Error)]
+pub enum StoreFault {
+    /// There is none.
+    #[error("no store")]
+    Missing,
+    /// There is one already.
+    #[error("there is a store already")]
+    Exists,
+    /// Another process holds it.
+    #[error("another process holds the store")]
+    Held,
+    /// It was made with another publishing flag.
+    #[error("a store of another publishing flag")]
+    OtherPublishing,
+    /// It was made with other limits.
+    #[error("a store of other limits")]
+    OtherLimits,
+    /// It has no such place, since it has so many records.
+    #[error("no such place behind {0} records")]
+    NoPlace(usize),
+    /// It is not read, or torn, or the device failed, or memory was refused.
+    #[error("{0}")]
+    Recover(RecoverFault),
+}
+
+impl From<RecoverFault> for StoreFault {
+    ghost use Rattle.std.specs.Prelude.{◌≡◌};
+    ghost use Rattle.hg_store.specs.declared.start.StoreFault.TheVariants.{Recover};
+
+    ghost from_gives = { λ fault told. told ≡ Recover fault };
+
+    fn from(fault: RecoverFault) -> Self {
+        StoreFault::Recover(fault)
+    }
+}
+
+impl From<ReadFault> for StoreFault {
+    ghost use Rattle.std.specs.Prelude.{◌≡◌};
+    ghost use Rattle.hg_store.specs.declared.start.StoreFault.TheVariants.{Recover};
+    ghost use Rattle.hg_store.specs.declared.opening.RecoverFault.TheVariants.{Read as unread};
+
+    ghost from_gives = { λ fault told. told ≡ Recover (unread fault) };
+
+    fn from(fault: ReadFault) -> Self {
+        StoreFault::Recover(RecoverFault::Read(fault))
+    }
+}
+
+impl From<DeviceError> for StoreFault {
+    ghost use Rattle.std.specs.Prelude.{◌≡◌};
+    ghost use Rattle.hg_store.specs.declared.start.StoreFault.TheVariants.{Recover};
+    ghost use Rattle.hg_store.specs.declared.opening.RecoverFault.TheVariants.{Device as device_fault};
+
+    ghost from_gives = { λ fault told. told ≡ Recover (device_fault fault) };
+
+    fn from(fault: DeviceError) -> Self {
+        StoreFault::Recover(RecoverFault::Device(fault))
+    }
+}
+
+impl From<NoMemory> for StoreFault {
+    ghost use Rattle.std.specs.Prelude.{◌≡◌};
+    ghost use Rattle.hg_store.specs.declared.start.StoreFault.TheVariants.{Recover};
+    ghost use Rattle.hg_store.specs.declared.opening.RecoverFault.TheVariants.{Device as device_fault};
+    ghost use Rattle.hg_store.specs.declared.device.DeviceError.TheVariants.{Memory};
+
+    ghost from_gives = { λ _ told. told ≡ Recover (device_fault Memory) };
+
+    fn from(_: NoMemory) -> Self {
+        StoreFault::Recover(RecoverFault::Device(DeviceError::Memory))
+    }
+}
+
+impl From<AllocError> for StoreFault {
+    ghost use Rattle.std.specs.Prelude.{◌≡◌};
+    ghost use Rattle.hg_store.specs.declared.start.StoreFault.TheVariants.{Recover};
+    ghost use Rattle.hg_store.specs.declared.opening.RecoverFault.TheVariants.{Device as device_fault};
+    ghost use Rattle.hg_store.specs.declared.device.DeviceError.TheVariants.{Memory};
+
+    ghost from_gives = { λ _ told. told ≡ Recover (device_fault Memory) };
+
+    fn from(_: AllocError) -> Self {
+        StoreFault::Recover(RecoverFault::Device(DeviceError::Memory))
+    }
+}
+
+/// A store that is open for more records, and those that it has.
+#[derive(Drop)]
+pub struct Opened<C: Calls, A: Allocator + Copy = Global> {
+    pub log: Log<StoreFile<C, A>>,
+    pub records: Seq<Seq<u8, A>, A>,
+}
+
+/// Opens the store of a server that is set up in this way: reads it, and brings its end in order as
+/// [`recover`] does. A store with another head is refused, and so is one that [`recover`] refuses; then
+/// nothing in it is changed.
+pub fn open_file<C: Calls, A: Allocator + Copy>(
+    alloc: A,
+    calls: C,
+    head: &Head,
+) -> Result<Opened<C, A>, StoreFault>
+    ensures settled { IfOk result (λ opened. IsSettled ⟦<StoreFile<C, A> as Device>⟧.seen
+        ⟦<StoreFile<C, A> as Device>⟧.may_leave head.now opened.records opened.log) }
+{
+    let mut calls = calls;
+    let bytes = calls.begin(alloc)?;
+    has_no_other_head(bytes.as_slice(), head)?;
+    let mut device = StoreFile::of(calls, bytes);
+    let found = recover(alloc, &mut device)?;
+    let log = Log {
+        device,
+        end: found.end,
+        digest: found.digest,
+    };
+    Ok(Opened {
+        log,
+        records: found.records,
+    })
+}
+
+/// Refuses a file that has another head than this one. One that has none is not refused here.
+#[tactic(auto, using(crate::proofs::Opens::no_other, crate::proofs::Opens::none_is_refused))]
+fn has_no_other_head(file: &[u8], head: &Head) -> Result<(), StoreFault>
+    ensures one { OnOk result ((other : AnyHead) → HasHead file.now other → other ≡ head.now) }
+    ensures publishing { IsErrOf result OtherPublishing → (other : AnyHead) × HasHead file.now other
+        × (other.publishing ≢ head.now.publishing) }
+    ensures limits { IsErrOf result OtherLimits → (other : AnyHead) × HasHead file.now other
+        × (other.limits ≢ head.now.limits) }
+{
+    let found = match Head::read(file) {
+        Ok(found) => found,
+        Err(_) => return Ok(()),
+    };
+    if found.publishing != head.publishing {
+        return Err(StoreFault::OtherPublishing);
+    }
+    if found.limits != head.limits {
+        return Err(StoreFault::OtherLimits);
+    }
+    Ok(())
+}

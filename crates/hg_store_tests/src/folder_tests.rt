@@ -1,0 +1,159 @@
+//! Stores in real folders.
+
+use hg_store::*;
+use hg_types::{Limits, Seq};
+use std::fs;
+use std::test::*;
+
+/// Where the head and each record of the store of these tests ends.
+const ENDS: [usize; 3] = [38, 68, 97];
+
+fn standard() -> Head {
+    Head {
+        publishing: false,
+        limits: Limits::standard(),
+    }
+}
+
+/// Why a store is not opened.
+fn refusal(rt: &HostRuntime, folder: &str, head: &Head) -> Option<StoreFault> {
+    match open_store(rt, rt.alloc(), folder, head) {
+        Ok(_) => None,
+        Err(fault) => Some(fault),
+    }
+}
+
+/// Makes a store of two records, `first` and `next`.
+fn fill(rt: &HostRuntime, folder: &str) -> Result<(), Fail> {
+    let alloc = rt.alloc();
+    let _ = fs::remove_dir_all(rt, folder);
+    create_store(rt, alloc, folder, &standard())?;
+    let mut opened = open_store(rt, alloc, folder, &standard())?;
+    for record in [b"first".as_slice(), b"next"] {
+        let mut batch = Vec::new(alloc);
+        batch.push(Seq::copy_of(alloc, record)?)?;
+        opened.log.append(alloc, &batch)?;
+    }
+    Ok(())
+}
+
+// A store is made once, is held by one at a time, and has what was added, also to a reader beside it.
+#[test]
+fn a_store_in_a_folder(rt: HostRuntime) -> Result<(), Fail> {
+    let folder = "hg_store_in_a_folder";
+    let alloc = rt.alloc();
+    let _ = fs::remove_dir_all(&rt, folder);
+    assert_eq!(rt;
+        refusal(&rt, folder, &standard()),
+        Some(StoreFault::Missing)
+    );
+    fill(&rt, folder)?;
+    assert_eq!(rt;
+        create_store(&rt, alloc, folder, &standard()),
+        Err(StoreFault::Exists)
+    );
+    assert_eq!(rt; fs::exists(&rt, "hg_store_in_a_folder/pushes.new")?, false);
+
+    let opened = open_store(&rt, alloc, folder, &standard())?;
+    assert_eq!(rt; opened.records.len(), 2);
+    assert_eq!(rt;
+        opened.records.as_slice()[0].as_slice(),
+        b"first".as_slice()
+    );
+    assert_eq!(rt; opened.log.end, ENDS[2]);
+    assert_eq!(rt; refusal(&rt, folder, &standard()), Some(StoreFault::Held));
+    let beside = read_store(&rt, alloc, folder)?;
+    assert_eq!(rt; beside.records.len(), 2);
+    drop(opened);
+
+    let mut other = standard();
+    other.publishing = true;
+    assert_eq!(rt;
+        refusal(&rt, folder, &other),
+        Some(StoreFault::OtherPublishing)
+    );
+    assert_eq!(rt; refusal(&rt, folder, &standard()), None);
+    fs::remove_dir_all(&rt, folder)?;
+    Ok(())
+}
+
+// The file cut at each of its lengths: no store below the head, torn between, and else whole. What is
+// refused stays, and a reader gets the whole records.
+#[test]
+fn a_file_cut_anywhere(rt: HostRuntime) -> Result<(), Fail> {
+    let folder = "hg_store_cut_anywhere";
+    let name = "hg_store_cut_anywhere/pushes";
+    let alloc = rt.alloc();
+    fill(&rt, folder)?;
+    let file = fs::read(&rt, name)?;
+    assert_eq!(rt; file.len(), 98);
+    for len in 0..file.len() + 1 {
+        fs::write(&rt, name, &file[..len])?;
+        let whole = if len >= ENDS[2] {
+            2usize
+        } else {
+            usize::from(len >= ENDS[1])
+        };
+        let is_whole = len == 98 || ENDS.contains(&len);
+        let beside = read_store(&rt, alloc, folder);
+        let refused = refusal(&rt, folder, &standard());
+        if len < 38 {
+            let short = ReadFault::Head(HeadFault::TooShort);
+            let fault = StoreFault::Recover(RecoverFault::Read(short));
+            assert!(rt; beside.is_err(), "{len} bytes");
+            assert_eq!(rt; refused, Some(fault), "{len} bytes");
+        } else {
+            let found = beside?;
+            assert_eq!(rt; found.records.len(), whole, "{len} bytes");
+            assert_eq!(rt; found.is_torn, !is_whole, "{len} bytes");
+            let torn = StoreFault::Recover(RecoverFault::Torn(whole));
+            let expected = if is_whole { None } else { Some(torn) };
+            assert_eq!(rt; refused, expected, "{len} bytes");
+        }
+        if !is_whole {
+            assert_eq!(rt;
+                fs::read(&rt, name)?.as_slice(),
+                &file[..len],
+                "{len} bytes"
+            );
+        }
+    }
+    fs::remove_dir_all(&rt, folder)?;
+    Ok(())
+}
+
+// A cut at a place that is not there changes nothing, and one that is there leaves the records before it.
+#[test]
+fn a_cut_in_a_folder(rt: HostRuntime) -> Result<(), Fail> {
+    let folder = "hg_store_cut_in_a_folder";
+    let name = "hg_store_cut_in_a_folder/pushes";
+    let alloc = rt.alloc();
+    fill(&rt, folder)?;
+    let file = fs::read(&rt, name)?;
+    match cut_store(&rt, alloc, folder, 2) {
+        Ok(_) => assert!(rt; false, "a place behind the records"),
+        Err(fault) => assert_eq!(rt; fault, StoreFault::NoPlace(2)),
+    }
+    assert_eq!(rt; fs::read(&rt, name)?.as_slice(), file.as_slice());
+    assert_eq!(rt;
+        fs::exists(&rt, "hg_store_cut_in_a_folder/pushes.new")?,
+        false
+    );
+
+    let held = open_store(&rt, alloc, folder, &standard())?;
+    match cut_store(&rt, alloc, folder, 1) {
+        Ok(_) => assert!(rt; false, "a store that is held"),
+        Err(fault) => assert_eq!(rt; fault, StoreFault::Held),
+    }
+    drop(held);
+
+    let left_out = cut_store(&rt, alloc, folder, 1)?;
+    assert_eq!(rt; left_out.len(), 1);
+    assert_eq!(rt; left_out.as_slice()[0].as_slice(), b"next".as_slice());
+    let opened = open_store(&rt, alloc, folder, &standard())?;
+    assert_eq!(rt; opened.records.len(), 1);
+    assert_eq!(rt; opened.log.end, ENDS[1]);
+    drop(opened);
+    fs::remove_dir_all(&rt, folder)?;
+    Ok(())
+}

@@ -1,0 +1,197 @@
+//! The answer to `branchmap`: the branches with their heads.
+
+ghost use Rattle.std.specs.Prelude.{◌≡◌, ◌<◌, ◌≤◌, ◌++◌, IfOk, OnOk, length};
+ghost use Rattle.hg_told.specs.BranchMap.{is_unquoted, quoted, quoted_byte};
+
+use crate::behind::{add_sets, no_sets, sets_behind};
+use crate::branch::push_branch;
+use crate::hidden::hidden_changesets;
+use crate::text::{digits_of, joined};
+use hg_log::Changelog;
+use hg_obs::Markers;
+use hg_types::{NoMemory, Seq};
+use percent_encoding::percent_encode_byte;
+use std::alloc::{Allocator, Global};
+use std::collections::BTreeMap;
+
+/// A branch: its name, and its changesets that are not hidden, in the order of the changelog.
+#[derive(Drop)]
+struct Branch<A: Allocator = Global> {
+    name: Vec<u8, A>,
+    revs: Vec<u32, A>,
+}
+
+/// The changesets of each branch, by its name.
+type Members<A> = BTreeMap<Vec<u8, A>, Vec<u32, A>, A>;
+
+/// How many branches one pass over the changesets looks at.
+const BRANCHES: usize = 64;
+
+/// A line for each branch, with a line feed between: its name, and a space and 40 lower-case digits for each
+/// of its heads, in the order of the changelog. The lines stand in ascending order of the bytes of the names.
+/// In them letters, digits, `_`, `.`, `-`, `~` and `/` stand for themselves, and any other byte as `%` and
+/// two upper-case digits. A head of a branch is a changeset of it that is not hidden and no proper ancestor
+/// of another of the same branch that is not hidden. A branch of hidden changesets alone has no line.
+///
+/// It costs one pass over the changesets for each 64 branches, beside one that reads their texts.
+pub fn branchmap_text<A: Allocator + Copy>(
+    alloc: A,
+    log: &Changelog<A>,
+    markers: &Markers<A>,
+) -> Result<Seq<u8, A>, NoMemory> {
+    let hidden = hidden_changesets(alloc, log, markers)?;
+    let branches = branches_of(alloc, log, hidden.as_slice())?;
+    let mut lines = Vec::new(alloc);
+    let mut rest = branches.as_slice();
+    while !rest.is_empty() {
+        let (some, more) = rest.split_at(rest.len().min(BRANCHES));
+        push_branches(alloc, &mut lines, log, some)?;
+        rest = more;
+    }
+    Ok(joined(lines))
+}
+
+/// The branches in ascending order of their names.
+fn branches_of<A: Allocator + Copy>(
+    alloc: A,
+    log: &Changelog<A>,
+    hidden: &[bool],
+) -> Result<Vec<Branch<A>, A>, NoMemory>
+    requires { length hidden.now ≡ length log.now.rows }
+{
+    let members = members_of(alloc, log, hidden)?;
+    let mut branches = Vec::new(alloc);
+    for (name, revs) in members {
+        branches.push(Branch { name, revs })?;
+    }
+    Ok(branches)
+}
+
+fn members_of<A: Allocator + Copy>(
+    alloc: A,
+    log: &Changelog<A>,
+    hidden: &[bool],
+) -> Result<Members<A>, NoMemory>
+    requires { length hidden.now ≡ length log.now.rows }
+{
+    let mut members = BTreeMap::new(alloc);
+    for rev in 0..log.len() {
+        if !hidden[rev] {
+            add_member(alloc, &mut members, log, rev as u32)?;
+        }
+    }
+    Ok(members)
+}
+
+fn add_member<A: Allocator + Copy>(
+    alloc: A,
+    members: &mut Members<A>,
+    log: &Changelog<A>,
+    rev: u32,
+) -> Result<(), NoMemory>
+    requires { rev < length log.now.rows }
+{
+    let mut name = Vec::new(alloc);
+    push_branch(&mut name, log.text(rev))?;
+    match members.get_mut(name.as_slice()) {
+        Some(revs) => revs.push(rev)?,
+        None => {
+            let revs = Vec::from_slice(alloc, &[rev])?;
+            members.insert(name, revs)?;
+        }
+    }
+    Ok(())
+}
+
+/// Adds the lines of up to 64 branches.
+fn push_branches<A: Allocator + Copy>(
+    alloc: A,
+    lines: &mut Vec<u8, A>,
+    log: &Changelog<A>,
+    branches: &[Branch<A>],
+) -> Result<(), NoMemory>
+    requires { length branches.now ≤ 64 }
+{
+    let sets = sets_of(alloc, log.len(), branches)?;
+    let behind = sets_behind(alloc, log, sets.as_slice())?;
+    for (place, branch) in branches.iter().enumerate() {
+        push_branch_line(lines, log, branch, behind.as_slice(), place)?;
+    }
+    Ok(())
+}
+
+/// For each changeset, the branch that it is of as a set.
+fn sets_of<A: Allocator + Copy>(
+    alloc: A,
+    len: usize,
+    branches: &[Branch<A>],
+) -> Result<Vec<u64, A>, NoMemory>
+    requires { length branches.now ≤ 64 }
+    ensures { IfOk result (λ sets. length sets.items ≡ len) }
+{
+    let mut sets = no_sets(alloc, len)?;
+    for (place, branch) in branches.iter().enumerate() {
+        add_branch(&mut sets, branch.revs.as_slice(), place);
+    }
+    Ok(sets)
+}
+
+/// Adds the set of a number to those of each changeset of a branch.
+fn add_branch<A: Allocator>(sets: &mut Vec<u64, A>, revs: &[u32], place: usize)
+    requires { place < 64 }
+    ensures { length sets.new.items ≡ length sets.old.items }
+{
+    for rev in revs {
+        if (*rev as usize) < sets.len() {
+            add_sets(sets, Some(*rev), 1 << place);
+        }
+    }
+}
+
+fn push_branch_line<A: Allocator>(
+    lines: &mut Vec<u8, A>,
+    log: &Changelog<A>,
+    branch: &Branch<A>,
+    behind: &[u64],
+    place: usize,
+) -> Result<(), NoMemory>
+    requires place { place < 64 }
+    requires rows { length behind.now ≡ length log.now.rows }
+{
+    push_quoted(lines, branch.name.as_slice())?;
+    for rev in branch.revs.as_slice() {
+        if (*rev as usize) < behind.len() && behind[*rev as usize] >> place & 1 == 0 {
+            lines.push(b' ')?;
+            lines.extend_from_slice(digits_of(&log.node(*rev)).as_slice())?;
+        }
+    }
+    lines.push(b'\n')?;
+    Ok(())
+}
+
+/// Adds the name of a branch, quoted.
+fn push_quoted<A: Allocator>(text: &mut Vec<u8, A>, name: &[u8]) -> Result<(), NoMemory>
+    ensures { OnOk result (text.new.items ≡ text.old.items ++ quoted name.now) }
+{
+    for byte in name {
+        push_quoted_byte(text, *byte)?;
+    }
+    Ok(())
+}
+
+fn push_quoted_byte<A: Allocator>(text: &mut Vec<u8, A>, byte: u8) -> Result<(), NoMemory>
+    ensures { OnOk result (text.new.items ≡ text.old.items ++ quoted_byte byte) }
+{
+    if is_plain(byte) {
+        text.push(byte)?;
+    } else {
+        text.extend_from_slice(percent_encode_byte(byte).as_bytes())?;
+    }
+    Ok(())
+}
+
+fn is_plain(byte: u8) -> bool
+    ensures { result ≡ is_unquoted byte }
+{
+    matches!(byte, b'a'..=b'z' | b'A'..=b'Z' | b'0'..=b'9' | b'_' | b'.' | b'-' | b'~' | b'/')
+}

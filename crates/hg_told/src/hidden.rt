@@ -1,0 +1,66 @@
+//! Which changesets are hidden.
+
+ghost use Rattle.std.specs.Prelude.{◌≡◌, ◌↔◌, ◌<◌, ℕ, length, slice_index, IfOk, IsTrue};
+ghost use Rattle.std.specs.Int.{bit_at};
+ghost use Rattle.hg_told.specs.Hidden.{AreHidden};
+ghost use Rattle.hg_told.specs.code.Hiding.{TellsKept};
+
+use crate::behind::sets_behind;
+use hg_log::Changelog;
+use hg_obs::Markers;
+use hg_types::{NoMemory, Seq};
+use std::alloc::Allocator;
+
+/// For each changeset, in the order of the changelog, whether it is hidden: it is obsolete, which is that a
+/// marker has it as its predecessor, and all of its descendants are. It costs by the number of changesets,
+/// with a look-up for each, and takes 17 bytes for each.
+pub fn hidden_changesets<A: Allocator + Copy>(
+    alloc: A,
+    log: &Changelog<A>,
+    markers: &Markers<A>,
+) -> Result<Seq<bool, A>, NoMemory>
+    ensures { IfOk result (λ hidden. AreHidden log.now.rows markers.now hidden) }
+{
+    let kept = kept_sets(alloc, log, markers)?;
+    let behind = sets_behind(alloc, log, kept.as_slice())?;
+    let mut hidden = Vec::new(alloc);
+    for rev in 0..log.len() {
+        hidden.push(is_hidden(kept[rev], behind[rev]))?;
+    }
+    Ok(Seq::from_vec(hidden))
+}
+
+/// For each changeset a number, whose lowest bit tells whether it is not obsolete.
+fn kept_sets<A: Allocator + Copy>(
+    alloc: A,
+    log: &Changelog<A>,
+    markers: &Markers<A>,
+) -> Result<Vec<u64, A>, NoMemory>
+    ensures len { IfOk result (λ sets. length sets.items ≡ length log.now.rows) }
+    ensures each { IfOk result (λ sets. (r : ℕ) → r < length log.now.rows
+        → TellsKept log.now.rows markers.now r (slice_index sets.items r)) }
+{
+    let mut sets = Vec::new(alloc);
+    for rev in 0..log.len() {
+        sets.push(kept_set(log, markers, rev as u32))?;
+    }
+    Ok(sets)
+}
+
+fn kept_set<A: Allocator>(log: &Changelog<A>, markers: &Markers<A>, rev: u32) -> u64
+    requires { rev < length log.now.rows }
+    ensures { TellsKept log.now.rows markers.now rev result }
+{
+    if markers.is_predecessor(&log.node(rev)) {
+        0
+    } else {
+        1
+    }
+}
+
+/// Whether neither a changeset nor a descendant is kept.
+fn is_hidden(kept: u64, behind: u64) -> bool
+    ensures { IsTrue result ↔ ((bit_at kept 0 ≡ 0) × (bit_at behind 0 ≡ 0)) }
+{
+    (kept | behind) & 1 == 0
+}

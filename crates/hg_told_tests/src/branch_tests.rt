@@ -1,0 +1,403 @@
+//! Branches, hidden changesets and the branch map. The changesets and the branch map are those of Mercurial 6.3.
+
+use hg_log::{Added, Changelog, node_id};
+use hg_obs::{Marker, Markers};
+use hg_told::*;
+use hg_types::{Entry, Limits, NoMemory, Node, Seq};
+use linked_list_allocator::LocalHeap;
+use std::alloc::{Allocator, Global};
+use std::hash::RandomState;
+use std::test::*;
+
+/// A changeset: the places of its parents, its text, and its branch.
+#[derive(Clone, Copy)]
+struct Row {
+    p1: Option<usize>,
+    p2: Option<usize>,
+    text: &'static [u8],
+    branch: &'static [u8],
+}
+
+fn row_of(p1: Option<usize>, p2: Option<usize>, text: &'static [u8], branch: &'static [u8]) -> Row {
+    Row {
+        p1,
+        p2,
+        text,
+        branch,
+    }
+}
+
+/// What `hg debugdata -c` showed of each changeset of a repository, and `hg log` of its branch. The 14th, the
+/// 17th and the 18th are obsolete.
+fn rows(alloc: Global) -> Result<Vec<Row>, Fail> {
+    let mut rows = Vec::new(alloc);
+    rows.push(row_of(
+        None,
+        None,
+        b"b0aae4249a538b6e4d2619f0ed28c43995307e3a\nt\n1 0\nf1\n\nm1",
+        b"default",
+    ))?;
+    rows.push(row_of(
+        Some(0),
+        None,
+        b"8f885020aa8d929600ab4e21ff4c60363d7baab3\nt\n2 0 branch:stable\nf2\n\n\
+          m2",
+        b"stable",
+    ))?;
+    rows.push(row_of(
+        Some(1),
+        None,
+        b"1b5b926a75e36629209082f7b8b42a984da8a3f7\nt\n3 0 branch:with space\nf3\
+          \n\nm3",
+        b"with space",
+    ))?;
+    rows.push(row_of(
+        Some(2),
+        None,
+        b"a7cc40c1ae95a7b8d05312c922f047c54157f994\nt\n4 0 branch:stable\nf4\n\n\
+          m4",
+        b"stable",
+    ))?;
+    rows.push(row_of(
+        Some(0),
+        None,
+        b"04ba5e9a4042fa8eb984f2d7235c80494819829c\nt\n5 0 branch:a;b&c/d~e\nf5\
+          \n\nm5",
+        b"a;b&c/d~e",
+    ))?;
+    rows.push(row_of(
+        Some(0),
+        None,
+        b"31f7dbb9f5a727b2b87a99eb4f0087ec160eaf58\nt\n6 0 branch:\xC3\xBC\nf6\n\
+          \nm6",
+        b"\xC3\xBC",
+    ))?;
+    rows.push(row_of(
+        Some(0),
+        None,
+        b"03219e86b0d7082e27c559016933b2f2471a1aa1\nt\n7 0 branch:back\\\\slash\
+          \\\\n\nf7\n\nm7",
+        b"back\\slash\\n",
+    ))?;
+    rows.push(row_of(
+        Some(0),
+        None,
+        b"0a0f5e212208f5dca932b832be91646b860002b8\nt\n8 0 branch:x+y%41=\nf8\n\
+          \nm8",
+        b"x+y%41=",
+    ))?;
+    rows.push(row_of(
+        Some(0),
+        None,
+        b"2fb84b1d06c67499a9804f0ca7610f8b2d8d892e\nt\n9 0\nf9\n\nm9",
+        b"default",
+    ))?;
+    rows.push(row_of(
+        Some(0),
+        None,
+        b"5485997195c368f2ee70aeda58efb377d0678bb6\nt\n10 0\nf10\n\nm10",
+        b"default",
+    ))?;
+    rows.push(row_of(
+        Some(9),
+        Some(4),
+        b"fdf186f9d97512ffb4cdaf785e73e274bed9e246\nt\n99 0\n\nmerge",
+        b"default",
+    ))?;
+    rows.push(row_of(
+        Some(8),
+        None,
+        b"95484c4c380a422641b71d6edb43281f3cb35b23\nt\n12 0 branch:closed\nf12\n\
+          \nm12",
+        b"closed",
+    ))?;
+    rows.push(row_of(
+        Some(11),
+        None,
+        b"95484c4c380a422641b71d6edb43281f3cb35b23\nt\n98 0 branch:closed\x00clo\
+          se:1\n\nclose",
+        b"closed",
+    ))?;
+    rows.push(row_of(
+        Some(5),
+        None,
+        b"2c21e05d7cc5bda7def4fe6eb633f71423a221c3\nt\n13 0 branch:\xC3\xBC\nf13\
+          \n\nm13",
+        b"\xC3\xBC",
+    ))?;
+    rows.push(row_of(
+        Some(13),
+        None,
+        b"4c1cdd8d25bbfe4c29c004b7e8781660b0f39c92\nt\n14 0 branch:\xC3\xBC\nf14\
+          \n\nm14",
+        b"\xC3\xBC",
+    ))?;
+    rows.push(row_of(
+        Some(5),
+        None,
+        b"b71df4ae77bca162aff00922ddd34c43b5c8d9f9\nt\n97 0 amend_source:e7b1815\
+          00e8aecb8c80121068bd992fa824a1474\x00branch:\xC3\xBC\nf1\nf13\n\namend\
+          ed",
+        b"\xC3\xBC",
+    ))?;
+    rows.push(row_of(
+        Some(0),
+        None,
+        b"5415ade293d70d7e1afe2a71b4f2238f269c5d52\nt\n15 0 branch:gone\nf15\n\n\
+          m15",
+        b"gone",
+    ))?;
+    rows.push(row_of(
+        Some(16),
+        None,
+        b"56c5fe50bda7dbb05c5e17a7d93176f8402d7aea\nt\n16 0 branch:gone\nf16\n\n\
+          m16",
+        b"gone",
+    ))?;
+    Ok(rows)
+}
+
+/// The lines that `hg serve` told of it, in the order of the names.
+const BRANCHES: &[u8] = b"a%3Bb%26c/d~e 70a5d81ecbe10d9b153929e68025e7d8a239a848\n\
+      back%5Cslash%5Cn 0e917427aa5cbdaebacf90d3ad37950586643fa6\n\
+      closed 6784354509b00fc8601dc5b08acd2a3251cfb79e\n\
+      default 80aa4f416dac12d1779f0629205257ab15cea27c 7c0d2ea3012aa7d788cca3538c09b9b1f5282c0d\n\
+      stable d4d24af4dce9cf4e2902b891321b3b9fcf868ae5\n\
+      with%20space 0286e886ce14e51deff8a512d82dcd6d6a0d1df9\n\
+      x%2By%2541%3D 36fc5403fe22dfecf6c6143765d950c159253119\n\
+      %C3%BC 86e2ba5d97ff7a840c25c6d106bcd258ea0676ab 5f97498b2b6357f8f2a45e1de6b10bb27899cf03";
+
+/// Adds a changeset, and gives its id.
+fn put<A: Allocator + Copy>(
+    alloc: A,
+    log: &mut Changelog<A>,
+    p1: Node,
+    p2: Node,
+    text: &[u8],
+) -> Option<Node> {
+    let node = node_id(&p1, &p2, text);
+    let Ok(len) = u32::try_from(text.len()) else {
+        return None
+    };
+    let Ok(mut delta) = Vec::from_slice(alloc, &[0, 0, 0, 0, 0, 0, 0, 0]) else {
+        return None
+    };
+    if delta.extend_from_slice(&len.to_be_bytes()).is_err()
+        || delta.extend_from_slice(text).is_err()
+    {
+        return None;
+    }
+    let entry = Entry {
+        node,
+        p1,
+        p2,
+        base: Node::NULL,
+        delta: Seq::from_vec(delta),
+    };
+    match log.add(&entry) {
+        Ok(Added::New(_)) => Some(node),
+        _ => None,
+    }
+}
+
+/// Makes a changeset obsolete, without a successor.
+fn prune<A: Allocator + Copy>(
+    alloc: A,
+    markers: &mut Markers<A>,
+    node: Node,
+) -> Result<(), NoMemory> {
+    let mut pruned = Seq::new(alloc);
+    pruned.push(Marker {
+        successors: Seq::new(alloc),
+        flags: 0,
+        predecessor: node,
+        meta: Seq::new(alloc),
+    })?;
+    markers.merge(pruned)?;
+    Ok(())
+}
+
+fn is_text<A: Allocator>(told: Result<Seq<u8, A>, NoMemory>, wanted: &[u8]) -> bool {
+    told.is_ok_and(|text| text.as_slice() == wanted)
+}
+
+/// The ids of the changesets, put in their order.
+fn put_all(alloc: Global, log: &mut Changelog, rows: &[Row]) -> Result<Vec<Node>, Fail> {
+    let mut nodes: Vec<Node> = Vec::new(alloc);
+    for row in rows {
+        let p1 = row
+            .p1
+            .and_then(|p| nodes.get(p).copied())
+            .unwrap_or(Node::NULL);
+        let p2 = row
+            .p2
+            .and_then(|p| nodes.get(p).copied())
+            .unwrap_or(Node::NULL);
+        nodes.push(put(alloc, log, p1, p2, row.text).ok_or("not added")?)?;
+    }
+    Ok(nodes)
+}
+
+#[test]
+fn branches_of_mercurial(rt: HostRuntime) -> Result<(), Fail> {
+    for row in &rows(rt.alloc())? {
+        assert!(rt; is_text(branch_of(rt.alloc(), row.text), row.branch));
+    }
+    Ok(())
+}
+
+#[test]
+fn the_branch_map_of_mercurial(rt: HostRuntime) -> Result<(), Fail> {
+    let alloc = rt.alloc();
+    let state = RandomState::new(&rt)?;
+    let mut log = Changelog::new(alloc, state, Limits::standard());
+    let mut markers = Markers::new(alloc, state);
+    assert!(rt; is_text(branchmap_text(alloc, &log, &markers), b""));
+    let rows = rows(alloc)?;
+    let nodes = put_all(alloc, &mut log, rows.as_slice())?;
+    for place in [13, 16, 17] {
+        prune(
+            alloc,
+            &mut markers,
+            *nodes.get(place).ok_or("no changeset")?,
+        )?;
+    }
+    assert!(rt; is_text(branchmap_text(alloc, &log, &markers), BRANCHES));
+    let hidden = hidden_changesets(alloc, &log, &markers)?;
+    for (place, is_hidden) in hidden.as_slice().iter().enumerate() {
+        assert_eq!(rt; *is_hidden, place == 16 || place == 17);
+    }
+    Ok(())
+}
+
+/// What no Mercurial writes, and what has no third line, no second space or no key.
+#[test]
+fn texts_of_no_form(rt: HostRuntime) {
+    for text in [
+        b"".as_slice(),
+        b"branch:x",
+        b"m\nu\n0 0 branch:x",
+        b"m\nu\n0 0\nbranch:x\n",
+        b"m\nu\n0 branch:x\n",
+        b"m\nu\n0 0 branch\n",
+        b"m\nu\n0 0 xbranch:x\n",
+        b"m\nu\n0 0 Branch:x\0close:1\n",
+        b"\n\n\n",
+        b"  branch:x\n\n",
+        b"m\nu\n0 0 branch\\:x\n",
+    ] {
+        assert!(rt; is_text(branch_of(rt.alloc(), text), b"default"));
+    }
+}
+
+#[test]
+fn texts_with_escapes(rt: HostRuntime) {
+    for (text, branch) in [
+        (b"m\nu\n0 0 branch:\n".as_slice(), b"".as_slice()),
+        (b"\n\n  branch:x\n", b"x"),
+        (b"m\nu\n0 0 branch:a branch:b\nbranch:c\n", b"a branch:b"),
+        (b"m\nu\n0 0 branch:x\0close:1\0branch:y\0\0z\n", b"y"),
+        (b"m\nu\n0 0 branch:a\\nb\\rc\\0d\\\\e\n", b"a\nb\rc\0d\\e"),
+        (b"m\nu\n0 0 branch:\\\\n\\x\\\n", b"\\n\\x\\"),
+        (b"m\nu\n0 0 branch:a\\0branch:b\n", b"a\0branch:b"),
+        (b"m\nu\n0 0 branch:\tx\ry\xFF\n", b"\tx\ry\xFF"),
+    ] {
+        assert!(rt; is_text(branch_of(rt.alloc(), text), branch));
+    }
+}
+
+/// A chain of 70, all obsolete but one: what comes behind that one is hidden, and nothing before it.
+#[test]
+fn a_hidden_chain(rt: HostRuntime) -> Result<(), Fail> {
+    let alloc = rt.alloc();
+    let state = RandomState::new(&rt)?;
+    let mut log = Changelog::new(alloc, state, Limits::standard());
+    let mut markers = Markers::new(alloc, state);
+    let mut parent = Node::NULL;
+    for number in 0..70u8 {
+        parent = put(alloc, &mut log, parent, Node::NULL, &[number]).ok_or("not added")?;
+        if number != 40 {
+            prune(alloc, &mut markers, parent)?;
+        }
+    }
+    let hidden = hidden_changesets(alloc, &log, &markers)?;
+    for (place, is_hidden) in hidden.as_slice().iter().enumerate() {
+        assert_eq!(rt; *is_hidden, place > 40);
+    }
+    let told = branchmap_text(alloc, &log, &markers)?;
+    let id = hex::encode(
+        alloc,
+        log.node(40.min(log.len().saturating_sub(1)) as u32)
+            .0
+            .as_slice(),
+    )?;
+    assert!(rt;
+        told.as_slice().starts_with(b"default ")
+            && told.as_slice().ends_with(id.as_str().as_bytes())
+    );
+    assert_eq!(rt; told.len(), 48);
+    Ok(())
+}
+
+/// A chain of 260 in which 130 branches come in turn, twice: more than one pass tells.
+#[test]
+fn more_branches_than_a_pass_tells(rt: HostRuntime) -> Result<(), Fail> {
+    let alloc = rt.alloc();
+    let state = RandomState::new(&rt)?;
+    let mut log = Changelog::new(alloc, state, Limits::standard());
+    let markers = Markers::new(alloc, state);
+    let mut parent = Node::NULL;
+    let mut wanted = Vec::new(alloc);
+    for number in 0..260u16 {
+        let branch = number % 130;
+        let name = format!(in alloc; "b{branch:03}")?;
+        let text = format!(in alloc; "m\nu\n0 0 branch:{name}\n{number}\n")?;
+        parent = put(
+            alloc,
+            &mut log,
+            parent,
+            Node::NULL,
+            text.as_str().as_bytes(),
+        )
+        .ok_or("not added")?;
+        if number >= 130 {
+            let id = hex::encode(alloc, parent.0.as_slice())?;
+            let line = format!(in alloc; "{name} {id}\n")?;
+            wanted.extend_from_slice(line.as_str().as_bytes())?;
+        }
+    }
+    let _ = wanted.pop();
+    assert!(rt; is_text(branchmap_text(alloc, &log, &markers), wanted.as_slice()));
+    Ok(())
+}
+
+/// Two branches in the memory of an allocator: whether both are told, or nothing where memory is refused.
+fn tell_branches<A: Allocator + Copy>(alloc: A, state: RandomState) -> Option<bool> {
+    let mut log = Changelog::new(alloc, state, Limits::standard());
+    let markers = Markers::new(alloc, state);
+    let root = put(alloc, &mut log, Node::NULL, Node::NULL, b"m\nu\n0 0\n")?;
+    let _child = put(alloc, &mut log, root, Node::NULL, b"m\nu\n0 0 branch:x\n")?;
+    let name = branch_of(alloc, log.text(0)).ok()?;
+    let hidden = hidden_changesets(alloc, &log, &markers).ok()?;
+    let text = branchmap_text(alloc, &log, &markers).ok()?;
+    Some(name.len() == 7 && hidden.len() == 2 && text.len() == 91)
+}
+
+/// Over heaps of each multiple of 16 bytes, so that each growth is refused in turn.
+#[test]
+fn each_growth_of_a_branch_map_refused(rt: HostRuntime) -> Result<(), Fail> {
+    let state = RandomState::new(&rt)?;
+    let (mut refused, mut done) = (0u32, 0u32);
+    for sixteens in 1..200usize {
+        let heap = LocalHeap::new(rt.alloc(), sixteens * 16)?;
+        match tell_branches(&heap, state) {
+            Some(is_whole) => {
+                assert!(rt; is_whole);
+                done = done.saturating_add(1);
+            }
+            None => refused = refused.saturating_add(1),
+        }
+    }
+    assert!(rt; refused > 0 && done > 0);
+    Ok(())
+}
