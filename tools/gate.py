@@ -27,7 +27,8 @@ LOGS = f"{sources.ROOT}/build/gate"
 # wrong bodies without a head, which decide nothing yet, are tried only where a crate's turn comes before these minutes
 LATE = 75
 CHECKS = ("index", "pictures", "costs", "headings", "paths")
-PROVED = re.compile(r"^(?:rt: )?(hg_\w+) proved$")
+# a crate is proved in this run, or an earlier run of the same files on this machine proved it
+PROVED = re.compile(r"^(?:rt: )?(hg_\w+) (?:proved$|is kept: )")
 COUNTED = re.compile(r"^(\d+) passed, (\d+) failed$", re.M)
 
 
