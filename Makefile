@@ -6,6 +6,7 @@
 #   make test        the gate: proves everything from nothing, tries the wrong bodies, runs the tests and the program
 #   make test-all    proves everything from nothing, the tests too
 #   make wrong-bodies, make run-tests   two parts of the gate by themselves
+#   make docs        lists definitions, examples and wrong bodies, from where each stands, in build/docs
 #   make bench       measures the program; bench/*/run.sh measure the crates below it
 
 PROGRAM := build/hg_pushd
@@ -15,7 +16,7 @@ SOURCES := crates.txt $(shell find crates -name out -prune -o -type f \
 # a push that `hg push` sent
 PUSHED := examples/pushes/first-changesets/01.hg20
 
-.PHONY: run build serve-demo test test-all wrong-bodies run-tests bench clean toolchain
+.PHONY: run build serve-demo test test-all wrong-bodies run-tests docs bench clean toolchain
 
 run: toolchain
 	@bash examples/run.sh $(PUSHED)
@@ -51,6 +52,10 @@ wrong-bodies: $(PROGRAM)
 
 run-tests: toolchain
 	@python3 tools/tests.py
+
+docs:
+	@python3 tools/docs.py
+	@echo 'The lists are in build/docs.'
 
 bench: $(PROGRAM)
 	@bash bench/one.sh

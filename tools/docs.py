@@ -28,7 +28,7 @@ def commented(lines, mark):
     for line in lines:
         text = line.strip()
         if text.startswith(mark):
-            kept.append(text.removeprefix(mark).strip())
+            kept.append(text.lstrip(mark[0]).strip())
             continue
         yield line, " ".join(kept)
         # attributes stand between a comment and what it tells of
@@ -61,9 +61,19 @@ def tests_of(crate):
     yield from (it for it in sources.files(inside, ".rt") if "/tests" in it)
 
 
+def head(path):
+    """What a file says of itself in its first lines."""
+    for line in sources.read(path).splitlines():
+        if not line.startswith("//!"):
+            return
+        yield line.removeprefix("//!").removeprefix(" ")
+
+
 def examples(crate):
-    """A line for each test: its name in words, and the comment above it."""
+    """What each file of tests says of itself, and a line for each test: its name in words, and the comment
+    above it."""
     for path in tests_of(crate):
+        yield from ("", *head(path), "")
         is_test, told = False, ""
         for line, above in commented(sources.read(path).splitlines(), "//"):
             if TEST.match(line.strip()):

@@ -29,8 +29,8 @@ ABOUT = """\
 Made by `tools/index.py` from the sources; `make test` compares it with them. For each crate the public
 functions, with the wrong bodies that turn each, those that each clause was seen to refuse, and the tests that
 run it; and the words that their clauses use, with the module of `specs/` that defines each, and the heading of
-the public standard that this module states. `docs/definitions.md` has a sentence on each word, `docs/wrong-bodies.md` one on each wrong body, and
-`docs/worked-examples.md` one on each example."""
+the public standard that this module states. `docs/definitions.md` has a sentence on each word. `python3 tools/docs.py` lists the wrong bodies with what
+each turns, and the tests with their examples."""
 
 
 def read(path):

@@ -87,6 +87,8 @@ fn fault_of(rt: HostRuntime, version: &[u8], payload: &[u8]) -> Option<GroupFaul
     decode(rt.alloc(), version, payload).err()
 }
 
+// 02: `00000068` A Z Z Z A, then three times `00000000`; 116 bytes. Result: one entry: A, Z, Z,
+// base Z, no delta.
 #[test]
 fn a_root_changeset(rt: HostRuntime) -> Result<(), Fail> {
     let root = root(rt.alloc())?;
@@ -100,6 +102,8 @@ fn a_root_changeset(rt: HostRuntime) -> Result<(), Fail> {
     Ok(())
 }
 
+// The same with the manifest chunk `0000000b` and seven bytes, and the file `00000005` `f`,
+// `00000006` `xy`, `00000000`; 142 bytes. Result: the same entry.
 #[test]
 fn manifests_and_files(rt: HostRuntime) -> Result<(), Fail> {
     let payload = with_frames(rt.alloc())?;
@@ -112,6 +116,7 @@ fn manifests_and_files(rt: HostRuntime) -> Result<(), Fail> {
     Ok(())
 }
 
+// 01: 12 zero bytes. Result: no entry.
 #[test]
 fn no_changesets(rt: HostRuntime) -> Result<(), Fail> {
     let entries = decode(rt.alloc(), b"01", &[0; 12]).ok().ok_or("no entry")?;
@@ -120,6 +125,7 @@ fn no_changesets(rt: HostRuntime) -> Result<(), Fail> {
 }
 
 // Every proper prefix ends early, wherever it is cut.
+// Each proper prefix of the 142 bytes. Result: Truncated.
 #[test]
 fn cut_short(rt: HostRuntime) -> Result<(), Fail> {
     let payload = with_frames(rt.alloc())?;
@@ -133,6 +139,8 @@ fn cut_short(rt: HostRuntime) -> Result<(), Fail> {
 }
 
 // A changeset whose length gives one byte less than its header, cut off or not.
+// 01 with the length `00000053`, 02 with `00000067`, cut at each place. Result: Truncated below
+// four bytes, then ShortHeader.
 #[test]
 fn short_header(rt: HostRuntime) -> Result<(), Fail> {
     for (version, size) in [(b"01", b"\0\0\0\x53"), (b"02", b"\0\0\0\x67")] {
@@ -151,6 +159,8 @@ fn short_header(rt: HostRuntime) -> Result<(), Fail> {
 
 // In version 01 the first base is the first parent, and the next one the node before, whatever its own parent
 // is.
+// 01: `00000061` R Z Z R and the hunk (0, 0, `r`); `00000061` B A Z B and the hunk (0, 1, `b`);
+// then three times `00000000`. Result: R with base Z, then B with base R.
 #[test]
 fn bases_in_order(rt: HostRuntime) -> Result<(), Fail> {
     let payload = two_in_order(rt.alloc())?;
@@ -169,6 +179,9 @@ fn bases_in_order(rt: HostRuntime) -> Result<(), Fail> {
 }
 
 // Lengths 1 to 4, the least and the greatest negative one, at each place of a chunk.
+// The lengths 1 to 4, -2,147,483,648 and -1 in place of a changeset, of the changesets' closing
+// chunk, of a manifest, of the manifests' closing chunk, of a name, of a chunk of a file, of its
+// closing chunk, of the last chunk. Result: BadLength, with and without bytes behind it.
 #[test]
 fn bad_lengths(rt: HostRuntime) -> Result<(), Fail> {
     let root = root(rt.alloc())?;
@@ -210,6 +223,7 @@ fn bad_lengths(rt: HostRuntime) -> Result<(), Fail> {
 }
 
 // A length of 2 ^ 31 - 1, of which little has come, is allowed.
+// `7fffffff` alone. Result: Truncated.
 #[test]
 fn greatest_length(rt: HostRuntime) {
     assert_eq!(rt;
@@ -218,6 +232,7 @@ fn greatest_length(rt: HostRuntime) {
     );
 }
 
+// The 142 bytes and one byte more; and an empty chunk more. Result: Leftover.
 #[test]
 fn bytes_behind_the_end(rt: HostRuntime) -> Result<(), Fail> {
     let whole = with_frames(rt.alloc())?;
@@ -229,6 +244,8 @@ fn bytes_behind_the_end(rt: HostRuntime) -> Result<(), Fail> {
 }
 
 // An unknown version is told before any fault of the payload.
+// Nothing, `0`, `00`, `03`, `1`, `2`, `010`, `02` and a zero byte, on good and bad bytes. Result:
+// UnknownVersion.
 #[test]
 fn unknown_versions(rt: HostRuntime) -> Result<(), Fail> {
     let whole = with_frames(rt.alloc())?;
@@ -255,6 +272,8 @@ fn unknown_versions(rt: HostRuntime) -> Result<(), Fail> {
 }
 
 // Heaps of every size: each growth is refused in turn, and then the entries come.
+// Bases in order, over heaps of each size up to 1,584 bytes in steps of 16. Result: NoMemory or the
+// two entries; both occur.
 #[test]
 fn refused_memory(rt: HostRuntime) -> Result<(), Fail> {
     let payload = two_in_order(rt.alloc())?;
@@ -286,6 +305,8 @@ fn count_in<H: Allocator + Copy>(alloc: H, payload: &[u8]) -> Option<usize> {
 
 // With manifests and files of more bytes than any of the heaps has, and without them: the same heaps are
 // enough.
+// The root changeset alone; the same with a manifest chunk of 4,092 bytes and two files; each over
+// heaps of each size up to 1,584 bytes in steps of 16. Result: the same heaps are enough for both.
 #[test]
 fn manifests_and_files_take_no_memory(rt: HostRuntime) -> Result<(), Fail> {
     let root = root(rt.alloc())?;
@@ -322,6 +343,8 @@ fn manifests_and_files_take_no_memory(rt: HostRuntime) -> Result<(), Fail> {
 
 // Over an ample heap memory is not refused, however many changesets come, and it keeps at most four times
 // what came.
+// 02: the root changeset once, and 1,001 times, over a heap of 1 MiB. Result: 1 entry, 1,001
+// entries; the heap keeps at most four times the payload and 256 bytes.
 #[test]
 fn many_changesets_over_an_ample_heap(rt: HostRuntime) -> Result<(), Fail> {
     let heap = LocalHeap::new(rt.alloc(), 1 << 20)?;

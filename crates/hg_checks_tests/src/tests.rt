@@ -118,6 +118,8 @@ const BAD_PHASE: Answer = Err(CheckFault::BadPhase);
 const UNKNOWN: Answer = Err(CheckFault::UnknownNode);
 
 /// The null id is the one head of no changesets.
+/// The null id; nothing; the null id twice; another id; 19 bytes; the null id and 1. Result:
+/// content; Raced three times; Short, Short.
 #[test]
 fn heads_of_no_changesets(rt: HostRuntime) -> Result<(), Fail> {
     let log = Changelog::new(rt.alloc(), RandomState::new(&rt)?, Limits::standard());
@@ -134,6 +136,10 @@ fn heads_of_no_changesets(rt: HostRuntime) -> Result<(), Fail> {
 }
 
 /// Two heads in any order, and what is less, more or other; then the heads beside a merge of the two.
+/// A root and two children: both in either order; one; one twice; both and one again; the root and
+/// one; one and an unknown id; the null id; both and 7. Then the merge of the two and another root:
+/// these in either order; the children; the merge alone. Result: content, content; Raced six times;
+/// Short. Content, content; Raced, Raced.
 #[test]
 fn heads_before_a_merge_and_after_it(rt: HostRuntime) -> Result<(), Fail> {
     let alloc = rt.alloc();
@@ -223,6 +229,10 @@ fn all_phases<A: Allocator + Copy>(
 }
 
 /// A draft: its phase, other phases, the null id, and the faults in their order.
+/// The draft as 1, 0 and 2; the null id as 1; the null id as 0 and the draft as 1; nothing; the
+/// draft as 1 and 1, as 9 and 1; an unknown id before the draft as 3; an unknown id; before the
+/// draft as 0, and behind it. Result: content, Raced, Raced; Raced; content, content; Short, Short;
+/// BadPhase; UnknownNode; UnknownNode, Raced.
 #[test]
 fn phases_of_a_draft(rt: HostRuntime) -> Result<(), Fail> {
     let alloc = rt.alloc();
@@ -283,6 +293,10 @@ fn all_bookmarks<A: Allocator + Copy>(
 }
 
 /// `m` on a changeset: on it, on others, on none, names that are not there, and the faults in their order.
+/// `m` on the root: seen there, on none, on the null id; beside names that are on none; `x` and the
+/// empty name on the root; nothing; 1 and 21 bytes more; an unknown id for `x`, for `m` before
+/// another difference, and behind it. Result: content, Raced, Raced; content; Raced, Raced;
+/// content; Short, Short; UnknownNode, UnknownNode, Raced.
 #[test]
 fn bookmarks_on_a_changeset(rt: HostRuntime) -> Result<(), Fail> {
     let alloc = rt.alloc();
@@ -513,6 +527,9 @@ fn large_entries_over(heap: &LocalHeap, state: RandomState) -> bool {
 }
 
 /// Payloads of up to 4 MiB over a heap that never refuses: nobody tells want of memory.
+/// 2,000 changesets without parents, their ids the last first; 43,690 times the null id as public;
+/// 47,662 times the empty name on the null id, where it is; over a heap with ample room. Result:
+/// content, three times.
 #[test]
 fn large_payloads(rt: HostRuntime) -> Result<(), Fail> {
     let state = RandomState::new(&rt)?;
@@ -590,6 +607,8 @@ fn without_memory_over<'h>(none: &'h LocalHeap, ample: &'h LocalHeap, state: Ran
     }
 }
 
+// One draft and a heap without a byte: 19 and 23 bytes; another id; no ids; no entries of phases
+// and of bookmarks. Result: Short, Short; Raced, Raced; content, content.
 #[test]
 fn no_memory_where_none_is_needed(rt: HostRuntime) -> Result<(), Fail> {
     let state = RandomState::new(&rt)?;

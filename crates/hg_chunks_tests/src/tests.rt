@@ -77,6 +77,9 @@ fn is_read_whole<A: Allocator>(read: &Read<A>) -> bool {
 }
 
 // The interrupted payload, whole, byte by byte, in pieces of 3 and in every other width.
+// `00000008`, 8 bytes, `ffffffff`, `0000000c`, 12 bytes, `00000000`, in pieces of each width from 1
+// to 36 and cut in two at each place. Result: an interruption behind 16 bytes, the end behind 36,
+// and the 20 bytes of data.
 #[test]
 fn interrupted_payload_in_pieces(rt: HostRuntime) -> Result<(), Fail> {
     for width in 1..37usize {
@@ -119,6 +122,9 @@ fn interrupted_payload_cut_in_two(rt: HostRuntime) {
 }
 
 // Sizes with their bytes, written, read, and read byte by byte.
+// 0, 18, 66,051, 2,147,483,647, -1, -2, -2,147,483,648. Result: `00000000`, `00000012`, `00010203`,
+// `7fffffff`, `ffffffff`, `fffffffe`, `80000000`, and back, whole and byte by byte; three bytes are
+// no size; of five the first four are read.
 #[test]
 fn sizes_as_bytes(rt: HostRuntime) -> Result<(), Fail> {
     for (size, bytes) in [
@@ -151,6 +157,7 @@ fn sizes_as_bytes(rt: HostRuntime) -> Result<(), Fail> {
 }
 
 // A payload is one chunk where it is not empty, then size 0.
+// No data; `090807`. Result: `00000000`; `00000003 090807 00000000`.
 #[test]
 fn written_payloads(rt: HostRuntime) -> Result<(), Fail> {
     let mut out = Vec::new(rt.alloc());
@@ -165,6 +172,8 @@ fn written_payloads(rt: HostRuntime) -> Result<(), Fail> {
 }
 
 // Each size that is refused, at its fourth byte and for good, with the limit 5 and 3 bytes of data before it.
+// Limit 5, a chunk of 3 bytes, then `fffffffe`, `80000000`, `00000003`, `7fffffff`. Result: at the
+// fourth byte of the size, and for good: BadSize, BadSize, TooLarge, TooLarge.
 #[test]
 fn refused_sizes(rt: HostRuntime) {
     for (size, fault) in [
@@ -182,6 +191,7 @@ fn refused_sizes(rt: HostRuntime) {
     }
 }
 
+// Each fault. Result: 1 to 3.
 #[test]
 fn faults_by_number(rt: HostRuntime) {
     for (fault, number) in [
@@ -194,6 +204,8 @@ fn faults_by_number(rt: HostRuntime) {
 }
 
 // A limit at its last value, and one past it: in one chunk, in two, and behind an interruption.
+// 5 bytes in one chunk and in two at the limits 5 and 4; 20 bytes with an interruption between at
+// the limits 20 and 19. Result: taken; TooLarge.
 #[test]
 fn limit_at_its_last_value(rt: HostRuntime) {
     let one: [u8; 13] = [0, 0, 0, 5, 1, 2, 3, 4, 5, 0, 0, 0, 0];
@@ -227,6 +239,8 @@ struct Tally {
 
 // The interrupted payload, byte by byte and whole, over heaps of every size: its data, or want of memory for
 // good.
+// The interrupted payload over heaps of each size below 160 bytes, byte by byte and whole. Result:
+// its 20 bytes of data, or NoMemory for good; both occur.
 #[test]
 fn memory_refused_to_the_reader(rt: HostRuntime) -> Result<(), Fail> {
     let mut tally = Tally {
@@ -256,6 +270,8 @@ fn memory_refused_to_the_reader(rt: HostRuntime) -> Result<(), Fail> {
 }
 
 // Sizes take no memory, whatever they announce, and neither does the end of a payload without data.
+// Over a heap of the least size: `04000000` at the limit 67,108,864, then 64 bytes; `ffffffff
+// 00000000`. Result: taken, then NoMemory; an interruption, then the end.
 #[test]
 fn sizes_take_no_memory(rt: HostRuntime) -> Result<(), Fail> {
     let heap = LocalHeap::new(rt.alloc(), 0)?;
@@ -269,6 +285,8 @@ fn sizes_take_no_memory(rt: HostRuntime) -> Result<(), Fail> {
 }
 
 // A vector that memory is refused to keeps what it had.
+// A size and a payload of 20 bytes over heaps of each size below 160 bytes. Result: 32 bytes, or
+// NoMemory with the vector as before; both occur.
 #[test]
 fn memory_refused_to_the_writer(rt: HostRuntime) -> Result<(), Fail> {
     let mut tally = Tally {
@@ -300,6 +318,9 @@ fn memory_refused_to_the_writer(rt: HostRuntime) -> Result<(), Fail> {
 }
 
 // A payload of 64 MiB, written and read back where memory is ample: in pieces, and at once.
+// 67,108,864 bytes, written, a size behind them, and read back with that limit, where memory is
+// ample. Result: 67,108,872 bytes; all of the data.
+// `hg_chunks`: a payload of 64 MiB, fed in pieces and at once (`greatest_payload`).
 #[test]
 fn greatest_payload(rt: HostRuntime) -> Result<(), Fail> {
     let mut data = Vec::new(rt.alloc());
@@ -327,6 +348,8 @@ fn greatest_payload(rt: HostRuntime) -> Result<(), Fail> {
 
 // Where memory is ample, a size takes none, whatever it announces, and data takes little more than came. A
 // writer takes little more than it writes.
+// Over a heap of 128 MiB: a size of 64 MiB, then 4 bytes, then 4,096; a size and a payload of 20
+// bytes, written. Result: no memory; at most 64 bytes; 8,192; 64 and 128 more.
 #[test]
 fn memory_follows_the_bytes(rt: HostRuntime) -> Result<(), Fail> {
     let heap = LocalHeap::new(rt.alloc(), 134_217_728)?;

@@ -18,6 +18,7 @@ fn fault_of(rt: HostRuntime, delta: &[u8]) -> Option<DeltaFault> {
     apply(rt.alloc(), BASE, delta, AMPLE).err()
 }
 
+// (1, 3, `X`). Result: `aXdef`.
 #[test]
 fn a_piece_is_replaced(rt: HostRuntime) -> Result<(), Fail> {
     let text = apply(rt.alloc(), BASE, ONE_HUNK, AMPLE)
@@ -27,6 +28,7 @@ fn a_piece_is_replaced(rt: HostRuntime) -> Result<(), Fail> {
     Ok(())
 }
 
+// (0, 0, `>`) (6, 6, `<`). Result: `>abcdef<`.
 #[test]
 fn both_ends_grow(rt: HostRuntime) -> Result<(), Fail> {
     let text = apply(rt.alloc(), BASE, BOTH_ENDS, AMPLE)
@@ -36,6 +38,7 @@ fn both_ends_grow(rt: HostRuntime) -> Result<(), Fail> {
     Ok(())
 }
 
+// Nothing. Result: `abcdef`.
 #[test]
 fn no_hunk_keeps_the_base(rt: HostRuntime) -> Result<(), Fail> {
     let text = apply(rt.alloc(), BASE, b"", AMPLE).ok().ok_or("a text")?;
@@ -43,30 +46,35 @@ fn no_hunk_keeps_the_base(rt: HostRuntime) -> Result<(), Fail> {
     Ok(())
 }
 
+// (4, 2, nothing). Result: Backwards.
 #[test]
 fn end_below_start(rt: HostRuntime) {
     let delta = b"\0\0\0\x04\0\0\0\x02\0\0\0\0";
     assert_eq!(rt; fault_of(rt, delta), Some(DeltaFault::Backwards));
 }
 
+// (5, 7, nothing). Result: PastEnd.
 #[test]
 fn end_past_the_base(rt: HostRuntime) {
     let delta = b"\0\0\0\x05\0\0\0\x07\0\0\0\0";
     assert_eq!(rt; fault_of(rt, delta), Some(DeltaFault::PastEnd));
 }
 
+// (1, 3, nothing) (2, 4, nothing). Result: Backwards.
 #[test]
 fn overlapping_hunks(rt: HostRuntime) {
     let delta = b"\0\0\0\x01\0\0\0\x03\0\0\0\0\0\0\0\x02\0\0\0\x04\0\0\0\0";
     assert_eq!(rt; fault_of(rt, delta), Some(DeltaFault::Backwards));
 }
 
+// The first eleven bytes of a header. Result: Short.
 #[test]
 fn eleven_bytes(rt: HostRuntime) {
     let delta = b"\0\0\0\x01\0\0\0\x03\0\0\0";
     assert_eq!(rt; fault_of(rt, delta), Some(DeltaFault::Short));
 }
 
+// (1, 3, two bytes) with one byte. Result: Short.
 #[test]
 fn content_ends_early(rt: HostRuntime) {
     let delta = b"\0\0\0\x01\0\0\0\x03\0\0\0\x02X";
@@ -74,6 +82,7 @@ fn content_ends_early(rt: HostRuntime) {
 }
 
 // Within a hunk `Backwards` comes before `PastEnd`, and both before a content that is short.
+// (9, 8, five bytes) and (5, 7, five bytes) without a content. Result: Backwards; PastEnd.
 #[test]
 fn order_within_a_hunk(rt: HostRuntime) {
     let back_and_past = b"\0\0\0\x09\0\0\0\x08\0\0\0\x05";
@@ -83,6 +92,7 @@ fn order_within_a_hunk(rt: HostRuntime) {
 }
 
 // Numbers are unsigned: one with its first bit set is large, not negative.
+// An end of `ffffffff`; a content's length of `ffffffff`. Result: PastEnd; Short.
 #[test]
 fn largest_numbers(rt: HostRuntime) {
     let past = b"\0\0\0\0\xff\xff\xff\xff\0\0\0\0";
@@ -92,6 +102,8 @@ fn largest_numbers(rt: HostRuntime) {
 }
 
 // The first faulty hunk decides, and a text that is too long only where there is none.
+// (4, 2, nothing) before (0, 9, nothing); (5, 7, nothing) where no byte is allowed. Result:
+// Backwards; PastEnd.
 #[test]
 fn first_fault_decides(rt: HostRuntime) {
     let mut delta = [0; 24];
@@ -103,6 +115,7 @@ fn first_fault_decides(rt: HostRuntime) {
     assert_eq!(rt; faulty.err(), Some(DeltaFault::PastEnd));
 }
 
+// (1, 3, `X`) with at most 5 and at most 4 bytes. Result: `aXdef`; TooLong.
 #[test]
 fn longest_text(rt: HostRuntime) -> Result<(), Fail> {
     let text = apply(rt.alloc(), BASE, ONE_HUNK, 5)
@@ -115,6 +128,8 @@ fn longest_text(rt: HostRuntime) -> Result<(), Fail> {
 }
 
 // Heaps of every size: memory is refused where the text does not fit, and otherwise the text comes.
+// A text of 99 bytes over heaps of each size below 160. Result: NoMemory up to a size, from there
+// on the text; a short delta and a text that is too long are told over every heap.
 #[test]
 fn refused_memory(rt: HostRuntime) -> Result<(), Fail> {
     let base = [b'a'; 100];
@@ -151,6 +166,8 @@ fn kept(heap: &LocalHeap, base: &[u8]) -> Result<(usize, usize), DeltaFault> {
 }
 
 // Over an ample heap memory is not refused, up to a text of 16 MiB, and the heap keeps the text alone.
+// Texts of 4,096, 4,097 and 16,777,216 bytes, over a heap of 32 MiB. Result: the texts; the heap
+// keeps each alone.
 #[test]
 fn long_texts_over_an_ample_heap(rt: HostRuntime) -> Result<(), Fail> {
     let heap = LocalHeap::new(rt.alloc(), 1 << 25)?;

@@ -178,6 +178,8 @@ fn has_a_root(alloc: Global, log: &mut Changelog) -> bool {
     added == Ok(Added::New(0)) && log.len() == 1 && is_there && is_hash
 }
 
+// Parents Z and Z, the empty text, id `b80de5d138758541c5f05265ad144ab9fa86d1db`. Result: row 0,
+// found by its id.
 #[test]
 fn a_root_changeset(rt: HostRuntime) -> Result<(), Fail> {
     let mut log = new_log(rt)?;
@@ -191,6 +193,8 @@ fn has_no_rows(alloc: Global, log: &mut Changelog) -> bool {
     is_known && has_none && has_heads(alloc, log, &[NULL])
 }
 
+// No rows; Z, and `11*20`. Result: Z is known and has no row, the other is not known; the head is
+// Z.
 #[test]
 fn ids_that_no_row_has(rt: HostRuntime) -> Result<(), Fail> {
     let mut log = new_log(rt)?;
@@ -215,6 +219,11 @@ fn has_the_line(alloc: Global, log: &mut Changelog) -> bool {
     is_put && is_second && has_parents && has_heads
 }
 
+// `a0c8bcbbb45c63b90b70ad007bf38961f64f2af0`, `test`, `0 0`, `a`, an empty line and `a` with line
+// ends between, id `cb9a9f314b8b07ba71012fcdbc544b5a4d82ff5b`; its child of
+// `a539ce0c1a22b0ecf34498f9f5ce8ea56df9ecb7` .. `b`, id `d2ae7f538514cd87c17547b0de4cea71fe1af9fb`;
+// the child of that of `e3738bf5439958f89499a656982023aba57b076e` .. `c`, id
+// `177f92b773850b59254aa5e923436f921b55483b`. Result: rows 0, 1 and 2; the head is the last.
 #[test]
 fn changesets_of_mercurial(rt: HostRuntime) -> Result<(), Fail> {
     let mut log = new_log(rt)?;
@@ -222,6 +231,7 @@ fn changesets_of_mercurial(rt: HostRuntime) -> Result<(), Fail> {
     Ok(())
 }
 
+// The second of these with its parents exchanged. Result: the same id.
 #[test]
 fn parents_in_either_order(rt: HostRuntime) {
     let first = node_id(&NULL, &ADD_A, TEXT_B);
@@ -254,6 +264,8 @@ fn knows_it_again(alloc: Global, log: &mut Changelog) -> bool {
     is_put && are_known && log.len() == 1
 }
 
+// The root; the root again; its id with an unknown parent and another text; Z with an unknown
+// parent. Result: New(0), Known, Known, Known.
 #[test]
 fn the_same_changeset_again(rt: HostRuntime) -> Result<(), Fail> {
     let mut log = new_log(rt)?;
@@ -285,6 +297,9 @@ fn takes_it_as_a_base(alloc: Global, log: &mut Changelog) -> bool {
     is_put && is_known && is_new && has_text && has_heads
 }
 
+// The root; `r` of Z and Z, id `66dad0b7b18f09dff2f1bd3ad0294d6dcfb69450`, twice; then id
+// `afd3a6a1f758ffa4867f96eb8e8e30488f656492`, p1 the root, base `66da..`, hunk (0, 1, `b`). Result:
+// New(0), New(1), Known, New(2) with the text `b`; heads `66da..`, `afd3..`.
 #[test]
 fn a_known_entry_is_a_base(rt: HostRuntime) -> Result<(), Fail> {
     let mut log = new_log(rt)?;
@@ -303,6 +318,8 @@ fn refuses_a_wrong_hash(alloc: Global, log: &mut Changelog) -> bool {
     are_refused && log.len() == 0 && !log.knows(&wrong)
 }
 
+// The root with the last byte `dc`; the root's id with the text `x`. Result: HashMismatch, and no
+// row.
 #[test]
 fn a_wrong_hash(rt: HostRuntime) -> Result<(), Fail> {
     let mut log = new_log(rt)?;
@@ -330,6 +347,9 @@ fn tells_heads(alloc: Global, log: &mut Changelog) -> bool {
     is_put && has_three && is_merged && has_two
 }
 
+// The root; its children `1` (`5c0d5604..`), `2` (`d918eff4..`), `3` (`4ba9233f..`); a merge `m` of
+// the first two (`ce7e7373..`). Result: heads `4ba9..`, `5c0d..`, `d918..`; then `4ba9..`,
+// `ce7e..`.
 #[test]
 fn the_heads_before_a_merge_and_after_it(rt: HostRuntime) -> Result<(), Fail> {
     let mut log = new_log(rt)?;
@@ -356,6 +376,9 @@ fn tells_ancestors(alloc: Global, log: &mut Changelog) -> bool {
     is_put && are && are_none && of_merge && of_others
 }
 
+// The same rows; numbers that no row has: (5, 4), (0, 5), (5, 5), (7, 9). Result: the rows 0, 1, 2
+// and 4 are ancestors of row 4, row 3 is not, and row 4 is none of row 1; false for numbers of no
+// row; the parents of row 4 are rows 1 and 2, that of row 3 is row 0, row 0 has none.
 #[test]
 fn the_ancestors_of_a_merge(rt: HostRuntime) -> Result<(), Fail> {
     let mut log = new_log(rt)?;
@@ -391,6 +414,9 @@ fn is_cut_back(alloc: Global, log: &mut Changelog) -> bool {
     is_put && is_cut && has_one && has_more && has_two
 }
 
+// The same rows, cut to 2; then `2` again. Result: the last child of row 0 is row 3, that of row 1
+// row 4; then row 2 and the merge are not found, the head is `1`, the last child of row 0, and row
+// 1 has none; New(2), heads `1` and `2`.
 #[test]
 fn a_cut_back(rt: HostRuntime) -> Result<(), Fail> {
     let mut log = new_log(rt)?;
@@ -414,6 +440,8 @@ fn is_cloned(alloc: Global, log: &mut Changelog) -> bool {
     is_put && has_grown && log.len() == 2
 }
 
+// Rows of Mercurial, cloned; the third added to the clone. Result: the clone has their texts and
+// finds them; the log has two rows still.
 #[test]
 fn a_clone(rt: HostRuntime) -> Result<(), Fail> {
     let mut log = new_log(rt)?;
@@ -454,6 +482,8 @@ fn tells_the_first_fault(alloc: Global, log: &mut Changelog) -> bool {
     all && log.len() == 0
 }
 
+// P2, then p1, then the base, then none of them unknown, with the delta `short`. Result:
+// UnknownParent, UnknownParent, UnknownBase, Delta(Short).
 #[test]
 fn an_unknown_parent_before_an_unknown_base(rt: HostRuntime) -> Result<(), Fail> {
     let mut log = new_log(rt)?;
@@ -482,6 +512,7 @@ fn refuses_a_long_text(alloc: Global, log: &mut Changelog) -> bool {
     is_put && is_refused && log.len() == 1
 }
 
+// Limit `text` 1: texts of 1 and of 2 bytes. Result: New(0), Delta(TooLong).
 #[test]
 fn a_text_at_its_limit_and_past_it(rt: HostRuntime) -> Result<(), Fail> {
     let mut log = small_log(rt)?;
@@ -499,6 +530,8 @@ fn refuses_a_row(alloc: Global, log: &mut Changelog) -> bool {
     is_put && are_refused && known == Ok(Added::Known) && log.len() == 2
 }
 
+// Limit `revisions` 2: two rows; a third with a wrong hash, and with the right one; a known id.
+// Result: New(0), New(1); HashMismatch, TooMany; Known.
 #[test]
 fn as_many_rows_as_are_allowed_and_one_more(rt: HostRuntime) -> Result<(), Fail> {
     let mut log = small_log(rt)?;

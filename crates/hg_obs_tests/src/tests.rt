@@ -117,6 +117,8 @@ fn repeated(alloc: Global, times: u8) -> Result<Vec<u8>, AllocError> {
     Ok(bytes)
 }
 
+// `00`, and twice `00 00000000 00 11*20` (53 bytes). Result: two markers are read, one is added;
+// its bytes are the 26 bytes again; `11*20` is a predecessor, the null id is not.
 #[test]
 fn one_marker_twice(rt: HostRuntime) -> Result<(), Fail> {
     let bytes = repeated(rt.alloc(), 2)?;
@@ -145,6 +147,8 @@ fn are_merged(
     Ok(all)
 }
 
+// A marker with one successor and the metadata `user:a`; the same with a NUL behind it; `user`.
+// Result: accepted; accepted as another marker; BadMetadata.
 #[test]
 fn metadata_in_three_forms(rt: HostRuntime) -> Result<(), Fail> {
     let mut markers = Markers::new(rt.alloc(), RandomState::new(&rt)?);
@@ -172,6 +176,9 @@ fn is_read(
     Ok(alone && count(alloc, &bytes) == Err(read.err().unwrap_or(MarkerFault::Short)))
 }
 
+// Empty; `:`; two NULs; `a:1` NUL NUL `b:2`; `a::` NUL `:b` · `a:1` NUL `b`; `a` NUL `b:2`; `a`;
+// NUL `a` NUL; `a:1` NUL `b` NUL `c:3` · a null successor, also with a byte behind it · a null
+// successor and bad metadata. Result: metadata · none · NullSuccessor · BadMetadata.
 #[test]
 fn pieces_of_metadata_and_null_successors(rt: HostRuntime) -> Result<(), Fail> {
     let (bare, null) = (MarkerFault::BadMetadata, MarkerFault::NullSuccessor);
@@ -196,6 +203,9 @@ fn pieces_of_metadata_and_null_successors(rt: HostRuntime) -> Result<(), Fail> {
     Ok(())
 }
 
+// `00`, a marker of 52 bytes (`01 00000006 01 11*20 22*20 "user:a"`) and one of 69 (`02 00000003 00
+// 22*20 33*20 44*20 "a:b"`), cut at each place · `01`. Result: Short, but for the first byte alone
+// (no markers), the first 53 bytes (one) and all 122 (two) · BadVersion.
 #[test]
 fn every_prefix_of_two_markers(rt: HostRuntime) {
     for len in 0..122usize {
@@ -219,6 +229,9 @@ fn merge_two_lists(alloc: Global, markers: &mut Markers) -> Result<(u64, u64), N
     Ok((first, second))
 }
 
+// Predecessors 1; then 2, 1 (the same marker), 1 (another successor), 2 (again); a copy; cut back
+// to one, to none. Result: 1 added; 2 added; the order 1, 2, 1; 2 is no predecessor any more, 1 is
+// while a marker is left; the copy has all three.
 #[test]
 fn merge_of_shared_markers(rt: HostRuntime) -> Result<(), Fail> {
     let mut markers = Markers::new(rt.alloc(), RandomState::new(&rt)?);
@@ -365,6 +378,9 @@ fn end_of_ten<A: Allocator>(added: Result<u64, NoMemory>, markers: &Markers<A>) 
     }
 }
 
+// Reading, merging, copying and writing the two markers, and merging ten more, over heaps of each
+// multiple of 16 bytes below 16,384. Result: each of the five is refused somewhere, leaves the list
+// as it was, and all succeed in the end.
 #[test]
 fn each_growth_refused(rt: HostRuntime) -> Result<(), Fail> {
     let state = RandomState::new(&rt)?;
@@ -413,6 +429,8 @@ fn is_cut_to_one<A: Allocator>(markers: &mut Markers<A>) -> bool {
     two && markers.list().len() == 1 && first && !second
 }
 
+// A list of the two markers over a heap of which nothing is left. Result: `list`, `is_predecessor`
+// and `cut_back` answer as ever.
 #[test]
 fn no_memory_for_looking_and_cutting(rt: HostRuntime) -> Result<(), Fail> {
     let state = RandomState::new(&rt)?;
@@ -487,6 +505,9 @@ fn in_use(heap: &LocalHeap, state: RandomState, bytes: &[u8]) -> Result<[usize; 
 /// Over an ample heap nothing is refused, however many markers come, and no call keeps more than came:
 /// reading at most 8 times the data and 256 bytes, a list at most 512 bytes a marker and 2,048, and a copy as
 /// much as its source. A cut takes nothing.
+/// 1, 20 and 3,000 markers with one successor, each over a heap of 4 MiB: read, merged, copied, cut
+/// to nothing. Result: reading keeps at most 8 times the data and 256 bytes, the list at most 512
+/// bytes a marker and 2,048, the copy no more than its source; the cut takes nothing.
 #[test]
 fn many_markers_take_what_came(rt: HostRuntime) -> Result<(), Fail> {
     let state = RandomState::new(&rt)?;
@@ -503,6 +524,8 @@ fn many_markers_take_what_came(rt: HostRuntime) -> Result<(), Fail> {
 
 /// Room is made for new markers alone: a list into which one marker was merged 50,000 times keeps at most
 /// 2,048 bytes.
+/// One marker 50,000 times, merged into a list over a heap of 16 MiB. Result: the list keeps at
+/// most 2,048 bytes.
 #[test]
 fn repeated_markers_take_no_memory(rt: HostRuntime) -> Result<(), Fail> {
     let state = RandomState::new(&rt)?;

@@ -56,6 +56,9 @@ fn is_written_back<A: Allocator + Copy>(alloc: A, bytes: &[u8], params: usize) -
     }
 }
 
+// `09 "REPLYCAPS" 00000000 0000`; `11 "reply:changegroup" 00000000 0002 0b01 0601 "in-reply-to" "1"
+// "return" "1"`; `0f "ERROR:PUSHRACED" 00000000 0100 070d "message" "heads changed"`. Result: each
+// is a header; what is written of the part is the same bytes.
 #[test]
 fn a_header_is_read_and_written_back(rt: HostRuntime) {
     let mut all = true;
@@ -69,6 +72,8 @@ fn is_param<A: Allocator>(param: &Param<A>, mandatory: bool, key: &[u8], value: 
     param.mandatory == mandatory && param.key.as_slice() == key && param.value.as_slice() == value
 }
 
+// `01 "b" 01020304 0101 0201 0002 "ke" "y" "" "va"`. Result: type `b`, id 16,909,060, a mandatory
+// parameter `ke` with `y`, an advisory one with an empty key and `va`.
 #[test]
 fn the_fields_of_a_header(rt: HostRuntime) -> Result<(), Fail> {
     let bytes: &[u8] = b"\x01b\x01\x02\x03\x04\x01\x01\x02\x01\x00\x02keyva";
@@ -83,6 +88,10 @@ fn the_fields_of_a_header(rt: HostRuntime) -> Result<(), Fail> {
     Ok(())
 }
 
+// Type size 0 · `/` as type · a key twice, once mandatory and once advisory · the empty key once ·
+// twice · one byte too many · one too few · no bytes · type size 0 and a byte too many · type size
+// 0 and sizes that end early · type size 0 and the empty key twice. Result: BadType · BadType ·
+// RepeatedKey · accepted · RepeatedKey · Leftover · Short · Short · Leftover · Short · BadType.
 #[test]
 fn headers_with_a_fault(rt: HostRuntime) {
     let cases: [(&[u8], Option<ParamFault>); 11] = [
@@ -117,6 +126,7 @@ fn headers_with_a_fault(rt: HostRuntime) {
     assert!(rt; all);
 }
 
+// Each proper prefix of the second header above. Result: Short.
 #[test]
 fn each_front_of_a_header_is_short(rt: HostRuntime) {
     let mut all = true;
@@ -140,6 +150,9 @@ fn append_greatest<A: Allocator>(out: &mut Vec<u8, A>) -> Result<(), NoMemory> {
     Ok(())
 }
 
+// A type of 255 bytes, 255 mandatory and 255 advisory parameters, keys and values of 255 bytes
+// (261,382 bytes in all); one byte more. Result: accepted, 510 parameters, and written as the same
+// bytes; Leftover.
 #[test]
 fn the_greatest_header(rt: HostRuntime) -> Result<(), Fail> {
     let mut bytes = Vec::new(rt.alloc());
@@ -194,6 +207,8 @@ fn can_be_written<A: Allocator + Copy>(
     }
 }
 
+// `output` · no type · `out put` · 256 times `a` · `x` mandatory and then `y` advisory · the other
+// way round · `x` twice. Result: yes · no · no · no · yes · no · no.
 #[test]
 fn what_can_be_written(rt: HostRuntime) {
     let cases: [(&[u8], &[(bool, u8)], bool); 7] = [
@@ -224,6 +239,8 @@ fn has_head<A: Allocator + Copy>(alloc: A, kind: &[u8], bytes: &[u8]) -> bool {
     }
 }
 
+// `check:Heads`, `obs_0-a`, both with the id 258. Result: `0b "CHECK:HEADS" 00000102 0000`; `07
+// "obs_0-a" 00000102 0000`.
 #[test]
 fn a_mandatory_type_is_written_in_upper_case(rt: HostRuntime) {
     assert!(rt;
@@ -235,6 +252,11 @@ fn a_mandatory_type_is_written_in_upper_case(rt: HostRuntime) {
     );
 }
 
+// `Compression=UN` · `compression=GZ` · `compression` · `COMPRESSION=un` · `Foo` · `foo=%20a` · `a
+// b` · one space · `=a` · `1x` · `%20x` · `%46oo` · no bytes · `foo Foo 1x` · `foo 1x Foo` ·
+// `compression=UN Compression=BZ`. Result: accepted · Compressed · Compressed · Compressed ·
+// UnknownMandatory · accepted · EmptyName · EmptyName · EmptyName · BadName · BadName ·
+// UnknownMandatory · accepted · UnknownMandatory · BadName · Compressed.
 #[test]
 fn stream_parameters(rt: HostRuntime) {
     let cases: [(&[u8], Option<ParamFault>); 16] = [
@@ -275,6 +297,8 @@ fn count_params<A: Allocator + Copy>(alloc: A, bytes: &[u8]) -> Option<usize> {
 }
 
 // Stream parameters of 65,536 bytes, where memory is ample.
+// 32,767 times `a` and a space, then `aa` (65,536 bytes), where memory is ample. Result: 32,768
+// parameters.
 #[test]
 fn the_greatest_stream_parameters(rt: HostRuntime) -> Result<(), Fail> {
     let mut bytes = Vec::new(rt.alloc());
@@ -326,6 +350,8 @@ fn has_value<A: Allocator>(param: &StreamParam<A>, value: Option<&[u8]>) -> bool
     }
 }
 
+// `foo=%20a bar a%3Db=c=d%zz%`. Result: `foo` with a space and `a`; `bar` without a value; `a=b`
+// with `c=d%zz%`.
 #[test]
 fn names_and_values_of_stream_parameters(rt: HostRuntime) -> Result<(), Fail> {
     let params = read_stream_params(rt.alloc(), b"foo=%20a bar a%3Db=c=d%zz%")?;
@@ -342,6 +368,7 @@ fn names_and_values_of_stream_parameters(rt: HostRuntime) -> Result<(), Fail> {
     Ok(())
 }
 
+// Each ParamFault. Result: 1 to 9.
 #[test]
 fn faults_by_number(rt: HostRuntime) {
     let faults = [
@@ -439,6 +466,9 @@ impl Seen {
 }
 
 /// Heaps of every size up to those that serve, so that each growth is refused in turn.
+/// A header, stream parameters and a part over heaps of 16 to 1,520 bytes. Result: NoMemory, or the
+/// right answer; a vector whose header was refused is as before; each of the three calls is refused
+/// on some heap and served on another.
 #[test]
 fn memory_refused_in_turn(rt: HostRuntime) -> Result<(), Fail> {
     let (mut header, mut params, mut written) = (Seen::new(), Seen::new(), Seen::new());
@@ -473,6 +503,9 @@ fn params_take_little(heap: &LocalHeap) -> bool {
 
 // Where memory is ample, what is read takes little more than came, whatever its counts announce, and what is
 // written little more than itself. A test takes none.
+// Over a heap of 1 MiB: the second header above; `foo=%20a bar`; whether the part can be written;
+// its header. Over one of 0 bytes: a header that announces 255 parameters of each kind and ends.
+// Result: at most 1,024 bytes; 512; none; 128; Short.
 #[test]
 fn memory_follows_the_bytes(rt: HostRuntime) -> Result<(), Fail> {
     let heap = LocalHeap::new(rt.alloc(), 1_048_576)?;

@@ -287,6 +287,7 @@ fn roots(alloc: Global, state: RandomState) -> Result<bool, NoMemory> {
     Ok(came == (told, told, Came::Refused(5)) && rows == 1 && phases == (Some(Phase::Draft), None))
 }
 
+// `CHANGEGROUP` 02 with A, an empty delta. Result: `return` 1; one row, a draft.
 #[test]
 fn a_root_changeset(rt: HostRuntime) -> Result<(), Fail> {
     assert!(rt; roots(rt.alloc(), RandomState::new(&rt)?)?);
@@ -336,6 +337,8 @@ fn merge(alloc: Global, state: RandomState) -> Result<bool, NoMemory> {
     Ok(forks == Came::Told(false, b'3') && merges == Came::Told(true, b'2') && heads == 2)
 }
 
+// A and three children of it; a merge of the first two. Result: `return` 3; `return` -2, and two
+// heads.
 #[test]
 fn a_merge(rt: HostRuntime) -> Result<(), Fail> {
     assert!(rt; merge(rt.alloc(), RandomState::new(&rt)?)?);
@@ -365,6 +368,8 @@ fn bases(alloc: Global, state: RandomState) -> Result<bool, NoMemory> {
     Ok(before == Came::Told(false, b'2') && after == Came::Told(false, b'1') && rev == Some(2))
 }
 
+// A and `r` without parents; in version 01 `r` again with hunk (0, 0, `r`), and a child of A with
+// hunk (0, 1, `b`). Result: `return` 2; `return` 1, the child is row 2.
 #[test]
 fn a_base_that_is_known(rt: HostRuntime) -> Result<(), Fail> {
     assert!(rt; bases(rt.alloc(), RandomState::new(&rt)?)?);
@@ -406,6 +411,8 @@ fn seeded(
     Ok((first, second, before, a, b))
 }
 
+// Seed: A with `targetphase` 2; push: a child of A; on a server that publishes as well. Result: A
+// is secret; then both are draft, or public.
 #[test]
 fn a_secret_seed(rt: HostRuntime) -> Result<(), Fail> {
     let state = RandomState::new(&rt)?;
@@ -514,6 +521,8 @@ fn starts(alloc: Global, kind: &[u8], key: &[u8]) -> Result<bool, NoMemory> {
     Ok(starts_replies(&part))
 }
 
+// `ReplyCaps`; `replycaps` with the mandatory parameter `x`; `output`. Result: parts after the
+// first leave replies.
 #[test]
 fn replies_are_read(rt: HostRuntime) -> Result<(), Fail> {
     let alloc = rt.alloc();

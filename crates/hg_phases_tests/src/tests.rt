@@ -232,6 +232,8 @@ fn a_seed_is_told(alloc: Global, log: &mut Changelog) -> bool {
     is_put & is_registered & are_secret & is_advanced
 }
 
+// A root registered at S, its child at D; an advance of the child to D; of the root to P; of the
+// root to D. Result: S, S; D, D; P, D; P, D.
 #[test]
 fn a_secret_seed_and_its_child(rt: HostRuntime) -> Result<(), Fail> {
     let mut log = new_log(rt)?;
@@ -258,6 +260,9 @@ fn a_merge_is_told(alloc: Global, log: &mut Changelog) -> bool {
     is_put & is_registered & are_registered & is_advanced & is_back
 }
 
+// A root at D, two children at P and S, their merge, its child and another root at P; a mark;
+// advances of row 1 to P, of the merge to D, of rows 0 and 5 to D, of rows 4 and 2 to P; back.
+// Result: D D S S S P; then P P S S S P, P P D D S P, the same, all P; D D S S S P.
 #[test]
 fn a_merge_and_its_diamond(rt: HostRuntime) -> Result<(), Fail> {
     let mut log = new_log(rt)?;
@@ -303,6 +308,9 @@ fn rows_behind_a_mark_are_told(alloc: Global, log: &mut Changelog) -> bool {
     is_changed & are_draft & is_compared & is_back & is_copied
 }
 
+// Three of these rows at S; a mark; the merge at D, an advance of it to D, the next row at P; the
+// same rows registered at D in other phases, one of them advanced; back, and a copy. Result: S S S;
+// D D D D D; the same phases, then not; S S S, twice.
 #[test]
 fn rows_that_come_behind_a_mark(rt: HostRuntime) -> Result<(), Fail> {
     let mut log = new_log(rt)?;
@@ -363,6 +371,9 @@ fn is_bad(alloc: Global, number: [u8; 4]) -> bool {
     }
 }
 
+// `00000000 11*20 00000002 22*20`, and each front of it; the second phase as 3, 256, 65,538 and
+// -2,147,483,646, whole and one byte short. Result: (P, `11*20`), (S, `22*20`), and Short but for
+// the first 0 and 24 bytes; BadPhase, and Short.
 #[test]
 fn entries_by_their_bytes(rt: HostRuntime) {
     let alloc = rt.alloc();
@@ -474,6 +485,11 @@ fn many_are_read(alloc: Global) -> bool {
     many & most
 }
 
+// 10,000 rows, each second one the child of the row before it, over an ample heap: registered at D;
+// a mark; advances of the last row to P, of the first, and of 5,000 heads; back; 10,000 entries.
+// Result: nothing is refused; at most 16 and 48 bytes a row, and 256 bytes more for the last row
+// and the first together; `new`, `mark`, `phase`, `len`, `is_same` and `back_to` leave the heap's
+// bytes in use as they were.
 #[test]
 fn many_rows(rt: HostRuntime) -> Result<(), Fail> {
     let state = RandomState::new(&rt)?;
@@ -595,6 +611,9 @@ fn steps_of_new<'h>(heap: &'h LocalHeap, rows: &'h LocalHeap, state: RandomState
 }
 
 /// Over heaps of each multiple of 16 bytes, so that each growth is refused in turn.
+/// Six rows registered; where they all are, each for itself, a copy, entries, and a mark, an
+/// advance and back; over heaps of 0 to 1,520 bytes. Result: want of memory with all as before, or
+/// the answer; each of the four is refused somewhere and succeeds somewhere.
 #[test]
 fn each_growth_refused(rt: HostRuntime) -> Result<(), Fail> {
     let state = RandomState::new(&rt)?;

@@ -205,6 +205,9 @@ fn take_one<A: Allocator, R: Wait>(
     Some((item.push, item.index, kind_of(&item.what)))
 }
 
+// Capacity 2: push 0 puts a part with id 7 and its end mark; push 1 tries a part with id 8; four
+// takes. Result: both puts succeed; the third hands the part with id 8 back, and push 1 still has
+// no part; push 0 index 0 with the part, push 0 index 1 with the end mark, then nothing.
 #[test]
 fn queue_of_two(rt: HostRuntime) -> Result<(), Fail> {
     let alloc = rt.alloc();
@@ -229,6 +232,9 @@ fn queue_of_two(rt: HostRuntime) -> Result<(), Fail> {
     Ok(())
 }
 
+// Capacity 1: push 4 puts a part; it tries its mark, cut because the sender gave up; a take; the
+// mark again; a take. Result: the mark comes back with its Putter, which has one part; index 0 with
+// the part; index 1 with the cut and its reason.
 #[test]
 fn mark_at_a_full_queue(rt: HostRuntime) -> Result<(), Fail> {
     let alloc = rt.alloc();
@@ -253,6 +259,9 @@ fn mark_at_a_full_queue(rt: HostRuntime) -> Result<(), Fail> {
     Ok(())
 }
 
+// Capacity 3: the pushes 0 and 1 put 500 parts each, on threads of their own, while a third thread
+// takes; then both end marks. Result: the parts of each push come with the indices 0 to 499, each
+// part in its own place; then each end mark, with index 500; then nothing.
 #[test]
 fn two_putters_on_threads(rt: HostRuntime) -> Result<(), Fail> {
     let alloc = rt.alloc();
@@ -303,6 +312,9 @@ fn take_and_show<R: Wait>(
     true
 }
 
+// A part and an end mark are taken; memory is told to have been refused for the part; a Visitor is
+// shown the history. Result: by the contract of `take_and_show`, the Visitor has seen the part as
+// refused and the mark as not refused.
 #[test]
 fn told_refusals_are_shown(rt: HostRuntime) -> Result<(), Fail> {
     let alloc = rt.alloc();
@@ -347,6 +359,9 @@ fn takes_none<R: Wait>(rt: &R, heap: &LocalHeap) -> Option<bool> {
     Some(put && full && came && ended && empty && heap.used() == made)
 }
 
+// A queue of one place over heaps of 16 to 2,032 bytes, with a put, a full put, takes, a tell, a
+// mark, a taking in and a dismissal. Result: a small heap refuses `new`; wherever `new` succeeds
+// the calls answer as with ample memory, and the heap has as many bytes taken after them as before.
 #[test]
 fn memory_is_taken_by_new_alone(rt: HostRuntime) -> Result<(), Fail> {
     let mut refused = 0u32;
@@ -400,6 +415,8 @@ fn take_many<A: Allocator, R: Wait>(rt: &R, queue: &PartQueue<A>, taker: &mut Ta
     true
 }
 
+// A queue of 65,536 places over an ample heap; 4,097 parts of a push and its mark, and as many
+// takes. Result: `new` succeeds, so do all puts, and the items come in order.
 #[test]
 fn the_greatest_queue(rt: HostRuntime) -> Result<(), Fail> {
     let heap = LocalHeap::new(rt.alloc(), 1 << 25)?;

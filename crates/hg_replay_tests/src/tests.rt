@@ -142,11 +142,15 @@ fn check<A: Allocator + Copy, R: RandomSource + Abort>(
     }
 }
 
+// `HG20`, eight bytes 0. Reply and status: the same 12 bytes; 0.
 #[test]
 fn the_empty_bundle(rt: HostRuntime) {
     check(&rt, rt.alloc(), EMPTY, 0, EMPTY);
 }
 
+// `the_first_push_with_checks`, `the_first_push_is_published`: `REPLYCAPS` and `CHECK:HEADS` with
+// the null id, 86 bytes. Reply and status: the empty bundle; 0. It is also the program's stored
+// run.
 #[test]
 fn the_first_push_with_checks(rt: HostRuntime) {
     assert_eq!(rt; FIRST_PUSH.len(), 86);
@@ -165,6 +169,8 @@ fn the_first_push_is_published(rt: HostRuntime) {
     assert_eq!(rt; writer.bytes(), EMPTY);
 }
 
+// `CHECK:HEADS` without an id, 38 bytes. Reply and status: 64 bytes, `ERROR:PUSHRACED` with `heads
+// changed`; 1.
 #[test]
 fn the_race_on_heads(rt: HostRuntime) {
     assert_eq!(rt; RACE_REPLY.len(), 64);
@@ -172,6 +178,9 @@ fn the_race_on_heads(rt: HostRuntime) {
 }
 
 /// The changeset of the empty text, whole and around another part, which is dropped.
+/// `REPLYCAPS` and the `CHANGEGROUP` 02 of the empty text, 193 bytes; the same with the changegroup
+/// in chunks of 40 and 76 bytes and a part `output` between them, 222 bytes. Reply and status: 67
+/// bytes, `reply:changegroup` with `return` `1`; 0.
 #[test]
 fn the_root_changeset(rt: HostRuntime) {
     assert_eq!(rt; ROOT_REPLY.len(), 67);
@@ -181,12 +190,16 @@ fn the_root_changeset(rt: HostRuntime) {
 }
 
 /// Its bytes come around another part, which is dropped.
+/// The first push with its null id in chunks of 8 and 12 bytes, and a part `output` between them,
+/// 115 bytes. Reply and status: the empty bundle; 0.
 #[test]
 fn the_first_push_interrupted(rt: HostRuntime) {
     assert_eq!(rt; INTERRUPTED.len(), 115);
     check(&rt, rt.alloc(), INTERRUPTED, 0, EMPTY);
 }
 
+// The same with -1 in place of the closing size of `output`. Reply and status: 61 bytes, `stream
+// fault 6`; 1.
 #[test]
 fn an_interruption_within_an_interruption(rt: HostRuntime) {
     check(
@@ -198,6 +211,7 @@ fn an_interruption_within_an_interruption(rt: HostRuntime) {
     );
 }
 
+// The same with `FROB` in place of `output`. Reply and status: 61 bytes, `stream fault 8`; 1.
 #[test]
 fn an_unknown_interruption(rt: HostRuntime) {
     check(
@@ -209,23 +223,30 @@ fn an_unknown_interruption(rt: HostRuntime) {
     );
 }
 
+// `frob` with id 5. Reply and status: the empty bundle; 0.
 #[test]
 fn an_unknown_advisory_part(rt: HostRuntime) {
     check(&rt, rt.alloc(), ADVISORY, 0, EMPTY);
 }
 
+// `FROB` with id 5. Reply and status: 65 bytes, `ERROR:UNSUPPORTEDCONTENT` with `parttype` `frob`;
+// 1.
 #[test]
 fn an_unknown_mandatory_part(rt: HostRuntime) {
     assert_eq!(rt; MANDATORY_REPLY.len(), 65);
     check(&rt, rt.alloc(), MANDATORY, 1, MANDATORY_REPLY);
 }
 
+// `REPLYCAPS` with the mandatory parameter `x`. Reply and status: 79 bytes,
+// `ERROR:UNSUPPORTEDCONTENT` with `parttype` `replycaps` and `params` `x`; 1.
 #[test]
 fn an_unknown_parameter(rt: HostRuntime) {
     check(&rt, rt.alloc(), PARAMETER, 1, PARAMETER_REPLY);
 }
 
 /// Two unknown parameters, whose names of 200 bytes are told joined by NUL and cut after 255 bytes.
+/// `REPLYCAPS` with mandatory parameters of 200 times `a` and 200 times `b`. Reply and status: 333
+/// bytes; `params` is 200 `a`, NUL and 54 `b`; 1.
 #[test]
 fn unknown_parameters_with_long_names(rt: HostRuntime) -> Result<(), Fail> {
     let mut bundle = Vec::from_slice(
@@ -250,12 +271,14 @@ fn unknown_parameters_with_long_names(rt: HostRuntime) -> Result<(), Fail> {
     Ok(())
 }
 
+// `ERROR:ABORT` without parameters. Reply and status: 61 bytes, `client aborted`; 1.
 #[test]
 fn an_abort_of_the_client(rt: HostRuntime) {
     assert_eq!(rt; CLIENT_ABORT_REPLY.len(), 61);
     check(&rt, rt.alloc(), CLIENT_ABORT, 1, CLIENT_ABORT_REPLY);
 }
 
+// `HG10`. Reply and status: 61 bytes, `stream fault 1`; 1.
 #[test]
 fn a_foreign_magic(rt: HostRuntime) {
     assert_eq!(rt; FOREIGN_REPLY.len(), 61);
@@ -267,6 +290,8 @@ const TRUNCATED_REPLY: &[u8] =
     b"HG20\0\0\0\0\0\0\0\x2a\x0bERROR:ABORT\0\0\0\0\x01\0\x07\x0fmessagestream fault 10\0\0\0\0\0\0\0\0";
 
 /// Each front of the interrupted root changeset that is shorter than it.
+/// Each proper front of the interrupted root changeset; the first 3 and 11 bytes of the empty
+/// bundle. Reply and status: 62 bytes, `stream fault 10`; 1.
 #[test]
 fn a_short_bundle(rt: HostRuntime) {
     assert_eq!(rt; TRUNCATED_REPLY.len(), 62);
@@ -284,6 +309,8 @@ fn a_short_bundle(rt: HostRuntime) {
     }
 }
 
+// The empty bundle and 5 more bytes. Reply and status: the empty bundle; 0. Read byte by byte, the
+// 5 bytes are left.
 #[test]
 fn bytes_after_the_end_mark(rt: HostRuntime) {
     check(&rt, rt.alloc(), WITH_MORE, 0, EMPTY);
@@ -297,6 +324,7 @@ fn bytes_after_the_end_mark(rt: HostRuntime) {
 }
 
 /// `replycaps` with a payload of 70,000 bytes, also read byte by byte.
+/// `REPLYCAPS` with a payload of 70,000 bytes. Reply and status: the empty bundle; 0.
 #[test]
 fn many_reads_and_a_long_payload(rt: HostRuntime) -> Result<(), Fail> {
     let mut bundle = Vec::from_slice(
@@ -343,6 +371,10 @@ fn is_done_in_pieces<R: RandomSource + Abort>(rt: &R, alloc: Global, step: usize
 
 /// The interrupted root changeset in reads and writes of 1 byte to all. Each read in turn fails, or gives
 /// nothing; or none does.
+/// The interrupted root changeset, in reads of each size, of which each in turn fails once as an
+/// interrupted one does, or gives nothing once; or none, and the writes are of that size too. Reply
+/// and status: 62 bytes, `connection lost`; 3; or `stream fault 10`; 1. It is not read again; 67
+/// bytes; 0.
 #[test]
 fn a_reader_that_fails(rt: HostRuntime) {
     let mut right = true;
@@ -358,6 +390,8 @@ fn a_reader_that_fails(rt: HostRuntime) {
 }
 
 /// A writer that takes some bytes, and then fails or takes none. It would go on and is not asked again.
+/// The race; the writer takes each number of bytes below 64 and then fails once, or takes none
+/// once. Reply and status: that front of the 64 bytes; 3.
 #[test]
 fn a_writer_that_fails(rt: HostRuntime) {
     for taken in 0..RACE_REPLY.len() {
@@ -381,6 +415,8 @@ fn a_writer_that_fails(rt: HostRuntime) {
 }
 
 /// A writer that takes the whole reply, and does not flush it.
+/// The first push; the writer takes all and its flush fails. Reply and status: the empty bundle,
+/// whole; 3.
 #[test]
 fn a_flush_that_fails(rt: HostRuntime) {
     let mut reader = Source::new(FIRST_PUSH);

@@ -67,6 +67,7 @@ fn told_of<A: Allocator + Copy>(
 }
 
 // Records that run are not refused, and none at all are none.
+// None; M1, E, M2. Result: nothing is told; 0 markers; 2.
 #[test]
 fn records_that_run(rt: HostRuntime) -> Result<(), Fail> {
     let state = RandomState::new(&rt)?;
@@ -78,6 +79,8 @@ fn records_that_run(rt: HostRuntime) -> Result<(), Fail> {
 }
 
 // The place of the first record that is damaged; those before it are run, and none after it.
+// M1, E, U, M2; M1, 67 of the 68 bytes of M2, U; no byte, M1. Result: place 2 is refused, 1 marker;
+// place 1 is no bundle, 1 marker; place 0 is no bundle, none.
 #[test]
 fn damage_and_its_place(rt: HostRuntime) -> Result<(), Fail> {
     let state = RandomState::new(&rt)?;
@@ -91,6 +94,7 @@ fn damage_and_its_place(rt: HostRuntime) -> Result<(), Fail> {
 }
 
 // A bundle with a byte after it, and one whose first bytes are others, are no bundles.
+// E and a byte more; M2, then E with its third byte 49. Result: place 0; place 1, and one marker.
 #[test]
 fn bytes_that_are_no_bundle(rt: HostRuntime) -> Result<(), Fail> {
     let state = RandomState::new(&rt)?;
@@ -106,6 +110,8 @@ fn bytes_that_are_no_bundle(rt: HostRuntime) -> Result<(), Fail> {
 }
 
 // Over heaps of every size: memory is refused at some, and told as such; the records before are run.
+// M1, M2 over heaps of 16 to 8,176 bytes. Result: the records are not made, or memory is refused
+// with 0 markers or with 1, or all is run; each of them is seen, and nothing else.
 #[test]
 fn memory_is_refused(rt: HostRuntime) -> Result<(), Fail> {
     let state = RandomState::new(&rt)?;

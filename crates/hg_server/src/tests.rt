@@ -2,6 +2,49 @@
 //!
 //! Each client connects and sends all that it has before the service begins, so that a test needs no thread
 //! of its own.
+//!
+//! The bytes are made by `examples/bundles.py`, and compared whole by `examples/serve.py`, which
+//! pushes to the built program over the loopback. `b80de5d1..` is the changeset of the example *a
+//! root changeset*.
+//!
+//! Clients on a thread beside the service, over the loopback (`beside.rt` in the tests of
+//! `hg_server`):
+//!
+//! Rows of the tables, and what else the tests try:
+//!
+//! - a root changeset, and again: the root changeset's push on one connection, and then on another.
+//!   Replies, and what the report holds: both times `return` 1, 67 bytes; `C 0 b80de5d1.. 1 0`, `J
+//!   0`, `J 1`.
+//! - bundles behind each other: the empty bundle and twice the root changeset, whole, in two
+//!   pieces, byte by byte; three bundles may be sent. Replies, and what the report holds: 12 + 67 +
+//!   67 bytes; `J 0`, `J 1`, `J 2`.
+//! - two of three: the same, where two may be sent. Replies, and what the report holds: 79 bytes;
+//!   `J 0`, `J 1`.
+//! - a race, and then a first push: a push that is raced, and one that is done. Replies, and what
+//!   the report holds: 64 + 12 bytes; `J 1`.
+//! - a bundle cut short behind another: the empty bundle and `HG20` and a byte. Replies, and what
+//!   the report holds: 12 bytes, and 62 of `stream fault 10`; `J 0`.
+//! - a wrong hash, and then the right one. Replies, and what the report holds: 75 + 67 bytes; the
+//!   changeset, `J 1`.
+//! - cut short; of another kind: 3 and 11 bytes of a push, none, `HG10`. Replies, and what the
+//!   report holds: `stream fault 10`, `stream fault 1`; nothing.
+//! - bytes behind the last bundle: the empty bundle and five more bytes. Replies, and what the
+//!   report holds: 12 bytes; `J 0`.
+//! - a seed: the root changeset as the seed, and an empty push. Replies, and what the report holds:
+//!   the changeset, `J 0`.
+//! - a secret seed: the root changeset with `targetphase` 2 as the seed, and an empty push.
+//!   Replies, and what the report holds: `C 0 b80de5d1.. 2 0`, `J 0`.
+//! - a seed that is refused, or is no whole bundle: a wrong hash, the root changeset without its
+//!   last byte, `HG10`, nothing. Replies, and what the report holds: nothing is accepted; status 1,
+//!   and the report is empty.
+//! - a payload without room: 60 MiB, where 8 more may be had. Replies, and what the report holds:
+//!   `stream fault 11`; nothing, and status 0.
+//! - 64 connections at once: ten changesets each, one a push, on one that the seed brought.
+//!   Replies, and what the report holds: 640 replies; 641 changesets, and each push once in the
+//!   journal.
+//! - racing pushes: 8 clients with 100 pushes each, half of them with `check:heads` of a head that
+//!   may have moved on. Replies, and what the report holds: each reply is the one that the order of
+//!   the report gives, or the race's; `replay` of the done pushes gives the report.
 
 ghost use Rattle.hg_types.specs.Limits.{IsAllowed};
 

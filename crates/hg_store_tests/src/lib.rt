@@ -1,4 +1,37 @@
 //! The tests of `hg_store`, over its contracts.
+//!
+//! The store of 120 bytes was made outside: a head that does not publish, with the standard limits,
+//! and the records `abc`, nothing, and 1, 0, 0, 0. A store of two records, `first` and `next`, has
+//! 98 bytes, with its shut gate.
+//!
+//! Rows of the tables, and what else the tests try:
+//!
+//! - cut at each of its lengths: Result: below 38 bytes no head; behind the head and behind each
+//!   record it is whole; else the records that are whole, and torn. In a folder it is opened where
+//!   it is whole and else refused, and then stays as it was; a reader has the whole records each
+//!   time.
+//! - each bit of each record turned. Result: damage behind the records before it; or torn, or the
+//!   end, by a gate or a size.
+//! - a batch of 1, 2 and 3 records behind one, where the file fails at each of its four calls.
+//!   Result: it is added where none fails; whatever is lost, made in part or torn of what was not
+//!   synced, the first record is there, with all of the batch or none.
+//! - the same batch on a disk with room for each length. Result: it is added where it has room, and
+//!   else the store failed; after that no call is made.
+//! - a store without its gate, and with bytes behind it, opened where the file fails at each call.
+//!   Result: its records and a shut gate; in each outcome its records.
+//! - another publishing flag, other limits, a byte turned, a record cut short, a head cut short.
+//!   Result: each by its name, after one call, which reads.
+//! - a new store where the file fails at each of its four calls, over no bytes and over a longer
+//!   store. Result: where the file may have its name, each outcome is the whole store.
+//! - three records, and two and a torn one, cut before each place up to the fifth. Result: the
+//!   records before it, those from it on, the old file as it was; a place behind them is refused,
+//!   and no file gets the name.
+//! - a folder: no store; made, made again, filled, opened, opened twice, read beside that, of
+//!   another flag, cut while it is held. Result: no store; there is one; two records; held; two
+//!   records; another flag; held.
+//! - each growth refused: a store is opened and a batch of two added over heaps below 1,200 bytes;
+//!   one is cut over heaps below 1,600. Result: want of memory, and nothing was written, or all is
+//!   done; both occur.
 #![tactic(auto)]
 
 #[cfg(test)]

@@ -59,6 +59,8 @@ fn is_same_part<A: Allocator>(a: &Part<A>, b: &Part<A>) -> bool {
             .all(|(p, q)| is_same_param(p, q))
 }
 
+// A part with a type, an id, three parameters and a payload; an item with it; a cut by stream fault
+// 9. Result: the same fields.
 #[test]
 fn a_clone_equals_its_source(rt: HostRuntime) -> Result<(), Fail> {
     let source = part(rt.alloc(), b"CHANGEGROUP")?;
@@ -112,6 +114,8 @@ fn a_clone_of_an_item_equals_its_source(rt: HostRuntime) -> Result<(), Fail> {
     Ok(())
 }
 
+// Keys `version` (`02`), `x` (`1`), `x` (`2`). Result: `version` gives `02`, `x` gives `1`,
+// `Version` and the empty key give nothing.
 #[test]
 fn parameters_by_key(rt: HostRuntime) -> Result<(), Fail> {
     let part = part(rt.alloc(), b"changegroup")?;
@@ -122,6 +126,7 @@ fn parameters_by_key(rt: HostRuntime) -> Result<(), Fail> {
     Ok(())
 }
 
+// `CHANGEGROUP`, `check:headS`; `check:heads`, `a-0_9:`. Result: mandatory; advisory.
 #[test]
 fn an_upper_case_letter_makes_a_part_mandatory(rt: HostRuntime) -> Result<(), Fail> {
     assert!(rt; part(rt.alloc(), b"CHANGEGROUP")?.is_mandatory());
@@ -131,6 +136,8 @@ fn an_upper_case_letter_makes_a_part_mandatory(rt: HostRuntime) -> Result<(), Fa
     Ok(())
 }
 
+// The standard limits; all 1; `parts` 0; `parts` 10,001; `revisions` 2,147,483,648. Result:
+// allowed; allowed; not; not; not.
 #[test]
 fn limits_at_their_ends(rt: HostRuntime) {
     let standard = Limits::standard();
@@ -182,6 +189,8 @@ fn cloned(heap: &LocalHeap) -> Option<bool> {
 }
 
 // Over heaps of every size, so that each growth is refused in turn.
+// A part and its clone over heaps of 16 to 2,032 bytes. Result: an equal clone, or want of memory;
+// both occur.
 #[test]
 fn memory_is_refused_or_the_clone_is_equal(rt: HostRuntime) -> Result<(), Fail> {
     let mut refused = 0u32;
@@ -273,6 +282,9 @@ fn a_copy_takes_what_came(rt: HostRuntime) -> Result<(), Fail> {
 
 /// Over an ample heap a clone is not refused, however large its source is, and it takes at most as much; to
 /// look at a part takes nothing.
+/// A part with 1,000 parameters and a payload of 70,000 bytes, over a heap of 1 MiB. Result: an
+/// equal clone, which takes no more than its source has; to look at it and to compare it takes
+/// nothing.
 #[test]
 fn a_large_part_is_cloned(rt: HostRuntime) -> Result<(), Fail> {
     let heap = LocalHeap::new(rt.alloc(), 1 << 20)?;

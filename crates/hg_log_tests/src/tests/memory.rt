@@ -50,6 +50,8 @@ fn fill_new(heap: &LocalHeap, deltas: &LocalHeap, state: RandomState) -> Reached
 }
 
 /// Over heaps of each multiple of 16 bytes, so that each growth is refused in turn.
+/// Five changesets and a clone over heaps of 16 to 8,176 bytes. Result: all, or NoMemory with the
+/// rows as before; refused at an `add`, refused at the clone, and all occur.
 #[test]
 fn each_growth_refused(rt: HostRuntime) -> Result<(), Fail> {
     let state = RandomState::new(&rt)?;
@@ -115,6 +117,9 @@ fn is_told_without_memory(alloc: Global, heap: &LocalHeap, state: RandomState) -
     is_put && are_refused && are_told && has_rows(&log, &rows[..2])
 }
 
+// Five changesets, and nothing left of the heap. Result: heads, an ancestor and a clone are
+// refused, an ancestor that stands later is answered; ids, parents, their numbers, texts, the
+// length and the number of heads are told, and a cut to 2 leaves the first two.
 #[test]
 fn no_memory_for_looking_and_cutting(rt: HostRuntime) -> Result<(), Fail> {
     let state = RandomState::new(&rt)?;
@@ -222,6 +227,11 @@ fn one_head_takes_little(heap: &LocalHeap, deltas: &LocalHeap, state: RandomStat
     }
 }
 
+// A line of 400 rows; 1,200 rows, every second one in a line and the others children of the root;
+// then a text of 200,000 bytes. Result: the one head of the line takes at most 256 bytes; nothing
+// is refused: 600 heads, row 0 is an ancestor of row 1,199 and row 2 is not, a clone, one with the
+// long text too; the log takes at most 350 bytes a row and 1,024 more; looking takes nothing, the
+// clone no more than the log; a cut to 600 gives the long text back.
 #[test]
 fn enough_memory(rt: HostRuntime) -> Result<(), Fail> {
     let heap = LocalHeap::new(rt.alloc(), 4 << 20)?;
@@ -364,6 +374,9 @@ fn looks_want_little(
     }
 }
 
+// 100 such rows; what is left of the heap is taken and given back in blocks of 16 bytes. Result:
+// heads and an ancestor are refused first, and once told they stay so; that the root is an ancestor
+// of its child at row 98 is told with the first block.
 #[test]
 fn memory_of_rising_size_for_looking(rt: HostRuntime) -> Result<(), Fail> {
     let state = RandomState::new(&rt)?;

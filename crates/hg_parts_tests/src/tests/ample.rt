@@ -31,6 +31,9 @@ fn is_prepared(alloc: Global, kind: &[u8], payload: Seq<u8>, length: usize) -> b
 }
 
 /// 2,793,813 entries, each the phase public and the null id.
+/// `hg_parts`: nearly 64 MiB of `phase-heads`, of a changeset and of payloads that are kept or not
+/// looked at, and 34 MiB of markers, are prepared (`the_longest_phase_heads`,
+/// `the_longest_changegroup`, `the_longest_of_other_types`, `long_marker_data`).
 #[test]
 fn the_longest_phase_heads(rt: HostRuntime) -> Result<(), Fail> {
     let payload = longest(rt.alloc(), &[], &[0; 65_544], 1_023)?;

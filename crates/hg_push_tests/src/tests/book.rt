@@ -57,6 +57,9 @@ fn second_is_told<A: Allocator + Copy>(book: &mut Book<A>) -> bool {
     before && told && second_is_done(book) && tells_nothing(book, 0)
 }
 
+// A0 B0 A1 B1 B-end A-end: `REPLYCAPS` from each (B's with an advisory parameter `x` = `1`), then
+// `CHECK:HEADS` without ids from A and with Z from B. Result: B is done, A is aborted, raced at
+// place 1; journal [1]; both are told after their replies were taken too.
 #[test]
 fn two_pushes_interleaved(rt: HostRuntime) -> Result<(), Fail> {
     let state = RandomState::new(&rt)?;
@@ -80,6 +83,9 @@ fn rest_on<A: Allocator + Copy>(book: &Book<A>) -> bool {
 }
 
 /// Places and what answers rest on, before a reply is taken and after.
+/// Four openings, the end of 2, an end mark of 1 with a wrong index, the end of 0. Result: places 0
+/// of 2 and 1 of 0, none of the others; 2 rests on 1, 0 on 2, 1 on 2, 3 and 4 on none; the same
+/// after two replies were taken.
 #[test]
 fn what_answers_rest_on(rt: HostRuntime) -> Result<(), Fail> {
     let state = RandomState::new(&rt)?;
@@ -103,6 +109,7 @@ fn is_empty_done<A: Allocator + Copy>(book: &mut Book<A>) -> bool {
 }
 
 /// The empty bundle is a push without parts.
+/// An end mark with index 0. Result: done, nothing handled; journal [0].
 #[test]
 fn empty_bundle(rt: HostRuntime) -> Result<(), Fail> {
     let state = RandomState::new(&rt)?;
@@ -138,6 +145,7 @@ fn race_on_heads(rt: HostRuntime) -> Result<(), Fail> {
     Ok(())
 }
 
+// Limit `rows` 1, two openings. Result: 0; TooManyOpen.
 #[test]
 fn too_many_rows(rt: HostRuntime) -> Result<(), Fail> {
     let state = RandomState::new(&rt)?;
@@ -155,6 +163,8 @@ fn is_last<A: Allocator + Copy>(book: &mut Book<A>, last: u32) -> bool {
 }
 
 /// A row is free again once its reply was taken, and the numbers end.
+/// First push 4,294,967,294, limit `rows` 1: an opening, its end mark, its reply taken, an opening.
+/// Result: 4,294,967,294; Exhausted.
 #[test]
 fn last_push_number(rt: HostRuntime) -> Result<(), Fail> {
     let state = RandomState::new(&rt)?;
@@ -184,6 +194,8 @@ fn are_dropped<A: Allocator + Copy>(alloc: A, book: &mut Book<A>) -> bool {
 
 /// An end mark that counts too many parts, then items of a push that is closed and of one that was never
 /// opened.
+/// One part, end mark 2; then a part of that push; a part of push 9. Result: aborted, WrongIndex;
+/// dropped; dropped, push 9 is unknown.
 #[test]
 fn items_by_hand(rt: HostRuntime) -> Result<(), Fail> {
     let state = RandomState::new(&rt)?;
@@ -202,6 +214,7 @@ fn is_cut_off<A: Allocator + Copy>(alloc: A, book: &mut Book<A>) -> bool {
 }
 
 /// Parts that come after a cut are dropped, and so is a later end mark.
+/// A cut, then a part and an end mark 1. Result: aborted by the cut; nothing is applied.
 #[test]
 fn parts_after_a_cut(rt: HostRuntime) -> Result<(), Fail> {
     let state = RandomState::new(&rt)?;
@@ -281,6 +294,8 @@ fn five_are_answered<A: Allocator + Copy>(alloc: A, book: &mut Book<A>) -> Resul
     Ok(are_answered(answers.as_slice()))
 }
 
+// First push 7, limit 1: open, open, take 7, end of 7, take 7. Result: 7; TooManyOpen; none; no
+// refusal; done.
 #[test]
 fn a_list_of_calls(rt: HostRuntime) -> Result<(), Fail> {
     let state = RandomState::new(&rt)?;
@@ -315,6 +330,7 @@ fn are_opened<A: Allocator + Copy>(alloc: A, book: &mut Book<A>) -> Result<bool,
 }
 
 /// A thousand calls have a thousand answers, where memory is ample.
+/// First push 7, limit 1,024: a thousand openings. Result: 7 to 1,006.
 #[test]
 fn a_long_list_of_calls(rt: HostRuntime) -> Result<(), Fail> {
     let state = RandomState::new(&rt)?;

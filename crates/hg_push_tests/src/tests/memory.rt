@@ -51,6 +51,9 @@ fn first_part(heap: &LocalHeap, state: RandomState) -> First {
     }
 }
 
+// Two pushes over heaps of 16 to 4,080 bytes; a part of A, its later items, the end mark of B.
+// Result: taken, or refused: A is aborted for want of memory, its later items are dropped, B is
+// done.
 #[test]
 fn the_first_part_is_refused(rt: HostRuntime) -> Result<(), Fail> {
     let state = RandomState::new(&rt)?;
@@ -131,6 +134,8 @@ fn are_closed(alloc: Global, heap: &LocalHeap, state: RandomState) -> bool {
 }
 
 /// Where every growth is refused, a cut and a wrong end mark are answered as ever.
+/// A book over a full heap: a cut, an end mark with a wrong index, items that are dropped, and all
+/// that is asked of a book. Result: answered as ever.
 #[test]
 fn closing_takes_no_memory(rt: HostRuntime) -> Result<(), Fail> {
     let state = RandomState::new(&rt)?;
@@ -229,6 +234,8 @@ fn refuses_all(alloc: Global, heap: &LocalHeap, state: RandomState) -> bool {
 }
 
 /// An opening, a part and a run that memory is refused for. The opening uses no number.
+/// Over a full heap: an opening, a run, a part. Result: NoMemory; aborted for want of memory,
+/// twice; the next opening uses the number that the refused one did not.
 #[test]
 fn growths_are_refused(rt: HostRuntime) -> Result<(), Fail> {
     let state = RandomState::new(&rt)?;
@@ -239,6 +246,8 @@ fn growths_are_refused(rt: HostRuntime) -> Result<(), Fail> {
 }
 
 /// A reply is its bytes, or want of memory.
+/// The reply to a bad end mark over heaps of 16 to 8,176 bytes. Result: its 59 bytes, or NoMemory;
+/// both occur.
 #[test]
 fn a_reply_is_refused(rt: HostRuntime) -> Result<(), Fail> {
     let mut seen = [false; 2];
@@ -283,6 +292,8 @@ fn all_are_put(heap: &LocalHeap, state: RandomState) -> bool {
 
 /// As many open pushes as the limit allows, and one of them with 1,000 parts, over a heap of which half is
 /// never used: no growth is refused, so none is told.
+/// Over 2 MiB, half of it never used: 1,024 openings, one more, 1,000 parts of push 7, its end
+/// mark. Result: 0 to 1,023; TooManyOpen; no refusal, at most 224 bytes a part; done.
 #[test]
 fn near_the_limits(rt: HostRuntime) -> Result<(), Fail> {
     let state = RandomState::new(&rt)?;
@@ -316,6 +327,9 @@ fn takes_little(heap: &LocalHeap, state: RandomState) -> bool {
 
 /// Where memory is to spare, what takes none leaves it: items that are dropped, closings and all that is
 /// asked. The first part of a push takes room for 9, of 144 bytes each over this heap.
+/// Over 64 KiB: the first part of a push; items that are dropped, a wrong end mark, what is asked
+/// of a book, replies that are taken. Result: at most 1,296 bytes, room for 9 parts of 144; the
+/// heap's free bytes do not fall.
 #[test]
 fn memory_is_left(rt: HostRuntime) -> Result<(), Fail> {
     let state = RandomState::new(&rt)?;

@@ -82,6 +82,9 @@ fn answered_with<A: Allocator + Copy>(
 /// A race in part 0 is told before a malformed part 1, though that was read before its turn: 64 bytes. With
 /// the race gone the malformed part is told: 66 bytes. The whole part is done, and there is no reply to tell:
 /// 12 bytes.
+/// `CHECK:HEADS` with an empty payload; the `CHANGEGROUP` 02 of the root changeset, cut one byte
+/// early; end mark 2. Result: aborted, raced at place 0: 64 bytes; with Z in part 0, malformed at
+/// place 1: 66 bytes; with the whole part, done: 12 bytes.
 #[test]
 fn a_race_before_a_malformed_part(rt: HostRuntime) -> Result<(), Fail> {
     let state = RandomState::new(&rt)?;
@@ -133,6 +136,8 @@ fn content_is_dropped(heap: &LocalHeap, state: RandomState) -> bool {
 
 /// A push whose file has 60 MiB: the file is not kept, where there is room for a second one and where there
 /// is not.
+/// A `CHANGEGROUP` 02 of the root changeset and a file of 60 MiB, over heaps of 64 and of 124 MiB.
+/// Result: staged, with at most 4,096 bytes taken; done.
 #[test]
 fn the_content_of_files_is_dropped(rt: HostRuntime) -> Result<(), Fail> {
     let state = RandomState::new(&rt)?;

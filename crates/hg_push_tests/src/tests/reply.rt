@@ -18,6 +18,7 @@ fn is_told_as(alloc: Global, reason: Reason<Refusal>, bytes: &[u8]) -> bool {
 /// A bundle without parts.
 const NOTHING: [u8; 12] = [72, 71, 50, 48, 0, 0, 0, 0, 0, 0, 0, 0];
 
+// A done push. Result: the 12 bytes of the bundle without parts.
 #[test]
 fn done_without_replies(rt: HostRuntime) -> Result<(), Fail> {
     let alloc = rt.alloc();
@@ -30,6 +31,8 @@ fn done_without_replies(rt: HostRuntime) -> Result<(), Fail> {
     Ok(())
 }
 
+// `CHECK:HEADS` without ids, end mark 1. Result: aborted, raced at place 0; journal empty; the
+// repository is the empty one.
 #[test]
 fn race_on_heads(rt: HostRuntime) {
     let race = Refusal::Raced {
@@ -67,6 +70,10 @@ fn cut_has_message(alloc: Global, reason: CutReason, message: &[u8], size: usize
     has_message(alloc, Reason::Cut(reason), message, size)
 }
 
+// A part 2 that names an unknown node; a malformed part 1; a malformed part 4,294,967,295;
+// `error:abort`; stream faults 1 and 10; connection lost; push dropped; bad end mark; out of
+// memory. Result: replies of 75, 66, 75, 61, 61, 62, 62, 59, 59 and 60 bytes, one `ERROR:ABORT`
+// each.
 #[test]
 fn each_reason_that_aborts(rt: HostRuntime) {
     let alloc = rt.alloc();
@@ -102,6 +109,7 @@ fn unsupported(alloc: Global, kind: &[u8], names: &[&[u8]]) -> Result<Reason<Ref
     }))
 }
 
+// `frob`. Result: 65 bytes, `ERROR:UNSUPPORTEDCONTENT` with `parttype`.
 #[test]
 fn unknown_mandatory_part(rt: HostRuntime) -> Result<(), Fail> {
     let reason = unsupported(rt.alloc(), b"frob", &[])?;
@@ -143,6 +151,8 @@ fn many_short_names() -> [u8; 255] {
 
 /// The names of two unknown mandatory parameters, of 200 bytes each, are joined by NUL and cut after 255
 /// bytes.
+/// `replycaps` with unknown names of 200 times `a` and 200 times `b`. Result: 333 bytes; `params`
+/// is 200 `a`, NUL and 54 `b`.
 #[test]
 fn long_names_are_cut(rt: HostRuntime) -> Result<(), Fail> {
     let bytes = cut_names(rt.alloc(), &two_long_names())?;
@@ -152,6 +162,8 @@ fn long_names_are_cut(rt: HostRuntime) -> Result<(), Fail> {
 }
 
 /// Of 300 names the first 128 are told, where memory is ample.
+/// `replycaps` with 300 unknown names `x`. Result: 333 bytes; `params` is 128 times `x`, with a NUL
+/// between each two.
 #[test]
 fn many_names_are_cut(rt: HostRuntime) -> Result<(), Fail> {
     let bytes = cut_names(rt.alloc(), &many_short_names())?;
@@ -161,6 +173,7 @@ fn many_names_are_cut(rt: HostRuntime) -> Result<(), Fail> {
 }
 
 /// An empty name counts among those that are joined.
+/// Unknown names, one empty and `x`. Result: `params` is NUL and `x`.
 #[test]
 fn an_empty_name(rt: HostRuntime) -> Result<(), Fail> {
     let reason = unsupported(rt.alloc(), b"output", &[b"", b"x"])?;
@@ -181,6 +194,8 @@ fn a_call(alloc: Global) -> Result<KeyCall, NoMemory> {
 }
 
 /// The reply tells the part's id, and what it asked: the new value before the old one.
+/// The part 7 asks for the key `k` of `phases` to be `1` in place of `0`. Result: 89 bytes,
+/// `ERROR:PUSHKEY` with `in-reply-to` `7`, `namespace` `phases`, `key` `k`, `new` `1`, `old` `0`.
 #[test]
 fn a_key_that_was_not_set(rt: HostRuntime) -> Result<(), Fail> {
     let alloc = rt.alloc();

@@ -46,6 +46,9 @@ fn grows<R: RandomSource + Abort>(
 }
 
 /// Each worked example.
+/// Each of these examples with one reply, but the long names, over heaps of 16 to 8,176 bytes; of
+/// the fronts those of 3, 11 and 80 bytes. Reply and status: the answer, or 4 with no reply, the 60
+/// bytes `out of memory` or the 62 bytes `stream fault 11`; no fourth. Both the answer and 4 occur.
 #[test]
 fn a_growth_is_refused(rt: HostRuntime) -> Result<(), Fail> {
     assert_eq!(rt; REFUSED_REPLY.len(), 60);
@@ -76,6 +79,8 @@ fn a_growth_is_refused(rt: HostRuntime) -> Result<(), Fail> {
 
 /// Where memory is wanting and a read fails, the status tells the read. Nothing is read where the push is not
 /// opened.
+/// The first push, of which the third read of 4 bytes fails, over heaps of 16 to 4,080 bytes. Reply
+/// and status: 3; or 4 with no reply, where the push is not opened.
 #[test]
 fn a_failed_read_comes_before_want_of_memory(rt: HostRuntime) -> Result<(), Fail> {
     let mut lost = 0u32;

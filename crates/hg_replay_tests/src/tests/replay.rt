@@ -71,6 +71,10 @@ fn gives<R: RandomSource + Abort>(
 }
 
 /// Pushes in turn: what an aborted one brings is not there, and the next follows.
+/// None; pushes that change nothing; A; A twice; A, A with another last byte of its id, A again;
+/// the wrong one alone; twice A behind a check that the null id is the only head; A cut short,
+/// `HG10`, A; A, nothing, `FROB`. Read at once and byte by byte. Report and status: empty; empty;
+/// `C 0 A 1 0`; the same; the same with 1; empty with 1; `C 0 A 1 0` with 1, three times.
 #[test]
 fn pushes_in_turn(rt: HostRuntime) {
     let cases: [(&[&[u8]], u8, &[u8]); 9] = [
@@ -96,6 +100,10 @@ fn pushes_in_turn(rt: HostRuntime) {
 }
 
 /// A marker, a phase and a bookmark, one behind the other.
+/// A, and a marker of A; then a `pushkey` that makes A public; A, public, A again; A, and the
+/// bookmark `a b` on it; the bookmark before A. Report and status: `C 0 A 1 1` and `O 000000000000`
+/// with A; `C 0 A 0 0` and the marker; `C 0 A 0 0`; `C 0 A 1 0` and `B A a%20b`; `C 0 A 1 0` with
+/// 1.
 #[test]
 fn what_later_pushes_change(rt: HostRuntime) {
     let cases: [(&[&[u8]], &[u8]); 4] = [
@@ -130,6 +138,9 @@ fn what_later_pushes_change(rt: HostRuntime) {
 }
 
 /// A failed read cuts its own push, and the next follows: whichever of the first push's reads it is.
+/// A in pieces of 10 bytes, of which each read in turn fails; `HG10` and a failed read; A. And A,
+/// then a reader that fails. Report and status: `C 0 A 1 0`; 3. The reader is not read again, and
+/// the next push follows.
 #[test]
 fn a_reader_of_several_fails(rt: HostRuntime) {
     for good in 0..20 {
@@ -156,6 +167,9 @@ fn a_reader_of_several_fails(rt: HostRuntime) {
 
 /// Each proper prefix of a bundle with an interruption, and then the end of the input or a failed read:
 /// nothing of it is in the repository.
+/// Each proper front of the interrupted root changeset, and then the end of the input, or a failed
+/// read; and all of it. Report and status: an empty report, and 1; an empty report, and 3; `C 0 A 1
+/// 0`.
 #[test]
 fn each_prefix_of_a_push(rt: HostRuntime) {
     let mut right = true;
@@ -173,6 +187,8 @@ fn each_prefix_of_a_push(rt: HostRuntime) {
 }
 
 /// A writer that takes some bytes of the report, and then fails or takes none, or does not flush.
+/// A and the wrong one; the writer takes each number of bytes below 51 and then fails once, or
+/// takes none once; or it does not flush. Report and status: that front of the report; 3.
 #[test]
 fn a_report_is_cut_short(rt: HostRuntime) {
     for taken in 0..DRAFT.len() {
@@ -217,6 +233,9 @@ fn gives_or_tells<R: RandomSource + Abort>(rt: &R, alloc: Global, size: usize) -
 }
 
 /// One growth after another is refused, until none is.
+/// A, the wrong one and the marker on a publishing repository, over heaps of 16 to 8,176 bytes.
+/// Report and status: the report of all, and 1; or 4, with no report or that of some of the pushes.
+/// Both occur.
 #[test]
 fn a_growth_of_a_replay_is_refused(rt: HostRuntime) {
     let (mut answered, mut refused) = (0u32, 0u32);
@@ -232,6 +251,8 @@ fn a_growth_of_a_replay_is_refused(rt: HostRuntime) {
 }
 
 /// How often each reader is read: none is read behind its end mark, its fault, its end or a failed read.
+/// A, `HG10`, A cut short and A with a failed read, from readers that tell their reads, to a writer
+/// that tells its uses. Report and status: 2, 4, 3 and 2 reads; a write and a flush.
 #[test]
 fn how_often_readers_are_read(rt: HostRuntime) {
     let none = usize::MAX;

@@ -43,6 +43,10 @@ fn stops<R: RandomSource + Abort>(
 
 /// The end mark, a fault and the end of the input are each behind the last bytes that are read. The end is
 /// read once.
+/// The empty bundle, the first push, `HG10` and the two interruptions above, some with bytes behind
+/// them; 11 bytes of the empty bundle, and none; in pieces of 1, 3 and 4,096 bytes, from a reader
+/// that tells its reads. Reply and status: the last read gives the byte of the end mark or of the
+/// fault, the 4th, the 91st and the 85th; or the end of the input is read once.
 #[test]
 fn no_read_is_made_behind_the_last(rt: HostRuntime) {
     let cases: [(&[u8], usize, usize); 8] = [
@@ -76,6 +80,8 @@ fn stops_failed<R: RandomSource + Abort>(
 }
 
 /// A read that was interrupted counts as a failed one, too.
+/// The first push in pieces of 5 bytes; each read in turn fails, or is interrupted. Reply and
+/// status: so many good reads and the failed one; 3.
 #[test]
 fn no_read_is_made_behind_a_failed_one(rt: HostRuntime) {
     for good in 0..18 {
@@ -140,6 +146,9 @@ fn writes_end<R: RandomSource + Abort>(
 }
 
 /// The reply is ten writes and a flush. None of them is empty, and none is made behind one that failed.
+/// The race, to a writer that takes 7 bytes at a write and tells its uses; each use in turn fails;
+/// or none. Reply and status: ten writes, none of them empty, and the flush, up to the failed one;
+/// 3; or 1.
 #[test]
 fn no_write_is_made_behind_a_failed_one(rt: HostRuntime) {
     for good in 0..10 {
@@ -153,6 +162,8 @@ fn no_write_is_made_behind_a_failed_one(rt: HostRuntime) {
 }
 
 /// A write that takes nothing counts as a failed one.
+/// The same, with room for each number of bytes below 64. Reply and status: the writes that fill
+/// the room, and one that takes nothing; 3.
 #[test]
 fn no_write_is_made_behind_one_that_took_nothing(rt: HostRuntime) {
     for room in 0..64usize {

@@ -307,6 +307,9 @@ fn ending_under(
 
 /// A text of as many bytes as are allowed, and one more, which is told in place of its hash; and changesets
 /// likewise.
+/// `text` 1 and `revisions` 2: A and B; A, and under B's id a text of two bytes; this with `text`
+/// 2; `revisions` 1: A and B. Report: done; BadChangeset at place 1 with Delta, HashMismatch and
+/// TooMany, and nothing changed.
 #[test]
 fn limits_at_their_last_value(rt: HostRuntime) -> Result<(), Fail> {
     let state = RandomState::new(&rt)?;

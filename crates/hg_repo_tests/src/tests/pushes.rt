@@ -328,6 +328,8 @@ static PUSHED_ON: [Run; 2] = [
 ];
 
 /// A seed may be secret. A push of its child makes it a draft.
+/// Seed: A with `targetphase` 2; then a push of B. Report: `C 0 A 2 0`; then `C 0 A 1 0`, `C 1 B 1
+/// 0`.
 #[test]
 fn a_secret_seed(rt: HostRuntime) -> Result<(), Fail> {
     let (alloc, state) = (rt.alloc(), RandomState::new(&rt)?);
@@ -509,6 +511,8 @@ fn is_head(repo: &Repo, id: &[u8]) -> bool {
     }
 }
 
+// Seed: A, secret; then B and `PUSHKEY` bookmarks on an unknown id: KeyFailed at place 1, and
+// `is_same` with a clone; then B alone, which then is the one head.
 #[test]
 fn a_key_that_fails_behind_a_child(rt: HostRuntime) -> Result<(), Fail> {
     let (alloc, state) = (rt.alloc(), RandomState::new(&rt)?);

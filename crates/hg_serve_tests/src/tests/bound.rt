@@ -46,6 +46,9 @@ pub fn takes<J: Naming<Global>, R: Wait + Abort>(
     clients
 }
 
+// Capacity 4: three parts of another push, then the end mark of a push without parts, and its
+// answer; the same after four turns; capacity 1 with one part. Result: 4 takes; 0; 1; each time the
+// gate was told of as many.
 #[test]
 fn as_many_takes_as_the_queue_has_places(rt: HostRuntime) -> Result<(), Fail> {
     let all = settings(0, 1_024);
@@ -109,6 +112,8 @@ pub fn puts_meanwhile<J: Naming<Global>, R: Wait + Abort>(
     clients
 }
 
+// As the first of these, and at each take the gate puts a part of the other push. Result: 4 takes;
+// a turn behind the answer finds an item; the other push is done with its 6 parts.
 #[test]
 fn an_answer_stops_at_its_mark(rt: HostRuntime) -> Result<(), Fail> {
     let closed = played(&rt, rt.alloc(), 4, settings(0, 1_024), Scene::PutsMeanwhile);

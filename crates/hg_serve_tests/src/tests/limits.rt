@@ -39,6 +39,9 @@ pub fn refused<J: Naming<Global>, R: Wait + Abort>(
     clients
 }
 
+// `first_push` 4,294,967,293 and one row: A opens, B opens; A is answered, B opens and is answered;
+// A's client opens. Result: B's client comes back with TooManyOpen, and later gets 4,294,967,294;
+// at last A's client comes back with Exhausted.
 #[test]
 fn one_row_and_two_numbers(rt: HostRuntime) -> Result<(), Fail> {
     let closed = played(
@@ -111,6 +114,8 @@ pub fn most_parts<J: Naming<Global>, R: Wait + Abort>(
     clients
 }
 
+// Capacity 64: 10,000 parts `output` by `try_put`, with a turn where the queue is full; one more;
+// the end mark. Result: the last comes back as one too many; the push is done with the others.
 #[test]
 fn as_many_parts_as_a_push_may_have(rt: HostRuntime) -> Result<(), Fail> {
     let closed = played(&rt, rt.alloc(), 64, settings(0, 1), Scene::MostParts);
@@ -168,6 +173,8 @@ pub fn most_open<J: Naming<Global>, R: Wait + Abort>(
     clients
 }
 
+// `hg_serve`: 1,024 pushes that are open at once; the next one is refused, and each of them is done
+// (`as_many_pushes_as_may_be_open`).
 #[test]
 fn as_many_pushes_as_may_be_open(rt: HostRuntime) -> Result<(), Fail> {
     let closed = played(&rt, rt.alloc(), 64, settings(0, 1_024), Scene::MostOpen);

@@ -98,6 +98,8 @@ pub fn held_puts<J: Naming<Global> + Send + Sync, R: Threads + Wait + Abort + Sy
     clients.into_inner()
 }
 
+// Capacity 8: a turn is held inside the lock until another thread has put three parts and the mark.
+// Result: the puts return, and the push is done with 3 parts.
 #[test]
 fn puts_and_a_mark_pass_a_held_turn(rt: HostRuntime) -> Result<(), Fail> {
     let closed = played(&rt, rt.alloc(), 8, settings(0, 1_024), Scene::HeldPuts);

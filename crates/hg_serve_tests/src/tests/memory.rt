@@ -365,6 +365,10 @@ fn is_closed_with(closed: &Option<Closed<&LocalHeap>>, journal: &[u32], head: [u
     }
 }
 
+// A puts `REPLYCAPS`, the `CHANGEGROUP` 02 of the root changeset, `REPLYCAPS` and its end mark;
+// after one turn the heap is filled, and one more turn made; B pushes the root changeset, and B's
+// client a child of it; then A's answer. Result: A is aborted for want of memory, the rest of it
+// dropped; B's pushes are done; the journal is [1, 2], and the one head is the child.
 #[test]
 fn memory_refused_at_a_take(rt: HostRuntime) -> Result<(), Fail> {
     let heap = LocalHeap::new(rt.alloc(), 1 << 15)?;
@@ -374,6 +378,8 @@ fn memory_refused_at_a_take(rt: HostRuntime) -> Result<(), Fail> {
 }
 
 /// The journal is without the push whose items are dropped with the queue.
+/// The same, but A's answer comes at once and no B. Result: A is aborted for want of memory,
+/// without a take; the journal is empty, and so is the repository.
 #[test]
 fn closed_with_items_in_the_queue(rt: HostRuntime) -> Result<(), Fail> {
     let heap = LocalHeap::new(rt.alloc(), 1 << 15)?;
@@ -383,6 +389,8 @@ fn closed_with_items_in_the_queue(rt: HostRuntime) -> Result<(), Fail> {
 }
 
 /// The number that a refused opening would have got is the next one's.
+/// Over a full heap a client is made and opens a push, each time with 16 bytes more that are free.
+/// Result: NoMemory and the client back, until it is opened; the journal is [0].
 #[test]
 fn memory_refused_at_an_opening(rt: HostRuntime) -> Result<(), Fail> {
     let heap = LocalHeap::new(rt.alloc(), 1 << 15)?;
@@ -392,6 +400,9 @@ fn memory_refused_at_an_opening(rt: HostRuntime) -> Result<(), Fail> {
 }
 
 /// Each push from the first one on that memory was enough for is done, and no earlier one.
+/// 300 pushes of the root changeset one after another, each taken and answered over a full heap of
+/// which so many times 16 bytes are free. Result: aborted for want of memory, or done; both occur,
+/// and the done ones are the last.
 #[test]
 fn memory_refused_at_each_growth_of_an_answer(rt: HostRuntime) -> Result<(), Fail> {
     let heap = LocalHeap::new(rt.alloc(), 1 << 15)?;

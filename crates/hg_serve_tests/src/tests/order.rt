@@ -47,6 +47,10 @@ pub fn alternating<J: Naming<Global>, R: Wait + Abort>(
     clients
 }
 
+// One thread; A and B open; in this order A0 `REPLYCAPS`, B0 `REPLYCAPS`, A1 `CHECK:HEADS` with an
+// empty payload, B1 `CHECK:HEADS` with Z, B's end mark, A's end mark; B's answer, A's answer.
+// Result: each part but the first finds the queue full, and is put after one turn; B is done, A is
+// aborted as raced at place 1; the journal is [1].
 #[test]
 fn two_pushes_at_capacity_one(rt: HostRuntime) -> Result<(), Fail> {
     let closed = played(&rt, rt.alloc(), 1, settings(0, 1_024), Scene::Alternating);
@@ -90,6 +94,9 @@ pub fn dropped<J: Naming<Global>, R: Wait + Abort>(
     clients
 }
 
+// A puts three parts and is cut because its sender gave up; B pushes `CHECK:HEADS` with Z; then the
+// client that got B's answer pushes it again; then A's answer. Result: both are done; A's reply has
+// 59 bytes (`push dropped`); the journal is [1, 2].
 #[test]
 fn a_push_dropped_after_its_third_part(rt: HostRuntime) -> Result<(), Fail> {
     let closed = played(&rt, rt.alloc(), 8, settings(0, 1_024), Scene::Dropped);

@@ -124,6 +124,11 @@ fn two_roots_through_the_server(rt: HostRuntime) -> Result<(), Fail> {
 }
 
 /// The race through a book.
+/// `two_roots_through_a_book`, `two_roots_through_the_server`: A and B check with Z that there is
+/// no changeset, and bring one each, without parents, whose text is `a`, and `b`: A0 B0 A1 B1, B's
+/// end mark, A's end mark; by steps of a book, and by a server with one place. Result: B is done, A
+/// is raced at place 0; the journal is [1]; the report is `C 0
+/// 62452855512f5b81522aa3895892760bb8da9f3f 1 0`.
 #[test]
 fn two_roots_through_a_book(rt: HostRuntime) -> Result<(), Fail> {
     let alloc = rt.alloc();

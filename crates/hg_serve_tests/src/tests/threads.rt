@@ -199,6 +199,12 @@ fn serial_at<R: Threads + Wait + RandomSource + Abort + Sync>(rt: &R, alloc: Glo
     assert!(rt; closed.repo.is_same(&again));
 }
 
+// `eight_threads_at_capacity_one`, `eight_threads_at_more_places`: 8 threads push 12 times each, at
+// the capacities 1, 8 and 64: a root changeset of their own, a bookmark that two threads share, and
+// a marker. Every third push of a thread says that there is no changeset yet. Result: the others
+// are done, and of the checked ones the first at most, the rest being races; the journal has 64 or
+// 65 numbers, none twice; the closing repository is that of the done pushes, run one by one in the
+// order of the report.
 #[test]
 fn eight_threads_at_capacity_one(rt: HostRuntime) -> Result<(), Fail> {
     serial_at(&rt, rt.alloc(), 1);

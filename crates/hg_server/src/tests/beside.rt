@@ -67,6 +67,8 @@ fn half_a_bundle<R: Net<Listener = TcpListener, Stream = TcpStream> + Abort>(
 }
 
 /// A connection is served while another one waits for its client.
+/// Half of `E`, and `E` from another client. Result: the other one is answered first; then the rest
+/// comes, and the first one is answered.
 #[test]
 fn half_a_bundle_holds_no_other(rt: HostRuntime) {
     let (alloc, listener) = (rt.alloc(), listener(&rt));
@@ -100,6 +102,7 @@ fn in_turn<R: Net<Listener = TcpListener, Stream = TcpStream> + Abort>(
 }
 
 /// As many connections as the program takes, places and bundles as there may be.
+/// 1,024 connections, one after another, at capacity 65,536. Result: each is answered.
 #[test]
 fn the_greatest_terms(rt: HostRuntime) {
     let (alloc, listener) = (rt.alloc(), listener(&rt));
@@ -122,6 +125,9 @@ fn the_greatest_terms(rt: HostRuntime) {
 }
 
 /// Bytes that come behind the last bundle are read and dropped, so that its reply is not lost.
+/// `a_client_that_sends_on`, `a_client_that_sends_behind_its_reply`, `a_client_that_stays`,
+/// `a_client_that_is_gone`: 20,000 bytes, or more behind the reply; one that neither sends nor
+/// leaves; one that left. Result: the reply is not lost; the service ends.
 #[test]
 fn a_client_that_sends_on(rt: HostRuntime) -> Result<(), Fail> {
     let listener = listener(&rt);

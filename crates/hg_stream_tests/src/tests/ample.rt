@@ -29,6 +29,8 @@ fn greatest_part<A: Allocator + Copy>(alloc: A) -> Result<Part<A>, NoMemory> {
 }
 
 // As many parts as there may be, the first with the greatest header, are written and read back.
+// 10,000 parts, the first with a header of 261,382 bytes, written and read back, where memory is
+// ample. Result: 421,386 bytes; all of the parts.
 #[test]
 fn most_parts_and_the_greatest_header(rt: HostRuntime) -> Result<(), Fail> {
     let mut parts = Seq::new(rt.alloc());
@@ -56,6 +58,8 @@ fn most_parts_and_the_greatest_header(rt: HostRuntime) -> Result<(), Fail> {
 }
 
 // Stream parameters of 65,536 bytes, and a payload of 64 MiB.
+// Stream parameters of 65,536 bytes, and a part with one chunk of 67,108,864. Result: ended; that
+// part.
 #[test]
 fn greatest_parameters_and_payload(rt: HostRuntime) -> Result<(), Fail> {
     let mut reader = Unbundler::new(rt.alloc(), Limits::standard());
@@ -111,6 +115,8 @@ fn ends_interrupted<A: Allocator + Copy>(reader: &mut Unbundler<A>, size: u32) -
 
 // A bundle of 256 MiB: three payloads of 64 MiB, and a part that another interrupts with all that is left but
 // the 117 bytes around them.
+// `hg_stream`: a bundle of 256 MiB, of three payloads of 64 MiB and a part that another interrupts
+// (`the_longest_stream`); three payloads of 64 MiB are written, and read back.
 #[test]
 fn the_longest_stream(rt: HostRuntime) {
     let mut reader = Unbundler::new(rt.alloc(), Limits::standard());
@@ -148,6 +154,9 @@ fn the_greatest_payloads_are_written(rt: HostRuntime) -> Result<(), Fail> {
 
 // A size takes no memory, whatever it announces, and four bytes behind it take little. Nor do the first bytes
 // of a bundle.
+// Over a heap of 128 MiB: the greatest sizes of stream parameters, of a header and of a chunk, and
+// of the latter two in an interrupting part, each with 4 bytes behind it. Result: at most 256 bytes
+// in front; none for the size; at most 64 for the 4 bytes.
 #[test]
 fn memory_follows_the_bytes(rt: HostRuntime) -> Result<(), Fail> {
     let interrupted = b"\xff\xff\xff\xff\0\0\0\x0d\x06output\0\0\0\0\0\0".as_slice();
@@ -175,6 +184,9 @@ fn memory_follows_the_bytes(rt: HostRuntime) -> Result<(), Fail> {
 }
 
 // What takes no memory takes none; and a reader that begins again has given all of it back, and reads on.
+// Over such a heap, one reader: the first push, the interrupted one and the empty bundle, begun
+// again behind each. Result: at most 1,024 bytes each; none for `end_input`, `state` and
+// `next_part`; none is left behind `restart`.
 #[test]
 fn memory_is_given_back(rt: HostRuntime) -> Result<(), Fail> {
     let heap = LocalHeap::new(rt.alloc(), AMPLE)?;

@@ -40,6 +40,10 @@ fn is_fault_at_end<A: Allocator + Copy>(
     )
 }
 
+// `"HG10"`, `"hg20"`; stream parameter sizes `ffffffff`, `80000000`, `00010001`; header sizes
+// `ffffffff`, `0003fd07`, `7fffffff`, and `fffffffe` behind a part; chunk size `fffffffe`. Result:
+// BadMagic twice; NegativeSize twice, TooLarge; NegativeSize, TooLarge twice, NegativeSize;
+// Chunk(BadSize): each at its last byte, and for good.
 #[test]
 fn magic_and_sizes(rt: HostRuntime) -> Result<(), Fail> {
     let cases: [(&[u8], StreamFault); 10] = [
@@ -70,6 +74,8 @@ fn magic_and_sizes(rt: HostRuntime) -> Result<(), Fail> {
     Ok(())
 }
 
+// `compression=GZ`; `Foo`; `a  b`; `1x`. Result: Params with Compressed, UnknownMandatory,
+// EmptyName, BadName, at the last byte.
 #[test]
 fn stream_parameters_refused(rt: HostRuntime) -> Result<(), Fail> {
     let cases: [(&[u8], ParamFault); 4] = [
@@ -86,6 +92,8 @@ fn stream_parameters_refused(rt: HostRuntime) -> Result<(), Fail> {
 }
 
 // Headers with a fault, of a part and of an interrupting part.
+// Type size 0; a key twice; a byte too many; a byte too few; of a part and of an interrupting part.
+// Result: Header with BadType, RepeatedKey, Leftover, Short, at the last byte.
 #[test]
 fn headers_refused(rt: HostRuntime) -> Result<(), Fail> {
     let cases: [(&[u8], ParamFault); 4] = [
@@ -116,6 +124,10 @@ fn headers_refused(rt: HostRuntime) -> Result<(), Fail> {
 
 // What may not interrupt a payload: sizes, an interruption, aborts, and parts that have to be understood and
 // are not.
+// Behind a chunk and a size of -1: `ffffffff`; `0003fd07`; `output` and then sizes -1 and -2;
+// `error:abort`; `ERROR:ABORT` with `hint`; `FROB`; `ERROR:ABORT` and `OUTPUT` with a mandatory
+// parameter `x`. Result: NegativeSize; TooLarge; NestedInterrupt, Chunk(BadSize); ClientAbort
+// twice; Unsupported three times.
 #[test]
 fn interruptions_refused(rt: HostRuntime) -> Result<(), Fail> {
     let cases: [(&[u8], StreamFault); 9] = [
@@ -161,6 +173,10 @@ fn interruptions_refused(rt: HostRuntime) -> Result<(), Fail> {
 
 // The interrupted first push, whose interrupting part is interrupted in place of closed, or is `FROB`: the
 // fault, its number and its byte, with the bytes behind it and without, and the part before it.
+// The same 115 bytes with `ffffffff` in place of the `output` part's closing size; with `0000000b
+// 04 "FROB" 00000000 0000` in place of its header (113 bytes); each up to the fault and whole, byte
+// by byte, in pieces of 3 and at once. Result: fault 6, NestedInterrupt, at byte 91; fault 8,
+// Unsupported, at byte 85; before it `REPLYCAPS` and no other part.
 #[test]
 fn first_push_interrupted_wrongly(rt: HostRuntime) -> Result<(), Fail> {
     assert_eq!(rt; FIRST_PUSH_INTERRUPTED_TWICE.len(), 115);
@@ -201,6 +217,7 @@ fn first_push_interrupted_wrongly(rt: HostRuntime) -> Result<(), Fail> {
 }
 
 // The input ends inside the bundle, behind each front of the empty one and of one with an interruption.
+// Each front of the empty bundle and of the interrupted first push. Result: Truncated, for good.
 #[test]
 fn truncated_input(rt: HostRuntime) {
     for bundle in [EMPTY, FIRST_PUSH_INTERRUPTED] {
@@ -217,6 +234,8 @@ fn truncated_input(rt: HostRuntime) {
 
 // The part that was finished before the fault can be taken behind it, and the one that was not finished is
 // none.
+// The first push up to its first part, then the end of the input, or a chunk size of -2. Result:
+// the first part can be taken behind the fault, and no other.
 #[test]
 fn parts_before_a_fault(rt: HostRuntime) {
     for fault in [
@@ -239,6 +258,7 @@ fn parts_before_a_fault(rt: HostRuntime) {
     }
 }
 
+// Each fault. Result: 1 to 11.
 #[test]
 fn faults_by_number(rt: HostRuntime) {
     for (fault, number) in [

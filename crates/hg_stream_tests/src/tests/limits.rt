@@ -9,6 +9,8 @@ const TOO_LARGE: State = State::Failed(StreamFault::TooLarge);
 const TOO_MUCH_DATA: State = State::Failed(StreamFault::Chunk(ChunkFault::TooLarge));
 
 // The empty bundle with room for 12 bytes and for 11; other bundles likewise.
+// Bundles of 12, 38, 86 and 115 bytes with room for all of them, and for 1, 2, 3, 4 and 7 bytes
+// less. Result: ended; TooLarge at the first byte past the limit.
 #[test]
 fn stream_limit_at_its_last_value(rt: HostRuntime) -> Result<(), Fail> {
     for (bundle, size) in [
@@ -37,6 +39,9 @@ fn stream_limit_at_its_last_value(rt: HostRuntime) -> Result<(), Fail> {
 
 // At the first byte past the limit the fault of the grammar is told where there is one, as its number is the
 // lower.
+// Bad magic, a negative size, bad stream parameters, a bad chunk size and an unsupported part,
+// whose last byte is the first past the limit; with one byte less of room. Result: the fault of the
+// grammar; TooLarge one byte before.
 #[test]
 fn byte_past_the_limit_with_a_fault(rt: HostRuntime) -> Result<(), Fail> {
     let cases: [(&[u8], StreamFault); 5] = [
@@ -82,6 +87,7 @@ fn byte_past_the_limit_with_a_fault(rt: HostRuntime) -> Result<(), Fail> {
 }
 
 // A part whose payload ends at the first byte past the limit is none; one byte more of room, and it is one.
+// Race on heads with room for 33 and 34 bytes. Result: no part; the part.
 #[test]
 fn part_past_the_limit(rt: HostRuntime) -> Result<(), Fail> {
     for (limit, count) in [(33u32, 0usize), (34, 1), (37, 1)] {
@@ -102,6 +108,9 @@ fn part_past_the_limit(rt: HostRuntime) -> Result<(), Fail> {
 
 // Two parts are allowed: a third is refused at the fourth byte of its header's size, whatever the size, and
 // the end mark is not. Parts that interrupt are not counted.
+// `parts` 2: the first push, whole and interrupted; a third part with header size 1 or 13; `parts`
+// 1 and the first push. Result: ended; TooLarge at the fourth byte of the header size, two parts;
+// TooLarge.
 #[test]
 fn parts_past_their_number(rt: HostRuntime) -> Result<(), Fail> {
     let mut limits = Limits::standard();
@@ -136,6 +145,7 @@ fn parts_past_their_number(rt: HostRuntime) -> Result<(), Fail> {
 }
 
 // Stream parameters of 7 bytes with room for 7 and for 6.
+// 7 bytes with room for 7 and 6. Result: ended; TooLarge.
 #[test]
 fn stream_parameters_past_their_limit(rt: HostRuntime) -> Result<(), Fail> {
     let bytes: &[u8] = b"HG20\0\0\0\x07foo=%20\0\0\0\0";
@@ -153,6 +163,8 @@ fn stream_parameters_past_their_limit(rt: HostRuntime) -> Result<(), Fail> {
 
 // Chunks of 5 and of twice 3 bytes, of a part and of one that interrupts it, with room for all of them and
 // for one less.
+// A chunk of 5 at the limits 5 and 4; two chunks of 3 at 6 and 5; of a part and inside an
+// interrupting part. Result: taken; Chunk(TooLarge) at the fourth byte of the size that passes.
 #[test]
 fn payload_past_its_limit(rt: HostRuntime) -> Result<(), Fail> {
     let fronts: [&[u8]; 2] = [
@@ -192,6 +204,8 @@ fn payload_past_its_limit(rt: HostRuntime) -> Result<(), Fail> {
 }
 
 // A part and the part that interrupts it have a limit each.
+// A part and the part that interrupts it, each with 5 bytes, at the limits 5 and 4. Result: the
+// part; Chunk(TooLarge).
 #[test]
 fn limit_of_each_payload(rt: HostRuntime) -> Result<(), Fail> {
     let bytes: &[u8] = b"HG20\0\0\0\0\
@@ -212,6 +226,8 @@ fn limit_of_each_payload(rt: HostRuntime) -> Result<(), Fail> {
 }
 
 // Interruptions without a part, for ever: the limit on the stream ends them.
+// A size of -1 and a header size of 0, again and again, with room for 4,096 bytes. Result: TooLarge
+// at byte 4,097.
 #[test]
 fn interruptions_for_ever(rt: HostRuntime) {
     let mut reader = Unbundler::new(rt.alloc(), stream_limit(4_096));

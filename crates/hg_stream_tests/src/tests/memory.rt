@@ -76,6 +76,9 @@ fn feed_bundle<A: Allocator + Copy>(alloc: A, bytes: &[u8], width: usize) -> Cam
 
 // Two parts, one with an interruption, over heaps of every size, at once and byte by byte: they are given, or
 // memory is refused for good. Where it is refused behind the first part, that part stays.
+// The interrupted first push, and two replies, over heaps of each size below 2,560 bytes by eights.
+// Result: the parts, or NoMemory for good, and over some heap behind the first part, which is
+// given; 119 bytes, or NoMemory; all occur.
 #[test]
 fn memory_refused_to_the_reader(rt: HostRuntime) -> Result<(), Fail> {
     for width in [115usize, 1] {
@@ -102,6 +105,8 @@ fn memory_refused_to_the_reader(rt: HostRuntime) -> Result<(), Fail> {
 
 // The magic, no stream parameters and the end mark take no memory, and neither does a size, whatever it
 // announces.
+// Over a heap of the least size: the empty bundle; a header size of 261,382, then 64 bytes. Result:
+// ended; taken, then NoMemory.
 #[test]
 fn sizes_take_no_memory(rt: HostRuntime) -> Result<(), Fail> {
     let heap = LocalHeap::new(rt.alloc(), 0)?;
@@ -127,6 +132,8 @@ fn fill<'h>(heap: &'h LocalHeap, blocks: &mut Vec<Vec<u8, &'h LocalHeap>>) {
 }
 
 // What gives the parts, tells the state and ends the input takes none: over a heap of which nothing is left.
+// The first push, whole and its first 70 bytes, over heaps of which nothing is left then. Result:
+// the two parts and Ended; Truncated, and the first part.
 #[test]
 fn giving_takes_no_memory(rt: HostRuntime) -> Result<(), Fail> {
     let heap = LocalHeap::new(rt.alloc(), 1 << 12)?;

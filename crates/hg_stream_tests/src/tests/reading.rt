@@ -46,6 +46,7 @@ const NO_HEADS: Fields<'static> = Fields {
     payload: &[0; 20],
 };
 
+// `"HG20" 00000000 00000000` (12 bytes), in every cutting. Result: ended behind 12 bytes, no parts.
 #[test]
 fn empty_bundle(rt: HostRuntime) -> Result<(), Fail> {
     assert_eq!(rt; EMPTY.len(), 12);
@@ -53,6 +54,9 @@ fn empty_bundle(rt: HostRuntime) -> Result<(), Fail> {
     Ok(())
 }
 
+// `"HG20" 00000000 00000010 09 "REPLYCAPS" 00000000 0000 00000000 00000012 0b "CHECK:HEADS"
+// 00000001 0000 00000014`, 20 zero bytes, `00000000 00000000` (86 bytes), in every cutting. Result:
+// `REPLYCAPS` id 0 with an empty payload, `CHECK:HEADS` id 1 with 20 zero bytes.
 #[test]
 fn first_push_with_checks(rt: HostRuntime) -> Result<(), Fail> {
     assert_eq!(rt; FIRST_PUSH.len(), 86);
@@ -63,6 +67,8 @@ fn first_push_with_checks(rt: HostRuntime) -> Result<(), Fail> {
     Ok(())
 }
 
+// The same, the payload as chunks of 8 and 12 bytes and between them `ffffffff 0000000d 06 "output"
+// 00000000 0000 00000000` (115 bytes), in every cutting. Result: the same two parts.
 #[test]
 fn first_push_interrupted(rt: HostRuntime) -> Result<(), Fail> {
     assert_eq!(rt; FIRST_PUSH_INTERRUPTED.len(), 115);
@@ -73,6 +79,7 @@ fn first_push_interrupted(rt: HostRuntime) -> Result<(), Fail> {
     Ok(())
 }
 
+// `CHECK:HEADS` with an empty payload (38 bytes), in every cutting. Result: that part.
 #[test]
 fn race_on_heads(rt: HostRuntime) -> Result<(), Fail> {
     assert_eq!(rt; RACE_ON_HEADS.len(), 38);
@@ -88,6 +95,10 @@ fn race_on_heads(rt: HostRuntime) -> Result<(), Fail> {
 
 // A root changeset in one chunk, and interrupted by parts that are dropped: `output` with and without a
 // payload, an advisory one that is not known, an `error:abort` that is not understood, and no part at all.
+// `REPLYCAPS`, and `CHANGEGROUP` with `version` `02` and a payload of 116 bytes: in one chunk; as
+// 40 and 76 bytes with an interruption between: `output`, `OUTPUT` with a payload, `frob`,
+// `error:abort` with a mandatory parameter `x`, `output` with one, and header size 0 twice; each in
+// every cutting. Result: the two parts.
 #[test]
 fn root_changeset(rt: HostRuntime) -> Result<(), Fail> {
     let mut payload = Vec::new(rt.alloc());
@@ -120,6 +131,8 @@ fn root_changeset(rt: HostRuntime) -> Result<(), Fail> {
 }
 
 // The fields of a header, with a mandatory and an advisory parameter, in the case that they have.
+// `ChangeGroup` with id `01020304`, mandatory `version` `02`, advisory `a` with an empty value.
+// Result: these fields, the type in its own case.
 #[test]
 fn part_with_parameters(rt: HostRuntime) -> Result<(), Fail> {
     let bytes: &[u8] = b"HG20\0\0\0\0\
@@ -144,6 +157,7 @@ fn part_with_parameters(rt: HostRuntime) -> Result<(), Fail> {
 }
 
 // Stream parameters that are understood or may be passed over.
+// `Compression=UN`; `foo=%20a`; `compression=UN bar`. Result: ended, no parts.
 #[test]
 fn stream_parameters_taken(rt: HostRuntime) -> Result<(), Fail> {
     let bundles: [&[u8]; 3] = [
@@ -158,6 +172,8 @@ fn stream_parameters_taken(rt: HostRuntime) -> Result<(), Fail> {
 }
 
 // Bytes behind the end mark are not taken, in the same piece or in another.
+// The empty bundle and 5 bytes more; then 5 bytes. Result: 12 taken; 0 taken; `end_input` is
+// content.
 #[test]
 fn bytes_past_the_end_mark(rt: HostRuntime) {
     let mut reader = Unbundler::new(rt.alloc(), Limits::standard());

@@ -95,6 +95,11 @@ fn is_written_as<A: Allocator + Copy>(
     }
 }
 
+// No parts; `ERROR:PUSHRACED` with mandatory `message` `heads changed`; `reply:changegroup` with
+// advisory `in-reply-to` `1`, `return` `1`. Result: the empty bundle; `"HG20" 00000000 0000002c 0f
+// "ERROR:PUSHRACED" 00000000 0100 070d "message" "heads changed" 00000000 00000000` (64 bytes);
+// `"HG20" 00000000 0000002f 11 "reply:changegroup" 00000000 0002 0b01 0601 "in-reply-to" "1"
+// "return" "1" 00000000 00000000` (67 bytes).
 #[test]
 fn no_parts(rt: HostRuntime) -> Result<(), Fail> {
     assert!(rt; is_written_as(rt.alloc(), &[], EMPTY)?);
@@ -122,6 +127,7 @@ fn reply_to_a_changegroup(rt: HostRuntime) -> Result<(), Fail> {
 }
 
 // Parts are numbered by their places, whatever their ids; a payload is one chunk where it is not empty.
+// `replyCaps` and `CHECK:HEADS`, both with id 7. Result: the bytes of the first push with checks.
 #[test]
 fn first_push_written(rt: HostRuntime) -> Result<(), Fail> {
     let parts = [
@@ -133,6 +139,7 @@ fn first_push_written(rt: HostRuntime) -> Result<(), Fail> {
 }
 
 // What is written is read back to the same parts, numbered by their places.
+// Three parts. Result: the same parts, numbered by place.
 #[test]
 fn written_bundles_read_back(rt: HostRuntime) -> Result<(), Fail> {
     let parts = [

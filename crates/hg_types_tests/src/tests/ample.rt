@@ -21,6 +21,9 @@ fn greatest_part<A: Allocator + Copy>(alloc: A) -> Result<Part<A>, NoMemory> {
 }
 
 /// The last part that a push may have, as large as it may be, is cloned.
+/// `hg_types`: an item with a part of 510 parameters, each text of 255 bytes, and a payload of 64
+/// MiB is cloned (`the_greatest_item_is_cloned`); marks are, without memory; lists grow to 200,000
+/// and, with room asked for first, to 10,000 items.
 #[test]
 fn the_greatest_item_is_cloned(rt: HostRuntime) -> Result<(), Fail> {
     let heap = LocalHeap::new(rt.alloc(), AMPLE)?;
