@@ -24,8 +24,6 @@ import stands
 import tests
 
 LOGS = f"{sources.ROOT}/build/gate"
-# wrong bodies without a head, which decide nothing yet, are tried only where a crate's turn comes before these minutes
-LATE = 75
 CHECKS = ("index", "pictures", "costs", "headings", "paths")
 # a crate is proved in this run, or an earlier run of the same files on this machine proved it
 PROVED = re.compile(r"^(?:rt: )?(hg_\w+) (?:proved$|is kept: )")
@@ -120,10 +118,9 @@ class Side:
             if not task:
                 return
             kind, name = task
-            late = ["--headed"] if time.time() - self.count.start > 60 * LATE else []
             words = {
                 "tests": ["tools/tests.py", name],
-                "wrong bodies": ["tools/wrong_bodies.py", "--built", self.stand, *late, name],
+                "wrong bodies": ["tools/wrong_bodies.py", "--built", self.stand, name],
                 "judging": ["tools/test_wrong_bodies.py", "--built", self.stand],
             }[kind]
             status, said, seconds = logged(f"{kind.replace(' ', '-')}-{name}", [

@@ -4,7 +4,6 @@
     tools/wrong_bodies.py [CRATE..]                 over the crates below, as `make build` left them
     tools/wrong_bodies.py --built FOLDER [CRATE..]  over those of another folder
     tools/wrong_bodies.py --write [CRATE..]         writes at the head of each what was seen to refuse it
-    tools/wrong_bodies.py --headed [CRATE..]        leaves those without a head
 
 They stand in crates/NAME/wrong/*.edit:
 
@@ -17,8 +16,8 @@ Many are tried at once, each function's at most once in a round. A round is one 
 which every other function has a hole in the place of its proof: nothing is proved again that was not turned.
 A wrong body is refused where the prover does not prove a goal of the function that its head names. That a
 caller is not proved any more, or that the check ends in some other way, counts for nothing: such a wrong body is
-tried once more alone, and what then is not refused fails the script, as does one that the compiler refuses. One
-without a head is new: it is tried and reported, and fails nothing before `--write` has given it one.
+tried once more alone, and what then is not refused fails the script, as does one that the compiler refuses, and one
+without a head.
 """
 import importlib.machinery
 import os
@@ -34,6 +33,8 @@ import sources
 PARTS = ("src", "specs", "proofs")
 # what the prover said in each check
 LOGS = f"{sources.ROOT}/build/wrong"
+# the proof of a function that the prover makes by itself, as of some that call themselves: no file may stand there
+RESERVED = re.compile(r"^\./proofs/(\S+)/Proof\.antt: error\[reserved-name\]", re.M)
 # what a proof file says that names something which the edit took away
 GONE = re.compile(r"has no field|is not in scope|is no name|has no `|operand is missing|cannot continue")
 
@@ -118,7 +119,7 @@ class Crate:
         self.prover, self.name = prover, name
         self.folder = folder or f"{sources.ROOT}/crates/{name}"
         self.functions = sources.functions(f"{self.folder}/src")
-        self.rounds = 0
+        self.rounds, self.reserved = 0, set()
 
     def asked(self, edit):
         """The functions that are proved for an edit: those that it turns and the one that its head names."""
@@ -157,7 +158,16 @@ class Crate:
             file.write(f"pub {last}_spec : {{M : Type 1}} → statement M\n{last}_spec = ?\n")
 
     def check(self, texts, asked, kept):
-        """What a check says of a copy with these texts, in which only the functions that are asked for are proved."""
+        """What a check says of a copy with these texts, in which only the functions that are asked for are proved.
+        Where a function can have no hole, it is checked once more without that one."""
+        while True:
+            said = self.check_once(texts, asked, kept)
+            found = {it.replace("/", "::") for it in RESERVED.findall(said)} - self.reserved
+            if not found:
+                return said
+            self.reserved |= found
+
+    def check_once(self, texts, asked, kept):
         with tempfile.TemporaryDirectory(prefix="wrong-") as room:
             for part in PARTS:
                 if os.path.isdir(f"{self.folder}/{part}"):
@@ -167,7 +177,8 @@ class Crate:
                     it.write(text)
             for function, fn in self.functions.items():
                 # what stands in an impl of a trait is small, and its name in the prover's words is not always plain
-                if function not in asked and not fn.of_trait and "+" not in function:
+                is_plain = not fn.of_trait and "+" not in function
+                if function not in asked and is_plain and function not in self.reserved:
                     self.hole(room, function)
             self.rounds += 1
             said = self.prover.check(self.name, room, sorted(asked), kept)
@@ -304,21 +315,20 @@ def main(words):
     prover, failed, passed = Prover(built), 0, 0
     for name in names or [it for it in sources.rows() if os.path.isdir(f"{sources.ROOT}/crates/{it}/wrong")]:
         crate = Crate(prover, name)
-        there = edits_of(crate.folder)
-        edits = crate.try_all([it for it in there if it.function or "--headed" not in words])
+        edits = crate.try_all(edits_of(crate.folder))
         for edit in edits:
+            if not edit.why and not edit.function:
+                if writes:
+                    write_head(edit)
+                else:
+                    edit.why = f"it has no head; {edit.seen}"
             if edit.why:
-                told = "NOT REFUSED" if edit.function else "without a head, and not refused"
-                print(f"wrong body {name}/{edit.name}: {told}: {edit.why}")
-            elif writes and not edit.function:
-                write_head(edit)
+                print(f"wrong body {name}/{edit.name}: NOT REFUSED: {edit.why}")
             if not edit.why and "--seen" in words:
                 print(f"wrong body {name}/{edit.name}: {edit.seen}")
         refused = sum(not it.why for it in edits)
-        missed = sum(bool(it.why and it.function) for it in edits)
-        left = f", {len(there) - len(edits)} without a head left" if len(edits) < len(there) else ""
-        print(f"{name}: {refused} of {len(edits)} wrong bodies refused{left}, in {crate.rounds} checks", flush=True)
-        failed, passed = failed + missed, passed + refused
+        print(f"{name}: {refused} of {len(edits)} wrong bodies refused, in {crate.rounds} checks", flush=True)
+        failed, passed = failed + len(edits) - refused, passed + refused
     print(f"{passed} passed, {failed} failed")
     return 1 if failed else 0
 
