@@ -1,0 +1,513 @@
+#!/usr/bin/env python3
+"""Tries the mirror on stores that this script writes.
+
+    python3 mirror/check.py [--only scenes|publishing|following|bad|killed|SCENE]
+
+Scenes of pushes are recorded from a real `hg push` to a real `hg serve`. Each is mirrored, from a store and
+from a log, and what the mirror holds is compared with what `hg serve` held, line by line. Then the mirror is
+ended by SIGKILL at random moments and started again, it follows a store that grows, and it is given stores
+that it has to refuse. It needs the command `hg`, and some minutes.
+"""
+
+import os
+import random
+import subprocess
+import sys
+import tempfile
+import time
+
+import stores
+from recorder import recorded
+from refused import plain
+from stores import Place, Results, head, sha1, store, write
+
+# How often the mirror is killed at its work, until it has all pushes; and how often to look at the front that it has.
+KILLS = 25
+FRONTS = 10
+
+
+class Client:
+    """A repository that pushes to a recorded server."""
+
+    def __init__(self, place, url, name):
+        self.place, self.url, self.name, self.clock = place, url, name, 0
+        place.hg("init", name)
+
+    def hg(self, *words, statuses=(0,)):
+        return self.place.hg("--cwd", self.name, *words, statuses=statuses)
+
+    def write(self, name, text):
+        path = f"{self.place.folder}/{self.name}/{name}"
+        os.makedirs(os.path.dirname(path), exist_ok=True)
+        with open(path, "a", encoding="utf-8") as file:
+            file.write(text)
+
+    def commit(self, name, text=None, *more):
+        self.clock += 1
+        self.write(name, f"{text or name} {self.clock}\n")
+        self.hg("commit", "-A", "-m", text or f"{name} {self.clock}", "-d", f"{self.clock} 0", *more)
+
+    def amend(self, name):
+        self.clock += 1
+        self.write(name, f"amended {self.clock}\n")
+        self.hg("commit", "-A", "--amend", "-m", f"amended {self.clock}", "-d", f"{self.clock} 0")
+
+    def push(self, *more):
+        self.hg("push", self.url, *more, statuses=(0, 1))
+
+    def pull(self):
+        self.hg("pull", "-u", f"../{'server'}")
+
+
+def first(a, _b):
+    for name in ("a", "b", "folder/c"):
+        a.commit(name)
+    a.push()
+
+
+def later(a, _b):
+    for number in range(4):
+        a.commit("a")
+        a.commit(f"file{number}")
+        a.push()
+
+
+def merges(a, b):
+    a.commit("a")
+    a.push()
+    b.pull()
+    a.commit("b")
+    a.push()
+    b.commit("c")
+    b.push("-f")
+    a.pull()
+    a.hg("merge", "-r", "tip")
+    a.hg("commit", "-m", "merged", "-d", "50 0")
+    a.push()
+
+
+def branches(a, _b):
+    a.commit("a")
+    a.push()
+    for name in ("side", "with blank; & more", "größer"):
+        a.hg("branch", name)
+        a.commit("a", f"on {name}")
+        a.push("--new-branch")
+    a.hg("commit", "--close-branch", "-m", "closed", "-d", "60 0")
+    a.push()
+
+
+def bookmarks(a, _b):
+    a.commit("a")
+    a.hg("bookmark", "one")
+    a.push("-B", "one")
+    a.commit("a")
+    a.push()
+    a.hg("bookmark", "two words", "-r", "0")
+    a.push("-B", "two words")
+    a.hg("bookmark", "-d", "two words")
+    a.push("-B", "two words")
+
+
+def phases(a, _b):
+    for _ in range(3):
+        a.commit("a")
+    a.push()
+    a.hg("phase", "-p", "-r", "0")
+    a.push()
+    a.hg("phase", "-p", "-r", "tip")
+    a.push()
+
+
+def publish(a, _b):
+    a.commit("a")
+    a.push()
+    a.commit("a")
+    a.push("--publish")
+    a.commit("a")
+    a.push()
+
+
+def amends(a, b):
+    a.commit("a")
+    a.commit("a")
+    a.push()
+    a.amend("a")
+    a.push()
+    a.amend("b")
+    a.amend("b")
+    a.push()
+    b.pull()
+    b.commit("c")
+    b.push("-f")
+
+
+def prunes(a, _b):
+    for name in ("a", "b", "c"):
+        a.commit(name)
+    a.push()
+    node = a.hg("log", "-r", "tip", "-T", "{node}")
+    a.hg("update", "-r", "1")
+    a.hg("debugobsolete", "--record-parents", node)
+    a.push()
+    a.commit("d")
+    a.push("-f")
+
+
+def orphans(a, b):
+    a.commit("a")
+    a.commit("b")
+    a.push()
+    b.pull()
+    b.commit("c")
+    b.push()
+    a.amend("b")
+    a.push("-f")
+    b.commit("c")
+    b.push("-f")
+
+
+def secrets(a, _b):
+    a.commit("a")
+    a.commit("hidden", None, "--secret")
+    a.push()
+    a.hg("phase", "-d", "-f", "-r", "tip")
+    a.push()
+
+
+def files(a, _b):
+    a.commit("a")
+    a.hg("copy", "a", "b c")
+    a.hg("commit", "-m", "copied", "-d", "10 0")
+    a.hg("rename", "a", "größer/Aux.i")
+    a.hg("commit", "-m", "renamed\n\nwith more lines", "-d", "11 3600")
+    a.push()
+    a.hg("remove", "b c")
+    a.hg("commit", "-m", "removed", "-d", "12 0", "-u", "someone else <other@example.com>")
+    a.push()
+
+
+def many(a, _b):
+    for number in range(25):
+        a.commit(f"file{number % 5}")
+    a.push("-r", "10")
+    a.push()
+
+
+def two(a, b):
+    a.commit("a")
+    a.push()
+    b.pull()
+    for _ in range(3):
+        a.commit("a")
+        a.push("-f")
+        b.commit("b")
+        b.push("-f")
+    b.hg("bookmark", "b", "-r", "tip")
+    b.push("-f", "-B", "b")
+
+
+SCENES = [first, later, merges, branches, bookmarks, phases, publish, amends, prunes, orphans, secrets, files,
+          many, two]
+PUBLISHED = [first, merges, publish, two]
+
+
+def record(folder, scene, publishing=False):
+    """The place, the pushes of a scene, and what the server held behind them."""
+    os.mkdir(folder)
+    place = Place(folder)
+    place.repository("server", publishing)
+    with recorded(place, "server") as (url, bundles):
+        scene(Client(place, url, "a"), Client(place, url, "b"))
+    return place, bundles, place.state("server")
+
+
+def try_scene(results, folder, scene, publishing=False):
+    name = scene.__name__ + (", publishing" if publishing else "")
+    place, bundles, wanted = record(folder, scene, publishing)
+    results.see(f"{name}: recorded", len(bundles) > 0)
+    write(f"{folder}/store", store(bundles, publishing, b"\0what stands behind a shut gate"))
+    place.repository("mirror", publishing)
+    status, said = place.mirror("mirror", "store")
+    results.see(f"{name}: mirrored", status == 0 and place.count("mirror") == len(bundles), said)
+    results.same(f"{name}: state", place.state("mirror"), wanted)
+    status, said = place.run("verify", "-R", "mirror")
+    results.see(f"{name}: verify", status == 0, said)
+    status, said = place.mirror("mirror", "store")
+    results.see(f"{name}: again", status == 0 and said.startswith("0 pushes"), said)
+    place.repository("logged", publishing)
+    status, said = place.run("mirror", "-R", "logged", "--log", "-", given=b"".join(bundles))
+    results.see(f"{name}: log", status == 0, said)
+    results.same(f"{name}: state of the log", place.state("logged"), wanted)
+    return place, bundles, wanted
+
+
+def all_kinds(a, b):
+    """Pushes of many kinds, for a mirror that is killed."""
+    amends(a, b)
+    a.pull()
+    phases(a, b)
+    bookmarks(a, b)
+    a.hg("branch", "side")
+    a.commit("z")
+    a.push("--new-branch")
+
+
+def try_without_phases(results, folder):
+    """Pushes that say nothing of phases: the server makes them public where it publishes, and so does the mirror."""
+    os.mkdir(folder)
+    place = Place(folder)
+    bundles = [push.bundle() for push in plain(3)]
+    for publishes, phase in ((True, "public"), (False, "draft")):
+        name = place.repository(phase, publishes)
+        write(f"{folder}/store", store(bundles, publishes))
+        status, said = place.mirror(name, "store")
+        results.see(f"without phases, {phase}: mirrored", status == 0, said)
+        found = place.hg("log", "-R", name, "-T", "{phase} ")
+        results.see(f"without phases, {phase}", found == 3 * f"{phase} ", found)
+
+
+def try_killed(results, folder):
+    """Ended by SIGKILL at random moments, the mirror has a front of the pushes, and goes on."""
+    place, bundles, wanted = record(folder, all_kinds)
+    states = fronts(place, bundles)
+    results.same("killed: all of them", states[-1], wanted)
+    write(f"{folder}/store", store(bundles))
+    choose, killed, name = random.Random(4), 0, None
+    for start in range(4 * KILLS):
+        if name is None:
+            name = place.repository(f"killed{start}")
+        before = place.count(name)
+        killed += kill_in_work(place.start("mirror", "-R", name, "--store", "store", "--once"), place, name, before,
+                               choose)
+        kept = place.count(name)
+        results.see("killed: it does not go back", kept >= before - 1, f"{before}, then {kept}")
+        if kept == len(bundles):
+            place.mirror(name, "store")
+            results.same("killed: state at the end", place.state(name), wanted)
+            name = None
+            if killed >= KILLS:
+                break
+    results.see("killed: it comes to the end each time", name is None and killed >= KILLS)
+    return killed + try_front(results, place, bundles, states, choose)
+
+
+def kill_in_work(run, place, name, before, choose):
+    """Kills it some time after it applied a push; whether it was at work then."""
+    until = time.monotonic() + 10
+    while run.poll() is None and place.count(name) == before and time.monotonic() < until:
+        time.sleep(0.001)
+    time.sleep(choose.uniform(0, 0.08))
+    was_at_work = run.poll() is None
+    run.kill()
+    run.wait()
+    run.stdout.close()
+    return was_at_work
+
+
+def try_front(results, place, bundles, states, choose):
+    """Killed once and started on a store that ends where it is, it has that front and no more."""
+    killed = 0
+    for number in range(FRONTS):
+        name = place.repository(f"front{number}")
+        killed += kill_in_work(place.start("mirror", "-R", name, "--store", "store", "--once"), place, name, 0, choose)
+        kept = place.count(name)
+        # The number may be one of a transaction that was at its end and is rolled back.
+        place.run("recover", "-R", name)
+        count = place.count(name)
+        results.see("killed: the front", count in (kept, kept - 1), f"{kept}, then {count}")
+        write(f"{place.folder}/front", store(bundles[:count]))
+        status, said = place.mirror(name, "front")
+        results.see("killed: starts again", status == 0 and said.startswith("0 pushes"), said)
+        results.same("killed: state of the front", place.state(name), states[count])
+    return killed
+
+
+def fronts(place, bundles):
+    """What is held after no push, after one, and so on."""
+    place.repository("fronts")
+    states = [place.state("fronts")]
+    for number, bundle in enumerate(bundles):
+        status, said = place.run("mirror", "-R", "fronts", "--log", "-", "--from", str(number), given=bundle)
+        if status:
+            sys.exit(said)
+        states.append(place.state("fronts"))
+    return states
+
+
+def try_following(results, folder, place, bundles, wanted):
+    """Records are written as a server writes them; how long each takes to be mirrored."""
+    write(f"{folder}/grows", head() + b"\0")
+    place.repository("follows")
+    run = place.start("mirror", "-R", "follows", "--store", "grows")
+    digest, took = sha1(head()), []
+    try:
+        with open(f"{folder}/grows/pushes", "r+b", buffering=0) as file:
+            time.sleep(1)
+            end = len(head())
+            for number, bundle in enumerate(bundles):
+                digest = sha1(digest + sha1(bundle))
+                record_bytes = len(bundle).to_bytes(4, "big") + digest + bundle + b"\0"
+                for start in range(0, len(record_bytes), 1000):
+                    os.pwrite(file.fileno(), record_bytes[start:start + 1000], end + 1 + start)
+                time.sleep(0.1)
+                results.see("following: a shut gate is waited for", place.count("follows") == number)
+                os.pwrite(file.fileno(), b"\1", end)
+                end += len(record_bytes)
+                took.append(waited(place, number + 1))
+        used = processor_time(run.pid)
+        time.sleep(2)
+        results.see("following: no busy loop", processor_time(run.pid) - used < 0.1)
+    finally:
+        run.terminate()
+        said = run.communicate()[0].decode()
+    results.see("following: ended by a signal", run.returncode != 0, said)
+    results.same("following: state", place.state("follows"), wanted)
+    middle = sorted(took)[len(took) // 2]
+    results.see("following: in time", middle < 0.2 and max(took) < 2, f"{middle:.3f} s, longest {max(took):.3f} s")
+    try_replaced(results, place)
+    return max(took), middle
+
+
+def try_replaced(results, place):
+    """A store that is cut gets another file: the mirror that follows ends, and says so."""
+    run = place.start("mirror", "-R", "follows", "--store", "grows")
+    time.sleep(1)
+    write(f"{place.folder}/new", head() + b"\0")
+    os.rename(f"{place.folder}/new/pushes", f"{place.folder}/grows/pushes")
+    try:
+        said = run.communicate(timeout=20)[0].decode()
+    except subprocess.TimeoutExpired:
+        run.kill()
+        said = run.communicate()[0].decode()
+    results.see("following: another file", run.returncode == 255 and "another file" in said, said)
+    status, said = place.mirror("follows", "grows")
+    results.see("following: a cut store", status == 255 and "has 0" in said, said)
+
+
+def waited(place, count):
+    start = time.monotonic()
+    while place.count("follows") < count and time.monotonic() < start + 20:
+        time.sleep(0.001)
+    return time.monotonic() - start
+
+
+def processor_time(pid):
+    with open(f"/proc/{pid}/stat", encoding="ascii") as file:
+        fields = file.read().rsplit(")", 1)[1].split()
+    return (int(fields[11]) + int(fields[12])) / os.sysconf("SC_CLK_TCK")
+
+
+def try_bad_stores(results, folder, place, bundles):
+    """Stores that are refused, or read up to their fault, each with the words that say so."""
+    whole = store(bundles)
+    start = len(head())
+    second = start + 25 + len(bundles[0])
+
+    def changed(place_of, byte):
+        return whole[:place_of] + bytes([byte]) + whole[place_of + 1:]
+
+    rows = [
+        ("empty file", b"", 0, "too short"),
+        ("short head", whole[:37], 0, "too short"),
+        ("other magic", changed(0, 0), 0, "is no store"),
+        ("version", changed(8, 2), 0, "version 2"),
+        ("publishing byte", changed(9, 2), 0, "publishes nor"),
+        ("limit of 0", whole[:10] + bytes(4) + whole[14:], 0, "limits"),
+        ("limit above the standard", whole[:10] + b"\0\1\0\1" + whole[14:], 0, "limits"),
+        ("other gate", changed(second, 2), 1, "damaged behind 1"),
+        ("byte of a bundle", changed(second + 30, whole[second + 30] ^ 1), 1, "damaged behind 1"),
+        ("byte of a digest", changed(second + 6, whole[second + 6] ^ 1), 1, "damaged behind 1"),
+        ("damaged length", changed(second + 1, 255), 1, "torn behind 1"),
+        ("gate alone", whole[:second + 1], 1, "torn behind 1"),
+        ("cut in a length", whole[:second + 3], 1, "torn behind 1"),
+        ("cut in a digest", whole[:second + 20], 1, "torn behind 1"),
+        ("cut in a bundle", whole[:second + 40], 1, "torn behind 1"),
+        ("no gate at the end", whole[:second], 1, None),
+        ("shut gate", changed(second, 0), 1, None),
+        ("head alone", whole[:start], 0, None),
+        ("of a server that publishes", store(bundles, True), 0, "publish = yes"),
+    ]
+    for number, (what, data, count, words) in enumerate(rows):
+        name = place.repository(f"bad{number}")
+        write(f"{folder}/bad", data)
+        status, said = place.mirror(name, "bad")
+        results.see(f"bad store: {what}: said", status == (255 if words else 0) and (words or "") in said, said)
+        results.see(f"bad store: {what}: count", place.count(name) == count)
+        results.see(f"bad store: {what}: no traceback", "Traceback" not in said, said)
+        write(f"{folder}/bad", whole)
+        status, said = place.mirror(name, "bad")
+        results.see(f"bad store: {what}: whole again", status == 0, said)
+    return len(rows) + try_other_stores(results, folder, place, bundles)
+
+
+def try_other_stores(results, folder, place, bundles):
+    """A mirror that is given another store than before, a shorter one, none, or a log that it cannot use."""
+    place.repository("before")
+    write(f"{folder}/other", store(bundles))
+    place.mirror("before", "other")
+    before = place.state("before")
+    write(f"{folder}/other", store(bundles[1:2] + bundles[1:]))
+    rows = [("another store", ["--store", "other", "--once"], b"", "not those mirrored"),
+            ("no store", ["--store", "nowhere", "--once"], b"", "no store in"),
+            ("neither", [], b"", "has to be given"),
+            ("both", ["--store", "other", "--log", "-"], b"", "has to be given"),
+            ("log behind", ["--log", "-", "--from", "99"], b"", "begins behind"),
+            ("log from below 0", ["--log", "-", "--from", "-1"], b"", "below 0"),
+            ("log of other pushes", ["--log", "-"], bundles[-1] * len(bundles), "not those mirrored"),
+            ("log cut short", ["--log", "-"], bundles[0][:-1], "in the middle"),
+            ("log of something else", ["--log", "-"], b"HG10UN..", "something else")]
+    for what, words, given, wanted in rows:
+        status, said = place.run("mirror", "-R", "before", *words, given=given)
+        results.see(f"bad store: {what}", status in (10, 255) and wanted in said and "Traceback" not in said, said)
+    write(f"{folder}/other", store(bundles[:1]))
+    for more in (["--once"], []):
+        done = subprocess.run(["hg", "mirror", "-R", "before", "--store", "other", *more], cwd=folder, timeout=20,
+                              env=place.environment, capture_output=True, text=True, check=False)
+        results.see("bad store: a shorter one", done.returncode == 255 and "has 1" in done.stderr, done.stderr)
+    results.same("bad store: nothing changed", place.state("before"), before)
+    return len(rows) + 1
+
+
+def scenes(results, folder, only):
+    chosen = [scene for scene in SCENES if only in (None, "scenes", scene.__name__)]
+    for scene in chosen:
+        try_scene(results, f"{folder}/{scene.__name__}", scene)
+    if chosen:
+        yield f"{len(chosen)} scenes"
+
+
+def publishing(results, folder, only):
+    """The scenes in which nothing is rewritten, on a server that publishes."""
+    if only in (None, "publishing"):
+        for scene in PUBLISHED:
+            try_scene(results, f"{folder}/{scene.__name__}-publishing", scene, publishing=True)
+        try_without_phases(results, f"{folder}/plain")
+        yield f"{len(PUBLISHED)} scenes on a server that publishes"
+
+
+def others(results, folder, only):
+    if only in (None, "following", "bad"):
+        place, bundles, wanted = record(f"{folder}/follow", all_kinds)
+        if only != "bad":
+            longest, middle = try_following(results, place.folder, place, bundles, wanted)
+            yield f"a push mirrored after {1000 * middle:.0f} ms (middle), {1000 * longest:.0f} ms (longest)"
+        if only != "following":
+            yield f"{try_bad_stores(results, place.folder, place, bundles[:3])} bad stores and logs"
+    if only in (None, "killed"):
+        yield f"killed at its work {try_killed(results, f'{folder}/killed')} times"
+
+
+def main():
+    stores.skip_without_hg("check.py")
+    only = sys.argv[2] if sys.argv[1:2] == ["--only"] else None
+    results = Results("check.py")
+    with tempfile.TemporaryDirectory() as folder:
+        seen = [words for tried in (scenes, publishing, others) for words in tried(results, folder, only)]
+    if not seen:
+        sys.exit(__doc__)
+    results.end("; ".join(seen))
+
+
+if __name__ == "__main__":
+    main()

@@ -1,0 +1,468 @@
+# mirror.py - apply the pushes of a push server's store to this repository
+#
+# Copyright the authors of Deqtorap
+#
+# This software may be used and distributed according to the terms of the
+# GNU General Public License version 2 or any later version.
+
+'''apply the pushes of a push server's store to this repository
+
+A push server keeps each push that it answered as done in a store, in their
+order. :hg:`mirror` applies them to an ordinary repository, which hgweb then
+serves to those who clone and pull. Each push is applied in one transaction,
+with the number of pushes applied so far. So the command may be ended at any
+moment, by any signal, and started again.
+
+The repository is the mirror's alone: nothing else may commit or push to it.
+Its ``.hg/hgrc`` says whether it publishes, as the server does, and lets those
+who pull have the markers::
+
+  [phases]
+  publish = no
+
+  [experimental]
+  evolution = all
+'''
+
+import hashlib
+import os
+import struct
+import time
+
+from mercurial import (
+    bundle2,
+    error,
+    exchange,
+    pycompat,
+    registrar,
+    util,
+)
+from mercurial.i18n import _
+from mercurial.utils import stringutil
+
+testedwith = b'6.3'
+minimumhgversion = b'6.3'
+
+cmdtable = {}
+command = registrar.command(cmdtable)
+
+# The store: a head of 38 bytes, then records. A record is an open gate, the
+# length of a bundle, a digest, and the bundle.
+MAGIC = b'HGPUSHES'
+HEAD = struct.Struct('>8sBB7I')
+FRAME = struct.Struct('>BI20s')
+SHUT, OPEN = 0, 1
+
+# The most that each limit of a head may be, in their order.
+STANDARD = (65536, 67108864, 268435456, 10000, 16777216, 1024, 2147483647)
+
+# How long to wait, in seconds, before the gate is looked at again.
+PAUSE = 0.05
+
+# The file, in the repository's store, with how many pushes were applied and
+# the digest of all of their bundles.
+KEPT = b'pushes-mirrored'
+NOTHING = b'\0' * 20
+
+
+def sha1(data):
+    return hashlib.sha1(data).digest()
+
+
+class badstore(error.Abort):
+    """A store that cannot be read, or not further."""
+
+
+class store:
+    """The file of a store, read from its head on, also while it grows."""
+
+    def __init__(self, folder):
+        self.path = os.path.join(folder, b'pushes')
+        try:
+            self.file = open(self.path, 'rb', buffering=0)
+        except FileNotFoundError:
+            raise badstore(_(b'there is no store in %s') % folder)
+        head = self.bytes_at(0, HEAD.size)
+        self.publishing = self.publishing_of(head)
+        self.digest = sha1(head)
+        self.end = HEAD.size
+        self.count = 0
+
+    def bytes_at(self, place, size):
+        """Up to so many bytes from that place on."""
+        found = []
+        while size:
+            piece = os.pread(self.file.fileno(), min(size, 1 << 26), place)
+            if not piece:
+                break
+            found.append(piece)
+            place, size = place + len(piece), size - len(piece)
+        return b''.join(found)
+
+    def publishing_of(self, head):
+        if len(head) < HEAD.size:
+            raise self.bad(_(b'is too short to be a store'))
+        magic, version, publishing, *limits = HEAD.unpack(head)
+        if magic != MAGIC:
+            raise self.bad(_(b'is no store'))
+        if version != 1:
+            raise self.bad(_(b'is a store of version %d') % version)
+        if publishing > 1:
+            raise self.bad(_(b'says neither that it publishes nor that not'))
+        if not all(1 <= n <= most for n, most in zip(limits, STANDARD)):
+            raise self.bad(_(b'has limits that no server has'))
+        return bool(publishing)
+
+    def bad(self, what):
+        return badstore(b'%s %s' % (self.path, what))
+
+    def next(self):
+        """The bundle of the next record; None where the records end."""
+        front = self.bytes_at(self.end, FRAME.size)
+        if not front or front[0] == SHUT:
+            return None
+        if front[0] != OPEN:
+            raise self.damaged()
+        if len(front) < FRAME.size:
+            raise self.torn()
+        _gate, size, told = FRAME.unpack(front)
+        # A damaged length may tell of gigabytes: they are not asked for.
+        behind = os.fstat(self.file.fileno()).st_size - self.end - FRAME.size
+        if behind < size:
+            raise self.torn()
+        bundle = self.bytes_at(self.end + FRAME.size, size)
+        if len(bundle) < size:
+            raise self.torn()
+        if told != sha1(self.digest + sha1(bundle)):
+            raise self.damaged()
+        self.digest = told
+        self.end += FRAME.size + size
+        self.count += 1
+        return bundle
+
+    def damaged(self):
+        return self.bad(_(b'is damaged behind %d whole pushes') % self.count)
+
+    def torn(self):
+        return self.bad(_(b'is torn behind %d whole pushes') % self.count)
+
+    def isreplaced(self):
+        """Whether another file has the store's name, as after a cut."""
+        try:
+            now = os.stat(self.path)
+        except FileNotFoundError:
+            return False
+        here = os.fstat(self.file.fileno())
+        return (now.st_dev, now.st_ino) != (here.st_dev, here.st_ino)
+
+
+def fromstore(found, state, once):
+    """Each bundle of a store, those to come too unless once."""
+    while True:
+        bundle = found.next()
+        if bundle is not None:
+            yield bundle
+            continue
+        if found.count < state.count:
+            raise fewer(found, state)
+        if once:
+            return
+        time.sleep(PAUSE)
+        if found.isreplaced():
+            raise badstore(
+                _(b'another file is in the place of %s now') % found.path,
+                hint=_(b'start the mirror again: it compares the two'),
+            )
+
+
+def fewer(found, state):
+    return badstore(
+        _(b'%d pushes were mirrored here, and %s has %d')
+        % (state.count, found.path, found.count),
+        hint=_(b'was the store cut? then mirror it to a new repository'),
+    )
+
+
+class logreader:
+    """Bundles that follow each other, as `hg_pushd log` writes them."""
+
+    def __init__(self, file):
+        self.file = file
+        self.pieces = []
+
+    def take(self, size):
+        while size:
+            piece = self.file.read(min(size, 1 << 20))
+            if not piece:
+                raise badstore(
+                    _(b'the log ends in the middle of a push'),
+                    hint=_(b'the pushes before it were mirrored'),
+                )
+            self.pieces.append(piece)
+            size -= len(piece)
+
+    def number(self, form='>I'):
+        start = len(self.pieces)
+        self.take(4)
+        return struct.unpack(form, b''.join(self.pieces[start:]))[0]
+
+    def block(self):
+        """A size and so many bytes; whether there were any."""
+        size = self.number()
+        self.take(size)
+        return size > 0
+
+    def payload(self, isinterrupting=False):
+        """Chunks up to one of size 0; size -1 is an interruption."""
+        while True:
+            size = self.number('>i')
+            if size == 0:
+                return
+            if size > 0:
+                self.take(size)
+            elif size == -1 and not isinterrupting:
+                if self.block():
+                    self.payload(isinterrupting=True)
+            else:
+                raise badstore(_(b'the log holds something else than pushes'))
+
+    def next(self):
+        """The next bundle; None at the end of the log."""
+        magic = self.file.read(4)
+        if not magic:
+            return None
+        self.pieces = [magic]
+        self.take(4 - len(magic))
+        if b''.join(self.pieces) != b'HG20':
+            raise badstore(_(b'the log holds something else than pushes'))
+        self.block()
+        while self.block():
+            self.payload()
+        return b''.join(self.pieces)
+
+
+class withoutchecks:
+    """A bundle without its parts `check:*`.
+
+    They say for which state a push was made. The server has compared that, of
+    all heads; Mercurial would compare what it shows, without hidden ones.
+    """
+
+    def __init__(self, bundle):
+        self.bundle = bundle
+
+    @property
+    def params(self):
+        return self.bundle.params
+
+    def iterparts(self):
+        for part in self.bundle.iterparts():
+            if not part.type.startswith(b'check:'):
+                yield part
+
+
+# What a client says in REPLYCAPS. Mercurial makes a reply where it is there;
+# a push that asked for none is run as one that did.
+CAPABILITIES = {
+    b'HG20': (),
+    b'bookmarks': (),
+    b'changegroup': (b'01', b'02'),
+    b'error': (b'abort', b'unsupportedcontent', b'pushraced', b'pushkey'),
+    b'obsmarkers': (b'V0',),
+    b'phases': (b'heads',),
+    b'pushkey': (),
+}
+
+
+class mirrored:
+    """How far a repository has come."""
+
+    def __init__(self, repo):
+        self.repo = repo
+        self.count, self.digest = 0, NOTHING
+        kept = repo.svfs.tryread(KEPT).split()
+        if kept:
+            self.count, self.digest = int(kept[0]), bytes.fromhex(
+                pycompat.sysstr(kept[1])
+            )
+
+    def apply(self, bundle):
+        """Applies the next push, and notes it in the same transaction."""
+        repo, count = self.repo, self.count + 1
+        digest = sha1(self.digest + sha1(bundle))
+
+        def note(file):
+            file.write(b'%d %s\n' % (count, digest.hex().encode()))
+
+        repo.ui.pushbuffer()
+        try:
+            with repo.wlock(), repo.lock(), repo.transaction(b'push') as tr:
+                url = b'mirror:%d' % self.count
+                tr.hookargs.update(
+                    {b'source': b'push', b'url': url, b'bundle2': b'1'}
+                )
+                tr.addfilegenerator(b'mirror', (KEPT,), note)
+                run(repo, tr, bundle)
+        finally:
+            told = repo.ui.popbuffer()
+        repo.ui.debug(told)
+        self.count, self.digest = count, digest
+
+
+def run(repo, tr, bundle):
+    """Runs a push inside a transaction."""
+    op = bundle2.bundleoperation(
+        repo, lambda: tr, captureoutput=False, source=b'push'
+    )
+    op.reply = bundle2.bundle20(repo.ui, CAPABILITIES)
+    parts = exchange.readbundle(repo.ui, util.stringio(bundle), None)
+    bundle2.processbundle(repo, withoutchecks(parts), op=op)
+
+
+def refused(place, fault):
+    """What is said of a push that Mercurial refuses."""
+    reason = stringutil.forcebytestr(fault)
+    if not isinstance(fault, error.Abort):
+        name = pycompat.sysbytes(type(fault).__name__)
+        reason = b'%s: %s' % (name, reason)
+    return error.Abort(
+        _(b'Mercurial refuses push %d: %s') % (place, reason),
+        hint=_(
+            b'nothing of it was applied, and the pushes before it are here; to '
+            b'go on, end the server, cut its store at place %d, and push what '
+            b'is still wanted of the pushes from there on again'
+        )
+        % place,
+    )
+
+
+def prepare(repo):
+    """Rolls back what was not finished when the mirror was killed."""
+    with repo.wlock(), repo.lock():
+        if repo.svfs.exists(b'journal'):
+            repo.recover()
+    repo.invalidateall()
+
+
+def checkpublishing(repo, found):
+    """Those who pull have to be told what the server tells those who push."""
+    if repo.publishing() == found.publishing:
+        return
+    told = b'yes' if found.publishing else b'no'
+    raise error.Abort(
+        _(b'phases.publish of this repository is not what the store says'),
+        hint=_(b"set 'publish = %s' in [phases] of .hg/hgrc") % told,
+    )
+
+
+def configure(ui):
+    settings = [
+        (b'experimental', b'evolution', b'all'),
+        (b'experimental', b'evolution.report-instabilities', False),
+        (b'server', b'validate', True),
+    ]
+    for section, name, value in settings:
+        ui.setconfig(section, name, value, b'mirror')
+
+
+def follow(ui, state, bundles, place):
+    """Applies what is not applied yet; the bundles begin at that place."""
+    digest = NOTHING if place == 0 else None
+    for bundle in bundles:
+        if place < state.count:
+            if digest is not None:
+                digest = sha1(digest + sha1(bundle))
+                checksame(state, place + 1, digest)
+        else:
+            applynext(ui, state, bundle)
+        place += 1
+
+
+def applynext(ui, state, bundle):
+    place = state.count
+    try:
+        state.apply(bundle)
+    except (OSError, error.LockError, MemoryError):
+        raise
+    except Exception as fault:
+        ui.traceback()
+        raise refused(place, fault)
+    ui.note(_(b'push %d mirrored\n') % place)
+
+
+def checksame(state, count, digest):
+    """The pushes that were mirrored have to be those that are read."""
+    if count == state.count and digest != state.digest:
+        raise error.Abort(
+            _(b'the first %d pushes are not those mirrored here') % count,
+            hint=_(b'this repository is the mirror of another store'),
+        )
+
+
+@command(
+    b'mirror',
+    [
+        (b'', b'store', b'', _(b'folder of the store'), _(b'DIR')),
+        (b'', b'log', b'', _(b'read bundles from a file or a pipe'), _(b'FILE')),
+        (b'', b'from', 0, _(b'place of the first push of --log'), _(b'N')),
+        (b'', b'once', False, _(b'end when all pushes are applied')),
+    ],
+    _(b'(--store DIR [--once] | --log FILE [--from N])'),
+    helpcategory=command.CATEGORY_REMOTE_REPO_MANAGEMENT,
+)
+def mirror(ui, repo, **opts):
+    """apply the pushes of a store to this repository
+
+    With --store the pushes of the store in the folder DIR are applied, and
+    those that come as they come, until the command is ended; with --once it
+    ends when all that are there are applied. The server may run meanwhile.
+
+    With --log the pushes are read from FILE, or from standard input where
+    FILE is ``-``, one bundle after the other. The first of them is that of
+    the place N, 0 if left out. Pushes that were applied before are passed
+    over. It ends with the file, or when what writes the pipe ends.
+
+    A push that Mercurial refuses is told with its place and the reason, and
+    nothing of it is applied. The command ends there, with all pushes before
+    it applied. The status is then 255, as where the store cannot be read.
+
+    Returns 0 if all pushes were applied.
+    """
+    folder, log = opts['store'], opts['log']
+    if bool(folder) == bool(log):
+        raise error.InputError(_(b'either --store or --log has to be given'))
+    repo = repo.unfiltered()
+    configure(repo.ui)
+    prepare(repo)
+    state = mirrored(repo)
+    before = state.count
+    if folder:
+        found = store(folder)
+        checkpublishing(repo, found)
+        bundles, first = fromstore(found, state, opts['once']), 0
+    else:
+        bundles, first = fromlog(ui, log), opts['from']
+        if first < 0:
+            raise error.InputError(_(b'no push has a place below 0'))
+        if first > state.count:
+            raise error.Abort(
+                _(b'%d pushes were mirrored here: the log begins behind them')
+                % state.count
+            )
+    try:
+        follow(ui, state, bundles, first)
+    finally:
+        ui.status(
+            _(b'%d pushes mirrored, %d in all\n')
+            % (state.count - before, state.count)
+        )
+
+
+def fromlog(ui, name):
+    file = ui.fin if name == b'-' else open(name, 'rb')
+    reader = logreader(file)
+    while True:
+        bundle = reader.next()
+        if bundle is None:
+            return
+        yield bundle

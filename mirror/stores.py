@@ -1,0 +1,134 @@
+"""What check.py and refused.py share: stores, repositories, what a repository holds."""
+
+import hashlib
+import os
+import shutil
+import struct
+import subprocess
+import sys
+
+HERE = os.path.dirname(os.path.abspath(__file__))
+EXTENSION = os.path.join(HERE, "mirror.py")
+LIMITS = (65536, 67108864, 268435456, 10000, 16777216, 1024, 2147483647)
+
+SETTINGS = """\
+[ui]
+username = someone
+[phases]
+publish = no
+[experimental]
+evolution = all
+[extensions]
+mirror = {}
+[web]
+allow-push = *
+push_ssl = no
+"""
+
+
+def sha1(data):
+    return hashlib.sha1(data).digest()
+
+
+def head(publishing=False):
+    return struct.pack(">8sBB7I", b"HGPUSHES", 1, publishing, *LIMITS)
+
+
+def store(bundles, publishing=False, end=b"\0"):
+    """The bytes of a store."""
+    found = head(publishing)
+    digest = sha1(found)
+    for bundle in bundles:
+        digest = sha1(digest + sha1(bundle))
+        found += struct.pack(">BI", 1, len(bundle)) + digest + bundle
+    return found + end
+
+
+def write(folder, data):
+    os.makedirs(folder, exist_ok=True)
+    with open(f"{folder}/pushes", "wb") as file:
+        file.write(data)
+
+
+class Place:
+    """A folder with settings of its own, in which `hg` is run."""
+
+    def __init__(self, folder):
+        self.folder = folder
+        with open(f"{folder}/hgrc", "w", encoding="utf-8") as file:
+            file.write(SETTINGS.format(EXTENSION))
+        self.environment = {
+            "PATH": os.environ["PATH"], "HGRCPATH": f"{folder}/hgrc", "HGPLAIN": "1", "LC_ALL": "C.UTF-8",
+            "HOME": folder,
+        }
+
+    def start(self, *words, **more):
+        return subprocess.Popen(["hg", *words], cwd=self.folder, env=self.environment, stdin=subprocess.DEVNULL,
+                                stdout=subprocess.PIPE, stderr=subprocess.STDOUT, **more)
+
+    def run(self, *words, given=None):
+        """The status of `hg` and what it said."""
+        done = subprocess.run(["hg", *words], cwd=self.folder, env=self.environment, input=given or b"",
+                              stdout=subprocess.PIPE, stderr=subprocess.STDOUT, check=False)
+        return done.returncode, done.stdout.decode("utf-8", "replace")
+
+    def hg(self, *words, statuses=(0,)):
+        status, said = self.run(*words)
+        if status not in statuses:
+            raise SystemExit(f"hg {' '.join(words)}: status {status}\n{said}")
+        return said
+
+    def repository(self, name, publishing=False):
+        self.hg("init", name)
+        if publishing:
+            with open(f"{self.folder}/{name}/.hg/hgrc", "w", encoding="utf-8") as file:
+                file.write("[phases]\npublish = yes\n")
+        return name
+
+    def state(self, name):
+        """The lines of what a repository holds: changesets in order with phases, bookmarks, markers."""
+        return (self.hg("log", "--hidden", "-R", name, "-r", "all()", "-T", "{node} {phase} {branch} {desc}\n")
+                + self.hg("bookmarks", "-R", name, "-T", "bookmark {bookmark} {node}\n")
+                .replace("no bookmarks set\n", "")
+                + self.hg("debugobsolete", "-R", name)).splitlines()
+
+    def mirror(self, repository, folder, *more):
+        """Mirrors all of a store, with settings that would drop markers and take what is not whole."""
+        return self.run("mirror", "-R", repository, "--store", folder, "--once", "--config",
+                        "experimental.evolution=", "--config", "server.validate=no", *more)
+
+    def count(self, repository):
+        """How many pushes a repository says that it has."""
+        try:
+            with open(f"{self.folder}/{repository}/.hg/store/pushes-mirrored", encoding="ascii") as file:
+                return int(file.read().split()[0])
+        except FileNotFoundError:
+            return 0
+
+
+class Results:
+    """What was seen as wanted, and what was not."""
+
+    def __init__(self, name):
+        self.name, self.good, self.bad = name, 0, 0
+
+    def see(self, what, is_good, why=""):
+        self.good += is_good
+        self.bad += not is_good
+        if not is_good:
+            print(f"{self.name}: {what}: not as wanted. {why}".rstrip())
+
+    def same(self, what, found, wanted):
+        lines = [f"- {line}" for line in wanted if line not in found]
+        lines += [f"+ {line}" for line in found if line not in wanted]
+        self.see(what, found == wanted, "\n".join(lines[:20]) or "other order")
+
+    def end(self, words):
+        print(f"{self.name}: {words}: {self.good} as wanted, {self.bad} not")
+        sys.exit(1 if self.bad else 0)
+
+
+def skip_without_hg(name):
+    if not shutil.which("hg"):
+        print(f"{name}: skipped, the command hg is not installed")
+        sys.exit(0)
