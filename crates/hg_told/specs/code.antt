@@ -1,2 +1,3 @@
 pub mod Behind
 pub mod Hiding
+pub mod Branches

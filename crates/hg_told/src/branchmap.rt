@@ -1,7 +1,13 @@
 //! The answer to `branchmap`: the branches with their heads.
 
-ghost use Rattle.std.specs.Prelude.{◌≡◌, ◌<◌, ◌≤◌, ◌++◌, IfOk, OnOk, length};
-ghost use Rattle.hg_told.specs.BranchMap.{is_unquoted, quoted, quoted_byte};
+ghost use Rattle.std.specs.Prelude.{◌≡◌, ◌↔◌, ◌<◌, ◌≤◌, ◌==◌, ◌++◌, ◌⊎◌, ℕ, All, Contains, length, map, not, slice_index};
+ghost use Rattle.std.specs.Prelude.{IfOk, OnOk};
+ghost use Rattle.std.specs.Int.{bit_at};
+ghost use Rattle.std.specs.List.{flat_map};
+ghost use Rattle.hg_told.specs.BranchMap.{head_word, is_unquoted, quoted, quoted_byte, IsBranchMap};
+ghost use Rattle.hg_told.specs.Text.{ended};
+ghost use Rattle.hg_told.specs.code.Behind.{IsIn};
+ghost use Rattle.hg_told.specs.code.Branches.{branch_at, is_last_in, kept_line, AreBranches, AreSetsOf, IsKept};
 
 use crate::behind::{add_sets, no_sets, sets_behind};
 use crate::branch::push_branch;
@@ -38,16 +44,13 @@ pub fn branchmap_text<A: Allocator + Copy>(
     alloc: A,
     log: &Changelog<A>,
     markers: &Markers<A>,
-) -> Result<Seq<u8, A>, NoMemory> {
+) -> Result<Seq<u8, A>, NoMemory>
+    ensures { IfOk result (λ text. IsBranchMap log.now.rows markers.now text) }
+{
     let hidden = hidden_changesets(alloc, log, markers)?;
     let branches = branches_of(alloc, log, hidden.as_slice())?;
     let mut lines = Vec::new(alloc);
-    let mut rest = branches.as_slice();
-    while !rest.is_empty() {
-        let (some, more) = rest.split_at(rest.len().min(BRANCHES));
-        push_branches(alloc, &mut lines, log, some)?;
-        rest = more;
-    }
+    push_lines(alloc, &mut lines, log, branches.as_slice())?;
     Ok(joined(lines))
 }
 
@@ -58,6 +61,8 @@ fn branches_of<A: Allocator + Copy>(
     hidden: &[bool],
 ) -> Result<Vec<Branch<A>, A>, NoMemory>
     requires { length hidden.now ≡ length log.now.rows }
+    ensures { IfOk result (λ v. AreBranches log.now.rows hidden.now (length log.now.rows)
+        (map (λ b. (b.name.items, b.revs.items)) v.items)) }
 {
     let members = members_of(alloc, log, hidden)?;
     let mut branches = Vec::new(alloc);
@@ -73,6 +78,8 @@ fn members_of<A: Allocator + Copy>(
     hidden: &[bool],
 ) -> Result<Members<A>, NoMemory>
     requires { length hidden.now ≡ length log.now.rows }
+    ensures { IfOk result (λ m. AreBranches log.now.rows hidden.now (length log.now.rows)
+        (map (λ e. (e.0.items, e.1.items)) m.entries)) }
 {
     let mut members = BTreeMap::new(alloc);
     for rev in 0..log.len() {
@@ -83,6 +90,7 @@ fn members_of<A: Allocator + Copy>(
     Ok(members)
 }
 
+/// Adds a changeset to those of its branch.
 fn add_member<A: Allocator + Copy>(
     alloc: A,
     members: &mut Members<A>,
@@ -90,6 +98,9 @@ fn add_member<A: Allocator + Copy>(
     rev: u32,
 ) -> Result<(), NoMemory>
     requires { rev < length log.now.rows }
+    ensures { OnOk result (IsKept (branch_at log.now.rows rev) rev
+        (map (λ e. (e.0.items, e.1.items)) members.old.entries)
+        (map (λ e. (e.0.items, e.1.items)) members.new.entries)) }
 {
     let mut name = Vec::new(alloc);
     push_branch(&mut name, log.text(rev))?;
@@ -103,19 +114,42 @@ fn add_member<A: Allocator + Copy>(
     Ok(())
 }
 
-/// Adds the lines of up to 64 branches.
-fn push_branches<A: Allocator + Copy>(
+/// Adds the lines of branches.
+fn push_lines<A: Allocator + Copy>(
     alloc: A,
     lines: &mut Vec<u8, A>,
     log: &Changelog<A>,
     branches: &[Branch<A>],
 ) -> Result<(), NoMemory>
-    requires { length branches.now ≤ 64 }
+    requires { All (λ b. All (λ r. r < length log.now.rows) b.revs.items) branches.now }
+    ensures { OnOk result (lines.new.items ≡ lines.old.items ++ flat_map (ended 10)
+        (map (λ b. kept_line log.now.rows (b.name.items, b.revs.items)) branches.now)) }
+{
+    let mut rest = branches;
+    while !rest.is_empty() {
+        let (some, more) = rest.split_at(rest.len().min(BRANCHES));
+        push_some_lines(alloc, lines, log, some)?;
+        rest = more;
+    }
+    Ok(())
+}
+
+/// Adds the lines of up to 64 branches.
+fn push_some_lines<A: Allocator + Copy>(
+    alloc: A,
+    lines: &mut Vec<u8, A>,
+    log: &Changelog<A>,
+    branches: &[Branch<A>],
+) -> Result<(), NoMemory>
+    requires few { length branches.now ≤ 64 }
+    requires within { All (λ b. All (λ r. r < length log.now.rows) b.revs.items) branches.now }
+    ensures { OnOk result (lines.new.items ≡ lines.old.items ++ flat_map (ended 10)
+        (map (λ b. kept_line log.now.rows (b.name.items, b.revs.items)) branches.now)) }
 {
     let sets = sets_of(alloc, log.len(), branches)?;
     let behind = sets_behind(alloc, log, sets.as_slice())?;
     for (place, branch) in branches.iter().enumerate() {
-        push_branch_line(lines, log, branch, behind.as_slice(), place)?;
+        push_line(lines, log, branch, behind.as_slice(), place)?;
     }
     Ok(())
 }
@@ -126,8 +160,10 @@ fn sets_of<A: Allocator + Copy>(
     len: usize,
     branches: &[Branch<A>],
 ) -> Result<Vec<u64, A>, NoMemory>
-    requires { length branches.now ≤ 64 }
-    ensures { IfOk result (λ sets. length sets.items ≡ len) }
+    requires few { length branches.now ≤ 64 }
+    requires within { All (λ b. All (λ r. r < len) b.revs.items) branches.now }
+    ensures as_long { IfOk result (λ sets. length sets.items ≡ len) }
+    ensures each { IfOk result (λ sets. AreSetsOf (map (λ b. b.revs.items) branches.now) sets.items) }
 {
     let mut sets = no_sets(alloc, len)?;
     for (place, branch) in branches.iter().enumerate() {
@@ -138,17 +174,35 @@ fn sets_of<A: Allocator + Copy>(
 
 /// Adds the set of a number to those of each changeset of a branch.
 fn add_branch<A: Allocator>(sets: &mut Vec<u64, A>, revs: &[u32], place: usize)
-    requires { place < 64 }
-    ensures { length sets.new.items ≡ length sets.old.items }
+    requires place { place < 64 }
+    requires within { All (λ r. r < length sets.old.items) revs.now }
+    ensures as_long { length sets.new.items ≡ length sets.old.items }
+    ensures each { (r k : ℕ) → IsIn sets.new.items r k
+        ↔ (IsIn sets.old.items r k ⊎ ((k ≡ place) × Contains revs.now r)) }
 {
     for rev in revs {
-        if (*rev as usize) < sets.len() {
-            add_sets(sets, Some(*rev), 1 << place);
-        }
+        add_sets(sets, Some(*rev), set_of(place));
     }
 }
 
-fn push_branch_line<A: Allocator>(
+/// The set of a number, alone.
+fn set_of(place: usize) -> u64
+    requires { place < 64 }
+    ensures { (k : ℕ) → (bit_at result k ≡ 1) ↔ (k ≡ place) }
+{
+    1 << place
+}
+
+/// Whether the set of a number is among these.
+fn has_set(sets: u64, place: usize) -> bool
+    requires { place < 64 }
+    ensures { result ≡ (bit_at sets place == 1) }
+{
+    sets >> place & 1 == 1
+}
+
+/// Adds the line of a branch, whose number is told.
+fn push_line<A: Allocator>(
     lines: &mut Vec<u8, A>,
     log: &Changelog<A>,
     branch: &Branch<A>,
@@ -157,15 +211,29 @@ fn push_branch_line<A: Allocator>(
 ) -> Result<(), NoMemory>
     requires place { place < 64 }
     requires rows { length behind.now ≡ length log.now.rows }
+    requires within { All (λ r. r < length log.now.rows) branch.now.revs.items }
+    requires last { (r : ℕ) → r < length log.now.rows
+        → is_last_in log.now.rows branch.now.revs.items r ≡ not (bit_at (slice_index behind.now r) place == 1) }
+    ensures { OnOk result (lines.new.items ≡ lines.old.items
+        ++ ended 10 (kept_line log.now.rows (branch.now.name.items, branch.now.revs.items))) }
 {
     push_quoted(lines, branch.name.as_slice())?;
     for rev in branch.revs.as_slice() {
-        if (*rev as usize) < behind.len() && behind[*rev as usize] >> place & 1 == 0 {
-            lines.push(b' ')?;
-            lines.extend_from_slice(digits_of(&log.node(*rev)).as_slice())?;
+        if !has_set(behind[*rev as usize], place) {
+            push_head(lines, log, *rev)?;
         }
     }
     lines.push(b'\n')?;
+    Ok(())
+}
+
+/// Adds a space and the id of a head.
+fn push_head<A: Allocator>(lines: &mut Vec<u8, A>, log: &Changelog<A>, rev: u32) -> Result<(), NoMemory>
+    requires { rev < length log.now.rows }
+    ensures { OnOk result (lines.new.items ≡ lines.old.items ++ head_word log.now.rows rev) }
+{
+    lines.push(b' ')?;
+    lines.extend_from_slice(digits_of(&log.node(rev)).as_slice())?;
     Ok(())
 }
 

@@ -1,0 +1,28 @@
+use Rattle.std.proofs.Common.{rules, ◌≡◌, ◌↔◌, ◌<◌, ◌≤◌, ◌==◌, ◌++◌, ◌⊎◌, ℕ, All, Contains, length, map, not, slice_index, IfOk, OnOk, ◌+◌, ◌-◌, ◌*◌, ◌/◌, ◌%◌, Bool, true, false, nat_eq, nat_lt, List, [], ◌∷◌, slice_index_or, slice_set, bit_and, bit_or, Fits, w8, w32, w64, Bor, MutBor}
+use Rattle.std.specs.Int.{bit_at}
+use Rattle.std.specs.List.{flat_map}
+use Rattle.hg_told.specs.BranchMap.{head_word, is_unquoted, quoted, quoted_byte, IsBranchMap}
+use Rattle.hg_told.specs.Text.{ended}
+use Rattle.hg_told.specs.code.Behind.{IsIn}
+use Rattle.hg_told.specs.code.Branches.{branch_at, is_last_in, kept_line, AreBranches, AreSetsOf, IsKept}
+use Rattle.hg_told.proofs.branchmap.push_lines.Goals as goal
+
+-- src/branchmap.rt:129:5
+pub loop-rest-init : goal.loop-rest-init
+loop-rest-init g c = ?
+
+-- src/branchmap.rt:131:9
+pub push_some_lines-requires-clause-within : goal.push_some_lines-requires-clause-within
+push_some_lines-requires-clause-within g c = ?
+
+-- src/branchmap.rt:129:5
+pub loop-rest-smaller : goal.loop-rest-smaller
+loop-rest-smaller g c = ?
+
+-- src/branchmap.rt:129:5
+pub loop-rest-preserved : goal.loop-rest-preserved
+loop-rest-preserved g c = ?
+
+-- src/branchmap.rt:118:1
+pub returns : goal.returns
+returns g c = ?

@@ -1,0 +1,14 @@
+use Rattle.std.proofs.Common.{◌≡◌, ◌↔◌, ◌<◌, ◌≤◌, ◌==◌, ◌++◌, ◌⊎◌, ℕ, All, Contains, length, map, not, slice_index, IfOk, OnOk, ◌+◌, ◌-◌, ◌*◌}
+use Rattle.std.specs.Int.{bit_at}
+use Rattle.std.specs.List.{flat_map}
+use Rattle.hg_told.specs.BranchMap.{head_word, is_unquoted, quoted, quoted_byte, IsBranchMap}
+use Rattle.hg_told.specs.Text.{ended}
+use Rattle.hg_told.specs.code.Behind.{IsIn}
+use Rattle.hg_told.specs.code.Branches.{branch_at, is_last_in, kept_line, AreBranches, AreSetsOf, IsKept}
+use Rattle.hg_told.proofs.branchmap.push_lines.Given as goal
+
+abbrev pub invariant-loop-rest : goal.invariant-loop-rest
+invariant-loop-rest g l = ?
+
+abbrev pub decreases-loop-rest : goal.decreases-loop-rest
+decreases-loop-rest g l = ?
