@@ -23,13 +23,13 @@ use Rattle.hg_told.proofs.Lines.{has_id}
 
 -- ---- a list that grows at its end
 
-pushed_before : {X : Type 0} (xs : List X) (y d : X) (r : ℕ) → r < length xs
+pub pushed_before : {X : Type 0} (xs : List X) (y d : X) (r : ℕ) → r < length xs
     → get_or (xs ++ y ∷ []) r d ≡ get_or xs r d
 pushed_before [] y d r low = absurd (omega (arith, low))
 pushed_before (x ∷ xs) y d zero low = refl
 pushed_before (x ∷ xs) y d (suc r) low = pushed_before xs y d r (omega (arith, low))
 
-pushed_here : {X : Type 0} (xs : List X) (y d : X) → get_or (xs ++ y ∷ []) (length xs) d ≡ y
+pub pushed_here : {X : Type 0} (xs : List X) (y d : X) → get_or (xs ++ y ∷ []) (length xs) d ≡ y
 pushed_here [] y d = refl
 pushed_here (x ∷ xs) y d = pushed_here xs y d
 

@@ -10,3 +10,6 @@ mod Extras
 mod Gathering
 mod Hiding
 mod Quoting
+mod Branching
+mod BranchSets
+mod BranchLines

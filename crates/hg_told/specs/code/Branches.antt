@@ -50,7 +50,7 @@ pub record AreBranches (rows : List Changeset) (hidden : List Bool) (n : ℕ)
 pub record IsKept (name : List ℕ) (r : ℕ) (old new : List (List ℕ × List ℕ)) : Type 0 where
   pub ascending : IsStrictlySortedBy (slice_cmp nat_cmp) (keys_of new)
   pub each : (other : List ℕ) → kept_at other new
-      ≡ (if is_name name other then Some (unwrap_or (kept_at name old) [] ++ r ∷ []) else kept_at other old)
+      ≡ (if is_name other name then Some (unwrap_or (kept_at name old) [] ++ r ∷ []) else kept_at other old)
 
 -- no other of these rows is a descendant of that one
 abbrev pub is_last_in : List Changeset → List ℕ → ℕ → Bool
@@ -65,9 +65,8 @@ kept_line rows branch = branch_line rows (branch.0, heads_in rows branch.1)
 
 -- the row is in the list of that number
 pub record IsListed (lists : List (List ℕ)) (r k : ℕ) : Type 0 where
-  pub list : List ℕ
-  pub list_at : slice_get lists k ≡ Some list
-  pub has : Contains list r
+  pub within : k < length lists
+  pub has : Contains (slice_index_or lists k []) r
 
 -- each list is the set of its number
 abbrev pub AreSetsOf : List (List ℕ) → List ℕ → Type 0

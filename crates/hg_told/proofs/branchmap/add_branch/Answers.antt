@@ -1,28 +1,26 @@
-use Rattle.std.proofs.Common.{rules, ◌≡◌, ◌↔◌, ◌<◌, ◌≤◌, ◌==◌, ◌++◌, ◌⊎◌, ℕ, All, Contains, length, map, not, slice_index, IfOk, OnOk, ◌+◌, ◌-◌, ◌*◌, ◌/◌, ◌%◌, Bool, true, false, nat_eq, nat_lt, List, [], ◌∷◌, slice_index_or, slice_set, bit_and, bit_or, Fits, w8, w32, w64, Bor, MutBor}
-use Rattle.std.specs.Int.{bit_at}
-use Rattle.std.specs.List.{flat_map}
-use Rattle.hg_told.specs.BranchMap.{head_word, is_unquoted, quoted, quoted_byte, IsBranchMap}
-use Rattle.hg_told.specs.Text.{ended}
-use Rattle.hg_told.specs.code.Behind.{IsIn}
-use Rattle.hg_told.specs.code.Branches.{branch_at, is_last_in, kept_line, AreBranches, AreSetsOf, IsKept}
+use Rattle.std.proofs.Common.{◌≡◌, ◌∙◌, ap, arith, length, get_or, sym, take}
+use Rattle.std.proofs.lemmas.List.{take_all}
+use Rattle.hg_told.proofs.BranchSets.{set_all, set_more, set_none}
 use Rattle.hg_told.proofs.branchmap.add_branch.Goals as goal
 
--- src/branchmap.rt:183:5
 pub loop-rev-init : goal.loop-rev-init
-loop-rev-init g c = ?
+loop-rev-init g c = (search rules, set_none c.args.sets.now.items c.args.revs.now c.args.place)
 
--- src/branchmap.rt:184:9
 pub add_sets-requires : goal.add_sets-requires
-add_sets-requires g c = ?
+add_sets-requires g c =
+    omega (arith, c.loop-rev.invariant.0, c.requires.within c.loop-rev.rev-index 0 c.loop-rev-test.true)
 
--- src/branchmap.rt:183:5
 pub loop-rev-preserved : goal.loop-rev-preserved
-loop-rev-preserved g c = ?
+loop-rev-preserved g c = (
+  c.add_sets.ensures.as_long ∙ c.loop-rev.invariant.0,
+  set_more c.args.sets.now.items c.loop-rev.sets.items _ c.args.revs.now c.args.place c.loop-rev.rev-index _
+      c.loop-rev-test.true c.loop-rev.invariant.1 c.set_of.ensures c.add_sets.ensures,
+)
 
--- src/branchmap.rt:176:1
 pub returns-clause-as_long : goal.returns-clause-as_long
-returns-clause-as_long g c = ?
+returns-clause-as_long g c = c.loop-rev.invariant.0
 
--- src/branchmap.rt:176:1
 pub returns-clause-each : goal.returns-clause-each
-returns-clause-each g c = ?
+returns-clause-each g c =
+    set_all c.args.sets.now.items c.loop-rev.sets.items c.args.revs.now c.args.place c.loop-rev.rev-index
+    c.loop-rev-test.false c.loop-rev.invariant.1

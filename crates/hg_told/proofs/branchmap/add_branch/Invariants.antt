@@ -1,11 +1,10 @@
-use Rattle.std.proofs.Common.{◌≡◌, ◌↔◌, ◌<◌, ◌≤◌, ◌==◌, ◌++◌, ◌⊎◌, ℕ, All, Contains, length, map, not, slice_index, IfOk, OnOk, ◌+◌, ◌-◌, ◌*◌}
-use Rattle.std.specs.Int.{bit_at}
-use Rattle.std.specs.List.{flat_map}
-use Rattle.hg_told.specs.BranchMap.{head_word, is_unquoted, quoted, quoted_byte, IsBranchMap}
-use Rattle.hg_told.specs.Text.{ended}
+use Rattle.std.proofs.Common.{◌≡◌, ◌⊎◌, ◌↔◌, ℕ, length, take}
+use Rattle.std.specs.Prelude.{Contains}
 use Rattle.hg_told.specs.code.Behind.{IsIn}
-use Rattle.hg_told.specs.code.Branches.{branch_at, is_last_in, kept_line, AreBranches, AreSetsOf, IsKept}
 use Rattle.hg_told.proofs.branchmap.add_branch.Given as goal
 
+-- those of the branch so far have the set
 abbrev pub invariant-loop-rev : goal.invariant-loop-rev
-invariant-loop-rev g l = ?
+invariant-loop-rev g l = (length l.sets.items ≡ length l.fn.sets.items)
+    × ((r k : ℕ) → IsIn l.sets.items r k
+    ↔ (IsIn l.fn.sets.items r k ⊎ ((k ≡ l.place) × Contains (take l.rev-index l.revs) r)))

@@ -1,16 +1,35 @@
-use Rattle.std.proofs.Common.{rules, ◌≡◌, ◌↔◌, ◌<◌, ◌≤◌, ◌==◌, ◌++◌, ◌⊎◌, ℕ, All, Contains, length, map, not, slice_index, IfOk, OnOk, ◌+◌, ◌-◌, ◌*◌, ◌/◌, ◌%◌, Bool, true, false, nat_eq, nat_lt, List, [], ◌∷◌, slice_index_or, slice_set, bit_and, bit_or, Fits, w8, w32, w64, Bor, MutBor}
-use Rattle.std.specs.Int.{bit_at}
-use Rattle.std.specs.List.{flat_map}
-use Rattle.hg_told.specs.BranchMap.{head_word, is_unquoted, quoted, quoted_byte, IsBranchMap}
-use Rattle.hg_told.specs.Text.{ended}
-use Rattle.hg_told.specs.code.Behind.{IsIn}
-use Rattle.hg_told.specs.code.Branches.{branch_at, is_last_in, kept_line, AreBranches, AreSetsOf, IsKept}
+use Rattle.std.proofs.Common.{◌∙◌, ap, subst, sym, List, ℕ, ◌++◌, ◌∷◌, [], Vec, map}
+use Rattle.std.specs.BTreeMap.{insert_entry}
+use Rattle.std.specs.Cmp.Lexicographic.{slice_cmp}
+use Rattle.std.specs.Ordering.{nat_cmp}
+use Rattle.hg_told.specs.Branch.{branch_of}
+use Rattle.hg_told.specs.code.Branches.{text_of, IsKept}
+use Rattle.hg_told.proofs.Branching.{kept_insert, kept_set}
 use Rattle.hg_told.proofs.branchmap.add_member.Goals as goal
 
--- src/branchmap.rt:94:1
 pub returns-in_ok-push-in-Some : goal.returns-in_ok-push-in-Some
-returns-in_ok-push-in-Some g c = ?
+returns-in_ok-push-in-Some g c =
+    let named = c.as_slice.ensures.value ∙ c.in_ok-push_branch.ensures
+    ∙ ap (λ (t : List ℕ). t ++ branch_of c.text.result.now) c.new-name.ensures.items
+    ∙ ap branch_of (sym c.text.ensures.text_is) ∙ ap (λ o. branch_of (text_of o)) (sym c.text.ensures.row_at) in
+    let written = c.get_mut.follows.holds c.push.new.self in
+    subst (λ name. IsKept name c.args.rev (map (λ e. (e.0.items, e.1.items)) c.args.members.now.entries)
+    (map (λ e. (e.0.items, e.1.items)) (c.get_mut.follows.lender c.push.new.self).entries)) named
+    (kept_set (λ (v : Vec ℕ g.row.A.Denot). v.items) (λ (v : Vec ℕ g.row.A.Denot). v.items) c.as_slice.result.now
+    c.args.rev _ _ c.in-Some.revs.now c.push.new.self c.in-Some.ensures.value written.0
+    c.in_ok-push-in-Some.ensures.items written.4)
 
--- src/branchmap.rt:94:1
 pub returns-in_ok-insert-in-None : goal.returns-in_ok-insert-in-None
-returns-in_ok-insert-in-None g c = ?
+returns-in_ok-insert-in-None g c =
+    let named = c.as_slice.ensures.value ∙ c.in_ok-push_branch.ensures
+    ∙ ap (λ (t : List ℕ). t ++ branch_of c.text.result.now) c.new-name.ensures.items
+    ∙ ap branch_of (sym c.text.ensures.text_is) ∙ ap (λ o. branch_of (text_of o)) (sym c.text.ensures.row_at) in
+    subst (λ name. IsKept name c.args.rev (map (λ e. (e.0.items, e.1.items)) c.args.members.now.entries)
+    (map (λ e. (e.0.items, e.1.items)) c.insert.new.self.entries)) named
+    (kept_insert (λ (v : Vec ℕ g.row.A.Denot). v.items) (λ (v : Vec ℕ g.row.A.Denot). v.items)
+    c.push_branch.new.name c.as_slice.result.now c.args.rev _ _ c.in_ok-revs-in-None.revs
+    (sym c.as_slice.ensures.value) c.in-None.ensures.value
+    (c.in_ok-insert-in-None.ensures.entries
+    ∙ ap (λ m. insert_entry (λ (x y : Vec ℕ g.row.A.Denot). slice_cmp nat_cmp x.items y.items) m.entries
+    c.push_branch.new.name c.in_ok-revs-in-None.revs) c.get_mut.follows.holds-at-none)
+    c.in_ok-revs-in-None.ensures.items c.in_ok-insert-in-None.ensures.ordered)

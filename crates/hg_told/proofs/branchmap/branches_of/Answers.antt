@@ -1,20 +1,20 @@
-use Rattle.std.proofs.Common.{rules, ◌≡◌, ◌↔◌, ◌<◌, ◌≤◌, ◌==◌, ◌++◌, ◌⊎◌, ℕ, All, Contains, length, map, not, slice_index, IfOk, OnOk, ◌+◌, ◌-◌, ◌*◌, ◌/◌, ◌%◌, Bool, true, false, nat_eq, nat_lt, List, [], ◌∷◌, slice_index_or, slice_set, bit_and, bit_or, Fits, w8, w32, w64, Bor, MutBor}
-use Rattle.std.specs.Int.{bit_at}
-use Rattle.std.specs.List.{flat_map}
-use Rattle.hg_told.specs.BranchMap.{head_word, is_unquoted, quoted, quoted_byte, IsBranchMap}
-use Rattle.hg_told.specs.Text.{ended}
-use Rattle.hg_told.specs.code.Behind.{IsIn}
-use Rattle.hg_told.specs.code.Branches.{branch_at, is_last_in, kept_line, AreBranches, AreSetsOf, IsKept}
+use Rattle.std.proofs.Common.{◌≡◌, ◌∙◌, ap, length, map, subst, sym, List, ℕ, ◌++◌, ◌∷◌, []}
+use Rattle.std.proofs.lemmas.List.{append-nil, append_assoc, map-append}
+use Rattle.std.proofs.lemmas.Map.Iter.{rest_all, rest_more}
+use Rattle.hg_told.specs.code.Branches.{AreBranches}
 use Rattle.hg_told.proofs.branchmap.branches_of.Goals as goal
 
--- src/branchmap.rt:69:5
 pub loop-name-init : goal.loop-name-init
 loop-name-init g c = ?
 
--- src/branchmap.rt:69:5
 pub loop-name-preserved : goal.loop-name-preserved
-loop-name-preserved g c = ?
+loop-name-preserved g c =
+    let left = rest_more (λ x. x) _ _ _ _ c.in-Some.is c.next.ensures.steps in
+    ?
 
--- src/branchmap.rt:58:1
 pub returns : goal.returns
-returns g c = ?
+returns g c =
+    let none = rest_all (λ x. x) _ _ _ c.in-None.is c.next.ensures.steps in
+    let all = c.loop-name.invariant in
+    let given = c.into_iter-name-iterator.ensures.into_iter_gives in
+    ?

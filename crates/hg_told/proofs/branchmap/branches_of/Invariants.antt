@@ -1,11 +1,8 @@
-use Rattle.std.proofs.Common.{◌≡◌, ◌↔◌, ◌<◌, ◌≤◌, ◌==◌, ◌++◌, ◌⊎◌, ℕ, All, Contains, length, map, not, slice_index, IfOk, OnOk, ◌+◌, ◌-◌, ◌*◌}
-use Rattle.std.specs.Int.{bit_at}
-use Rattle.std.specs.List.{flat_map}
-use Rattle.hg_told.specs.BranchMap.{head_word, is_unquoted, quoted, quoted_byte, IsBranchMap}
-use Rattle.hg_told.specs.Text.{ended}
-use Rattle.hg_told.specs.code.Behind.{IsIn}
-use Rattle.hg_told.specs.code.Branches.{branch_at, is_last_in, kept_line, AreBranches, AreSetsOf, IsKept}
+use Rattle.std.proofs.Common.{◌≡◌, ◌++◌, map}
 use Rattle.hg_told.proofs.branchmap.branches_of.Given as goal
 
+-- the branches so far, and those that are left
 abbrev pub invariant-loop-name : goal.invariant-loop-name
-invariant-loop-name g l = ?
+invariant-loop-name g l =
+    map (λ b. (b.name.items, b.revs.items)) l.branches.items ++ map (λ e. (e.0.items, e.1.items)) l.name-iterator
+    ≡ map (λ e. (e.0.items, e.1.items)) l.initial.name-iterator

@@ -1,20 +1,41 @@
-use Rattle.std.proofs.Common.{rules, ◌≡◌, ◌↔◌, ◌<◌, ◌≤◌, ◌==◌, ◌++◌, ◌⊎◌, ℕ, All, Contains, length, map, not, slice_index, IfOk, OnOk, ◌+◌, ◌-◌, ◌*◌, ◌/◌, ◌%◌, Bool, true, false, nat_eq, nat_lt, List, [], ◌∷◌, slice_index_or, slice_set, bit_and, bit_or, Fits, w8, w32, w64, Bor, MutBor}
-use Rattle.std.specs.Int.{bit_at}
-use Rattle.std.specs.List.{flat_map}
-use Rattle.hg_told.specs.BranchMap.{head_word, is_unquoted, quoted, quoted_byte, IsBranchMap}
-use Rattle.hg_told.specs.Text.{ended}
-use Rattle.hg_told.specs.code.Behind.{IsIn}
-use Rattle.hg_told.specs.code.Branches.{branch_at, is_last_in, kept_line, AreBranches, AreSetsOf, IsKept}
+use Rattle.std.proofs.Common.{◌≡◌, ◌∙◌, ◌<◌, ap, arith, length, map, ◌+◌, ◌≤◌, subst, sym, List, false, true, Bool}
+use Rattle.std.specs.Prelude.{slice_index_or}
+use Rattle.hg_told.specs.code.Branches.{AreBranches}
+use Rattle.hg_told.proofs.Branching.{branches_more, branches_none, branches_skip}
 use Rattle.hg_told.proofs.branchmap.members_of.Goals as goal
+use Rattle.hg_told.proofs.branchmap.members_of.Goals.{then-not-hidden-rev+in_ok-add_member, else-not-hidden-rev}
 
--- src/branchmap.rt:85:5
 pub loop-rev-init : goal.loop-rev-init
-loop-rev-init g c = ?
+loop-rev-init g c =
+    let rows = c.args.log.now.rows in (
+      omega arith,
+      subst (λ es. AreBranches rows c.args.hidden.now 0 (map (λ e. (e.0.items, e.1.items)) es))
+          (sym c.new-members.ensures.empty) (branches_none rows c.args.hidden.now),
+    )
 
--- src/branchmap.rt:85:5
 pub loop-rev-preserved : goal.loop-rev-preserved
-loop-rev-preserved g c = ?
+loop-rev-preserved g c =
+    let rows = c.args.log.now.rows in
+    let hidden = c.args.hidden.now in
+    let n = c.loop-rev.rev in
+    let held = c.loop-rev.invariant.1 in
+    let within : n + 1 ≤ length rows = omega (arith, c.loop-rev-test.true, c.len-rev-end.ensures.len) in
+    elim c.if-not-hidden-rev.branch [
+      | then-not-hidden-rev+in_ok-add_member w ↦ (
+        within,
+        subst (λ m. AreBranches rows hidden (n + 1) (map (λ e. (e.0.items, e.1.items)) m.entries)) (sym w.members-is)
+            (branches_more rows hidden n _ _ (w.if-not-hidden-rev.true) held w.in_ok-add_member.ensures),
+      )
+      | else-not-hidden-rev w ↦ (
+        within,
+        subst (λ m. AreBranches rows hidden (n + 1) (map (λ e. (e.0.items, e.1.items)) m.entries)) (sym w.members-is)
+            (branches_skip rows hidden n _ (w.if-not-hidden-rev.false) held),
+      )
+    ]
 
--- src/branchmap.rt:75:1
 pub returns : goal.returns
-returns g c = ?
+returns g c = 
+    let rows = c.args.log.now.rows in
+    let last : c.loop-rev.rev ≡ length rows = omega (arith, c.loop-rev.invariant.0, c.loop-rev-test.false) in
+    subst (λ n. AreBranches rows c.args.hidden.now n (map (λ e. (e.0.items, e.1.items)) c.loop-rev.members.entries)) last
+    c.loop-rev.invariant.1

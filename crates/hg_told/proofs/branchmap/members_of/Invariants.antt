@@ -1,11 +1,8 @@
-use Rattle.std.proofs.Common.{◌≡◌, ◌↔◌, ◌<◌, ◌≤◌, ◌==◌, ◌++◌, ◌⊎◌, ℕ, All, Contains, length, map, not, slice_index, IfOk, OnOk, ◌+◌, ◌-◌, ◌*◌}
-use Rattle.std.specs.Int.{bit_at}
-use Rattle.std.specs.List.{flat_map}
-use Rattle.hg_told.specs.BranchMap.{head_word, is_unquoted, quoted, quoted_byte, IsBranchMap}
-use Rattle.hg_told.specs.Text.{ended}
-use Rattle.hg_told.specs.code.Behind.{IsIn}
-use Rattle.hg_told.specs.code.Branches.{branch_at, is_last_in, kept_line, AreBranches, AreSetsOf, IsKept}
+use Rattle.std.proofs.Common.{◌≤◌, length, map}
+use Rattle.hg_told.specs.code.Branches.{AreBranches}
 use Rattle.hg_told.proofs.branchmap.members_of.Given as goal
 
+-- the branches of the rows so far
 abbrev pub invariant-loop-rev : goal.invariant-loop-rev
-invariant-loop-rev g l = ?
+invariant-loop-rev g l = (l.rev ≤ length l.log.rows)
+    × AreBranches l.log.rows l.hidden l.rev (map (λ e. (e.0.items, e.1.items)) l.members.entries)
