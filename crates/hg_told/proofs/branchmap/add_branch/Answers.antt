@@ -1,10 +1,9 @@
-use Rattle.std.proofs.Common.{◌≡◌, ◌∙◌, ap, arith, length, get_or, sym, take}
-use Rattle.std.proofs.lemmas.List.{take_all}
+use Rattle.std.proofs.Common.{◌∙◌, arith, refl}
 use Rattle.hg_told.proofs.BranchSets.{set_all, set_more, set_none}
 use Rattle.hg_told.proofs.branchmap.add_branch.Goals as goal
 
 pub loop-rev-init : goal.loop-rev-init
-loop-rev-init g c = (search rules, set_none c.args.sets.now.items c.args.revs.now c.args.place)
+loop-rev-init g c = (refl, set_none c.args.sets.now.items c.args.revs.now c.args.place)
 
 pub add_sets-requires : goal.add_sets-requires
 add_sets-requires g c =

@@ -1,24 +1,24 @@
-use Rattle.std.proofs.Common.{rules, ◌≡◌, ◌↔◌, ◌<◌, ◌≤◌, ◌==◌, ◌++◌, ◌⊎◌, ℕ, All, Contains, length, map, not, slice_index, IfOk, OnOk, ◌+◌, ◌-◌, ◌*◌, ◌/◌, ◌%◌, Bool, true, false, nat_eq, nat_lt, List, [], ◌∷◌, slice_index_or, slice_set, bit_and, bit_or, Fits, w8, w32, w64, Bor, MutBor}
-use Rattle.std.specs.Int.{bit_at}
-use Rattle.std.specs.List.{flat_map}
-use Rattle.hg_told.specs.BranchMap.{head_word, is_unquoted, quoted, quoted_byte, IsBranchMap}
-use Rattle.hg_told.specs.Text.{ended}
-use Rattle.hg_told.specs.code.Behind.{IsIn}
-use Rattle.hg_told.specs.code.Branches.{branch_at, is_last_in, kept_line, AreBranches, AreSetsOf, IsKept}
+use Rattle.std.proofs.Common.{◌∙◌, ap, arith, map, subst, take}
+use Rattle.std.proofs.lemmas.List.{take_all}
+use Rattle.hg_told.specs.code.Branches.{AreSetsOf}
+use Rattle.hg_told.proofs.BranchSets.{sets_more, sets_none}
 use Rattle.hg_told.proofs.branchmap.sets_of.Goals as goal
 
--- src/branchmap.rt:169:5
 pub loop-place-init : goal.loop-place-init
-loop-place-init g c = ?
+loop-place-init g c = (c.in_ok-sets.ensures.len, sets_none c.in_ok-sets.sets.items c.in_ok-sets.ensures.none)
 
--- src/branchmap.rt:169:5
 pub loop-place-preserved : goal.loop-place-preserved
-loop-place-preserved g c = ?
+loop-place-preserved g c = (
+  c.add_branch.ensures.as_long ∙ c.loop-place.invariant.0,
+  sets_more (λ b. b.revs.items) c.args.branches.now c.loop-place.place c.index-branches-place.result
+      c.loop-place.sets.items _ c.as_slice.result.now c.loop-place-test.true c.index-branches-place.is
+      c.as_slice.ensures.value c.loop-place.invariant.1 c.add_branch.ensures.each,
+)
 
--- src/branchmap.rt:158:1
 pub returns-clause-as_long : goal.returns-clause-as_long
-returns-clause-as_long g c = ?
+returns-clause-as_long g c = c.loop-place.invariant.0
 
--- src/branchmap.rt:158:1
 pub returns-clause-each : goal.returns-clause-each
-returns-clause-each g c = ?
+returns-clause-each g c =
+    subst (λ bs. AreSetsOf (map (λ b. b.revs.items) bs) c.loop-place.sets.items)
+    (take_all c.loop-place.place c.args.branches.now c.loop-place-test.false) c.loop-place.invariant.1

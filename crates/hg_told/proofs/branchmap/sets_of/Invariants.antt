@@ -1,11 +1,8 @@
-use Rattle.std.proofs.Common.{◌≡◌, ◌↔◌, ◌<◌, ◌≤◌, ◌==◌, ◌++◌, ◌⊎◌, ℕ, All, Contains, length, map, not, slice_index, IfOk, OnOk, ◌+◌, ◌-◌, ◌*◌}
-use Rattle.std.specs.Int.{bit_at}
-use Rattle.std.specs.List.{flat_map}
-use Rattle.hg_told.specs.BranchMap.{head_word, is_unquoted, quoted, quoted_byte, IsBranchMap}
-use Rattle.hg_told.specs.Text.{ended}
-use Rattle.hg_told.specs.code.Behind.{IsIn}
-use Rattle.hg_told.specs.code.Branches.{branch_at, is_last_in, kept_line, AreBranches, AreSetsOf, IsKept}
+use Rattle.std.proofs.Common.{◌≡◌, length, map, take}
+use Rattle.hg_told.specs.code.Branches.{AreSetsOf}
 use Rattle.hg_told.proofs.branchmap.sets_of.Given as goal
 
+-- the sets of the branches so far
 abbrev pub invariant-loop-place : goal.invariant-loop-place
-invariant-loop-place g l = ?
+invariant-loop-place g l = (length l.sets.items ≡ l.len)
+    × AreSetsOf (map (λ b. b.revs.items) (take l.place l.branches)) l.sets.items
