@@ -1,11 +1,11 @@
-use Rattle.std.proofs.Common.{◌≡◌, ◌↔◌, ◌<◌, ◌≤◌, ◌==◌, ◌++◌, ◌⊎◌, ℕ, All, Contains, length, map, not, slice_index, IfOk, OnOk, ◌+◌, ◌-◌, ◌*◌}
-use Rattle.std.specs.Int.{bit_at}
+use Rattle.std.proofs.Common.{◌≡◌, ◌++◌, filter, take}
 use Rattle.std.specs.List.{flat_map}
-use Rattle.hg_told.specs.BranchMap.{head_word, is_unquoted, quoted, quoted_byte, IsBranchMap}
-use Rattle.hg_told.specs.Text.{ended}
-use Rattle.hg_told.specs.code.Behind.{IsIn}
-use Rattle.hg_told.specs.code.Branches.{branch_at, is_last_in, kept_line, AreBranches, AreSetsOf, IsKept}
+use Rattle.hg_told.specs.BranchMap.{head_word, quoted}
+use Rattle.hg_told.specs.code.Branches.{is_last_in}
 use Rattle.hg_told.proofs.branchmap.push_line.Given as goal
 
+-- the name, and the heads among the changesets so far
 abbrev pub invariant-loop-rev : goal.invariant-loop-rev
-invariant-loop-rev g l = ?
+invariant-loop-rev g l = l.lines.items ≡ (l.fn.lines.items ++ quoted l.branch.name.items)
+    ++ flat_map (head_word l.log.rows)
+    (filter (is_last_in l.log.rows l.branch.revs.items) (take l.rev-index l.rev-items))

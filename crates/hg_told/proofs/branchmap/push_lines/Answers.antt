@@ -1,28 +1,34 @@
-use Rattle.std.proofs.Common.{rules, ◌≡◌, ◌↔◌, ◌<◌, ◌≤◌, ◌==◌, ◌++◌, ◌⊎◌, ℕ, All, Contains, length, map, not, slice_index, IfOk, OnOk, ◌+◌, ◌-◌, ◌*◌, ◌/◌, ◌%◌, Bool, true, false, nat_eq, nat_lt, List, [], ◌∷◌, slice_index_or, slice_set, bit_and, bit_or, Fits, w8, w32, w64, Bor, MutBor}
-use Rattle.std.specs.Int.{bit_at}
-use Rattle.std.specs.List.{flat_map}
-use Rattle.hg_told.specs.BranchMap.{head_word, is_unquoted, quoted, quoted_byte, IsBranchMap}
-use Rattle.hg_told.specs.Text.{ended}
-use Rattle.hg_told.specs.code.Behind.{IsIn}
-use Rattle.hg_told.specs.code.Branches.{branch_at, is_last_in, kept_line, AreBranches, AreSetsOf, IsKept}
+use Rattle.std.proofs.Common.{◌≡◌, ◌∙◌, ◌<◌, ap, arith, length, List, refl, subst, sym, true}
+use Rattle.std.specs.Prelude.{All}
+use Rattle.std.proofs.Common.{eqb-true}
+use Rattle.std.proofs.lemmas.List.Elements.{All-drop, All-take}
+use Rattle.hg_told.specs.code.Branches.{kept_line}
+use Rattle.hg_told.specs.declared.branchmap.Branch.{Branch}
+use Rattle.hg_told.proofs.BranchLines.{lines_done, lines_left}
 use Rattle.hg_told.proofs.branchmap.push_lines.Goals as goal
 
--- src/branchmap.rt:129:5
 pub loop-rest-init : goal.loop-rest-init
-loop-rest-init g c = ?
+loop-rest-init g c = (refl, c.requires)
 
--- src/branchmap.rt:131:9
 pub push_some_lines-requires-clause-within : goal.push_some_lines-requires-clause-within
-push_some_lines-requires-clause-within g c = ?
+push_some_lines-requires-clause-within g c =
+    subst (λ bs. All (λ (b : Branch g.row.A.Denot). All (λ r. r < length c.args.log.now.rows) b.revs.items) bs)
+    (sym c.split_at.ensures.front)
+    (All-take (λ (b : Branch g.row.A.Denot). All (λ r. r < length c.args.log.now.rows) b.revs.items) _
+    c.loop-rest.rest.now c.loop-rest.invariant.1)
 
--- src/branchmap.rt:129:5
-pub loop-rest-smaller : goal.loop-rest-smaller
-loop-rest-smaller g c = ?
-
--- src/branchmap.rt:129:5
 pub loop-rest-preserved : goal.loop-rest-preserved
-loop-rest-preserved g c = ?
+loop-rest-preserved g c = (
+  lines_left (λ (b : Branch g.row.A.Denot). kept_line c.args.log.now.rows (b.name.items, b.revs.items))
+      c.loop-rest.rest.now c.split_at.result.0.now c.split_at.result.1.now _ c.loop-rest.lines.items _ _
+      c.split_at.ensures.front c.split_at.ensures.back c.loop-rest.invariant.0 c.in_ok-push_some_lines.ensures,
+  subst (λ bs. All (λ (b : Branch g.row.A.Denot). All (λ r. r < length c.args.log.now.rows) b.revs.items) bs)
+      (sym c.split_at.ensures.back)
+      (All-drop (λ (b : Branch g.row.A.Denot). All (λ r. r < length c.args.log.now.rows) b.revs.items) _
+      c.loop-rest.rest.now c.loop-rest.invariant.1),
+)
 
--- src/branchmap.rt:118:1
 pub returns : goal.returns
-returns g c = ?
+returns g c =
+    lines_done (λ (b : Branch g.row.A.Denot). kept_line c.args.log.now.rows (b.name.items, b.revs.items))
+    c.loop-rest.rest.now _ _ ? c.loop-rest.invariant.0

@@ -1,14 +1,17 @@
-use Rattle.std.proofs.Common.{◌≡◌, ◌↔◌, ◌<◌, ◌≤◌, ◌==◌, ◌++◌, ◌⊎◌, ℕ, All, Contains, length, map, not, slice_index, IfOk, OnOk, ◌+◌, ◌-◌, ◌*◌}
-use Rattle.std.specs.Int.{bit_at}
+use Rattle.std.proofs.Common.{◌≡◌, ◌++◌, ◌<◌, length, map}
+use Rattle.std.specs.Prelude.{All}
 use Rattle.std.specs.List.{flat_map}
-use Rattle.hg_told.specs.BranchMap.{head_word, is_unquoted, quoted, quoted_byte, IsBranchMap}
 use Rattle.hg_told.specs.Text.{ended}
-use Rattle.hg_told.specs.code.Behind.{IsIn}
-use Rattle.hg_told.specs.code.Branches.{branch_at, is_last_in, kept_line, AreBranches, AreSetsOf, IsKept}
+use Rattle.hg_told.specs.code.Branches.{kept_line}
 use Rattle.hg_told.proofs.branchmap.push_lines.Given as goal
 
+-- the lines so far, and those of the branches that are left
 abbrev pub invariant-loop-rest : goal.invariant-loop-rest
-invariant-loop-rest g l = ?
+invariant-loop-rest g l = (l.lines.items
+    ++ flat_map (ended 10) (map (λ b. kept_line l.log.rows (b.name.items, b.revs.items)) l.rest)
+    ≡ l.fn.lines.items
+    ++ flat_map (ended 10) (map (λ b. kept_line l.log.rows (b.name.items, b.revs.items)) l.branches))
+    × All (λ b. All (λ r. r < length l.log.rows) b.revs.items) l.rest
 
 abbrev pub decreases-loop-rest : goal.decreases-loop-rest
-decreases-loop-rest g l = ?
+decreases-loop-rest g l = length l.rest

@@ -1,24 +1,43 @@
-use Rattle.std.proofs.Common.{rules, ◌≡◌, ◌↔◌, ◌<◌, ◌≤◌, ◌==◌, ◌++◌, ◌⊎◌, ℕ, All, Contains, length, map, not, slice_index, IfOk, OnOk, ◌+◌, ◌-◌, ◌*◌, ◌/◌, ◌%◌, Bool, true, false, nat_eq, nat_lt, List, [], ◌∷◌, slice_index_or, slice_set, bit_and, bit_or, Fits, w8, w32, w64, Bor, MutBor}
-use Rattle.std.specs.Int.{bit_at}
-use Rattle.std.specs.List.{flat_map}
-use Rattle.hg_told.specs.BranchMap.{head_word, is_unquoted, quoted, quoted_byte, IsBranchMap}
-use Rattle.hg_told.specs.Text.{ended}
-use Rattle.hg_told.specs.code.Behind.{IsIn}
-use Rattle.hg_told.specs.code.Branches.{branch_at, is_last_in, kept_line, AreBranches, AreSetsOf, IsKept}
+use Rattle.std.proofs.Common.{◌≡◌, ◌∙◌, ◌<◌, ap, arith, get_or, length, List, map, subst, sym, ℕ, []}
+use Rattle.std.proofs.lemmas.List.{length-map}
+use Rattle.std.proofs.lemmas.List.{get_or-map}
+use Rattle.hg_told.specs.code.Branches.{kept_line, AreSetsOf}
+use Rattle.hg_told.specs.code.Behind.{AreBehind}
+use Rattle.hg_told.specs.declared.branchmap.Branch.{Branch}
+use Rattle.hg_told.proofs.BranchLines.{lines_all, lines_more, lines_none}
+use Rattle.hg_told.proofs.BranchSets.{last_told}
 use Rattle.hg_told.proofs.branchmap.push_some_lines.Goals as goal
 
--- src/branchmap.rt:151:5
 pub loop-place-init : goal.loop-place-init
-loop-place-init g c = ?
+loop-place-init g c =
+    lines_none (λ (b : Branch g.row.A.Denot). kept_line c.args.log.now.rows (b.name.items, b.revs.items))
+    c.args.branches.now c.args.lines.now.items
 
--- src/branchmap.rt:152:9
 pub push_line-requires-clause-last : goal.push_line-requires-clause-last
-push_line-requires-clause-last g c = ?
+push_line-requires-clause-last g c =
+    let rows = c.args.log.now.rows in
+    let branches = c.args.branches.now in
+    let p = c.loop-place.place in
+    let lists : List (List ℕ) = map (λ b. b.revs.items) branches in
+    let low : p < length lists =
+    omega (arith, length-map branches (λ (b : Branch g.row.A.Denot). b.revs.items), c.loop-place-test.true) in
+    let same = ap (λ (b : Branch g.row.A.Denot). b.revs.items) c.index-branches-place.is in
+    let there : c.index-branches-place.result.revs.items ≡ get_or lists p [] = ? in
+    last_told rows lists c.in_ok-sets.sets.items c.as_slice-in-loop-place.result.now _ p c.len.ensures.lawful
+    c.in_ok-sets.ensures.each
+    (subst (λ b. AreBehind rows c.in_ok-sets.sets.items b) (sym c.as_slice-in-loop-place.ensures.value)
+    (subst (λ s. AreBehind rows s c.in_ok-behind.behind.items) c.as_slice.ensures.value c.in_ok-behind.ensures))
+    low there
 
--- src/branchmap.rt:151:5
 pub loop-place-preserved : goal.loop-place-preserved
-loop-place-preserved g c = ?
+loop-place-preserved g c =
+    lines_more (λ (b : Branch g.row.A.Denot). kept_line c.args.log.now.rows (b.name.items, b.revs.items))
+    c.args.branches.now c.loop-place.place c.index-branches-place.result c.args.lines.now.items
+    c.loop-place.lines.items _ c.loop-place-test.true c.index-branches-place.is c.loop-place.invariant
+    c.in_ok-push_line.ensures
 
--- src/branchmap.rt:138:1
 pub returns : goal.returns
-returns g c = ?
+returns g c =
+    lines_all (λ (b : Branch g.row.A.Denot). kept_line c.args.log.now.rows (b.name.items, b.revs.items))
+    c.args.branches.now c.loop-place.place c.args.lines.now.items c.loop-place.lines.items c.loop-place-test.false
+    c.loop-place.invariant

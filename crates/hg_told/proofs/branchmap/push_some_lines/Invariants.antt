@@ -1,11 +1,10 @@
-use Rattle.std.proofs.Common.{◌≡◌, ◌↔◌, ◌<◌, ◌≤◌, ◌==◌, ◌++◌, ◌⊎◌, ℕ, All, Contains, length, map, not, slice_index, IfOk, OnOk, ◌+◌, ◌-◌, ◌*◌}
-use Rattle.std.specs.Int.{bit_at}
+use Rattle.std.proofs.Common.{◌≡◌, ◌++◌, map, take}
 use Rattle.std.specs.List.{flat_map}
-use Rattle.hg_told.specs.BranchMap.{head_word, is_unquoted, quoted, quoted_byte, IsBranchMap}
 use Rattle.hg_told.specs.Text.{ended}
-use Rattle.hg_told.specs.code.Behind.{IsIn}
-use Rattle.hg_told.specs.code.Branches.{branch_at, is_last_in, kept_line, AreBranches, AreSetsOf, IsKept}
+use Rattle.hg_told.specs.code.Branches.{kept_line}
 use Rattle.hg_told.proofs.branchmap.push_some_lines.Given as goal
 
+-- the lines of the branches so far
 abbrev pub invariant-loop-place : goal.invariant-loop-place
-invariant-loop-place g l = ?
+invariant-loop-place g l = l.lines.items ≡ l.fn.lines.items ++ flat_map (ended 10)
+    (map (λ b. kept_line l.log.rows (b.name.items, b.revs.items)) (take l.place l.branches))
