@@ -137,7 +137,7 @@ sets_more {X} f xs p x sets next revs within here same held each =
 
 -- ---- the last rows of a branch
 
-any_found : {X : Type 0} (test : X → Bool) (xs : List X) → list_any test xs ≡ true
+pub any_found : {X : Type 0} (test : X → Bool) (xs : List X) → list_any test xs ≡ true
     → (x : X) × Contains xs x × (test x ≡ true)
 any_found test [] e = cc
 any_found {X} test (x ∷ xs) e = by (test x) refl e (any_found test xs)
@@ -148,7 +148,7 @@ any_found {X} test (x ∷ xs) e = by (test x) refl e (any_found test xs)
     by true is e later = (x, Contains-append_left (x ∷ []) xs x (Contains-push [] x), is)
     by false is e later = let f = later e in (f.0, Contains-append_right (x ∷ []) xs f.0 f.1, f.2)
 
-any_holds : {X : Type 0} (test : X → Bool) (xs : List X) (x : X) → Contains xs x → test x ≡ true
+pub any_holds : {X : Type 0} (test : X → Bool) (xs : List X) (x : X) → Contains xs x → test x ≡ true
     → list_any test xs ≡ true
 any_holds test [] x has is = absurd (omega (arith, has.1))
 any_holds test (y ∷ ys) x has is = elim (Contains-append_cases (y ∷ []) ys x has) [
@@ -168,22 +168,22 @@ same_bools true b f g = sym (f refl)
 same_bools false true f g = g refl
 same_bools false false f g = refl
 
-not_eq : (d r : ℕ) → not (d == r) ≡ true → d ≢ r
+pub not_eq : (d r : ℕ) → not (d == r) ≡ true → d ≢ r
 not_eq d r is e = let same = eq-eqb d r e in let f = sym is ∙ ap not same in cc
 
-eq_not : (d r : ℕ) → d ≢ r → not (d == r) ≡ true
+pub eq_not : (d r : ℕ) → d ≢ r → not (d == r) ≡ true
 eq_not d r ne = by (d == r) refl
   where
     by : (b : Bool) → (d == r) ≡ b → not b ≡ true
     by true e = absurd (ne (eqb-true d r e))
     by false e = refl
 
-both_true : (a b : Bool) → (a && b) ≡ true → (a ≡ true) × (b ≡ true)
+pub both_true : (a b : Bool) → (a && b) ≡ true → (a ≡ true) × (b ≡ true)
 both_true true true e = (refl, refl)
 both_true true false e = cc
 both_true false b e = cc
 
-true_both : (a b : Bool) → a ≡ true → b ≡ true → (a && b) ≡ true
+pub true_both : (a b : Bool) → a ≡ true → b ≡ true → (a && b) ≡ true
 true_both true true e f = refl
 true_both true false e f = cc
 true_both false b e f = cc

@@ -13,3 +13,4 @@ mod Quoting
 mod Branching
 mod BranchSets
 mod BranchLines
+mod Mapping

@@ -4,6 +4,7 @@ ghost use Rattle.std.specs.Prelude.{◌≡◌, ◌↔◌, ◌<◌, ◌≤◌, �
 ghost use Rattle.std.specs.Prelude.{IfOk, OnOk};
 ghost use Rattle.std.specs.Int.{bit_at};
 ghost use Rattle.std.specs.List.{flat_map};
+ghost use Rattle.hg_log.specs.Rows.{AreLawful};
 ghost use Rattle.hg_told.specs.BranchMap.{head_word, is_unquoted, quoted, quoted_byte, IsBranchMap};
 ghost use Rattle.hg_told.specs.Text.{ended};
 ghost use Rattle.hg_told.specs.code.Behind.{IsIn};
@@ -61,7 +62,8 @@ fn branches_of<A: Allocator + Copy>(
     hidden: &[bool],
 ) -> Result<Vec<Branch<A>, A>, NoMemory>
     requires { length hidden.now ≡ length log.now.rows }
-    ensures { IfOk result (λ v. AreBranches log.now.rows hidden.now (length log.now.rows)
+    ensures lawful { OnOk result (AreLawful log.now.rows) }
+    ensures branches { IfOk result (λ v. AreBranches log.now.rows hidden.now (length log.now.rows)
         (map (λ b. (b.name.items, b.revs.items)) v.items)) }
 {
     let members = members_of(alloc, log, hidden)?;
@@ -78,7 +80,8 @@ fn members_of<A: Allocator + Copy>(
     hidden: &[bool],
 ) -> Result<Members<A>, NoMemory>
     requires { length hidden.now ≡ length log.now.rows }
-    ensures { IfOk result (λ m. AreBranches log.now.rows hidden.now (length log.now.rows)
+    ensures lawful { OnOk result (AreLawful log.now.rows) }
+    ensures members { IfOk result (λ m. AreBranches log.now.rows hidden.now (length log.now.rows)
         (map (λ e. (e.0.items, e.1.items)) m.entries)) }
 {
     let mut members = BTreeMap::new(alloc);

@@ -27,8 +27,8 @@ loop-name-preserved g c =
     ∙ ap (λ es. map seen old ++ map view es) (sym left)
     ∙ c.loop-name.invariant
 
-pub returns : goal.returns
-returns g c =
+pub returns-clause-branches : goal.returns-clause-branches
+returns-clause-branches g c =
     let none = rest_all (λ x. x) _ _ _ c.in-None.is c.next.ensures.steps in
     let view = λ (e : Vec ℕ g.row.A.Denot × Vec ℕ g.row.A.Denot).
         let pair : List ℕ × List ℕ = (e.0.items, e.1.items) in pair in
@@ -38,4 +38,4 @@ returns g c =
     ∙ ap (λ es. shown ++ map view es) (sym none) ∙ c.loop-name.invariant
     ∙ ap (map view) c.into_iter-name-iterator.ensures.into_iter_gives.0 in
     let rows = c.args.log.now.rows in
-    subst (λ bs. AreBranches rows c.args.hidden.now (length rows) bs) (sym same) c.in_ok-members.ensures
+    subst (λ bs. AreBranches rows c.args.hidden.now (length rows) bs) (sym same) c.in_ok-members.ensures.members

@@ -1,16 +1,34 @@
-use Rattle.std.proofs.Common.{rules, ◌≡◌, ◌↔◌, ◌<◌, ◌≤◌, ◌==◌, ◌++◌, ◌⊎◌, ℕ, All, Contains, length, map, not, slice_index, IfOk, OnOk, ◌+◌, ◌-◌, ◌*◌, ◌/◌, ◌%◌, Bool, true, false, nat_eq, nat_lt, List, [], ◌∷◌, slice_index_or, slice_set, bit_and, bit_or, Fits, w8, w32, w64, Bor, MutBor}
-use Rattle.std.specs.Int.{bit_at}
-use Rattle.std.specs.List.{flat_map}
-use Rattle.hg_told.specs.BranchMap.{head_word, is_unquoted, quoted, quoted_byte, IsBranchMap}
-use Rattle.hg_told.specs.Text.{ended}
-use Rattle.hg_told.specs.code.Behind.{IsIn}
-use Rattle.hg_told.specs.code.Branches.{branch_at, is_last_in, kept_line, AreBranches, AreSetsOf, IsKept}
+use Rattle.std.proofs.Common.{◌≡◌, ◌∙◌, ◌<◌, ap, get_or, length, List, map, subst, sym, ℕ}
+use Rattle.std.specs.Prelude.{All}
+use Rattle.std.specs.List.{join_with_byte}
+use Rattle.std.proofs.lemmas.List.{get_or-map, length-map}
+use Rattle.hg_told.specs.code.Branches.{kept_line, AreBranches}
+use Rattle.hg_told.specs.declared.branchmap.Branch.{Branch}
+use Rattle.hg_told.specs.Hidden.{AreHidden}
+use Rattle.hg_told.proofs.Lines.{lines_joined}
+use Rattle.hg_told.proofs.Mapping.{map_told, map_twice, rows_within}
 use Rattle.hg_told.proofs.branchmap.branchmap_text.Goals as goal
 
--- src/branchmap.rt:53:5
 pub push_lines-requires : goal.push_lines-requires
-push_lines-requires g c = ?
+push_lines-requires g c =
+    let rows = c.args.log.now.rows in
+    let seen = λ (b : Branch g.row.A.Denot). let pair : List ℕ × List ℕ = (b.name.items, b.revs.items) in pair in
+    let bs = c.in_ok-branches.branches.items in
+    subst (λ bs. All (λ (b : Branch g.row.A.Denot). All (λ r. r < length rows) b.revs.items) bs)
+    (sym c.as_slice-2.ensures.value) (λ k d low.
+    subst (λ (e : List ℕ × List ℕ). All (λ r. r < length rows) e.1) (get_or-map seen bs k d (seen d) low)
+    (rows_within rows c.as_slice.result.now (length rows) (map seen bs) c.in_ok-branches.ensures.branches k (seen d)
+    (subst (λ n. k < n) (sym (length-map bs seen)) low)))
 
--- src/branchmap.rt:43:1
 pub returns : goal.returns
-returns g c = ?
+returns g c =
+    let rows = c.args.log.now.rows in
+    let seen = λ (b : Branch g.row.A.Denot). let pair : List ℕ × List ℕ = (b.name.items, b.revs.items) in pair in
+    let bs = c.in_ok-branches.branches.items in
+    map_told rows c.args.markers.now c.as_slice.result.now
+    (subst (AreHidden rows c.args.markers.now) (sym c.as_slice.ensures) c.in_ok-hidden.ensures)
+    c.in_ok-branches.ensures.lawful (map seen bs) c.in_ok-branches.ensures.branches _
+    (c.joined.ensures
+    ∙ lines_joined _ _ _ c.new-lines.ensures.items c.in_ok-push_lines.ensures
+    ∙ ap (join_with_byte 10) (ap (map (λ (b : Branch g.row.A.Denot). kept_line rows (seen b))) c.as_slice-2.ensures.value
+    ∙ map_twice (kept_line rows) seen bs))

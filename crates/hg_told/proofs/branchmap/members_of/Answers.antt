@@ -33,8 +33,8 @@ loop-rev-preserved g c =
       )
     ]
 
-pub returns : goal.returns
-returns g c = 
+pub returns-clause-members : goal.returns-clause-members
+returns-clause-members g c = 
     let rows = c.args.log.now.rows in
     let last : c.loop-rev.rev ≡ length rows = omega (arith, c.loop-rev.invariant.0, c.loop-rev-test.false) in
     subst (λ n. AreBranches rows c.args.hidden.now n (map (λ e. (e.0.items, e.1.items)) c.loop-rev.members.entries)) last

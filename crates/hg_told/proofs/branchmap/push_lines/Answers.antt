@@ -31,4 +31,5 @@ loop-rest-preserved g c = (
 pub returns : goal.returns
 returns g c =
     lines_done (λ (b : Branch g.row.A.Denot). kept_line c.args.log.now.rows (b.name.items, b.revs.items))
-    c.loop-rest.rest.now _ _ ? c.loop-rest.invariant.0
+    c.loop-rest.rest.now _ _ (eqb-true (length c.loop-rest.rest.now) 0 (sym c.loop-rest-test.ensures))
+    c.loop-rest.invariant.0

@@ -22,7 +22,9 @@ push_line-requires-clause-last g c =
     let low : p < length lists =
     omega (arith, length-map branches (λ (b : Branch g.row.A.Denot). b.revs.items), c.loop-place-test.true) in
     let same = ap (λ (b : Branch g.row.A.Denot). b.revs.items) c.index-branches-place.is in
-    let there : c.index-branches-place.result.revs.items ≡ get_or lists p [] = ? in
+    let there : c.index-branches-place.result.revs.items ≡ get_or lists p [] =
+    same ∙ sym (get_or-map (λ (b : Branch g.row.A.Denot). b.revs.items) branches p c.index-branches-place.result []
+    c.loop-place-test.true) in
     last_told rows lists c.in_ok-sets.sets.items c.as_slice-in-loop-place.result.now _ p c.len.ensures.lawful
     c.in_ok-sets.ensures.each
     (subst (λ b. AreBehind rows c.in_ok-sets.sets.items b) (sym c.as_slice-in-loop-place.ensures.value)
