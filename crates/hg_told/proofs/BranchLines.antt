@@ -1,6 +1,6 @@
 -- The lines of branches, one behind the other.
 use Rattle.std.proofs.Common.{◌≡◌, ℕ, ◌+◌, ◌<◌, ◌≤◌, Bool, true, false, List, [], ◌∷◌, ◌++◌, length, map, take, drop}
-use Rattle.std.proofs.Common.{get_or, filter, refl, sym, ap, ◌∙◌}
+use Rattle.std.proofs.Common.{get_or, filter, sym, ap, ◌∙◌}
 use Rattle.std.specs.Prelude.{cond}
 use Rattle.std.specs.List.{flat_map}
 use Rattle.std.proofs.lemmas.List.{append-nil, append_assoc, map-append, take-append-drop, take_all, take_more}

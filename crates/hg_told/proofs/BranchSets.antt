@@ -56,20 +56,26 @@ set_more sets now next revs place i set within held one added r k =
       λ is. elim ((added.each r k).0 is) [
         | inl old ↦ elim ((held r k).0 old) [
           | inl first ↦ inl first
-          | inr both ↦ inr (both.0, subst (λ (rs : List ℕ). Contains rs r) (sym more)
-              (Contains-append_left (take i revs) (get_or revs i 0 ∷ []) r both.1))
+          | inr both ↦ inr (
+            both.0,
+            subst (λ (rs : List ℕ). Contains rs r) (sym more)
+                (Contains-append_left (take i revs) (get_or revs i 0 ∷ []) r both.1),
+          )
         ]
-        | inr both ↦ inr ((one k).0 both.1, subst (λ (rs : List ℕ). Contains rs r) (sym more)
-            (subst (Contains (take i revs ++ get_or revs i 0 ∷ [])) (let e = both.0 in cc)
-            (Contains-push (take i revs) (get_or revs i 0))))
+        | inr both ↦ inr (
+          (one k).0 both.1,
+          subst (λ (rs : List ℕ). Contains rs r) (sym more)
+              (subst (Contains (take i revs ++ get_or revs i 0 ∷ [])) (let e = both.0 in cc)
+              (Contains-push (take i revs) (get_or revs i 0))),
+        )
       ],
       λ is. (added.each r k).1 (elim is [
         | inl old ↦ inl ((held r k).1 (inl old))
         | inr both ↦ elim (Contains-push_cases (take i revs) (get_or revs i 0) r
             (subst (λ (rs : List ℕ). Contains rs r) more both.1)) [
-          | inl before ↦ inl ((held r k).1 (inr (both.0, before)))
-          | inr here ↦ inr (ap (λ (x : ℕ). Some x) here, (one k).1 both.0)
-        ]
+              | inl before ↦ inl ((held r k).1 (inr (both.0, before)))
+              | inr here ↦ inr (ap (λ (x : ℕ). Some x) here, (one k).1 both.0)
+            ]
       ]),
     )
 
@@ -109,8 +115,11 @@ lists_more lists sets next revs held more r k = (
         }
   ],
   λ l. (more r k).1 (elim (cases_eq k (length lists)) [
-    | inl e ↦ inr (e, subst (λ (rs : List ℕ). Contains rs r)
-        (ap (λ n. get_or (lists ++ revs ∷ []) n []) e ∙ pushed_here lists revs []) l.has)
+    | inl e ↦ inr (
+      e,
+      subst (λ (rs : List ℕ). Contains rs r)
+          (ap (λ n. get_or (lists ++ revs ∷ []) n []) e ∙ pushed_here lists revs []) l.has,
+    )
     | inr ne ↦
         let low : k < length lists = omega (arith, length-append lists (revs ∷ []), l.within, ne) in
         inl ((held r k).1 (record {

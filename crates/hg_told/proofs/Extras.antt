@@ -5,7 +5,7 @@ use Rattle.std.specs.Prelude.{◌&&◌, codes, nat_eq, unwrap_or, if◌then◌el
 use Rattle.std.specs.List.{before_first, last_or, slice_split, starts_with}
 use Rattle.std.specs.Option.{option_and_then}
 use Rattle.std.proofs.lemmas.Bool.Decides.{nat_tests}
-use Rattle.std.proofs.lemmas.List.{append-nil, append_assoc, take_all, take_more, drop_all}
+use Rattle.std.proofs.lemmas.List.{append-nil, append_assoc, take_all, take_more}
 use Rattle.hg_told.specs.Batch.{is_space, unescape_by}
 use Rattle.hg_told.specs.Branch.{behind_second, branch_of, branches_in, extra_byte, extras_of, is_nul, names_branch}
 use Rattle.hg_told.specs.Branch.{plain_extra, third_line}

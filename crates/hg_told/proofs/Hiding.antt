@@ -1,5 +1,5 @@
 -- Which changesets are hidden, by the sets of those that are kept.
-use Rattle.std.proofs.Common.{◌≡◌, ◌≢◌, ◌↔◌, ℕ, zero, suc, ◌+◌, ◌*◌, ◌<◌, ◌≤◌, Bool, true, false, List, [], ◌∷◌, ◌++◌}
+use Rattle.std.proofs.Common.{◌≡◌, ◌↔◌, ℕ, zero, suc, ◌+◌, ◌<◌, Bool, true, List, [], ◌∷◌, ◌++◌}
 use Rattle.std.proofs.Common.{length, get_or, refl, sym, ap, ◌∙◌, subst, arith, eqb-true, eq-eqb, inl, inr}
 use Rattle.std.specs.Prelude.{nat_eq}
 use Rattle.std.specs.Int.{bit_at}
@@ -8,15 +8,14 @@ use Rattle.std.proofs.lemmas.Bool.{cases_eq}
 use Rattle.std.proofs.lemmas.List.{get_or_default}
 use Rattle.std.proofs.lemmas.Nat.Bits.{and_pow, bit_at_or, bit_at-lt}
 use Rattle.hg_types.specs.declared.node.Node.{Node}
-use Rattle.hg_log.specs.Ancestors.{IsAncestor}
 use Rattle.hg_log.specs.Ancestors.IsAncestor.{itself as same_row}
 use Rattle.hg_log.specs.Changeset.{Changeset}
 use Rattle.hg_log.specs.HeadCount.{id_at}
 use Rattle.hg_log.specs.Rows.{HasNode}
 use Rattle.hg_obs.specs.declared.marker.Marker.{Marker}
 use Rattle.hg_obs.specs.Markers.{IsPredecessor}
-use Rattle.hg_told.specs.Hidden.{AreHidden, IsHidden, IsObsolete}
-use Rattle.hg_told.specs.code.Behind.{AreBehind, HasBehind, IsIn}
+use Rattle.hg_told.specs.Hidden.{IsHidden, IsObsolete}
+use Rattle.hg_told.specs.code.Behind.{AreBehind}
 use Rattle.hg_told.specs.code.Hiding.{TellsKept}
 use Rattle.hg_told.proofs.Gathering.{ancestor_within}
 use Rattle.hg_told.proofs.Lines.{has_id}

@@ -1,12 +1,12 @@
 -- The branches that are kept are those of the changesets that are not hidden, and their last rows the heads.
-use Rattle.std.proofs.Common.{◌≡◌, ◌≢◌, ◌↔◌, ℕ, ◌+◌, ◌<◌, Bool, true, false, List, [], ◌∷◌, length, map, get_or, filter}
-use Rattle.std.proofs.Common.{Option, Some, None, slice_get, refl, sym, ap, ◌∙◌, subst, inl, inr, arith}
+use Rattle.std.proofs.Common.{◌≡◌, ℕ, ◌+◌, ◌<◌, Bool, true, false, List, [], ◌∷◌, length, map, get_or, filter}
+use Rattle.std.proofs.Common.{Some, refl, sym, ap, ◌∙◌, subst, inl, inr, arith}
 use Rattle.std.specs.Prelude.{All, Contains, cond, not, ◌&&◌, ◌==◌, slice_index_or}
 use Rattle.std.specs.Cmp.Lexicographic.{slice_cmp}
 use Rattle.std.specs.List.{join_with_byte, list_any, range_with_len}
 use Rattle.std.specs.List.Sorted.{IsStrictlySortedBy}
-use Rattle.std.specs.Map.{keys_of, lookup}
-use Rattle.std.specs.Ordering.{eq_by_cmp, nat_cmp}
+use Rattle.std.specs.Map.{keys_of}
+use Rattle.std.specs.Ordering.{nat_cmp}
 use Rattle.std.proofs.lemmas.Bool.{cases_eq}
 use Rattle.std.proofs.lemmas.Cmp.{eq_by_cmp_equiv, nat_list_cmp_total}
 use Rattle.std.proofs.lemmas.List.{get_or-map, get_or_default, length-map}
@@ -19,14 +19,13 @@ use Rattle.std.proofs.lemmas.Map.Entries.{lookup_from_place, place_from_lookup}
 use Rattle.std.proofs.lemmas.Map.Keys.{IsDistinct-from_sorted, sorted_from_strictly_increasing}
 use Rattle.std.proofs.lemmas.Option.{get_or_from_slice_get, slice_get-get_or, slice_get-map, slice_get_within}
 use Rattle.std.specs.Option.{option_map}
-use Rattle.hg_log.specs.Ancestors.{IsAncestor}
 use Rattle.hg_log.specs.Changeset.{Changeset}
 use Rattle.hg_log.specs.Parents.{is_ancestor}
 use Rattle.hg_log.specs.Rows.{AreLawful}
 use Rattle.hg_log.proofs.CallerLemmas.{ancestor_test}
 use Rattle.hg_obs.specs.declared.marker.Marker.{Marker}
 use Rattle.hg_told.specs.Branch.{branch_of}
-use Rattle.hg_told.specs.BranchMap.{branch_line, AreBranchHeads, AreBranchNames, IsBranchHead, IsBranchMap, IsOfBranch}
+use Rattle.hg_told.specs.BranchMap.{branch_line, AreBranchHeads, AreBranchNames, IsBranchMap, IsOfBranch}
 use Rattle.hg_told.specs.Hidden.{AreHidden}
 use Rattle.hg_told.specs.code.Branches.{branch_at, heads_in, if_any, is_last_in, is_member, is_name, kept_line, members}
 use Rattle.hg_told.specs.code.Branches.{text_of, AreBranches}
@@ -130,7 +129,7 @@ module _ {A : Type 0} (rows : List Changeset) (markers : List (Marker A)) (hidde
       let parts = both_true (not (slice_index_or hidden r false)) (is_name name (branch_at rows r)) is in
       record {
         text = (get_or rows r none).text;
-        has_text = record { row = get_or rows r none; row_at = at; text_is = refl; };
+        has_text = record { row = get_or rows r none; row_at = at; text_is = refl };
         named = ap (λ o. branch_of (text_of o)) (sym at) ∙ sym (same_name name (branch_at rows r) parts.1);
         shown = λ hid. let shows = (told.each r within).1 hid in
             let f = sym parts.0 ∙ ap not shows in cc;

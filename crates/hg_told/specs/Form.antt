@@ -1,5 +1,5 @@
 -- Arguments in a form: fields between `&`, each a name, and behind the first `=` a value.
-use Rattle.std.specs.Prelude.{ℕ, ◌==◌, Bool, List, [], ◌∷◌, map, filter, Option, Some, None, if◌then◌else◌}
+use Rattle.std.specs.Prelude.{ℕ, ◌==◌, Bool, List, [], ◌∷◌, map, filter, Option, None, if◌then◌else◌}
 use Rattle.std.specs.Prelude.{unwrap_or, bytes_eq}
 use Rattle.std.specs.List.{slice_split, before_first, flat_map, last_or}
 use Rattle.percent_encoding.specs.Percent.{percent_decode}

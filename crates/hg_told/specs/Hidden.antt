@@ -1,6 +1,5 @@
 -- Obsolete and hidden changesets.
 use Rattle.std.specs.Prelude.{◌≡◌, ◌↔◌, ℕ, ◌<◌, Bool, true, false, List, length, slice_index_or}
-use Rattle.hg_types.specs.declared.node.Node.{Node}
 use Rattle.hg_log.specs.Ancestors.{IsAncestor}
 use Rattle.hg_log.specs.Changeset.{Changeset}
 use Rattle.hg_log.specs.HeadCount.{id_at}

@@ -1,6 +1,6 @@
 -- What is told of the keys of a namespace: a line for each key, with a tab and its value.
 use Rattle.std.specs.Prelude.{ℕ, ◌==◌, Bool, false, true, not, ◌&&◌, ◌||◌, List, [], ◌∷◌, ◌++◌, length, map}
-use Rattle.std.specs.Prelude.{filter, Option, Some, None, codes, bytes_eq, if◌then◌else◌}
+use Rattle.std.specs.Prelude.{filter, codes, bytes_eq, if◌then◌else◌}
 use Rattle.std.specs.List.{join_with_byte, list_any, range_with_len}
 use Rattle.hex.specs.Hex.{encode_lower}
 use Rattle.hg_types.specs.declared.node.Node.{Node}

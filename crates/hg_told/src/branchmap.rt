@@ -231,7 +231,11 @@ fn push_line<A: Allocator>(
 }
 
 /// Adds a space and the id of a head.
-fn push_head<A: Allocator>(lines: &mut Vec<u8, A>, log: &Changelog<A>, rev: u32) -> Result<(), NoMemory>
+fn push_head<A: Allocator>(
+    lines: &mut Vec<u8, A>,
+    log: &Changelog<A>,
+    rev: u32,
+) -> Result<(), NoMemory>
     requires { rev < length log.now.rows }
     ensures { OnOk result (lines.new.items ≡ lines.old.items ++ head_word log.now.rows rev) }
 {

@@ -371,6 +371,26 @@ fn more_branches_than_a_pass_tells(rt: HostRuntime) -> Result<(), Fail> {
     Ok(())
 }
 
+/// 300 heads of one branch stand in its line in the order of the changelog.
+#[test]
+fn three_hundred_heads_of_a_branch(rt: HostRuntime) -> Result<(), Fail> {
+    let alloc = rt.alloc();
+    let state = RandomState::new(&rt)?;
+    let mut log = Changelog::new(alloc, state, Limits::standard());
+    let markers = Markers::new(alloc, state);
+    let root = put(alloc, &mut log, Node::NULL, Node::NULL, b"m\nu\n0 0\n").ok_or("not added")?;
+    let mut wanted = Vec::from_slice(alloc, b"default")?;
+    for number in 0..300u16 {
+        let text = format!(in alloc; "m\nu\n0 0\n{number}\n")?;
+        let node = put(alloc, &mut log, root, Node::NULL, text.as_str().as_bytes());
+        let id = hex::encode(alloc, node.ok_or("not added")?.0.as_slice())?;
+        wanted.push(b' ')?;
+        wanted.extend_from_slice(id.as_str().as_bytes())?;
+    }
+    assert!(rt; is_text(branchmap_text(alloc, &log, &markers), wanted.as_slice()));
+    Ok(())
+}
+
 /// Two branches in the memory of an allocator: whether both are told, or nothing where memory is refused.
 fn tell_branches<A: Allocator + Copy>(alloc: A, state: RandomState) -> Option<bool> {
     let mut log = Changelog::new(alloc, state, Limits::standard());

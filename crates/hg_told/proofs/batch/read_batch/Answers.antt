@@ -1,4 +1,3 @@
-use Rattle.std.proofs.Common.{◌∙◌, ◌++◌, ◌∷◌, [], ap, List}
 use Rattle.hg_told.specs.Batch.{command_of, commands_of}
 use Rattle.hg_told.proofs.Pieces.{mapped_all, mapped_more}
 use Rattle.hg_told.proofs.batch.read_batch.Goals as goal

@@ -1,4 +1,4 @@
-use Rattle.std.proofs.Common.{◌∙◌, ap, get_or, length, ℕ, set}
+use Rattle.std.proofs.Common.{◌∙◌, ap, length, ℕ, set}
 use Rattle.std.specs.Int.RustNames.{bit_or}
 use Rattle.std.proofs.lemmas.List.{get_or_default}
 use Rattle.hg_told.proofs.Gathering.{added_at, some_within}

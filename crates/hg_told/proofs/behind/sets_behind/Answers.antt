@@ -1,8 +1,8 @@
-use Rattle.std.proofs.Common.{◌≡◌, ◌<◌, ◌≤◌, ◌+◌, ◌-◌, ◌∙◌, ap, length, get_or, ℕ, arith, subst}
+use Rattle.std.proofs.Common.{◌≡◌, ◌<◌, ◌+◌, ◌-◌, ◌∙◌, ap, length, get_or, ℕ, arith, subst}
 use Rattle.std.specs.Int.RustNames.{bit_or}
 use Rattle.std.proofs.lemmas.List.{get_or_default}
 use Rattle.hg_log.proofs.CallerLemmas.{ordered}
-use Rattle.hg_told.proofs.Gathering.{AreGathered, behind_all, gathered_more, gathered_none}
+use Rattle.hg_told.proofs.Gathering.{AreGathered, behind_all, gathered_more}
 use Rattle.hg_told.proofs.behind.sets_behind.Goals as goal
 
 pub loop-rev-preserved : goal.loop-rev-preserved

@@ -1,5 +1,4 @@
-use Rattle.std.proofs.Common.{◌≡◌, ◌∙◌, ap, sym, subst, List, ℕ, Option, Bor, Some}
-use Rattle.std.specs.Prelude.{codes}
+use Rattle.std.proofs.Common.{◌≡◌, ◌∙◌, ap, subst, List, ℕ, Option, Bor, Some}
 use Rattle.std.specs.List.{before_first, last_or}
 use Rattle.std.specs.Option.{option_map}
 use Rattle.hg_told.specs.Branch.{branch_of, branches_in, is_nul, plain_extra}

@@ -1,4 +1,4 @@
-use Rattle.std.proofs.Common.{ap, ◌∙◌, List, ℕ, Bor, Option}
+use Rattle.std.proofs.Common.{ap, ◌∙◌, List, ℕ, Bor}
 use Rattle.std.specs.Option.{option_map}
 use Rattle.hg_told.proofs.Extras.{extras_some, extras_none}
 use Rattle.hg_told.proofs.Fields.{unwrapped}

@@ -17,7 +17,7 @@ pub loop-name-preserved : goal.loop-name-preserved
 loop-name-preserved g c =
     let left = rest_more (λ x. x) _ _ _ _ c.in-Some.is c.next.ensures.steps in
     let view = λ (e : Vec ℕ g.row.A.Denot × Vec ℕ g.row.A.Denot).
-        let pair : List ℕ × List ℕ = (e.0.items, e.1.items) in pair in
+    let pair : List ℕ × List ℕ = (e.0.items, e.1.items) in pair in
     let seen = λ (b : Branch g.row.A.Denot). let pair : List ℕ × List ℕ = (b.name.items, b.revs.items) in pair in
     let old = c.loop-name.branches.items in
     let one : List ℕ × List ℕ = (c.in-Some.name.items, c.in-Some.revs.items) in
@@ -31,7 +31,7 @@ pub returns-clause-branches : goal.returns-clause-branches
 returns-clause-branches g c =
     let none = rest_all (λ x. x) _ _ _ c.in-None.is c.next.ensures.steps in
     let view = λ (e : Vec ℕ g.row.A.Denot × Vec ℕ g.row.A.Denot).
-        let pair : List ℕ × List ℕ = (e.0.items, e.1.items) in pair in
+    let pair : List ℕ × List ℕ = (e.0.items, e.1.items) in pair in
     let seen = λ (b : Branch g.row.A.Denot). let pair : List ℕ × List ℕ = (b.name.items, b.revs.items) in pair in
     let shown = map seen c.loop-name.branches.items in
     let same : shown ≡ map view c.in_ok-members.members.entries = sym (append-nil shown)

@@ -1,8 +1,8 @@
-use Rattle.std.proofs.Common.{◌≡◌, ◌∙◌, ◌<◌, ap, get_or, length, List, map, subst, sym, ℕ}
+use Rattle.std.proofs.Common.{◌∙◌, ◌<◌, ap, length, List, map, subst, sym, ℕ}
 use Rattle.std.specs.Prelude.{All}
 use Rattle.std.specs.List.{join_with_byte}
 use Rattle.std.proofs.lemmas.List.{get_or-map, length-map}
-use Rattle.hg_told.specs.code.Branches.{kept_line, AreBranches}
+use Rattle.hg_told.specs.code.Branches.{kept_line}
 use Rattle.hg_told.specs.declared.branchmap.Branch.{Branch}
 use Rattle.hg_told.specs.Hidden.{AreHidden}
 use Rattle.hg_told.proofs.Lines.{lines_joined}

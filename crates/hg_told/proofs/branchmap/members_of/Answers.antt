@@ -1,5 +1,4 @@
-use Rattle.std.proofs.Common.{◌≡◌, ◌∙◌, ◌<◌, ap, arith, length, map, ◌+◌, ◌≤◌, subst, sym, List, false, true, Bool}
-use Rattle.std.specs.Prelude.{slice_index_or}
+use Rattle.std.proofs.Common.{◌≡◌, arith, length, map, ◌+◌, ◌≤◌, subst, sym}
 use Rattle.hg_told.specs.code.Branches.{AreBranches}
 use Rattle.hg_told.proofs.Branching.{branches_more, branches_none, branches_skip}
 use Rattle.hg_told.proofs.branchmap.members_of.Goals as goal
@@ -34,7 +33,7 @@ loop-rev-preserved g c =
     ]
 
 pub returns-clause-members : goal.returns-clause-members
-returns-clause-members g c = 
+returns-clause-members g c =
     let rows = c.args.log.now.rows in
     let last : c.loop-rev.rev ≡ length rows = omega (arith, c.loop-rev.invariant.0, c.loop-rev-test.false) in
     subst (λ n. AreBranches rows c.args.hidden.now n (map (λ e. (e.0.items, e.1.items)) c.loop-rev.members.entries)) last

@@ -1,5 +1,5 @@
-use Rattle.std.proofs.Common.{◌≡◌, ◌∙◌, ◌++◌, ◌<◌, ap, get_or, length, List, sym, subst, true, false, Bool, ℕ}
-use Rattle.std.specs.Prelude.{not, ◌==◌}
+use Rattle.std.proofs.Common.{◌≡◌, ◌∙◌, ◌++◌, ◌<◌, ap, get_or, length, List, sym, subst, ℕ}
+use Rattle.std.specs.Prelude.{not}
 use Rattle.std.proofs.lemmas.List.{append-nil}
 use Rattle.hg_told.specs.BranchMap.{head_word, quoted}
 use Rattle.hg_told.specs.code.Branches.{is_last_in}

@@ -1,7 +1,7 @@
 use Rattle.std.proofs.Common.{◌≡◌, ◌∙◌, ◌<◌, ap, arith, get_or, length, List, map, subst, sym, ℕ, []}
 use Rattle.std.proofs.lemmas.List.{length-map}
 use Rattle.std.proofs.lemmas.List.{get_or-map}
-use Rattle.hg_told.specs.code.Branches.{kept_line, AreSetsOf}
+use Rattle.hg_told.specs.code.Branches.{kept_line}
 use Rattle.hg_told.specs.code.Behind.{AreBehind}
 use Rattle.hg_told.specs.declared.branchmap.Branch.{Branch}
 use Rattle.hg_told.proofs.BranchLines.{lines_all, lines_more, lines_none}

@@ -1,4 +1,4 @@
-use Rattle.std.proofs.Common.{◌∙◌, ap, arith, map, subst, take}
+use Rattle.std.proofs.Common.{◌∙◌, map, subst}
 use Rattle.std.proofs.lemmas.List.{take_all}
 use Rattle.hg_told.specs.code.Branches.{AreSetsOf}
 use Rattle.hg_told.proofs.BranchSets.{sets_more, sets_none}

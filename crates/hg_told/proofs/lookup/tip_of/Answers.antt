@@ -1,4 +1,4 @@
-use Rattle.std.proofs.Common.{◌∙◌, ap, sym, subst, arith, ℕ, ◌-◌}
+use Rattle.std.proofs.Common.{subst, arith, ℕ, ◌-◌}
 use Rattle.hg_log.specs.Rows.{HasNode}
 use Rattle.hg_told.proofs.Naming.{tip_none, tip_at}
 use Rattle.hg_told.proofs.lookup.tip_of.Goals as goal
