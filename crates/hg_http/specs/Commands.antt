@@ -1,7 +1,7 @@
 -- The commands of a client, by their names.
 use Rattle.std.specs.Prelude.{ℕ, List, Option, Some, None, codes, bytes_eq, if◌then◌else◌}
 use Rattle.hg_http.specs.declared.command.Read.{Read}
-use Rattle.hg_http.specs.declared.command.Read.TheVariants.{Heads, Known, ListKeys, Lookup}
+use Rattle.hg_http.specs.declared.command.Read.TheVariants.{Heads, Known, ListKeys, Lookup, BranchMap}
 use Rattle.hg_http.specs.declared.command.Command.{Command}
 use Rattle.hg_http.specs.declared.command.Command.TheVariants.{Tell, Capabilities, Batch, Unbundle, PushKey}
 use Rattle.hg_http.specs.declared.command.Command.TheVariants.{GetBundle}
@@ -13,11 +13,14 @@ read_of name =
     else if bytes_eq name (codes "known") then Some Known
     else if bytes_eq name (codes "listkeys") then Some ListKeys
     else if bytes_eq name (codes "lookup") then Some Lookup
+    else if bytes_eq name (codes "branchmap") then Some BranchMap
     else None
 
--- the name of what such a command asks about; `heads` asks about nothing
+-- the name of what such a command asks about; `heads` and `branchmap` ask about
+-- nothing
 abbrev pub subject_of : Read → List ℕ
 subject_of Heads = codes ""
+subject_of BranchMap = codes ""
 subject_of Known = codes "nodes"
 subject_of ListKeys = codes "namespace"
 subject_of Lookup = codes "key"

@@ -19,6 +19,8 @@ pub enum Read {
     ListKeys,
     /// The changeset that a key names.
     Lookup,
+    /// The branches with their heads.
+    BranchMap,
 }
 
 /// A command.
@@ -71,15 +73,18 @@ pub fn read_of(name: &[u8]) -> Option<Read>
     if is_name(name, b"lookup".as_slice()) {
         return Some(Read::Lookup);
     }
+    if is_name(name, b"branchmap".as_slice()) {
+        return Some(Read::BranchMap);
+    }
     None
 }
 
-/// The name of the argument that says what is asked about. `heads` has none.
+/// The name of the argument that says what is asked about. `heads` and `branchmap` have none.
 pub fn subject_of(read: Read) -> &'static [u8]
     ensures { result.now ≡ subject read }
 {
     match read {
-        Read::Heads => b"".as_slice(),
+        Read::Heads | Read::BranchMap => b"".as_slice(),
         Read::Known => b"nodes".as_slice(),
         Read::ListKeys => b"namespace".as_slice(),
         Read::Lookup => b"key".as_slice(),

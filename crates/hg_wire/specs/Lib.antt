@@ -1,0 +1,4 @@
+pub mod Texts
+pub mod Pushes
+pub mod Answering
+pub mod Serving

@@ -1,0 +1,44 @@
+-- What the commands that only read are told of a repository.
+use Rattle.std.specs.Prelude.{ℕ, ◌≡◌, ⊤, Bool, List, [], Option, Some, None, is_some}
+use Rattle.std.specs.List.{AllZip, list_all}
+use Rattle.hg_parts.specs.Repository.{Repository}
+use Rattle.hg_told.specs.declared.batch.Command.{Command}
+use Rattle.hg_told.specs.Batch.{answers_joined}
+use Rattle.hg_told.specs.Heads.{IsHeadsText, known_text}
+use Rattle.hg_told.specs.ListKeys.{listkeys_text}
+use Rattle.hg_told.specs.Lookup.{lookup_text}
+use Rattle.hg_http.specs.declared.command.Read.{Read}
+use Rattle.hg_http.specs.declared.command.Read.TheVariants.{Heads, Known, ListKeys, Lookup, BranchMap}
+use Rattle.hg_http.specs.Commands.{read_of, subject_of}
+use Rattle.hg_http.specs.Requests.{argument_in}
+
+-- Asked about that, the repository tells this text. Nothing is said of the branches.
+abbrev pub IsTextOf : {A : Type 0} → Repository A → Read → List ℕ → List ℕ → Type 0
+IsTextOf repo Heads about text = IsHeadsText repo.rows text
+IsTextOf repo Known about text = text ≡ known_text repo.rows about
+IsTextOf repo ListKeys about text =
+    text ≡ listkeys_text repo.rows repo.phases repo.bookmarks repo.settings.publishing about
+IsTextOf repo Lookup about text = text ≡ lookup_text repo.rows repo.bookmarks about
+IsTextOf repo BranchMap about text = ⊤
+
+-- a name of no command that reads tells nothing; a batch with one is refused
+abbrev pub IsTextIf : {A : Type 0} → Repository A → Command A → Option Read → List ℕ → Type 0
+IsTextIf repo command None text = text ≡ []
+IsTextIf repo command (Some read) text =
+    IsTextOf repo read (argument_in command.arguments (subject_of read)) text
+
+-- a command of a batch is told this text
+abbrev pub IsCommandText : {A : Type 0} → Repository A → Command A → List ℕ → Type 0
+IsCommandText repo command text = IsTextIf repo command (read_of command.name) text
+
+-- A batch is told this text: those of its commands, in order, escaped, with a `;` between, all of the same
+-- repository.
+pub record IsBatchText {A : Type 0} (repo : Repository A) (commands : List (Command A))
+    (text : List ℕ) : Type 0 where
+  pub texts : List (List ℕ)
+  pub each : AllZip (IsCommandText repo) commands texts
+  pub joined : text ≡ answers_joined texts
+
+-- all of a batch's commands only read
+unfoldable pub are_reads : {A : Type 0} → List (Command A) → Bool
+are_reads commands = list_all (λ command. is_some (read_of command.name)) commands
