@@ -10,7 +10,9 @@
 #![tactic(auto)]
 
 mod answering;
+mod body;
 mod key;
+mod nowhere;
 mod push;
 mod reading;
 mod serve;

@@ -1,0 +1,83 @@
+//! The command `pushkey`: a push that sets one key.
+
+ghost use Rattle.std.specs.Prelude.{◌≡◌, true};
+ghost use Rattle.hg_http.specs.Keys.{fits as can_fit, IsChange, key_parts};
+ghost use Rattle.hg_wire.specs.Pushes.{IsReply, is_set, key_line, says_one, IsKeyAnswered};
+
+use crate::push::push_bundle;
+use hg_http::{Answer, KeyChange, Refusal, fits, key_bundle, read_change};
+use hg_push::Outcome;
+use hg_repo::{Done, Refusal as RunRefusal};
+use hg_serve::{Answer as Ended, Client, Naming, Server};
+use hg_told::Field;
+use hg_types::{Param, Part, Seq};
+use std::alloc::Allocator;
+use std::sync::Wait;
+
+/// Sets a key by a push of its own, and says whether it was set.
+pub fn push_key<J: Naming<A>, A: Allocator + Copy, R: Wait>(
+    server: &Server<J, A>,
+    rt: &R,
+    alloc: A,
+    client: Client<J, A>,
+    fields: &[Field<A>],
+) -> (Client<J, A>, Answer<A>)
+    ensures { IsKeyAnswered J.capacity J.first client fields.now result.1 result.0 }
+{
+    let change = read_change(fields);
+    if !fits(&change) {
+        return (client, line_of(alloc, false, Refusal::NoMemory));
+    }
+    match key_bundle(alloc, &change) {
+        Ok(bundle) => {
+            let (client, ended) = push_bundle(server, rt, alloc, client, bundle.as_slice());
+            let answer = reply_to(alloc, &ended);
+            (client, answer)
+        }
+        Err(_) => (client, Answer::Refused(Refusal::NoMemory)),
+    }
+}
+
+/// What a push that sets a key is answered.
+fn reply_to<A: Allocator + Copy>(alloc: A, ended: &Option<Ended<A>>) -> Answer<A>
+    ensures { IsReply key_line ended.now result }
+{
+    match ended {
+        None => Answer::Refused(Refusal::NotOpened),
+        Some(ended) => line_of(alloc, is_set(&ended.outcome), Refusal::NoAnswer),
+    }
+}
+
+/// The line that says whether a key was set; the refusal where there is no memory for it.
+fn line_of<A: Allocator + Copy>(alloc: A, is_set: bool, refusal: Refusal) -> Answer<A>
+{
+    let line = match is_set {
+        true => b"1\n".as_slice(),
+        false => b"0\n".as_slice(),
+    };
+    match Seq::copy_of(alloc, line) {
+        Ok(line) => Answer::Told(line),
+        Err(_) => Answer::Refused(refusal),
+    }
+}
+
+/// Whether the push is done and a reply of its run says 1.
+fn is_set<A: Allocator>(outcome: &Outcome<Done<A>, RunRefusal<A>>) -> bool
+    ensures { result ≡ is_set outcome.now }
+{
+    match outcome {
+        Outcome::Done(done) => done
+            .replies
+            .as_slice()
+            .iter()
+            .any(|part| has_one(part.params.as_slice())),
+        Outcome::Aborted(_) => false,
+    }
+}
+
+fn has_one<A: Allocator>(params: &[Param<A>]) -> bool
+{
+    params
+        .iter()
+        .any(|param| param.key.as_slice() == b"return".as_slice() && param.value.as_slice() == b"1".as_slice())
+}
