@@ -1,6 +1,16 @@
 //! What a request is answered.
 
-ghost use Rattle.hg_wire.specs.Answering.{Answers, AnswersCommand, IsBatchAnswered, IsRead};
+ghost use Rattle.std.specs.Prelude.{◌≡◌, ◌⊎◌, codes, IfOk, MatchResult};
+ghost use Rattle.std.specs.Str.{bytes_eq};
+ghost use Rattle.http.specs.Request.{body_of};
+ghost use Rattle.hg_http.specs.Commands.{command_of as command_named, subject_of as subject};
+ghost use Rattle.hg_http.specs.Requests.{argument_in, arguments_of, is_from_client as came_from_client};
+ghost use Rattle.hg_http.specs.Requests.{name_of};
+ghost use Rattle.hg_told.specs.Batch.{commands_of};
+ghost use Rattle.hg_told.specs.Capabilities.{capabilities_told};
+ghost use Rattle.hg_wire.specs.Answering.{Answers, AnswersBatch, AnswersCommand, AnswersForced};
+ghost use Rattle.hg_wire.specs.Answering.{AnswersPushKey, IfFromClient, IsSaid, IsToldAt, OrLacks};
+ghost use Rattle.hg_wire.specs.Texts.{are_reads as all_read, IsTextOf};
 
 use crate::key::push_key;
 use crate::push::unbundle;
@@ -38,12 +48,15 @@ fn read_request<A: Allocator + Copy>(
     alloc: A,
     request: &Request<Bytes>,
 ) -> Result<(Option<Command>, Seq<Field<A>, A>), NoMemory>
+    ensures { IfOk result (λ read. (read.0 ≡ command_named (name_of A request.now))
+        × (read.1 ≡ arguments_of request.now)) }
 {
     let name = read_name(alloc, request)?;
     let fields = read_arguments(alloc, request)?;
     Ok((command_of(name.as_slice()), fields))
 }
 
+/// Answers a command.
 fn answer_command<J: Naming<A>, A: Allocator + Copy, R: Wait>(
     server: &Server<J, A>,
     rt: &R,
@@ -53,6 +66,8 @@ fn answer_command<J: Naming<A>, A: Allocator + Copy, R: Wait>(
     fields: &[Field<A>],
     request: &Request<Bytes>,
 ) -> (Client<J, A>, Answer<A>)
+    ensures { OrLacks (AnswersCommand J.capacity J.first command fields.now request.now)
+        client result.1 result.0 }
 {
     match command {
         None => (client, Answer::NotFound),
@@ -67,7 +82,10 @@ fn answer_command<J: Naming<A>, A: Allocator + Copy, R: Wait>(
     }
 }
 
-fn told<A: Allocator>(text: Result<Seq<u8, A>, NoMemory>) -> Answer<A> {
+/// The answer that tells a text, or that there was no memory for it.
+fn told<A: Allocator>(text: Result<Seq<u8, A>, NoMemory>) -> Answer<A>
+    ensures { MatchResult text (λ t. result ≡ Answer.Told t) (λ _. result ≡ Answer.Refused Refusal.NoMemory) }
+{
     match text {
         Ok(text) => Answer::Told(text),
         Err(_) => Answer::Refused(Refusal::NoMemory),
@@ -83,6 +101,8 @@ fn tell<J: Naming<A>, A: Allocator + Copy, R: Wait>(
     read: Read,
     fields: &[Field<A>],
 ) -> (Client<J, A>, Answer<A>)
+    ensures { OrLacks (IsToldAt J.first (λ repo text. IsTextOf repo read (argument_in fields.now (subject read)) text))
+        client result.1 result.0 }
 {
     let mut client = client;
     let about = argument(fields, subject_of(read));
@@ -91,7 +111,10 @@ fn tell<J: Naming<A>, A: Allocator + Copy, R: Wait>(
     (client, told(text))
 }
 
-fn capabilities<A: Allocator + Copy>(alloc: A) -> Answer<A> {
+/// Tells the capabilities.
+fn capabilities<A: Allocator + Copy>(alloc: A) -> Answer<A>
+    ensures { (result ≡ Answer.Told capabilities_told) ⊎ (result ≡ Answer.Refused Refusal.NoMemory) }
+{
     told(Seq::copy_of(alloc, capabilities_text()))
 }
 
@@ -103,6 +126,8 @@ fn answer_batch<J: Naming<A>, A: Allocator + Copy, R: Wait>(
     client: Client<J, A>,
     fields: &[Field<A>],
 ) -> (Client<J, A>, Answer<A>)
+    ensures { let commands = commands_of (argument_in fields.now (codes "cmds")) in
+        OrLacks (AnswersBatch J.first commands (all_read commands)) client result.1 result.0 }
 {
     match read_batch(alloc, argument(fields, b"cmds".as_slice())) {
         Ok(commands) => tell_all(server, rt, alloc, client, commands.as_slice()),
@@ -110,6 +135,7 @@ fn answer_batch<J: Naming<A>, A: Allocator + Copy, R: Wait>(
     }
 }
 
+/// Answers the commands of a batch.
 fn tell_all<J: Naming<A>, A: Allocator + Copy, R: Wait>(
     server: &Server<J, A>,
     rt: &R,
@@ -117,6 +143,7 @@ fn tell_all<J: Naming<A>, A: Allocator + Copy, R: Wait>(
     client: Client<J, A>,
     commands: &[hg_told::Command<A>],
 ) -> (Client<J, A>, Answer<A>)
+    ensures { OrLacks (AnswersBatch J.first commands.now (all_read commands.now)) client result.1 result.0 }
 {
     if !are_reads(commands) {
         return (client, Answer::Refused(Refusal::BadBatch));
@@ -136,6 +163,8 @@ fn answer_unbundle<J: Naming<A>, A: Allocator + Copy, R: Wait>(
     fields: &[Field<A>],
     request: &Request<Bytes>,
 ) -> (Client<J, A>, Answer<A>)
+    ensures { IfFromClient (came_from_client request.now) (AnswersForced J.capacity J.first (body_of request.now)
+        (bytes_eq (argument_in fields.now (codes "heads")) (codes "666f726365"))) client result.1 result.0 }
 {
     if !is_from_client(request) {
         return (client, Answer::Forbidden);
@@ -148,7 +177,9 @@ fn answer_unbundle<J: Naming<A>, A: Allocator + Copy, R: Wait>(
 }
 
 /// Whether the heads of a push are forced: `force` in hexadecimal digits.
-fn are_forced(heads: &[u8]) -> bool {
+fn are_forced(heads: &[u8]) -> bool
+    ensures { result ≡ bytes_eq heads.now (codes "666f726365") }
+{
     heads == b"666f726365".as_slice()
 }
 
@@ -161,6 +192,8 @@ fn answer_pushkey<J: Naming<A>, A: Allocator + Copy, R: Wait>(
     fields: &[Field<A>],
     request: &Request<Bytes>,
 ) -> (Client<J, A>, Answer<A>)
+    ensures { OrLacks (IfFromClient (came_from_client request.now) (AnswersPushKey J.capacity J.first fields.now))
+        client result.1 result.0 }
 {
     if !is_from_client(request) {
         return (client, Answer::Forbidden);

@@ -1,8 +1,10 @@
 //! The command `pushkey`: a push that sets one key.
 
-ghost use Rattle.std.specs.Prelude.{◌≡◌, true};
-ghost use Rattle.hg_http.specs.Keys.{fits as can_fit, IsChange, key_parts};
-ghost use Rattle.hg_wire.specs.Pushes.{IsReply, is_set, key_line, says_one, IsKeyAnswered};
+ghost use Rattle.std.specs.Prelude.{◌≡◌, ◌⊎◌, true};
+ghost use Rattle.std.specs.List.{list_any};
+ghost use Rattle.hg_http.specs.Keys.{fits as can_fit};
+ghost use Rattle.hg_wire.specs.Answering.{AnswersChange, AnswersPushKey, OrLacks};
+ghost use Rattle.hg_wire.specs.Pushes.{IsReply, is_one as returns_one, is_set as key_is_set, key_line, set_line};
 
 use crate::push::push_bundle;
 use hg_http::{Answer, KeyChange, Refusal, fits, key_bundle, read_change};
@@ -22,13 +24,27 @@ pub fn push_key<J: Naming<A>, A: Allocator + Copy, R: Wait>(
     client: Client<J, A>,
     fields: &[Field<A>],
 ) -> (Client<J, A>, Answer<A>)
-    ensures { IsKeyAnswered J.capacity J.first client fields.now result.1 result.0 }
+    ensures { OrLacks (AnswersPushKey J.capacity J.first fields.now) client result.1 result.0 }
 {
     let change = read_change(fields);
-    if !fits(&change) {
+    push_change(server, rt, alloc, client, &change)
+}
+
+/// Asks for a change by a push of its own, where a part can hold its values.
+fn push_change<J: Naming<A>, A: Allocator + Copy, R: Wait>(
+    server: &Server<J, A>,
+    rt: &R,
+    alloc: A,
+    client: Client<J, A>,
+    change: &KeyChange<'_>,
+) -> (Client<J, A>, Answer<A>)
+    ensures { OrLacks (AnswersChange J.capacity J.first change.now.namespace.now change.now.key.now
+        change.now.old.now change.now.new.now) client result.1 result.0 }
+{
+    if !fits(change) {
         return (client, line_of(alloc, false, Refusal::NoMemory));
     }
-    match key_bundle(alloc, &change) {
+    match key_bundle(alloc, change) {
         Ok(bundle) => {
             let (client, ended) = push_bundle(server, rt, alloc, client, bundle.as_slice());
             let answer = reply_to(alloc, &ended);
@@ -50,6 +66,7 @@ fn reply_to<A: Allocator + Copy>(alloc: A, ended: &Option<Ended<A>>) -> Answer<A
 
 /// The line that says whether a key was set; the refusal where there is no memory for it.
 fn line_of<A: Allocator + Copy>(alloc: A, is_set: bool, refusal: Refusal) -> Answer<A>
+    ensures { (result ≡ Answer.Told (set_line is_set)) ⊎ (result ≡ Answer.Refused refusal) }
 {
     let line = match is_set {
         true => b"1\n".as_slice(),
@@ -63,7 +80,7 @@ fn line_of<A: Allocator + Copy>(alloc: A, is_set: bool, refusal: Refusal) -> Ans
 
 /// Whether the push is done and a reply of its run says 1.
 fn is_set<A: Allocator>(outcome: &Outcome<Done<A>, RunRefusal<A>>) -> bool
-    ensures { result ≡ is_set outcome.now }
+    ensures { result ≡ key_is_set outcome.now }
 {
     match outcome {
         Outcome::Done(done) => done
@@ -75,9 +92,15 @@ fn is_set<A: Allocator>(outcome: &Outcome<Done<A>, RunRefusal<A>>) -> bool
     }
 }
 
+/// Whether a parameter says that it was set.
 fn has_one<A: Allocator>(params: &[Param<A>]) -> bool
+    ensures { result ≡ list_any returns_one params.now }
 {
-    params
-        .iter()
-        .any(|param| param.key.as_slice() == b"return".as_slice() && param.value.as_slice() == b"1".as_slice())
+    params.iter().any(|param| is_one(param))
+}
+
+fn is_one<A: Allocator>(param: &Param<A>) -> bool
+    ensures { result ≡ returns_one param.now }
+{
+    param.key.as_slice() == b"return".as_slice() && param.value.as_slice() == b"1".as_slice()
 }

@@ -1,5 +1,7 @@
 //! A connection over HTTP.
 
+ghost use Rattle.hg_wire.specs.Serving.{ServesHttp};
+
 use crate::wire::Wire;
 use hg_serve::{Client, Naming, Server};
 use http_server::{Config, Connection, serve};
@@ -19,7 +21,10 @@ pub fn serve_http<J: Naming<Global>, R: Wait, I: Read, W: Write>(
     client: Client<J>,
     reader: &mut I,
     writer: &mut W,
-) -> (Client<J>, io::Result<()>) {
+) -> (Client<J>, io::Result<()>)
+    ensures { ServesHttp J.capacity J.first client (I.remaining reader.old) (I.remaining reader.new)
+        (W.contents writer.old) (W.contents writer.new) result.0 }
+{
     let mut config = Config::default();
     config.max_body_len = server.limits().stream as usize;
     let mut connection = Connection::new(alloc, keys, config);
