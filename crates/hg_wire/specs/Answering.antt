@@ -67,16 +67,22 @@ AnswersForced capacity first body false before answer after = IsSaid (Refused No
 AnswersForced capacity first body true before answer after =
     IsPushAnswered capacity first before body reply_of answer after
 
--- a push that sets the key, where a part can hold the values; else it is not set
-abbrev pub AnswersKey : {A : Type 0} → ℕ → RepositoryOf A → (List ℕ) → (List ℕ) → (List ℕ) → (List ℕ) → Bool →
+-- a push that sets the key
+abbrev pub AnswersFitting : {A : Type 0} → ℕ → RepositoryOf A → List ℕ → List ℕ → List ℕ → List ℕ →
     List (Taken A) → Answer A → List (Taken A) → Type 0
-AnswersKey capacity first namespace key old new false before answer after =
-    IsSaid (Told (set_line false)) before answer after
-AnswersKey {A} capacity first namespace key old new true before answer after =
+AnswersFitting {A} capacity first namespace key old new before answer after =
     IsPushAnswered capacity first before (bundle_bytes (key_parts {A = A} namespace key old new)) key_line
     answer after
 
-abbrev pub AnswersChange : {A : Type 0} → ℕ → RepositoryOf A → (List ℕ) → (List ℕ) → (List ℕ) → (List ℕ) →
+-- the same where a part can hold the values; else it is not set
+abbrev pub AnswersKey : {A : Type 0} → ℕ → RepositoryOf A → List ℕ → List ℕ → List ℕ → List ℕ → Bool →
+    List (Taken A) → Answer A → List (Taken A) → Type 0
+AnswersKey capacity first namespace key old new false before answer after =
+    IsSaid (Told (set_line false)) before answer after
+AnswersKey capacity first namespace key old new true before answer after =
+    AnswersFitting capacity first namespace key old new before answer after
+
+abbrev pub AnswersChange : {A : Type 0} → ℕ → RepositoryOf A → List ℕ → List ℕ → List ℕ → List ℕ →
     List (Taken A) → Answer A → List (Taken A) → Type 0
 AnswersChange capacity first namespace key old new before answer after =
     AnswersKey capacity first namespace key old new (fits namespace key old new) before answer after

@@ -39,6 +39,10 @@ pub record IsBatchText {A : Type 0} (repo : Repository A) (commands : List (Comm
   pub each : AllZip (IsCommandText repo) commands texts
   pub joined : text ≡ answers_joined texts
 
--- all of a batch's commands only read
-unfoldable pub are_reads : {A : Type 0} → List (Command A) → Bool
-are_reads commands = list_all (λ command. is_some (read_of command.name)) commands
+-- a command only reads
+abbrev pub is_read : {A : Type 0} → Command A → Bool
+is_read command = is_some (read_of command.name)
+
+-- all of a batch's commands do
+abbrev pub are_reads : {A : Type 0} → List (Command A) → Bool
+are_reads commands = list_all is_read commands

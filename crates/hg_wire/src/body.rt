@@ -1,7 +1,6 @@
 //! The reader of a request's body.
 
-ghost use Rattle.std.specs.Prelude.{◌≡◌, [], Some};
-ghost use Rattle.hg_wire.specs.code.Bodies.{told_of};
+ghost use Rattle.std.specs.Prelude.{◌≡◌, ◌<◌, ◌≤◌, [], length, take};
 
 use hg_devices::Reader;
 use http_server::Log;
@@ -46,11 +45,20 @@ impl Reader for Body<'_> {
     ghost told = { told_of };
 
     fn read(&mut self, buffer: &mut [u8]) -> Result<usize> {
-        let rest = &self.bytes[self.at..];
-        let count = rest.len().min(buffer.len());
-        buffer[..count].copy_from_slice(&rest[..count]);
+        let count = copy_front(&self.bytes[self.at..], buffer);
         self.reads = self.reads.and(&self.at, &count);
         self.at += count;
         Ok(count)
     }
+}
+
+/// Copies as many bytes from the front as there is room for, and says how many.
+fn copy_front(bytes: &[u8], buffer: &mut [u8]) -> usize
+    ensures within { (result ≤ length bytes.now) × (result ≤ length buffer.old) }
+    ensures front { take result buffer.new ≡ take result bytes.now }
+    ensures all { result ≡ 0 → 0 < length buffer.new → bytes.now ≡ [] }
+{
+    let count = bytes.len().min(buffer.len());
+    buffer[..count].copy_from_slice(&bytes[..count]);
+    count
 }

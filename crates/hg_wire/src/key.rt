@@ -1,10 +1,12 @@
 //! The command `pushkey`: a push that sets one key.
 
 ghost use Rattle.std.specs.Prelude.{◌≡◌, ◌⊎◌, true};
-ghost use Rattle.std.specs.List.{list_any};
 ghost use Rattle.hg_http.specs.Keys.{fits as can_fit};
-ghost use Rattle.hg_wire.specs.Answering.{AnswersChange, AnswersPushKey, OrLacks};
+ghost use Rattle.std.specs.List.{list_any};
+ghost use Rattle.hg_wire.specs.Answering.{AnswersChange, AnswersFitting, AnswersPushKey, OrLacks};
+ghost use Rattle.hg_wire.specs.Pushes.{IsPushAnswered};
 ghost use Rattle.hg_wire.specs.Pushes.{IsReply, is_one as returns_one, is_set as key_is_set, key_line, set_line};
+ghost use Rattle.hg_wire.specs.Pushes.{says_one as part_says_one};
 
 use crate::push::push_bundle;
 use hg_http::{Answer, KeyChange, Refusal, fits, key_bundle, read_change};
@@ -44,14 +46,41 @@ fn push_change<J: Naming<A>, A: Allocator + Copy, R: Wait>(
     if !fits(change) {
         return (client, line_of(alloc, false, Refusal::NoMemory));
     }
+    set_key(server, rt, alloc, client, change)
+}
+
+/// Pushes the bundle that asks for a change.
+fn set_key<J: Naming<A>, A: Allocator + Copy, R: Wait>(
+    server: &Server<J, A>,
+    rt: &R,
+    alloc: A,
+    client: Client<J, A>,
+    change: &KeyChange<'_>,
+) -> (Client<J, A>, Answer<A>)
+    requires { can_fit change.now.namespace.now change.now.key.now change.now.old.now
+        change.now.new.now ≡ true }
+    ensures { OrLacks (AnswersFitting J.capacity J.first change.now.namespace.now change.now.key.now
+        change.now.old.now change.now.new.now) client result.1 result.0 }
+{
     match key_bundle(alloc, change) {
-        Ok(bundle) => {
-            let (client, ended) = push_bundle(server, rt, alloc, client, bundle.as_slice());
-            let answer = reply_to(alloc, &ended);
-            (client, answer)
-        }
+        Ok(bundle) => push_for_key(server, rt, alloc, client, bundle.as_slice()),
         Err(_) => (client, Answer::Refused(Refusal::NoMemory)),
     }
+}
+
+/// Pushes a bundle, and says whether it set its key.
+fn push_for_key<J: Naming<A>, A: Allocator + Copy, R: Wait>(
+    server: &Server<J, A>,
+    rt: &R,
+    alloc: A,
+    client: Client<J, A>,
+    bundle: &[u8],
+) -> (Client<J, A>, Answer<A>)
+    ensures { IsPushAnswered J.capacity J.first client bundle.now key_line result.1 result.0 }
+{
+    let (client, ended) = push_bundle(server, rt, alloc, client, bundle);
+    let answer = reply_to(alloc, &ended);
+    (client, answer)
 }
 
 /// What a push that sets a key is answered.
@@ -83,20 +112,23 @@ fn is_set<A: Allocator>(outcome: &Outcome<Done<A>, RunRefusal<A>>) -> bool
     ensures { result ≡ key_is_set outcome.now }
 {
     match outcome {
-        Outcome::Done(done) => done
-            .replies
-            .as_slice()
-            .iter()
-            .any(|part| has_one(part.params.as_slice())),
+        Outcome::Done(done) => one_says(done.replies.as_slice()),
         Outcome::Aborted(_) => false,
     }
 }
 
-/// Whether a parameter says that it was set.
-fn has_one<A: Allocator>(params: &[Param<A>]) -> bool
-    ensures { result ≡ list_any returns_one params.now }
+/// Whether a reply says that it was set.
+fn one_says<A: Allocator>(replies: &[Part<A>]) -> bool
+    ensures { result ≡ list_any part_says_one replies.now }
 {
-    params.iter().any(|param| is_one(param))
+    replies.iter().any(|part| says_one(part))
+}
+
+/// Whether a part of a reply says that it was set.
+fn says_one<A: Allocator>(part: &Part<A>) -> bool
+    ensures { result ≡ part_says_one part.now }
+{
+    part.params.as_slice().iter().any(|param| is_one(param))
 }
 
 fn is_one<A: Allocator>(param: &Param<A>) -> bool

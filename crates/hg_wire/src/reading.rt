@@ -3,7 +3,7 @@
 ghost use Rattle.std.specs.Prelude.{◌≡◌, IfOk};
 ghost use Rattle.std.specs.List.{AllZip};
 ghost use Rattle.hg_parts.specs.Store.{repository_of, IsSound};
-ghost use Rattle.hg_wire.specs.Texts.{are_reads as all_read, IsCommandText, IsTextOf};
+ghost use Rattle.hg_wire.specs.Texts.{are_reads as all_read, is_read as only_reads, IsCommandText, IsTextOf};
 
 use hg_http::{Read, argument, read_of, subject_of};
 use hg_parts::Store;
@@ -123,7 +123,11 @@ fn text_in<A: Allocator + Copy>(
 pub fn are_reads<A: Allocator>(commands: &[Command<A>]) -> bool
     ensures { result ≡ all_read commands.now }
 {
-    commands
-        .iter()
-        .all(|command| read_of(command.name.as_slice()).is_some())
+    commands.iter().all(|command| is_read(command))
+}
+
+fn is_read<A: Allocator>(command: &Command<A>) -> bool
+    ensures { result ≡ only_reads command.now }
+{
+    read_of(command.name.as_slice()).is_some()
 }

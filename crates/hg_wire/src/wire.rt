@@ -1,5 +1,7 @@
 //! The service of one connection.
 
+ghost use Rattle.std.specs.Prelude.{◌≡◌};
+
 use crate::answering::answer_request;
 use bytes::Bytes;
 use hg_http::respond;
@@ -50,7 +52,7 @@ impl<'a, J: Naming<A>, R: Wait, A: Allocator + Copy> Wire<'a, J, R, A> {
 
     /// Its client.
     pub fn into_client(self) -> Client<J, A>
-        ensures { result ≡ self }
+        ensures { result ≡ self.entry }
     {
         let Wire {
             server: _,
