@@ -1,3 +1,4 @@
 mod Bodies
 mod Pushed
 mod Lists
+mod Served

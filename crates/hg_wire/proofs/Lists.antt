@@ -1,6 +1,9 @@
 -- Lists.
-use Rattle.std.proofs.Common.{◌≡◌, ℕ, ◌+◌, ◌<◌, List, [], ◌∷◌, ◌++◌, append-nil, refl, sym, subst, take}
+use Rattle.std.proofs.Common.{◌≡◌, ℕ, ◌+◌, ◌<◌, List, [], ◌∷◌, ◌++◌, append-nil, sym, subst, take}
 use Rattle.std.specs.List.{AllZip}
+use Rattle.std.proofs.Common.{length, ap, ◌∙◌}
+use Rattle.std.specs.Prelude.{get_or}
+use Rattle.std.proofs.lemmas.List.{take_more}
 use mathlib.Core.List.{IsPrefix}
 
 -- what holds place by place holds with one more item of each
@@ -10,6 +13,13 @@ AllZip_more R [] [] x y h r = (r, tt)
 AllZip_more R [] (b ∷ ys) x y h r = absurd h
 AllZip_more R (a ∷ xs) [] x y h r = absurd h
 AllZip_more R (a ∷ xs) (b ∷ ys) x y h r = (h.0, AllZip_more R xs ys x y h.1 r)
+
+pub AllZip_next : {X Y : Type 0} (R : X → Y → Type 0) (xs : List X) (ys : List Y) (i : ℕ) (x : X) (y : Y) →
+    i < length xs → x ≡ get_or xs i x → AllZip R (take i xs) ys → R x y →
+    AllZip R (take (i + 1) xs) (ys ++ y ∷ [])
+AllZip_next R xs ys i x y lt is h r =
+    subst (λ l. AllZip R l (ys ++ y ∷ [])) (ap (λ z. take i xs ++ z ∷ []) is ∙ sym (take_more xs i x lt))
+    (AllZip_more R (take i xs) ys x y h r)
 
 -- a list begins itself
 pub begins_itself : {X : Type 0} (xs : List X) → IsPrefix xs xs

@@ -9,12 +9,10 @@ use Rattle.hg_repo.specs.declared.done.Done.{Done}
 use Rattle.hg_parts.specs.declared.refusal.Refusal.{Refusal as RunRefusal}
 use Rattle.hg_push.specs.declared.outcome.Outcome.{Outcome}
 use Rattle.hg_push.specs.declared.outcome.Outcome.TheVariants.{Done as done_with, Aborted}
-use Rattle.hg_push.specs.Reply.{CanBeTold}
 use Rattle.hg_push.specs.Run.{RepositoryOf}
 use Rattle.hg_serve.specs.declared.desk.Answer.{Answer as Ended}
 use Rattle.hg_connection.specs.declared.ending.Ending.TheVariants.{InputEnded, ReadFailed}
 use Rattle.hg_connection.specs.Connections.{Exchange, IsExchange}
-use Rattle.hg_told.specs.declared.form.Field.{Field}
 use Rattle.hg_http.specs.declared.answer.Answer.{Answer}
 use Rattle.hg_http.specs.declared.answer.Answer.TheVariants.{Told, Refused}
 use Rattle.hg_http.specs.declared.answer.Refusal.TheVariants.{NotOpened, NoAnswer}

@@ -16,8 +16,10 @@ use crate::key::push_key;
 use crate::push::unbundle;
 use crate::reading::{Batch, Reading, are_reads};
 use bytes::Bytes;
-use hg_http::{Answer, Command, Read, Refusal, argument, command_of, is_from_client};
-use hg_http::{read_arguments, read_name, subject_of};
+use hg_http::{
+    Answer, Command, Read, Refusal, argument, command_of, is_from_client, read_arguments,
+    read_name, subject_of,
+};
 use hg_serve::{Client, Naming, Server};
 use hg_told::{Field, capabilities_text, read_batch};
 use hg_types::{NoMemory, Seq};
@@ -37,7 +39,15 @@ pub fn answer_request<J: Naming<A>, A: Allocator + Copy, R: Wait>(
 {
     match read_request(alloc, request) {
         Ok((command, fields)) => {
-            answer_command(server, rt, alloc, client, command, fields.as_slice(), request)
+            answer_command(
+                server,
+                rt,
+                alloc,
+                client,
+                command,
+                fields.as_slice(),
+                request,
+            )
         }
         Err(_) => (client, Answer::Refused(Refusal::NoMemory)),
     }
@@ -74,9 +84,7 @@ fn answer_command<J: Naming<A>, A: Allocator + Copy, R: Wait>(
         Some(Command::Tell(read)) => tell(server, rt, alloc, client, read, fields),
         Some(Command::Capabilities) => (client, capabilities(alloc)),
         Some(Command::Batch) => answer_batch(server, rt, alloc, client, fields),
-        Some(Command::Unbundle) => {
-            answer_unbundle(server, rt, alloc, client, fields, request)
-        }
+        Some(Command::Unbundle) => { answer_unbundle(server, rt, alloc, client, fields, request) }
         Some(Command::PushKey) => answer_pushkey(server, rt, alloc, client, fields, request),
         Some(Command::GetBundle) => (client, Answer::Refused(Refusal::PushesAlone)),
     }

@@ -9,8 +9,9 @@ use hg_http::{Read, argument, read_of, subject_of};
 use hg_parts::Store;
 use hg_repo::Repo;
 use hg_serve::Question;
-use hg_told::{Command, branchmap_text, heads_text, joined_answers, known_text, listkeys_text};
-use hg_told::lookup_text;
+use hg_told::{
+    Command, branchmap_text, heads_text, joined_answers, known_text, listkeys_text, lookup_text,
+};
 use hg_types::{NoMemory, Seq, Settings};
 use std::alloc::Allocator;
 
@@ -112,7 +113,14 @@ fn text_in<A: Allocator + Copy>(
         Read::Known => known_text(alloc, log, about),
         Read::ListKeys => {
             let publishing = settings.publishing;
-            listkeys_text(alloc, log, &store.phases, &store.bookmarks, publishing, about)
+            listkeys_text(
+                alloc,
+                log,
+                &store.phases,
+                &store.bookmarks,
+                publishing,
+                about,
+            )
         }
         Read::Lookup => lookup_text(alloc, log, &store.bookmarks, about),
         Read::BranchMap => branchmap_text(alloc, log, &store.markers),

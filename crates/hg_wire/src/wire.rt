@@ -34,12 +34,7 @@ impl<'a, J: Naming<A>, R: Wait, A: Allocator> Model for Wire<'a, J, R, A> {
 
 impl<'a, J: Naming<A>, R: Wait, A: Allocator + Copy> Wire<'a, J, R, A> {
     /// The service of a connection of this client.
-    pub fn new(
-        server: &'a Server<J, A>,
-        rt: &'a R,
-        alloc: A,
-        client: Client<J, A>,
-    ) -> Self
+    pub fn new(server: &'a Server<J, A>, rt: &'a R, alloc: A, client: Client<J, A>) -> Self
         ensures { result ≡ client }
     {
         Wire {
@@ -72,7 +67,11 @@ impl<J: Naming<A>, R: Wait, A: Allocator + Copy> Service for Wire<'_, J, R, A> {
 
     ghost answers = { λ old request response new. Responds J.capacity J.first old request response new };
 
-    fn call(&mut self, request: &Request<Bytes>, response: &mut Response) -> Result<(), AllocError> {
+    fn call(
+        &mut self,
+        request: &Request<Bytes>,
+        response: &mut Response,
+    ) -> Result<(), AllocError> {
         let client = match self.client.take() {
             Some(client) => client,
             None => unreachable!(),

@@ -47,15 +47,7 @@ fn answers<J: Naming<Global>, R: RandomSource + Wait + Abort>(
 ) -> (Client<J>, Vec<u8>) {
     let mut reader = asked;
     let mut told = Vec::new(alloc);
-    let (client, done) = serve_http(
-        server,
-        rt,
-        alloc,
-        state(rt),
-        client,
-        &mut reader,
-        &mut told,
-    );
+    let (client, done) = serve_http(server, rt, alloc, state(rt), client, &mut reader, &mut told);
     assert!(rt; done.is_ok(), "the connection is done");
     (client, told)
 }
@@ -108,10 +100,6 @@ fn conversed<R: RandomSource + Wait + Abort>(
 
 #[test]
 fn a_real_client_pushes_three_times(rt: HostRuntime) {
-    let said = [
-        (ASKED_0, TOLD_0),
-        (ASKED_1, TOLD_1),
-        (ASKED_2, TOLD_2),
-    ];
+    let said = [(ASKED_0, TOLD_0), (ASKED_1, TOLD_1), (ASKED_2, TOLD_2)];
     assert_eq!(rt; conversed(&rt, rt.alloc(), &said), 3);
 }
