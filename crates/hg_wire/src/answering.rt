@@ -39,15 +39,8 @@ pub fn answer_request<J: Naming<A>, A: Allocator + Copy, R: Wait>(
 {
     match read_request(alloc, request) {
         Ok((command, fields)) => {
-            answer_command(
-                server,
-                rt,
-                alloc,
-                client,
-                command,
-                fields.as_slice(),
-                request,
-            )
+            let fields = fields.as_slice();
+            answer_command(server, rt, alloc, client, command, fields, request)
         }
         Err(_) => (client, Answer::Refused(Refusal::NoMemory)),
     }
@@ -84,7 +77,7 @@ fn answer_command<J: Naming<A>, A: Allocator + Copy, R: Wait>(
         Some(Command::Tell(read)) => tell(server, rt, alloc, client, read, fields),
         Some(Command::Capabilities) => (client, capabilities(alloc)),
         Some(Command::Batch) => answer_batch(server, rt, alloc, client, fields),
-        Some(Command::Unbundle) => { answer_unbundle(server, rt, alloc, client, fields, request) }
+        Some(Command::Unbundle) => answer_unbundle(server, rt, alloc, client, fields, request),
         Some(Command::PushKey) => answer_pushkey(server, rt, alloc, client, fields, request),
         Some(Command::GetBundle) => (client, Answer::Refused(Refusal::PushesAlone)),
     }
@@ -109,8 +102,8 @@ fn tell<J: Naming<A>, A: Allocator + Copy, R: Wait>(
     read: Read,
     fields: &[Field<A>],
 ) -> (Client<J, A>, Answer<A>)
-    ensures { OrLacks (IsToldAt J.first (λ repo text. IsTextOf repo read (argument_in fields.now (subject read)) text))
-        client result.1 result.0 }
+    ensures { OrLacks (IsToldAt J.first (λ repo text. IsTextOf repo read
+        (argument_in fields.now (subject read)) text)) client result.1 result.0 }
 {
     let mut client = client;
     let about = argument(fields, subject_of(read));
@@ -171,8 +164,9 @@ fn answer_unbundle<J: Naming<A>, A: Allocator + Copy, R: Wait>(
     fields: &[Field<A>],
     request: &Request<Bytes>,
 ) -> (Client<J, A>, Answer<A>)
-    ensures { IfFromClient (came_from_client request.now) (AnswersForced J.capacity J.first (body_of request.now)
-        (bytes_eq (argument_in fields.now (codes "heads")) (codes "666f726365"))) client result.1 result.0 }
+    ensures { IfFromClient (came_from_client request.now) (AnswersForced J.capacity J.first
+        (body_of request.now) (bytes_eq (argument_in fields.now (codes "heads")) (codes "666f726365")))
+        client result.1 result.0 }
 {
     if !is_from_client(request) {
         return (client, Answer::Forbidden);
@@ -200,8 +194,8 @@ fn answer_pushkey<J: Naming<A>, A: Allocator + Copy, R: Wait>(
     fields: &[Field<A>],
     request: &Request<Bytes>,
 ) -> (Client<J, A>, Answer<A>)
-    ensures { OrLacks (IfFromClient (came_from_client request.now) (AnswersPushKey J.capacity J.first fields.now))
-        client result.1 result.0 }
+    ensures { OrLacks (IfFromClient (came_from_client request.now)
+        (AnswersPushKey J.capacity J.first fields.now)) client result.1 result.0 }
 {
     if !is_from_client(request) {
         return (client, Answer::Forbidden);

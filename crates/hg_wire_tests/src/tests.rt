@@ -5,6 +5,8 @@ ghost use Rattle.hg_types.specs.Limits.{IsAllowed};
 ghost use Rattle.hg_serve.specs.Desks.{Begins};
 
 mod conversations;
+mod memory;
+mod requests;
 
 use crate::tests::conversations::{ASKED_0, ASKED_1, ASKED_2, TOLD_0, TOLD_1, TOLD_2};
 use hg_queue::{PartQueue, Taker};
