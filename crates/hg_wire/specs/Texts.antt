@@ -1,9 +1,10 @@
 -- What the commands that only read are told of a repository.
-use Rattle.std.specs.Prelude.{ℕ, ◌≡◌, ⊤, Bool, List, [], Option, Some, None, is_some}
+use Rattle.std.specs.Prelude.{ℕ, ◌≡◌, Bool, List, [], Option, Some, None, is_some}
 use Rattle.std.specs.List.{AllZip, list_all}
 use Rattle.hg_parts.specs.Repository.{Repository}
 use Rattle.hg_told.specs.declared.batch.Command.{Command}
 use Rattle.hg_told.specs.Batch.{answers_joined}
+use Rattle.hg_told.specs.BranchMap.{IsBranchMap}
 use Rattle.hg_told.specs.Heads.{IsHeadsText, known_text}
 use Rattle.hg_told.specs.ListKeys.{listkeys_text}
 use Rattle.hg_told.specs.Lookup.{lookup_text}
@@ -12,14 +13,14 @@ use Rattle.hg_http.specs.declared.command.Read.TheVariants.{Heads, Known, ListKe
 use Rattle.hg_http.specs.Commands.{read_of, subject_of}
 use Rattle.hg_http.specs.Requests.{argument_in}
 
--- Asked about that, the repository tells this text. Nothing is said of the branches.
+-- Asked about that, the repository tells this text.
 abbrev pub IsTextOf : {A : Type 0} → Repository A → Read → List ℕ → List ℕ → Type 0
 IsTextOf repo Heads about text = IsHeadsText repo.rows text
 IsTextOf repo Known about text = text ≡ known_text repo.rows about
 IsTextOf repo ListKeys about text =
     text ≡ listkeys_text repo.rows repo.phases repo.bookmarks repo.settings.publishing about
 IsTextOf repo Lookup about text = text ≡ lookup_text repo.rows repo.bookmarks about
-IsTextOf repo BranchMap about text = ⊤
+IsTextOf repo BranchMap about text = IsBranchMap repo.rows repo.markers text
 
 -- a name of no command that reads tells nothing; a batch with one is refused
 abbrev pub IsTextIf : {A : Type 0} → Repository A → Command A → Option Read → List ℕ → Type 0
