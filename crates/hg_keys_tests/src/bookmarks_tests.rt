@@ -45,6 +45,9 @@ fn set_some<A: Allocator + Copy>(alloc: A, bookmarks: &mut Bookmarks<A>) -> Resu
     Ok(())
 }
 
+// `b`, the empty name, `ab` and `a` are set, `b` is moved, `ab` is deleted, and `c`, which is not
+// there; then the name ff. Result: the empty name, `a`, `b` with their last changesets; ff behind
+// them; `ab` is on none.
 #[test]
 fn names_in_the_order_of_their_bytes(rt: HostRuntime) -> Result<(), Fail> {
     let mut bookmarks = Bookmarks::new(rt.alloc());
@@ -66,6 +69,8 @@ fn names_in_the_order_of_their_bytes(rt: HostRuntime) -> Result<(), Fail> {
     Ok(())
 }
 
+// `ab`, `c`; a mark; `d`; a copy and another mark; the sets of the row above, `d` deleted and set.
+// Result: back: `ab`, `c` and `d` as they were at the second mark, as the copy has them.
 #[test]
 fn back_to_the_last_mark(rt: HostRuntime) -> Result<(), Fail> {
     let mut bookmarks = Bookmarks::new(rt.alloc());
@@ -113,6 +118,9 @@ fn there_and_back<A: Allocator + Copy>(alloc: A) -> (bool, bool) {
 }
 
 /// Over heaps of each multiple of 16 bytes, so that each growth is refused in turn.
+/// A set, a mark, the sets of the first row, and back, over heaps of each multiple of 16 bytes
+/// below 1,280. Result: the bookmarks at the mark, each time; a set is refused somewhere, and all
+/// are done in the end.
 #[test]
 fn each_growth_of_bookmarks_refused(rt: HostRuntime) -> Result<(), Fail> {
     let (mut refused, mut done) = (0u32, 0u32);

@@ -1,4 +1,13 @@
 //! The tests of `hg_keys`, over its contracts.
+//!
+//! The texts are those that Python's `base64.b85encode` writes.
+//!
+//! A log of the changeset of the empty text, in draft. Ids are told by their digits.
+//!
+//! Rows of the tables, and what else the tests try:
+//!
+//! - `hg_keys`: 64 MiB of the longest names; a copy of a map with them; a bookmark of 255 bytes by
+//!   pushkey.
 #![tactic(auto)]
 
 #[cfg(test)]

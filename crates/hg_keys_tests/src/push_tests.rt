@@ -197,6 +197,10 @@ fn after<A: Allocator + Copy>(alloc: A, state: RandomState, cases: &[Case]) -> O
 }
 
 /// The table of `phases`. The root goes from draft to public at the eighth call.
+/// 15 calls: from 0 to 1, from 2 to 0, an id of 39 digits, one that no row has, phases past 2; from
+/// 1 to 0, twice; back; an empty old value; the null id; `Phases` and `listkeys` as namespaces.
+/// Result: true for the first, where the present phase is the new one; true for the move to public,
+/// and again; true for the null id from 1 to 0; false for all others. The root is public.
 #[test]
 fn keys_of_phases(rt: HostRuntime) -> Result<(), Fail> {
     let cases: [Case; 15] = [
@@ -229,6 +233,10 @@ fn keys_of_phases(rt: HostRuntime) -> Result<(), Fail> {
 
 /// The table of `bookmarks`. In the end `m` is gone, and the names `a@`, `@`, `a@b@` and the empty one are
 /// there.
+/// 16 calls on `m`, `a@b`, `a@`, `@`, `a@b@`, the empty name and `x`: an old value that is none of
+/// those there; ids of no changeset, of 39 digits, null; a deletion, twice. Result: false for
+/// `a@b`, for a wrong old value where the new one is not there yet, and for ids that no changeset
+/// has; else true. Four names are left.
 #[test]
 fn keys_of_bookmarks(rt: HostRuntime) -> Result<(), Fail> {
     let cases: [Case; 16] = [
@@ -268,6 +276,10 @@ fn keys_of_bookmarks(rt: HostRuntime) -> Result<(), Fail> {
 }
 
 /// The table of `obsolete`. The one marker is there once.
+/// The keys `dump0`, `dump1`, `dump`, `dum`; an old value; text with a wrong digit, of one digit,
+/// above the greatest; marker data that is short, of another version, with a null successor, with
+/// metadata without a colon. Result: true for the first three, with one marker; false; false; each
+/// fault by its name.
 #[test]
 fn dumps_of_markers(rt: HostRuntime) -> Result<(), Fail> {
     let digit = KeyFault::BadBase85(Base85Fault::BadDigit);

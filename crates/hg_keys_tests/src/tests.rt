@@ -12,6 +12,9 @@ const MARKER: [u8; 27] = [
 
 const MARKER_TEXT: &[u8; 34] = b"000000000H5fKp)5fKp)5fKp)5fKp)5fKp";
 
+// Nothing, `a`, `ab`, `abc`, `abcd`, `Mercurial`, four bytes 11, four bytes ff, `00` and the 26
+// bytes of a marker. Result: nothing, `VE`, `VPX`, `VPaz`, `VPa!s`, `O=WUpb#iH8Yy`, `5fKp)`,
+// `\|NsC0`, `000000000H5fKp)5fKp)5fKp)5fKp)5fKp`, and back.
 #[test]
 fn texts_of_bytes(rt: HostRuntime) -> Result<(), Fail> {
     let texts: [(&[u8], &[u8]); 9] = [
@@ -32,6 +35,8 @@ fn texts_of_bytes(rt: HostRuntime) -> Result<(), Fail> {
     Ok(())
 }
 
+// `,`; `5fKp) 5fKp`; `~~~~~,` · `0`; `~~~~~0` · `~~~~~`; `~~~~`; `~~`; `00000~~`. Result: BadDigit
+// · BadLength · Overflow.
 #[test]
 fn faults_of_texts(rt: HostRuntime) -> Result<(), Fail> {
     // The whole text's digits come before its length, and that before the values.
@@ -52,6 +57,7 @@ fn faults_of_texts(rt: HostRuntime) -> Result<(), Fail> {
     Ok(())
 }
 
+// `00`. Result: one byte 00.
 #[test]
 fn two_zero_digits(rt: HostRuntime) -> Result<(), Fail> {
     assert_eq!(rt;
@@ -62,6 +68,8 @@ fn two_zero_digits(rt: HostRuntime) -> Result<(), Fail> {
     Ok(())
 }
 
+// The 34 digits, both ways, over heaps of each multiple of 16 below 512 bytes. Result: the text and
+// the bytes, or NoMemory; both occur.
 #[test]
 fn each_growth_refused(rt: HostRuntime) -> Result<(), Fail> {
     let (mut refused, mut done) = (0u32, 0u32);
@@ -91,6 +99,8 @@ fn each_growth_refused(rt: HostRuntime) -> Result<(), Fail> {
 
 /// 100,003 bytes are 125,004 digits: a heap with room for them and little more is enough, so no more is asked
 /// for than comes.
+/// 100,003 bytes over a heap of 125,200, and their 125,004 digits over one of 100,200. Result: the
+/// digits, and the bytes: no more room is asked for than comes.
 #[test]
 fn many_bytes(rt: HostRuntime) -> Result<(), Fail> {
     let bytes = vec![in rt.alloc(); 171u8; 100_003]?;

@@ -246,6 +246,11 @@ fn branches_of_mercurial(rt: HostRuntime) -> Result<(), Fail> {
     Ok(())
 }
 
+// A branch map (`the_branch_map_of_mercurial`): 18 changesets on nine branches, with a space, `;`,
+// `&`, `/`, `~`, a backslash, `%`, `+`, `=` and a letter of two bytes in their names; `stable`
+// above another branch above `stable`; a merge of two branches; a closed branch; an obsolete
+// changeset with a child that is not; a branch of two obsolete ones. Result: eight lines, that last
+// branch has none, and its two are hidden.
 #[test]
 fn the_branch_map_of_mercurial(rt: HostRuntime) -> Result<(), Fail> {
     let alloc = rt.alloc();
@@ -271,6 +276,9 @@ fn the_branch_map_of_mercurial(rt: HostRuntime) -> Result<(), Fail> {
 }
 
 /// What no Mercurial writes, and what has no third line, no second space or no key.
+/// Texts of no form (`texts_of_no_form`): empty; no end of the third line; one space; `branch`
+/// without a colon; a key with a byte before it; an escaped backslash in the key. Result:
+/// `default`.
 #[test]
 fn texts_of_no_form(rt: HostRuntime) {
     for text in [
@@ -290,6 +298,8 @@ fn texts_of_no_form(rt: HostRuntime) {
     }
 }
 
+// Escapes (`texts_with_escapes`): of each kind, two in a row, one that is cut off, and an escaped 0
+// between two keys, which parts nothing. Result: one name each.
 #[test]
 fn texts_with_escapes(rt: HostRuntime) {
     for (text, branch) in [
@@ -307,6 +317,8 @@ fn texts_with_escapes(rt: HostRuntime) {
 }
 
 /// A chain of 70, all obsolete but one: what comes behind that one is hidden, and nothing before it.
+/// A chain of 70 obsolete ones with one that is not (`a_hidden_chain`). Result: those behind it are
+/// hidden.
 #[test]
 fn a_hidden_chain(rt: HostRuntime) -> Result<(), Fail> {
     let alloc = rt.alloc();
@@ -340,6 +352,8 @@ fn a_hidden_chain(rt: HostRuntime) -> Result<(), Fail> {
 }
 
 /// A chain of 260 in which 130 branches come in turn, twice: more than one pass tells.
+/// A chain in which 130 branches come twice (`more_branches_than_a_pass_tells`). Result: the later
+/// 130.
 #[test]
 fn more_branches_than_a_pass_tells(rt: HostRuntime) -> Result<(), Fail> {
     let alloc = rt.alloc();

@@ -38,6 +38,9 @@ fn are_answered<R: RandomSource + Wait + Abort>(
 }
 
 /// Read at once, byte by byte and in pieces of seven bytes.
+/// `E R E` joined, read at once, byte by byte and in pieces of seven; `most` 9, 3, 2 and 1. Result:
+/// the replies to 3, 3, 2 and 1 of them, joined (88, 88, 76 and 12 bytes); 2, 2, 1 and 1 pushes
+/// done; no fault.
 #[test]
 fn three_bundles_on_a_connection(rt: HostRuntime) {
     let mut right = true;
@@ -73,6 +76,7 @@ fn three_bundles_on_a_connection(rt: HostRuntime) {
 }
 
 /// Behind the last bundle that is asked for nothing is read, not even the end of the input.
+/// The same byte by byte, `most` 1. Result: 12 reads.
 #[test]
 fn nothing_is_read_behind_the_last_bundle(rt: HostRuntime) {
     let mut reader = Source::in_pieces(BUNDLES, 1);
@@ -82,6 +86,7 @@ fn nothing_is_read_behind_the_last_bundle(rt: HostRuntime) {
 }
 
 /// No byte comes: the first push is opened, and is cut off.
+/// No byte. Result: one push, cut off as truncated; a reply of 62 bytes.
 #[test]
 fn an_input_without_bytes(rt: HostRuntime) {
     let mut reader = Source::new(b"");
@@ -100,6 +105,8 @@ fn an_input_without_bytes(rt: HostRuntime) {
 }
 
 /// The second bundle is given only after the first reply was written and flushed.
+/// Three times `E`, by a reader that looks at how often the writer was flushed. Result: no bundle
+/// is asked for before the reply to the one before was flushed.
 #[test]
 fn a_reply_comes_before_a_further_read(rt: HostRuntime) {
     let flushes = AtomicUsize::new(0);

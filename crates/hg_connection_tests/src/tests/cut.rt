@@ -44,6 +44,9 @@ fn is_cut<R: RandomSource + Wait + Abort>(
 
 /// Each proper prefix of a bundle with an interruption, and then the end of the input or a failed read:
 /// nothing of it is in the repository.
+/// Each proper prefix of `I`; then the end of the input, or a failed read. Result: one reply of 62
+/// bytes: `stream fault 10`, `connection lost`; the fault Stream(Truncated), ReadFailed; the failed
+/// read is the last; the report is empty.
 #[test]
 fn each_prefix_of_a_bundle(rt: HostRuntime) {
     let mut right = true;
@@ -68,6 +71,8 @@ fn each_prefix_of_a_bundle(rt: HostRuntime) {
 }
 
 /// The second bundle is cut short, or holds a fault. Its push is answered, and the first one stays done.
+/// `E`, and behind it in the same read 3 bytes; bytes of another kind; 3 bytes and a failed read.
+/// Result: two replies; the first push stays done.
 #[test]
 fn a_fault_behind_a_whole_bundle(rt: HostRuntime) {
     let truncated = ConnFault::Stream(StreamFault::Truncated);
@@ -89,6 +94,8 @@ fn a_fault_behind_a_whole_bundle(rt: HostRuntime) {
 }
 
 /// A read fails between two bundles: no push is opened for it, and nothing is written.
+/// `E`, then a failed read. Result: one reply, and the fault ReadFailed; no push is opened for the
+/// read.
 #[test]
 fn a_failed_read_between_bundles(rt: HostRuntime) {
     let mut reader = Source::failing(EMPTY, 12, 1, true);

@@ -285,6 +285,8 @@ fn held<R: Threads + Wait + RandomSource + Abort + Sync>(
 }
 
 /// The first connection's push is opened and nothing of it is read. It is answered behind the second's.
+/// Capacities 1 and 8: a connection whose push was opened is held until a second connection was
+/// answered; each sends `E`. Result: both get `E` back; the journal is [1, 0].
 #[test]
 fn a_connection_waits_for_no_other(rt: HostRuntime) {
     let scene = Scene {
@@ -298,6 +300,9 @@ fn a_connection_waits_for_no_other(rt: HostRuntime) {
 
 /// The first connection has put a part, which fills the queue, when the second pushes a changeset and is
 /// answered. Then the first one's input ends.
+/// Capacity 1: a connection that sends the first 100 bytes of `A` is held when its first part was
+/// put, until a second connection that sends `A` was answered; then its input ends. Result: 62
+/// bytes, `stream fault 10`; 67 bytes; the journal is [1].
 #[test]
 fn a_connection_ends_in_the_middle(rt: HostRuntime) {
     let leaver = Talk {

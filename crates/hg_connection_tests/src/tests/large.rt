@@ -33,6 +33,8 @@ fn many_replies(alloc: Global) -> Result<Vec<u8>, Fail> {
 }
 
 /// A bundle that comes byte by byte, by 90,000 reads, and a reply of 150,000 bytes, by 154 writes.
+/// `replycaps` and 3,000 parts `obsmarkers` without markers, byte by byte. Result: 90,000 reads,
+/// and a reply of 150,000 bytes.
 #[test]
 fn many_reads_and_a_long_reply(rt: HostRuntime) -> Result<(), Fail> {
     let bundle = many_parts(rt.alloc())?;
@@ -52,6 +54,7 @@ fn many_reads_and_a_long_reply(rt: HostRuntime) -> Result<(), Fail> {
 }
 
 /// As many bundles as a connection may have.
+/// `E` 10,000 times. Result: as many replies.
 #[test]
 fn as_many_bundles_as_a_connection_may_have(rt: HostRuntime) {
     let mut reader = Endless::new(EMPTY, EMPTY, 10_000);
@@ -68,6 +71,7 @@ fn as_many_bundles_as_a_connection_may_have(rt: HostRuntime) {
 }
 
 /// `output` with a payload of 33 MiB.
+/// `output` with 33 MiB. Result: done.
 #[test]
 fn a_large_payload(rt: HostRuntime) -> Result<(), Fail> {
     let mut bundle = Vec::from_slice(
@@ -91,6 +95,7 @@ fn a_large_payload(rt: HostRuntime) -> Result<(), Fail> {
 }
 
 /// The end of the input is read once, inside a bundle and behind one.
+/// 100 bytes of `A`, ten at a time; `E`. Result: 11 reads; 2 reads.
 #[test]
 fn the_end_is_read_once(rt: HostRuntime) {
     let mut cut = Source::in_pieces(&ROOT[..100], 10);

@@ -33,6 +33,8 @@ fn ends_at_opening<R: RandomSource + Wait + Abort>(
 
 /// At the first opening nothing is read or written. At a later one its bundle is dropped, and what was read
 /// of that is one piece at most.
+/// `E E`; `first_push` 4,294,967,295, then one less, read at once, in pieces of 12 and byte by
+/// byte. Result: Open(Exhausted); no push and no read; then one reply, and 1, 2 and 13 reads.
 #[test]
 fn an_opening_is_refused(rt: HostRuntime) {
     let right = ends_at_opening(&rt, rt.alloc(), u32::MAX, 24, 0, 0)

@@ -32,6 +32,9 @@ fn breaks<R: RandomSource + Wait + Abort>(
 }
 
 /// After each number of bytes of the reply a write fails, or takes nothing; or the flush fails.
+/// `A A`; the writer fails, or takes nothing, after each number of bytes below 67; or its flush
+/// fails. Result: so many bytes were taken, and the writer is not used again; WriteFailed; nothing
+/// more is read; the push is done.
 #[test]
 fn a_writer_fails_after_some_bytes(rt: HostRuntime) -> Result<(), Fail> {
     let bundles = root_twice(rt.alloc())?;
@@ -50,6 +53,7 @@ fn a_writer_fails_after_some_bytes(rt: HostRuntime) -> Result<(), Fail> {
 }
 
 /// The fault that came first is told: that of the bytes, though the writer failed as well.
+/// Bytes of another kind, and a writer that fails. Result: Stream(BadMagic).
 #[test]
 fn the_first_fault_is_told(rt: HostRuntime) {
     let mut reader = Source::new(b"HG10");
