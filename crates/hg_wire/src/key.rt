@@ -4,8 +4,8 @@ ghost use Rattle.std.specs.Prelude.{◌≡◌, ◌⊎◌, true};
 ghost use Rattle.hg_http.specs.Keys.{fits as can_fit};
 ghost use Rattle.std.specs.List.{list_any};
 ghost use Rattle.hg_wire.specs.Answering.{AnswersChange, AnswersFitting, AnswersPushKey, OrLacks};
-ghost use Rattle.hg_wire.specs.Pushes.{IsPushAnswered};
-ghost use Rattle.hg_wire.specs.Pushes.{IsReply, is_one as returns_one, is_set as key_is_set, key_line, set_line};
+ghost use Rattle.hg_wire.specs.Pushes.{IsPushAnswered, IsReply, is_one as returns_one};
+ghost use Rattle.hg_wire.specs.Pushes.{is_set as key_is_set, key_line, set_line};
 ghost use Rattle.hg_wire.specs.Pushes.{says_one as part_says_one};
 
 use crate::push::push_bundle;
