@@ -47,8 +47,8 @@ abbrev head_or : {X : Type 0} → X → List X → X
 head_or d [] = d
 head_or d (x ∷ xs) = x
 
-module _ {A : Type 0} (limits : Limits) (capacity : ℕ) (first : RepositoryOf A) (before after : List (Taken A))
-    (body : List ℕ) (left : BodyView) where
+module _ {A : Type 0} (limits : Limits) (capacity : ℕ) (first : RepositoryOf A)
+    (before after : List (Taken A)) (body : List ℕ) (left : BodyView) where
   abbrev rest : List ℕ
   rest = drop left.at left.bytes
 
@@ -85,13 +85,15 @@ module _ {A : Type 0} (limits : Limits) (capacity : ℕ) (first : RepositoryOf A
     abbrev served_ones : List (Exchange A)
     served_ones = c.whole ++ option_to_list c.last
 
-    pushed_one : (x : Exchange A) → served_ones ≡ x ∷ [] → IsPush capacity first before body x × (x.after ≡ after)
+    pushed_one : (x : Exchange A) → served_ones ≡ x ∷ [] →
+        IsPush capacity first before body x × (x.after ≡ after)
     pushed_one x is =
         let chain : AreExchanges limits capacity first before [] (x ∷ []) after =
         subst (λ xs. AreExchanges limits capacity first before [] xs after) is c.chain in
         let all : AllGave (reads_of served_ones ++ c.final) =
         subst AllGave c.reads (all_given left.bytes left.reads) in
-        let gave : AllGave (reads_of (x ∷ [])) = subst (λ xs. AllGave (reads_of xs)) is (front_gave (reads_of served_ones) c.final all) in
+        let gave : AllGave (reads_of (x ∷ [])) =
+        subst (λ xs. AllGave (reads_of xs)) is (front_gave (reads_of served_ones) c.final all) in
         let own : AllGave (map Gave chain.0.received.pieces ++ last_read x.ending) =
         subst AllGave (append-nil x.reads ∙ chain.0.received.reads_are) gave in
         let bytes : body ≡ (bytes_of (x ∷ []) ++ c.dropped) ++ rest =
