@@ -1,5 +1,5 @@
-pub mod Sides
+pub mod Order
+pub mod Flat
+pub mod Filled
+pub mod Own
 pub mod Search
-pub mod Moves
-pub mod Lookups
-pub mod CallerLemmas

@@ -1,129 +1,123 @@
--- Where a name is among names in order, of which one stands between lesser and greater ones.
-use Rattle.std.proofs.Common.{◌≡◌, ℕ, suc, ◌+◌, ◌-◌, ◌<◌, List, ◌∷◌, ◌++◌, length, get_or, refl, sym, ap}
-use Rattle.std.proofs.Common.{◌∙◌, arith, inl, inr, length-append, Result, Ok, Err, IfErr}
-use Rattle.std.specs.Ordering.{is_eq, ordering_reverse}
-use Rattle.std.specs.declared.cmp.Ordering.{Ordering}
-use Rattle.std.specs.declared.cmp.Ordering.TheVariants.{Less, Equal, Greater}
+-- Where a name is among blocks of names in order.
+use Rattle.std.proofs.Common.{◌≡◌, ◌≢◌, ℕ, suc, ◌+◌, ◌-◌, ◌<◌, ◌≤◌, List, length, get_or, take, Result, Ok, Err}
+use Rattle.std.proofs.Common.{IfOk, IfErr, sym, ap, ◌∙◌, subst, arith, inl, inr, refl}
+use Rattle.std.specs.List.{flat_map, All, AllWithin, HoldsAt}
+use Rattle.std.specs.List.Sorted.{IsSearchInRange, IsBinarySearchResult, IsNonDecreasingBy}
+use Rattle.std.specs.Ordering.{is_lt, ordering_index}
+use Rattle.std.specs.declared.cmp.Ordering.TheVariants.{Less, Greater}
 use Rattle.std.proofs.lemmas.Bool.{cases_lt}
 use Rattle.std.proofs.lemmas.Cmp.{nat_list_cmp_total}
-use Rattle.std.proofs.lemmas.List.{get_or_append_left, get_or-append_right}
-use Rattle.std.proofs.lemmas.Map.Text.{is_eq-slice_cmp}
-use Rattle.std.proofs.lemmas.Slice.Eq.{bytes_eq-Decides}
+use Rattle.std.proofs.lemmas.List.Concat.{get_or-flat_map}
+use Rattle.std.proofs.lemmas.List.Folds.{length-flat_map-take}
+use Rattle.std.proofs.lemmas.List.Sorted.{searchable_from_sorted}
 use Rattle.hg_types.specs.declared.node.Node.{Node}
 use Rattle.hg_names.specs.Names.{Pairs, name_cmp, AreInOrder, IsAt, IsGap}
+use Rattle.hg_names.specs.code.Blocks.{IsLess, IsGreater, IsNotGreater}
+use Rattle.hg_names.proofs.Order.{turned, names_equal, before_upto, behind_greater}
+use Rattle.hg_names.proofs.Flat.{next_start}
 
--- the order of names, turned round
-pub turned : (a b : List ℕ) (o : Ordering) → name_cmp a b ≡ o → name_cmp b a ≡ ordering_reverse o
-turned a b o is = nat_list_cmp_total.antisymm b a ∙ ap ordering_reverse is
+-- ---- a list of pairs
 
-pub names_equal : (a b : List ℕ) → name_cmp a b ≡ Equal → a ≡ b
-names_equal a b is = (bytes_eq-Decides a b).0 (sym (is_eq-slice_cmp a b) ∙ ap is_eq is)
+-- comparisons with a name rise along the pairs, as a binary search asks
+rises : (pairs : Pairs) (name : List ℕ) → AreInOrder pairs
+    → IsNonDecreasingBy (λ pair. ordering_index (name_cmp pair.0 name)) pairs
+rises pairs name in_order =
+    searchable_from_sorted nat_list_cmp_total (λ pair. pair.0) pairs name
+    (λ k d low high. ap is_lt
+    (turned (get_or pairs k d).0 (get_or pairs (k + 1) d).0 Less
+    (in_order k (k + 1) d (omega arith) high)))
 
-module _ (xs : Pairs) (y : List ℕ × Node) (zs : Pairs) where
-  at_front : (k : ℕ) (d : List ℕ × Node) → k < length xs → get_or (xs ++ y ∷ zs) k d ≡ get_or xs k d
-  at_front k d lt = get_or_append_left xs (y ∷ zs) d k lt
+-- a binary search ends at the name, or at its gap
+pub searched : (pairs : Pairs) (name : List ℕ) (r : Result ℕ ℕ) → AreInOrder pairs
+    → IsSearchInRange r (length pairs) → IsBinarySearchResult (λ pair. name_cmp pair.0 name) pairs r
+    → IfOk r (IsAt pairs name) × IfErr r (IsGap pairs name)
+searched pairs name (Ok place) in_order in_range equal =
+    (record { within = in_range; named = λ d. names_equal _ name (equal d) }, tt)
+searched pairs name (Err place) in_order in_range parted =
+    let sides = parted (rises pairs name in_order) in
+    (tt, record { within = in_range; lesser = sides.0; greater = sides.1 })
 
-  at_here : (k : ℕ) (d : List ℕ × Node) → k ≡ length xs → get_or (xs ++ y ∷ zs) k d ≡ y
-  at_here k d is =
-      let rest : k - length xs ≡ 0 = omega (arith, is) in
-      get_or-append_right xs (y ∷ zs) (length xs) k d refl (omega (arith, is))
-      ∙ ap (λ n. get_or (y ∷ zs) n d) rest
+-- ---- lists of pairs that are joined
 
-  at_rest : (k n : ℕ) (d : List ℕ × Node) → k ≡ length xs + 1 + n → get_or (xs ++ y ∷ zs) k d ≡ get_or zs n d
-  at_rest k n d is =
-      let rest : k - length xs ≡ suc n = omega (arith, is) in
-      get_or-append_right xs (y ∷ zs) (length xs) k d refl (omega (arith, is))
-      ∙ ap (λ m. get_or (y ∷ zs) m d) rest
+module _ {B : Type 0} (f : B → Pairs) (bs : List B) (b : ℕ) (e : B) (within : b < length bs) where
+  abbrev own : Pairs
+  own = f (get_or bs b e)
 
-  pub long : length (xs ++ y ∷ zs) ≡ length xs + 1 + length zs
-  long = omega (arith, length-append xs (y ∷ zs))
+  abbrev start : ℕ
+  start = length (flat_map f (take b bs))
 
-  -- both sides are in order
-  pub order_front : AreInOrder (xs ++ y ∷ zs) → AreInOrder xs
-  order_front in_order i j d below in_range =
-      rw (at_front i d (omega (arith, below, in_range)), at_front j d in_range)
-      at (in_order i j d below (omega (arith, in_range, long)))
+  at : (i : ℕ) (d : List ℕ × Node) → i < length own → get_or (flat_map f bs) (start + i) d ≡ get_or own i d
+  at i d lt = get_or-flat_map f bs b i e d within lt
 
-  pub order_rest : AreInOrder (xs ++ y ∷ zs) → AreInOrder zs
-  order_rest in_order i j d below in_range =
-      rw (at_rest (length xs + 1 + i) i d refl, at_rest (length xs + 1 + j) j d refl)
-      at (in_order (length xs + 1 + i) (length xs + 1 + j) d (omega (arith, below))
-      (omega (arith, in_range, long)))
+  fits : start + length own ≤ length (flat_map f bs)
+  fits = length-flat_map-take f bs b e within
 
-  -- the name between them comes behind the first and before the second
-  pub front_before : AreInOrder (xs ++ y ∷ zs) → (k : ℕ) (d : List ℕ × Node) → k < length xs
-      → name_cmp (get_or xs k d).0 y.0 ≡ Less
-  front_before in_order k d lt =
-      rw (at_front k d lt, at_here (length xs) d refl)
-      at (in_order k (length xs) d lt (omega (arith, long)))
+  next : length (flat_map f (take (b + 1) bs)) ≡ start + length own
+  next = next_start f bs b e within
 
-  pub rest_behind : AreInOrder (xs ++ y ∷ zs) → (k : ℕ) (d : List ℕ × Node) → k < length zs
-      → name_cmp y.0 (get_or zs k d).0 ≡ Less
-  rest_behind in_order k d lt =
-      rw (at_here (length xs) d refl, at_rest (length xs + 1 + k) k d refl)
-      at (in_order (length xs) (length xs + 1 + k) d (omega arith) (omega (arith, lt, long)))
+  first_at : (d : List ℕ × Node) → 0 < length own → get_or (flat_map f bs) start d ≡ get_or own 0 d
+  first_at d lt =
+      let same : start ≡ start + 0 = omega arith in
+      ap (λ k. get_or (flat_map f bs) k d) same ∙ at 0 d lt
 
-  pub is_at_front : (name : List ℕ) (place : ℕ) → IsAt xs name place → IsAt (xs ++ y ∷ zs) name place
-  is_at_front name place is_at = record {
-    within = omega (arith, is_at.within, long);
-    named = λ d. rw (at_front place d is_at.within) (is_at.named d);
+  pub own_order : AreInOrder (flat_map f bs) → AreInOrder own
+  own_order in_order i j d below in_range =
+      let i_in : i < length own = omega (arith, below, in_range) in
+      rw (at i d i_in, at j d in_range)
+      at (in_order (start + i) (start + j) d (omega (arith, below)) (omega (arith, in_range, fits)))
+
+  module _ (name : List ℕ) (in_order : AreInOrder (flat_map f bs)) (filled : 0 < length own) where
+    pub lesser_to : HoldsAt (IsNotGreater name) own 0 → AllWithin (IsLess name) (flat_map f bs) 0 start
+    lesser_to upto k d low high =
+        let first = first_at d filled in
+        let before : name_cmp (get_or (flat_map f bs) k d).0 (get_or own 0 d).0 ≡ Less =
+        subst (λ (p : List ℕ × Node). name_cmp (get_or (flat_map f bs) k d).0 p.0 ≡ Less) first
+        (in_order k start d high (omega (arith, fits, filled))) in
+        before_upto (get_or (flat_map f bs) k d).0 (get_or own 0 d).0 name before (upto d)
+
+    pub greater_from : HoldsAt (IsGreater name) own 0
+        → AllWithin (IsGreater name) (flat_map f bs) start (length (flat_map f bs))
+    greater_from more k d low high =
+        let first = first_at d filled in
+        elim (cases_lt start k) [
+          | inl gt ↦
+              let behind : name_cmp (get_or own 0 d).0 (get_or (flat_map f bs) k d).0 ≡ Less =
+              subst (λ (p : List ℕ × Node). name_cmp p.0 (get_or (flat_map f bs) k d).0 ≡ Less) first
+              (in_order start k d gt high) in
+              behind_greater (get_or (flat_map f bs) k d).0 (get_or own 0 d).0 name behind (more d)
+          | inr le ↦
+              let here : start ≡ k = omega (arith, le, low) in
+              subst (λ n. name_cmp (get_or (flat_map f bs) n d).0 name ≡ Greater) here
+              (subst (λ (p : List ℕ × Node). name_cmp p.0 name ≡ Greater) (sym first) (more d))
+        ]
+
+  pub at_joined : (name : List ℕ) (i : ℕ) → IsAt own name i → IsAt (flat_map f bs) name (start + i)
+  at_joined name i is_at = record {
+    within = omega (arith, is_at.within, fits);
+    named = λ d. rw (at i d is_at.within) (is_at.named d);
   }
 
-  pub is_here : (name : List ℕ) (place : ℕ) → place ≡ length xs → name_cmp name y.0 ≡ Equal
-      → IsAt (xs ++ y ∷ zs) name place
-  is_here name place is equal = record {
-    within = omega (arith, is, long);
-    named = λ d. rw (at_here place d is) (sym (names_equal name y.0 equal));
-  }
-
-  pub is_at_rest : (name : List ℕ) (place n : ℕ) → place ≡ length xs + 1 + n → IsAt zs name n
-      → IsAt (xs ++ y ∷ zs) name place
-  is_at_rest name place n is is_at = record {
-    within = omega (arith, is, is_at.within, long);
-    named = λ d. rw (at_rest place n d is) (is_at.named d);
-  }
-
-  pub is_gap_front : (name : List ℕ) (place : ℕ) → AreInOrder (xs ++ y ∷ zs) → name_cmp name y.0 ≡ Less
-      → IsGap xs name place → IsGap (xs ++ y ∷ zs) name place
-  is_gap_front name place in_order less gap = record {
-    within = omega (arith, gap.within, long);
-    lesser = λ k d low high. rw (at_front k d (omega (arith, high, gap.within))) (gap.lesser k d low high);
-    greater = λ k d low high. elim (cases_lt k (length xs)) [
-      | inl lt ↦ rw (at_front k d lt) (gap.greater k d low lt)
-      | inr ge ↦ elim (cases_lt (length xs) k) [
-        | inl gt ↦
-            let n : ℕ = k - length xs - 1 in
-            let is : k ≡ length xs + 1 + n = omega (arith, gt) in
-            let in_rest : n < length zs = omega (arith, is, high, long) in
-            rw (at_rest k n d is) (turned name _ Less
-            (nat_list_cmp_total.trans name y.0 _ less (rest_behind in_order n d in_rest)))
-        | inr le ↦ rw (at_here k d (omega (arith, ge, le))) (turned name y.0 Less less)
-      ]
+  pub gap_joined : (name : List ℕ) (i : ℕ) → AllWithin (IsLess name) (flat_map f bs) 0 start
+      → AllWithin (IsGreater name) (flat_map f bs) (length (flat_map f (take (b + 1) bs))) (length (flat_map f bs))
+      → IsGap own name i → IsGap (flat_map f bs) name (start + i)
+  gap_joined name i before behind gap = record {
+    within = omega (arith, gap.within, fits);
+    lesser = λ k d low high. elim (cases_lt k start) [
+      | inl lt ↦ before k d low lt
+      | inr ge ↦
+          let j : ℕ = k - start in
+          let is : start + j ≡ k = omega (arith, ge) in
+          let j_lt : j < i = omega (arith, is, high) in
+          subst (λ n. name_cmp (get_or (flat_map f bs) n d).0 name ≡ Less) is
+          (rw (at j d (omega (arith, j_lt, gap.within))) (gap.lesser j d (omega arith) j_lt))
+    ];
+    greater = λ k d low high. elim (cases_lt k (start + length own)) [
+      | inl lt ↦
+          let j : ℕ = k - start in
+          let is : start + j ≡ k = omega (arith, low) in
+          let j_lt : j < length own = omega (arith, is, lt) in
+          subst (λ n. name_cmp (get_or (flat_map f bs) n d).0 name ≡ Greater) is
+          (rw (at j d j_lt) (gap.greater j d (omega (arith, is, low)) j_lt))
+      | inr ge ↦ behind k d (omega (arith, ge, next)) high
     ];
   }
-
-  pub is_gap_rest : (name : List ℕ) (place n : ℕ) → AreInOrder (xs ++ y ∷ zs) → name_cmp name y.0 ≡ Greater
-      → place ≡ length xs + 1 + n → IsGap zs name n → IsGap (xs ++ y ∷ zs) name place
-  is_gap_rest name place n in_order more is gap = record {
-    within = omega (arith, is, gap.within, long);
-    lesser = λ k d low high. elim (cases_lt k (length xs)) [
-      | inl lt ↦ rw (at_front k d lt)
-          (nat_list_cmp_total.trans _ y.0 name (front_before in_order k d lt) (turned name y.0 Greater more))
-      | inr ge ↦ elim (cases_lt (length xs) k) [
-        | inl gt ↦
-            let m : ℕ = k - length xs - 1 in
-            let at : k ≡ length xs + 1 + m = omega (arith, gt) in
-            rw (at_rest k m d at) (gap.lesser m d (omega arith) (omega (arith, at, is, high)))
-        | inr le ↦ rw (at_here k d (omega (arith, ge, le))) (turned name y.0 Greater more)
-      ]
-    ];
-    greater = λ k d low high.
-        let m : ℕ = k - length xs - 1 in
-        let at : k ≡ length xs + 1 + m = omega (arith, is, low) in
-        rw (at_rest k m d at) (gap.greater m d (omega (arith, at, is, low)) (omega (arith, at, high, long)));
-  }
-
-  pub gap_front_if : (name : List ℕ) (r : Result ℕ ℕ) → AreInOrder (xs ++ y ∷ zs) → name_cmp name y.0 ≡ Less
-      → IfErr r (IsGap xs name) → IfErr r (IsGap (xs ++ y ∷ zs) name)
-  gap_front_if name (Ok place) in_order less gap = tt
-  gap_front_if name (Err place) in_order less gap = is_gap_front name place in_order less gap

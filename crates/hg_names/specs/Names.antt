@@ -39,3 +39,8 @@ pub record IsGap (pairs : Pairs) (name : List ℕ) (place : ℕ) : Type 0 where
 -- the name at a place on another changeset
 abbrev pub moved : Pairs → ℕ → Node → Pairs
 moved pairs place node = slice_set pairs place ((slice_index_or pairs place ([], node)).0, node)
+
+-- What contracts see: the pairs, and how many names can come back without asking for memory.
+pub record Held : Type 0 where
+  pub pairs : Pairs
+  pub room : ℕ

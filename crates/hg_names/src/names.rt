@@ -1,146 +1,264 @@
 //! Names in the order of their bytes, each with the changeset that it is on.
 
-ghost use Rattle.std.specs.Prelude.{◌≡◌, ◌<◌, ◌≤◌, ◌^◌, [], IfOk, IfErr, IfSome, IfNone, Some, length};
-ghost use Rattle.std.specs.Prelude.{◌-◌, slice_get, insert, remove};
+ghost use Rattle.std.specs.Prelude.{◌≡◌, ◌<◌, ◌≤◌, ◌+◌, ◌-◌, ◌^◌, [], ◌∷◌, All, IfOk, IfErr, IfSome, IfNone};
+ghost use Rattle.std.specs.Prelude.{OnOk, OnErr, Some, length, slice_get, insert, remove};
+ghost use Rattle.std.specs.List.{HoldsAt};
 ghost use Rattle.hg_names.specs.Names.{AreInOrder, IsAt, IsGap, moved, node_of};
+ghost use Rattle.hg_names.specs.code.Blocks.{IsFilled};
 
-use crate::tree::{
-    Fork, Tree, copy_of, fork_of, move_in, name_at, node_in, place_in, size, with_name,
-    without_name,
+use crate::blocks::{
+    Block, Pair, block_of, come_back, copies, count_before, join, move_in, place_in, spot_at,
+    take_out,
 };
-use hg_types::{NoMemory, Node};
+use hg_types::{NoMemory, Node, Seq};
 use std::alloc::{Allocator, Global};
 use std::marker::Model;
-use std::mem;
 
-/// A name, and the changeset that it is on, in memory of its own: it can join [`Names`] without asking for
-/// more. Contracts see the pair.
+/// A name that left [`Names`], and the changeset that it was on, with the memory in which it can come back.
+/// Contracts see the pair.
 #[derive(Drop)]
 pub struct Named<A: Allocator = Global> {
-    fork: Box<Fork<A>, A>,
+    pair: Pair<A>,
+    own: Block<A>,
 }
 
 impl<A: Allocator> Model for Named<A> {
-    ghost use Rattle.std.specs.Prelude.{ℕ, List};
+    ghost use Rattle.std.specs.Prelude.{◌≡◌, ◌<◌, ℕ, List, [], vec_len, vec_capacity};
     ghost use Rattle.hg_types.specs.declared.node.Node.{Node};
 
     ghost Value = { List ℕ × Node };
 
-    ghost use Rattle.hg_names.specs.code.Trees.{pair};
+    ghost view = { λ n. n.pair };
 
-    ghost view = { λ n. pair n.fork.value };
+    ghost invariant = { λ n. (n.own.pairs.items ≡ []) × (vec_len n.own.pairs < vec_capacity n.own.pairs) };
 }
 
-impl<A: Allocator + Copy> Named<A> {
-    /// A name on a changeset.
-    pub fn new(alloc: A, name: &[u8], node: Node) -> Result<Self, NoMemory>
-        ensures { IfOk result (λ named. named ≡ (name.now, node)) }
-    {
-        let fork = fork_of(alloc, name, node)?;
-        Ok(Named { fork })
-    }
-}
-
-/// Names, each with the changeset that it is on. Contracts see the list of these pairs.
+/// Names, each with the changeset that it is on. Contracts see the list of these pairs, and how many names
+/// that left can come back without asking for memory.
 ///
-/// What is done at a place, or to find one, takes about as many steps as the logarithm of the number of names.
+/// They are kept in blocks of at most 64. To find a name takes about as many steps as the logarithm of their
+/// number; one that joins or leaves moves those of its block, and now and then the list of blocks.
 #[derive(Drop)]
 pub struct Names<A: Allocator = Global> {
-    tree: Tree<A>,
+    blocks: Vec<Block<A>, A>,
+    len: usize,
 }
 
 impl<A: Allocator> Model for Names<A> {
-    ghost use Rattle.std.specs.Prelude.{◌≡◌, ◌<◌, ◌^◌, true, length};
-    ghost use Rattle.hg_names.specs.Names.{Pairs};
+    ghost use Rattle.std.specs.Prelude.{◌≡◌, ◌-◌, length, All, vec_len, vec_capacity};
+    ghost use Rattle.hg_names.specs.Names.{Held};
 
-    ghost Value = { Pairs };
+    ghost Value = { Held };
 
-    ghost use Rattle.hg_names.specs.code.Trees.{pairs, are_counted};
+    ghost use Rattle.hg_names.specs.code.Blocks.{pairs_in, IsFilled};
 
-    ghost view = { λ n. pairs n.tree };
+    ghost view = { λ n. record {
+      pairs = pairs_in n.blocks.items;
+      room = vec_capacity n.blocks - vec_len n.blocks;
+    } };
 
-    ghost invariant = { λ n. (are_counted n.tree ≡ true) × (length (pairs n.tree) < 2 ^ 64) };
+    ghost invariant = { λ n. (All IsFilled n.blocks.items) × (n.len ≡ length (pairs_in n.blocks.items)) };
 }
 
 impl<A: Allocator> Names<A> {
     /// No names. It takes no memory.
-    pub fn new() -> Self
-        ensures { result ≡ [] }
+    pub fn new(alloc: A) -> Self
+        ensures { result.pairs ≡ [] }
     {
-        Names { tree: Tree::Leaf }
+        Names {
+            blocks: Vec::new(alloc),
+            len: 0,
+        }
     }
 
     /// The number of names.
     pub fn len(&self) -> usize
-        ensures { result ≡ length self.now }
+        ensures { result ≡ length self.now.pairs }
     {
-        size(&self.tree)
+        self.len
     }
 
     /// The name at a place, and the changeset that it is on.
     pub fn get(&self, place: usize) -> Option<(&[u8], Node)>
-        ensures found { IfSome result (λ pair. slice_get self.now place ≡ Some (pair.0.now, pair.1)) }
-        ensures none { IfNone result (length self.now ≤ place) }
+        ensures found { IfSome result (λ pair. slice_get self.now.pairs place ≡ Some (pair.0.now, pair.1)) }
+        ensures none { IfNone result (length self.now.pairs ≤ place) }
     {
-        name_at(&self.tree, place)
+        if place >= self.len {
+            return None;
+        }
+        let spot = spot_at(self.blocks.as_slice(), place);
+        let pair = &self.blocks[spot.0].pairs[spot.1];
+        Some((pair.0.as_slice(), pair.1))
     }
 
     /// The changeset that a name is on, in names that are in the order of their bytes.
     pub fn find(&self, name: &[u8]) -> Option<Node>
-        requires { AreInOrder self.now }
-        ensures { result ≡ node_of self.now name.now }
+        requires { AreInOrder self.now.pairs }
+        ensures { result ≡ node_of self.now.pairs name.now }
     {
-        node_in(&self.tree, name)
+        if self.blocks.is_empty() {
+            return None;
+        }
+        let number = block_of(self.blocks.as_slice(), name);
+        let block = &self.blocks[number];
+        match place_in(block.pairs.as_slice(), name) {
+            Ok(place) => Some(block.pairs[place].1),
+            Err(_) => None,
+        }
     }
 
     /// Where a name is, or else where it would go, in names that are in the order of their bytes.
     pub fn place_of(&self, name: &[u8]) -> Result<usize, usize>
-        requires { AreInOrder self.now }
-        ensures found { IfOk result (IsAt self.now name.now) }
-        ensures absent { IfErr result (IsGap self.now name.now) }
+        requires { AreInOrder self.now.pairs }
+        ensures found { IfOk result (IsAt self.now.pairs name.now) }
+        ensures absent { IfErr result (IsGap self.now.pairs name.now) }
     {
-        place_in(&self.tree, name)
+        if self.blocks.is_empty() {
+            return Err(0);
+        }
+        let number = block_of(self.blocks.as_slice(), name);
+        let before = count_before(self.blocks.as_slice(), number);
+        let block = &self.blocks[number];
+        match place_in(block.pairs.as_slice(), name) {
+            Ok(place) => Ok(before + place),
+            Err(place) => Err(before + place),
+        }
     }
 
     /// Puts the name at a place on another changeset, and tells on which it was. It takes no memory.
     pub fn move_at(&mut self, place: usize, node: Node) -> Node
-        requires { place < length self.old }
-        ensures moved { self.new ≡ moved self.old place node }
-        ensures was { IfSome (slice_get self.old place) (λ pair. result ≡ pair.1) }
+        requires { place < length self.old.pairs }
+        ensures moved { self.new.pairs ≡ moved self.old.pairs place node }
+        ensures was { HoldsAt (λ pair. result ≡ pair.1) self.old.pairs place }
+        ensures room { self.new.room ≡ self.old.room }
     {
-        move_in(&mut self.tree, place, node)
+        let spot = spot_at(self.blocks.as_slice(), place);
+        move_in(&mut self.blocks, spot, node)
     }
 
-    /// Puts a name in at a place, before those from there on. It takes no memory.
-    pub fn insert(&mut self, place: usize, named: Named<A>)
-        requires within { place ≤ length self.old }
-        requires fits { length self.old < 2 ^ 64 - 1 }
-        ensures { self.new ≡ insert self.old place named }
+    /// Makes room for so many names to come back. Where memory is refused, nothing is changed.
+    pub fn reserve(&mut self, count: usize) -> Result<(), NoMemory>
+        ensures pairs { self.new.pairs ≡ self.old.pairs }
+        ensures ok { OnOk result (count ≤ self.new.room) }
+        ensures room { self.old.room ≤ self.new.room }
     {
-        let tree = mem::replace(&mut self.tree, Tree::Leaf);
-        self.tree = with_name(tree, place, named.fork);
+        self.blocks.reserve(count)?;
+        Ok(())
     }
 
-    /// Takes out the name at a place. It takes no memory.
-    pub fn remove(&mut self, place: usize) -> Named<A>
-        requires { place < length self.old }
-        ensures names { self.new ≡ remove self.old place }
-        ensures name { slice_get self.old place ≡ Some result }
-        ensures fits { length self.new < 2 ^ 64 - 1 }
+    /// Puts a name that left in at a place, before those from there on. It takes no memory.
+    pub fn put_back(&mut self, place: usize, named: Named<A>)
+        requires within { place ≤ length self.old.pairs }
+        requires fits { length self.old.pairs < 2 ^ 64 - 1 }
+        requires room { 0 < self.old.room }
+        ensures names { self.new.pairs ≡ insert self.old.pairs place named }
+        ensures room { self.old.room ≤ self.new.room + 1 }
     {
-        let tree = mem::replace(&mut self.tree, Tree::Leaf);
-        let (tree, fork) = without_name(tree, place);
-        self.tree = tree;
-        Named { fork }
+        let Named { pair, own } = named;
+        come_back(&mut self.blocks, place, pair, own);
+        self.len += 1;
     }
 }
 
 impl<A: Allocator + Copy> Names<A> {
+    /// Puts a name in at a place, before those from there on. Where memory is refused, the names are
+    /// unchanged.
+    pub fn insert(
+        &mut self,
+        alloc: A,
+        place: usize,
+        name: &[u8],
+        node: Node,
+    ) -> Result<(), NoMemory>
+        requires { place ≤ length self.old.pairs }
+        ensures ok { OnOk result (self.new.pairs ≡ insert self.old.pairs place (name.now, node)) }
+        ensures err { OnErr result (self.new.pairs ≡ self.old.pairs) }
+        ensures room { self.old.room ≤ self.new.room + 1 }
+    {
+        if self.len == usize::MAX {
+            return Err(NoMemory);
+        }
+        let name = Seq::copy_of(alloc, name)?;
+        join(alloc, &mut self.blocks, place, (name, node))?;
+        self.len += 1;
+        Ok(())
+    }
+
+    /// Takes out the name at a place, with memory in which it can come back. Where memory is refused, the
+    /// names are unchanged.
+    pub fn remove(&mut self, alloc: A, place: usize) -> Result<Named<A>, NoMemory>
+        requires { place < length self.old.pairs }
+        ensures names { OnOk result (self.new.pairs ≡ remove self.old.pairs place) }
+        ensures name { IfOk result (λ named. slice_get self.old.pairs place ≡ Some named) }
+        ensures fits { OnOk result (length self.new.pairs < 2 ^ 64 - 1) }
+        ensures err { OnErr result (self.new.pairs ≡ self.old.pairs) }
+        ensures room { self.old.room ≤ self.new.room }
+    {
+        let pairs = Vec::with_capacity(alloc, 1)?;
+        let spot = spot_at(self.blocks.as_slice(), place);
+        let pair = take_out(&mut self.blocks, spot);
+        self.len -= 1;
+        Ok(Named {
+            pair,
+            own: Block { pairs },
+        })
+    }
+
     /// A copy of all names, in their order.
     pub fn try_clone(&self, alloc: A) -> Result<Self, NoMemory>
-        ensures { IfOk result (λ copy. copy ≡ self.now) }
+        ensures { IfOk result (λ copy. copy.pairs ≡ self.now.pairs) }
     {
-        let tree = copy_of(alloc, &self.tree)?;
-        Ok(Names { tree })
+        let blocks = copies(alloc, self.blocks.as_slice())?;
+        let len = self.len;
+        Ok(Names { blocks, len })
+    }
+}
+
+/// The names from a place on, each once, in the order of their bytes. Contracts see their pairs.
+#[derive(Drop)]
+pub struct Entries<'a, A: Allocator = Global> {
+    pairs: &'a [Pair<A>],
+    blocks: &'a [Block<A>],
+}
+
+impl<'a, A: Allocator> Model for Entries<'a, A> {
+    ghost use Rattle.std.specs.Prelude.{◌++◌, All};
+    ghost use Rattle.hg_names.specs.Names.{Pairs};
+
+    ghost Value = { Pairs };
+
+    ghost use Rattle.hg_names.specs.code.Blocks.{pairs_in, IsFilled};
+
+    ghost view = { λ e. e.pairs.now ++ pairs_in e.blocks.now };
+
+    ghost invariant = { λ e. All IsFilled e.blocks.now };
+}
+
+impl<A: Allocator> Names<A> {
+    /// A walk through all names, in their order.
+    pub fn entries(&self) -> Entries<'_, A>
+        ensures { result ≡ self.now.pairs }
+    {
+        Entries {
+            pairs: &[],
+            blocks: self.blocks.as_slice(),
+        }
+    }
+}
+
+impl<'a, A: Allocator> Entries<'a, A> {
+    /// The next name, and the changeset that it is on.
+    pub fn next(&mut self) -> Option<(&'a [u8], Node)>
+        ensures some { IfSome result (λ pair. self.old ≡ (pair.0.now, pair.1) ∷ self.new) }
+        ensures none { IfNone result (self.old ≡ []) }
+    {
+        if self.pairs.is_empty() {
+            let (block, blocks) = self.blocks.split_first()?;
+            self.pairs = block.pairs.as_slice();
+            self.blocks = blocks;
+        }
+        let (pair, pairs) = self.pairs.split_first()?;
+        self.pairs = pairs;
+        Some((pair.0.as_slice(), pair.1))
     }
 }

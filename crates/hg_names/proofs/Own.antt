@@ -1,0 +1,26 @@
+-- The pairs of a block.
+use Rattle.std.proofs.Common.{◌≡◌, ℕ, ◌+◌, ◌<◌, List, length, get_or, take, sym, ap, ◌∙◌, Result, Ok, Err, OnErr}
+use Rattle.std.specs.List.{flat_map}
+use Rattle.std.proofs.lemmas.List.{get_or_read}
+use Rattle.std.proofs.lemmas.List.Concat.{get_or-flat_map}
+use Rattle.hg_types.specs.declared.node.Node.{Node}
+use Rattle.hg_names.specs.declared.blocks.Block.{Block}
+use Rattle.hg_names.specs.Names.{Pairs}
+
+abbrev pub items : {A : Type 0} → Block A → Pairs
+items block = block.pairs.items
+
+-- a pair that was read of a block is at its place among all pairs
+pub read_of : {A : Type 0} (blocks : List (Block A)) (b i : ℕ) (block : Block A) (pair : List ℕ × Node)
+    → b < length blocks → block ≡ get_or blocks b block → i < length (items block)
+    → pair ≡ get_or (items block) i pair → (d : List ℕ × Node)
+    → pair ≡ get_or (flat_map items blocks) (length (flat_map items (take b blocks)) + i) d
+read_of {A} blocks b i block pair within is lt read d =
+    let lt_own : i < length (items (get_or blocks b block)) = rw (sym is) lt in
+    get_or_read (items block) i pair lt read d ∙ ap (λ (own : Block A). get_or (items own) i d) is
+    ∙ sym (get_or-flat_map items blocks b i block d within lt_own)
+
+-- a fact that holds in any case holds after an error
+pub on_err : {X E : Type 0} (r : Result X E) (P : Type 0) → P → OnErr r P
+on_err (Ok x) P holds = tt
+on_err (Err e) P holds = holds

@@ -1,0 +1,69 @@
+use Rattle.std.proofs.Common.{◌≡◌, ℕ, ◌<◌, List, [], length, sym, ap, ◌∙◌, refl, arith, subst, true, nat_eq, vec_len, rules}
+use Rattle.std.specs.List.{remove, All}
+use Rattle.std.proofs.lemmas.Option.{slice_get_read}
+use Rattle.std.proofs.lemmas.List.Folds.{length-flat_map-take}
+use Rattle.hg_types.specs.declared.node.Node.{Node}
+use Rattle.hg_names.specs.declared.blocks.Block.{Block}
+use Rattle.hg_names.specs.code.Blocks.{pairs_in, place_at, IsFilled}
+use Rattle.hg_names.proofs.Flat.{removed, removed_whole, remove_set}
+use Rattle.hg_names.proofs.Filled.{all_removed}
+use Rattle.hg_names.proofs.Own.{items, read_of}
+use Rattle.hg_names.proofs.blocks.take_out.Goals as goal
+
+pub returns-else-is_empty-clause-pairs : goal.returns-else-is_empty-clause-pairs
+returns-else-is_empty-clause-pairs g c =
+    let spot = c.args.spot in
+    let block = c.index_mut-block.result.now in
+    let is = c.index_mut-block.ensures.value in
+    removed items c.args.blocks.now.items spot.0 block c.requires.spot.block _ spot.1
+    (c.requires.spot.within block)
+    (c.remove-pair.ensures.items ∙ ap (λ (b : Block g.row.A.Denot). remove (items b) spot.1) is)
+
+-- the block has no pair left
+none_left : {A : Type 0} (left : Vec (List ℕ × Node) A) → nat_eq (vec_len left) 0 ≡ true → left.items ≡ []
+none_left left none = search rules
+
+pub returns-then-is_empty-clause-pairs : goal.returns-then-is_empty-clause-pairs
+returns-then-is_empty-clause-pairs g c =
+    let blocks = c.args.blocks.now.items in
+    let spot = c.args.spot in
+    let block = c.index_mut-block.result.now in
+    let is = c.index_mut-block.ensures.value in
+    ap pairs_in (c.remove.ensures.items ∙ remove_set blocks spot.0 _)
+    ∙ removed_whole items blocks spot.0 block c.requires.spot.block spot.1 (c.requires.spot.within block)
+    (sym (ap (λ (b : Block g.row.A.Denot). remove (items b) spot.1) is) ∙ sym c.remove-pair.ensures.items
+    ∙ none_left c.remove-pair.new.self (sym c.is_empty.ensures ∙ c.if-is_empty.true))
+
+pub returns-then-is_empty-clause-pair : goal.returns-then-is_empty-clause-pair
+returns-then-is_empty-clause-pair g c =
+    let blocks = c.args.blocks.now.items in
+    let spot = c.args.spot in
+    let block = c.index_mut-block.result.now in
+    let pair = c.remove-pair.result in
+    let is = c.index_mut-block.ensures.value in
+    let own = c.requires.spot.within block in
+    let lt : spot.1 < length (items block) = rw is own in
+    let fits = length-flat_map-take items blocks spot.0 block c.requires.spot.block in
+    slice_get_read (pairs_in blocks) (length (pairs_in blocks)) (place_at blocks spot) pair refl
+    (omega (arith, fits, own))
+    (read_of blocks spot.0 spot.1 block pair c.requires.spot.block is lt c.remove-pair.ensures.value pair)
+
+pub returns-then-is_empty-clause-filled : goal.returns-then-is_empty-clause-filled
+returns-then-is_empty-clause-filled g c =
+    let blocks = c.args.blocks.now.items in
+    subst (All IsFilled) (sym (c.remove.ensures.items ∙ remove_set blocks c.args.spot.0 _))
+    (all_removed IsFilled blocks c.args.spot.0 c.requires.filled)
+
+pub returns-else-is_empty-clause-pair : goal.returns-else-is_empty-clause-pair
+returns-else-is_empty-clause-pair g c =
+    let blocks = c.args.blocks.now.items in
+    let spot = c.args.spot in
+    let block = c.index_mut-block.result.now in
+    let pair = c.remove-pair.result in
+    let is = c.index_mut-block.ensures.value in
+    let own = c.requires.spot.within block in
+    let lt : spot.1 < length (items block) = rw is own in
+    let fits = length-flat_map-take items blocks spot.0 block c.requires.spot.block in
+    slice_get_read (pairs_in blocks) (length (pairs_in blocks)) (place_at blocks spot) pair refl
+    (omega (arith, fits, own))
+    (read_of blocks spot.0 spot.1 block pair c.requires.spot.block is lt c.remove-pair.ensures.value pair)

@@ -1,0 +1,325 @@
+//! The blocks in which names are kept, and where a name is among them.
+
+ghost use Rattle.std.specs.Prelude.{◌≡◌, ◌<◌, ◌≤◌, ◌+◌, ◌^◌, true, false, length, All, IfOk, IfErr, OnOk, OnErr};
+ghost use Rattle.std.specs.Prelude.{[], ◌∷◌, ◌++◌, insert, remove, vec_len, vec_capacity, slice_get, Some};
+ghost use Rattle.std.specs.List.{HoldsAt, AllWithin};
+ghost use Rattle.hg_names.specs.Names.{AreInOrder, IsAt, IsGap, moved};
+ghost use Rattle.hg_names.specs.code.Blocks.{pairs_in, start_of, place_at, IsFilled, IsNotGreater, IsGreater};
+ghost use Rattle.hg_names.specs.code.Blocks.{IsLess, IsSpot, IsOpen};
+
+use hg_types::{NoMemory, Node, Seq};
+use std::alloc::{Allocator, Global};
+use std::cmp::Ordering;
+use std::mem;
+
+/// A name, and the changeset that it is on.
+pub(crate) type Pair<A> = (Seq<u8, A>, Node);
+
+/// Names that follow one another.
+#[derive(Drop)]
+pub(crate) struct Block<A: Allocator = Global> {
+    pub(crate) pairs: Vec<Pair<A>, A>,
+}
+
+/// A block with so many names is cut in two before another joins it.
+const FULL: usize = 64;
+
+/// Whether the first name of a block comes behind a name.
+fn is_behind<A: Allocator>(block: &Block<A>, name: &[u8]) -> bool
+    requires { IsFilled block.now }
+    ensures behind { result ≡ true → HoldsAt (IsGreater name.now) block.now.pairs.items 0 }
+    ensures upto { result ≡ false → HoldsAt (IsNotGreater name.now) block.now.pairs.items 0 }
+{
+    block.pairs[0].0.as_slice().cmp(name) == Ordering::Greater
+}
+
+/// The last block whose first name does not come behind a name, or else the first one.
+pub(crate) fn block_of<A: Allocator>(blocks: &[Block<A>], name: &[u8]) -> usize
+    requires filled { All IsFilled blocks.now }
+    requires some { 0 < length blocks.now }
+    requires in_order { AreInOrder (pairs_in blocks.now) }
+    ensures within { result < length blocks.now }
+    ensures lesser { AllWithin (IsLess name.now) (pairs_in blocks.now) 0 (start_of blocks.now result) }
+    ensures greater { AllWithin (IsGreater name.now) (pairs_in blocks.now)
+        (start_of blocks.now (result + 1)) (length (pairs_in blocks.now)) }
+{
+    let mut low = 0;
+    let mut high = blocks.len();
+    while high - low > 1 {
+        let middle = low + (high - low) / 2;
+        if is_behind(&blocks[middle], name) {
+            high = middle;
+        } else {
+            low = middle;
+        }
+    }
+    low
+}
+
+/// Where a name is in a block, or else where it would go.
+pub(crate) fn place_in<A: Allocator>(pairs: &[Pair<A>], name: &[u8]) -> Result<usize, usize>
+    requires { AreInOrder pairs.now }
+    ensures found { IfOk result (IsAt pairs.now name.now) }
+    ensures absent { IfErr result (IsGap pairs.now name.now) }
+{
+    pairs.binary_search_by(|pair| pair.0.as_slice().cmp(name))
+}
+
+/// The place of the first name of a block.
+pub(crate) fn count_before<A: Allocator>(blocks: &[Block<A>], block: usize) -> usize
+    requires within { block ≤ length blocks.now }
+    requires fits { length (pairs_in blocks.now) < 2 ^ 64 }
+    ensures { result ≡ start_of blocks.now block }
+{
+    let mut count = 0;
+    for number in 0..block {
+        count += blocks[number].pairs.len();
+    }
+    count
+}
+
+/// The block that has the name at a place, and the name's place in it.
+pub(crate) fn spot_at<A: Allocator>(blocks: &[Block<A>], place: usize) -> (usize, usize)
+    requires { place < length (pairs_in blocks.now) }
+    ensures place { place_at blocks.now result ≡ place }
+    ensures spot { IsSpot blocks.now result }
+{
+    let mut rest = place;
+    for (number, block) in blocks.iter().enumerate() {
+        if rest < block.pairs.len() {
+            return (number, rest);
+        }
+        rest -= block.pairs.len();
+    }
+    unreachable!()
+}
+
+/// A block that a name can join at a place, and the place in it.
+pub(crate) fn spot_for<A: Allocator>(blocks: &[Block<A>], place: usize) -> (usize, usize)
+    requires some { 0 < length blocks.now }
+    requires within { place ≤ length (pairs_in blocks.now) }
+    ensures place { place_at blocks.now result ≡ place }
+    ensures spot { IsOpen blocks.now result }
+{
+    if place == 0 {
+        return (0, 0);
+    }
+    let (block, place) = spot_at(blocks, place - 1);
+    (block, place + 1)
+}
+
+/// Cuts a block in two. Where memory is refused, the blocks are unchanged.
+pub(crate) fn split<A: Allocator + Copy>(
+    blocks: &mut Vec<Block<A>, A>,
+    block: usize,
+) -> Result<(), NoMemory>
+    requires filled { All IsFilled blocks.old.items }
+    requires within { block < vec_len blocks.old }
+    requires full { HoldsAt (λ block. 2 ≤ length block.pairs.items) blocks.old.items block }
+    ensures pairs { pairs_in blocks.new.items ≡ pairs_in blocks.old.items }
+    ensures filled { All IsFilled blocks.new.items }
+    ensures len { vec_len blocks.new ≤ vec_len blocks.old + 1 }
+    ensures capacity { vec_capacity blocks.old ≤ vec_capacity blocks.new }
+    ensures some { 0 < vec_len blocks.new }
+{
+    blocks.reserve(1)?;
+    let lower = &mut blocks[block];
+    let half = lower.pairs.len() / 2;
+    let pairs = lower.pairs.split_off(half)?;
+    blocks.insert(block + 1, Block { pairs }).unwrap();
+    Ok(())
+}
+
+/// Puts a pair into a block. Where memory is refused, the blocks are unchanged.
+pub(crate) fn put<A: Allocator>(
+    blocks: &mut Vec<Block<A>, A>,
+    spot: (usize, usize),
+    pair: Pair<A>,
+) -> Result<(), NoMemory>
+    requires filled { All IsFilled blocks.old.items }
+    requires spot { IsOpen blocks.old.items spot }
+    ensures ok { OnOk result (pairs_in blocks.new.items
+        ≡ insert (pairs_in blocks.old.items) (place_at blocks.old.items spot) pair) }
+    ensures err { OnErr result (pairs_in blocks.new.items ≡ pairs_in blocks.old.items) }
+    ensures filled { All IsFilled blocks.new.items }
+    ensures len { vec_len blocks.new ≡ vec_len blocks.old }
+    ensures capacity { vec_capacity blocks.new ≡ vec_capacity blocks.old }
+{
+    blocks[spot.0].pairs.insert(spot.1, pair)?;
+    Ok(())
+}
+
+/// Takes the pair at a spot out. A block that gets empty goes.
+pub(crate) fn take_out<A: Allocator>(
+    blocks: &mut Vec<Block<A>, A>,
+    spot: (usize, usize),
+) -> Pair<A>
+    requires filled { All IsFilled blocks.old.items }
+    requires spot { IsSpot blocks.old.items spot }
+    ensures pairs { pairs_in blocks.new.items
+        ≡ remove (pairs_in blocks.old.items) (place_at blocks.old.items spot) }
+    ensures pair { slice_get (pairs_in blocks.old.items) (place_at blocks.old.items spot) ≡ Some result }
+    ensures filled { All IsFilled blocks.new.items }
+    ensures len { vec_len blocks.new ≤ vec_len blocks.old }
+    ensures capacity { vec_capacity blocks.new ≡ vec_capacity blocks.old }
+{
+    let block = &mut blocks[spot.0];
+    let pair = block.pairs.remove(spot.1);
+    if block.pairs.is_empty() {
+        blocks.remove(spot.0);
+    }
+    pair
+}
+
+/// Puts the name at a spot on another changeset, and tells on which it was.
+pub(crate) fn move_in<A: Allocator>(
+    blocks: &mut Vec<Block<A>, A>,
+    spot: (usize, usize),
+    node: Node,
+) -> Node
+    requires filled { All IsFilled blocks.old.items }
+    requires spot { IsSpot blocks.old.items spot }
+    ensures pairs { pairs_in blocks.new.items
+        ≡ moved (pairs_in blocks.old.items) (place_at blocks.old.items spot) node }
+    ensures was { HoldsAt (λ pair. result ≡ pair.1) (pairs_in blocks.old.items) (place_at blocks.old.items spot) }
+    ensures filled { All IsFilled blocks.new.items }
+    ensures len { vec_len blocks.new ≡ vec_len blocks.old }
+    ensures capacity { vec_capacity blocks.new ≡ vec_capacity blocks.old }
+{
+    let pair = &mut blocks[spot.0].pairs[spot.1];
+    mem::replace(&mut pair.1, node)
+}
+
+/// Puts a pair in at a place, in a block of its own where there is none, and cuts a full block in two before.
+/// Where memory is refused, the names are unchanged.
+pub(crate) fn join<A: Allocator + Copy>(
+    alloc: A,
+    blocks: &mut Vec<Block<A>, A>,
+    place: usize,
+    pair: Pair<A>,
+) -> Result<(), NoMemory>
+    requires filled { All IsFilled blocks.old.items }
+    requires within { place ≤ length (pairs_in blocks.old.items) }
+    ensures ok { OnOk result (pairs_in blocks.new.items ≡ insert (pairs_in blocks.old.items) place pair) }
+    ensures err { OnErr result (pairs_in blocks.new.items ≡ pairs_in blocks.old.items) }
+    ensures filled { All IsFilled blocks.new.items }
+    ensures len { vec_len blocks.new ≤ vec_len blocks.old + 1 }
+    ensures capacity { vec_capacity blocks.old ≤ vec_capacity blocks.new }
+{
+    if blocks.is_empty() {
+        return begin(alloc, blocks, pair);
+    }
+    let spot = spot_for(blocks.as_slice(), place);
+    if blocks[spot.0].pairs.len() >= FULL {
+        split(blocks, spot.0)?;
+        let spot = spot_for(blocks.as_slice(), place);
+        return put(blocks, spot, pair);
+    }
+    put(blocks, spot, pair)
+}
+
+/// Puts the first pair in. Where memory is refused, there is none.
+fn begin<A: Allocator + Copy>(
+    alloc: A,
+    blocks: &mut Vec<Block<A>, A>,
+    pair: Pair<A>,
+) -> Result<(), NoMemory>
+    requires { vec_len blocks.old ≡ 0 }
+    ensures ok { OnOk result (pairs_in blocks.new.items ≡ pair ∷ []) }
+    ensures err { OnErr result (blocks.new.items ≡ []) }
+    ensures filled { All IsFilled blocks.new.items }
+    ensures len { vec_len blocks.new ≤ 1 }
+    ensures capacity { vec_capacity blocks.old ≤ vec_capacity blocks.new }
+{
+    let mut pairs = Vec::with_capacity(alloc, 1)?;
+    pairs.push_reserved(pair);
+    blocks.push(Block { pairs })?;
+    Ok(())
+}
+
+/// Puts a pair in at a place, with an empty block that has room for one. It takes no memory: where the block
+/// that the pair would join has no room, its last pair moves on into the block that came with the pair.
+pub(crate) fn come_back<A: Allocator>(
+    blocks: &mut Vec<Block<A>, A>,
+    place: usize,
+    pair: Pair<A>,
+    mut own: Block<A>,
+)
+    requires filled { All IsFilled blocks.old.items }
+    requires within { place ≤ length (pairs_in blocks.old.items) }
+    requires room { vec_len blocks.old < vec_capacity blocks.old }
+    requires empty { own.pairs.items ≡ [] }
+    requires own_room { vec_len own.pairs < vec_capacity own.pairs }
+    ensures pairs { pairs_in blocks.new.items ≡ insert (pairs_in blocks.old.items) place pair }
+    ensures filled { All IsFilled blocks.new.items }
+    ensures len { vec_len blocks.new ≤ vec_len blocks.old + 1 }
+    ensures capacity { vec_capacity blocks.old ≤ vec_capacity blocks.new }
+{
+    if blocks.is_empty() {
+        own.pairs.push_reserved(pair);
+        blocks.push_reserved(own);
+        return;
+    }
+    let spot = spot_for(blocks.as_slice(), place);
+    let block = &mut blocks[spot.0];
+    if block.pairs.len() < block.pairs.capacity() {
+        block.pairs.insert(spot.1, pair).unwrap();
+        return;
+    }
+    let last = with_last_out(&mut block.pairs, spot.1, pair);
+    own.pairs.push_reserved(last);
+    blocks.insert(spot.0 + 1, own).unwrap();
+}
+
+/// Puts a pair in at a place, and takes the last one out, which may be the same.
+fn with_last_out<A: Allocator>(
+    pairs: &mut Vec<Pair<A>, A>,
+    place: usize,
+    pair: Pair<A>,
+) -> Pair<A>
+    requires filled { 0 < length pairs.old.items }
+    requires within { place ≤ length pairs.old.items }
+    ensures pairs { pairs.new.items ++ result ∷ [] ≡ insert pairs.old.items place pair }
+    ensures filled { 0 < length pairs.new.items }
+{
+    if place == pairs.len() {
+        return pair;
+    }
+    let Some(last) = pairs.pop() else {
+        unreachable!()
+    };
+    pairs.insert(place, pair).unwrap();
+    last
+}
+
+/// A copy of all blocks.
+pub(crate) fn copies<A: Allocator + Copy>(
+    alloc: A,
+    blocks: &[Block<A>],
+) -> Result<Vec<Block<A>, A>, NoMemory>
+    requires filled { All IsFilled blocks.now }
+    ensures pairs { IfOk result (λ copies. pairs_in copies.items ≡ pairs_in blocks.now) }
+    ensures filled { IfOk result (λ copies. All IsFilled copies.items) }
+{
+    let mut copies = Vec::with_capacity(alloc, blocks.len())?;
+    for block in blocks {
+        let pairs = pair_copies(alloc, block.pairs.as_slice())?;
+        copies.push(Block { pairs })?;
+    }
+    Ok(copies)
+}
+
+/// A copy of each pair in turn.
+fn pair_copies<A: Allocator + Copy>(
+    alloc: A,
+    pairs: &[Pair<A>],
+) -> Result<Vec<Pair<A>, A>, NoMemory>
+    ensures { IfOk result (λ copies. copies.items ≡ pairs.now) }
+{
+    let mut copies = Vec::with_capacity(alloc, pairs.len())?;
+    for pair in pairs {
+        let name = Seq::copy_of(alloc, pair.0.as_slice())?;
+        copies.push((name, pair.1))?;
+    }
+    Ok(copies)
+}
