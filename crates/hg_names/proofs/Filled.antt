@@ -14,7 +14,7 @@ module _ {X : Type 0} (P : X → Type 0) where
   all_drop xs i all k d lt =
       rw (get_or-drop i xs k d) (all (i + k) d (omega (arith, length-drop i xs, lt)))
 
-  all_one : (x : X) → P x → All P (x ∷ [])
+  pub all_one : (x : X) → P x → All P (x ∷ [])
   all_one x holds k d lt =
       let first : 0 ≡ k = omega (arith, lt) in
       subst (λ n. P (get_or (x ∷ []) n d)) first holds
@@ -27,3 +27,6 @@ module _ {X : Type 0} (P : X → Type 0) where
   pub all_removed : (xs : List X) (i : ℕ) → All P xs → All P (remove xs i)
   all_removed xs i all =
       All-append P (take i xs) (drop (suc i) xs) (all_take xs i all) (all_drop xs (suc i) all)
+
+  pub all_rest : (x : X) (xs : List X) → All P (x ∷ xs) → All P xs
+  all_rest x xs all k d lt = all (suc k) d (omega (arith, lt))

@@ -68,9 +68,9 @@ module _ {B Y : Type 0} (f : B → List Y) where
         with_one new ∙ ap (λ l. flat_map f (take b bs) ++ (l ++ flat_map f (drop (b + 1) bs))) is ∙ sym parted
 
     -- one of them in two
-    pub in_two : (lower upper : B) → f (get_or bs b d) ≡ f lower ++ f upper
-        → flat_map f (insert (set bs b lower) (b + 1) upper) ≡ flat_map f bs
-    in_two lower upper is =
+    two_parts : (lower upper : B) → flat_map f (insert (set bs b lower) (b + 1) upper)
+        ≡ flat_map f (take b bs) ++ ((f lower ++ f upper) ++ flat_map f (drop (b + 1) bs))
+    two_parts lower upper =
         let front = flat_map f (take b bs) in
         let rest = flat_map f (drop (b + 1) bs) in
         flat_map-append f (take (b + 1) (set bs b lower)) (upper ∷ drop (b + 1) (set bs b lower))
@@ -82,8 +82,21 @@ module _ {B Y : Type 0} (f : B → List Y) where
         ∙ ap (λ l. (front ++ l) ++ (f upper ++ rest)) (append-nil (f lower))
         ∙ append_assoc front (f lower) (f upper ++ rest)
         ∙ ap (λ l. front ++ l) (sym (append_assoc (f lower) (f upper) rest))
-        ∙ ap (λ l. front ++ (l ++ rest)) (sym is)
-        ∙ sym parted
+
+    pub in_two : (lower upper : B) → f (get_or bs b d) ≡ f lower ++ f upper
+        → flat_map f (insert (set bs b lower) (b + 1) upper) ≡ flat_map f bs
+    in_two lower upper is =
+        two_parts lower upper
+        ∙ ap (λ l. flat_map f (take b bs) ++ (l ++ flat_map f (drop (b + 1) bs))) (sym is) ∙ sym parted
+
+    pub inserted_in_two : (lower upper : B) (i : ℕ) (y : Y) → i ≤ length (f (get_or bs b d))
+        → f lower ++ f upper ≡ insert (f (get_or bs b d)) i y
+        → flat_map f (insert (set bs b lower) (b + 1) upper) ≡ insert (flat_map f bs) (start bs b + i) y
+    inserted_in_two lower upper i y le is =
+        two_parts lower upper
+        ∙ ap (λ l. flat_map f (take b bs) ++ (l ++ flat_map f (drop (b + 1) bs))) is
+        ∙ sym (insert_mid (flat_map f (take b bs)) (f (get_or bs b d)) (flat_map f (drop (b + 1) bs)) i y le)
+        ∙ ap (λ l. insert l (start bs b + i) y) (sym parted)
 
     -- an edit in one of them
     pub inserted : (new : B) (i : ℕ) (y : Y) → i ≤ length (f (get_or bs b d)) → f new ≡ insert (f (get_or bs b d)) i y

@@ -3,3 +3,4 @@ pub mod Flat
 pub mod Filled
 pub mod Own
 pub mod Search
+pub mod Lookups

@@ -1,7 +1,9 @@
 -- The pairs of a block.
 use Rattle.std.proofs.Common.{◌≡◌, ℕ, ◌+◌, ◌<◌, List, length, get_or, take, sym, ap, ◌∙◌, Result, Ok, Err, OnErr}
+use Rattle.std.proofs.Common.{[], ◌∷◌, cond, is_ok, refl, arith, vec_len}
 use Rattle.std.specs.List.{flat_map}
-use Rattle.std.proofs.lemmas.List.{get_or_read}
+use Rattle.std.proofs.lemmas.Grind.{common_steps}
+use Rattle.std.proofs.lemmas.List.{get_or_read, nil_from_length}
 use Rattle.std.proofs.lemmas.List.Concat.{get_or-flat_map}
 use Rattle.hg_types.specs.declared.node.Node.{Node}
 use Rattle.hg_names.specs.declared.blocks.Block.{Block}
@@ -24,3 +26,17 @@ read_of {A} blocks b i block pair within is lt read d =
 pub on_err : {X E : Type 0} (r : Result X E) (P : Type 0) → P → OnErr r P
 on_err (Ok x) P holds = tt
 on_err (Err e) P holds = holds
+
+-- what is so where a call succeeded, after one that did
+pub where_ok : {X E L : Type 0} (r : Result X E) (x : X) (new same : List L) → r ≡ Ok x
+    → cond (is_ok r) new same ≡ new
+where_ok {X} {E} r x new same is = ap (λ (s : Result X E). cond (is_ok s) new same) is
+
+-- a block whose vector has no items
+pub none_left : {A : Type 0} (block : Block A) → vec_len block.pairs ≡ 0 → items block ≡ []
+none_left block none = nil_from_length (items block) (grind (arith, common_steps, none))
+
+-- where there are names there are blocks
+pub some_block : {A : Type 0} (blocks : List (Block A)) → 0 < length (flat_map items blocks) → 0 < length blocks
+some_block [] some = some
+some_block (block ∷ blocks) some = omega arith

@@ -49,7 +49,7 @@ module _ {B : Type 0} (f : B → Pairs) (bs : List B) (b : ℕ) (e : B) (within 
   at : (i : ℕ) (d : List ℕ × Node) → i < length own → get_or (flat_map f bs) (start + i) d ≡ get_or own i d
   at i d lt = get_or-flat_map f bs b i e d within lt
 
-  fits : start + length own ≤ length (flat_map f bs)
+  pub fits : start + length own ≤ length (flat_map f bs)
   fits = length-flat_map-take f bs b e within
 
   next : length (flat_map f (take (b + 1) bs)) ≡ start + length own

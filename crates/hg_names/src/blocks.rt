@@ -114,7 +114,7 @@ pub(crate) fn split<A: Allocator + Copy>(
     block: usize,
 ) -> Result<(), NoMemory>
     requires filled { All IsFilled blocks.old.items }
-    requires within { block < vec_len blocks.old }
+    requires within { block < length blocks.old.items }
     requires full { HoldsAt (λ block. 2 ≤ length block.pairs.items) blocks.old.items block }
     ensures pairs { pairs_in blocks.new.items ≡ pairs_in blocks.old.items }
     ensures filled { All IsFilled blocks.new.items }
@@ -150,10 +150,7 @@ pub(crate) fn put<A: Allocator>(
 }
 
 /// Takes the pair at a spot out. A block that gets empty goes.
-pub(crate) fn take_out<A: Allocator>(
-    blocks: &mut Vec<Block<A>, A>,
-    spot: (usize, usize),
-) -> Pair<A>
+pub(crate) fn take_out<A: Allocator>(blocks: &mut Vec<Block<A>, A>, spot: (usize, usize)) -> Pair<A>
     requires filled { All IsFilled blocks.old.items }
     requires spot { IsSpot blocks.old.items spot }
     ensures pairs { pairs_in blocks.new.items
@@ -272,11 +269,7 @@ pub(crate) fn come_back<A: Allocator>(
 }
 
 /// Puts a pair in at a place, and takes the last one out, which may be the same.
-fn with_last_out<A: Allocator>(
-    pairs: &mut Vec<Pair<A>, A>,
-    place: usize,
-    pair: Pair<A>,
-) -> Pair<A>
+fn with_last_out<A: Allocator>(pairs: &mut Vec<Pair<A>, A>, place: usize, pair: Pair<A>) -> Pair<A>
     requires filled { 0 < length pairs.old.items }
     requires within { place ≤ length pairs.old.items }
     ensures pairs { pairs.new.items ++ result ∷ [] ≡ insert pairs.old.items place pair }

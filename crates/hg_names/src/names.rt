@@ -113,7 +113,7 @@ impl<A: Allocator> Names<A> {
         ensures found { IfOk result (IsAt self.now.pairs name.now) }
         ensures absent { IfErr result (IsGap self.now.pairs name.now) }
     {
-        if self.blocks.is_empty() {
+        if self.len == 0 {
             return Err(0);
         }
         let number = block_of(self.blocks.as_slice(), name);
@@ -252,12 +252,13 @@ impl<'a, A: Allocator> Entries<'a, A> {
         ensures some { IfSome result (λ pair. self.old ≡ (pair.0.now, pair.1) ∷ self.new) }
         ensures none { IfNone result (self.old ≡ []) }
     {
-        if self.pairs.is_empty() {
-            let (block, blocks) = self.blocks.split_first()?;
-            self.pairs = block.pairs.as_slice();
-            self.blocks = blocks;
+        if let Some((pair, pairs)) = self.pairs.split_first() {
+            self.pairs = pairs;
+            return Some((pair.0.as_slice(), pair.1));
         }
-        let (pair, pairs) = self.pairs.split_first()?;
+        let (block, blocks) = self.blocks.split_first()?;
+        let (pair, pairs) = block.pairs.as_slice().split_first()?;
+        self.blocks = blocks;
         self.pairs = pairs;
         Some((pair.0.as_slice(), pair.1))
     }

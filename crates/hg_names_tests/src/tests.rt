@@ -9,32 +9,41 @@ use std::test::*;
 /// How many names the larger test has.
 const MANY: u16 = 20_000;
 
+/// How many names there are to choose from where a plain list is the model.
+const SMALL: u64 = 700;
+
 fn node(byte: u8) -> Node {
     Node([byte; 20])
 }
 
-/// Whether the names are these, in this order, each at its place.
+/// Whether the names are these, in this order, each at its place and once on the walk.
 fn are<A: Allocator>(names: &Names<A>, wanted: &[(&[u8], Node)]) -> bool {
     let mut same = names.len() == wanted.len() && names.get(wanted.len()).is_none();
+    let mut walk = names.entries();
     for (place, pair) in wanted.iter().enumerate() {
         same = same
+            && walk
+                .next()
+                .is_some_and(|found| found.0 == pair.0 && found.1 == pair.1)
             && names
                 .get(place)
                 .is_some_and(|found| found.0 == pair.0 && found.1 == pair.1)
+            && names.find(pair.0) == Some(pair.1)
             && names.place_of(pair.0) == Ok(place);
     }
-    same
+    same && walk.next().is_none()
 }
 
 #[test]
 fn names_at_their_places(rt: HostRuntime) -> Result<(), Fail> {
     let alloc = rt.alloc();
-    let mut names = Names::new();
+    let mut names = Names::new(alloc);
     assert!(rt; are(&names, &[]));
-    names.insert(0, Named::new(alloc, b"b", node(1))?);
-    names.insert(0, Named::new(alloc, b"", node(2))?);
-    names.insert(2, Named::new(alloc, &[255], node(3))?);
-    names.insert(1, Named::new(alloc, b"ab", node(4))?);
+    assert!(rt; names.place_of(b"a") == Err(0));
+    names.insert(alloc, 0, b"b", node(1))?;
+    names.insert(alloc, 0, b"", node(2))?;
+    names.insert(alloc, 2, &[255], node(3))?;
+    names.insert(alloc, 1, b"ab", node(4))?;
     assert!(rt;
         are(
             &names,
@@ -49,16 +58,18 @@ fn names_at_their_places(rt: HostRuntime) -> Result<(), Fail> {
     assert!(rt; names.place_of(b"a") == Err(1));
     assert!(rt; names.place_of(b"bb") == Err(3));
     assert!(rt; names.place_of(&[255, 0]) == Err(4));
+    assert!(rt; names.find(b"a").is_none());
     assert!(rt; names.move_at(2, node(9)) == node(1));
     let copy = names.try_clone(alloc)?;
-    let gone = names.remove(1);
+    let gone = names.remove(alloc, 1)?;
     assert!(rt;
         are(
             &names,
             &[(b"", node(2)), (b"b", node(9)), (&[255], node(3))]
         )
     );
-    names.insert(1, gone);
+    names.reserve(1)?;
+    names.put_back(1, gone);
     assert!(rt;
         are(
             &copy,
@@ -74,8 +85,7 @@ fn names_at_their_places(rt: HostRuntime) -> Result<(), Fail> {
     Ok(())
 }
 
-/// Puts many names in, each before the first, in the middle or behind the last, and whether each is then where
-/// it belongs.
+/// Puts many names in, each before the first or behind the last.
 fn put_many<A: Allocator + Copy>(
     alloc: A,
     names: &mut Names<A>,
@@ -83,57 +93,177 @@ fn put_many<A: Allocator + Copy>(
 ) -> Result<(), NoMemory> {
     for number in 0..half {
         let below = half.saturating_sub(1).saturating_sub(number);
-        names.insert(0, Named::new(alloc, &below.to_be_bytes(), node(1))?);
+        names.insert(alloc, 0, &below.to_be_bytes(), node(1))?;
         let above = half.saturating_add(number);
         let last = names.len();
-        names.insert(last, Named::new(alloc, &above.to_be_bytes(), node(2))?);
+        names.insert(alloc, last, &above.to_be_bytes(), node(2))?;
     }
     Ok(())
 }
 
 #[test]
 fn many_names_at_their_places(rt: HostRuntime) -> Result<(), Fail> {
-    let mut names = Names::new();
-    put_many(rt.alloc(), &mut names, MANY / 2)?;
+    let alloc = rt.alloc();
+    let mut names = Names::new(alloc);
+    put_many(alloc, &mut names, MANY / 2)?;
     assert!(rt; names.len() == usize::from(MANY));
+    let mut walk = names.entries();
     for number in 0..MANY {
         let place = usize::from(number);
-        assert!(rt; names.place_of(&number.to_be_bytes()) == Ok(place));
+        let bytes = number.to_be_bytes();
+        assert!(rt; names.place_of(&bytes) == Ok(place));
         assert!(rt;
             names
                 .get(place)
-                .is_some_and(|found| found.0 == number.to_be_bytes().as_slice())
+                .is_some_and(|found| found.0 == bytes.as_slice())
         );
+        assert!(rt; walk.next().is_some_and(|found| found.0 == bytes.as_slice()));
     }
+    assert!(rt; walk.next().is_none());
     for number in 0..MANY / 2 {
-        drop(names.remove(usize::from(number)));
+        drop(names.remove(alloc, usize::from(number))?);
     }
     for number in 0..MANY / 2 {
         let odd = number.saturating_mul(2).saturating_add(1);
         assert!(rt; names.place_of(&odd.to_be_bytes()) == Ok(usize::from(number)));
     }
     for _ in 0..MANY / 2 {
-        drop(names.remove(0));
+        drop(names.remove(alloc, 0)?);
     }
     assert!(rt; names.len() == 0);
+    assert!(rt; names.entries().next().is_none());
     Ok(())
 }
 
-/// Over heaps of each multiple of 16 bytes, so that each growth of a copy is refused in turn.
+/// The next of a row of numbers that look like chance.
+fn next_chance(seed: u64) -> u64 {
+    seed.wrapping_mul(6_364_136_223_846_793_005)
+        .wrapping_add(1_442_695_040_888_963_407)
+}
+
+/// Names come, move and go in an order like chance; a plain sorted list tells what has to be there.
+#[test]
+fn names_like_a_sorted_list(rt: HostRuntime) -> Result<(), Fail> {
+    let alloc = rt.alloc();
+    let mut names = Names::new(alloc);
+    let mut model: Vec<(u64, u8)> = Vec::new(alloc);
+    let mut seed = 12_345u64;
+    for turn in 0..6_000u32 {
+        seed = next_chance(seed);
+        let name = (seed >> 33) % SMALL;
+        let byte = (seed >> 20) as u8;
+        let bytes = name.to_be_bytes();
+        match model.binary_search_by(|pair| pair.0.cmp(&name)) {
+            Ok(place) => {
+                assert!(rt; names.place_of(&bytes) == Ok(place));
+                if turn % 3 == 0 {
+                    drop(names.remove(alloc, place)?);
+                    model.remove(place);
+                } else {
+                    let was = names.move_at(place, node(byte));
+                    assert!(rt; was == node(model[place].1));
+                    model[place].1 = byte;
+                }
+            }
+            Err(place) => {
+                assert!(rt; names.place_of(&bytes) == Err(place));
+                names.insert(alloc, place, &bytes, node(byte))?;
+                model.insert(place, (name, byte))?;
+            }
+        }
+    }
+    let mut walk = names.entries();
+    for pair in &model {
+        assert!(rt;
+            walk.next().is_some_and(|found| found.0 == pair.0.to_be_bytes().as_slice()
+                && found.1 == node(pair.1))
+        );
+    }
+    assert!(rt; walk.next().is_none() && model.len() > 100);
+    Ok(())
+}
+
+/// Names that left come back among full blocks, each at its place.
+#[test]
+fn names_come_back(rt: HostRuntime) -> Result<(), Fail> {
+    let alloc = rt.alloc();
+    let mut names = Names::new(alloc);
+    put_many(alloc, &mut names, 300)?;
+    let mut gone: Vec<Named> = Vec::new(alloc);
+    for _ in 0..100 {
+        gone.push(names.remove(alloc, 200)?)?;
+    }
+    let between = 200u16.to_be_bytes();
+    for number in 0..500u16 {
+        let low = number.to_be_bytes();
+        let name = [between[0], between[1], low[0], low[1]];
+        names.insert(
+            alloc,
+            usize::from(number).saturating_add(200),
+            &name,
+            node(7),
+        )?;
+    }
+    names.reserve(100)?;
+    while let Some(named) = gone.pop() {
+        names.put_back(200, named);
+    }
+    for number in 0..500u16 {
+        drop(names.remove(alloc, 300)?);
+        assert!(rt; names.len() == usize::from(1_099u16.saturating_sub(number)));
+    }
+    for number in 0..600u16 {
+        assert!(rt; names.place_of(&number.to_be_bytes()) == Ok(usize::from(number)));
+    }
+    Ok(())
+}
+
+/// Over heaps of each multiple of 16 bytes, so that each growth is refused in turn: what is refused leaves the
+/// names as they were.
 #[test]
 fn each_growth_refused(rt: HostRuntime) -> Result<(), Fail> {
     let (mut refused, mut done) = (0u32, 0u32);
-    for sixteens in 1..200usize {
-        let heap = LocalHeap::new(rt.alloc(), sixteens * 16)?;
-        let mut names = Names::new();
-        let put = put_many(&heap, &mut names, 4);
-        let copy = names.try_clone(&heap);
-        match copy {
+    for sixteens in (1..2_000usize).step_by(3) {
+        let heap = LocalHeap::new(rt.alloc(), sixteens.saturating_mul(16))?;
+        let mut names = Names::new(&heap);
+        let mut count = 0usize;
+        for number in 0..140u16 {
+            if names
+                .insert(&heap, count, &number.to_be_bytes(), node(1))
+                .is_err()
+            {
+                break;
+            }
+            count = count.saturating_add(1);
+        }
+        assert!(rt; names.len() == count);
+        let mut walk = names.entries();
+        for number in 0..count {
+            assert!(rt;
+                walk.next().is_some_and(|found| {
+                    found.0 == (number as u16).to_be_bytes().as_slice() && found.1 == node(1)
+                })
+            );
+        }
+        assert!(rt; walk.next().is_none());
+        match names.try_clone(&heap) {
             Ok(copy) => assert!(rt; copy.len() == names.len()),
             Err(_) => refused = refused.saturating_add(1),
         }
-        if put.is_ok() {
-            assert!(rt; names.len() == 8);
+        if count > 0 {
+            match names.remove(&heap, 0) {
+                Ok(named) => {
+                    assert!(rt; names.len().saturating_add(1) == count);
+                    if names.reserve(1).is_ok() {
+                        names.put_back(0, named);
+                        assert!(rt; names.len() == count);
+                        assert!(rt; names.place_of(&0u16.to_be_bytes()) == Ok(0));
+                    }
+                }
+                Err(_) => assert!(rt; names.len() == count),
+            }
+        }
+        if count == 140 {
             done = done.saturating_add(1);
         }
     }

@@ -1,5 +1,6 @@
-use Rattle.std.proofs.Common.{◌≡◌, ℕ, ◌<◌, List, [], length, sym, ap, ◌∙◌, refl, arith, subst, true, nat_eq, vec_len, rules}
+use Rattle.std.proofs.Common.{◌≡◌, ℕ, ◌<◌, List, [], length, sym, ap, ◌∙◌, refl, arith, subst, vec_len}
 use Rattle.std.specs.List.{remove, All}
+use Rattle.std.proofs.lemmas.Bool.{eqb-true}
 use Rattle.std.proofs.lemmas.Option.{slice_get_read}
 use Rattle.std.proofs.lemmas.List.Folds.{length-flat_map-take}
 use Rattle.hg_types.specs.declared.node.Node.{Node}
@@ -7,7 +8,7 @@ use Rattle.hg_names.specs.declared.blocks.Block.{Block}
 use Rattle.hg_names.specs.code.Blocks.{pairs_in, place_at, IsFilled}
 use Rattle.hg_names.proofs.Flat.{removed, removed_whole, remove_set}
 use Rattle.hg_names.proofs.Filled.{all_removed}
-use Rattle.hg_names.proofs.Own.{items, read_of}
+use Rattle.hg_names.proofs.Own.{items, read_of, none_left}
 use Rattle.hg_names.proofs.blocks.take_out.Goals as goal
 
 pub returns-else-is_empty-clause-pairs : goal.returns-else-is_empty-clause-pairs
@@ -19,20 +20,17 @@ returns-else-is_empty-clause-pairs g c =
     (c.requires.spot.within block)
     (c.remove-pair.ensures.items ∙ ap (λ (b : Block g.row.A.Denot). remove (items b) spot.1) is)
 
--- the block has no pair left
-none_left : {A : Type 0} (left : Vec (List ℕ × Node) A) → nat_eq (vec_len left) 0 ≡ true → left.items ≡ []
-none_left left none = search rules
-
 pub returns-then-is_empty-clause-pairs : goal.returns-then-is_empty-clause-pairs
 returns-then-is_empty-clause-pairs g c =
     let blocks = c.args.blocks.now.items in
     let spot = c.args.spot in
     let block = c.index_mut-block.result.now in
     let is = c.index_mut-block.ensures.value in
+    let none : vec_len c.remove-pair.new.self ≡ 0 = eqb-true _ _ (sym c.is_empty.ensures ∙ c.if-is_empty.true) in
     ap pairs_in (c.remove.ensures.items ∙ remove_set blocks spot.0 _)
     ∙ removed_whole items blocks spot.0 block c.requires.spot.block spot.1 (c.requires.spot.within block)
     (sym (ap (λ (b : Block g.row.A.Denot). remove (items b) spot.1) is) ∙ sym c.remove-pair.ensures.items
-    ∙ none_left c.remove-pair.new.self (sym c.is_empty.ensures ∙ c.if-is_empty.true))
+    ∙ none_left (record { pairs = c.remove-pair.new.self }) none)
 
 pub returns-then-is_empty-clause-pair : goal.returns-then-is_empty-clause-pair
 returns-then-is_empty-clause-pair g c =
