@@ -151,7 +151,7 @@ fn names_like_a_sorted_list(rt: HostRuntime) -> Result<(), Fail> {
     for turn in 0..6_000u32 {
         seed = next_chance(seed);
         let name = (seed >> 33) % SMALL;
-        let byte = (seed >> 20) as u8;
+        let byte = seed.to_be_bytes()[4];
         let bytes = name.to_be_bytes();
         match model.binary_search_by(|pair| pair.0.cmp(&name)) {
             Ok(place) => {
