@@ -3,6 +3,7 @@
 #   make run         shows a push that Mercurial sent, its reply and the report: a few minutes, nothing proved
 #   make build       proves every crate and leaves the program at build/hg_pushd
 #   make serve-demo  shows the server with two clients, on the program that was built
+#   make http-demo   an unmodified hg pushes to the crates that answer HTTP, compiled and not proved: a minute or two
 #   make test        the gate: proves everything from nothing, tries the wrong bodies, runs the tests and the program
 #   make test-all    proves everything from nothing, the tests too
 #   make wrong-bodies, make run-tests   two parts of the gate by themselves
@@ -16,7 +17,7 @@ SOURCES := crates.txt $(shell find crates -name out -prune -o -type f \
 # a push that `hg push` sent
 PUSHED := examples/pushes/first-changesets/01.hg20
 
-.PHONY: run build serve-demo test test-all wrong-bodies run-tests docs bench clean toolchain
+.PHONY: run build serve-demo http-demo test test-all wrong-bodies run-tests docs bench clean toolchain
 
 run: toolchain
 	@bash examples/run.sh $(PUSHED)
@@ -40,6 +41,9 @@ $(PROGRAM): $(SOURCES)
 
 serve-demo: $(PROGRAM)
 	@bash examples/serve-demo.sh $(PROGRAM)
+
+http-demo: toolchain
+	@bash examples/http.sh
 
 test: toolchain
 	@python3 tools/gate.py

@@ -10,9 +10,11 @@ top=$(cd "$(dirname "$0")/.." && pwd)
 connections=8
 port=$(python3 -c 'import socket; s = socket.socket(); s.bind(("127.0.0.1", 0)); print(s.getsockname()[1])')
 url="http://127.0.0.1:$port/"
-export HGRCPATH=/dev/null HGUSER='Test <t@e>'
+export HGUSER='Test <t@e>'
 
 echo 'Compiling the server with checks, and without proofs: a minute or two.'
+printf '[experimental]\nevolution = all\n' > "$scratch/hgrc"
+export HGRCPATH="$scratch/hgrc"
 scratch_program wire wire_push 'anyhow hg_types hg_repo hg_queue hg_serve hg_wire http_server crossbeam_queue atomic_table'
 "$rt" try -- "127.0.0.1:$port" "$connections" > "$scratch/report" 2> "$scratch/said" &
 server=$!
@@ -36,7 +38,7 @@ tries() {
     shift
     echo "\$ hg $*"
     status=0
-    hg --config experimental.evolution=all "$@" || status=$?
+    hg "$@" || status=$?
     [ "$status" = "$wanted" ] || { echo "status $status, wanted $wanted"; failed=1; }
 }
 hg init "$scratch/client"
@@ -47,7 +49,7 @@ tries 0 push "$url"
 tries 1 push "$url"
 echo 2 > g && hg commit -qAm 'third' && hg bookmark fix
 tries 0 push -B fix "$url"
-echo 3 >> g && hg --config experimental.evolution=all commit --amend -qm 'third, amended'
+echo 3 >> g && hg commit --amend -qm 'third, amended'
 tries 0 push "$url"
 hg branch -q 'name with ; & ü' && echo x > h && hg commit -qAm 'on a branch'
 tries 255 push "$url"
@@ -60,7 +62,7 @@ echo
 echo 'The report of the server:'
 grep '^[CBO] ' "$scratch/report"
 # of each changeset the id and the phase, and of each bookmark the id and the name
-hg --config experimental.evolution=all log --hidden \
+hg log --hidden \
     -T '{node} {ifeq(phase, "public", 0, ifeq(phase, "draft", 1, 2))}\n' | sort > "$scratch/has"
 awk '$1 == "C" { print $3, $4 }' "$scratch/report" | sort > "$scratch/told"
 hg bookmarks -T '{node} {bookmark}\n' > "$scratch/marks"
