@@ -23,7 +23,7 @@ use std::alloc::Allocator;
 use std::sync::Wait;
 
 /// Feeds the bytes that wait.
-fn feed_waiting<A: Allocator + Copy>(bundle: &mut Unbundler<A>, inbox: &mut Inbox)
+pub(crate) fn feed_waiting<A: Allocator + Copy>(bundle: &mut Unbundler<A>, inbox: &mut Inbox)
     ensures { Feeds bundle.old bundle.new inbox.old inbox.new }
 {
     if let Ok(count) = bundle.feed(inbox.pending()) {
@@ -32,7 +32,7 @@ fn feed_waiting<A: Allocator + Copy>(bundle: &mut Unbundler<A>, inbox: &mut Inbo
 }
 
 /// Puts the parts that the bundle has finished.
-fn put_ready<J: Naming<A>, A: Allocator + Copy, R: Wait, G: Gate>(
+pub(crate) fn put_ready<J: Naming<A>, A: Allocator + Copy, R: Wait, G: Gate>(
     server: &Server<J, A>,
     rt: &R,
     sender: &mut Sender<J, A>,
