@@ -62,16 +62,27 @@ pub record KeptExchange (A : Type 0) : Type 0 where
 -- A reply that was sent is true: all that it rests on was on the device, so many done pushes. Where the store
 -- failed, the writer was not used.
 abbrev pub Replies : {A D : Type 0} → (D → List ℕ) → (D → List ℕ → Type 0) → Head → List (List ℕ) →
-    RepositoryOf A → KeptExchange A → Replied → Type 0
-Replies seen may_leave head stored first x (Sent sending) =
-    AreKept seen may_leave head stored first x.after x.rests
-    × IsSent sending x.gone x.uses (reply_of x.how)
-Replies seen may_leave head stored first x NotStored = (x.gone ≡ []) × (x.uses ≡ [])
+    RepositoryOf A → List (Taken A) → ℕ → List ℕ → List ℕ → List WriteAnswer → Replied → Type 0
+Replies seen may_leave head stored first after rests reply gone uses (Sent sending) =
+    AreKept seen may_leave head stored first after rests × IsSent sending gone uses reply
+Replies seen may_leave head stored first after rests reply gone uses NotStored = (gone ≡ []) × (uses ≡ [])
 
--- the record of a done push is its bundle, as it was read: it is that of the last push that the answer rests on
-abbrev pub IsRecorded : {A : Type 0} → RepositoryOf A → KeptExchange A → Outcome (Done A) (Refusal A) → Type 0
-IsRecorded first x (done_with done) = (1 ≤ x.rests) × IsRecordOf first x.after (x.rests - 1) x.consumed
-IsRecorded first x (Aborted reason) = ⊤
+-- this became of a reply at a writer, which took so many bytes of it
+pub record RepliesBy {A D : Type 0} (seen : D → List ℕ) (may_leave : D → List ℕ → Type 0) (head : Head)
+    (stored : List (List ℕ)) (first : RepositoryOf A) (after : List (Taken A)) (rests : ℕ) (reply : List ℕ)
+    (out sent : Output) (replied : Replied) (written : ℕ) : Type 0 where
+  pub gone : List ℕ
+  pub uses : List WriteAnswer
+  pub is : Replies seen may_leave head stored first after rests reply gone uses replied
+  pub written_is : written ≡ length gone
+  pub went : Appends out.taken sent.taken gone
+  pub used : Adds out.uses sent.uses uses
+
+-- the record of a done push is its bundle, as it was read; it is the last push that the answer rests on
+abbrev pub IsRecorded : {A : Type 0} → RepositoryOf A → List (Taken A) → ℕ → List ℕ →
+    Outcome (Done A) (Refusal A) → Type 0
+IsRecorded first after rests bytes (done_with done) = (1 ≤ rests) × IsRecordOf first after (rests - 1) bytes
+IsRecorded first after rests bytes (Aborted reason) = ⊤
 
 -- The bundle was received by these reads, behind the bytes that waited. The client had seen no item of the
 -- push. Of the push the bundle's parts were put and the mark that the ending asks for, and it was answered so.
@@ -85,8 +96,9 @@ pub record IsKeptExchange {A D : Type 0} (seen : D → List ℕ) (may_leave : D 
   pub answers : Answers capacity first x.push
       (push_items x.push x.parts (mark_of x.ending)) before x.how x.takes x.after
   pub rests_on : RestsOn run_push first (newest_first x.after) x.push x.how x.rests
-  pub recorded : IsRecorded first x x.how
-  pub replies : Replies seen may_leave head stored first x x.replied
+  pub recorded : IsRecorded first x.after x.rests x.consumed x.how
+  pub replies : Replies seen may_leave head stored first x.after x.rests (reply_of x.how) x.gone x.uses
+      x.replied
 
 -- one bundle was served by that reader and that writer, and its reply is no longer than a reply can be
 pub record ServesKept {A D : Type 0} (seen : D → List ℕ) (may_leave : D → List ℕ → Type 0) (head : Head)

@@ -1,18 +1,20 @@
 //! A connection whose pushes are kept before they are answered.
 
-ghost use Rattle.std.specs.Prelude.{◌≡◌, ◌≤◌, ◌-◌, [], List, ℕ, IfSome};
+ghost use Rattle.std.specs.Prelude.{◌≡◌, ◌≤◌, ◌-◌, [], IfSome, IfOk, IfErr};
 ghost use Rattle.hg_stream.specs.Unbundler.{limits_of, ready_of, state_of};
 ghost use Rattle.hg_stream.specs.declared.state.State.TheVariants.{Ended as at_end_mark};
 ghost use Rattle.hg_queue.specs.History.{of, items_of};
 ghost use Rattle.hg_connection.specs.declared.ending.Ending.TheVariants.{Whole};
 ghost use Rattle.hg_connection.specs.Receiving.{IsFresh};
-ghost use Rattle.hg_kept.specs.Kept.{KeptExchange, ServesKept, TellsOfKept, record_of};
+ghost use Rattle.hg_push.specs.Reply.{CanBeTold, reply_of};
+ghost use Rattle.hg_ledger.specs.Records.{IsRecordOf, done_in};
+ghost use Rattle.hg_kept.specs.Kept.{KeptExchange, RepliesBy, ServesKept, TellsOfKept, record_of};
 
 use crate::served::{KeptRound, KeptServed, Replied};
 use hg_connection::{ConnFault, Inbox, Next, mark, next_bundle, receive_kept, send_reply};
 use hg_devices::{Reader, Writer};
 use hg_ledger::{Ledger, Room, Storing};
-use hg_push::laws::{closed_pushes_have_ended, journals_grow, replies_are_short};
+use hg_push::laws::{journals_grow, replies_are_short};
 use hg_push::{OpenFault, Outcome};
 use hg_repo::{Done, Refusal};
 use hg_serve::{Client, Gate, Point, Sender, Server};
@@ -44,6 +46,9 @@ fn open_kept<J: Storing<A>, D: Device, A: Allocator + Copy, R: Wait>(
     rt: &R,
     client: Client<J, A>,
 ) -> Result<(Room, Sender<J, A>), (Client<J, A>, OpenFault)>
+    ensures ok { IfOk result (λ opened. (opened.1.putter.put ≡ []) × (opened.1.history ≡ client)
+        × (of opened.1.putter.push (items_of client) ≡ [])) }
+    ensures err { IfErr result (λ back. back.0 ≡ client) }
 {
     let room = match ledger.room(rt) {
         Ok(room) => room,
@@ -55,6 +60,36 @@ fn open_kept<J: Storing<A>, D: Device, A: Allocator + Copy, R: Wait>(
             ledger.give_back(rt, room);
             Err(refused)
         }
+    }
+}
+
+/// Hands in the record of a push that is done, waits until so many done pushes are on the device, and sends
+/// the reply. Where the store failed, the writer is not used.
+fn reply_kept<J: Storing<A>, D: Device, A: Allocator + Copy, R: Wait, W: Writer>(
+    server: &Server<J, A>,
+    ledger: &Ledger<J, D, A>,
+    rt: &R,
+    alloc: A,
+    client: &mut Client<J, A>,
+    room: Room,
+    rests: usize,
+    record: Option<Seq<u8, A>>,
+    writer: &mut W,
+    outcome: &Outcome<Done<A>, Refusal<A>>,
+) -> (Replied, usize)
+    requires rests { rests ≤ done_in J.first client.old }
+    requires bundle { IfSome record (λ bytes. (1 ≤ rests) × IsRecordOf J.first client.old (rests - 1) bytes) }
+    requires told { CanBeTold outcome.now }
+    ensures same { client.new ≡ client.old }
+    ensures replied { RepliesBy D.seen D.may_leave J.head J.stored J.first client.old rests
+        (reply_of outcome.now) (W.told writer.old) (W.told writer.new) result.0 result.1 }
+{
+    match ledger.keep(rt, server, client, room, rests, record) {
+        Ok(_receipt) => {
+            let (sending, written) = send_reply(alloc, writer, outcome);
+            (Replied::Sent(sending), written)
+        }
+        Err(_) => (Replied::NotStored, 0),
     }
 }
 
@@ -86,8 +121,7 @@ pub fn serve_bundle_kept<
     requires sender { (opened.1.putter.put ≡ [])
         × (of opened.1.putter.push (items_of opened.1.history) ≡ []) }
     ensures served { (x : KeptExchange A)
-        × ServesKept D.seen D.may_leave J.head J.stored server.now J.capacity J.first inbox.old
-        inbox.new
+        × ServesKept D.seen D.may_leave J.head J.stored server.now J.capacity J.first inbox.old inbox.new
         (I.told reader.old) (I.told reader.new) (W.told writer.old) (W.told writer.new) opened.1.history x
         × TellsOfKept x result.1.ending result.1.answer.outcome result.1.answer.takes result.1.rests
         result.1.replied result.1.written result.0 }
@@ -114,13 +148,18 @@ pub fn serve_bundle_kept<
     let ended = mark(server, rt, sender, ending, gate);
     let (answer, rests, mut client) = server.answer_resting(rt, ended, gate);
     let record = record_of(&answer.outcome, kept);
-    let (replied, written) = match ledger.keep(rt, server, &mut client, room, rests, record) {
-        Ok(_receipt) => {
-            let (sending, written) = send_reply(alloc, writer, &answer.outcome);
-            (Replied::Sent(sending), written)
-        }
-        Err(_) => (Replied::NotStored, 0),
-    };
+    let (replied, written) = reply_kept(
+        server,
+        ledger,
+        rt,
+        alloc,
+        &mut client,
+        room,
+        rests,
+        record,
+        writer,
+        &answer.outcome,
+    );
     let round = KeptRound {
         answer,
         rests,
