@@ -73,18 +73,18 @@ fn reply_kept<J: Storing<A>, D: Device, A: Allocator + Copy, R: Wait, W: Writer>
     client: &mut Client<J, A>,
     room: Room,
     rests: usize,
-    record: Option<Seq<u8, A>>,
+    bundle: Option<Seq<u8, A>>,
     writer: &mut W,
     outcome: &Outcome<Done<A>, Refusal<A>>,
 ) -> (Replied, usize)
     requires rests { rests ≤ done_in J.first client.old }
-    requires bundle { IfSome record (λ bytes. (1 ≤ rests) × IsRecordOf J.first client.old (rests - 1) bytes) }
+    requires bundle { IfSome bundle (λ bytes. (1 ≤ rests) × IsRecordOf J.first client.old (rests - 1) bytes) }
     requires told { CanBeTold outcome.now }
     ensures same { client.new ≡ client.old }
     ensures replied { RepliesBy D.seen D.may_leave J.head J.stored J.first client.old rests
         (reply_of outcome.now) (W.told writer.old) (W.told writer.new) result.0 result.1 }
 {
-    match ledger.keep(rt, server, client, room, rests, record) {
+    match ledger.keep(rt, server, client, room, rests, bundle) {
         Ok(_receipt) => {
             let (sending, written) = send_reply(alloc, writer, outcome);
             (Replied::Sent(sending), written)
