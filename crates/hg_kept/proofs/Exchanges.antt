@@ -48,8 +48,8 @@ module _ {A : Type 0} (limits : Limits) (capacity : ℕ) (first : RepositoryOf A
     done_recorded done a on =
         let w = done_whole capacity first s.putter.push r.is.parts ending s.history done takes after
         (answered (done_with done) a) in
-        let at = (rested (done_with done) on).1.0 in
-        let is : rests ≡ (rested (done_with done) on).0 + 1 = (rested (done_with done) on).1.1 in
+        let at = (rested (done_with done) on).1 in
+        let is : rests ≡ (rested (done_with done) on).0 + 1 = (rested (done_with done) on).2 in
         let back : (rested (done_with done) on).0 ≡ rests - 1 = omega (arith, is) in
         let tells : IsBundle limits r.is.consumed r.is.parts = subst
         (λ (x : Ending). Tells (state_at x) limits r.is.consumed r.is.parts) w.0 r.is.received.tells in

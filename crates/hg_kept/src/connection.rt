@@ -198,6 +198,7 @@ pub fn serve_connection_kept<
     requires { (1 ≤ most) × (most ≤ 10000) }
 {
     streams_are_settled_once::<A>();
+    replies_are_short::<A>();
     let mut bundle = Unbundler::new(alloc, *server.limits());
     let mut client = client;
     let mut served = KeptServed::new();

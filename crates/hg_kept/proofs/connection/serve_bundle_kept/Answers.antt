@@ -86,6 +86,6 @@ returns-clause-served g c =
         rests_are = refl;
         replied_is = refl;
         written_is = w.written_is;
-        after_is = c.reply_kept-replied.ensures.same;
+        after_is = sym c.reply_kept-replied.ensures.same;
       },
     )
