@@ -540,16 +540,19 @@ module _ {A : Type 0} (limits : Limits) (waited waiting before kept : List ℕ) 
               reads_are = refl;
               spelled = spelled;
               tells = reads_on;
-              stops = (no_end, record {
-                front = r.fed;
-                taken = [];
-                fed = before;
-                earlier = r.given;
-                goes_on = reads_on;
-                consumed_is = sym (append-nil r.fed);
-                fed_is = refl;
-                place = place;
-              });
+              stops = (
+                no_end,
+                record {
+                  front = r.fed;
+                  taken = [];
+                  fed = before;
+                  earlier = r.given;
+                  goes_on = reads_on;
+                  consumed_is = sym (append-nil r.fed);
+                  fed_is = refl;
+                  place = place;
+                },
+              );
               bound = omega (arith, w, few);
             };
             spelled = spelled;
@@ -598,7 +601,7 @@ module _ {A : Type 0} (limits : Limits) (waited waiting before kept : List ℕ) 
     kept_refused count f some = elim f [
       | inl waits ↦ refused_waiting waits.0 waits.1 waits.2
       | inr read ↦ refused_read read.0 read.1.0
-        (omega (arith, read.1.1, some), omega (arith, read.1.1, read.1.2))
+          (omega (arith, read.1.1, some), omega (arith, read.1.1, read.1.2))
     ]
 
 module _ {A : Type 0} (limits : Limits) (waited waiting before after kept : List ℕ) (input mid left : Input)
@@ -610,10 +613,16 @@ module _ {A : Type 0} (limits : Limits) (waited waiting before after kept : List
     kept_turn : (t : Turns limits waited before after input left old new w turn p.fed.place) × (t.front ≡ r.fed)
     unfolding of_waiting of_read
     kept_turn = elim f [
-      | inl waits ↦ (of_waiting limits waited waiting before after input mid left old s new u v w turn r p
-        waits.0 waits.1 waits.2, refl)
-      | inr read ↦ (of_read limits waited waiting before after input mid left old s new u v w turn r p
-        read.0 read.1.0 (omega (arith, read.1.1, some), omega (arith, read.1.1, read.1.2)), refl)
+      | inl waits ↦ (
+        of_waiting limits waited waiting before after input mid left old s new u v w turn r p
+            waits.0 waits.1 waits.2,
+        refl,
+      )
+      | inr read ↦ (
+        of_read limits waited waiting before after input mid left old s new u v w turn r p
+            read.0 read.1.0 (omega (arith, read.1.1, some), omega (arith, read.1.1, read.1.2)),
+        refl,
+      )
     ]
 
     pub kept_goes_on : kept ≡ r.fed ++ before → state_of w ≡ going
@@ -625,7 +634,7 @@ module _ {A : Type 0} (limits : Limits) (waited waiting before after kept : List
         ∙ take-length before in (
           goes_on limits waited before after input left old new w turn p.fed.place t state,
           is ∙ ap (λ (l : List ℕ). l ++ before) (sym kept_turn.1)
-          ∙ ap (λ (l : List ℕ). t.front ++ l) (sym all),
+              ∙ ap (λ (l : List ℕ). t.front ++ l) (sym all),
         )
 
     pub kept_ends : kept ≡ take (length (r.fed ++ before) - length after) (r.fed ++ before)

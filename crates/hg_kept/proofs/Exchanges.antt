@@ -52,8 +52,7 @@ module _ {A : Type 0} (limits : Limits) (capacity : ℕ) (first : RepositoryOf A
         let is : rests ≡ (rested (done_with done) on).0 + 1 = (rested (done_with done) on).2 in
         let back : (rested (done_with done) on).0 ≡ rests - 1 = omega (arith, is) in
         let tells : IsBundle limits r.is.consumed r.is.parts = subst
-        (λ (x : Ending). Tells (state_at x) limits r.is.consumed r.is.parts) w.0 r.is.received.tells in
-        (
+        (λ (x : Ending). Tells (state_at x) limits r.is.consumed r.is.parts) w.0 r.is.received.tells in (
           omega (arith, is),
           record {
             push = s.putter.push;
