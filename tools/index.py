@@ -28,9 +28,9 @@ GHOST = re.compile(r"(?m)^ghost use Rattle\.(hg_\w+)\.specs\.([\w.]+)\.\{([^}]*)
 ABOUT = """\
 Made by `tools/index.py` from the sources; `make test` compares it with them. For each crate the public
 functions, with the wrong bodies that turn each, those that each clause was seen to refuse, and the tests that
-run it; and the words that their clauses use, with the module of `specs/` that defines each, and the heading of
-the public standard that this module states. `docs/definitions.md` has a sentence on each word. `python3 tools/docs.py` lists the wrong bodies with what
-each turns, and the tests with their examples."""
+run it; and the words that their clauses use, with the module of `specs/` that defines each, and the heading
+of the public standard that this module states. `docs/definitions.md` has a sentence on each word. `python3
+tools/docs.py` lists the wrong bodies with what each turns, and the tests with their examples."""
 
 
 def read(path):
