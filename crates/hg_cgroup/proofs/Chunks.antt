@@ -25,7 +25,7 @@ bytes_behind n bytes fits i = rw get_or-drop (fits (n + i))
 
 -- ---- a chunk
 
--- the bytes behind what was read from these
+-- the bytes after what was read from these
 pub record IsBehind (bytes rest : List ℕ) : Type 0 where
   pub fits : IsBytes rest
   pub shorter : length rest < length bytes
@@ -227,7 +227,7 @@ file_whole name bytes inside after chunks first closed =
     first ∙ ap (λ (x : List ℕ). chunk_bytes name ++ x) group
     ∙ sym (append_assoc (chunk_bytes name) (flat_map chunk_bytes chunks ++ empty_chunk) after)
 
--- a group behind a name, and the files behind it
+-- a group after a name, and the files after it
 named_read : (name bytes inside : List ℕ) (read : Result ReadGroup GroupFault) (others : List ℕ
     → Result (List ℕ) GroupFault) → bytes ≡ chunk_bytes name ++ inside → IsContent name
     → IsBehind bytes inside → GroupRead 1 inside read

@@ -154,7 +154,7 @@ told_changesets {A} name payload version fault wanted named broken is other =
     let found = broken (λ e. other (sym is ∙ e)) in
     (version, named, subst (Breaks A version payload) is (in_changesets found.0 found.1 found.2 found.3))
 
--- a fault behind them
+-- a fault after them
 pub told_frames : {A : Type 0} (name payload behind : List ℕ) (version : Version) (fault wanted : GroupFault)
     (entries : List (Entry A)) → name ≡ name_of version
     → ((changesets : List (Changeset A)) × AreChangesets version payload changesets (empty_chunk ++ behind)

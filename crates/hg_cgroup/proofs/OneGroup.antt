@@ -137,7 +137,7 @@ entries_02 (c ∷ cs) (d ∷ ds) all_c all_d same =
 abbrev bases_of : {A : Type 0} → List (Changeset A) → List Node
 bases_of changesets = map (λ entry. entry.base) (entries_of changesets)
 
--- in 01 the entries behind one with a node are one, where their bases follow from it
+-- in 01 the entries after one with a node are one, where their bases follow from it
 entries_01 : {A : Type 0} (before : Node) (cs ds : List (Changeset A)) → AllByRecursion (IsChangeset V01) cs
     → AllByRecursion (IsChangeset V01) ds → contents_of V01 cs ≡ contents_of V01 ds
     → bases_of cs ≡ bases_behind before (entries_of cs) → bases_of ds ≡ bases_behind before (entries_of ds)

@@ -208,7 +208,7 @@ files_ended bytes fs gs x y p q =
     append_cancel_left empty_chunk x y
     (files_once bytes fs gs (empty_chunk ++ x) (empty_chunk ++ y) p q (closed x) (closed y))
 
--- ---- all that is behind the changesets
+-- ---- all that is after the changesets
 
 pub frames_broken : (f g : GroupFault) (bytes : List ℕ) → BreaksInFrames bytes f → BreaksInFrames bytes g
     → f ≡ g

@@ -30,7 +30,7 @@ use Rattle.hg_cgroup.proofs.OneGroup.{outcome_once}
 
 -- ---- a changeset
 
--- twenty bytes, and those behind them
+-- twenty bytes, and those after them
 cut : (start : ℕ) (content : List ℕ) → drop start content ≡ take 20 (drop start content)
     ++ drop (start + 20) content
 cut start content = sym (take-append-drop 20 (drop start content))
@@ -311,7 +311,7 @@ fault_is_outcome name payload outcome fault told fits is same wrong other =
     let memory : fault ≢ NoMemory = λ refused. other (failure ∙ ap failed refused) in
     failure ∙ is_outcome_of name payload (Err fault) fits (breaks fault (wrong memory))
 
--- bytes behind a whole changegroup
+-- bytes after a whole changegroup
 pub leftover_is_outcome : {A : Type 0} (name payload rest : List ℕ) (version : Version)
     (entries : List (Entry A)) → IsBytes payload → name ≡ name_of version
     → IsGroup version payload entries rest → 0 < length rest

@@ -37,6 +37,7 @@ pub record IsChangeset {A : Type 0} (version : Version) (c : Changeset A) : Type
   pub link : length c.link ≡ 20
   pub fits : IsContent (changeset_bytes version c)
 
+-- what a changelog takes of each changeset
 abbrev pub entries_of : {A : Type 0} → List (Changeset A) → List (Entry A)
 entries_of changesets = map (λ c. c.entry) changesets
 
@@ -55,7 +56,7 @@ abbrev pub HasBases : {A : Type 0} → Version → List (Entry A) → Type 0
 HasBases V01 entries = map (λ entry. entry.base) entries ≡ bases_in_order entries
 HasBases V02 entries = Unit {0}
 
--- the base in 01 behind an entry with that node, where there is one
+-- the base in 01 after an entry with that node, where there is one
 abbrev pub IsBase : {A : Type 0} → Version → Option Node → Entry A → Type 0
 IsBase V01 before entry = entry.base ≡ unwrap_or before entry.p1
 IsBase V02 before entry = Unit {0}
@@ -67,7 +68,7 @@ pub record AreChangesets {A : Type 0} (version : Version) (bytes : List ℕ) (ch
   pub bases : HasBases version (entries_of changesets)
   pub spelled : bytes ≡ flat_map chunk_bytes (map (changeset_bytes version) changesets) ++ rest
 
--- the content spells that entry, behind one with that node where there is one
+-- the content spells that entry, after one with that node where there is one
 pub record IsSpelled {A : Type 0} (version : Version) (before : Option Node) (content : List ℕ)
     (entry : Entry A) : Type 0 where
   pub link : List ℕ

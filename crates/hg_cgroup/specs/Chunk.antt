@@ -15,9 +15,11 @@ pub record IsContent (content : List ℕ) : Type 0 where
   pub some : 0 < length content
   pub fits : length content + 4 < 2 ^ 31
 
+-- the length, which counts its own four bytes, and the content
 abbrev pub chunk_bytes : List ℕ → List ℕ
 chunk_bytes content = length_bytes (pos (length content + 4)) ++ content
 
+-- the length 0, which ends a group
 abbrev pub empty_chunk : List ℕ
 empty_chunk = length_bytes (pos 0)
 
@@ -57,6 +59,7 @@ pub record EndsInContent (least : ℕ) (rest : List ℕ) : Type 0 where
 abbrev pub EndsEarly : ℕ → List ℕ → Type 0
 EndsEarly least rest = (length rest < 4) ⊎ EndsInContent least rest
 
+-- which fault stands at the front of the rest
 abbrev pub IsChunkFault : GroupFault → ℕ → List ℕ → Type 0
 IsChunkFault UnknownVersion least rest = ⊥
 IsChunkFault BadLength least rest = HasBadLength rest

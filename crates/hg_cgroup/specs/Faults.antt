@@ -41,7 +41,7 @@ pub data Breaks (A : Type 0) (version : Version) (payload : List ℕ) (fault : G
       AreChangesets version payload changesets (empty_chunk ++ rest) → BreaksInFrames rest fault →
       Breaks A version payload fault
 
--- a whole changegroup, and bytes behind it
+-- a whole changegroup, and bytes after it
 pub record HasLeftover (A : Type 0) (version : Version) (payload : List ℕ) : Type 0 where
   pub entries : List (Entry A)
   pub rest : List ℕ

@@ -15,10 +15,12 @@ pub record File : Type 0 where
   pub name : List ℕ
   pub chunks : List (List ℕ)
 
+-- a file that can be written: its name and its chunks are contents
 pub record IsFile (file : File) : Type 0 where
   pub name : IsContent file.name
   pub each : AllByRecursion IsContent file.chunks
 
+-- the bytes of a file: the chunk of its name, and its group
 abbrev pub file_bytes : File → List ℕ
 file_bytes file = chunk_bytes file.name ++ delta_group file.chunks
 

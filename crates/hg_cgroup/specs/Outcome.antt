@@ -17,7 +17,7 @@ abbrev pub ◌>>=◌ : {X Y : Type 0} → Result X GroupFault → (X → Result 
 (Ok x) >>= f = f x
 (Err fault) >>= f = Err fault
 
--- A chunk is its content, where it has one, and the bytes behind it.
+-- A chunk is its content, where it has one, and the bytes after it.
 abbrev pub ReadChunk : Type 0
 ReadChunk = Option (List ℕ) × List ℕ
 
@@ -26,17 +26,18 @@ unfoldable pub content_at : ℕ → ℕ → List ℕ → Result ReadChunk GroupF
 content_at least size bytes = if nat_lt size least then Err ShortHeader
     else (if nat_lt (length bytes) size then Err Truncated else Ok (Some (take size bytes), drop size bytes))
 
--- what is behind that length
+-- what is after that length
 unfoldable pub sized_at : ℕ → ℤ → List ℕ → Result ReadChunk GroupFault
 sized_at least (pos size) bytes = if size == 0 then Ok (None, bytes)
     else (if nat_le size 4 then Err BadLength else content_at least (size - 4) bytes)
 sized_at least (negsuc below) bytes = Err BadLength
 
+-- the first chunk of the bytes and what is after it, or the first fault
 unfoldable pub chunk_at : ℕ → List ℕ → Result ReadChunk GroupFault
 chunk_at least bytes = if nat_lt (length bytes) 4 then Err Truncated
     else sized_at least (cast_signed w32 (from_be_bytes w32 (take 4 bytes))) (drop 4 bytes)
 
--- A group is the contents of its chunks, and the bytes behind the empty one.
+-- A group is the contents of its chunks, and the bytes after the empty one.
 abbrev pub ReadGroup : Type 0
 ReadGroup = List (List ℕ) × List ℕ
 
@@ -60,12 +61,13 @@ abbrev pub after_name : ReadChunk → Result (List ℕ) GroupFault → Result (L
 after_name (None, rest) others = Ok rest
 after_name (Some name, rest) others = others
 
--- the bytes behind at most so many files and the closing chunk
+-- the bytes after at most so many files and the closing chunk
 unfoldable pub files_within : ℕ → List ℕ → Result (List ℕ) GroupFault
 files_within zero bytes = Err Truncated
 files_within (suc most) bytes =
     chunk_at 1 bytes >>= λ name. after_name name (group_at 1 name.1 >>= λ group. files_within most group.1)
 
+-- the bytes after the files and the chunk that closes them, or the first fault
 unfoldable pub files_at : List ℕ → Result (List ℕ) GroupFault
 files_at bytes = files_within (length bytes) bytes
 
@@ -78,7 +80,7 @@ abbrev pub base_of : Version → Option Node → List ℕ → Node
 base_of V01 before content = unwrap_or before (id_at 20 content)
 base_of V02 before content = id_at 60 content
 
--- the entry of a changeset's content, behind one with that node where there is one
+-- the entry of a changeset's content, after one with that node where there is one
 abbrev pub entry_of : {A : Type 0} → Version → Option Node → List ℕ → Entry A
 entry_of version before content = record {
   node = id_at 0 content;
@@ -99,7 +101,7 @@ abbrev pub ended : {X : Type 0} → List ℕ → X → Result X GroupFault
 ended [] x = Ok x
 ended (byte ∷ bytes) x = Err Leftover
 
--- the changesets, the manifests, the files and the closing chunk, and nothing behind it
+-- the changesets, the manifests, the files and the closing chunk, and nothing after it
 unfoldable pub entries_at : {A : Type 0} → Version → List ℕ → Result (List (Entry A)) GroupFault
 entries_at version payload = do
   changesets ← group_at (header_size version) payload
@@ -107,6 +109,7 @@ entries_at version payload = do
   rest ← files_at manifests.1
   ended rest (entries_behind version None changesets.0)
 
+-- the version of that name
 unfoldable pub version_at : List ℕ → Result Version GroupFault
 version_at name = if bytes_eq name (name_of V01) then Ok V01
     else (if bytes_eq name (name_of V02) then Ok V02 else Err UnknownVersion)

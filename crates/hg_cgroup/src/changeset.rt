@@ -15,7 +15,7 @@ use std::alloc::Allocator;
 /// The bytes of an id.
 const ID: usize = 20;
 
-/// The id that the first twenty bytes are, and the bytes behind it.
+/// The id that the first twenty bytes are, and the bytes after it.
 fn split_id(bytes: &[u8]) -> (Node, &[u8])
     requires { 20 ≤ length bytes.now }
     ensures id { bytes.now ≡ result.0.0 ++ result.1.now }
@@ -55,7 +55,7 @@ fn read_entry<A: Allocator + Copy>(
     })
 }
 
-/// The entries of the group of the changesets, and the bytes behind it.
+/// The entries of the group of the changesets, and the bytes after it.
 pub fn read_changesets<A: Allocator + Copy>(
     alloc: A,
     version: Version,

@@ -18,7 +18,7 @@ pub enum Chunk<'a> {
     Content(&'a [u8]),
 }
 
-/// The length that the first four bytes are, and the bytes behind it.
+/// The length that the first four bytes are, and the bytes after it.
 fn read_length(bytes: &[u8]) -> Option<(i32, &[u8])>
     ensures some { IsSome result ↔ (4 ≤ length bytes.now) }
     ensures number { IfSome result (λ read. bytes.now ≡ length_bytes read.0 ++ read.1.now) }
@@ -28,7 +28,7 @@ fn read_length(bytes: &[u8]) -> Option<(i32, &[u8])>
     Some((i32::from_be_bytes(*length), rest))
 }
 
-/// The chunk at the front, and the bytes behind it. A content is to have at least `least` bytes, else it is
+/// The chunk at the front, and the bytes after it. A content is to have at least `least` bytes, else it is
 /// `ShortHeader`.
 pub fn read_chunk(least: usize, bytes: &[u8]) -> Result<(Chunk<'_>, &[u8]), GroupFault>
     ensures chunk { IfOk result (λ read. IsRead least bytes.now read.0 read.1.now) }

@@ -8,7 +8,7 @@ ghost use Rattle.hg_cgroup.specs.Faults.{BreaksAtFile, BreaksInFrames};
 use crate::chunk::{Chunk, read_chunk};
 use crate::fault::GroupFault;
 
-/// The bytes behind a group.
+/// The bytes after a group.
 fn skip_group(bytes: &[u8]) -> Result<&[u8], GroupFault>
     ensures ok { IfOk result (λ rest. (chunks : List (List ℕ))
         × AreChunks bytes.now chunks (empty_chunk ++ rest.now)) }
@@ -25,7 +25,7 @@ fn skip_group(bytes: &[u8]) -> Result<&[u8], GroupFault>
     }
 }
 
-/// The bytes behind the files and the closing chunk.
+/// The bytes after the files and the closing chunk.
 fn skip_files(bytes: &[u8]) -> Result<&[u8], GroupFault>
     ensures ok { IfOk result (λ rest. (files : List File)
         × AreFiles bytes.now files (empty_chunk ++ rest.now)) }
@@ -40,7 +40,7 @@ fn skip_files(bytes: &[u8]) -> Result<&[u8], GroupFault>
     }
 }
 
-/// The bytes behind the group of the manifests, the files and the closing chunk.
+/// The bytes after the group of the manifests, the files and the closing chunk.
 pub fn skip_frames(bytes: &[u8]) -> Result<&[u8], GroupFault>
     ensures ok { IfOk result (λ rest. AreFrames bytes.now rest.now) }
     ensures fault { IfErr result (λ fault. BreaksInFrames bytes.now fault) }

@@ -181,7 +181,7 @@ fn bases_in_order(rt: HostRuntime) -> Result<(), Fail> {
 // Lengths 1 to 4, the least and the greatest negative one, at each place of a chunk.
 // The lengths 1 to 4, -2,147,483,648 and -1 in place of a changeset, of the changesets' closing
 // chunk, of a manifest, of the manifests' closing chunk, of a name, of a chunk of a file, of its
-// closing chunk, of the last chunk. Result: BadLength, with and without bytes behind it.
+// closing chunk, of the last chunk. Result: BadLength, with and without bytes after it.
 #[test]
 fn bad_lengths(rt: HostRuntime) -> Result<(), Fail> {
     let root = root(rt.alloc())?;
@@ -214,7 +214,7 @@ fn bad_lengths(rt: HostRuntime) -> Result<(), Fail> {
             let front = joined(rt.alloc(), &front)?;
             let payload = joined(rt.alloc(), &[front.as_slice(), &size, &whole])?;
             assert_eq!(rt; fault_of(rt, b"02", &payload), Some(GroupFault::BadLength));
-            // It is told where the payload ends behind it, too.
+            // It is told where the payload ends after it, too.
             let payload = joined(rt.alloc(), &[front.as_slice(), &size])?;
             assert_eq!(rt; fault_of(rt, b"02", &payload), Some(GroupFault::BadLength));
         }

@@ -14,6 +14,7 @@ bookmark_checked rows pairs entry =
     then if are_same (node_of pairs entry.1) entry.0 then Ok tt else Err Raced
     else Err UnknownNode
 
+-- as `bookmark_checked` for each entry, where the payload can be read
 abbrev pub bookmarks_as_read : List Changeset → Pairs → Option (List Entry) → Answer
 bookmarks_as_read rows pairs (Some entries) = all_checked (bookmark_checked rows pairs) entries
 bookmarks_as_read rows pairs None = Err Short

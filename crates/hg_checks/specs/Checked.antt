@@ -12,6 +12,7 @@ abbrev pub Gives : Answer → Answer → Type 0
 Gives result answer = MatchResult result (λ content. answer ≡ Ok tt) (λ fault. (fault ≡ NoMemory)
     ⊎ (answer ≡ Err fault))
 
+-- the first of two answers that is not content
 abbrev pub and_then : Answer → Answer → Answer
 and_then (Ok content) next = next
 and_then (Err fault) next = Err fault

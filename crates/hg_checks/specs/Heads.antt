@@ -12,6 +12,7 @@ use Rattle.hg_checks.specs.Checked.{Answer}
 abbrev pub ids_in : List ℕ → List (List ℕ)
 ids_in payload = first_chunks 20 (length payload / 20) payload
 
+-- how often an id is among others
 abbrev pub occurrences : List ℕ → List (List ℕ) → ℕ
 occurrences id ids = count_by (λ other. bytes_eq other id) ids
 

@@ -16,9 +16,11 @@ abbrev pub phase_is : Option Phase → Phase → Answer
 phase_is None seen = Err UnknownNode
 phase_is (Some present) seen = if number_of present == number_of seen then Ok tt else Err Raced
 
+-- content where the changeset is known and has the phase of the entry
 abbrev pub phase_checked : List Changeset → List Phase → Phase × Node → Answer
 phase_checked rows phases entry = phase_is (phase_of_node rows phases entry.1) entry.0
 
+-- as `phase_checked` for each entry, where the payload can be read
 abbrev pub phases_as_read : List Changeset → List Phase → Result (List (Phase × Node)) EntryFault → Answer
 phases_as_read rows phases (Ok entries) = all_checked (phase_checked rows phases) entries
 phases_as_read rows phases (Err fault) = Err (told_entries fault)

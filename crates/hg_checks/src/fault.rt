@@ -49,7 +49,7 @@ impl From<AllocError> for CheckFault {
     }
 }
 
-/// Want of memory is told as such.
+/// Out of memory is reported as such.
 impl From<EntryFault> for CheckFault {
     ghost use Rattle.std.specs.Prelude.{◌≡◌};
     ghost use Rattle.hg_checks.specs.CheckFaults.{told_entries};
@@ -65,7 +65,7 @@ impl From<EntryFault> for CheckFault {
     }
 }
 
-/// Want of memory is told as such.
+/// Out of memory is reported as such.
 impl From<BookmarkFault> for CheckFault {
     ghost use Rattle.std.specs.Prelude.{◌≡◌};
     ghost use Rattle.hg_checks.specs.CheckFaults.{told_bookmarks};

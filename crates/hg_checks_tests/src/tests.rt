@@ -69,7 +69,7 @@ fn put_merge<A: Allocator + Copy>(
     Some([merge, alone])
 }
 
-/// The ids, joined, and that many bytes 0 behind them.
+/// The ids, joined, and that many bytes 0 after them.
 fn ids_of<A: Allocator>(alloc: A, ids: &[Node], more: usize) -> Result<Vec<u8, A>, AllocError> {
     let mut payload = Vec::new(alloc);
     for id in ids {
@@ -189,7 +189,7 @@ fn one_draft<A: Allocator + Copy>(alloc: A, log: &Changelog<A>) -> Option<Phases
     }
 }
 
-/// The numbers of phases in four bytes, each before its id, and that many bytes 0 behind them.
+/// The numbers of phases in four bytes, each before its id, and that many bytes 0 after them.
 fn phases_of<A: Allocator>(
     alloc: A,
     entries: &[(u8, Node)],
@@ -231,7 +231,7 @@ fn all_phases<A: Allocator + Copy>(
 /// A draft: its phase, other phases, the null id, and the faults in their order.
 /// The draft as 1, 0 and 2; the null id as 1; the null id as 0 and the draft as 1; nothing; the
 /// draft as 1 and 1, as 9 and 1; an unknown id before the draft as 3; an unknown id; before the
-/// draft as 0, and behind it. Result: content, Raced, Raced; Raced; content, content; Short, Short;
+/// draft as 0, and after it. Result: content, Raced, Raced; Raced; content, content; Short, Short;
 /// BadPhase; UnknownNode; UnknownNode, Raced.
 #[test]
 fn phases_of_a_draft(rt: HostRuntime) -> Result<(), Fail> {
@@ -256,7 +256,7 @@ fn phases_of_a_draft(rt: HostRuntime) -> Result<(), Fail> {
     Ok(())
 }
 
-/// Names of one byte or none, each behind its id, and that many bytes 0 behind them.
+/// Names of one byte or none, each after its id, and that many bytes 0 after them.
 fn bookmarks_of<A: Allocator>(
     alloc: A,
     entries: &[(Node, &[u8])],
@@ -295,7 +295,7 @@ fn all_bookmarks<A: Allocator + Copy>(
 /// `m` on a changeset: on it, on others, on none, names that are not there, and the faults in their order.
 /// `m` on the root: seen there, on none, on the null id; beside names that are on none; `x` and the
 /// empty name on the root; nothing; 1 and 21 bytes more; an unknown id for `x`, for `m` before
-/// another difference, and behind it. Result: content, Raced, Raced; content; Raced, Raced;
+/// another difference, and after it. Result: content, Raced, Raced; content; Raced, Raced;
 /// content; Short, Short; UnknownNode, UnknownNode, Raced.
 #[test]
 fn bookmarks_on_a_changeset(rt: HostRuntime) -> Result<(), Fail> {
@@ -386,7 +386,7 @@ fn one_draft_over<'h>(
     }
 }
 
-/// The id of the one changeset, alone, behind the number of draft, and before the name `m`.
+/// The id of the one changeset, alone, after the number of draft, and before the name `m`.
 fn one_head() -> [u8; 20] {
     node_id(&NULL, &NULL, &[0]).0
 }
@@ -411,7 +411,7 @@ fn one_bookmark() -> [u8; 23] {
 }
 
 /// Over heaps of each multiple of 16 bytes, so that each growth is refused in turn: a check is content or
-/// tells want of memory, and nothing else.
+/// reports out of memory, and nothing else.
 #[test]
 fn each_growth_of_a_check_refused(rt: HostRuntime) -> Result<(), Fail> {
     let state = RandomState::new(&rt)?;
@@ -526,7 +526,7 @@ fn large_entries_over(heap: &LocalHeap, state: RandomState) -> bool {
     is_set && are_set && phases == CONTENT && bookmarks == CONTENT
 }
 
-/// Payloads of up to 4 MiB over a heap that never refuses: nobody tells want of memory.
+/// Payloads of up to 4 MiB over a heap that never refuses: nobody reports out of memory.
 /// 2,000 changesets without parents, their ids the last first; 43,690 times the null id as public;
 /// 47,662 times the empty name on the null id, where it is; over a heap with ample room. Result:
 /// content, three times.

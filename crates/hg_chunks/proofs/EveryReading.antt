@@ -55,7 +55,7 @@ number a b c d fa fb fc fd = (
       (byte_at a b c d fa fb fc fd) refl),
 )
 
--- behind four bytes that are no size of a chunk, nothing is read; where they are an interruption, what
+-- after four bytes that are no size of a chunk, nothing is read; where they are an interruption, what
 -- follows is
 sized : (n : ℕ) (front more : List ℕ) → n < 2 ^ 32 → front ≡ to_be_bytes w32 n
     → ((k : ℕ) → Read (drop k more)) → Read (front ++ more)

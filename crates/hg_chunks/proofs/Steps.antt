@@ -318,6 +318,6 @@ Fails-then fault p q whole rest a b s next =
       rw (← joins whole s.0 t.0) t.3,
     )
 
--- the bytes of a slice, behind those before it
+-- the bytes of a slice, after those before it
 pub take_range : (s : List ℕ) (i n : ℕ) → take (i + n) s ≡ take i s ++ take (i + n - i) (drop i s)
 take_range s i n = let e : i + n - i ≡ n = omega arith in rw e (take-add i n s)

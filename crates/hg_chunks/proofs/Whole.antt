@@ -37,7 +37,7 @@ All-append : (xs ys : List Item) → AllByRecursion IsItem xs → AllByRecursion
 All-append [] ys hx hy = hy
 All-append (x ∷ xs) ys hx hy = (hx.0, All-append xs ys hx.1 hy)
 
--- the item behind the chunks, where a call stopped at one
+-- the item after the chunks, where a call stopped at one
 abbrev last_items : Step → List Item
 last_items More = []
 last_items Interrupt = Interruption ∷ []

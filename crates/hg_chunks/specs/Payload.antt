@@ -9,6 +9,7 @@ use Rattle.hg_chunks.specs.Size.{size_bytes}
 abbrev pub chunk_bytes : List ℕ → List ℕ
 chunk_bytes chunk = size_bytes (pos (length chunk)) ++ chunk
 
+-- at least one byte, and fewer than 2^31
 abbrev pub IsChunk : List ℕ → Type 0
 IsChunk chunk = (0 < length chunk) × (length chunk < 2 ^ 31)
 
@@ -25,10 +26,12 @@ pub data Item : Type 0 where
   Chunk : List ℕ → Item
   Interruption : Item
 
+-- the bytes of an item
 abbrev pub item_bytes : Item → List ℕ
 item_bytes (Chunk chunk) = chunk_bytes chunk
 item_bytes Interruption = interruption
 
+-- an item that can be written: its chunk is one
 abbrev pub IsItem : Item → Type 0
 IsItem (Chunk chunk) = IsChunk chunk
 IsItem Interruption = Unit {0}

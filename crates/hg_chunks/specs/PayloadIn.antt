@@ -62,6 +62,7 @@ pub data Phase : Type 0 where
   HandedOut : Phase
   Broken : ChunkFault → Phase
 
+-- how far a reader is that stands at this stage
 abbrev pub phase_of_stage : Stage → Phase
 phase_of_stage stage.Size = Reading
 phase_of_stage (stage.Chunk left) = Reading
@@ -69,6 +70,7 @@ phase_of_stage stage.Done = Ended
 phase_of_stage stage.Handed = HandedOut
 phase_of_stage (stage.Failed fault) = Broken fault
 
+-- how far the reader is
 abbrev pub phase_of : {A : Type 0} → PayloadIn A → Phase
 phase_of p = phase_of_stage p.stage
 
@@ -78,7 +80,7 @@ phase_after More = Reading
 phase_after Interrupt = Reading
 phase_after Done = Ended
 
--- what stands behind the chunks where a call stopped, and the rest there
+-- what stands after the chunks where a call stopped, and the rest there
 abbrev pub StopsAt : Step → ℕ → List ℕ → List ℕ → List ℕ → Type 0
 StopsAt More limit whole tail rest = (tail ≡ []) × IsOpen limit whole rest
 StopsAt Interrupt limit whole tail rest = (tail ≡ interruption) × (rest ≡ [])

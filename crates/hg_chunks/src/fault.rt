@@ -23,7 +23,7 @@ pub enum ChunkFault {
 pub enum Step {
     /// All of the piece was taken, and the payload goes on.
     More,
-    /// A size of -1 was taken last: a part interrupts here, and the payload goes on behind it.
+    /// A size of -1 was taken last: a part interrupts here, and the payload goes on after it.
     Interrupt,
     /// The closing size 0 was taken last.
     Done,

@@ -22,7 +22,7 @@ enum Stage {
     Size,
     /// Inside the data of a chunk.
     Chunk(Left),
-    /// Behind the closing size.
+    /// After the closing size.
     Done,
     /// The same, and the data was handed out.
     Handed,

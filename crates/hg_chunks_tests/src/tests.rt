@@ -24,7 +24,7 @@ const TWENTY: [u8; 20] = [
 struct Read<A: Allocator> {
     /// How many bytes it took.
     taken: usize,
-    /// Behind how many bytes it was interrupted, the last time that it was.
+    /// After how many bytes it was interrupted, the last time that it was.
     interrupted_at: Option<usize>,
     /// The data, where the payload ended.
     data: Option<Seq<u8, A>>,
@@ -64,7 +64,7 @@ fn read_in_pieces<A: Allocator + Copy>(
     })
 }
 
-/// Whether it took 36 bytes, was interrupted behind 16 of them, and got 20 bytes of data.
+/// Whether it took 36 bytes, was interrupted after 16 of them, and got 20 bytes of data.
 fn is_read_whole<A: Allocator>(read: &Read<A>) -> bool {
     match &read.data {
         Some(data) => {
@@ -78,7 +78,7 @@ fn is_read_whole<A: Allocator>(read: &Read<A>) -> bool {
 
 // The interrupted payload, whole, byte by byte, in pieces of 3 and in every other width.
 // `00000008`, 8 bytes, `ffffffff`, `0000000c`, 12 bytes, `00000000`, in pieces of each width from 1
-// to 36 and cut in two at each place. Result: an interruption behind 16 bytes, the end behind 36,
+// to 36 and cut in two at each place. Result: an interruption after 16 bytes, the end after 36,
 // and the 20 bytes of data.
 #[test]
 fn interrupted_payload_in_pieces(rt: HostRuntime) -> Result<(), Fail> {
@@ -203,7 +203,7 @@ fn faults_by_number(rt: HostRuntime) {
     }
 }
 
-// A limit at its last value, and one past it: in one chunk, in two, and behind an interruption.
+// A limit at its last value, and one past it: in one chunk, in two, and after an interruption.
 // 5 bytes in one chunk and in two at the limits 5 and 4; 20 bytes with an interruption between at
 // the limits 20 and 19. Result: taken; TooLarge.
 #[test]
@@ -237,7 +237,7 @@ struct Tally {
     ample: u32,
 }
 
-// The interrupted payload, byte by byte and whole, over heaps of every size: its data, or want of memory for
+// The interrupted payload, byte by byte and whole, over heaps of every size: its data, or out of memory for
 // good.
 // The interrupted payload over heaps of each size below 160 bytes, byte by byte and whole. Result:
 // its 20 bytes of data, or NoMemory for good; both occur.
@@ -318,7 +318,7 @@ fn memory_refused_to_the_writer(rt: HostRuntime) -> Result<(), Fail> {
 }
 
 // A payload of 64 MiB, written and read back where memory is ample: in pieces, and at once.
-// 67,108,864 bytes, written, a size behind them, and read back with that limit, where memory is
+// 67,108,864 bytes, written, a size after them, and read back with that limit, where memory is
 // ample. Result: 67,108,872 bytes; all of the data.
 // `hg_chunks`: a payload of 64 MiB, fed in pieces and at once (`greatest_payload`).
 #[test]

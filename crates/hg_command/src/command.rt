@@ -13,7 +13,7 @@ pub enum Job<'a> {
     One {
         publishing: bool,
     },
-    /// The pushes of these files, one behind the other, and a report to standard output.
+    /// The pushes of these files, one after the other, and a report to standard output.
     Replay {
         publishing: bool,
         files: Vec<&'a str>,

@@ -1,4 +1,4 @@
-//! The words behind `serve`.
+//! The words after `serve`.
 
 use crate::command::publishing;
 use clap::{Arg, ArgAction, ArgMatches, Command, value_parser};
@@ -87,7 +87,7 @@ pub fn serve<'a>(alloc: Global) -> Result<Command<'a>, AllocError> {
         .arg(word(alloc, "report", "FILE", "Where the report is written").required(true))
 }
 
-/// An example, and what becomes of a connection behind its last reply.
+/// An example, and what becomes of a connection after its last reply.
 const BEHIND: &str =
     "Example: hg_pushd serve --listen 127.0.0.1:8090 --connections 100 --report report.txt\n\n\
 Behind its last reply a connection is shut down for writing, and what its client \
@@ -100,7 +100,7 @@ fn number_of(matches: &ArgMatches<'_>, name: &str) -> u32 {
     }
 }
 
-/// Reads what stands behind `serve`.
+/// Reads what stands after `serve`.
 pub fn read_serving<'a>(matches: &ArgMatches<'a>) -> Serving<'a> {
     Serving {
         listen: matches.get_str("listen").unwrap_or(""),

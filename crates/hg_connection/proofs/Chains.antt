@@ -35,7 +35,7 @@ use Rattle.hg_connection.specs.Connections.{Exchange, IsExchange, AreExchanges, 
 use Rattle.hg_connection.specs.Connections.{Serves, TellsLast, TellsOf, bytes_of, reads_of, uses_of}
 use Rattle.hg_connection.specs.Connections.{replies_of, gone_of, fault_of}
 
--- the bytes that were read behind the last end mark
+-- the bytes that were read after the last end mark
 abbrev pub last_rest : {A : Type 0} → List ℕ → List (Exchange A) → List ℕ
 last_rest waited [] = waited
 last_rest waited (x ∷ xs) = last_rest x.rest xs
@@ -161,7 +161,7 @@ starts {A} limits capacity first input out before waiting served none s = record
   fault = s.3;
 }
 
--- the same but for the fault
+-- the same except the fault
 abbrev pub SameBut : {A : Type 0} → Served A → Served A → Option ConnFault → Type 0
 SameBut old new fault = (new.bundles ≡ old.bundles) × (new.last ≡ old.last) × (new.written ≡ old.written)
     × (new.fault ≡ fault)
@@ -287,7 +287,7 @@ none_of : {X : Type 0} (o : Option X) → is_some o ≡ false → o ≡ None
 none_of None e = refl
 none_of (Some x) e = absurd (true≢false e)
 
--- behind a bundle without a fault its end mark was read
+-- after a bundle without a fault its end mark was read
 pub ended_whole : (ending : Ending) (sending : Sending) (fault : Option ConnFault)
     → fault_of ending sending ≡ fault → is_some fault ≡ false → ending ≡ Whole
 ended_whole ending sending fault is none = (no_fault ending sending (is ∙ none_of fault none)).0

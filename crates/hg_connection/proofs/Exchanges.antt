@@ -111,7 +111,7 @@ stops_as_read A (Fault fault) limits piece pieces consumed rest s =
 stops_as_read A InputEnded limits piece pieces consumed rest s = s
 stops_as_read A ReadFailed limits piece pieces consumed rest s = s
 
-received_read : {A : Type 0} (limits : Limits) (piece : List ℕ) (reads : List ReadAnswer) (ending : Ending)
+pub received_read : {A : Type 0} (limits : Limits) (piece : List ℕ) (reads : List ReadAnswer) (ending : Ending)
     (parts : List (Part A)) (consumed rest : List ℕ) → IsPiece piece
     → IsReceived limits piece reads ending parts consumed rest
     → IsReceived limits [] (Gave piece ∷ reads) ending parts consumed rest

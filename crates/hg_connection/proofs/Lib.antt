@@ -4,3 +4,4 @@ mod Receivings
 mod Shortness
 mod Exchanges
 mod Chains
+pub mod CallerLemmas

@@ -1,5 +1,5 @@
 -- One more turn of a bundle.
-use Rattle.std.proofs.Common.{ℕ, ◌≡◌, ◌≢◌, ◌≤◌, ◌+◌, ◌⊎◌, inl, inr, List, [], ◌∷◌, ◌++◌, All, refl, sym, ◌∙◌}
+use Rattle.std.proofs.Common.{ℕ, ◌≡◌, ◌≢◌, ◌≤◌, ◌+◌, ◌-◌, ◌⊎◌, inl, inr, List, [], ◌∷◌, ◌++◌, All, refl, sym, ◌∙◌}
 use Rattle.std.proofs.Common.{ap, subst, arith, rules, length, map, take, drop, take-append-drop}
 use Rattle.std.proofs.Common.{append_assoc, length-drop, Option, Some, None}
 use Rattle.std.specs.List.{concat}
@@ -12,7 +12,7 @@ use Rattle.std.specs.Io.KnownBytes.{Consumes}
 use Rattle.hg_types.specs.declared.part.Part.{Part}
 use Rattle.hg_types.specs.declared.limits.Limits.{Limits}
 use Rattle.hg_stream.specs.declared.fault.StreamFault.{StreamFault}
-use Rattle.hg_stream.specs.declared.fault.StreamFault.TheVariants.{Truncated}
+use Rattle.hg_stream.specs.declared.fault.StreamFault.TheVariants.{NoMemory, Truncated}
 use Rattle.hg_stream.specs.declared.state.State.{State}
 use Rattle.hg_stream.specs.declared.state.State.TheVariants.{Reading as going, Failed as stream_failed}
 use Rattle.hg_stream.specs.declared.unbundler.Unbundler.{Unbundler}
@@ -29,8 +29,9 @@ use Rattle.hg_connection.specs.declared.inbox.Next.TheVariants.{Comes, Ends as c
 use Rattle.hg_connection.specs.Receiving.{Carries, Feeds, Fills, IsFresh, IsNext, IsPiece, Keeps, Ran}
 use Rattle.hg_connection.specs.Receiving.{ReadsMore, Receives, Stops, StopsIn, last_read, part_items}
 use Rattle.hg_connection.specs.Receiving.{state_at}
+use Rattle.hg_connection.specs.Keeping.{ReceivesKept}
 
--- All that waited at first or was read was fed, but for what waits, at least a byte a turn, and the bundle
+-- All that waited at first or was read was fed, except what waits, at least a byte a turn, and the bundle
 -- goes on. What waits still waits
 -- from the beginning.
 pub record Reads {A : Type 0} (limits : Limits) (waited waiting : List ℕ) (input left : Input)
@@ -480,3 +481,173 @@ module _ {A : Type 0} (limits : Limits) (waited waiting before after : List ℕ)
       ∙ (is ∙ ap (λ x. stream_failed x) e)) in
       stops (Fault fault) limits waited before after input left old new w turn p.fed.place turn_is is refl
       (λ pieces consumed rest s. (fresh, s)) tt tt
+
+-- nothing is fed at first
+pub kept_starts : {A : Type 0} (limits : Limits) (waited : List ℕ) (input : Input) (s : SenderView A)
+    (u : Unbundler A) → IsFresh limits u → s.putter.put ≡ []
+    → (q : Reads limits waited waited input input s s u 0) × (q.fed ≡ [])
+unfolding starts
+kept_starts limits waited input s u f none = (starts limits waited input s u f none, refl)
+
+take_front : (front back : List ℕ) → take (length front) (front ++ back) ≡ front
+take_front [] back = refl
+take_front (x ∷ front) back = ap (λ (l : List ℕ). x ∷ l) (take_front front back)
+
+-- without what is after them, the first are left
+cut_back : (front back : List ℕ) → take (length (front ++ back) - length back) (front ++ back) ≡ front
+cut_back front back =
+    let long = length-append front back in
+    let n : length (front ++ back) - length back ≡ length front = omega (arith, long) in
+    ap (λ (k : ℕ). take k (front ++ back)) n ∙ take_front front back
+
+cut_rest : (fed before : List ℕ) (place : ℕ)
+    → take (length (fed ++ before) - length (drop place before)) (fed ++ before) ≡ fed ++ take place before
+cut_rest fed before place =
+    let split : (fed ++ take place before) ++ drop place before ≡ fed ++ before =
+    append_assoc fed (take place before) (drop place before)
+    ∙ ap (λ (l : List ℕ). fed ++ l) (take-append-drop place before) in
+    subst (λ (l : List ℕ). take (length l - length (drop place before)) l ≡ fed ++ take place before) split
+    (cut_back (fed ++ take place before) (drop place before))
+
+-- The bytes are still to be fed, and memory was refused for keeping them.
+module _ {A : Type 0} (limits : Limits) (waited waiting before kept : List ℕ) (input mid left : Input)
+    (old s : SenderView A) (u : Unbundler A) (turn : ℕ)
+    (r : Reads limits waited waiting input mid old s u turn) (few : length before ≤ 4096)
+  where
+    reads_on : Tells going limits r.fed r.given
+    reads_on = told limits s u going r.fed r.given r.state r.ready r.carries
+
+    no_end : NoMemory ≢ Truncated
+    no_end e = absurd cc
+
+    refused_by : (pieces : List (List ℕ)) → All IsPiece pieces → Consumes input.left left.left (concat pieces)
+        → Adds input.reads left.reads (map Gave pieces) → waited ++ concat pieces ≡ r.fed ++ before
+        → ((pieces ≡ []) × (r.fed ≡ []) × (before ≡ waited))
+        ⊎ ((more : List (List ℕ)) × (pieces ≡ more ++ before ∷ []) × (r.fed ≡ waited ++ concat more))
+        → ReceivesKept limits waited before input left old s (Fault NoMemory) kept
+    refused_by pieces each bytes reads spelled place =
+        let w = r.within in
+        record {
+          is = record {
+            parts = r.given;
+            consumed = r.fed;
+            rest = before;
+            reads = map Gave pieces ++ [];
+            more = concat pieces;
+            received = record {
+              pieces = pieces;
+              each = each;
+              reads_are = refl;
+              spelled = spelled;
+              tells = reads_on;
+              stops = (
+                no_end,
+                record {
+                  front = r.fed;
+                  taken = [];
+                  fed = before;
+                  earlier = r.given;
+                  goes_on = reads_on;
+                  consumed_is = sym (append-nil r.fed);
+                  fed_is = refl;
+                  place = place;
+                },
+              );
+              bound = omega (arith, w, few);
+            };
+            spelled = spelled;
+            bytes = bytes;
+            told = subst (Adds input.reads left.reads) (sym (append-nil (map Gave pieces))) reads;
+            keeps = tt;
+            ran = tt;
+            put = put_all limits old s u r.fed r.given r.goes r.carries;
+          };
+          kept_is = λ whole. absurd cc;
+        }
+
+    refused_waiting : waiting ≢ [] → before ≡ waiting → left ≡ mid
+        → ReceivesKept limits waited before input left old s (Fault NoMemory) kept
+    refused_waiting some same still =
+        let none : (r.pieces ≡ [])
+        × (r.fed ≡ []) = elim r.begun [ inl nothing ↦ absurd (some nothing) | inr first ↦ first ] in
+        let spelled : waited ++ concat r.pieces ≡ r.fed ++ before = r.spelled
+        ∙ ap (λ (l : List ℕ). r.fed ++ l) (sym same) in
+        let from_first : before ≡ waited = sym (sym (append-nil waited)
+        ∙ ap (λ (ps : List (List ℕ)). waited ++ concat ps) (sym none.0) ∙ spelled
+        ∙ ap (λ (l : List ℕ). l ++ before) none.1) in
+        refused_by r.pieces r.each
+        (subst (λ (i : Input). Consumes input.left i.left (concat r.pieces)) (sym still) r.bytes)
+        (subst (λ (i : Input). Adds input.reads i.reads (map Gave r.pieces)) (sym still) r.told)
+        spelled (inl (none.0, none.1, from_first))
+
+    refused_read : waiting ≡ [] → ReadsOnce mid left (Gave before) → IsPiece before
+        → ReceivesKept limits waited before input left old s (Fault NoMemory) kept
+    refused_read none once piece =
+        let joined = joined_more r.pieces before in
+        let whole : waited ++ concat r.pieces ≡ r.fed = r.spelled ∙ ap (λ (l : List ℕ). r.fed ++ l) none
+        ∙ append-nil r.fed in
+        refused_by (r.pieces ++ before ∷ [])
+        (All-append IsPiece r.pieces (before ∷ []) r.each (All-cons IsPiece before [] piece (search rules)))
+        (subst (Consumes input.left left.left) (sym joined)
+        (Consumes-trans input.left mid.left left.left (concat r.pieces) before r.bytes once.bytes))
+        (subst (Adds input.reads left.reads) (sym (map-append Gave r.pieces (before ∷ [])))
+        (Adds-trans input.reads mid.reads left.reads (map Gave r.pieces) (Gave before ∷ []) r.told once.told))
+        (ap (λ (l : List ℕ). waited ++ l) joined ∙ sym (append_assoc waited (concat r.pieces) before)
+        ∙ ap (λ (l : List ℕ). l ++ before) whole)
+        (inr (r.pieces, refl, sym whole))
+
+    pub kept_refused : (count : ℕ) → Fills waiting before mid left (Some count) → 1 ≤ count
+        → ReceivesKept limits waited before input left old s (Fault NoMemory) kept
+    kept_refused count f some = elim f [
+      | inl waits ↦ refused_waiting waits.0 waits.1 waits.2
+      | inr read ↦ refused_read read.0 read.1.0
+          (omega (arith, read.1.1, some), omega (arith, read.1.1, read.1.2))
+    ]
+
+module _ {A : Type 0} (limits : Limits) (waited waiting before after kept : List ℕ) (input mid left : Input)
+    (old s new : SenderView A) (u v w : Unbundler A) (turn count : ℕ)
+    (r : Reads limits waited waiting input mid old s u turn)
+    (f : Fills waiting before mid left (Some count)) (some : 1 ≤ count)
+    (p : Puts limits old s new u v w before after)
+  where
+    kept_turn : (t : Turns limits waited before after input left old new w turn p.fed.place) × (t.front ≡ r.fed)
+    unfolding of_waiting of_read
+    kept_turn = elim f [
+      | inl waits ↦ (
+        of_waiting limits waited waiting before after input mid left old s new u v w turn r p
+            waits.0 waits.1 waits.2,
+        refl,
+      )
+      | inr read ↦ (
+        of_read limits waited waiting before after input mid left old s new u v w turn r p
+            read.0 read.1.0 (omega (arith, read.1.1, some), omega (arith, read.1.1, read.1.2)),
+        refl,
+      )
+    ]
+
+    pub kept_goes_on : kept ≡ r.fed ++ before → state_of w ≡ going
+        → (q : Reads limits waited after input left old new w (turn + 1)) × (kept ≡ q.fed)
+    unfolding goes_on
+    kept_goes_on is state =
+        let t = kept_turn.0 in
+        let all : take p.fed.place before ≡ before = ap (λ n. take n before) (t.reading state).0
+        ∙ take-length before in (
+          goes_on limits waited before after input left old new w turn p.fed.place t state,
+          is ∙ ap (λ (l : List ℕ). l ++ before) (sym kept_turn.1)
+              ∙ ap (λ (l : List ℕ). t.front ++ l) (sym all),
+        )
+
+    pub kept_ends : kept ≡ take (length (r.fed ++ before) - length after) (r.fed ++ before)
+        → state_of w ≡ state_at Whole → ReceivesKept limits waited after input left old new Whole kept
+    unfolding stops
+    kept_ends is state =
+        let t = kept_turn.0 in
+        let rest : after ≡ drop p.fed.place before = p.fed.ended (sym p.state ∙ state) in
+        record {
+          is = stops Whole limits waited before after input left old new w turn p.fed.place t state refl
+              (λ pieces consumed rest s. s) rest tt;
+          kept_is = λ whole. is
+              ∙ ap (λ (l : List ℕ). take (length (r.fed ++ before) - length l) (r.fed ++ before)) rest
+              ∙ cut_rest r.fed before p.fed.place
+              ∙ ap (λ (l : List ℕ). l ++ take p.fed.place before) (sym kept_turn.1);
+        }

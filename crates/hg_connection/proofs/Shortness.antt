@@ -33,14 +33,14 @@ DoneAreShort A = (first : RepositoryOf A) (p : ℕ) (h : History A) (done : Done
 abbrev pub AbortedAreShort : Type 0 → Type 0
 AbortedAreShort A = (reason : Reason (Refusal A)) → length (reply_of (Aborted reason)) ≤ greatest_reply
 
-mark_empty : {A : Type 0} (ending : Ending) → part_in {A = A} (mark_of ending) ≡ []
+pub mark_empty : {A : Type 0} (ending : Ending) → part_in {A = A} (mark_of ending) ≡ []
 mark_empty Whole = refl
 mark_empty (Fault fault) = refl
 mark_empty InputEnded = refl
 mark_empty ReadFailed = refl
 
 -- the parts of what was put
-put_parts : {A : Type 0} (push index count : ℕ) (parts : List (Part A)) (mark : What A) → part_in mark ≡ []
+pub put_parts : {A : Type 0} (push index count : ℕ) (parts : List (Part A)) (mark : What A) → part_in mark ≡ []
     → all_parts (part_items push index parts ++ record { push = push; index = count; what = mark } ∷ [])
     ≡ parts
 put_parts {A} push index count [] mark none = ap (λ (ps : List (Part A)). ps ++ []) none

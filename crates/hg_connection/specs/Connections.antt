@@ -29,7 +29,7 @@ use Rattle.hg_connection.specs.declared.served.Served.{Served}
 use Rattle.hg_connection.specs.Receiving.{IsReceived, Keeps, Ran, mark_of, push_items}
 
 -- One bundle of a connection: how its reader was read, the bytes that are the bundle's and those that were
--- read behind them, why no more was read of it, and its parts; its push, how that ended and how many items
+-- read after them, why no more was read of it, and its parts; its push, how that ended and how many items
 -- were taken for it; how the writer was used for the reply, what became of it and which bytes of it went out;
 -- and the history that its client has seen then.
 pub record Exchange (A : Type 0) : Type 0 where
@@ -46,7 +46,7 @@ pub record Exchange (A : Type 0) : Type 0 where
   pub gone : List ℕ
   pub after : List (Taken A)
 
--- The bundle was received by these reads, behind the bytes that waited. The client had seen no item of the
+-- The bundle was received by these reads, after the bytes that waited. The client had seen no item of the
 -- push. Of the push the bundle's parts were put and the mark that the ending asks for, and it was answered
 -- so. Its reply was sent by these uses of the writer, also where the bundle holds a fault or a read failed.
 pub record IsExchange {A : Type 0} (limits : Limits) (capacity : ℕ) (first : RepositoryOf A)
@@ -91,7 +91,7 @@ fault_of Whole sent_whole = None
 fault_of Whole Broken = Some WriteFailed
 fault_of Whole NoMemory = Some without_memory
 
--- Each goes on from the history of the one before, and from the bytes that were read behind its end mark.
+-- Each goes on from the history of the one before, and from the bytes that were read after its end mark.
 abbrev pub AreExchanges : {A : Type 0} → Limits → ℕ → RepositoryOf A → List (Taken A) → List ℕ →
     List (Exchange A) → List (Taken A) → Type 0
 AreExchanges limits capacity first before waited [] after = after ≡ before
@@ -104,15 +104,19 @@ abbrev pub AreWhole : {A : Type 0} → List (Exchange A) → Type 0
 AreWhole [] = ⊤
 AreWhole (x ∷ xs) = (x.ending ≡ Whole) × (x.sending ≡ sent_whole) × AreWhole xs
 
+-- the bytes of the bundles, joined
 abbrev pub bytes_of : {A : Type 0} → List (Exchange A) → List ℕ
 bytes_of xs = flat_map (λ x. x.consumed) xs
 
+-- the answers of the reads of all bundles, in order
 abbrev pub reads_of : {A : Type 0} → List (Exchange A) → List ReadAnswer
 reads_of xs = flat_map (λ x. x.reads) xs
 
+-- the answers of the writer's uses for all replies, in order
 abbrev pub uses_of : {A : Type 0} → List (Exchange A) → List WriteAnswer
 uses_of xs = flat_map (λ x. x.uses) xs
 
+-- the replies, joined
 abbrev pub replies_of : {A : Type 0} → List (Exchange A) → List ℕ
 replies_of xs = flat_map (λ x. reply_of x.how) xs
 
@@ -126,10 +130,10 @@ TellsLast {A} None xs = xs ≡ []
 TellsLast {A} (Some answer) xs = (front : List (Exchange A)) × (x : Exchange A) × (xs ≡ front ++ x ∷ [])
     × (answer.outcome ≡ x.how) × (answer.takes ≡ x.takes)
 
--- Why the connection ended, behind these whole bundles, and by which read. Without a fault: so many were
+-- Why the connection ended, after these whole bundles, and by which read. Without a fault: so many were
 -- asked for, and nothing more was read; or one read met the end of the input, with no byte of a next bundle.
 -- With one: at an opening, where at most the first piece of the next bundle was read; between two bundles, by
--- a failed read; or with the bundle that is the last, behind which nothing was read.
+-- a failed read; or with the bundle that is the last, after which nothing was read.
 abbrev pub EndsBy : {A : Type 0} → ℕ → List (Exchange A) → Option (Exchange A) → List ReadAnswer → List ℕ →
     Input → Option ConnFault → Type 0
 EndsBy most whole None final dropped left None =
@@ -144,8 +148,8 @@ EndsBy most whole (Some x) final dropped left (Some fault) =
 
 -- A connection of at most so many bundles: whole ones, each of which was answered, and its reply written and
 -- flushed, and one that ended it, if there is one. All reads and all uses of the writer are theirs, in their
--- order, but for one read at the end. So behind a bundle whose reply was not written and flushed nothing was
--- read, and behind a failed read no bundle was begun, and nothing was written behind the reply to the bundle
+-- order, except one read at the end. So after a bundle whose reply was not written and flushed nothing was
+-- read, and after a failed read no bundle was begun, and nothing was written after the reply to the bundle
 -- that it broke. The bytes that were read are those of the bundles and a rest. A front of the replies went
 -- out, which is what went out of each, and all of them where there is no fault.
 pub record Connects {A : Type 0} (limits : Limits) (capacity : ℕ) (first : RepositoryOf A) (most : ℕ)

@@ -64,7 +64,7 @@ last_read InputEnded = Gave [] ∷ []
 last_read ReadFailed = Failed ∷ []
 
 -- The bytes that were fed last held the end mark or the fault: those before them go on, so that no read was
--- made behind it. They are what waited at first, where nothing was read, or else the last piece.
+-- made after it. They are what waited at first, where nothing was read, or else the last piece.
 pub record StopsIn (A : Type 0) (limits : Limits) (waited : List ℕ) (pieces : List (List ℕ))
     (consumed rest : List ℕ) : Type 0 where
   pub front : List ℕ
@@ -77,6 +77,7 @@ pub record StopsIn (A : Type 0) (limits : Limits) (waited : List ℕ) (pieces : 
   pub place : ((pieces ≡ []) × (front ≡ []) × (fed ≡ waited))
       ⊎ ((before : List (List ℕ)) × (pieces ≡ before ++ fed ∷ []) × (front ≡ waited ++ concat before))
 
+-- where the reading of a bundle stopped, by how it ended
 abbrev pub Stops : Type 0 → Ending → Limits → List ℕ → List (List ℕ) → List ℕ → List ℕ → Type 0
 Stops A Whole limits waited pieces consumed rest = StopsIn A limits waited pieces consumed rest
 Stops A (Fault fault) limits waited pieces consumed rest =
@@ -84,7 +85,7 @@ Stops A (Fault fault) limits waited pieces consumed rest =
 Stops A InputEnded limits waited pieces consumed rest = rest ≡ []
 Stops A ReadFailed limits waited pieces consumed rest = rest ≡ []
 
--- A bundle was received by these reads, behind the bytes that waited: each gave a piece, but for one that
+-- A bundle was received by these reads, after the bytes that waited: each gave a piece, except one that
 -- gave nothing or failed, which is the last. All bytes together are those of the bundle and a rest. Those of
 -- the bundle are a whole bundle with these parts, or hold a fault, or go on, with these parts before it. A
 -- read is made only where the bytes before it hold no end mark and no fault. That the bytes are truncated is
@@ -151,7 +152,7 @@ pub record Feeds {A : Type 0} (u v : Unbundler A) (before after : List ℕ) : Ty
   pub limits : limits_of v ≡ limits_of u
   pub not_truncated : IsStillReading u → state_of v ≢ stream_failed Truncated
 
--- what waits behind an end mark: the bytes that were not fed
+-- what waits after an end mark: the bytes that were not fed
 abbrev pub Keeps : Ending → List ℕ → List ℕ → Type 0
 Keeps Whole rest waiting = waiting ≡ rest
 Keeps ending rest waiting = ⊤

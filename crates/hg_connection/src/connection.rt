@@ -23,7 +23,7 @@ use std::alloc::Allocator;
 use std::sync::Wait;
 
 /// Feeds the bytes that wait.
-fn feed_waiting<A: Allocator + Copy>(bundle: &mut Unbundler<A>, inbox: &mut Inbox)
+pub(crate) fn feed_waiting<A: Allocator + Copy>(bundle: &mut Unbundler<A>, inbox: &mut Inbox)
     ensures { Feeds bundle.old bundle.new inbox.old inbox.new }
 {
     if let Ok(count) = bundle.feed(inbox.pending()) {
@@ -32,7 +32,7 @@ fn feed_waiting<A: Allocator + Copy>(bundle: &mut Unbundler<A>, inbox: &mut Inbo
 }
 
 /// Puts the parts that the bundle has finished.
-fn put_ready<J: Naming<A>, A: Allocator + Copy, R: Wait, G: Gate>(
+pub(crate) fn put_ready<J: Naming<A>, A: Allocator + Copy, R: Wait, G: Gate>(
     server: &Server<J, A>,
     rt: &R,
     sender: &mut Sender<J, A>,
@@ -135,12 +135,12 @@ fn serve_bundle<J: Naming<A>, A: Allocator + Copy, R: Wait, I: Reader, W: Writer
     (client, round)
 }
 
-/// Serves a connection: up to `most` bundles, one behind the other. Each is answered, and its reply written
-/// and flushed, before a byte behind its end mark is fed or a further one read. Bytes that were read behind
+/// Serves a connection: up to `most` bundles, one after the other. Each is answered, and its reply written
+/// and flushed, before a byte after its end mark is fed or a further one read. Bytes that were read after
 /// an end mark begin the next bundle.
 ///
 /// The first push is opened before anything is read, each later one when a byte of its bundle is there. The
-/// connection ends behind `most` bundles, at an end of the input with no byte of a next bundle, and at the
+/// connection ends after `most` bundles, at an end of the input with no byte of a next bundle, and at the
 /// first [`ConnFault`]. A push that the repository refuses is answered as any other. A bundle that holds a
 /// fault, and one that a read broke, is answered too, and its reply sent.
 pub fn serve_connection<J: Naming<A>, A: Allocator + Copy, R: Wait, I: Reader, W: Writer, G: Gate>(

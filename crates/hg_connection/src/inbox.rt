@@ -85,7 +85,7 @@ impl Inbox {
     }
 }
 
-/// What comes behind a bundle.
+/// What comes after a bundle.
 #[derive(Clone, Copy, Debug, PartialEq, Eq)]
 pub enum Next {
     /// A bundle, or the first one.

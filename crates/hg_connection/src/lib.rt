@@ -1,17 +1,26 @@
-//! One connection to the server: bundles from any reader, one behind the other, and their replies to any
+//! One connection to the server: bundles from any reader, one after the other, and their replies to any
 //! writer.
 //!
 //! [`serve_connection`] opens a push, reads its bundle, puts its parts and its mark, waits for the answer,
-//! and writes and flushes the reply; then the next bundle begins. Bytes that were read behind an end mark
+//! and writes and flushes the reply; then the next bundle begins. Bytes that were read after an end mark
 //! begin it. [`Served`] tells what became of the connection. The lock of the server is not held while a
 //! reader or a writer is used.
+//!
+//! For a server that has to keep what it answers, the steps of one bundle stand alone: [`receive_kept`] keeps
+//! the bytes of a bundle as they are read, [`mark`] puts the mark of its push and [`send_reply`] sends the
+//! reply, so that a caller can do its own between them.
 #![tactic(auto)]
 
 mod connection;
 mod ending;
 mod inbox;
+mod keeping;
 mod reply;
 mod served;
 
 pub use connection::serve_connection;
-pub use served::{ConnFault, Served};
+pub use ending::{Ending, mark};
+pub use inbox::{Inbox, Next, next_bundle};
+pub use keeping::receive_kept;
+pub use reply::send_reply;
+pub use served::{ConnFault, Served, fault_of};

@@ -1,10 +1,10 @@
 //! The tests of `hg_connection`, over its contracts.
 //!
-//! Each is one connection to a server of an empty repository, at capacity 1, over a reader and a
-//! writer in memory. `E` is the bundle without parts (12 bytes), `R` one with `CHECK:HEADS` and an
-//! empty payload, `A` the root changeset (193 bytes), and `I` the same with an interruption (222
-//! bytes), both as `hg_replay` has them. A use of a device that fails does so as an interrupted
-//! one.
+//! The tests of `steps.rt` take a step of a connection alone. Each of the others is one connection to a
+//! server of an empty repository, at capacity 1, over a reader and a writer in memory. `E` is the bundle
+//! without parts (12 bytes), `R` one with `CHECK:HEADS` and an empty payload, `A` the root changeset (193
+//! bytes), and `I` the same with an interruption (222 bytes), both as `hg_replay` has them. A use of a
+//! device that fails does so as an interrupted one.
 //!
 //! Over heaps of 16 to 8,176 bytes `A` is pushed (`each_growth_is_refused`). It is not opened, and
 //! nothing is read or written; or it is cut off with the fault Stream(NoMemory) and 62 bytes,
@@ -16,8 +16,8 @@
 //! bytes are dropped; or it is done, and there is no memory for its reply. Both occur.
 //!
 //! More connections that are held until another one was answered, with `E` each, at the capacities
-//! 1 and 8: in the first read and in the one behind the reply (`a_read_holds_no_other_connection`);
-//! behind the mark, behind the answer, in a write and in the flush
+//! 1 and 8: in the first read and in the one after the reply (`a_read_holds_no_other_connection`);
+//! after the mark, after the answer, in a write and in the flush
 //! (`a_reply_holds_no_other_connection`). Both get `E` back.
 #![tactic(auto)]
 

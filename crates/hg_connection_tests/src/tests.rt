@@ -14,6 +14,7 @@ mod large;
 mod memory;
 mod openings;
 mod pieces;
+mod steps;
 mod writers;
 
 use crate::tests::devices::{Asker, Counter, Endless, Sink, Source};

@@ -11,7 +11,7 @@ use Rattle.hg_delta.specs.declared.fault.DeltaFault.{DeltaFault}
 use Rattle.hg_delta.specs.Faults.{IsHunkFault, BreaksAt}
 use Rattle.hg_delta.proofs.Numbers.{length-header}
 
--- Hunks behind one that ends at `from`, and one hunk more.
+-- Hunks after one that ends at `from`, and one hunk more.
 abbrev pub ends : List Hunk → List ℕ
 ends hunks = map (λ hunk. hunk.end) hunks
 
@@ -92,7 +92,7 @@ took_all base delta text end took = record {
       ∙ ap (λ (n : ℕ). flat_map (piece_of base) (behind_each_other took.hunks) ++ drop n base) took.ends_at;
 }
 
--- behind whole hunks, the fault of the next is that of the delta
+-- after whole hunks, the fault of the next is that of the delta
 pub took_broken : (fault : DeltaFault) (base delta rest text : List ℕ) (end : ℕ)
     → Took base delta end rest text → IsHunkFault fault (length base) end rest → BreaksAt fault base delta
 took_broken fault base delta rest text end took broken =

@@ -172,7 +172,7 @@ hunk_reads size before bytes fits some = by (ltb (length bytes) 12) refl
         hunk_headed_reads size before bytes (number_at 0 bytes) (number_at 4 bytes) (number_at 8 bytes)
         (drop 12 bytes) (header_reads bytes fits (ltb-false _ _ long)) (IsBytes-drop 12 bytes fits)
 
--- What is read behind a text is so.
+-- What is read after a text is so.
 abbrev ReadsText : List ℕ → List ℕ → List ℕ → Result (List ℕ) DeltaFault → Type 0
 ReadsText base delta text (Ok more) = Applies base delta (text ++ more)
 ReadsText base delta text (Err fault) = BreaksAt fault base delta

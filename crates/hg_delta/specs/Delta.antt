@@ -17,6 +17,7 @@ number_bytes n = to_be_bytes w32 n
 abbrev pub header : ℕ → ℕ → ℕ → List ℕ
 header start end size = number_bytes start ++ (number_bytes end ++ number_bytes size)
 
+-- the bytes of a hunk: its header, and then its content
 abbrev pub hunk_bytes : Hunk → List ℕ
 hunk_bytes hunk = header hunk.start hunk.end (length hunk.content) ++ hunk.content
 
@@ -29,11 +30,11 @@ last_of first (n ∷ ns) = last_of n ns
 abbrev pub end_of : List Hunk → ℕ
 end_of hunks = last_of 0 (map (λ hunk. hunk.end) hunks)
 
--- each hunk behind the end of the one before it
+-- each hunk after the end of the one before it
 abbrev pub behind_each_other : List Hunk → List (ℕ × Hunk)
 behind_each_other hunks = zip (0 ∷ map (λ hunk. hunk.end) hunks) hunks
 
--- a hunk in a base of that size, behind one that ends there; its numbers have 32 bits
+-- a hunk in a base of that size, after one that ends there; its numbers have 32 bits
 pub record IsPlaced (size before : ℕ) (hunk : Hunk) : Type 0 where
   pub ascends : before ≤ hunk.start
   pub forward : hunk.start ≤ hunk.end
@@ -49,7 +50,7 @@ ArePlaced size hunks = AllByRecursion (λ place. IsPlaced size place.0 place.1) 
 abbrev pub piece_of : List ℕ → ℕ × Hunk → List ℕ
 piece_of base place = slice_range base place.0 place.1.start ++ place.1.content
 
--- the text: what each hunk gives, and the base behind the last one
+-- the text: what each hunk gives, and the base after the last one
 abbrev pub text_of : List ℕ → List Hunk → List ℕ
 text_of base hunks = flat_map (piece_of base) (behind_each_other hunks) ++ drop (end_of hunks) base
 

@@ -11,7 +11,7 @@ pub record HasHeader (rest : List ℕ) (start end size : ℕ) (more : List ℕ) 
   pub size_fits : size < 2 ^ 32
   pub spelled : rest ≡ header start end size ++ more
 
--- The bytes `rest` stand where a hunk is wanted, in a base of that size, behind a hunk that ends at `before`.
+-- The bytes `rest` stand where a hunk is wanted, in a base of that size, after a hunk that ends at `before`.
 -- There are some, and fewer than a header has.
 abbrev pub LacksHeader : List ℕ → Type 0
 LacksHeader rest = (0 < length rest) × (length rest < 12)
@@ -48,6 +48,7 @@ pub record LacksContent (size before : ℕ) (rest : List ℕ) : Type 0 where
   pub within : end ≤ size
   pub less : length more < wanted
 
+-- what is left is no whole header, or has less than its content
 abbrev pub EndsEarly : ℕ → ℕ → List ℕ → Type 0
 EndsEarly size before rest = LacksHeader rest ⊎ LacksContent size before rest
 
@@ -59,7 +60,7 @@ IsHunkFault PastEnd size before rest = GoesPast size before rest
 IsHunkFault TooLong size before rest = ⊥
 IsHunkFault NoMemory size before rest = ⊥
 
--- behind whole hunks stands one with that fault
+-- after whole hunks stands one with that fault
 pub record BreaksAt (fault : DeltaFault) (base delta : List ℕ) : Type 0 where
   pub hunks : List Hunk
   pub rest : List ℕ

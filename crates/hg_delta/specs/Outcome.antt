@@ -15,7 +15,7 @@ abbrev pub ◌>>=◌ : {X Y : Type 0} → Result X DeltaFault → (X → Result 
 abbrev pub number_at : ℕ → List ℕ → ℕ
 number_at place bytes = from_be_bytes w32 (take 4 (drop place bytes))
 
--- Behind a header of these numbers: the hunk and the bytes behind it, in a base of that size and behind a
+-- After a header of these numbers: the hunk and the bytes after it, in a base of that size and after a
 -- hunk that ends at `before`.
 unfoldable pub hunk_headed : ℕ → ℕ → ℕ → ℕ → ℕ → List ℕ → Result (Hunk × List ℕ) DeltaFault
 hunk_headed size before start end wanted more =
@@ -25,13 +25,13 @@ hunk_headed size before start end wanted more =
     if nat_lt (length more) wanted then Err Short else
     Ok (record { start = start; end = end; content = take wanted more }, drop wanted more)
 
--- the hunk at the front of the bytes, and those behind it
+-- the hunk at the front of the bytes, and those after it
 unfoldable pub hunk_at : ℕ → ℕ → List ℕ → Result (Hunk × List ℕ) DeltaFault
 hunk_at size before bytes =
     if nat_lt (length bytes) 12 then Err Short else
     hunk_headed size before (number_at 0 bytes) (number_at 4 bytes) (number_at 8 bytes) (drop 12 bytes)
 
--- the text behind a hunk that ends at `before`: of at most so many hunks, up to the end of the bytes
+-- the text after a hunk that ends at `before`: of at most so many hunks, up to the end of the bytes
 unfoldable pub text_within : ℕ → List ℕ → ℕ → List ℕ → Result (List ℕ) DeltaFault
 text_within zero base before bytes = Ok (drop before base)
 text_within (suc most) base before [] = Ok (drop before base)

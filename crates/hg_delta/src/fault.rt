@@ -16,7 +16,7 @@ pub enum DeltaFault {
     /// 2: a hunk begins before the end of the one before it, or ends before its own start.
     #[error("a hunk of the delta goes backwards")]
     Backwards,
-    /// 3: a hunk ends behind the end of the base.
+    /// 3: a hunk ends after the end of the base.
     #[error("a hunk of the delta goes past the end of the base")]
     PastEnd,
     /// 4: every hunk is well formed, and the text is longer than allowed.

@@ -23,7 +23,7 @@ struct Header {
     length: usize,
 }
 
-/// The number that the first four bytes are, and the bytes behind it.
+/// The number that the first four bytes are, and the bytes after it.
 fn read_number(bytes: &[u8]) -> Option<(u32, &[u8])>
     ensures some { IsSome result ↔ (4 ≤ length bytes.now) }
     ensures number { IfSome result (λ read. bytes.now ≡ number_bytes read.0 ++ read.1.now) }
@@ -33,7 +33,7 @@ fn read_number(bytes: &[u8]) -> Option<(u32, &[u8])>
     Some((u32::from_be_bytes(*number), rest))
 }
 
-/// The header that the first twelve bytes are, and the bytes behind it.
+/// The header that the first twelve bytes are, and the bytes after it.
 fn read_header(bytes: &[u8]) -> Option<(Header, &[u8])>
     ensures some { IsSome result ↔ (12 ≤ length bytes.now) }
     ensures header { IfSome result
@@ -51,8 +51,8 @@ fn read_header(bytes: &[u8]) -> Option<(Header, &[u8])>
     Some((header, rest))
 }
 
-/// The hunk at the front of what is left of a delta, and the bytes behind it. It lies in a base of `size`
-/// bytes, behind a hunk that ends at `before`.
+/// The hunk at the front of what is left of a delta, and the bytes after it. It lies in a base of `size`
+/// bytes, after a hunk that ends at `before`.
 pub fn read_hunk(size: usize, before: usize, delta: &[u8]) -> Result<(Hunk<'_>, &[u8]), DeltaFault>
     requires { 0 < length delta.now }
     ensures placed { IfOk result (λ read. IsPlaced size before (view read.0)) }

@@ -25,22 +25,27 @@ pub record Output : Type 0 where
   pub taken : Option (List ℕ)
   pub uses : Option (List WriteAnswer)
 
+-- what a read tells by its result and the bytes in its buffer
 abbrev pub read_answer : {E : Type 0} → Result ℕ E → List ℕ → ReadAnswer
 read_answer (Ok count) buffer = Gave (take count buffer)
 read_answer (Err error) buffer = Failed
 
+-- what a write tells by its result and the bytes that it was given
 abbrev pub write_answer : {E : Type 0} → Result ℕ E → List ℕ → WriteAnswer
 write_answer (Ok count) bytes = Took (take count bytes)
 write_answer (Err error) bytes = Refused
 
+-- what a flush tells by its result
 abbrev pub flush_answer : {T E : Type 0} → Result T E → WriteAnswer
 flush_answer (Ok done) = Flushed
 flush_answer (Err error) = NotFlushed
 
+-- the bytes that a read gave
 abbrev pub given_by : ReadAnswer → List ℕ
 given_by (Gave bytes) = bytes
 given_by Failed = []
 
+-- the bytes that a write took
 abbrev pub taken_by : WriteAnswer → List ℕ
 taken_by (Took bytes) = bytes
 taken_by Refused = []

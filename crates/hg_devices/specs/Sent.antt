@@ -10,7 +10,7 @@ use Rattle.hg_devices.specs.Devices.{Output, WriteAnswer, Took, Refused, Flushed
 abbrev pub StopsShort : List ℕ → List WriteAnswer → Type 0
 StopsShort rest last = (rest ≢ []) × ((last ≡ Took [] ∷ []) ⊎ (last ≡ Refused ∷ []))
 
--- So many of the bytes were written, by these writes, one behind the other. Each of them took some bytes;
+-- So many of the bytes were written, by these writes, one after the other. Each of them took some bytes;
 -- then all were written, or one more write took none or failed, and no further one was made.
 pub record Writes (before after : Output) (all : List ℕ) (sent : ℕ) : Type 0 where
   pub pieces : List (List ℕ)
@@ -27,7 +27,7 @@ LastUse Whole pieces rest last = (rest ≡ []) × (last ≡ Flushed ∷ [])
 LastUse Broken pieces rest last = StopsShort rest last ⊎ ((rest ≡ []) × (last ≡ NotFlushed ∷ []))
 LastUse NoMemory pieces rest last = (pieces ≡ []) × (last ≡ [])
 
--- Of a reply these bytes went out, by these uses of the writer: writes, one behind the other, of which each
+-- Of a reply these bytes went out, by these uses of the writer: writes, one after the other, of which each
 -- took some bytes. Then it was whole and was flushed; or one more write took none or failed, or the flush
 -- failed, and the writer was not used again; or memory was refused for the reply, and the writer was not
 -- used.

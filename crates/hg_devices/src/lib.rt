@@ -2,7 +2,7 @@
 //!
 //! A [`Reader`] gives bytes and a [`Writer`] takes them. What each tells is a value that contracts see: the
 //! bytes, and how each use went, in order. Those of the library tell their bytes alone, where they know them.
-//! [`send`] writes bytes one behind the other, flushes, and uses the writer no more once it failed. Nothing
+//! [`send`] writes bytes one after the other, flushes, and uses the writer no more once it failed. Nothing
 //! here starts a thread, and nothing waits but a device.
 #![tactic(auto)]
 

@@ -10,7 +10,7 @@ use Rattle.hg_http.specs.Requests.{joined_to, most_pieces, piece_name, pieces_fr
 one_less : (place : ℕ) → place < most_pieces → most_pieces - place ≡ suc (most_pieces - (place + 1))
 one_less place less = omega (arith, less)
 
--- a piece that is there comes first, and then those behind it
+-- a piece that is there comes first, and then those after it
 pub with_piece : (headers : Entries FieldValue) (place : ℕ) (front : List ℕ) (value : FieldValue)
     → place < most_pieces → value_named headers (piece_name (place + 1)) ≡ Some value
     → (front ++ value.bytes) ++ pieces_from headers (place + 1 + 1) (most_pieces - (place + 1))
@@ -22,7 +22,7 @@ with_piece headers place front value less e =
     (ap (λ o. joined_to o rest) (sym e)
     ∙ ap (λ more. pieces_from headers (place + 1) more) (sym (one_less place less)))
 
--- behind one that is not there comes none
+-- after one that is not there comes none
 pub without_piece : (headers : Entries FieldValue) (place : ℕ) (front : List ℕ)
     → place < most_pieces → value_named headers (piece_name (place + 1)) ≡ None
     → front ≡ front ++ pieces_from headers (place + 1) (most_pieces - place)
@@ -33,7 +33,7 @@ without_piece headers place front less e =
     (ap (λ o. joined_to o rest) (sym e)
     ∙ ap (λ more. pieces_from headers (place + 1) more) (sym (one_less place less)))
 
--- and none comes behind as many as there may be
+-- and none comes after as many as there may be
 pub no_more : (headers : Entries FieldValue) (place : ℕ) (front : List ℕ) → most_pieces ≤ place
     → front ≡ front ++ pieces_from headers (place + 1) (most_pieces - place)
 unfolding pieces_from

@@ -35,6 +35,7 @@ other_of name =
     else if bytes_eq name (codes "getbundle") then Some GetBundle
     else None
 
+-- a command that reads, or else that other one
 abbrev pub told_or : Option Read → Option Command → Option Command
 told_or None other = other
 told_or (Some read) other = Some (Tell read)

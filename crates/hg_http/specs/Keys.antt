@@ -17,9 +17,11 @@ pub record IsChange {A : Type 0} (fields : List (Field A)) (change : KeyChange) 
 abbrev pub is_short : List ℕ → Bool
 is_short value = nat_le (length value) 255
 
+-- each of the four values is short enough for a parameter of a part
 abbrev pub fits : List ℕ → List ℕ → List ℕ → List ℕ → Bool
 fits namespace key old new = is_short namespace && (is_short key && (is_short old && is_short new))
 
+-- a mandatory parameter
 abbrev pub key_param : {A : Type 0} → List ℕ → List ℕ → Param A
 key_param key value = record { mandatory = true; key = key; value = value }
 
@@ -37,5 +39,6 @@ key_part namespace key old new = record {
   payload = [];
 }
 
+-- the parts of a push that sets one key
 abbrev pub key_parts : {A : Type 0} → List ℕ → List ℕ → List ℕ → List ℕ → List (Part A)
 key_parts namespace key old new = replycaps_part ∷ key_part namespace key old new ∷ []

@@ -1,4 +1,5 @@
 pub mod Commands
 pub mod Requests
+pub mod Views
 pub mod Tellings
 pub mod Keys

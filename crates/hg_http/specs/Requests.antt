@@ -11,7 +11,7 @@ use Rattle.http_header.specs.Token.{lowercase}
 use Rattle.hg_told.specs.declared.form.Field.{Field}
 use Rattle.hg_told.specs.Form.{fields_of, value_in}
 
--- the text behind the `?` of its target; the empty one where there is none
+-- the text after the `?` of its target; the empty one where there is none
 abbrev pub query_of : Request (List ℕ) → List ℕ
 query_of r = unwrap_or (uri_query (head_of r).uri) []
 
@@ -23,6 +23,7 @@ value_named headers name = get headers (lowercase name)
 abbrev pub piece_name : ℕ → List ℕ
 piece_name number = codes "x-hgarg-" ++ decimal number
 
+-- the value of a field, and then the rest; nothing where there is no such field
 abbrev pub joined_to : Option FieldValue → List ℕ → List ℕ
 joined_to None rest = []
 joined_to (Some value) rest = value.bytes ++ rest
@@ -50,6 +51,7 @@ argument_in fields name = unwrap_or (value_in fields name) []
 unfoldable pub name_of : (A : Type 0) → Request (List ℕ) → List ℕ
 name_of A r = argument_in {A = A} (fields_of (query_of r)) (codes "cmd")
 
+-- the content type is that of the protocol
 abbrev pub is_protocol : Option FieldValue → Bool
 is_protocol None = false
 is_protocol (Some value) = bytes_eq value.bytes (codes "application/mercurial-0.1")

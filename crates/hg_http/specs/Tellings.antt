@@ -5,10 +5,14 @@ use Rattle.http_server.specs.declared.response.Response.{Response}
 use Rattle.http_server.specs.Response.{IsResponse}
 use Rattle.hg_http.specs.declared.answer.Answer.{Answer}
 use Rattle.hg_http.specs.declared.answer.Answer.TheVariants.{Told, Refused, Forbidden, NotFound}
+use Rattle.hg_http.specs.declared.answer.Answer.TheVariants.{Shown, Moved}
+use Rattle.hg_http.specs.declared.view.View.{View}
+use Rattle.hg_http.specs.declared.view.View.TheVariants.{Page, Report, Metrics}
 use Rattle.hg_http.specs.declared.answer.Refusal.{Refusal}
 use Rattle.hg_http.specs.declared.answer.Refusal.TheVariants.{NotForced, BadBatch, PushesAlone, NotOpened}
 use Rattle.hg_http.specs.declared.answer.Refusal.TheVariants.{NoMemory, NoAnswer}
 
+-- the text and a line feed
 abbrev pub line : List ℕ → List ℕ
 line text = text ++ 10 ∷ []
 
@@ -21,8 +25,19 @@ refusal_text NotOpened = line (codes "no push can be opened now")
 refusal_text NoMemory = line (codes "out of memory")
 refusal_text NoAnswer = line (codes "there is no memory for the answer")
 
+-- one field: the content type
 abbrev pub of_type : List ℕ → List Header
 of_type text = (codes "content-type", text) ∷ []
+
+-- The fields of a view: its type, and of the page besides what it may load: its own styles alone.
+abbrev pub view_fields : View → List Header
+view_fields Page = (codes "content-type", codes "text/html; charset=utf-8")
+    ∷ (codes "content-security-policy", codes "default-src 'none'; style-src 'unsafe-inline'") ∷ []
+view_fields Report = of_type (codes "text/plain; charset=utf-8")
+view_fields Metrics = of_type (codes "text/plain; version=0.0.4; charset=utf-8")
+
+abbrev pub location_of : List ℕ → List Header
+location_of address = (codes "location", address) ∷ []
 
 -- the status, the fields and the body that tell an answer
 abbrev pub Says : {A : Type 0} → Answer A → Response → Type 0
@@ -31,6 +46,8 @@ Says (Refused why) response =
     IsResponse 200 (of_type (codes "application/hg-error")) (refusal_text why) response
 Says Forbidden response = IsResponse 403 [] [] response
 Says NotFound response = IsResponse 404 [] [] response
+Says (Shown view text) response = IsResponse 200 (view_fields view) text response
+Says (Moved address) response = IsResponse 302 (location_of address) [] response
 
 -- memory was refused for the answer, and the response says so: by a line, or by its status alone
 abbrev pub SaysNothing : Response → Type 0
@@ -38,5 +55,6 @@ SaysNothing response =
     IsResponse 200 (of_type (codes "application/hg-error")) (refusal_text NoAnswer) response
     ⊎ IsResponse 500 [] [] response
 
+-- a response says this answer, or that memory was refused for it
 abbrev pub Tells : {A : Type 0} → Answer A → Response → Type 0
 Tells answer response = Says answer response ⊎ SaysNothing response

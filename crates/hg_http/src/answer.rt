@@ -1,13 +1,15 @@
 //! The answers, and how a response tells them.
 
-ghost use Rattle.std.specs.Prelude.{◌≡◌, OnOk, codes};
+ghost use Rattle.std.specs.Prelude.{◌≡◌, OnOk, codes, []};
 ghost use Rattle.http_server.specs.Response.{IsBlank, IsResponse};
-ghost use Rattle.hg_http.specs.Tellings.{of_type, refusal_text, Says, SaysNothing, Tells};
+ghost use Rattle.hg_http.specs.Tellings.{location_of, of_type, refusal_text, Says, SaysNothing, Tells};
+ghost use Rattle.hg_http.specs.Tellings.{view_fields};
 
+use crate::view::View;
 use bytes::BufMut;
 use hg_types::Seq;
 use http::StatusCode;
-use http_header::{HeaderName, HeaderValue};
+use http_header::{HeaderName, HeaderValue, HeaderValueError};
 use http_server::Response;
 use std::alloc::{AllocError, Allocator, Global};
 
@@ -53,17 +55,21 @@ pub enum Answer<A: Allocator = Global> {
     Refused(Refusal),
     /// A command that changes something came in a form that a page in a browser could send.
     Forbidden,
-    /// No command.
+    /// No command, and no view.
     NotFound,
+    /// What is asked for without a command.
+    Shown(View, Seq<u8, A>),
+    /// It is answered at that address.
+    Moved(Seq<u8, A>),
 }
 
 /// Fills a blank response with the answer. Where memory is refused for it, the response says so, by a line,
 /// or by its status where memory is refused for that as well.
-pub fn respond<A: Allocator>(answer: &Answer<A>, response: &mut Response)
+pub fn respond<A: Allocator>(alloc: Global, answer: &Answer<A>, response: &mut Response)
     requires { IsBlank response.old }
     ensures { Tells answer.now response.new }
 {
-    if try_respond(answer, response).is_err() {
+    if try_respond(alloc, answer, response).is_err() {
         respond_nothing(response);
     }
 }
@@ -78,7 +84,11 @@ fn respond_nothing(response: &mut Response)
     }
 }
 
-fn try_respond<A: Allocator>(answer: &Answer<A>, response: &mut Response) -> Result<(), AllocError>
+fn try_respond<A: Allocator>(
+    alloc: Global,
+    answer: &Answer<A>,
+    response: &mut Response,
+) -> Result<(), AllocError>
     requires { IsBlank response.old }
     ensures { OnOk result (Says answer.now response.new) }
 {
@@ -93,6 +103,53 @@ fn try_respond<A: Allocator>(answer: &Answer<A>, response: &mut Response) -> Res
             response.status = StatusCode::NOT_FOUND;
             Ok(())
         }
+        Answer::Shown(view, text) => show(response, *view, text.as_slice()),
+        Answer::Moved(address) => move_to(alloc, response, address.as_slice()),
+    }
+}
+
+fn show(response: &mut Response, view: View, text: &[u8]) -> Result<(), AllocError>
+    requires { IsBlank response.old }
+    ensures { OnOk result (IsResponse 200 (view_fields view) text.now response.new) }
+{
+    add_fields(response, view)?;
+    response.body.put_slice(text)
+}
+
+/// The fields of a view's answer: its type, and for the page what it may load.
+fn add_fields(response: &mut Response, view: View) -> Result<(), AllocError>
+    requires { IsBlank response.old }
+    ensures { OnOk result (IsResponse 200 (view_fields view) [] response.new) }
+{
+    match view {
+        View::Page => {
+            let kind = HeaderValue::from_static("text/html; charset=utf-8");
+            response.add_header(HeaderName::from_static("content-type"), kind)?;
+            let policy = HeaderValue::from_static("default-src 'none'; style-src 'unsafe-inline'");
+            response.add_header(HeaderName::from_static("content-security-policy"), policy)
+        }
+        View::Report => {
+            let kind = HeaderValue::from_static("text/plain; charset=utf-8");
+            response.add_header(HeaderName::from_static("content-type"), kind)
+        }
+        View::Metrics => {
+            let kind = HeaderValue::from_static("text/plain; version=0.0.4; charset=utf-8");
+            response.add_header(HeaderName::from_static("content-type"), kind)
+        }
+    }
+}
+
+/// An address that no field can hold is as one without memory.
+fn move_to(alloc: Global, response: &mut Response, address: &[u8]) -> Result<(), AllocError>
+    requires { IsBlank response.old }
+    ensures { OnOk result (IsResponse 302 (location_of address.now) [] response.new) }
+{
+    match HeaderValue::from_bytes(alloc, address) {
+        Ok(value) => {
+            response.status = StatusCode::FOUND;
+            response.add_header(HeaderName::from_static("location"), value)
+        }
+        Err(HeaderValueError::Invalid | HeaderValueError::OutOfMemory) => Err(AllocError),
     }
 }
 

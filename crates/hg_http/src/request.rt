@@ -19,7 +19,7 @@ use std::alloc::Allocator;
 /// How many header fields of arguments are looked for: a head has no more.
 const MOST_PIECES: u32 = 64;
 
-fn query_of(request: &Request<Bytes>) -> &[u8]
+pub(crate) fn query_of(request: &Request<Bytes>) -> &[u8]
     ensures { result.now ≡ query_text request.now }
 {
     match request.uri().query() {

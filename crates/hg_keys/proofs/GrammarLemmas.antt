@@ -155,7 +155,7 @@ target_again (Some node) ok = by (bytes_eq node.0 no_node) refl
     by true is = absurd (ok.1 ((bytes_eq-Decides node.0 no_node).0 is))
     by false is = refl
 
--- the front of a list and what is behind it
+-- the front of a list and what is after it
 cut : (n : ℕ) (front rest : List ℕ) → length front ≡ n → (take n (front ++ rest) ≡ front)
     × (drop n (front ++ rest) ≡ rest) × (ltb (length (front ++ rest)) n ≡ false)
 cut n front rest len = (

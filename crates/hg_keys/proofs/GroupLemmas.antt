@@ -22,7 +22,7 @@ failed fault = Err fault
 clash : (n : ℕ) → failed Overflow ≡ same n → ⊥
 clash n e = absurd cc
 
--- the bytes of a whole group, and of what is behind it
+-- the bytes of a whole group, and of what is after it
 pub decoded_step : (rest group after : List ℕ) → 5 ≤ length rest → group ≡ take 5 rest → after ≡ drop 5 rest
     → decoded_groups rest ≡ cond (ltb (group_value group) (2 ^ 32))
     (with_front (to_be_bytes w32 (group_value group)) (decoded_groups after)) (Err Overflow)

@@ -65,7 +65,7 @@ lookup_none test [] each = refl
 lookup_none test (e ∷ entries) each = ap (λ b. cond b (Some e.1) (lookup test entries)) each.0
     ∙ lookup_none test entries each.1
 
--- a key whose place is behind others
+-- a key whose place is after others
 pub lookup_behind : {K X : Type 0} (test : K → Bool) (front rest : List (K × X))
     → AllByRecursion (λ e. test e.0 ≡ false) front → lookup test (front ++ rest) ≡ lookup test rest
 lookup_behind test [] rest each = refl

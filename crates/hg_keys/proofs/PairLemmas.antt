@@ -25,7 +25,7 @@ use Rattle.hg_keys.proofs.Lists.{lookup_behind, all_pairs_insert}
 turned : (a b : List ℕ) (o : Ordering) → name_cmp a b ≡ o → name_cmp b a ≡ ordering_reverse o
 turned a b o is = nat_list_cmp_total.antisymm b a ∙ ap ordering_reverse is
 
--- a name that comes before or behind is another
+-- a name that comes before or after is another
 is_other : (a b : List ℕ) (o : Ordering) → name_cmp a b ≡ o → bytes_eq a b ≡ is_eq o
 is_other a b o is = sym (is_eq-slice_cmp a b) ∙ ap is_eq is
 
@@ -100,7 +100,7 @@ module _ (pairs : Pairs) (name : List ℕ) (place : ℕ) (is_at : IsAt pairs nam
       (in_order place k d (omega (arith, low)) high) in
       turned name (get_or pairs k d).0 Less less
 
-  -- the pair at the place comes neither before nor behind
+  -- the pair at the place comes neither before nor after
   from_place : AllWithin (λ pair. is_before pair.0 name ≡ false) pairs place (length pairs)
   from_place k d low high =
       elim (cases_lt place k) [

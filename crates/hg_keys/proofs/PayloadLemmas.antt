@@ -86,7 +86,7 @@ enough (suc n) (suc m) (b ∷ bytes) le le' =
     let shorter = is_shorter (b ∷ bytes) entry rest is in
     enough n m rest (omega (arith, shorter, le)) (omega (arith, shorter, le')))
 
--- the entries are the first one and those behind it
+-- the entries are the first one and those after it
 pub goes_on : (bytes : List ℕ) (entry : Entry) (rest : List ℕ) → 0 < length bytes
     → entry_at bytes ≡ Some (entry, rest) → entries_of bytes ≡ with_front (entry ∷ []) (entries_of rest)
 unfolding entries_of entries_within

@@ -227,7 +227,7 @@ three_bytes a b c n small_a small_b small_c is =
           ∙ (λ i. first i ∷ second i ∷ third i ∷ []);
     }
 
--- a whole group, and what is behind it
+-- a whole group, and what is after it
 four_bytes : (a b c d n : ℕ) (bytes text : List ℕ) → a < 256 → b < 256 → c < 256 → d < 256
     → n ≡ a * 16777216 + b * 65536 + c * 256 + d → Back bytes text
     → Back (a ∷ b ∷ c ∷ d ∷ bytes) (five_digits n ++ text)

@@ -108,7 +108,7 @@ other_name a b other = by (bytes_eq a b) refl
     by true is = absurd (other (same_name a b is))
     by false is = is
 
--- a map with a name set is three lists: what comes before the name, the name, and what comes behind
+-- a map with a name set is three lists: what comes before the name, the name, and what comes after
 parted : (pairs : Pairs) (name other : List ℕ) (node : Option Node)
     → node_of (with_bookmark pairs name node) other
     ≡ first_found (node_of (filter (λ pair. is_before pair.0 name) pairs) other)

@@ -24,12 +24,15 @@ all_digits = codes "0123456789ABCDEFGHIJKLMNOPQRSTUVWXYZabcdefghijklmnopqrstuvwx
 abbrev pub place_of : ℕ → ℕ
 place_of byte = position_or_len (λ digit. digit == byte) all_digits
 
+-- the place of a byte among the digits; 85 where it is none
 unfoldable pub digit_value : ℕ → ℕ
 digit_value byte = place_of byte
 
+-- the digit of a value
 unfoldable pub digit_at : ℕ → ℕ
 digit_at value = slice_index all_digits value
 
+-- the byte is one of the 85 digits
 abbrev pub is_digit : ℕ → Bool
 is_digit byte = nat_lt (digit_value byte) 85
 
@@ -66,9 +69,11 @@ filled_value group = group_value (filled 5 126 group)
 abbrev pub group_bytes : List ℕ → List ℕ
 group_bytes group = take (length group - 1) (to_be_bytes w32 (filled_value group))
 
+-- the group's value has 32 bits
 abbrev pub fits : List ℕ → Bool
 fits group = nat_lt (filled_value group) (2 ^ 32)
 
+-- the bytes of each group of five digits; a fault where one does not fit
 abbrev pub decoded_groups : List ℕ → Result (List ℕ) Base85Fault
 decoded_groups text = if list_all fits (fives text) then Ok (flat_map group_bytes (fives text))
     else Err Overflow

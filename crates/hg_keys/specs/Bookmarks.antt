@@ -16,10 +16,11 @@ Pairs = List (List ℕ × Node)
 abbrev pub name_cmp : List ℕ → List ℕ → Ordering
 name_cmp = slice_cmp nat_cmp
 
+-- in the order of names' bytes
 abbrev pub is_before : List ℕ → List ℕ → Bool
 is_before name other = is_lt (name_cmp name other)
 
--- each name comes before those behind it, so none is there twice
+-- each name comes before those after it, so none is there twice
 abbrev pub AreInOrder : Pairs → Type 0
 AreInOrder pairs = AllPairs (λ pair other. name_cmp pair.0 other.0 ≡ Less) pairs
 
@@ -43,6 +44,7 @@ abbrev pub SetIsFound : Type 0
 SetIsFound = (pairs : Pairs) (name : List ℕ) (node : Option Node) →
     node_of (with_bookmark pairs name node) name ≡ node
 
+-- a change of one bookmark changes no other
 abbrev pub OthersStay : Type 0
 OthersStay =
     (pairs : Pairs) (name other : List ℕ) (node : Option Node) → other ≢ name →

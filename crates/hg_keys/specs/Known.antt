@@ -10,9 +10,11 @@ use Rattle.hg_log.specs.Parents.{rev_of}
 use Rattle.hg_phases.specs.Order.{phase_at}
 use Rattle.hg_keys.specs.Bookmarks.{Pairs}
 
+-- the null id
 abbrev pub is_null : Node → Bool
 is_null node = bytes_eq node.0 null_id
 
+-- a changeset of the log, or the null id
 abbrev pub is_known : List Changeset → Node → Bool
 is_known rows node = is_null node || is_some (rev_of rows node.0)
 

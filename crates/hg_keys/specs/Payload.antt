@@ -8,7 +8,7 @@ use Rattle.hg_types.specs.declared.node.Node.{Node}
 use Rattle.hg_keys.specs.declared.fault.BookmarkFault.{BookmarkFault}
 use Rattle.hg_keys.specs.declared.fault.BookmarkFault.TheVariants.{Short, NoMemory}
 
--- a name, behind the changeset that it is on, or none
+-- a name, after the changeset that it is on, or none
 abbrev pub Entry : Type 0
 Entry = Option Node × List ℕ
 
@@ -16,6 +16,7 @@ Entry = Option Node × List ℕ
 abbrev pub no_node : List ℕ
 no_node = replicate 20 255
 
+-- the 20 bytes for what a bookmark is on; those of none where it is deleted
 abbrev pub target_bytes : Option Node → List ℕ
 target_bytes None = no_node
 target_bytes (Some node) = node.0
@@ -33,14 +34,16 @@ abbrev pub IsTarget : Option Node → Type 0
 IsTarget None = Unit {0}
 IsTarget (Some node) = (length node.0 ≡ 20) × (node.0 ≢ no_node)
 
+-- an entry that can be written: an id, and a name whose size fits two bytes
 pub record IsEntry (entry : Entry) : Type 0 where
   pub id : IsTarget entry.0
   pub name : length entry.1 < 2 ^ 16
 
+-- what 20 bytes say that a bookmark is on
 abbrev pub target_in : List ℕ → Option Node
 target_in id = if bytes_eq id no_node then None else Some (record { 0 = id })
 
--- a name of that size at the front, and the bytes behind it
+-- a name of that size at the front, and the bytes after it
 unfoldable pub name_at : Option Node → ℕ → List ℕ → Option (Entry × List ℕ)
 name_at target size bytes = if nat_lt (length bytes) size then None
     else Some ((target, take size bytes), drop size bytes)
@@ -50,7 +53,7 @@ unfoldable pub sized_at : Option Node → List ℕ → Option (Entry × List ℕ
 sized_at target bytes = if nat_lt (length bytes) 2 then None
     else name_at target (from_be_bytes w16 (take 2 bytes)) (drop 2 bytes)
 
--- the first entry, and the bytes behind it, unless the bytes end inside it
+-- the first entry, and the bytes after it, unless the bytes end inside it
 unfoldable pub entry_at : List ℕ → Option (Entry × List ℕ)
 entry_at bytes = if nat_lt (length bytes) 20 then None
     else sized_at (target_in (take 20 bytes)) (drop 20 bytes)
@@ -60,6 +63,7 @@ abbrev pub with_front : List Entry → Option (List Entry) → Option (List Entr
 with_front front None = None
 with_front front (Some entries) = Some (front ++ entries)
 
+-- the entry, and the others after it, where all can be read
 abbrev pub and_then : Option (Entry × List ℕ) → (List ℕ → Option (List Entry)) → Option (List Entry)
 and_then None others = None
 and_then (Some (entry, rest)) others = with_front (entry ∷ []) (others rest)

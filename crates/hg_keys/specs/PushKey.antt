@@ -27,6 +27,7 @@ use Rattle.hg_keys.specs.Known.{is_known, phase_of_node, AreOnKnown}
 
 -- ---- text
 
+-- the id that the digits tell, if they do
 abbrev pub node_from : Result (List ℕ) FromHexError → Option Node
 node_from (Ok id) = Some (record { 0 = id })
 node_from (Err fault) = None
@@ -61,10 +62,12 @@ moved_from rows phases node old new current =
     then (advanced (parents_of rows) new (option_to_list (rev_of rows node.0)) phases, true)
     else (phases, number_of current == number_of new)
 
+-- as `moved_from`, where the changeset is known; else nothing changes
 abbrev pub moved_known : List Changeset → List Phase → Node → Phase → Phase → Option Phase → List Phase × Bool
 moved_known rows phases node old new None = (phases, false)
 moved_known rows phases node old new (Some current) = moved_from rows phases node old new current
 
+-- as `moved_known`, where the key and both values can be read; else nothing changes
 abbrev pub moved_as_read : List Changeset → List Phase → Option Node → Option Phase → Option Phase →
     List Phase × Bool
 moved_as_read rows phases (Some node) (Some old) (Some new) =
@@ -84,12 +87,14 @@ phase_pushed rows phases key old new =
 abbrev pub is_divergent : List ℕ → Bool
 is_divergent name = list_any (λ byte. byte == 64) name && not (ends_with nat_eq name (64 ∷ []))
 
+-- the bookmark is on that changeset, or is to be on none and is on none
 abbrev pub are_same : Option Node → Option Node → Bool
 are_same None None = true
 are_same None (Some other) = false
 are_same (Some node) None = false
 are_same (Some node) (Some other) = bytes_eq node.0 other.0
 
+-- what a bookmark is to be on is known; none is
 abbrev pub is_known_target : List Changeset → Option Node → Bool
 is_known_target rows None = true
 is_known_target rows (Some node) = is_known rows node
@@ -99,28 +104,33 @@ abbrev pub is_settable : List Changeset → Option Node → List ℕ → Option 
 is_settable rows present old target = (bytes_eq (value_of present) old || are_same present target)
     && is_known_target rows target
 
+-- the bookmarks after a call whose new value can be read, and whether it was content
 abbrev pub bookmark_set : List Changeset → Pairs → List ℕ → List ℕ → Option (Option Node) → Pairs × Bool
 bookmark_set rows pairs key old None = (pairs, false)
 bookmark_set rows pairs key old (Some target) =
     if is_settable rows (node_of pairs key) old target then (with_bookmark pairs key target, true)
     else (pairs, false)
 
+-- the bookmarks after a call, and whether it was content
 abbrev pub bookmark_pushed : List Changeset → Pairs → List ℕ → List ℕ → List ℕ → Pairs × Bool
 bookmark_pushed rows pairs key old new =
     if is_divergent key then (pairs, false) else bookmark_set rows pairs key old (target_in_text new)
 
 -- ---- markers
 
+-- the markers after a call, where its own can be read
 abbrev pub merged_as_read : {A : Type 0} → List (Marker A) → Result (List (Marker A)) MarkerFault →
     Result (List (Marker A) × Bool) KeyFault
 merged_as_read markers (Ok added) = Ok (merged markers added, true)
 merged_as_read markers (Err fault) = Err (BadMarkers fault)
 
+-- the markers after a call, where its text is base-85
 abbrev pub merged_as_decoded : {A : Type 0} → List (Marker A) → Result (List ℕ) Base85Fault →
     Result (List (Marker A) × Bool) KeyFault
 merged_as_decoded markers (Ok bytes) = merged_as_read markers (markers_of bytes)
 merged_as_decoded markers (Err fault) = Err (BadBase85 fault)
 
+-- no bytes
 abbrev pub is_empty : List ℕ → Bool
 is_empty [] = true
 is_empty (byte ∷ bytes) = false
@@ -149,12 +159,15 @@ pub record AreLawful {A : Type 0} (rows : List Changeset) (keys : Keys A) : Type
   pub names : AreInOrder keys.bookmarks
   pub bookmarks : AreOnKnown rows keys.bookmarks
 
+-- the keys with other phases
 abbrev pub with_phases : {A : Type 0} → Keys A → List Phase × Bool → Keys A × Bool
 with_phases keys pushed = (record keys { phases = pushed.0 }, pushed.1)
 
+-- the keys with other bookmarks
 abbrev pub with_bookmarks : {A : Type 0} → Keys A → Pairs × Bool → Keys A × Bool
 with_bookmarks keys pushed = (record keys { bookmarks = pushed.0 }, pushed.1)
 
+-- the keys with other markers
 abbrev pub with_markers : {A : Type 0} → Keys A → Result (List (Marker A) × Bool) KeyFault →
     Result (Keys A × Bool) KeyFault
 with_markers keys (Ok pushed) = Ok (record keys { markers = pushed.0 }, pushed.1)

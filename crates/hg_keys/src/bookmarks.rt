@@ -33,7 +33,7 @@ pub struct BookmarkMark {
 /// A map from names to changesets. Contracts see its pairs, in the order of the names' bytes.
 ///
 /// A look-up halves the pairs that are left, and a name that is moved costs no more. A name that comes or
-/// goes moves the pairs behind it in memory.
+/// goes moves the pairs after it in memory.
 #[derive(Drop)]
 pub struct Bookmarks<A: Allocator = Global> {
     pairs: Vec<Bookmark<A>, A>,

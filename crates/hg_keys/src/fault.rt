@@ -81,7 +81,7 @@ impl From<NoMemory> for KeyFault {
     }
 }
 
-/// Want of memory is told as such.
+/// Out of memory is reported as such.
 impl From<Base85Fault> for KeyFault {
     ghost use Rattle.std.specs.Prelude.{◌≡◌};
     ghost use Rattle.hg_keys.specs.KeyFaults.{told_text};
@@ -98,7 +98,7 @@ impl From<Base85Fault> for KeyFault {
     }
 }
 
-/// Want of memory is told as such.
+/// Out of memory is reported as such.
 impl From<MarkerFault> for KeyFault {
     ghost use Rattle.std.specs.Prelude.{◌≡◌};
     ghost use Rattle.hg_keys.specs.KeyFaults.{told_markers};

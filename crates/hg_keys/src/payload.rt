@@ -15,7 +15,7 @@ const ID: usize = 20;
 /// The id that stands for no changeset.
 const NONE: [u8; ID] = [255; ID];
 
-/// An entry whose name is still in the payload, and the bytes behind it.
+/// An entry whose name is still in the payload, and the bytes after it.
 #[derive(Clone, Copy)]
 struct Lent<'a> {
     node: Option<Node>,

@@ -46,7 +46,7 @@ fn set_some<A: Allocator + Copy>(alloc: A, bookmarks: &mut Bookmarks<A>) -> Resu
 }
 
 // `b`, the empty name, `ab` and `a` are set, `b` is moved, `ab` is deleted, and `c`, which is not
-// there; then the name ff. Result: the empty name, `a`, `b` with their last changesets; ff behind
+// there; then the name ff. Result: the empty name, `a`, `b` with their last changesets; ff after
 // them; `ab` is on none.
 #[test]
 fn names_in_the_order_of_their_bytes(rt: HostRuntime) -> Result<(), Fail> {

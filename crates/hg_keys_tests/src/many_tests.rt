@@ -75,7 +75,7 @@ fn is_copied<'h>(heap: &'h LocalHeap, bookmarks: &Bookmarks<&'h LocalHeap>) -> b
     }
 }
 
-/// Names that come, are looked up, copied, moved behind a mark and taken back. What a heap keeps grows with
+/// Names that come, are looked up, copied, moved after a mark and taken back. What a heap keeps grows with
 /// what is set, and for the way back with what is changed.
 fn many_are_told(heap: &LocalHeap, long: &[u8]) -> bool {
     let mut bookmarks = Bookmarks::new(heap);

@@ -41,7 +41,7 @@ fn count_of<A: Allocator + Copy>(alloc: A, payload: &[u8]) -> Result<Option<usiz
     }
 }
 
-/// Cut behind each byte: the entries before the cut, or `Short` where it is inside one.
+/// Cut after each byte: the entries before the cut, or `Short` where it is inside one.
 #[test]
 fn payloads_of_bookmarks(rt: HostRuntime) -> Result<(), Fail> {
     for len in 0..PAYLOAD.len() + 1 {

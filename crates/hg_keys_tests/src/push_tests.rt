@@ -399,7 +399,7 @@ enum Reached {
     Wrong,
 }
 
-/// A call whose changes want memory of a small heap, behind a mark of the bookmarks: where it is refused,
+/// A call whose changes want memory of a small heap, after a mark of the bookmarks: where it is refused,
 /// nothing has changed.
 fn push_over<'h>(
     heap: &'h LocalHeap,
@@ -450,5 +450,18 @@ fn each_growth_of_a_call_refused(rt: HostRuntime) -> Result<(), Fail> {
         }
         assert!(rt; seen == [true; 2]);
     }
+    Ok(())
+}
+
+// A log of the changeset of the empty text. Asked: the null id, its id, the id of 20 bytes 11; and
+// the same as targets of a bookmark, with none. Result: known, known, unknown; and none is a target.
+#[test]
+fn known_ids_and_targets(rt: HostRuntime) -> Result<(), Fail> {
+    let mut log = Changelog::new(rt.alloc(), RandomState::new(&rt)?, Limits::standard());
+    assert!(rt; put_root(rt.alloc(), &mut log));
+    let other = Node([0x11; 20]);
+    assert!(rt; is_known(&log, &Node::NULL) && is_known(&log, &ROOT) && !is_known(&log, &other));
+    assert!(rt; is_known_target(&log, None) && is_known_target(&log, Some(Node::NULL)));
+    assert!(rt; is_known_target(&log, Some(ROOT)) && !is_known_target(&log, Some(other)));
     Ok(())
 }

@@ -5,7 +5,7 @@ use Rattle.hg_push.specs.Run.{RepositoryOf}
 use Rattle.hg_ledger.specs.declared.waiting.Record.{Record}
 use Rattle.hg_ledger.specs.Records.{IsRecordOf}
 
--- A device: how many records are on it behind those that it was opened with, the batch that is written next,
+-- A device: how many records are on it after those that it was opened with, the batch that is written next,
 -- whether it is broken, and the history that its witness has seen.
 pub record DiskView (A : Type 0) : Type 0 where
   pub count : ℕ

@@ -27,7 +27,7 @@ AreRecordsFrom first h place [] = ⊤
 AreRecordsFrom first h place (bytes ∷ others) =
     IsRecordOf first h place bytes × AreRecordsFrom first h (place + 1) others
 
--- Behind the records that it was opened with, the log has those of the first pushes of the journal, one for
+-- After the records that it was opened with, the log has those of the first pushes of the journal, one for
 -- each and so many, and no more. All of it is on the device.
 pub record Keeps {A D : Type 0} (seen : D → List ℕ) (may_leave : D → List ℕ → Type 0) (head : Head)
     (stored : List (List ℕ)) (first : RepositoryOf A) (h : List (Taken A)) (count : ℕ) (log : Log D) : Type 0
@@ -37,7 +37,7 @@ pub record Keeps {A D : Type 0} (seen : D → List ℕ) (may_leave : D → List 
     pub each : AreRecordsFrom first h 0 records
     pub number : length records ≡ count
 
--- A log had, behind the records that it was opened with, those of the first pushes of the journal, so many at
+-- A log had, after the records that it was opened with, those of the first pushes of the journal, so many at
 -- least, and all of it was on the device.
 pub record AreKept {A D : Type 0} (seen : D → List ℕ) (may_leave : D → List ℕ → Type 0) (head : Head)
     (stored : List (List ℕ)) (first : RepositoryOf A) (h : List (Taken A)) (count : ℕ) : Type 0 where

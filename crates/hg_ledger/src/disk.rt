@@ -21,7 +21,7 @@ pub const BATCH: usize = 64;
 /// How many records there are at most.
 const MOST: usize = 1 << 62;
 
-/// The device, how many records are on it behind those that it was opened with, and a batch that is not
+/// The device, how many records are on it after those that it was opened with, and a batch that is not
 /// written yet. The records and the batch are, in order, the bundles of the first pushes of the journal that
 /// the witness has seen. After a write or a sync that failed nothing is known of the device.
 pub struct Disk<J: Storing<A>, D: Device, A: Allocator = Global> {
@@ -73,7 +73,7 @@ impl<J: Storing<A>, D: Device, A: Allocator + Copy> Disk<J, D, A> {
         }
     }
 
-    /// How many records are on the device behind those that it was opened with.
+    /// How many records are on the device after those that it was opened with.
     pub fn count(&self) -> usize
         ensures { result ≡ self.now.count }
     {

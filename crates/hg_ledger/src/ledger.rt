@@ -22,7 +22,7 @@ pub struct NotStored;
 
 /// The records of a server's done pushes, on a device and on the way to it.
 ///
-/// The locks are got in the order of the fields, and the server's lock behind them.
+/// The locks are got in the order of the fields, and the server's lock after them.
 pub struct Ledger<J: Storing<A>, D: Device, A: Allocator = Global> {
     alloc: A,
     waiting: Mutex<Waiting<J, D, A>>,

@@ -1,4 +1,4 @@
-//! A device in memory that knows what was synced, and the writes behind that. It fails when its calls are
+//! A device in memory that knows what was synced, and the writes after that. It fails when its calls are
 //! used up.
 
 use hg_store::{Device, DeviceError};
@@ -41,7 +41,7 @@ impl Memory {
         Ok(())
     }
 
-    /// What a crash leaves: what was synced, and of each write behind that so many bytes, then zeroes. A
+    /// What a crash leaves: what was synced, and of each write after that so many bytes, then zeroes. A
     /// write of one byte is made or not made.
     pub fn crashed(&self, part: usize) -> Result<Vec<u8>, DeviceError> {
         let mut file = self.synced.to_vec(self.alloc)?;

@@ -12,7 +12,8 @@ use hg_restore::replay_records;
 use hg_serve::{Client, Closed, Naming, NoGate, Server};
 use hg_store::{Head, Log, recover};
 use hg_types::{Limits, Part, Seq, Settings};
-use std::alloc::{AllocFailed, Global};
+use linked_list_allocator::LocalHeap;
+use std::alloc::{AllocFailed, Allocator, Global};
 use std::hash::RandomState;
 use std::marker::Brand;
 use std::process::Abort;
@@ -85,7 +86,9 @@ fn bundle<R: Abort>(rt: &R, alloc: Global, payload: &[u8]) -> Seq<u8> {
     Seq::from_vec(made)
 }
 
-/// How many pushes are known to be kept: those that the last receipt rests on, and whether a call was refused.
+/// How many pushes are known to be kept: those that the last receipt rests on, and whether a call was
+/// refused.
+#[derive(Drop)]
 struct Told {
     kept: Mutex<usize>,
     refused: Mutex<usize>,
@@ -160,7 +163,11 @@ fn push_all<J: Storing<Global>, R: Wait + Abort>(
     add(rt, &mut *clients.lock(rt), mine);
 }
 
-fn add<J: Naming<Global>, R: Abort>(rt: &R, clients: &mut Vec<Client<J>>, client: Client<J>) {
+fn add<J: Naming<A>, A: Allocator + Copy, R: Abort>(
+    rt: &R,
+    clients: &mut Vec<Client<J, A>, A>,
+    client: Client<J, A>,
+) {
     match clients.push(client) {
         Ok(()) => {}
         Err(AllocFailed { value: _client, .. }) => panic!(rt; "no memory for a client"),
@@ -235,12 +242,8 @@ fn play<J: Storing<Global> + Send + Sync, R: Threads + Wait + Abort + Sync>(
     }
 }
 
-/// Runs the threads on a device that fails after so many calls.
-fn run<R: Threads + Wait + RandomSource + Abort + Sync>(
-    rt: &R,
-    alloc: Global,
-    calls: usize,
-) -> Left {
+/// A log without records, on a device that fails after so many calls.
+fn new_log<R: Abort>(rt: &R, alloc: Global, calls: usize) -> Log<Memory> {
     let head = Head {
         publishing: false,
         limits: Limits::standard(),
@@ -255,11 +258,20 @@ fn run<R: Threads + Wait + RandomSource + Abort + Sync>(
         Ok(found) => found,
         Err(_) => panic!(rt; "no store"),
     };
-    let log = Log {
+    Log {
         device,
         end: found.end,
         digest: found.digest,
-    };
+    }
+}
+
+/// Runs the threads on a device that fails after so many calls.
+fn run<R: Threads + Wait + RandomSource + Abort + Sync>(
+    rt: &R,
+    alloc: Global,
+    calls: usize,
+) -> Left {
+    let log = new_log(rt, alloc, calls);
     match PartQueue::new(alloc, 8) {
         Ok((queue, taker)) => {
             play::<Brand, R>(
@@ -327,5 +339,160 @@ fn eight_threads_on_a_device_that_stops(rt: HostRuntime) -> Result<(), Fail> {
             let _count = starts_again(&rt, alloc, &left, part);
         }
     }
+    Ok(())
+}
+
+/// What receipts were given: for no push before the first one, and for one push and for none after it; and
+/// how often the device was synced.
+#[derive(Clone, Copy, Debug, PartialEq, Eq)]
+struct Receipts {
+    before: bool,
+    of_one: bool,
+    of_none: bool,
+    syncs: usize,
+}
+
+/// Asks for receipts before and after one push that is done, on a server of that name.
+fn ask<J: Storing<Global>, R: Wait + Abort>(
+    rt: &R,
+    alloc: Global,
+    queue: PartQueue,
+    taker: Taker,
+    repo: Repo,
+    log: Log<Memory>,
+) -> Receipts {
+    let server = Server::<J>::new(alloc, repo, queue, taker);
+    let (first, second) = (client(rt, &server), client(rt, &server));
+    let mut mine = client(rt, &server);
+    let ledger = match Ledger::new(alloc, log, (first, second)) {
+        Ok(ledger) => ledger,
+        Err(_parts) => panic!(rt; "no memory for a ledger"),
+    };
+    let told = Told {
+        kept: Mutex::new(0),
+        refused: Mutex::new(0),
+    };
+    let before = ledger.receipt(rt, &server, &mut mine, 0).is_ok();
+    let payload = marker(rt, alloc, 0, 1);
+    let mut mine = push_once(rt, alloc, &server, &ledger, mine, &told, &payload);
+    let of_one = ledger.receipt(rt, &server, &mut mine, 1).is_ok();
+    let of_none = ledger.receipt(rt, &server, &mut mine, 0).is_ok();
+    let parts = ledger.into_parts();
+    let syncs = parts.log.device.syncs;
+    let Parts {
+        log: _,
+        is_broken,
+        witnesses: (first, second),
+    } = parts;
+    assert!(rt; is_broken != of_one);
+    let mut clients = Vec::new(alloc);
+    add(rt, &mut clients, first);
+    add(rt, &mut clients, second);
+    add(rt, &mut clients, mine);
+    let closed = server.close(clients);
+    assert!(rt; closed.journal.as_slice() == [0].as_slice());
+    Receipts {
+        before,
+        of_one,
+        of_none,
+        syncs,
+    }
+}
+
+fn client<J: Naming<A>, A: Allocator + Copy, R: Wait + Abort>(
+    rt: &R,
+    server: &Server<J, A>,
+) -> Client<J, A> {
+    match server.client(rt) {
+        Ok(client) => client,
+        Err(_) => panic!(rt; "no client"),
+    }
+}
+
+/// The same, on a device that fails after so many calls.
+fn asked<R: Wait + RandomSource + Abort>(rt: &R, alloc: Global, calls: usize) -> Receipts {
+    match PartQueue::new(alloc, 8) {
+        Ok((queue, taker)) => {
+            let repo = Repo::new(alloc, settings(), state(rt));
+            ask::<Brand, R>(rt, alloc, queue, taker, repo, new_log(rt, alloc, calls))
+        }
+        Err(_) => panic!(rt; "no memory for a queue"),
+    }
+}
+
+// Receipts are asked for before a push and after it. The device takes three calls to open the store, with
+// one sync, and four for a record, with two. Result: a receipt each time, with no sync but these three; where
+// the device stops at a call of the record, the one before the push alone.
+#[test]
+fn receipts_before_a_push_and_after_it(rt: HostRuntime) {
+    let alloc = rt.alloc();
+    for calls in [7, 8, 1_000] {
+        let receipts = Receipts {
+            before: true,
+            of_one: true,
+            of_none: true,
+            syncs: 3,
+        };
+        assert_eq!(rt; asked(&rt, alloc, calls), receipts, "{calls} calls");
+    }
+    for (calls, syncs) in [(3, 1usize), (4, 1), (5, 2), (6, 2)] {
+        let receipts = Receipts {
+            before: true,
+            of_one: false,
+            of_none: false,
+            syncs,
+        };
+        assert_eq!(rt; asked(&rt, alloc, calls), receipts, "{calls} calls");
+    }
+}
+
+/// How much memory of a heap is used after one room was taken and given back, and after 1,000 more.
+fn used<'h, J: Storing<&'h LocalHeap>, R: Wait + Abort>(
+    rt: &R,
+    heap: &'h LocalHeap,
+    queue: PartQueue<&'h LocalHeap>,
+    taker: Taker<&'h LocalHeap>,
+    repo: Repo<&'h LocalHeap>,
+    log: Log<Memory>,
+) -> (usize, usize) {
+    let server = Server::<J, &'h LocalHeap>::new(heap, repo, queue, taker);
+    let (first, second) = (client(rt, &server), client(rt, &server));
+    let ledger = match Ledger::new(heap, log, (first, second)) {
+        Ok(ledger) => ledger,
+        Err(_parts) => panic!(rt; "no memory for a ledger"),
+    };
+    let mut used = (0, 0);
+    for turn in 0..1_001u32 {
+        match ledger.room(rt) {
+            Ok(room) => ledger.give_back(rt, room),
+            Err(_) => panic!(rt; "no room"),
+        }
+        if turn == 0 {
+            used.0 = heap.used();
+        }
+    }
+    used.1 = heap.used();
+    let Parts {
+        log: _,
+        is_broken: _,
+        witnesses: (first, second),
+    } = ledger.into_parts();
+    let mut clients = Vec::new(heap);
+    add(rt, &mut clients, first);
+    add(rt, &mut clients, second);
+    let _closed = server.close(clients);
+    used
+}
+
+// Room for a record is taken and given back, once and 1,000 times more, of a ledger over a heap. Result: the
+// room is there again each time, so that the heap has as much taken at the end as after the first time.
+#[test]
+fn rooms_that_are_given_back(rt: HostRuntime) -> Result<(), Fail> {
+    let heap = LocalHeap::new(rt.alloc(), 1 << 20)?;
+    let (queue, taker) = PartQueue::new(&heap, 8)?;
+    let repo = Repo::new(&heap, settings(), state(&rt));
+    let log = new_log(&rt, rt.alloc(), 1_000);
+    let (first, last) = used::<Brand, _>(&rt, &heap, queue, taker, repo, log);
+    assert!(rt; first > 0 && first == last);
     Ok(())
 }

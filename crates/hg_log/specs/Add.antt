@@ -33,7 +33,7 @@ pub record HasOutcome {A : Type 0} (log : Log) (entry : Entry A)
   pub base_is : IsBase log.rows entry.base.0 base
   pub outcome_is : IsOutcome base entry.delta log.limits.text outcome
 
--- a delta's fault, told as the fault of its entry; want of memory is told as such
+-- a delta's fault, told as the fault of its entry; out of memory is reported as such
 abbrev pub told_as : DeltaFault → AddFault
 told_as fault.Short = Delta fault.Short
 told_as fault.Backwards = Delta fault.Backwards
@@ -49,6 +49,7 @@ row_of entry text = record { node = entry.node.0; p1 = entry.p1.0; p2 = entry.p2
 abbrev pub with_row : Log → Changeset → Log
 with_row log row = record { rows = log.rows ++ row ∷ []; limits = log.limits }
 
+-- the id of the entry is the hash of its parents and the text
 abbrev pub Agrees : {A : Type 0} → Entry A → List ℕ → Type 0
 Agrees entry text = entry.node.0 ≡ node_id_of entry.p1.0 entry.p2.0 text
 
@@ -70,7 +71,7 @@ pub data IsAnswer {A : Type 0} (log : Log) (entry : Entry A) : Result Added AddF
       length log.rows < log.limits.revisions →
       IsAnswer log entry (Ok (New (length log.rows))) (with_row log (row_of entry text))
 
--- the row of a new entry stands behind the old ones, under the number that the answer tells
+-- the row of a new entry stands after the old ones, under the number that the answer tells
 pub record IsAppended {A : Type 0} (old : Log) (entry : Entry A) (rev : ℕ) (new : Log) : Type 0 where
   pub next : rev ≡ length old.rows
   pub text : List ℕ

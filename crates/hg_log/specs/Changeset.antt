@@ -9,6 +9,7 @@ pub record Changeset : Type 0 where
   pub p2 : List ℕ
   pub text : List ℕ
 
+-- a changelog: its rows in the order in which they came, and its limits
 pub record Log : Type 0 where
   pub rows : List Changeset
   pub limits : Limits

@@ -7,6 +7,7 @@ use Rattle.hg_types.specs.NullId.{null_id}
 use Rattle.hg_log.specs.Changeset.{Changeset}
 use Rattle.hg_log.specs.Parents.{rev_of, parents_of}
 
+-- there is a row, and it has this number
 abbrev pub is_number : Option ℕ → ℕ → Bool
 is_number None r = false
 is_number (Some p) r = p == r
@@ -15,6 +16,7 @@ is_number (Some p) r = p == r
 abbrev pub names : List Changeset → ℕ → ℕ → Bool
 names rows r child = is_number (parents_of rows child).0 r || is_number (parents_of rows child).1 r
 
+-- no row has it as a parent
 abbrev pub is_childless : List Changeset → ℕ → Bool
 is_childless rows r = not (list_any (names rows r) (range_with_len 0 (length rows)))
 
@@ -35,9 +37,11 @@ abbrev pub id_of : Option Changeset → List ℕ
 id_of None = null_id
 id_of (Some row) = row.node
 
+-- the id of the row of that number
 abbrev pub id_at : List Changeset → ℕ → List ℕ
 id_at rows r = id_of (slice_get rows r)
 
+-- the null id in the place of no ids
 abbrev pub or_null : List (List ℕ) → List (List ℕ)
 or_null [] = null_id ∷ []
 or_null (id ∷ ids) = id ∷ ids
@@ -51,6 +55,7 @@ abbrev pub is_head_at : List Changeset → Option ℕ → Bool
 is_head_at rows None = false
 is_head_at rows (Some r) = is_head rows r
 
+-- the id is that of a row without children; where there are no rows, it is null
 abbrev pub is_head_id : List Changeset → List ℕ → Bool
 is_head_id [] id = bytes_eq id null_id
 is_head_id (row ∷ rows) id = is_head_at (row ∷ rows) (rev_of (row ∷ rows) id)

@@ -20,6 +20,7 @@ pub record AreHeadsOf (rows : List Changeset) (heads : List (List ℕ)) : Type 0
   pub distinct : AllPairs (λ a b. a ≢ b) heads
   pub ascending : IsSorted (slice_cmp nat_cmp) heads
 
+-- exactly the heads, no two alike, in ascending order; of no rows the null id alone
 abbrev pub AreHeads : List Changeset → List (List ℕ) → Type 0
 AreHeads [] heads = heads ≡ null_id ∷ []
 AreHeads (row ∷ rows) heads = AreHeadsOf (row ∷ rows) heads

@@ -9,5 +9,6 @@ use Rattle.sha1.specs.Sha1.{sha1}
 abbrev pub is_lesser : List ℕ → List ℕ → Bool
 is_lesser a b = is_le (slice_cmp nat_cmp a b)
 
+-- SHA-1 of the lesser of the two parents, the greater, and the text
 abbrev pub node_id_of : List ℕ → List ℕ → List ℕ → List ℕ
 node_id_of p q text = if is_lesser p q then sha1 (p ++ q ++ text) else sha1 (q ++ p ++ text)

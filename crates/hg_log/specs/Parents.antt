@@ -8,6 +8,7 @@ use Rattle.hg_log.specs.Changeset.{Changeset}
 unfoldable pub rev_of : List Changeset → List ℕ → Option ℕ
 rev_of rows node = position (λ row. bytes_eq row.node node) rows
 
+-- the numbers of the rows that are a row's parents
 abbrev pub parents_in : List Changeset → Option Changeset → Option ℕ × Option ℕ
 parents_in rows None = (None, None)
 parents_in rows (Some row) = (rev_of rows row.p1, rev_of rows row.p2)
@@ -34,6 +35,7 @@ abbrev pub some_leads : (ℕ → Bool) → Option ℕ → Bool
 some_leads test None = false
 some_leads test (Some p) = test p
 
+-- the row is that one, or reaches it over at most so many parents
 unfoldable pub leads_within : (ℕ → Option ℕ × Option ℕ) → ℕ → ℕ → ℕ → Bool
 leads_within parents a zero r = false
 leads_within parents a (suc n) r =

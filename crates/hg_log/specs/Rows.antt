@@ -29,6 +29,7 @@ pub record IsLawfulRow (rows : List Changeset) (rev : ℕ) (row : Changeset) : T
   pub p1 : IsEarlier rows rev row.p1
   pub p2 : IsEarlier rows rev row.p2
 
+-- ids are distinct, and each row is lawful among those before it
 pub record AreLawful (rows : List Changeset) : Type 0 where
   pub distinct : AllPairs (λ a b. a.node ≢ b.node) rows
   pub each : (rev : ℕ) (row : Changeset) → slice_get rows rev ≡ Some row → IsLawfulRow rows rev row

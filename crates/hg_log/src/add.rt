@@ -189,7 +189,7 @@ pub fn one_answer<A: Allocator>()
     one_outcome();
 }
 
-/// Lawful rows stay lawful, whatever entry is answered. A new one is one row more, behind the others; any
+/// Lawful rows stay lawful, whatever entry is answered. A new one is one row more, after the others; any
 /// other answer leaves the rows as they were.
 pub fn answers_keep_rows_lawful<A: Allocator>()
     ensures lawful { (log : Log) (entry : Entry A) → AreLawful log.rows →

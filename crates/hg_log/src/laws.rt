@@ -20,7 +20,7 @@ pub fn ancestors_come_first()
         → IsAncestor rows a b → IsAncestor rows b r → IsAncestor rows a r }
 {}
 
-/// Rows that are added behind, and rows that are cut off behind, leave the parents and the ancestors of the
+/// Rows that are added after, and rows that are cut off after, leave the parents and the ancestors of the
 /// others as they were.
 pub fn other_rows_keep_their_ancestors()
     ensures parents { (rows : List Changeset) (n r : ℕ) → AreLawful rows → n ≤ length rows → r < n

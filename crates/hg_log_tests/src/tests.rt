@@ -65,6 +65,23 @@ const MERGE: Node = Node([
     0xf5, 0x2e, 0x92, 0x94,
 ]);
 
+/// The merge `n` of the third and the second of them, the row `d` that has the first as both of its parents,
+/// and the child of the first with the text `e`, by SHA-1 of their bytes.
+const OTHER_MERGE: Node = Node([
+    0x67, 0xd0, 0x9d, 0x81, 0x77, 0x77, 0x37, 0x77, 0x9f, 0x0e, 0xca, 0x44, 0x8a, 0x4b, 0x9a, 0x1c,
+    0xe3, 0xee, 0x60, 0x2e,
+]);
+
+const TWICE: Node = Node([
+    0x1f, 0xab, 0xc7, 0xcb, 0x82, 0x6f, 0x66, 0xae, 0xcf, 0xae, 0xf5, 0xb4, 0xf0, 0xac, 0x16, 0x64,
+    0x88, 0x82, 0x45, 0x7a,
+]);
+
+const CHILD_E: Node = Node([
+    0xf6, 0x25, 0xc9, 0xc4, 0xff, 0x7f, 0xbf, 0x77, 0x8c, 0x8a, 0x72, 0x1d, 0xbb, 0x36, 0xcf, 0xcc,
+    0xc4, 0xc6, 0x06, 0xa5,
+]);
+
 /// The root with the text `r`, and the child of [`ROOT`] with the text `b`.
 const ROOT_R: Node = Node([
     0x66, 0xda, 0xd0, 0xb7, 0xb1, 0x8f, 0x09, 0xdf, 0xf2, 0xf1, 0xbd, 0x3a, 0xd0, 0x29, 0x4d, 0x6d,
@@ -357,6 +374,33 @@ fn the_heads_before_a_merge_and_after_it(rt: HostRuntime) -> Result<(), Fail> {
     Ok(())
 }
 
+/// Whether these rows are heads, and the other numbers below that one are none.
+fn are_the_heads(log: &Changelog, heads: &[u32], below: u32) -> bool {
+    let mut all = true;
+    for rev in 0..below {
+        all = log.is_head(rev) == heads.contains(&rev) && all;
+    }
+    all
+}
+
+fn tells_each_head(alloc: Global, log: &mut Changelog) -> bool {
+    let rows = merged();
+    let has_none = are_the_heads(log, &[], 2);
+    let is_root = put_all(alloc, log, &rows[..1]) && are_the_heads(log, &[0], 3);
+    let has_three = put_all(alloc, log, &rows[1..4]) && are_the_heads(log, &[1, 2, 3], 9);
+    let has_two = put_all(alloc, log, &rows[4..]) && are_the_heads(log, &[3, 4], 9);
+    has_none && is_root && has_three && has_two && !log.is_head(u32::MAX)
+}
+
+// The same rows, by their numbers: none; the root; its children; the merge. Result: no head; row 0;
+// rows 1, 2 and 3; rows 3 and 4. A number that no row has is no head, the greatest one neither.
+#[test]
+fn the_heads_by_their_numbers(rt: HostRuntime) -> Result<(), Fail> {
+    let mut log = new_log(rt)?;
+    assert!(rt; tells_each_head(rt.alloc(), &mut log));
+    Ok(())
+}
+
 /// Whether all these are so: that the first is an ancestor of the second, or that it is none.
 fn are_ancestors(log: &Changelog, pairs: &[(u32, u32)], is: bool) -> bool {
     let mut all = true;
@@ -421,6 +465,55 @@ fn is_cut_back(alloc: Global, log: &mut Changelog) -> bool {
 fn a_cut_back(rt: HostRuntime) -> Result<(), Fail> {
     let mut log = new_log(rt)?;
     assert!(rt; is_cut_back(rt.alloc(), &mut log));
+    Ok(())
+}
+
+/// Whether a row is a child of another, and the last child of that before it is this one.
+fn has_child_before(log: &Changelog, rev: u32, child: u32, before: Option<u32>) -> bool {
+    if child as usize >= log.len() {
+        return false;
+    }
+    let (p1, p2) = log.parent_revs(child);
+    if p1 != Some(rev) && p2 != Some(rev) {
+        return false;
+    }
+    log.child_before(rev, child) == before
+}
+
+fn tells_children(alloc: Global, log: &mut Changelog) -> bool {
+    let is_put = put_all(alloc, log, &merged());
+    let of_root = has_child_before(log, 0, 3, Some(2))
+        && has_child_before(log, 0, 2, Some(1))
+        && has_child_before(log, 0, 1, None);
+    let of_merged = has_child_before(log, 1, 4, None) && has_child_before(log, 2, 4, None);
+    let more = [
+        changeset(OTHER_MERGE, THIRD, SECOND, b"n"),
+        changeset(TWICE, FIRST, FIRST, b"d"),
+        changeset(CHILD_E, FIRST, NULL, b"e"),
+    ];
+    let has_more = put_all(alloc, log, &more);
+    let of_third = has_child_before(log, 3, 5, None) && has_child_before(log, 2, 5, Some(4));
+    let of_first = has_child_before(log, 1, 7, Some(6)) && has_child_before(log, 1, 6, Some(4));
+    is_put && of_root && of_merged && has_more && of_third && of_first
+}
+
+fn tells_fewer_children(alloc: Global, log: &mut Changelog) -> bool {
+    cut(log, 3);
+    let is_cut = log.len() == 3 && has_child_before(log, 0, 2, Some(1));
+    let is_put = put_all(alloc, log, &[changeset(CHILD_E, FIRST, NULL, b"e")]);
+    is_cut && is_put && has_child_before(log, 1, 3, None)
+}
+
+// The same rows; the merge `n` of the rows 3 and 2, id `67d09d81..`; `d`, whose parents are both row 1,
+// id `1fabc7cb..`; the child `e` of row 1, id `f625c9c4..`. Then cut to 3, and `e` again. Result: the
+// children of row 0 from row 3 back are the rows 2 and 1, those of row 1 from row 7 back are the rows 6
+// and 4, the latter once; that of row 2 before `n` is the first merge; the first child has none before
+// it. After the cut row 1 has `e` alone, as row 3.
+#[test]
+fn the_children_of_a_row_from_the_last_back(rt: HostRuntime) -> Result<(), Fail> {
+    let mut log = new_log(rt)?;
+    assert!(rt; tells_children(rt.alloc(), &mut log));
+    assert!(rt; tells_fewer_children(rt.alloc(), &mut log));
     Ok(())
 }
 

@@ -17,7 +17,7 @@ use Rattle.hg_names.specs.code.Blocks.{IsLess, IsGreater}
 use Rattle.hg_names.proofs.Search.{own_order, at_joined, gap_joined}
 use Rattle.hg_names.proofs.Own.{items, read_of}
 
--- a name that comes before or behind is another
+-- a name that comes before or after is another
 is_other : (a b : List ℕ) (o : Ordering) → name_cmp a b ≡ o → bytes_eq a b ≡ is_eq o
 is_other a b o is = sym (is_eq-slice_cmp a b) ∙ ap is_eq is
 

@@ -27,6 +27,6 @@ before_upto a b c less upto = by (name_cmp b c) refl
     by Equal is = ap (name_cmp a) (sym (names_equal b c is)) ∙ less
     by Greater is = absurd (upto is)
 
--- what comes behind a greater name
+-- what comes after a greater name
 pub behind_greater : (a b c : List ℕ) → name_cmp b a ≡ Less → name_cmp b c ≡ Greater → name_cmp a c ≡ Greater
 behind_greater a b c less more = turned c a Less (before_all c b a (turned b c Greater more) less)

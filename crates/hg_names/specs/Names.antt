@@ -17,7 +17,7 @@ Pairs = List (List ℕ × Node)
 abbrev pub name_cmp : List ℕ → List ℕ → Ordering
 name_cmp = slice_cmp nat_cmp
 
--- each name comes before those behind it, so none is there twice
+-- each name comes before those after it, so none is there twice
 abbrev pub AreInOrder : Pairs → Type 0
 AreInOrder pairs = AllPairs (λ pair other. name_cmp pair.0 other.0 ≡ Less) pairs
 

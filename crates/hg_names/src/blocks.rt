@@ -24,7 +24,7 @@ pub(crate) struct Block<A: Allocator = Global> {
 /// A block with so many names is cut in two before another joins it.
 const FULL: usize = 64;
 
-/// Whether the first name of a block comes behind a name.
+/// Whether the first name of a block comes after a name.
 fn is_behind<A: Allocator>(block: &Block<A>, name: &[u8]) -> bool
     requires { IsFilled block.now }
     ensures behind { result ≡ true → HoldsAt (IsGreater name.now) block.now.pairs.items 0 }
@@ -33,7 +33,7 @@ fn is_behind<A: Allocator>(block: &Block<A>, name: &[u8]) -> bool
     block.pairs[0].0.as_slice().cmp(name) == Ordering::Greater
 }
 
-/// The last block whose first name does not come behind a name, or else the first one.
+/// The last block whose first name does not come after a name, or else the first one.
 pub(crate) fn block_of<A: Allocator>(blocks: &[Block<A>], name: &[u8]) -> usize
     requires filled { All IsFilled blocks.now }
     requires some { 0 < length blocks.now }

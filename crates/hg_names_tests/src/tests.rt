@@ -85,7 +85,7 @@ fn names_at_their_places(rt: HostRuntime) -> Result<(), Fail> {
     Ok(())
 }
 
-/// Puts many names in, each before the first or behind the last.
+/// Puts many names in, each before the first or after the last.
 fn put_many<A: Allocator + Copy>(
     alloc: A,
     names: &mut Names<A>,

@@ -272,7 +272,7 @@ module _ {A : Type 0} where
             faulty = marker_fault (b ∷ bytes) d fits at;
           }
 
-  -- behind the version byte stands no fault of the version
+  -- after the version byte stands no fault of the version
   told : (d : MarkerFault) (bytes : List ℕ) → IsFaultBehind A d bytes → IsFault A d bytes
   told BadVersion bytes behind = absurd behind.faulty
   told Short bytes behind = inr behind

@@ -133,7 +133,7 @@ module _ {A : Type 0} where
   distinct_pairs (m ∷ ms) d (suc i) (suc j) e less within =
       distinct_pairs ms d.1 i j e (omega arith) (omega arith)
 
-  -- a marker that comes behind others, and is not in what they give, is new to the list
+  -- a marker that comes after others, and is not in what they give, is new to the list
   pub some_fresh : (old before rest added : List (Marker A)) (m : Marker A) → added ≡ before ++ m ∷ rest
       → is_in (merged old before) m ≡ false → fresh old added ≢ []
   some_fresh old before rest added m e apart none =

@@ -10,7 +10,7 @@ use Rattle.hg_obs.specs.code.Pieces.{after_byte}
 abbrev pub pieces : List ℕ → List (List ℕ)
 pieces bytes = slice_split (λ b. b == 0) bytes
 
--- whether the rest of a piece, and the pieces behind it, are good
+-- whether the rest of a piece, and the pieces after it, are good
 abbrev pub goes_on : Piece → List (List ℕ) → Bool
 goes_on Empty [] = true
 goes_on Empty (piece ∷ others) = is_piece piece && list_all is_piece others

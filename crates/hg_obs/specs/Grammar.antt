@@ -30,7 +30,7 @@ IsMarkerFault A NullSuccessor rest = (m : Marker A) × BeginsWith rest m × (is_
 IsMarkerFault A BadVersion rest = ⊥
 IsMarkerFault A NoMemory rest = ⊥
 
--- behind the version byte stand good markers, and then a faulty one
+-- after the version byte stand good markers, and then a faulty one
 pub record IsFaultBehind (A : Type 0) (fault : MarkerFault) (bytes : List ℕ) : Type 0 where
   pub before : List (Marker A)
   pub each : AllByRecursion IsMarker before

@@ -31,25 +31,30 @@ abbrev pub Gives : {X Y : Type 0} → (X → Y) → Result X MarkerFault → Res
 Gives view (Ok x) read = read ≡ Ok (view x)
 Gives view (Err fault) read = Fails fault read
 
--- A field is a value, and the bytes behind it.
+-- A field is a value, and the bytes after it.
 unfoldable pub byte_at : List ℕ → Result (ℕ × List ℕ) MarkerFault
 byte_at [] = Err Short
 byte_at (byte ∷ rest) = Ok (byte, rest)
 
+-- a number of four bytes at the front, the high byte first, and what is after it
 unfoldable pub number_at : List ℕ → Result (ℕ × List ℕ) MarkerFault
 number_at bytes = if nat_lt (length bytes) 4 then Err Short
     else Ok (from_be_bytes w32 (take 4 bytes), drop 4 bytes)
 
+-- so many bytes at the front, and what is after them
 unfoldable pub bytes_at : ℕ → List ℕ → Result (List ℕ × List ℕ) MarkerFault
 bytes_at count bytes = if nat_lt (length bytes) count then Err Short
     else Ok (take count bytes, drop count bytes)
 
+-- an id of these bytes
 abbrev pub node_of : List ℕ → Node
 node_of id = record { 0 = id }
 
+-- an id at the front, and what is after it
 unfoldable pub node_at : List ℕ → Result (Node × List ℕ) MarkerFault
 node_at bytes = if nat_lt (length bytes) 20 then Err Short else Ok (node_of (take 20 bytes), drop 20 bytes)
 
+-- so many ids at the front, and what is after them
 unfoldable pub nodes_at : ℕ → List ℕ → Result (List Node × List ℕ) MarkerFault
 nodes_at count bytes = do
   ids ← bytes_at (count * 20) bytes
@@ -85,10 +90,12 @@ fields_at bytes = do
     meta.1,
   )
 
+-- the marker that the fields give, where its metadata has a form and no successor is null
 unfoldable pub checked : {A : Type 0} → Fields × List ℕ → Result (Marker A × List ℕ) MarkerFault
 checked x = if is_metadata x.0.meta then (if list_any (same_node null_node) x.0.successors
     then Err NullSuccessor else Ok (kept_of x.0, x.1)) else Err BadMetadata
 
+-- the first marker, and what is after it
 unfoldable pub marker_at : {A : Type 0} → List ℕ → Result (Marker A × List ℕ) MarkerFault
 marker_at bytes = fields_at bytes >>= checked
 

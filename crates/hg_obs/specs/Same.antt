@@ -17,7 +17,7 @@ abbrev pub is_same : {A : Type 0} → Marker A → Marker A → Bool
 is_same a b = same_node a.predecessor b.predecessor && nat_eq a.flags b.flags
     && pointwise same_node a.successors b.successors && pointwise nat_eq a.meta b.meta
 
--- the flags, the predecessor, the metadata behind its length, and each successor
+-- the flags, the predecessor, the metadata after its length, and each successor
 abbrev pub marker_writes : {A : Type 0} → Marker A → List (List ℕ)
 marker_writes m = fed.u8 m.flags ++ m.predecessor.0 ∷ fed.usize (length m.meta) ++ m.meta
     ∷ map (λ node. node.0) m.successors
@@ -29,6 +29,7 @@ both : (p q : Bool) → p ≡ true → q ≡ true → (p && q) ≡ true
 both true q h k = k
 both false q h k = h
 
+-- the test of two ids is their equality
 pub same_node_decides : (a b : Node) → Decides (same_node a b) (a ≡ b)
 same_node_decides a b = (
   λ h. ap (λ (id : List ℕ). record { 0 = id }) ((bytes_decides a.0 b.0).0 h),

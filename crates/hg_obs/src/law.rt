@@ -29,7 +29,7 @@ pub fn bytes_tell_markers<A: Allocator>()
 {}
 
 /// No markers are lawful. Lawful ones stay so where markers that marker data may have are merged, and where
-/// the last ones are cut off; and behind the version byte their bytes are marker data again.
+/// the last ones are cut off; and after the version byte their bytes are marker data again.
 pub fn markers_stay_lawful<A: Allocator>()
     ensures none { AreLawful {A = A} [] }
     ensures merge { (old added : List (AMarker A)) → AreLawful old → AllByRecursion IsMarker added →

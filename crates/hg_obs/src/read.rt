@@ -98,7 +98,7 @@ fn nodes_of<A: Allocator + Copy>(alloc: A, ids: &[[u8; ID]]) -> Result<Seq<Node,
     Ok(Seq::from_vec(nodes))
 }
 
-/// How metadata stands at a byte: inside a piece, or behind one without a colon.
+/// How metadata stands at a byte: inside a piece, or after one without a colon.
 #[derive(Clone, Copy)]
 enum Piece {
     Empty,

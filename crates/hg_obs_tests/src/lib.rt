@@ -4,7 +4,7 @@
 //!
 //! Rows of the tables, and what else the tests try:
 //!
-//! - `hg_obs`: 20,000 markers, two more behind them; a marker with 255 successors and 4 MiB of
+//! - `hg_obs`: 20,000 markers, two more after them; a marker with 255 successors and 4 MiB of
 //!   metadata.
 #![tactic(auto)]
 

@@ -67,7 +67,7 @@ fn predecessors<A: Allocator + Copy>(
     Ok(nodes)
 }
 
-/// Appends the bytes of each marker, one behind the other.
+/// Appends the bytes of each marker, one after the other.
 fn write_all<A: Allocator, B: Allocator>(
     markers: &[Marker<A>],
     out: &mut Vec<u8, B>,
@@ -147,7 +147,7 @@ fn are_merged(
     Ok(all)
 }
 
-// A marker with one successor and the metadata `user:a`; the same with a NUL behind it; `user`.
+// A marker with one successor and the metadata `user:a`; the same with a NUL after it; `user`.
 // Result: accepted; accepted as another marker; BadMetadata.
 #[test]
 fn metadata_in_three_forms(rt: HostRuntime) -> Result<(), Fail> {
@@ -163,7 +163,7 @@ fn metadata_in_three_forms(rt: HostRuntime) -> Result<(), Fail> {
     Ok(())
 }
 
-/// Whether the data of one marker is read so, and with a byte behind it is not.
+/// Whether the data of one marker is read so, and with a byte after it is not.
 fn is_read(
     alloc: Global,
     successor: u8,
@@ -177,7 +177,7 @@ fn is_read(
 }
 
 // Empty; `:`; two NULs; `a:1` NUL NUL `b:2`; `a::` NUL `:b` · `a:1` NUL `b`; `a` NUL `b:2`; `a`;
-// NUL `a` NUL; `a:1` NUL `b` NUL `c:3` · a null successor, also with a byte behind it · a null
+// NUL `a` NUL; `a:1` NUL `b` NUL `c:3` · a null successor, also with a byte after it · a null
 // successor and bad metadata. Result: metadata · none · NullSuccessor · BadMetadata.
 #[test]
 fn pieces_of_metadata_and_null_successors(rt: HostRuntime) -> Result<(), Fail> {
@@ -193,7 +193,7 @@ fn pieces_of_metadata_and_null_successors(rt: HostRuntime) -> Result<(), Fail> {
         (34, b"\0a\0", Err(bare)),
         (34, b"a:1\0b\0c:3", Err(bare)),
         (0, b"a:1", Err(null)),
-        // Of one marker the metadata comes first, and a fault comes before those behind it.
+        // Of one marker the metadata comes first, and a fault comes before those after it.
         (0, b"a", Err(bare)),
         (0, b"", Err(null)),
     ];
@@ -204,7 +204,7 @@ fn pieces_of_metadata_and_null_successors(rt: HostRuntime) -> Result<(), Fail> {
 }
 
 // `00`, a marker of 52 bytes (`01 00000006 01 11*20 22*20 "user:a"`) and one of 69 (`02 00000003 00
-// 22*20 33*20 44*20 "a:b"`), cut at each place · `01`. Result: Short, but for the first byte alone
+// 22*20 33*20 44*20 "a:b"`), cut at each place · `01`. Result: Short, except the first byte alone
 // (no markers), the first 53 bytes (one) and all 122 (two) · BadVersion.
 #[test]
 fn every_prefix_of_two_markers(rt: HostRuntime) {
@@ -296,7 +296,7 @@ const TEN: [(u8, u8); 10] = [
     (10, 9),
 ];
 
-/// Reads two markers, merges them, copies the list and writes both, in that memory. Behind that ten more are
+/// Reads two markers, merges them, copies the list and writes both, in that memory. After that ten more are
 /// merged.
 fn reach<A: Allocator + Copy>(alloc: A, state: RandomState) -> Reached {
     match read_markers(alloc, &TWO) {

@@ -117,7 +117,7 @@ nothing_in [] texts fault e = refl
 nothing_in (a ∷ []) texts fault e = refl
 nothing_in (a ∷ b ∷ sizes) texts fault e = absurd cc
 
--- the texts of the first two sizes are there, and of the others behind them
+-- the texts of the first two sizes are there, and of the others after them
 pub room_for : (key value : ℕ) (sizes more texts : List ℕ) → sizes ≡ key ∷ value ∷ more
     → sum sizes ≤ length texts → key + (value + sum more) ≤ length texts
 room_for key value sizes more texts e room = let all = ap sum e ∙ sum-two key value more in omega arith

@@ -72,7 +72,7 @@ of_fields bytes f has =
       | inr none ↦ inr (BadType, bad_type bytes f has none)
     ]
 
--- fields, and what stands behind them
+-- fields, and what stands after them
 of_front : {A : Type 0} (bytes : List ℕ) (front : Front) (rest : List ℕ) → ReadsFields bytes front rest
     → HasSomeReading A bytes
 of_front bytes front [] reads = of_fields bytes (fields_in front) (has_fields bytes front [] reads refl)

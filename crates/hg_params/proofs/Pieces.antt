@@ -44,7 +44,7 @@ cut_by true test text e =
     rw e (omega (arith, length-drop (position_or_len test text + 1) text))
 cut_by false test text e = rw e (omega arith)
 
--- what stands behind a cut is shorter
+-- what stands after a cut is shorter
 pub behind_shorter : (test : ℕ → Bool) (text : List ℕ) → size_of (behind_first test text) < length text + 1
 behind_shorter test text = cut_by (ltb (position_or_len test text) (length text)) test text refl
 

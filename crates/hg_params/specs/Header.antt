@@ -30,6 +30,7 @@ all_params f = f.mandatory ++ f.advisory
 abbrev pub FitsByte : ℕ → Type 0
 FitsByte size = size < 256
 
+-- the sizes of a key and of its value fit one byte each
 pub record FitsSizes (p : KeyValue) : Type 0 where
   pub key : FitsByte (length p.key)
   pub value : FitsByte (length p.value)
@@ -73,6 +74,7 @@ unfoldable pub AreDistinct : List (List ℕ) → Type 0
 AreDistinct [] = Unit {0}
 AreDistinct (key ∷ keys) = AllByRecursion (λ later. key ≢ later) keys × AreDistinct keys
 
+-- the keys of parameters
 abbrev pub keys_of : List KeyValue → List (List ℕ)
 keys_of params = map (λ p. p.key) params
 

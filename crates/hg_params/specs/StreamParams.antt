@@ -11,9 +11,11 @@ use Rattle.hg_params.specs.declared.fault.ParamFault.{ParamFault}
 use Rattle.hg_params.specs.declared.fault.ParamFault.TheVariants.{EmptyName, BadName, UnknownMandatory}
 use Rattle.hg_params.specs.declared.fault.ParamFault.TheVariants.{Compressed}
 
+-- the byte between two parameters
 abbrev pub is_space : ℕ → Bool
 is_space b = b == 32
 
+-- the byte between a name and its value
 abbrev pub is_equals : ℕ → Bool
 is_equals b = b == 61
 
@@ -27,15 +29,16 @@ unfoldable pub pieces_of : Option (List ℕ) → List (List ℕ)
 pieces_of None = []
 pieces_of (Some text) = slice_split is_space text
 
--- what stands behind the first byte that passes, where one does
+-- what stands after the first byte that passes, where one does
 unfoldable pub behind_first : (ℕ → Bool) → List ℕ → Option (List ℕ)
 behind_first test text = option_map (λ place. drop (place + 1) text) (position test text)
 
--- the name of a piece, which ends at the first `=`, and the value behind it, where there is one; both without
+-- the name of a piece, which ends at the first `=`, and the value after it, where there is one; both without
 -- escapes
 unfoldable pub name_of : List ℕ → List ℕ
 name_of piece = percent_decode (before_first is_equals piece)
 
+-- what stands after the first `=` of a piece, without its escapes; none where there is no `=`
 unfoldable pub value_of : List ℕ → Option (List ℕ)
 value_of piece = option_map percent_decode (behind_first is_equals piece)
 
@@ -57,6 +60,7 @@ fault_of (first ∷ rest) value =
     else if is_compression (first ∷ rest) then compression_fault value
     else if is_ascii_uppercase first then Some UnknownMandatory else None
 
+-- what is wrong with a piece, if anything is
 abbrev pub piece_fault : List ℕ → Option ParamFault
 piece_fault piece = fault_of (name_of piece) (value_of piece)
 
@@ -64,6 +68,7 @@ piece_fault piece = fault_of (name_of piece) (value_of piece)
 abbrev pub faults_of : List ℕ → List ParamFault
 faults_of bytes = filter_map piece_fault (pieces bytes)
 
+-- the parameter that a piece is
 abbrev pub stream_param : {A : Type 0} → List ℕ → StreamParam A
 stream_param piece = record { name = name_of piece; value = value_of piece }
 

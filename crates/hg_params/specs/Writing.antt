@@ -12,12 +12,15 @@ use Rattle.hg_params.specs.Header.{KeyValue, Fields, FitsByte, spelling, is_kind
 unfoldable pub cased : List ℕ → List ℕ
 cased kind = if list_any is_ascii_uppercase kind then map to_ascii_uppercase kind else kind
 
+-- the key and the value of a parameter
 abbrev pub key_value : {A : Type 0} → Param A → KeyValue
 key_value p = record { key = p.key; value = p.value }
 
+-- the mandatory ones of some parameters
 abbrev pub mandatory_of : {A : Type 0} → List (Param A) → List KeyValue
 mandatory_of params = map key_value (filter (λ p. p.mandatory) params)
 
+-- the advisory ones of some parameters
 abbrev pub advisory_of : {A : Type 0} → List (Param A) → List KeyValue
 advisory_of params = map key_value (filter (λ p. not p.mandatory) params)
 
@@ -34,10 +37,11 @@ header_bytes kind id params = spelling (fields_of kind id params)
 abbrev pub written_head : {A : Type 0} → List ℕ → ℕ → List (Param A) → Head A
 written_head kind id params = record { kind = cased kind; id = id; params = params }
 
--- no mandatory parameter stands behind an advisory one
+-- no mandatory parameter stands after an advisory one
 abbrev pub AreInOrder : {A : Type 0} → List (Param A) → Type 0
 AreInOrder params = params ≡ map (param true) (mandatory_of params) ++ map (param false) (advisory_of params)
 
+-- a key and a value that a header can hold: at most 255 bytes each
 pub record FitsParam {A : Type 0} (p : Param A) : Type 0 where
   pub key : FitsByte (length p.key)
   pub value : FitsByte (length p.value)

@@ -15,7 +15,7 @@ pub enum ParamFault {
     /// 1: a field of the header passes the end of its bytes.
     #[error("a field passes the end")]
     Short = 1,
-    /// 2: bytes are left over behind the fields.
+    /// 2: bytes are left over after the fields.
     #[error("bytes are left over")]
     Leftover,
     /// 3: the type is empty or holds another byte than `a-z A-Z 0-9 _ : -`.

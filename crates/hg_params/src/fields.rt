@@ -8,7 +8,7 @@ ghost use Rattle.hg_params.specs.code.View.{view_block, view_front};
 
 use crate::fault::ParamFault;
 
-/// The sizes of keys and values, in turn, and those keys and values, one behind the other.
+/// The sizes of keys and values, in turn, and those keys and values, one after the other.
 #[derive(Clone, Copy)]
 pub struct Block<'a> {
     pub sizes: &'a [u8],

@@ -86,7 +86,7 @@ fn place_of(byte: u8, text: &[u8]) -> Option<usize>
     text.iter().position(|other| *other == byte)
 }
 
-/// What stands before the first such byte, or all where there is none, and what stands behind it.
+/// What stands before the first such byte, or all where there is none, and what stands after it.
 fn split_once(text: &[u8], byte: u8) -> (&[u8], Option<&[u8]>)
     ensures before { result.0.now ≡ before_first (λ b. b == byte) text.now }
     ensures behind { option_map (λ rest. rest.now) result.1 ≡ behind_first (λ b. b == byte) text.now }

@@ -32,7 +32,7 @@ fn part_of<A: Allocator + Copy>(alloc: A, head: Head<A>) -> Part<A> {
     }
 }
 
-/// Whether the part's header is written as these bytes, behind others.
+/// Whether the part's header is written as these bytes, after others.
 fn is_written_as<A: Allocator + Copy>(alloc: A, part: &Part<A>, bytes: &[u8]) -> bool {
     let mut out = Vec::new(alloc);
     let is_begun = out.extend_from_slice(b"before").is_ok();
@@ -416,7 +416,7 @@ fn reads_stream_params<A: Allocator + Copy>(alloc: A) -> Came {
     }
 }
 
-/// Writes a header behind a byte, which stays alone where it is refused.
+/// Writes a header after a byte, which stays alone where it is refused.
 fn writes_behind<A: Allocator + Copy>(alloc: A) -> Came {
     let mut out = Vec::new(alloc);
     let is_begun = out.push(b'x').is_ok();

@@ -64,7 +64,7 @@ use Rattle.hg_parts.specs.parts.Pushkey as pushkey
 use Rattle.hg_parts.specs.Handle.{handle, handle_as, handle_supported}
 use Rattle.hg_parts.specs.Refusing.{CanBeRefused}
 
--- ---- a changeset is not refused for want of memory
+-- ---- a changeset is not refused for lack of memory
 
 abbrev pub IsPlain : {X : Type 0} → Result X AddFault → Type 0
 IsPlain (Ok x) = Unit {0}

@@ -155,7 +155,7 @@ module _ {A : Type 0} (laws : Laws A) where
   abbrev Grows : Pairs → Result changegroup.Grown AddFault → Type 0
   Grows pairs result = IfOk result (AreGrown pairs)
 
-  -- a row came behind the others
+  -- a row came after the others
   grown_new : (pairs : Pairs) (t : Phase) (rows new : List Changeset) (phases : List Phase) (row : Changeset)
       → new ≡ rows ++ row ∷ [] → AreLawfulRows new
       → AreGrown pairs (record { rows = rows; phases = phases })

@@ -37,6 +37,7 @@ handle_supported source repo replying place part Pushkey = handle_pushkey repo r
 handle_supported source repo replying place part Output = Ok (nothing_done repo)
 handle_supported source repo replying place part ErrorAbort = Err (ClientAbort place)
 
+-- handles a part by whether it is supported
 abbrev pub handle_as : {A : Type 0} → Source → Repository A → Bool → ℕ → Part A → Support → Outcome A
 handle_as source repo replying place part (Supported part_type) =
     handle_supported source repo replying place part part_type

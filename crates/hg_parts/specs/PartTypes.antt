@@ -73,6 +73,7 @@ abbrev pub names_against : {A : Type 0} → List (Param A) → Option Row → Li
 names_against params None = []
 names_against params (Some row) = unknown_names row.known params
 
+-- what is not known of a part: its type, or some of its mandatory parameters
 abbrev pub unsupported_names : {A : Type 0} → Part A → List (List ℕ)
 unsupported_names part = names_against part.params (row_of part.kind)
 
@@ -81,6 +82,7 @@ pub data Support : Type 0 where
   Supported : (part_type : PartType) → Support
   Unsupported : (names : List (List ℕ)) → Support
 
+-- a type is supported where nothing stands against it
 abbrev pub support_by : PartType → List (List ℕ) → Support
 support_by part_type [] = Supported part_type
 support_by part_type (name ∷ names) = Unsupported (name ∷ names)
@@ -90,9 +92,11 @@ abbrev pub support_in : {A : Type 0} → List (Param A) → Option Row → Suppo
 support_in params None = Unsupported []
 support_in params (Some row) = support_by row.part_type (unknown_names row.known params)
 
+-- whether a part is supported, and as which type
 abbrev pub support_of : {A : Type 0} → Part A → Support
 support_of part = support_in part.params (row_of part.kind)
 
+-- a supported part after which parts leave replies
 abbrev pub is_reply_caps : Support → Bool
 is_reply_caps (Supported ReplyCaps) = true
 is_reply_caps _ = false

@@ -42,6 +42,7 @@ read_supported part Pushkey = reading.Pushkey
 read_supported part Output = reading.Output
 read_supported part ErrorAbort = reading.ErrorAbort
 
+-- what a part tells without the repository, by whether it is supported
 abbrev pub read_as : {A : Type 0} → Part A → Support → Reading A
 read_as part (Supported part_type) = read_supported part part_type
 read_as part (Unsupported names) = reading.Unsupported
@@ -61,6 +62,7 @@ is_read (reading.PhaseHeads entries) = true
 is_read (reading.Obsmarkers markers) = true
 is_read waiting = false
 
+-- the part without its payload, where that is dropped
 abbrev pub kept_where : {A : Type 0} → Bool → Part A → Part A
 kept_where true part = record part { payload = [] }
 kept_where false part = part
@@ -69,6 +71,7 @@ kept_where false part = part
 abbrev pub kept_with : {A : Type 0} → Part A → Reading A → Prepared A
 kept_with part told = record { reading = told; part = kept_where (is_read told) part }
 
+-- the part as it waits for its turn: what was read of it, and what is kept of it
 abbrev pub prepared_of : {A : Type 0} → Part A → Prepared A
 prepared_of part = kept_with part (reading_of part)
 
@@ -103,6 +106,7 @@ handle_reading source repo replying place part reading.Pushkey = handle_pushkey 
 handle_reading source repo replying place part reading.Output = Ok (nothing_done repo)
 handle_reading source repo replying place part reading.ErrorAbort = Err (ClientAbort place)
 
+-- a reading after which parts leave replies
 abbrev pub is_replycaps : {A : Type 0} → Reading A → Bool
 is_replycaps reading.ReplyCaps = true
 is_replycaps told = false

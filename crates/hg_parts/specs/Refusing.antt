@@ -20,7 +20,7 @@ abbrev pub NamesChangesets : PartType → Type 0
 NamesChangesets part_type = (part_type ≡ CheckPhases) ⊎ (part_type ≡ CheckBookmarks)
     ⊎ (part_type ≡ PhaseHeads) ⊎ (part_type ≡ Bookmarks)
 
--- The part at this place, of this support, can be refused so. Want of memory is no refusal of a part, nor of
+-- The part at this place, of this support, can be refused so. Out of memory is no refusal of a part, nor of
 -- a changeset: code alone answers it.
 abbrev pub CanBeRefused : {A : Type 0} → ℕ → Support → Refusal A → Type 0
 CanBeRefused place support (refusal.Unsupported at kind params) = (at ≡ place)

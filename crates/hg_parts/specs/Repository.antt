@@ -20,6 +20,7 @@ pub record Repository (A : Type 0) : Type 0 where
   pub markers : List (Marker A)
   pub bookmarks : Pairs
 
+-- the repository without anything
 abbrev pub empty_with : {A : Type 0} → Settings → Repository A
 empty_with settings = record { settings = settings; rows = []; phases = []; markers = []; bookmarks = [] }
 

@@ -40,6 +40,7 @@ pub record IsGrown {A : Type 0} (old new : Store A) : Type 0 where
 
 -- ---- the way back
 
+-- the store without anything
 abbrev pub empty_store : {A : Type 0} → Limits → Store A
 empty_store limits = record {
   log = record { rows = []; limits = limits };

@@ -33,7 +33,7 @@ pub fn replies_have_no_payload<A: Allocator>()
 {}
 
 /// A refusal tells the place of its part, and which types of part can give it. By the definitions alone no part
-/// is refused for want of memory, and none of its changesets: only code answers that.
+/// is refused for lack of memory, and none of its changesets: only code answers that.
 pub fn refusals_tell_their_parts<A: Allocator>()
     ensures { (source : AnySource) (repo : Repository A) (replying : Bool) (place : ℕ) (part : AnyPart A)
         (refusal : AnyRefusal A) → handle source repo replying place part ≡ Err refusal

@@ -30,7 +30,7 @@ pub enum Reading<A: Allocator = Global> {
     CheckHeads,
     CheckPhases,
     CheckBookmarks,
-    /// The changesets of `phase-heads`, each behind its phase.
+    /// The changesets of `phase-heads`, each after its phase.
     PhaseHeads(Seq<(Phase, Node), A>),
     Bookmarks,
     /// The markers of `obsmarkers`.

@@ -271,7 +271,7 @@ fn phase_of<A: Allocator>(held: &Held<A>, rev: u32) -> Option<Phase> {
 
 // ---- worked examples
 
-/// A root changeset, the same changeset again, and a wrong hash behind a good one.
+/// A root changeset, the same changeset again, and a wrong hash after a good one.
 fn roots(alloc: Global, state: RandomState) -> Result<bool, NoMemory> {
     let good = group(alloc, &[root(ROOT)])?;
     let bad = group(alloc, &[child(ROOT, NULL, b'b'), root(WRONG)])?;
@@ -515,19 +515,21 @@ fn one_part_alone(rt: HostRuntime) -> Result<(), Fail> {
     Ok(())
 }
 
-/// Whether the part starts replies.
-fn starts(alloc: Global, kind: &[u8], key: &[u8]) -> Result<bool, NoMemory> {
+/// Whether the part starts replies, and whether what is prepared of it does.
+fn starts(alloc: Global, kind: &[u8], key: &[u8]) -> Result<(bool, bool), NoMemory> {
     let part = part(alloc, kind, key, b"", b"")?;
-    Ok(starts_replies(&part))
+    let starts = starts_replies(&part);
+    Ok((starts, prepare(alloc, part)?.starts_replies()))
 }
 
 // `ReplyCaps`; `replycaps` with the mandatory parameter `x`; `output`. Result: parts after the
-// first leave replies.
+// first leave replies, also where it was prepared.
 #[test]
 fn replies_are_read(rt: HostRuntime) -> Result<(), Fail> {
     let alloc = rt.alloc();
-    assert!(rt; starts(alloc, b"ReplyCaps", b"")? && !starts(alloc, b"replycaps", b"x")?);
-    assert!(rt; !starts(alloc, b"output", b"")?);
+    assert_eq!(rt; starts(alloc, b"ReplyCaps", b"")?, (true, true));
+    assert_eq!(rt; starts(alloc, b"replycaps", b"x")?, (false, false));
+    assert_eq!(rt; starts(alloc, b"output", b"")?, (false, false));
     assert!(rt; RaceText::HeadsChanged.message() == b"heads changed".as_slice());
     assert!(rt; RaceText::PhasesChanged.message() == b"phases changed".as_slice());
     assert!(rt; RaceText::BookmarksChanged.message() == b"bookmarks changed".as_slice());

@@ -104,7 +104,7 @@ module _ (t : Phase) (row : Option ℕ) (now next : List Standing) (listed more 
     λ k low. ap (λ (ks : List ℕ). get_or ks k 0) left.list,
   )
 
-  -- what is listed behind it is the row
+  -- what is listed after it is the row
   pub list_ends : IsLowered t row now listed next more → (k : ℕ) → length listed ≤ k → k < length more
       → row ≡ Some (get_or more k 0)
   list_ends (inl moved) k from low =

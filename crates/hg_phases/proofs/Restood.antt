@@ -104,7 +104,7 @@ module _ (parents : ℕ → Option ℕ × Option ℕ) where
 
   -- ---- the children of a row, from the last one back
 
-  -- the child is behind the one that is to come
+  -- the child is after the one that is to come
   abbrev pub IsBehind : Option ℕ → ℕ → Type 0
   IsBehind None r = ⊤
   IsBehind (Some c) r = c < r
@@ -125,14 +125,14 @@ module _ (parents : ℕ → Option ℕ × Option ℕ) where
   next_within row m n None low is = tt
   next_within row m n (Some c) low is = (let less = is.0 in omega (arith, low, less), is.1)
 
-  -- no child of those before a bound is behind the last of them
+  -- no child of those before a bound is after the last of them
   pub none_behind : (row n : ℕ) (o : Option ℕ) → o ≡ child_before parents row n → (r : ℕ) → r < n
       → ¬ (IsLater row o r)
   none_behind row n None is r low later = before_nobody parents row n (sym is) r low later.0
   none_behind row n (Some c) is r low later =
       (before_some parents row n c (sym is)).2 r later.1 low later.0
 
-  -- so those behind the next one are the child itself, and those behind it
+  -- so those after the next one are the child itself, and those after it
   pub behind_next : (row c : ℕ) (o : Option ℕ) → o ≡ child_before parents row c → (r : ℕ)
       → IsLater row o r → IsLater row (Some c) r ⊎ (r ≡ c)
   behind_next row c o is r later = elim (cases_order r c) [

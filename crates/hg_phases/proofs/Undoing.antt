@@ -44,7 +44,7 @@ undone_front m (change ∷ changes) xs ys same =
     set_front m (undone changes xs) (undone changes ys) change.row change.standing
     (undone_front m changes xs ys same)
 
--- a row more behind the mark
+-- a row more after the mark
 pub base_add : (marked : ℕ) (rows more : List Standing) (kept : List Replaced) → marked ≤ length rows
     → base_of marked (rows ++ more) kept ≡ base_of marked rows kept
 base_add marked rows more kept within =
@@ -56,7 +56,7 @@ undone_append [] more rows = refl
 undone_append (first ∷ changes) more rows =
     ap (λ (xs : List Standing). set xs first.row first.standing) (undone_append changes more rows)
 
--- changes of rows behind the mark do not show in its rows
+-- changes of rows after the mark do not show in its rows
 undone_marked : (marked : ℕ) (changes : List Replaced) (rows : List Standing)
     → take marked (undone (of_marked marked changes) rows) ≡ take marked (undone changes rows)
 undone_marked marked [] rows = refl

@@ -23,7 +23,7 @@ AreEntries bytes entries = bytes ≡ flat_map entry_bytes entries
 abbrev pub phase_in : List ℕ → Option Phase
 phase_in bytes = phase_from (from_be_bytes w32 (take 4 bytes))
 
--- the id in the twenty bytes behind them
+-- the id in the twenty bytes after them
 abbrev pub node_in : List ℕ → Node
 node_in bytes = record { 0 = take 20 (drop 4 bytes) }
 
@@ -31,6 +31,7 @@ node_in bytes = record { 0 = take 20 (drop 4 bytes) }
 unfoldable pub entry_in : List ℕ → Option (Phase × Node)
 entry_in bytes = option_map (λ phase. (phase, node_in bytes)) (phase_in bytes)
 
+-- the bytes are an entry
 abbrev pub is_entry : List ℕ → Bool
 is_entry bytes = is_some (entry_in bytes)
 

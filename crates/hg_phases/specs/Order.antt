@@ -10,9 +10,11 @@ phase_from number =
     if number == 0 then Some Public
     else (if number == 1 then Some Draft else (if number == 2 then Some Secret else None))
 
+-- of two phases the one of the lesser number
 abbrev pub lesser : Phase → Phase → Phase
 lesser a b = if nat_le (number_of a) (number_of b) then a else b
 
+-- of two phases the one of the greater number
 abbrev pub greater : Phase → Phase → Phase
 greater a b = if nat_le (number_of a) (number_of b) then b else a
 

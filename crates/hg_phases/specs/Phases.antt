@@ -23,6 +23,7 @@ abbrev pub advanced_at : (ℕ → Option ℕ × Option ℕ) → Phase → List �
 advanced_at parents target heads phases r =
     if is_reached parents heads r then lesser target (phase_at phases r) else phase_at phases r
 
+-- the phases of all rows after an advance of these heads to that phase
 unfoldable pub advanced : (ℕ → Option ℕ × Option ℕ) → Phase → List ℕ → List Phase → List Phase
 advanced parents target heads phases =
     map (advanced_at parents target heads phases) (range_with_len 0 (length phases))
@@ -43,6 +44,7 @@ pub record Marked : Type 0 where
   pub current : Phasing
   pub marked : Option Phasing
 
+-- no row has a phase
 abbrev pub no_rows : Phasing
 no_rows = record { phases = []; draft = []; secret = [] }
 

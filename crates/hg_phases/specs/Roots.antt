@@ -13,6 +13,7 @@ abbrev pub begins : Phase → Phase → Phase → Bool
 begins target above phase =
     nat_lt (number_of above) (number_of target) && nat_le (number_of target) (number_of phase)
 
+-- the row has at least that phase, and none of its parents has
 abbrev pub is_root : (ℕ → Option ℕ × Option ℕ) → List Phase → Phase → ℕ → Bool
 is_root parents phases target r = begins target (phase_above parents phases r) (phase_at phases r)
 
@@ -20,6 +21,7 @@ is_root parents phases target r = begins target (phase_above parents phases r) (
 unfoldable pub roots_from : (ℕ → Option ℕ × Option ℕ) → List Phase → Phase → ℕ → ℕ → List ℕ
 roots_from parents phases target low n = filter (is_root parents phases target) (range_with_len low n)
 
+-- the rows that are roots of that phase, in ascending order
 abbrev pub roots : (ℕ → Option ℕ × Option ℕ) → List Phase → Phase → List ℕ
 roots parents phases target = roots_from parents phases target 0 (length phases)
 

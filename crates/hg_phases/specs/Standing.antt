@@ -26,9 +26,11 @@ phase_told SecretOnPublic = Secret
 phase_told SecretOnDraft = Secret
 phase_told SecretOnSecret = Secret
 
+-- the phase of each row
 abbrev pub phases_told : List Standing → List Phase
 phases_told rows = map phase_told rows
 
+-- a row that is draft or more, with public parents alone
 abbrev pub is_draft_root : Standing → Bool
 is_draft_root PublicOnPublic = false
 is_draft_root DraftOnPublic = true
@@ -37,6 +39,7 @@ is_draft_root SecretOnPublic = true
 is_draft_root SecretOnDraft = false
 is_draft_root SecretOnSecret = false
 
+-- a secret row without a secret parent
 abbrev pub is_secret_root : Standing → Bool
 is_secret_root PublicOnPublic = false
 is_secret_root DraftOnPublic = false
@@ -57,6 +60,7 @@ told_from target n [] = []
 told_from target n (row ∷ rows) =
     if is_told target row then n ∷ told_from target (n + 1) rows else told_from target (n + 1) rows
 
+-- the numbers of the rows that are roots of that phase
 abbrev pub told : Phase → List Standing → List ℕ
 told target rows = told_from target 0 rows
 

@@ -28,7 +28,7 @@ pub fn roots_tell_phases()
         ↔ HasRoot (parents_of rows) (roots (parents_of rows) kept.phases target) r }
 {}
 
-/// Phases stay lawful where rows come behind the others, where a row is registered and where rows are
+/// Phases stay lawful where rows come after the others, where a row is registered and where rows are
 /// advanced. A row that is registered has one phase more, and rows that are advanced have as many as before.
 pub fn phases_stay_lawful()
     ensures behind { (old new : List Changeset) (phases : List Phase)

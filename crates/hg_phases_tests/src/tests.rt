@@ -198,7 +198,7 @@ fn to<'t>(target: Phase, heads: &'t [u32], after: &'t [Phase]) -> Step<'t> {
     }
 }
 
-/// Whether these advances, one behind the other, give those phases.
+/// Whether these advances, one after the other, give those phases.
 fn advance_each<A: Allocator + Copy>(
     alloc: A,
     phases: &mut Phases<A>,
@@ -290,7 +290,7 @@ fn is_copied<A: Allocator + Copy>(alloc: A, phases: &Phases<A>, wanted: &[Phase]
     }
 }
 
-/// Rows registered behind a mark, an advance of them and of rows before it, and back.
+/// Rows registered after a mark, an advance of them and of rows before it, and back.
 fn rows_behind_a_mark_are_told(alloc: Global, log: &mut Changelog) -> bool {
     let is_put = put_merged(alloc, log).is_some();
     let mut phases = no_phases(alloc, log);
@@ -372,7 +372,7 @@ fn is_bad(alloc: Global, number: [u8; 4]) -> bool {
 }
 
 // `00000000 11*20 00000002 22*20`, and each front of it; the second phase as 3, 256, 65,538 and
-// -2,147,483,646, whole and one byte short. Result: (P, `11*20`), (S, `22*20`), and Short but for
+// -2,147,483,646, whole and one byte short. Result: (P, `11*20`), (S, `22*20`), and Short except
 // the first 0 and 24 bytes; BadPhase, and Short.
 #[test]
 fn entries_by_their_bytes(rt: HostRuntime) {
@@ -612,7 +612,7 @@ fn steps_of_new<'h>(heap: &'h LocalHeap, rows: &'h LocalHeap, state: RandomState
 
 /// Over heaps of each multiple of 16 bytes, so that each growth is refused in turn.
 /// Six rows registered; where they all are, each for itself, a copy, entries, and a mark, an
-/// advance and back; over heaps of 0 to 1,520 bytes. Result: want of memory with all as before, or
+/// advance and back; over heaps of 0 to 1,520 bytes. Result: out of memory with all as before, or
 /// the answer; each of the four is refused somewhere and succeeds somewhere.
 #[test]
 fn each_growth_refused(rt: HostRuntime) -> Result<(), Fail> {

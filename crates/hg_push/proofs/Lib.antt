@@ -23,6 +23,8 @@ pub mod CallerLemmas
 mod Beginning
 mod Places
 mod Closings
-mod Memory
 mod Resting
 mod Refused
+mod Counts
+mod Steps
+mod Answering

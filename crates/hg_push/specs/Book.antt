@@ -18,9 +18,11 @@ pub record Book (A R D E : Type 0) : Type 0 where
   pub limit : ℕ
   pub rows : List (Row D E A)
 
+-- a number that was given: from the first one, and below the next
 abbrev pub is_between : ℕ → ℕ → ℕ → Bool
 is_between first next p = nat_le first p && nat_lt p next
 
+-- the push was opened
 abbrev pub is_opened : {A R D E : Type 0} → Book A R D E → ℕ → Bool
 is_opened b p = is_between b.first_push b.next p
 

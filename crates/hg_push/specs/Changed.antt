@@ -25,7 +25,7 @@ OneByOne {A} {R} {D} run of first (p ∷ journal) last =
     (mid : R) × (done : D) × (run first (of p) ≡ Ok (mid, done)) × OneByOne run of mid journal last
 
 -- The push p ran in its turn: on the repository that the pushes before it in the journal give, with that
--- answer. Those behind it lead on to the last.
+-- answer. Those after it lead on to the last.
 pub record RanInTurn {A R D E : Type 0} (run : Running A R D E) (of : ℕ →
     List (Part A)) (first : R) (journal : List ℕ) (last : R) (p : ℕ) (done : D) : Type 0 where
   pub front : List ℕ

@@ -20,9 +20,11 @@ History A = List (Taken A)
 abbrev pub Running : Type 0 → Type 0 → Type 0 → Type 0 → Type 0
 Running A R D E = R → List (Part A) → Result (R × D) E
 
+-- the item is of that push
 abbrev pub is_of : {A : Type 0} → ℕ → Taken A → Bool
 is_of p x = x.item.push == p
 
+-- an end mark or a cut, and no part
 abbrev pub is_mark : {A : Type 0} → What A → Bool
 is_mark (a_part part) = false
 is_mark End = true
@@ -37,12 +39,13 @@ abbrev pub is_closed : {A : Type 0} → ℕ → History A → Bool
 is_closed p [] = false
 is_closed p (x ∷ before) = is_closed p before || (is_of p x && closes x)
 
--- The place x, behind those before it, closed p: it is of p, which was open, and it closes it.
+-- The place x, after those before it, closed p: it is of p, which was open, and it closes it.
 pub record IsClosing {A : Type 0} (p : ℕ) (x : Taken A) (before : History A) : Type 0 where
   pub mine : x.item.push ≡ p
   pub shuts : closes x ≡ true
   pub was_open : is_closed p before ≡ false
 
+-- the part, where the item is one
 abbrev pub part_in : {A : Type 0} → What A → List (Part A)
 part_in (a_part part) = part ∷ []
 part_in End = []
@@ -58,10 +61,12 @@ parts p [] = []
 parts p (x ∷ before) = if is_of p x && not (is_closed p before) then parts_after (parts p before) x
     else parts p before
 
+-- a refusal of a run, as the reason of an aborted push
 abbrev pub refused_as : {D E : Type 0} → Result D E → Result D (Reason E)
 refused_as (Ok done) = Ok done
 refused_as (Err e) = Err (Refused e)
 
+-- what the mark of a push decides, with these parts before it
 abbrev pub decided_by : {A R D E : Type 0} → Running A R D E → R → List (Part A) → ℕ → What A →
     Option (Result (R × D) (Reason E))
 decided_by run repo ps index (a_part part) = None
@@ -81,11 +86,13 @@ pub record Serial (R : Type 0) : Type 0 where
   pub repo : R
   pub journal : List ℕ
 
+-- the serial run with one push more, where it is done
 abbrev pub kept : {R D E : Type 0} → Serial R → ℕ → Option (Result (R × D) E) → Serial R
 kept s p None = s
 kept s p (Some (Err reason)) = s
 kept s p (Some (Ok done)) = record { repo = done.0; journal = s.journal ++ p ∷ [] }
 
+-- the serial run after one item more
 abbrev pub after : {A R D E : Type 0} → Running A R D E → History A → Taken A → Serial R → Serial R
 after run before x s =
     if is_closed x.item.push before then s
@@ -97,6 +104,7 @@ abbrev pub serial : {A R D E : Type 0} → Running A R D E → R → History A �
 serial run first [] = record { repo = first; journal = [] }
 serial run first (x ∷ before) = after run before x (serial run first before)
 
+-- how the push ended, if it did
 abbrev pub told : {R D E : Type 0} → Option (Result (R × D) (Reason E)) → Option (Outcome D E)
 told None = None
 told (Some (Ok done)) = Some (Done done.1)
@@ -117,6 +125,8 @@ takes_memory count index (a_part part) = true
 takes_memory count index End = index == count
 takes_memory count index (Cut reason) = false
 
+-- memory can be refused for this item: its push is not closed, and it is a part or the end mark of its
+-- place
 abbrev pub may_refuse : {A : Type 0} → History A → Item A → Bool
 may_refuse before item = not (is_closed item.push before)
     && takes_memory (length (parts item.push before)) item.index item.what

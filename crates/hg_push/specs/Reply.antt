@@ -31,9 +31,11 @@ telling key value = record { mandatory = true; key = key; value = take 255 value
 abbrev pub error_part : {A : Type 0} → List ℕ → List (Param A) → Part A
 error_part kind params = record { kind = kind; id = 0; params = params; payload = [] }
 
+-- the part that says why a push was aborted
 abbrev pub abort_part : {A : Type 0} → List ℕ → Part A
 abort_part message = error_part (codes "ERROR:ABORT") (telling (codes "message") message ∷ [])
 
+-- the part that says which check found a change
 abbrev pub race_part : {A : Type 0} → List ℕ → Part A
 race_part message = error_part (codes "ERROR:PUSHRACED") (telling (codes "message") message ∷ [])
 
@@ -42,6 +44,7 @@ abbrev pub unknown_params : {A : Type 0} → List (List ℕ) → List (Param A)
 unknown_params [] = []
 unknown_params (name ∷ names) = telling (codes "params") (join_with_byte 0 (name ∷ names)) ∷ []
 
+-- the part that says what was not supported
 abbrev pub unsupported_part : {A : Type 0} → List ℕ → List (List ℕ) → Part A
 unsupported_part kind names =
     error_part (codes "ERROR:UNSUPPORTEDCONTENT") (telling (codes "parttype") kind ∷ unknown_params names)

@@ -23,10 +23,12 @@ use Rattle.hg_push.specs.History.{Running, Serial, decided, kept, told, takes_me
 abbrev pub row_of : {A D E : Type 0} → ℕ → List (Row D E A) → Option (Row D E A)
 row_of p rows = find (λ r. r.push == p) rows
 
+-- the push is open
 abbrev pub is_open : {A D E : Type 0} → State D E A → Bool
 is_open (Open staged) = true
 is_open (Closed outcome) = false
 
+-- the parts that an open push staged
 abbrev pub staged_in : {A D E : Type 0} → State D E A → List (Prepared A)
 staged_in (Open staged) = staged
 staged_in (Closed outcome) = []
@@ -54,6 +56,7 @@ abbrev pub Tells : {A D E : Type 0} → List (Part A) → Option (Outcome D E) �
 Tells ps how None = IsSome how
 Tells ps how (Some row) = TellsState ps how row.state
 
+-- memory was refused
 abbrev pub is_no_memory : {E : Type 0} → Reason E → Bool
 is_no_memory NoMemory = true
 is_no_memory (Refused e) = false
@@ -88,6 +91,7 @@ standing_of None = is_open_now
 standing_of (Some (done_as done)) = is_done_now
 standing_of (Some (aborted_as reason)) = is_aborted_now
 
+-- where the push stands, by its row
 abbrev pub standing_in : {A D E : Type 0} → State D E A → Standing
 standing_in (Open staged) = is_open_now
 standing_in (Closed outcome) = standing_of (Some outcome)
@@ -97,6 +101,7 @@ abbrev pub IsClosedAt : {A D E : Type 0} → ℕ → List (Row D E A) → ℕ �
 IsClosedAt {A} {D} {E} p rows i = (position (λ r. r.push == p) rows ≡ Some i)
     × ((r : Row D E A) → r ≡ slice_index_or rows i r → is_open r.state ≡ false)
 
+-- how the push ended, by its row
 abbrev pub ending_in : {A D E : Type 0} → State D E A → Option (Outcome D E)
 ending_in (Open staged) = None
 ending_in (Closed outcome) = Some outcome

@@ -44,7 +44,7 @@ pub fn make_call<A: Allocator + Copy>(
 }
 
 /// Makes the calls in order. Each answer is the one that the history of the calls before it tells, for every
-/// history that the book holds. An `Err`, for want of memory for the answers, makes no call.
+/// history that the book holds. An `Err`, for lack of memory for the answers, makes no call.
 pub fn make_calls<A: Allocator + Copy>(
     alloc: A,
     book: &mut Book<A>,

@@ -3,6 +3,7 @@
 //! its places also says what these definitions do, so that none of them can be empty.
 
 ghost use Rattle.std.specs.Prelude.{◌≡◌, ◌≢◌, ◌<◌, ◌≤◌, ◌^◌, ◌++◌, ◌∷◌, ◌&&◌, ◌↔◌, [], ℕ, Bool, List, Some};
+ghost use Rattle.std.specs.Prelude.{◌+◌, Contains, Ok, Option};
 ghost use Rattle.std.specs.Prelude.{Err, IsSome, IsTrue, count_by, length, ◌==◌, true, false};
 ghost use Rattle.std.specs.Prelude.{if◌then◌else◌};
 ghost use Rattle.std.specs.List.{AllByRecursion, range_with_len};
@@ -25,6 +26,11 @@ ghost use Rattle.hg_parts.specs.Repository.{IsLawful};
 ghost use Rattle.hg_repo.specs.declared.done.Done.{Done};
 ghost use Rattle.hg_repo.specs.Run.{HaveBytes};
 ghost use Rattle.hg_push.specs.Book.{Holds};
+ghost use Rattle.hg_push.specs.Calls.{AreAnswers, Course, IsAnswer, after_calls};
+ghost use Rattle.hg_push.specs.declared.calls.Answer.{Answer};
+ghost use Rattle.hg_push.specs.declared.calls.Answer.TheVariants.{Opened, Reply, Stepped};
+ghost use Rattle.hg_push.specs.declared.calls.Call.{Call};
+ghost use Rattle.hg_push.specs.declared.calls.Call.TheVariants.{Open, Step, TakeReply};
 ghost use Rattle.hg_push.specs.Lengths.{greatest_reply, most_parts};
 ghost use Rattle.hg_push.specs.Reply.{CanBeTold, reply_of};
 ghost use Rattle.hg_push.specs.Run.{RepositoryOf, run_push};
@@ -35,7 +41,7 @@ use crate::book::Book;
 use crate::outcome::{Outcome, Reason};
 use hg_repo::laws::{
     done_runs_handle_all, done_runs_leave_few_replies, every_repository_is_lawful,
-    runs_keep_repositories_lawful,
+    refusals_tell_parts_of_a_run, runs_keep_repositories_lawful,
 };
 use hg_stream::laws::bundles_of_bare_parts_are_short;
 use std::alloc::Allocator;
@@ -122,14 +128,17 @@ pub fn closed_pushes_have_a_closing_place<A: Allocator>()
         late ++ x ∷ before ≡ other_late ++ y ∷ other_before → (x ≡ y) × (before ≡ other_before) }
 {}
 
-/// Want of memory is no part's refusal: no run gives it, and so no push is told that its run was refused for
+/// Out of memory is no part's refusal: no run gives it, and so no push is told that its run was refused for
 /// it. Where memory was refused, the push is told `Reason::NoMemory`, and the place that closed it says so.
 pub fn memory_refuses_no_part<A: Allocator>()
     ensures runs { (repo : RepositoryOf A) (ran : List (AnyPart A)) →
         run_push repo ran ≢ Err AnyRefusal.NoMemory }
     ensures outcomes { (first : RepositoryOf A) (p : ℕ) (h : History A) →
         outcome run_push first p h ≢ Some (Outcome.Aborted (Reason.Refused AnyRefusal.NoMemory)) }
-{}
+{
+    // a part's refusal is one that its type can give, and out of memory is none of them
+    refusals_tell_parts_of_a_run::<A>();
+}
 
 /// The reply to a push has fewer than 2^32 bytes, where the push has at most 10,000 parts. A push that is
 /// done left at most one reply for each of its parts, without a payload; that these can be written is what
@@ -267,3 +276,49 @@ pub fn done_had_all_of_its_list<A: Allocator>()
 {
     done_runs_handle_all::<A>();
 }
+
+/// A push that is complete put one item more than it has parts: its end mark. Nothing that it put is a cut.
+pub fn complete_pushes_end_once<A: Allocator>()
+    ensures count { (items : List (Item A)) (ran : List (AnyPart A)) → IsComplete items ran →
+        length items ≡ length ran + 1 }
+    ensures no_cut { (items : List (Item A)) (ran : List (AnyPart A)) (item : Item A) (reason : CutReason) →
+        IsComplete items ran → Contains items item → item.what ≢ Cut reason }
+{}
+
+/// What ran in its turn is a step of the serial run: the push is in the journal, all of which runs one by
+/// one, and at its place it has one answer alone.
+pub fn turns_are_steps_of_the_journal<A: Allocator>()
+    ensures whole { (of : ℕ → List (AnyPart A)) (first last : RepositoryOf A) (journal : List ℕ) (p : ℕ)
+        (done : Done A) → RanInTurn run_push of first journal last p done →
+        OneByOne run_push of first journal last }
+    ensures there { (of : ℕ → List (AnyPart A)) (first last : RepositoryOf A) (journal : List ℕ) (p : ℕ)
+        (done : Done A) → RanInTurn run_push of first journal last p done → Contains journal p }
+    ensures alone { (of : ℕ → List (AnyPart A)) (first last : RepositoryOf A) (journal : List ℕ) (p : ℕ)
+        (done other : Done A) (turn : RanInTurn run_push of first journal last p done)
+        (again : RanInTurn run_push of first journal last p other) → turn.front ≡ again.front →
+        done ≡ other }
+{}
+
+/// What a call of a book may answer: an opening gives the next number, memory is told to be refused only
+/// where it can be, a reply is the outcome of its push, and no call has an answer of another kind. Of a list
+/// of calls there are as many answers, and each is that of its call, after those before it.
+pub fn calls_have_their_answers<A: Allocator>()
+    ensures opened { (first : RepositoryOf A) (c : Course A) (p : ℕ) →
+        IsAnswer run_push first c Open (Opened (Ok p)) → p ≡ c.next }
+    ensures refused { (first : RepositoryOf A) (c : Course A) (item : Item A) →
+        IsAnswer run_push first c (Step item) (Stepped true) → may_refuse c.history item ≡ true }
+    ensures replied { (first : RepositoryOf A) (c : Course A) (p : ℕ)
+        (how : AnyOutcome (Done A) (AnyRefusal A)) →
+        IsAnswer run_push first c (TakeReply p) (Reply (Some how)) →
+        outcome run_push first p c.history ≡ Some how }
+    ensures kinds { (first : RepositoryOf A) (c : Course A) (item : Item A)
+        (reply : Option (AnyOutcome (Done A) (AnyRefusal A))) →
+        ¬ (IsAnswer run_push first c (Step item) (Reply reply)) }
+    ensures as_many { (first : RepositoryOf A) (c : Course A) (calls : List (Call A))
+        (answers : List (Answer (Done A) (AnyRefusal A))) →
+        AreAnswers run_push first c calls answers → length answers ≡ length calls }
+    ensures each { (first : RepositoryOf A) (c : Course A) (before after : List (Call A)) (call : Call A)
+        (told others : List (Answer (Done A) (AnyRefusal A))) (answer : Answer (Done A) (AnyRefusal A)) →
+        AreAnswers run_push first c (before ++ call ∷ after) (told ++ answer ∷ others) →
+        length told ≡ length before → IsAnswer run_push first (after_calls c before told) call answer }
+{}

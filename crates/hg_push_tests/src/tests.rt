@@ -129,7 +129,7 @@ fn tells_race<A: Allocator + Copy>(book: &mut Book<A>, push: u32, at: u32) -> bo
     is_race(&book.take_reply(push), at)
 }
 
-/// Whether the push is told as aborted for want of memory.
+/// Whether the push is told as aborted for lack of memory.
 fn tells_no_memory<A: Allocator + Copy>(book: &mut Book<A>, push: u32) -> bool {
     is_without_memory(&book.take_reply(push))
 }

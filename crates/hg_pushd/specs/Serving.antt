@@ -15,6 +15,7 @@ abbrev pub Begins : {A : Type 0} → Bool → Option Input → Result (Repositor
 Begins publishing None first = first ≡ Ok (empty_repository publishing)
 Begins publishing (Some input) first = (left : Input) × Seeds publishing input left first
 
+-- the status where there is no repository to begin with
 abbrev pub fault_status : SeedFault → ℕ
 fault_status Aborted = 1
 fault_status ReadFailed = 3

@@ -6,7 +6,7 @@ use hg_server::{Door, Terms};
 use std::io;
 use std::net::{TcpListener, TcpStream};
 
-/// Accepts connections to a listener. Behind the last one, and behind one that failed, the listener is
+/// Accepts connections to a listener. After the last one, and after one that failed, the listener is
 /// closed: who comes late is refused at once, and does not wait for a thread that is never there.
 #[derive(Drop)]
 pub struct Listening<'a, R: Print> {

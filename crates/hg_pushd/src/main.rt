@@ -1,7 +1,7 @@
 //! The program `hg_pushd`: pushes onto a repository that is empty at first.
 //!
 //! `hg_pushd one` reads a bundle from standard input, runs it and writes the reply bundle to standard output.
-//! `hg_pushd replay` runs the bundles of files, one behind the other, and writes a report of what the
+//! `hg_pushd replay` runs the bundles of files, one after the other, and writes a report of what the
 //! repository then holds. [`hg_replay::run_one`] and [`hg_replay::run_replay`] are these from any readers to
 //! any writer, proved from the bytes read to the bytes written. `hg_pushd serve` accepts connections and
 //! serves each on a thread: [`serve::serve_on`] is that, from its seed to its report, over `hg_server`. What

@@ -45,7 +45,7 @@ fn is_folder<R: Files<File = File>>(rt: &R, path: &str) -> bool {
     }
 }
 
-/// A text is sent by writes, and one flush behind the last.
+/// A text is sent by writes, and one flush after the last.
 impl Write for Report {
     fn write(&mut self, buf: &[u8]) -> io::Result<usize> {
         self.file.write(buf)

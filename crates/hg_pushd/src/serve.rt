@@ -20,7 +20,7 @@ use std::time::Clock;
 ///
 /// The status is 0 where all were served and the report was written, 1 where the seed was aborted or is no
 /// whole bundle, 3 where a device failed, and 4 where memory was refused; of several, 3 before 4 before 1.
-/// Behind a seed that failed nothing is accepted and no report is written.
+/// After a seed that failed nothing is accepted and no report is written.
 pub fn serve_on<R: Threads + Wait + Clock + Sync, D: Door + Drop, S: Reader, W: Writer>(
     rt: &R,
     alloc: Global,

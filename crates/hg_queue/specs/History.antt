@@ -7,6 +7,7 @@ use Rattle.hg_types.specs.declared.item.What.TheVariants.{Part as a_part, End, C
 use Rattle.hg_types.specs.declared.item.Taken.{Taken}
 
 module _ {A : Type 0} where
+  -- a part, and no mark
   abbrev pub is_part : What A → Bool
   is_part (a_part part) = true
   is_part End = false
@@ -20,6 +21,7 @@ module _ {A : Type 0} where
   abbrev pub items_of : List (Taken A) → List (Item A)
   items_of h = map (λ (e : Taken A). e.item) h
 
+  -- each of the items is a part
   abbrev pub AllParts : List (Item A) → Type 0
   AllParts [] = Unit {0}
   AllParts (x ∷ xs) = (is_part x.what ≡ true) × AllParts xs

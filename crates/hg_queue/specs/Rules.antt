@@ -74,6 +74,7 @@ pub record FitsVisitor {A : Type 0} (w : World A) (port : ℕ) (h : List (Taken 
   pub apart : (p : ℕ) → has p w.noted ≡ true → w.seat p ≢ port
 
 module _ {A : Type 0} where
+  -- the view fits the world, by its role
   abbrev pub Kind : World A → List (Item A) → ℕ → View A → Type 0
   Kind w all port (AsTaker t) = FitsTaker w all port t
   Kind w all port (AsPutter v) = FitsPutter w all port v
@@ -102,6 +103,7 @@ pub record IsSound {A : Type 0} (w : World A) (items : List (Item A)) (seats : �
   pub once : IsDistinct w.joined
 
 module _ {A : Type 0} where
+  -- each view fits the world
   abbrev pub AllFit : World A → List (Item A) → List (View A) → Type 0
   AllFit w all views = (port : ℕ) (v : View A) → get_elem? views port ≡ some v → Fits w all port v
 

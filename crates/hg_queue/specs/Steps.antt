@@ -23,9 +23,11 @@ module _ {A : Type 0} where
     heard = [];
   }
 
+  -- the Taker of a queue whose capacity is not set yet
   abbrev pub unsized : View A
   unsized = AsTaker (fresh 0)
 
+  -- the Taker of a new queue, once its capacity is set
   abbrev pub sized : ℕ → View A → View A
   sized n v = AsTaker (fresh n)
 
@@ -38,6 +40,7 @@ module _ {A : Type 0} where
   noted n (AsTaker t) = AsTaker (record t { noted = n ∷ t.noted })
   noted n v = v
 
+  -- the new seat of a push that a Taker notes: its Putter
   abbrev pub opened : ℕ → View A → View A
   opened n (AsTaker t) = AsPutter (putter t.capacity n)
   opened n v = Spent
@@ -51,6 +54,7 @@ module _ {A : Type 0} where
   abbrev pub claim : PutterView A → Item A → ℕ → Claim A
   claim v x place = record { push = v.push; put = v.put ++ x ∷ []; place = place }
 
+  -- a Putter put its mark, at some place of the queue's list
   abbrev pub Marks : View A → Item A → View A → Type 0
   Marks (AsPutter v) x w = (place : ℕ) × (w ≡ AsMarked (claim v x place))
   Marks v x w = ⊥
@@ -65,6 +69,7 @@ module _ {A : Type 0} where
   settle None refused = []
   settle (Some x) refused = record { item = x; refused = refused } ∷ []
 
+  -- the same, after what was told of the last item
   abbrev pub settled_view : Bool → TakerView A → TakerView A
   settled_view refused t = record t { settled = t.settled ++ settle t.last refused; last = None }
 
@@ -87,6 +92,7 @@ module _ {A : Type 0} where
   settled refused (AsTaker t) = AsTaker (settled_view refused t)
   settled refused v = v
 
+  -- the same, of whichever role the view is
   abbrev pub history_note : Bool → View A → View A
   history_note refused (AsTaker t) = AsVisitor (settled_view refused t).settled
   history_note refused v = Spent

@@ -21,18 +21,22 @@ use Rattle.hg_queue.specs.declared.queue.PartQueue.{PartQueue}
 use Rattle.hg_queue.specs.Steps.{fresh, putter, settle}
 
 module _ {A : Type 0} where
+  -- the view as a Taker's
   abbrev pub taker_of : View A → TakerView A
   taker_of (AsTaker t) = t
   taker_of v = fresh 0
 
+  -- the view as a Putter's
   abbrev pub putter_of : View A → PutterView A
   putter_of (AsPutter v) = v
   putter_of v = putter 0 0
 
+  -- the view as that of a push whose mark was put
   abbrev pub claim_of : View A → Claim A
   claim_of (AsMarked c) = c
   claim_of v = record { push = 0; put = []; place = 0 }
 
+  -- the view as what a Visitor has seen
   abbrev pub seen_of : View A → List (Taken A)
   seen_of (AsVisitor h) = h
   seen_of v = []
@@ -57,13 +61,15 @@ module _ {A : Type 0} where
   abbrev pub history : Taker A → List (Taken A)
   history t = (taker_view t).settled ++ settle (taker_view t).last t.refused
 
-  -- which queue it is, and how many items it holds at most
+  -- which queue it is
   abbrev pub id_of : PartQueue A → TableId
   id_of q = q.ring.table.shared.table_id
 
+  -- how many items it holds at most
   abbrev pub capacity_of : PartQueue A → ℕ
   capacity_of q = ruled_capacity q.ring
 
+  -- the item as it was taken: whether memory was refused for it
   abbrev pub taken : Item A → Bool → Taken A
   taken x refused = record { item = x; refused = refused }
 
@@ -105,14 +111,18 @@ pub record IsVisitorIn {A : Type 0} (id : TableId) (v : Visitor A) : Type 0 wher
   pub role : view v.seat ≡ AsVisitor (seen v)
 
 module _ {A : Type 0} where
+  -- the Taker of this queue
   abbrev pub IsTakerOf : PartQueue A → Taker A → Type 0
   IsTakerOf q t = IsTakerIn (id_of q) (capacity_of q) t
 
+  -- a Putter of this queue
   abbrev pub IsPutterOf : PartQueue A → Putter A → Type 0
   IsPutterOf q p = IsPutterIn (id_of q) (capacity_of q) p
 
+  -- a Marked of this queue
   abbrev pub IsMarkedOf : PartQueue A → Marked A → Type 0
   IsMarkedOf q m = IsMarkedIn (id_of q) m
 
+  -- a Visitor of this queue
   abbrev pub IsVisitorOf : PartQueue A → Visitor A → Type 0
   IsVisitorOf q v = IsVisitorIn (id_of q) v

@@ -329,6 +329,97 @@ fn told_refusals_are_shown(rt: HostRuntime) -> Result<(), Fail> {
     Ok(())
 }
 
+// Takes an item, tells that memory was refused for it, and gives a Visitor a copy of the history, which the
+// Taker then hears.
+fn take_and_copy<R: Wait>(
+    rt: &R,
+    queue: &PartQueue,
+    taker: &mut Taker,
+    visitor: &mut Visitor,
+) -> bool
+    requires { IsTakerOf queue.now taker.old × IsVisitorOf queue.now visitor.old }
+    ensures queue { IsTakerOf queue.now taker.new × IsVisitorOf queue.now visitor.new }
+    ensures seen { IsTrue result → (first : Item Global)
+        × (seen visitor.new ≡ history taker.old ++ taken first true ∷ []) }
+{
+    let Some(_) = queue.take(rt, taker) else {
+        return false;
+    };
+    taker.tell(true);
+    queue.copy_history(taker, visitor);
+    queue.hear(taker, visitor);
+    true
+}
+
+// Two parts are put; memory is told to have been refused for the first, and a Visitor gets a copy of the
+// history. Result: by the contract of `take_and_copy`, the Visitor has seen the first part as refused; the
+// second one comes then, which no copy took.
+#[test]
+fn told_refusals_are_copied(rt: HostRuntime) -> Result<(), Fail> {
+    let alloc = rt.alloc();
+    let (queue, mut taker) = PartQueue::new(alloc, 2)?;
+    let mut putter = putter_of(&queue, &mut taker, 0);
+    let mut visitor = visitor_of(&queue, &mut taker);
+    assert!(rt; queue.try_put(&rt, &mut putter, part(alloc, 5)).is_ok());
+    assert!(rt; queue.try_put(&rt, &mut putter, part(alloc, 6)).is_ok());
+    assert!(rt; take_and_copy(&rt, &queue, &mut taker, &mut visitor));
+    assert_eq!(rt;
+        take_one(&rt, &queue, &mut taker),
+        Some((0, 1, Kind::Part(6)))
+    );
+    let marked = put_mark(&rt, &queue, putter, Mark::End);
+    let visitor = queue.take_in(&mut taker, marked, visitor);
+    queue.dismiss(&mut taker, visitor);
+    Ok(())
+}
+
+// Looks at the queue, hears a Visitor, and gives it a copy of the history.
+fn look_on<A: Allocator>(queue: &PartQueue<A>, taker: &mut Taker<A>, visitor: &mut Visitor<A>)
+    requires { IsTakerOf queue.now taker.old × IsVisitorOf queue.now visitor.old }
+    ensures queue { IsTakerOf queue.now taker.new × IsVisitorOf queue.now visitor.new }
+    ensures seen { seen visitor.new ≡ history taker.old }
+{
+    queue.learn(taker);
+    queue.hear(taker, visitor);
+    queue.copy_history(taker, visitor);
+}
+
+// A queue of two places over a heap, looked on where it is empty, where it is full, between a put that found
+// it full and the next, after the mark and after the last take. Result: each item comes in its order and
+// once, a put finds room where there is some and none where there is none, and no memory is taken.
+#[test]
+fn looking_on_takes_nothing(rt: HostRuntime) -> Result<(), Fail> {
+    let heap = LocalHeap::new(rt.alloc(), 4_096)?;
+    let (queue, mut taker) = PartQueue::new(&heap, 2)?;
+    let made = heap.used();
+    let mut visitor = visitor_of(&queue, &mut taker);
+    let mut putter = putter_of(&queue, &mut taker, 3);
+    look_on(&queue, &mut taker, &mut visitor);
+    assert_eq!(rt; take_one(&rt, &queue, &mut taker), None);
+    assert!(rt; queue.try_put(&rt, &mut putter, part(&heap, 0)).is_ok());
+    assert!(rt; queue.try_put(&rt, &mut putter, part(&heap, 1)).is_ok());
+    look_on(&queue, &mut taker, &mut visitor);
+    assert!(rt; queue.try_put(&rt, &mut putter, part(&heap, 2)).is_err());
+    assert_eq!(rt;
+        take_one(&rt, &queue, &mut taker),
+        Some((3, 0, Kind::Part(0)))
+    );
+    look_on(&queue, &mut taker, &mut visitor);
+    let marked = put_mark(&rt, &queue, putter, Mark::End);
+    look_on(&queue, &mut taker, &mut visitor);
+    assert_eq!(rt;
+        take_one(&rt, &queue, &mut taker),
+        Some((3, 1, Kind::Part(1)))
+    );
+    assert_eq!(rt; take_one(&rt, &queue, &mut taker), Some((3, 2, Kind::End)));
+    look_on(&queue, &mut taker, &mut visitor);
+    assert_eq!(rt; take_one(&rt, &queue, &mut taker), None);
+    let visitor = queue.take_in(&mut taker, marked, visitor);
+    queue.dismiss(&mut taker, visitor);
+    assert_eq!(rt; heap.used(), made);
+    Ok(())
+}
+
 // Takes an item, and tells that memory was refused for it.
 fn take_refused<A: Allocator, R: Wait>(rt: &R, queue: &PartQueue<A>, taker: &mut Taker<A>) -> bool
     requires { IsTakerOf queue.now taker.old }

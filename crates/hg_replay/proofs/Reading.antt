@@ -159,7 +159,7 @@ pub fed_nothing : {A : Type 0} (u : Unbundler A) (bytes : List ℕ) → Holds u 
     → Holds u [] (bytes ++ [])
 fed_nothing u bytes holds = subst (λ (l : List ℕ). Holds u [] l) (sym (append-nil bytes)) holds
 
--- a reader that was fed has failed by a fault of its bytes, or by want of memory
+-- a reader that was fed has failed by a fault of its bytes, or by a lack of memory
 pub is_not_truncated : {A : Type 0} (fault : StreamFault) (result : Result ℕ StreamFault) (v : Unbundler A)
     → IfOk result (λ n. (f : StreamFault) → state_of v ≢ stream_failed f)
     → IfErr result (λ f. state_of v ≡ stream_failed f) → result ≢ Err Truncated

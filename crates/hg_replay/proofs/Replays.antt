@@ -22,7 +22,7 @@ use Rattle.hg_repo.specs.Report.{report_of}
 use Rattle.hg_replay.specs.Replaying.{AreReplayed, IsPlayed, NotOpened, Plays, PlaysOne, Ran, Replay, Replayed}
 use Rattle.hg_replay.specs.Replaying.{count_run, first_told, is_told, replay_status, sending_status}
 
--- behind these pushes, one more
+-- after these pushes, one more
 pub one_more : {A : Type 0} (first : RepositoryOf A) (number at : ℕ) (before mid after : History A)
     (inputs lefts : List Input) (replays : List (Replay A)) (input left : Input) (replay : Replay A)
     → at ≡ number + count_run replays → AreReplayed first number before inputs lefts replays mid
@@ -224,7 +224,7 @@ reader_played {A} {T} told inputs readers at reader after old mid new status one
     (slot_played inputs (map told readers) at (told reader) (told after) old mid new status one within same p
     q))
 
--- the report was sent behind them
+-- the report was sent after them
 pub replays : {A : Type 0} (publishing : Bool) (inputs lefts : List Input) (output output_after : Output)
     (old new : BookOf A) (repo : RepositoryOf A) (status sent_as both : ℕ) (sending : Sending) → old.next ≡ 0
     → Plays {A = A} (empty_repository publishing) [] inputs lefts old new status → repo ≡ new.repo

@@ -29,11 +29,13 @@ empty_repository publishing =
 abbrev pub IsSentTo : Sending → Output → Output → List ℕ → Type 0
 IsSentTo sending before after reply = (count : ℕ) × Sends sending count before after reply
 
+-- the status of a push that ended so
 abbrev pub outcome_status : {A : Type 0} → Outcome (Done A) (Refusal A) → ℕ
 outcome_status (done_with done) = 0
 outcome_status (Aborted without_memory) = 4
 outcome_status (Aborted reason) = 1
 
+-- the status of a push whose reply was sent so
 abbrev pub sent_status : {A : Type 0} → Sending → Outcome (Done A) (Refusal A) → ℕ
 sent_status sent_whole how = outcome_status how
 sent_status Broken how = 3

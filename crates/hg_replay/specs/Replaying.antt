@@ -1,4 +1,4 @@
--- What is replayed: pushes from readers, one behind the other, and the report of the repository that they
+-- What is replayed: pushes from readers, one after the other, and the report of the repository that they
 -- give.
 use Rattle.std.specs.Prelude.{ℕ, Bool, ◌≡◌, ◌==◌, ◌+◌, ⊤, List, [], ◌∷◌, ◌++◌, map, if◌then◌else◌}
 use Rattle.std.specs.List.{list_any}
@@ -24,7 +24,7 @@ pub data Replay (A : Type 0) : Type 0 where
   Ran : Ending → List (Part A) → Outcome (Done A) (Refusal A) → Replay A
   NotOpened : Replay A
 
--- The readers gave these pushes, in their order: each was received from its reader and run behind the history
+-- The readers gave these pushes, in their order: each was received from its reader and run after the history
 -- of those before it, with the next number. The last history is that of all that ran.
 abbrev pub AreReplayed : {A : Type 0} → RepositoryOf A → ℕ → History A → List Input → List Input →
     List (Replay A) → History A → Type 0
@@ -48,11 +48,13 @@ abbrev pub replay_status : {A : Type 0} → Replay A → ℕ
 replay_status (Ran ending parts how) = status_of ending how sent_whole
 replay_status NotOpened = 4
 
+-- the status of a report that was sent so
 abbrev pub sending_status : Sending → ℕ
 sending_status sent_whole = 0
 sending_status Broken = 3
 sending_status NoMemory = 4
 
+-- the status is among these
 abbrev pub is_told : ℕ → List ℕ → Bool
 is_told status statuses = list_any (λ s. s == status) statuses
 
@@ -88,7 +90,7 @@ pub record PlaysOne {A : Type 0} (input left : Input) (old new : BookOf A) (stat
   pub played : IsPlayed input left old new replay
   pub status_is : status ≡ replay_status replay
 
--- The pushes of these readers were replayed on an idle book, behind that history, and this is the status that
+-- The pushes of these readers were replayed on an idle book, after that history, and this is the status that
 -- is told of them.
 pub record Plays {A : Type 0} (first : RepositoryOf A) (before : History A) (inputs lefts : List Input)
     (old new : BookOf A) (status : ℕ) : Type 0 where

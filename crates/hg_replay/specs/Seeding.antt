@@ -25,7 +25,7 @@ ending_fault (Fault stream_without_memory) = Some NoMemory
 ending_fault (Fault fault) = Some Aborted
 ending_fault InputEnded = Some Aborted
 
--- why a seed that was refused so is none: for want of memory, or by its parts
+-- why a seed that was refused so is none: for lack of memory, or by its parts
 abbrev pub IsRefused : {A : Type 0} → Refusal A → SeedFault → Type 0
 IsRefused refusal Aborted = refusal ≢ without_memory
 IsRefused refusal read_failed = ⊥

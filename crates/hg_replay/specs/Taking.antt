@@ -1,4 +1,4 @@
--- What a book has taken of one push, behind what it took before.
+-- What a book has taken of one push, after what it took before.
 use Rattle.std.specs.Prelude.{ℕ, ◌≡◌, ◌+◌, true, List, [], ◌∷◌, ◌++◌, map, Some}
 use Rattle.hg_types.specs.Limits.{standard_limits}
 use Rattle.hg_types.specs.declared.part.Part.{Part}
@@ -15,10 +15,11 @@ use Rattle.hg_devices.specs.Devices.{Input}
 use Rattle.hg_replay.specs.declared.ending.Ending.{Ending}
 use Rattle.hg_replay.specs.Receiving.{Received, items_of, mark_of}
 
+-- a book of pushes to a repository
 abbrev pub BookOf : Type 0 → Type 0
 BookOf A = Book A (RepositoryOf A) (Done A) (Refusal A)
 
--- The book, over that first repository, has taken these items behind the history before, and has a row for
+-- The book, over that first repository, has taken these items after the history before, and has a row for
 -- that push and no other.
 pub record HasTaken {A : Type 0} (first : RepositoryOf A) (before : History A) (push : ℕ) (book : BookOf A)
     (items : List (Item A)) : Type 0 where
@@ -28,7 +29,7 @@ pub record HasTaken {A : Type 0} (first : RepositoryOf A) (before : History A) (
   pub opened : is_opened book push ≡ true
   pub rows : map (λ r. r.push) book.rows ≡ push ∷ []
 
--- Behind that history these items of a push were taken, over that first repository. They end the push so, in
+-- After that history these items of a push were taken, over that first repository. They end the push so, in
 -- a way that can be told.
 pub record Ends {A : Type 0} (first : RepositoryOf A) (before : History A) (push : ℕ) (items : List (Item A))
     (how : Outcome (Done A) (Refusal A)) : Type 0 where
@@ -43,7 +44,7 @@ pub record IsIdle {A : Type 0} (first : RepositoryOf A) (history : History A) (b
   pub holds : Holds run_push first history book
   pub rows : book.rows ≡ []
 
--- The push ended so, and the book is idle behind it.
+-- The push ended so, and the book is idle after it.
 pub record Leaves {A : Type 0} (first : RepositoryOf A) (before : History A) (push : ℕ)
     (items : List (Item A))
     (how : Outcome (Done A) (Refusal A)) (book : BookOf A) : Type 0 where

@@ -1,4 +1,4 @@
-//! Pushes from any readers, replayed one behind the other, and the report of what they give, to any writer.
+//! Pushes from any readers, replayed one after the other, and the report of what they give, to any writer.
 
 ghost use Rattle.std.specs.Prelude.{◌≡◌, map};
 ghost use Rattle.hg_push.specs.History.{History};
@@ -21,7 +21,7 @@ use std::hash::RandomState;
 /// A push that is aborted changes nothing, and the next one follows: also where its reader failed, or where
 /// memory was refused for it. The status is 0 where all are done and the report was written, 1 where one was
 /// aborted, 3 where a reader or the writer failed, and 4 where memory was refused; of several, 3 before 4
-/// before 1. A push that has no number left, behind 4,294,967,295 others, counts as one that memory was
+/// before 1. A push that has no number left, after 4,294,967,295 others, counts as one that memory was
 /// refused for. The state is to be random.
 pub fn run_replay<A: Allocator + Copy, R: Reader, W: Writer>(
     alloc: A,

@@ -20,7 +20,7 @@ use std::hash::RandomState;
 ///
 /// The status is 0 where the push is done, 1 where it was aborted, 3 where the reader or the writer failed,
 /// and 4 where memory was refused; of several, 3 before 4 before 1. A write that takes nothing is a failed
-/// one. Bytes behind the end mark may have been read and are dropped. Nothing is read or written where memory
+/// one. Bytes after the end mark may have been read and are dropped. Nothing is read or written where memory
 /// is refused before. The reply has fewer than 2^32 bytes. The state hashes what strangers chose, so it is to
 /// be random.
 pub fn run_one<A: Allocator + Copy, R: Reader, W: Writer>(

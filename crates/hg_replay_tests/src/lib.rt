@@ -2,7 +2,7 @@
 //!
 //! All run through `run_one`, from a reader to a writer in memory. Where nothing else is said, the
 //! input is read at once, byte by byte and in pieces of three bytes, and the reads are counted:
-//! none is made behind the end mark or a fault, and one at the end of an input that is cut short.
+//! none is made after the end mark or a fault, and one at the end of an input that is cut short.
 //!
 //! These run through `run_replay`, from readers to a writer in memory. The changeset is the one of
 //! the empty text, `b80de5d138758541c5f05265ad144ab9fa86d1db`, written A; a push of it is

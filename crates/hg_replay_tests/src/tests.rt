@@ -5,6 +5,7 @@ mod large;
 mod memory;
 mod replay;
 mod seeds;
+mod sending;
 mod telling;
 mod uses;
 

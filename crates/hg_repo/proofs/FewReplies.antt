@@ -23,7 +23,7 @@ module _ {A : Type 0} where
   abbrev pub AreBare : List (Part A) → Type 0
   AreBare replies = All (λ reply. reply.payload ≡ []) replies
 
-  -- so many replies came behind the old ones at most, and none of them has a payload
+  -- so many replies came after the old ones at most, and none of them has a payload
   pub record Adds (count : ℕ) (old new : List (Part A)) : Type 0 where
     pub few : length new ≤ length old + count
     pub bare : AreBare old → AreBare new

@@ -49,7 +49,7 @@ item_more f before now next xs i x here so more =
     ∙ flat_map_more f before (take i xs) x
     ∙ ap (λ ys. before ++ flat_map f ys) (sym last)
 
--- three pieces behind nothing
+-- three pieces after nothing
 pub three_pieces : (none one two three xs ys zs : List ℕ)
     → none ≡ [] → one ≡ none ++ xs → two ≡ one ++ ys → three ≡ two ++ zs → three ≡ xs ++ (ys ++ zs)
 three_pieces none one two three xs ys zs empty first second third =

@@ -18,7 +18,7 @@ PartsTell A = (source : Source) (repo : Repository A) (replying : Bool) (place :
     → CanBeRefused place (support_of part) refusal
 
 module _ {A : Type 0} (tell : PartsTell A) (source : Source) where
-  -- the refusal is that of a part so many places behind this one
+  -- the refusal is that of a part so many places after this one
   pub record IsRefusedFrom (place : ℕ) (parts : List (Part A)) (refusal : Refusal A) : Type 0 where
     pub behind : ℕ
     pub part : Part A

@@ -14,7 +14,7 @@ use Rattle.hg_obs.specs.Marker.{marker_bytes}
 use Rattle.hg_parts.specs.Repository.{Repository}
 use Rattle.hg_repo.specs.Reading.{is_obsolete}
 
--- words with a space before each, and a line feed behind the last
+-- words with a space before each, and a line feed after the last
 abbrev pub ended : List (List ℕ) → List ℕ
 ended [] = 10 ∷ []
 ended (word ∷ words) = 32 ∷ (word ++ ended words)
@@ -23,6 +23,7 @@ ended (word ∷ words) = 32 ∷ (word ++ ended words)
 abbrev pub line : List ℕ → List (List ℕ) → List ℕ
 line letter words = letter ++ ended words
 
+-- the digit 1 for yes, 0 for no
 abbrev pub digit_of : Bool → List ℕ
 digit_of true = codes "1"
 digit_of false = codes "0"
@@ -40,6 +41,7 @@ changeset_line repo rev = line (codes "C") (
 abbrev pub escaped_byte : ℕ → List ℕ
 escaped_byte byte = if is_ascii_alphanumeric byte then byte ∷ [] else percent_encode_byte byte
 
+-- a name with each byte escaped that is no ASCII letter or digit
 abbrev pub escaped : List ℕ → List ℕ
 escaped name = flat_map escaped_byte name
 

@@ -20,6 +20,7 @@ pub record Progress (A : Type 0) : Type 0 where
   pub replying : Bool
   pub replies : List (Part A)
 
+-- no part was run yet
 abbrev pub start : {A : Type 0} → Repository A → Progress A
 start repo = record { repo = repo; replying = false; replies = [] }
 
@@ -48,6 +49,7 @@ run_from source place progress (part ∷ parts) =
     and_then (handle source progress.repo progress.replying place part)
     (λ given. run_from source (place + 1) (progress_after progress part given) parts)
 
+-- the end of a run: done, with the repository and the replies, or refused
 abbrev pub done_by : {A : Type 0} → ℕ → Result (Progress A) (Refusal A) →
     Result (Repository A × Done A) (Refusal A)
 done_by count (Ok progress) =

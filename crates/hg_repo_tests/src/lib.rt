@@ -53,9 +53,9 @@
 //! - names as bytes: A, and bookmarks `c3 a9 "/~9z"`, `Zo`, `a b`, the empty name on Z, `"%" 0a`.
 //!   Report: `C 0 A 1 0`, `B Z ` with an empty name, `B A %25%0A`, `B A Zo`, `B A a%20b`, `B A
 //!   %C3%A9%2F%7E9z`.
-//! - races behind a change: A; then B and `CHECK:HEADS` with Z, a phase and `CHECK:PHASES`, a
+//! - races after a change: A; then B and `CHECK:HEADS` with Z, a phase and `CHECK:PHASES`, a
 //!   bookmark and `CHECK:BOOKMARKS`: the three races, at place 1. Report: `C 0 A 1 0`.
-//! - refusals behind a change: A; then a marker and `FROB`; B and `PUSHKEY` bookmarks on an unknown
+//! - refusals after a change: A; then a marker and `FROB`; B and `PUSHKEY` bookmarks on an unknown
 //!   id; B and `CHECK:HEADS` with a byte; a marker, B and A under a wrong id; a bookmark and
 //!   `PHASE-HEADS` on an unknown id; a phase and `ERROR:ABORT`: the refusals 1, 3, 4, 5, 6 and 7,
 //!   at the last place. Report: `C 0 A 1 0`.
@@ -81,7 +81,7 @@
 //! - file content is dropped (9,500 bytes): `CHANGEGROUP` 02 with the root changeset and a file of
 //!   8,000 bytes. Report: prepared: less than 1,000 bytes are kept.
 //! - each growth of a preparation refused (heaps of 16 to 2,032 bytes): that `CHANGEGROUP`. Report:
-//!   want of memory, or a prepared part; both occur.
+//!   out of memory, or a prepared part; both occur.
 //! - `hg_repo`, `hg_push`: a push of 10,000 parts, of which all but the first leave a reply; 5,000
 //!   changesets, bookmarks and markers, their heads, their report and a copy; 10,000 pushes done
 //!   one after another, and 20,000 calls; replies with the longest texts.

@@ -356,7 +356,7 @@ fn takes_none(example: Example) -> bool {
     )
 }
 
-// Each growth is refused in turn: the answer, or want of memory, and no third. An example whose run takes no
+// Each growth is refused in turn: the answer, or out of memory, and no third. An example whose run takes no
 // memory meets none.
 #[test]
 fn memory_refused_in_turn(rt: HostRuntime) -> Result<(), Fail> {

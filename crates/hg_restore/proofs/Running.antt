@@ -1,4 +1,4 @@
--- How records run one behind the other.
+-- How records run one after the other.
 use Rattle.std.proofs.Common.{◌≡◌, ℕ, List, [], ◌∷◌, ◌++◌, Ok, Result, refl, sym, ap, ◌∙◌, subst, take, get_or, length, ◌+◌, ◌<◌}
 use Rattle.std.proofs.Common.{◌≢◌, ◌⊎◌, inl, inr, Err}
 use Rattle.std.proofs.lemmas.Grind.{take_at_read}

@@ -1,4 +1,4 @@
-//! The records of a store, run: each is a bundle, and they are run as pushes, one behind the other.
+//! The records of a store, run: each is a bundle, and they are run as pushes, one after the other.
 //!
 //! [`replay_records`] runs them on a repository. [`laws`] says that the repository is determined by the
 //! records, that a front of them gives the repository of the first pushes, and **recovery**: any front of a

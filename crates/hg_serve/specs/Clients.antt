@@ -46,6 +46,7 @@ abbrev pub with_part : {A : Type 0} → SenderView A → Part A → SenderView A
 with_part s part =
     record s { putter = record s.putter { put = s.putter.put ++ next_item s.putter (a_part part) ∷ [] } }
 
+-- the same, after one more put that found the queue full
 abbrev pub with_full : {A : Type 0} → SenderView A → SenderView A
 with_full s = record s { putter = record s.putter { fulls = s.putter.fulls + 1 } }
 

@@ -35,6 +35,7 @@ pub record Begins {A : Type 0} (id : TableId) (capacity : ℕ) (first : Reposito
   pub named : repo ≡ first
   pub allowed : IsAllowed repo.settings.limits
 
+-- a book of pushes to a repository
 abbrev pub BookOf : Type 0 → Type 0
 BookOf A = Book A (RepositoryOf A) (Done A) (Refusal A)
 
@@ -53,6 +54,7 @@ pub record DeskView (A : Type 0) : Type 0 where
   -- a number that is opened and has no Putter yet
   pub kept : Option ℕ
 
+-- what contracts see of a desk: the history, what its taker knows, the rows of its book
 abbrev pub desk_view : {A : Type 0} → BookOf A → Taker A → Option ℕ → DeskView A
 desk_view b t kept = record {
   history = history t;
@@ -80,10 +82,12 @@ abbrev pub next_of : Option ℕ → ℕ → ℕ
 next_of None next = next
 next_of (Some n) next = n
 
+-- the next number, after an opening that takes a row that was kept or a new one
 abbrev pub next_after : Option ℕ → ℕ → ℕ
 next_after None next = next + 1
 next_after (Some n) next = next
 
+-- the rows after an opening that takes a row that was kept or a new one
 abbrev pub rows_after : Option ℕ → ℕ → List ℕ → List ℕ
 rows_after None n rows = rows ++ n ∷ []
 rows_after (Some kept) n rows = rows

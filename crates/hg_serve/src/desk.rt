@@ -19,6 +19,7 @@ ghost use Rattle.hg_serve.specs.Answers.{Answers, Looks};
 ghost use Rattle.hg_serve.specs.Desks.{IsQueueIn, IsSameBut, IsKnown, Awaits, HasNoRoom, HasNoNumber};
 ghost use Rattle.hg_serve.specs.Desks.{next_of, keeping, seating};
 
+mod looking;
 mod meeting;
 
 use crate::client::{Client, Ended};

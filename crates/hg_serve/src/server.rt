@@ -13,6 +13,7 @@ ghost use Rattle.hg_serve.specs.Clients.{GoesOn, Adds, Ends, TriesPut};
 ghost use Rattle.hg_serve.specs.Desks.{Begins};
 ghost use Rattle.hg_serve.specs.Histories.{serial_run};
 
+mod looking;
 mod meeting;
 
 use crate::client::{Client, Ended, Sender};

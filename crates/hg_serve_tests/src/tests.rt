@@ -8,6 +8,7 @@ ghost use Rattle.hg_serve.specs.Desks.{Begins};
 mod bound;
 mod limits;
 mod locked;
+mod looking;
 mod meanwhile;
 mod memory;
 mod order;
@@ -145,6 +146,7 @@ enum Scene {
     TakesOne,
     PutsMeanwhile,
     Threads,
+    Looks,
 }
 
 /// Plays on a server of that name, and closes it.
@@ -173,6 +175,7 @@ fn play<J: Naming<Global> + Send + Sync, R: Threads + Wait + Abort + Sync>(
         Scene::TakesOne => bound::takes(rt, alloc, &server, 1, 0, 1),
         Scene::PutsMeanwhile => bound::puts_meanwhile(rt, alloc, &server),
         Scene::Threads => threads::pushes(rt, alloc, &server),
+        Scene::Looks => looking::looks(rt, alloc, &server),
     };
     server.close(clients)
 }

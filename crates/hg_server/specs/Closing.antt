@@ -21,7 +21,7 @@ use Rattle.hg_server.specs.Doors.{AsksFor, DoorUse, Ended, IsBounded}
 abbrev pub journal_line : ℕ → List ℕ
 journal_line push = codes "J " ++ decimal push ++ codes "\n"
 
--- The report of the repository, and behind it a line for each push of the journal, in its order.
+-- The report of the repository, and after it a line for each push of the journal, in its order.
 abbrev pub closing_text : {A : Type 0} → Repository A → List ℕ → List ℕ
 closing_text repo journal = report_of repo ++ flat_map journal_line journal
 
@@ -64,7 +64,7 @@ pub record Closes {A : Type 0} (first : Repository A) (terms : Terms) (door shut
   pub queue : IsTakerIn table terms.capacity taker
   pub taken : taken_by taker ≡ history
 
--- A service on these terms ended: nothing began, for want of memory, or it was closed.
+-- A service on these terms ended: nothing began, for lack of memory, or it was closed.
 abbrev pub EndsOn : {A : Type 0} → Repository A → Terms → Option (List DoorUse) → Option (List DoorUse) →
     Output → Output → ℕ → Type 0
 EndsOn first terms door shut before after status = ((status ≡ 4) × (shut ≡ door) × (after ≡ before))

@@ -43,7 +43,7 @@ abbrev pub EndsAt : Terms → Bool → ℕ → List DoorUse → Type 0
 EndsAt terms false count last = (count ≡ terms.connections) × (last ≡ [])
 EndsAt terms true count last = (count < terms.connections) × Fails terms last
 
--- A door was asked for the connections of a service of these terms, one after another, and behind one that
+-- A door was asked for the connections of a service of these terms, one after another, and after one that
 -- failed no more.
 pub record AsksFor (terms : Terms) (failed : Bool) (uses : List DoorUse) : Type 0 where
   pub count : ℕ

@@ -10,7 +10,7 @@ use hg_repo::Repo;
 use hg_types::NoMemory;
 use std::alloc::Allocator;
 
-/// Writes the report of the repository, and behind it a line `J n` for each push of the journal. Says what
+/// Writes the report of the repository, and after it a line `J n` for each push of the journal. Says what
 /// became of it, and how many bytes the writer took.
 pub fn tell_closing<A: Allocator + Copy, W: Writer>(
     alloc: A,

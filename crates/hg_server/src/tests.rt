@@ -15,20 +15,20 @@
 //! - a root changeset, and again: the root changeset's push on one connection, and then on another.
 //!   Replies, and what the report holds: both times `return` 1, 67 bytes; `C 0 b80de5d1.. 1 0`, `J
 //!   0`, `J 1`.
-//! - bundles behind each other: the empty bundle and twice the root changeset, whole, in two
+//! - bundles after each other: the empty bundle and twice the root changeset, whole, in two
 //!   pieces, byte by byte; three bundles may be sent. Replies, and what the report holds: 12 + 67 +
 //!   67 bytes; `J 0`, `J 1`, `J 2`.
 //! - two of three: the same, where two may be sent. Replies, and what the report holds: 79 bytes;
 //!   `J 0`, `J 1`.
 //! - a race, and then a first push: a push that is raced, and one that is done. Replies, and what
 //!   the report holds: 64 + 12 bytes; `J 1`.
-//! - a bundle cut short behind another: the empty bundle and `HG20` and a byte. Replies, and what
+//! - a bundle cut short after another: the empty bundle and `HG20` and a byte. Replies, and what
 //!   the report holds: 12 bytes, and 62 of `stream fault 10`; `J 0`.
 //! - a wrong hash, and then the right one. Replies, and what the report holds: 75 + 67 bytes; the
 //!   changeset, `J 1`.
 //! - cut short; of another kind: 3 and 11 bytes of a push, none, `HG10`. Replies, and what the
 //!   report holds: `stream fault 10`, `stream fault 1`; nothing.
-//! - bytes behind the last bundle: the empty bundle and five more bytes. Replies, and what the
+//! - bytes after the last bundle: the empty bundle and five more bytes. Replies, and what the
 //!   report holds: 12 bytes; `J 0`.
 //! - a seed: the root changeset as the seed, and an empty push. Replies, and what the report holds:
 //!   the changeset, `J 0`.

@@ -12,7 +12,7 @@ use Rattle.hg_store.specs.Log.{at_rest, ungated, IsBeforeOrAfter}
 use Rattle.hg_store.specs.Records.{IsRecord, frames, shut}
 use Rattle.hg_store.proofs.Frames.{stored-append, each-append}
 
--- a shut gate ends the records, whatever stands behind it
+-- a shut gate ends the records, whatever stands after it
 pub closed_store : (head : Head) (records : List (List ℕ)) (more : List ℕ) → IsAllowed head.limits
     → AllByRecursion IsRecord records → IsStore (stored head records ++ 0 ∷ more) head records (0 ∷ more)
 closed_store head records more allowed each = record {
@@ -43,7 +43,7 @@ gated before (r ∷ rs) some = refl
 module _ (head : Head) (records batch : List (List ℕ)) (allowed : IsAllowed head.limits)
     (each : AllByRecursion IsRecord records) (others : AllByRecursion IsRecord batch)
     (some : 0 < length batch) where
-  -- the file with a batch behind the shut gate
+  -- the file with a batch after the shut gate
   abbrev pub staged : List ℕ
   staged = stored head records ++ 0 ∷ ungated (digest_behind head records) batch
 
@@ -86,7 +86,7 @@ module _ (head : Head) (records batch : List (List ℕ)) (allowed : IsAllowed he
   back = ap (drop (length (stored head records) + 1)) staged_split
       ∙ drop_at (at_rest head records) (ungated (digest_behind head records) batch) _ length-at_rest
 
-  -- with its gate open, the batch stands behind the records
+  -- with its gate open, the batch stands after the records
   opened : stored head records ++ 1 ∷ ungated (digest_behind head records) batch
       ≡ at_rest head (records ++ batch)
   opened =

@@ -46,7 +46,7 @@ pub frame_fields : (before r x : List ℕ) → frame before r ++ x ≡ 1 ∷ siz
 frame_fields before r x =
     ap (λ (l : List ℕ). 1 ∷ size_bytes (length r) ++ l) (append_assoc (digest_of before r) r x)
 
--- behind the open gate
+-- after the open gate
 behind : (a b : ℕ) (x y : List ℕ) → a ∷ x ≡ b ∷ y → x ≡ y
 behind a b x y same = ap (drop 1) same
 
@@ -81,7 +81,7 @@ pub each-push : (rs : List (List ℕ)) (r : List ℕ) → AllByRecursion IsRecor
 each-push [] r each is = (is, tt)
 each-push (q ∷ rs) r each is = (each.0, each-push rs r each.1 is)
 
--- records behind others
+-- records after others
 pub frames-append : (before : List ℕ) (rs more : List (List ℕ)) → frames before (rs ++ more)
     ≡ frames before rs ++ frames (last_digest before rs) more
 frames-append before [] more = refl
@@ -115,7 +115,7 @@ batch_more before batch i bytes grown digest next r lt is bytes_are digest_is ne
           ∙ ap (last_digest before) (sym e),
     )
 
--- records of a store, with others behind them
+-- records of a store, with others after them
 pub stored-append : (head : Head) (rs more : List (List ℕ)) → stored head (rs ++ more)
     ≡ stored head rs ++ frames (digest_behind head rs) more
 stored-append head rs more =

@@ -44,7 +44,7 @@ shut_end : (n : ℕ) → IsEnd (take n (0 ∷ []))
 shut_end zero = over refl
 shut_end (suc n) = shut (take n []) refl
 
--- behind whole records
+-- after whole records
 take_behind : (n m : ℕ) (xs ys : List ℕ) → n ≡ length xs + m → take n (xs ++ ys) ≡ xs ++ take m ys
 take_behind n m [] ys is = let e : n ≡ m = omega (arith, is) in ap (λ (k : ℕ). take k ys) e
 take_behind zero m (x ∷ xs) ys is = absurd (omega (arith, is))

@@ -55,7 +55,7 @@ pub publishing_small : (a : Bool) → publishing_byte a ≤ 1
 publishing_small false = omega arith
 publishing_small true = omega arith
 
--- behind the version
+-- after the version
 behind_version : (a b : ℕ) (x y : List ℕ) → magic ++ 1 ∷ a ∷ x ≡ magic ++ 1 ∷ b ∷ y → (a ≡ b) × (x ≡ y)
 behind_version a b x y same =
     let behind : a ∷ x ≡ b ∷ y = ap (drop 9) same in
@@ -98,7 +98,7 @@ one_head_lem file head has = record {
         (limits_bytes head.limits ++ has.0) (sym bad.spelled ∙ has.1.spelled) in
         bad.bad head.limits has.0 both.1 has.1.allowed
 
--- seven numbers, one behind the other
+-- seven numbers, one after the other
 pub limits_read : (limits : Limits) (a b c d e f g h : List ℕ) → a ≡ limit_bytes limits.params ++ b
     → b ≡ limit_bytes limits.payload ++ c → c ≡ limit_bytes limits.stream ++ d → d ≡ limit_bytes limits.parts ++ e
     → e ≡ limit_bytes limits.text ++ f → f ≡ limit_bytes limits.rows ++ g

@@ -16,7 +16,7 @@ module _ {D : Type 0} (moment : D → ℕ) (left_since : D → ℕ → List ℕ 
     before = λ t c le left. ⊎_elim (so_far.before t c le) (λ now. inr (here c now)) (time.nothing_else t c (omega (arith, le, so_far.later)) left);
   }
 
-  -- one run behind another
+  -- one run after another
   pub one_behind : (old mid new : D) (P Q R : List ℕ → Type 0) → LeavesOnly moment left_since old mid P
       → LeavesOnly moment left_since mid new Q → ((c : List ℕ) → P c → R c) → ((c : List ℕ) → Q c → R c)
       → LeavesOnly moment left_since old new R

@@ -11,7 +11,7 @@ use Rattle.hg_store.specs.Head.{HasHead, first_digest, head_bytes}
 use Rattle.hg_store.proofs.Heads.{length-head}
 use Rattle.hg_store.proofs.Frames.{frames-push, last_digest-push, each-push, length-frame}
 
--- The bytes of a file are these records and a rest, whose first record would stand behind that digest.
+-- The bytes of a file are these records and a rest, whose first record would stand after that digest.
 pub record HasRead (start file : List ℕ) (records : List (List ℕ)) (digest rest : List ℕ) : Type 0 where
   pub each : AllByRecursion IsRecord records
   pub spelled : file ≡ frames start records ++ rest
@@ -82,7 +82,7 @@ drop_past n m [] ys is = let e : n ≡ m = omega (arith, is) in ap (λ (k : ℕ)
 drop_past zero m (x ∷ xs) ys is = absurd (omega (arith, is))
 drop_past (suc n) m (x ∷ xs) ys is = drop_past n m xs ys (omega (arith, is))
 
--- behind the head that a file was read to have
+-- after the head that a file was read to have
 module _ (file : List ℕ) (head : Head) (has : HasHead file head) where
   pub behind_head : drop 38 file ≡ has.0
   behind_head = ap (drop 38) has.1.spelled

@@ -7,11 +7,11 @@ use Rattle.hg_store.specs.declared.read.ReadFault.TheVariants.{Head as HasNoHead
 use Rattle.hg_store.specs.Head.{BeginsWith, IsRefusedFor, first_digest, head_bytes}
 use Rattle.hg_store.specs.Records.{IsDamaged, IsEnd, IsRecord, IsTorn, Reads, frames, last_digest}
 
--- a head, and records behind it
+-- a head, and records after it
 abbrev pub stored : Head → List (List ℕ) → List ℕ
 stored head records = head_bytes head ++ frames (first_digest head) records
 
--- the digest behind which the next record would stand
+-- the digest after which the next record would stand
 abbrev pub digest_behind : Head → List (List ℕ) → List ℕ
 digest_behind head records = last_digest (first_digest head) records
 
@@ -21,7 +21,7 @@ pub record IsStore (file : List ℕ) (head : Head) (records : List (List ℕ)) (
   pub begins : BeginsWith file head behind
   pub reads : Reads (first_digest head) behind records tail
 
--- the file stands for these records: it is not torn behind them
+-- the file stands for these records: it is not torn after them
 abbrev pub StandsFor : Head → List (List ℕ) → List ℕ → Type 0
 StandsFor head records file = (tail : List ℕ) × IsStore file head records tail × IsEnd tail
 
@@ -30,7 +30,7 @@ pub record EndsAt (head : Head) (records : List (List ℕ)) (end : ℕ) (file : 
   pub stands : StandsFor head records file
   pub place : end ≡ length (stored head records)
 
--- Behind so many whole records stands a torn one.
+-- After so many whole records stands a torn one.
 pub record IsTornStore (file : List ℕ) (whole : ℕ) : Type 0 where
   pub head : Head
   pub records : List (List ℕ)
@@ -39,7 +39,7 @@ pub record IsTornStore (file : List ℕ) (whole : ℕ) : Type 0 where
   pub count : whole ≡ length records
   pub torn : IsTorn tail
 
--- Behind a head and whole records there is damage.
+-- After a head and whole records there is damage.
 pub record IsDamagedStore (file : List ℕ) (whole : ℕ) : Type 0 where
   pub head : Head
   pub behind : List ℕ
@@ -58,7 +58,7 @@ IsUnread (Damaged whole) file = IsDamagedStore file whole
 IsUnread NoMemory file = ⊤
 
 -- The first n bytes of a store of these records are read as the first of them, as many as are whole there:
--- the next one, if there is one, ends behind them.
+-- the next one, if there is one, ends after them.
 pub record FrontIsStore (head : Head) (records : List (List ℕ)) (n : ℕ) (front : List ℕ) : Type 0 where
   pub count : ℕ
   pub tail : List ℕ

@@ -12,6 +12,7 @@ use Rattle.hg_store.specs.declared.head.HeadFault.TheVariants.{TooShort, Magic, 
 abbrev pub magic : List ℕ
 magic = 72 ∷ 71 ∷ 80 ∷ 85 ∷ 83 ∷ 72 ∷ 69 ∷ 83 ∷ []
 
+-- 1 where the server publishes, else 0
 abbrev pub publishing_byte : Bool → ℕ
 publishing_byte false = 0
 publishing_byte true = 1
@@ -59,7 +60,7 @@ pub record HasOtherMagic (file : List ℕ) : Type 0 where
   pub long : 37 < length file
   pub other : take 8 file ≢ magic
 
--- Behind the magic another version is told than 1.
+-- After the magic another version is told than 1.
 pub record HasOtherVersion (file : List ℕ) : Type 0 where
   pub long : 37 < length file
   pub version : ℕ
@@ -75,7 +76,7 @@ pub record HasBadPublishing (file : List ℕ) : Type 0 where
   pub spelled : file ≡ magic ++ 1 ∷ publishing ∷ behind
   pub bad : 1 < publishing
 
--- Behind the publishing byte stand no limits that are allowed.
+-- After the publishing byte stand no limits that are allowed.
 pub record HasBadLimits (file : List ℕ) : Type 0 where
   pub long : 37 < length file
   pub publishing : Bool

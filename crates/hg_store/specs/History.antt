@@ -4,6 +4,7 @@ use Rattle.hg_store.specs.declared.history.Call.{Call}
 use Rattle.hg_store.specs.declared.history.Call.TheVariants.{Began, Wrote, Shortened, Synced, Placed, GaveUp}
 use Rattle.hg_store.specs.Calls.{Event, began, wrote, shortened, synced, placed, gave_up}
 
+-- what a call was, and what it answered
 abbrev pub event_of : Call → Event
 event_of (Began bytes) = began bytes.now
 event_of (Wrote at bytes ok) = wrote at bytes.now ok

@@ -8,21 +8,21 @@ use Rattle.hg_store.specs.Records.{IsRecord, frames}
 use Rattle.hg_store.specs.declared.head.Head.{Head}
 use Rattle.hg_store.specs.declared.log.Log.{Log}
 
--- a store of these records, behind which a shut gate stands
+-- a store of these records, after which a shut gate stands
 abbrev pub at_rest : Head → List (List ℕ) → List ℕ
 at_rest head records = stored head records ++ 0 ∷ []
 
--- a batch but the gate of its first record, and a shut gate behind it
+-- a batch but the gate of its first record, and a shut gate after it
 abbrev pub ungated : List ℕ → List (List ℕ) → List ℕ
 ungated before batch = drop 1 (frames before batch) ++ 0 ∷ []
 
--- the file stands for these records, or for these and all of the others behind them
+-- the file stands for these records, or for these and all of the others after them
 abbrev pub IsBeforeOrAfter : Head → List (List ℕ) → List (List ℕ) → List ℕ → Type 0
 IsBeforeOrAfter head records more file =
     StandsFor head records file ⊎ StandsFor head (records ++ more) file
 
 -- The file has this head, these records and a shut gate, all of it on the device. The gate stands there,
--- and the next record would stand behind that digest.
+-- and the next record would stand after that digest.
 pub record IsSettledAt {D : Type 0} (seen : D → List ℕ) (may_leave : D → List ℕ → Type 0) (head : Head)
     (records : List (List ℕ)) (device : D) (end : ℕ) (digest : List ℕ) : Type 0 where
   pub allowed : IsAllowed head.limits

@@ -1,4 +1,4 @@
--- Records, one behind the other, and what bytes stand for.
+-- Records, one after the other, and what bytes stand for.
 use Rattle.std.specs.Prelude.{ℕ, ◌≡◌, ◌≢◌, ◌⊎◌, ◌+◌, ◌<◌, ◌^◌, List, [], ◌∷◌, ◌++◌, length}
 use Rattle.std.specs.List.{AllByRecursion}
 use Rattle.std.specs.Int.{w32, to_be_bytes}
@@ -17,12 +17,12 @@ digest_of before record_bytes = sha1 (before ++ sha1 record_bytes)
 abbrev pub IsRecord : List ℕ → Type 0
 IsRecord record_bytes = length record_bytes < 2 ^ 32
 
--- a record behind one with that digest: an open gate, its size, its digest, and its bytes
+-- a record after one with that digest: an open gate, its size, its digest, and its bytes
 abbrev pub frame : List ℕ → List ℕ → List ℕ
 frame before record_bytes =
     1 ∷ size_bytes (length record_bytes) ++ (digest_of before record_bytes ++ record_bytes)
 
--- records, one behind the other
+-- records, one after the other
 abbrev pub frames : List ℕ → List (List ℕ) → List ℕ
 frames before [] = []
 frames before (first ∷ others) = frame before first ++ frames (digest_of before first) others
@@ -32,30 +32,30 @@ abbrev pub last_digest : List ℕ → List (List ℕ) → List ℕ
 last_digest before [] = before
 last_digest before (first ∷ others) = last_digest (digest_of before first) others
 
--- The records end here: at the end of the file, or at a shut gate, whatever stands behind it.
+-- The records end here: at the end of the file, or at a shut gate, whatever stands after it.
 pub data IsEnd (tail : List ℕ) : Type 0 where
   over : tail ≡ [] → IsEnd tail
   shut : (behind : List ℕ) → tail ≡ 0 ∷ behind → IsEnd tail
 
--- Less than a whole record stands behind an open gate: less than a size, or less than what it says.
+-- Less than a whole record stands after an open gate: less than a size, or less than what it says.
 pub data IsTorn (tail : List ℕ) : Type 0 where
   short : (part : List ℕ) → tail ≡ 1 ∷ part → length part < 4 → IsTorn tail
   cut_off : (size : ℕ) (part : List ℕ) → size < 2 ^ 32 → tail ≡ 1 ∷ size_bytes size ++ part →
       length part < 20 + size → IsTorn tail
 
--- The bytes are these records, the first behind that digest, and a tail that begins with no whole one.
+-- The bytes are these records, the first after that digest, and a tail that begins with no whole one.
 pub record Reads (start bytes : List ℕ) (records : List (List ℕ)) (tail : List ℕ) : Type 0 where
   pub each : AllByRecursion IsRecord records
   pub ends : IsEnd tail ⊎ IsTorn tail
   pub spelled : bytes ≡ frames start records ++ tail
 
--- The bytes begin with this record behind one with that digest, and it has the next digest.
+-- The bytes begin with this record after one with that digest, and it has the next digest.
 pub record IsNext (before bytes found after next : List ℕ) : Type 0 where
   pub spelled : bytes ≡ frame before found ++ after
   pub is : IsRecord found
   pub digest : next ≡ digest_of before found
 
--- A gate is neither open nor shut, or a whole record stands behind another digest than its own.
+-- A gate is neither open nor shut, or a whole record stands after another digest than its own.
 pub data IsDamaged (before bytes : List ℕ) : Type 0 where
   no_gate : (gate : ℕ) (behind : List ℕ) → bytes ≡ gate ∷ behind → 1 < gate → IsDamaged before bytes
   other_digest : (told found after : List ℕ) →

@@ -32,14 +32,14 @@ pub fn one_gate()
         (IsEnd bytes ⊎ IsTorn bytes) ⊎ IsDamaged before bytes → ⊥ }
 {}
 
-/// What is written of records is read as these records, whatever stands behind a shut gate.
+/// What is written of records is read as these records, whatever stands after a shut gate.
 pub fn records_are_read_back()
     ensures { (head : Head) (records : List (List ℕ)) (behind : List ℕ) → IsAllowed head.limits →
         AllByRecursion IsRecord records →
         IsStore (stored head records ++ 0 ∷ behind) head records (0 ∷ behind) }
 {}
 
-/// **A front of a store, cut anywhere behind its head, is read as the records that are whole in it**: the
+/// **A front of a store, cut anywhere after its head, is read as the records that are whole in it**: the
 /// first of those of the store, none skipped, and as many as the front has whole.
 pub fn a_front_is_read()
     ensures no_store { (head : Head) (records : List (List ℕ)) (n : ℕ) → n < 38 →

@@ -1,7 +1,7 @@
 //! A store: a file of records, each on the disk before it is acknowledged. A crash leaves whole records,
 //! none skipped.
 //!
-//! A record is any bytes, as a bundle. [`put_record`] writes it behind its size and its digest, which takes
+//! A record is any bytes, as a bundle. [`put_record`] writes it after its size and its digest, which takes
 //! in the digest of the record before; [`read_records`] reads the records of a store, up to its end or to a
 //! torn record. [`laws`] says that a store is read in one way, and that a front of it, cut anywhere, is
 //! read as the records that are whole in it. [`Log`] adds records on a [`Device`]. Nothing here starts a
@@ -16,7 +16,7 @@
 //! | 1 | 1 where the server publishes, and else 0 |
 //! | 28 | the limits, seven numbers of four bytes, from `params` to `revisions` |
 //!
-//! The records follow, one behind the other:
+//! The records follow, one after the other:
 //!
 //! | bytes | what |
 //! |---|---|
@@ -27,8 +27,8 @@
 //!
 //! The digest before the first record is the SHA-1 of the head.
 //!
-//! A store ends at a gate that is 0, whatever stands behind it, or with the file. Less than a whole record
-//! behind a gate that is 1 is a torn record. Another gate is damage, and so is another digest in a whole
+//! A store ends at a gate that is 0, whatever stands after it, or with the file. Less than a whole record
+//! after a gate that is 1 is a torn record. Another gate is damage, and so is another digest in a whole
 //! record.
 #![tactic(auto)]
 

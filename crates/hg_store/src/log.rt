@@ -1,4 +1,4 @@
-//! A log on a device. A batch of records is written behind a shut gate and synced; then the gate is opened,
+//! A log on a device. A batch of records is written after a shut gate and synced; then the gate is opened,
 //! by a write of one byte, and synced: so a crash at any moment leaves all of the batch or none, whatever
 //! it makes of what was not synced, and no digest is trusted for it.
 
@@ -25,7 +25,7 @@ pub struct Log<D: Device> {
     pub digest: [u8; 20],
 }
 
-/// The records of a batch as they stand in a file, behind one with that digest, and the digest of the last.
+/// The records of a batch as they stand in a file, after one with that digest, and the digest of the last.
 pub(crate) fn batch_bytes<A: Allocator + Copy>(
     alloc: A,
     before: &[u8; 20],
@@ -43,7 +43,7 @@ pub(crate) fn batch_bytes<A: Allocator + Copy>(
     Ok((bytes, digest))
 }
 
-/// The same but the gate of its first record, and a shut gate behind them.
+/// The same but the gate of its first record, and a shut gate after them.
 fn behind_gate<A: Allocator + Copy>(
     alloc: A,
     before: &[u8; 20],
@@ -85,7 +85,7 @@ pub(crate) fn put_synced<D: Device>(
 }
 
 impl<D: Device> Log<D> {
-    /// Adds a record and more behind it. At `Ok` all are acknowledged: from then on each crash leaves a
+    /// Adds a record and more after it. At `Ok` all are acknowledged: from then on each crash leaves a
     /// file that has them. At `Err`, open the file again.
     pub fn append<A: Allocator + Copy>(
         &mut self,

@@ -22,7 +22,7 @@ pub enum RecoverFault {
     /// It is not read. Nothing is changed.
     #[error("a store that is not read: {0}")]
     Read(ReadFault),
-    /// Behind so many whole records stands a torn one. Nothing is changed.
+    /// After so many whole records stands a torn one. Nothing is changed.
     #[error("a torn record behind {0} whole ones")]
     Torn(usize),
     /// The device failed, or memory was refused.
@@ -52,7 +52,7 @@ impl From<DeviceError> for RecoverFault {
     }
 }
 
-/// Reads a store, and brings its end in order: what stands behind a shut gate is cut off, and where there
+/// Reads a store, and brings its end in order: what stands after a shut gate is cut off, and where there
 /// is no gate a shut one is written; then all is on the device. A torn store and one that is not read are
 /// refused, and nothing in them is changed. After an `Err` of the device, recover again.
 pub fn recover<A: Allocator + Copy, D: Device>(
@@ -84,7 +84,7 @@ pub fn recover<A: Allocator + Copy, D: Device>(
     Ok(found)
 }
 
-/// Leaves a shut gate at the end of the records, and nothing behind it.
+/// Leaves a shut gate at the end of the records, and nothing after it.
 fn shut_gate<D: Device>(device: &mut D, end: usize, len: usize) -> Result<(), DeviceError>
     requires len { len ≡ length (D.seen device.old) }
     requires end { end ≤ len }

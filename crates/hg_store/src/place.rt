@@ -87,7 +87,7 @@ pub fn cut_file<C: Calls, N: NewFile, A: Allocator + Copy>(
     Ok(Seq::from_vec(left_out))
 }
 
-/// Whether a record stands at the place, or a torn one behind so many whole ones.
+/// Whether a record stands at the place, or a torn one after so many whole ones.
 fn has_place(at: usize, count: usize, is_torn: bool) -> bool
     ensures within { result ≡ true → at ≤ count }
     ensures place { result ≡ true → (at < count) ⊎ ((at ≡ count) × (is_torn ≡ true)) }
@@ -99,7 +99,7 @@ fn has_place(at: usize, count: usize, is_torn: bool) -> bool
     at < count
 }
 
-/// The bytes of a store with these records and a shut gate behind them.
+/// The bytes of a store with these records and a shut gate after them.
 fn bytes_at_rest<A: Allocator + Copy>(
     alloc: A,
     head: &Head,

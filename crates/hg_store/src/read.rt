@@ -23,7 +23,7 @@ pub enum ReadFault {
     /// There is no head.
     #[error("no store: {0}")]
     Head(HeadFault),
-    /// Behind so many whole records stands a gate that is neither open nor shut, or a record with another
+    /// After so many whole records stands a gate that is neither open nor shut, or a record with another
     /// digest than its own.
     #[error("damage behind {0} whole records")]
     Damaged(usize),
@@ -60,11 +60,11 @@ pub struct Found<A: Allocator = Global> {
     pub head: Head,
     /// The whole records, in their order.
     pub records: Seq<Seq<u8, A>, A>,
-    /// The digest behind which the next record would stand.
+    /// The digest after which the next record would stand.
     pub digest: [u8; 20],
-    /// Where the bytes behind the last whole record begin.
+    /// Where the bytes after the last whole record begin.
     pub end: usize,
-    /// Whether less than a whole record stands there, behind an open gate.
+    /// Whether less than a whole record stands there, after an open gate.
     pub is_torn: bool,
 }
 
@@ -96,7 +96,7 @@ pub fn read_records<A: Allocator + Copy>(alloc: A, file: &[u8]) -> Result<Found<
     })
 }
 
-/// What the bytes behind a head were read as.
+/// What the bytes after a head were read as.
 struct Frames<A: Allocator> {
     records: Seq<Seq<u8, A>, A>,
     digest: [u8; 20],
@@ -104,7 +104,7 @@ struct Frames<A: Allocator> {
     is_torn: bool,
 }
 
-/// Reads the records behind a head, the first of which stands behind that digest.
+/// Reads the records after a head, the first of which stands after that digest.
 fn read_frames<A: Allocator + Copy>(
     alloc: A,
     start: &[u8; 20],
@@ -142,7 +142,7 @@ fn read_frames<A: Allocator + Copy>(
     })
 }
 
-/// Whether a torn record stands behind so many whole ones. Damage is refused.
+/// Whether a torn record stands after so many whole ones. Damage is refused.
 fn is_torn_at(stop: NoRecord, whole: usize) -> Result<bool, ReadFault>
     ensures torn { IfOk result (λ is. is ≡ true → stop ≡ Torn) }
     ensures end { IfOk result (λ is. is ≡ false → stop ≡ End) }

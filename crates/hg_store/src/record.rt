@@ -22,13 +22,13 @@ const DIGEST: usize = 20;
 pub enum NoRecord {
     /// The gate is shut, or there are no more bytes.
     End,
-    /// The gate is open, and less than a whole record stands behind it.
+    /// The gate is open, and less than a whole record stands after it.
     Torn,
     /// The gate is neither open nor shut, or a whole record has another digest than its own.
     Damaged,
 }
 
-/// The digest of a record behind one with that digest.
+/// The digest of a record after one with that digest.
 fn chained(before: &[u8; 20], bytes: &[u8]) -> [u8; 20]
     ensures { result ≡ digest_of before.now bytes.now }
 {
@@ -39,7 +39,7 @@ fn chained(before: &[u8; 20], bytes: &[u8]) -> [u8; 20]
     hasher.finalize()
 }
 
-/// Appends a record behind one with that digest, and gives its own. Where memory is refused, `out` may have
+/// Appends a record after one with that digest, and gives its own. Where memory is refused, `out` may have
 /// a part of it.
 pub fn put_record<A: Allocator>(
     out: &mut Vec<u8, A>,
@@ -84,7 +84,7 @@ pub fn next_record<'a>(
     record_behind(digest, behind)
 }
 
-/// The record behind an open gate.
+/// The record after an open gate.
 fn record_behind<'a>(
     digest: &mut [u8; 20],
     behind: &'a [u8],

@@ -74,7 +74,7 @@ fn has_all_or_none(alloc: Global, paper: &Paper, size: usize, added: bool) -> Re
     Ok(so)
 }
 
-// A batch of 1, 2 and 3 records behind one, where the file fails at each call in turn.
+// A batch of 1, 2 and 3 records after one, where the file fails at each call in turn.
 #[test]
 fn a_batch_on_a_file_that_fails(rt: HostRuntime) -> Result<(), Fail> {
     let alloc = rt.alloc();
@@ -96,7 +96,7 @@ fn a_batch_on_a_file_that_fails(rt: HostRuntime) -> Result<(), Fail> {
     Ok(())
 }
 
-// A disk that is full at each length behind the store: the batch is added where it has room.
+// A disk that is full at each length after the store: the batch is added where it has room.
 #[test]
 fn a_batch_on_a_full_disk(rt: HostRuntime) -> Result<(), Fail> {
     let alloc = rt.alloc();
@@ -131,7 +131,7 @@ fn a_file_after_a_failure(rt: HostRuntime) -> Result<(), Fail> {
     Ok(())
 }
 
-// A store with and without its gate, and with anything behind it, is brought in order, also where the file
+// A store with and without its gate, and with anything after it, is brought in order, also where the file
 // fails at each call in turn: each outcome has its records.
 #[test]
 fn a_store_that_is_opened_again(rt: HostRuntime) -> Result<(), Fail> {
@@ -217,6 +217,98 @@ fn a_store_that_is_refused(rt: HostRuntime) -> Result<(), Fail> {
     Ok(())
 }
 
+// A new file of some bytes and of none, over a longer and a shorter one, where each call fails in turn: it is
+// placed where none fails, is not named before its bytes are synced, and wherever it may have got its name
+// each outcome has these bytes and no others.
+#[test]
+fn a_file_that_is_put_whole(rt: HostRuntime) -> Result<(), Fail> {
+    let alloc = rt.alloc();
+    for bytes in [b"whole".as_slice(), &[]] {
+        for old in [b"a longer one".as_slice(), b"old", &[]] {
+            for calls in 0..5usize {
+                let mut paper = Paper::new(alloc, old, calls)?;
+                let expected = if calls == 4 {
+                    Ok(())
+                } else {
+                    Err(DeviceError::Failed)
+                };
+                assert_eq!(rt; put_whole(&mut paper, bytes), expected, "{calls} calls");
+                assert_eq!(rt; paper.is_named, calls >= 3, "{calls} calls");
+                if paper.is_named {
+                    assert_eq!(rt; paper.synced.as_slice(), bytes);
+                    for left in &outcomes(alloc, &paper)? {
+                        assert_eq!(rt; left.as_slice(), bytes);
+                    }
+                }
+            }
+        }
+    }
+    Ok(())
+}
+
+/// A device over six bytes of which so many calls succeed after they were read.
+fn six_bytes(alloc: Global, calls: usize) -> Result<StoreFile<Paper>, Fail> {
+    let mut paper = Paper::new(alloc, b"abcdef", calls.saturating_add(1))?;
+    let bytes = paper.begin(alloc)?;
+    Ok(StoreFile::of(paper, bytes))
+}
+
+// Six bytes: written over within, past the end and at the end, cut within, to all and to nothing, and synced.
+// Result, by hand: `abXYef`, `abXYeZZZ`, `abXYeZZZ!`; `abX`, `abX`, nothing; and a crash leaves nothing.
+#[test]
+fn writes_and_cuts_of_a_device(rt: HostRuntime) -> Result<(), Fail> {
+    let alloc = rt.alloc();
+    let mut device = six_bytes(alloc, 3)?;
+    assert_eq!(rt; device.read(alloc)?.as_slice(), b"abcdef".as_slice());
+    device.write_at(2, b"XY")?;
+    device.write_at(5, b"ZZZ")?;
+    device.write_at(8, b"!")?;
+    let paper = device.into_calls();
+    assert_eq!(rt; paper.bytes.as_slice(), b"abXYeZZZ!".as_slice());
+    assert_eq!(rt; paper.synced.as_slice(), b"abcdef".as_slice());
+
+    let mut device = six_bytes(alloc, 4)?;
+    device.write_at(2, b"XY")?;
+    device.cut(3)?;
+    device.cut(3)?;
+    device.sync()?;
+    let paper = device.into_calls();
+    assert_eq!(rt; paper.bytes.as_slice(), b"abX".as_slice());
+    assert_eq!(rt; paper.synced.as_slice(), b"abX".as_slice());
+
+    let mut device = six_bytes(alloc, 2)?;
+    device.cut(0)?;
+    device.sync()?;
+    let paper = device.into_calls();
+    assert!(rt; paper.bytes.is_empty());
+    assert_eq!(rt; outcomes(alloc, &paper)?.len(), 1);
+    Ok(())
+}
+
+// A device whose cut fails, and whose write fails: no write, cut or sync is made after it, though the file
+// would take it, and no bytes are given that may not be there.
+#[test]
+fn a_device_after_a_failed_cut(rt: HostRuntime) -> Result<(), Fail> {
+    let alloc = rt.alloc();
+    for cuts in [true, false] {
+        let mut device = six_bytes(alloc, 0)?;
+        let first = if cuts {
+            device.cut(2)
+        } else {
+            device.write_at(0, b"X")
+        };
+        assert_eq!(rt; first, Err(DeviceError::Failed));
+        assert_eq!(rt; device.write_at(0, b"X"), Err(DeviceError::Failed));
+        assert_eq!(rt; device.cut(1), Err(DeviceError::Failed));
+        assert_eq!(rt; device.sync(), Err(DeviceError::Failed));
+        assert!(rt; device.read(alloc).is_err());
+        let paper = device.into_calls();
+        assert_eq!(rt; paper.steps.len(), 1);
+        assert_eq!(rt; paper.bytes.as_slice(), b"abcdef".as_slice());
+    }
+    Ok(())
+}
+
 // A new store, where the file fails at each call in turn, and whatever was in it: wherever it may have got
 // its name, each outcome is the whole store.
 #[test]
@@ -240,7 +332,7 @@ fn a_store_that_is_made(rt: HostRuntime) -> Result<(), Fail> {
     Ok(())
 }
 
-// A store of three records is ended before each of them, and not behind them; a torn one also before the
+// A store of three records is ended before each of them, and not after them; a torn one also before the
 // torn record.
 #[test]
 fn a_store_that_is_cut(rt: HostRuntime) -> Result<(), Fail> {

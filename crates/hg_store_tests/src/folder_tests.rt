@@ -3,6 +3,7 @@
 use hg_store::*;
 use hg_types::{Limits, Seq};
 use std::fs;
+use std::fs::OpenOptions;
 use std::test::*;
 
 /// Where the head and each record of the store of these tests ends.
@@ -74,6 +75,33 @@ fn a_store_in_a_folder(rt: HostRuntime) -> Result<(), Fail> {
     );
     assert_eq!(rt; refusal(&rt, folder, &standard()), None);
     fs::remove_dir_all(&rt, folder)?;
+    Ok(())
+}
+
+// A file of the system by its calls: six bytes are written over within and past the end, shortened and made
+// longer, and it is given up. Result, by hand: `abXYef!`, `abX`, `abX` and two zeroes; the file has these
+// bytes after each, and giving it up changes nothing.
+#[test]
+fn calls_of_a_file_of_the_system(rt: HostRuntime) -> Result<(), Fail> {
+    let name = "hg_store_calls_of_a_file";
+    let alloc = rt.alloc();
+    fs::write(&rt, name, b"abcdef".as_slice())?;
+    let opened = OpenOptions::new().read(true).write(true).open(&rt, name)?;
+    let mut file = HostFile::new(opened);
+    assert_eq!(rt; file.begin(alloc)?.as_slice(), b"abcdef".as_slice());
+    file.write(2, b"XY")?;
+    file.write(6, b"!")?;
+    file.sync()?;
+    assert_eq!(rt; fs::read(&rt, name)?.as_slice(), b"abXYef!".as_slice());
+    file.shorten(3)?;
+    assert_eq!(rt; file.begin(alloc)?.as_slice(), b"abX".as_slice());
+    file.shorten(5)?;
+    file.give_up();
+    assert_eq!(rt; file.begin(alloc)?.as_slice(), b"abX\0\0".as_slice());
+    file.shorten(0)?;
+    assert!(rt; file.begin(alloc)?.is_empty());
+    drop(file);
+    fs::remove_file(&rt, name)?;
     Ok(())
 }
 

@@ -6,31 +6,37 @@
 //!
 //! Rows of the tables, and what else the tests try:
 //!
-//! - cut at each of its lengths: Result: below 38 bytes no head; behind the head and behind each
+//! - cut at each of its lengths: Result: below 38 bytes no head; after the head and after each
 //!   record it is whole; else the records that are whole, and torn. In a folder it is opened where
 //!   it is whole and else refused, and then stays as it was; a reader has the whole records each
 //!   time.
-//! - each bit of each record turned. Result: damage behind the records before it; or torn, or the
+//! - the records read one by one; the first cut short, too large, behind another gate, with another
+//!   digest. Result: each with what follows it, and the end; torn, torn, damaged, damaged.
+//! - each bit of each record turned. Result: damage after the records before it; or torn, or the
 //!   end, by a gate or a size.
-//! - a batch of 1, 2 and 3 records behind one, where the file fails at each of its four calls.
+//! - a batch of 1, 2 and 3 records after one, where the file fails at each of its four calls.
 //!   Result: it is added where none fails; whatever is lost, made in part or torn of what was not
 //!   synced, the first record is there, with all of the batch or none.
 //! - the same batch on a disk with room for each length. Result: it is added where it has room, and
 //!   else the store failed; after that no call is made.
-//! - a store without its gate, and with bytes behind it, opened where the file fails at each call.
+//! - a store without its gate, and with bytes after it, opened where the file fails at each call.
 //!   Result: its records and a shut gate; in each outcome its records.
 //! - another publishing flag, other limits, a byte turned, a record cut short, a head cut short.
 //!   Result: each by its name, after one call, which reads.
 //! - a new store where the file fails at each of its four calls, over no bytes and over a longer
 //!   store. Result: where the file may have its name, each outcome is the whole store.
+//! - a new file of some bytes and of none, put whole where each of its four calls fails. Result: where
+//!   it may have its name, each outcome has these bytes.
+//! - six bytes on a device and in a file of the system, written over, cut and made longer; a device
+//!   after a cut and a write that failed. Result: by hand; no call is made then.
 //! - three records, and two and a torn one, cut before each place up to the fifth. Result: the
-//!   records before it, those from it on, the old file as it was; a place behind them is refused,
+//!   records before it, those from it on, the old file as it was; a place after them is refused,
 //!   and no file gets the name.
 //! - a folder: no store; made, made again, filled, opened, opened twice, read beside that, of
 //!   another flag, cut while it is held. Result: no store; there is one; two records; held; two
 //!   records; another flag; held.
 //! - each growth refused: a store is opened and a batch of two added over heaps below 1,200 bytes;
-//!   one is cut over heaps below 1,600. Result: want of memory, and nothing was written, or all is
+//!   one is cut over heaps below 1,600. Result: out of memory, and nothing was written, or all is
 //!   done; both occur.
 #![tactic(auto)]
 

@@ -100,7 +100,80 @@ fn records_as_bytes(rt: HostRuntime) -> Result<(), Fail> {
     Ok(())
 }
 
-// A store cut at each of its lengths, and with a shut gate and anything behind it.
+// The records of the store one after the other, and then no bytes, and a shut gate with anything after it.
+// Result: each record and what follows it; the end both times; the digest is that of the last record, which
+// stands in the store.
+#[test]
+fn records_one_by_one(rt: HostRuntime) -> Result<(), Fail> {
+    let mut digest = read_records(rt.alloc(), &HEAD)?.digest;
+    let mut rest = &STORE[38..];
+    for (record, end) in [
+        (b"abc".as_slice(), ENDS[1]),
+        (b"", ENDS[2]),
+        (b"\x01\0\0\0", ENDS[3]),
+    ] {
+        match next_record(&mut digest, rest) {
+            Ok((found, after)) => {
+                assert_eq!(rt; found, record);
+                assert_eq!(rt; after, &STORE[end..]);
+                rest = after;
+            }
+            Err(_) => assert!(rt; false, "no record before {end}"),
+        }
+    }
+    assert_eq!(rt; digest.as_slice(), &STORE[96..116]);
+    for file in [b"".as_slice(), &[0], &[0, 1, 2, 255]] {
+        assert_eq!(rt; next_record(&mut digest, file), Err(NoRecord::End));
+    }
+    assert_eq!(rt; digest.as_slice(), &STORE[96..116]);
+    Ok(())
+}
+
+// The first record cut at each of its lengths, of the greatest size, behind the gates 2 and 255, with
+// another digest and after another one. Result: torn, torn, damaged, damaged, damaged; and the digest that
+// was given stays, with which the record is read after all.
+#[test]
+fn no_record_where_one_might_stand(rt: HostRuntime) -> Result<(), Fail> {
+    let before = read_records(rt.alloc(), &HEAD)?.digest;
+    let mut digest = before;
+    let record = &STORE[38..ENDS[1]];
+    for len in 1..record.len() {
+        assert_eq!(rt;
+            next_record(&mut digest, &record[..len]),
+            Err(NoRecord::Torn),
+            "{len} bytes"
+        );
+    }
+    let mut file = STORE;
+    for at in 39..43usize {
+        file[at] = 255;
+    }
+    assert_eq!(rt; next_record(&mut digest, &file[38..]), Err(NoRecord::Torn));
+    for gate in [2, 255] {
+        let mut file = STORE;
+        file[38] = gate;
+        assert_eq!(rt;
+            next_record(&mut digest, &file[38..]),
+            Err(NoRecord::Damaged)
+        );
+        assert_eq!(rt; next_record(&mut digest, &[gate]), Err(NoRecord::Damaged));
+    }
+    let mut file = STORE;
+    file[62] ^= 1;
+    assert_eq!(rt;
+        next_record(&mut digest, &file[38..]),
+        Err(NoRecord::Damaged)
+    );
+    let mut other = [7u8; 20];
+    assert_eq!(rt; next_record(&mut other, record), Err(NoRecord::Damaged));
+    assert_eq!(rt; other, [7u8; 20]);
+    assert_eq!(rt; digest, before);
+    assert!(rt; next_record(&mut digest, record).is_ok());
+    assert_eq!(rt; digest.as_slice(), &STORE[43..63]);
+    Ok(())
+}
+
+// A store cut at each of its lengths, and with a shut gate and anything after it.
 #[test]
 fn a_store_cut_anywhere(rt: HostRuntime) -> Result<(), Fail> {
     for len in 0..STORE.len() + 1 {
@@ -130,7 +203,7 @@ fn a_store_cut_anywhere(rt: HostRuntime) -> Result<(), Fail> {
     Ok(())
 }
 
-// Each byte behind the head with each of its bits turned: the store is refused, or torn, or ends there.
+// Each byte after the head with each of its bits turned: the store is refused, or torn, or ends there.
 #[test]
 fn a_damaged_record(rt: HostRuntime) -> Result<(), Fail> {
     for at in 38..STORE.len() {

@@ -47,7 +47,7 @@ all_both : {X : Type 0} (P : X → Type 0) (xs ys : List X) → AllByRecursion P
 all_both P [] ys a b = b
 all_both P (x ∷ xs) ys a b = (a.0, all_both P xs ys a.1 b)
 
--- more pieces stand behind those before them
+-- more pieces stand after those before them
 pub more_pieces : {A : Type 0} (limits : Limits) (front : List ℕ) (parts : List (Part A)) (head : Head A)
     (payload : List ℕ) (more : List Piece)
     → IsInPayload limits front parts head payload → AllByRecursion (IsPiece A limits) more
@@ -124,7 +124,7 @@ CarriesOn limits P = (front whole : List ℕ) (more : List (List ℕ)) → P fro
     → AllByRecursion IsChunk more → length (whole ++ joined more) ≤ limits.payload
     → P (front ++ flat_map chunk_bytes more) (whole ++ joined more)
 
--- the place behind the chunks that a call took
+-- the place after the chunks that a call took
 pub record Behind {A : Type 0} (P : List ℕ → List ℕ → Type 0) (q : PayloadIn A)
     (bytes tail after : List ℕ) : Type 0 where
   pub front : List ℕ

@@ -153,7 +153,7 @@ shorter taken more rest fuel spelled some enough =
     let len : length rest ≡ length (taken ++ more) = ap length spelled in
     omega (arith, len, some, enough, length-append taken more)
 
--- one step, and what is read behind it
+-- one step, and what is read after it
 by_step : {A : Type 0} (limits : Limits) (place : Place A) (front rest : List ℕ) → Stands limits place front
     → Continues limits place rest
     → ((next : Place A) (taken more : List ℕ) → Stands limits next (front ++ taken) → 0 < length taken

@@ -15,7 +15,7 @@ use Rattle.hg_stream.proofs.Prefixes.{IsStillRead, front_of_reading, front_is_re
 use Rattle.hg_stream.proofs.EveryStep.{IsByte}
 use Rattle.hg_stream.proofs.EveryStream.{every_stream}
 
--- the first so many bytes, the byte behind them, and what is left
+-- the first so many bytes, the byte after them, and what is left
 record IsCut (place : ℕ) (bytes : List ℕ) : Type 0 where
   front : List ℕ
   last : ℕ

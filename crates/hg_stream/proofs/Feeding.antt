@@ -27,7 +27,7 @@ front_take piece within n le =
 pub front_within : (piece : List ℕ) (within n : ℕ) → n ≤ length (take within piece) → n ≤ length piece
 front_within piece within n le = omega (arith, le, length-take within piece)
 
--- a front of a piece, and the byte behind it or none
+-- a front of a piece, and the byte after it or none
 pub past_take : (piece : List ℕ) (within n : ℕ) → within < length piece → n ≤ 1 → take within piece
     ++ take n (get_or piece within 0 ∷ []) ≡ take (within + n) piece
 past_take piece within zero some le =

@@ -108,7 +108,7 @@ verdict_where v w limits a b x y ps qs (inr pa) (inl gb) same =
     absurd (grammar_or_past w v limits b a y x qs ps gb pa (sym same))
 verdict_where v w limits a b x y ps qs (inr pa) (inr pb) same = both_past v w limits a b x y ps qs pa pb same
 
--- ---- before a verdict, and behind it
+-- ---- before a verdict, and after it
 
 before_verdict : {A : Type 0} (v : Option StreamFault) (limits : Limits) (front behind : List ℕ) (byte : ℕ)
     (parts : List (Part A))

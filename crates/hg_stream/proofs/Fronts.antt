@@ -1,4 +1,4 @@
--- What stands at the front of a stream: a whole block behind its size, or a size that has no block. It is
+-- What stands at the front of a stream: a whole block after its size, or a size that has no block. It is
 -- one.
 use Rattle.std.proofs.Common.{◌≡◌, ℕ, ◌+◌, ◌<◌, ◌≤◌, ◌^◌, List, [], ◌++◌, length, ◌⊎◌, inl, inr, refl, sym}
 use Rattle.std.proofs.Common.{ap, ◌∙◌, append_assoc, arith, subst}
@@ -107,7 +107,7 @@ by_size limits p (Alone (negsuc m)) (Block d) x y hf hg size rest =
     absurd (not_negative (length d) m (sym size))
 by_size limits p (Alone m) (Alone n) x y hf hg size rest = (ap Alone size, rest)
 
--- bytes have one front, and one rest behind it
+-- bytes have one front, and one rest after it
 pub one_front : {A : Type 0} (limits : Limits) (p : Place A) (f g : Front) (x y : List ℕ) → IsFront limits p f
     → IsFront limits p g
     → front_bytes f ++ x ≡ front_bytes g ++ y → (f ≡ g) × (x ≡ y)

@@ -106,7 +106,7 @@ inner_not_end A limits i x y h same =
     not_end i.header x ((chunks_bytes i.chunks ++ closing) ++ y) h.header.some (omega (arith, h.header.small))
     (same ∙ append_assoc (sized i.header) (chunks_bytes i.chunks ++ closing) y)
 
--- what stands behind an interruption, in two ways
+-- what stands after an interruption, in two ways
 behind_pause : (x y : List ℕ) → interruption ++ x ≡ interruption ++ y → x ≡ y
 behind_pause x y same = (fronts interruption interruption x y refl same).1
 

@@ -16,7 +16,7 @@ same_decision A d e same = cc
 not_both : {A : Type 0} (p : Place A) (d : Decision) → Goes p ≡ Ends d → ⊥
 not_both p d same = cc
 
--- ---- a step, the steps behind it, and what follows them
+-- ---- a step, the steps after it, and what follows them
 
 grouped : (taken more rest : List ℕ) → (taken ++ more) ++ rest ≡ taken ++ (more ++ rest)
 grouped taken more rest = append_assoc taken more rest
@@ -94,7 +94,7 @@ one_decision limits p (h ∷ a) (k ∷ b) q r x y s t d e ra rb dx dy same =
     (run_from limits k.place h.place b r first.place rb.1) dx dy first.rest in
     (joined_same h.taken k.taken (run_bytes a) (run_bytes b) x y first.taken more.0, more.1, more.2)
 
--- Behind bytes that decide nothing is still read.
+-- After bytes that decide nothing is still read.
 pub no_way_back : {A : Type 0} (limits : Limits) (p : Place A) (a b : List (Step A)) (q r : Place A)
     (x y s : List ℕ) (d : Decision)
     → IsRun limits p a q → IsRun limits p b r → DecidesAt d limits q x → IsPartialAt limits r y

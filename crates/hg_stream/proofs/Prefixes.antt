@@ -55,7 +55,7 @@ front_of_size size whole front is proper =
     let len : length whole ≡ 4 = ap length is in
     omega (arith, len, proper.2)
 
--- a proper front of a block behind its size is less than a size, or the size and less than the block
+-- a proper front of a block after its size is less than a size, or the size and less than the block
 front_of_sized : (block whole front : List ℕ) → whole ≡ sized block → IsProperFront front whole
     → (length front < 4) ⊎ ((part : List ℕ) × (front ≡ size_bytes (pos (length block)) ++ part)
     × (length part < length block))
@@ -124,7 +124,7 @@ front_of_chunk limits payload whole front c next proper =
       less = less;
     })
 
--- a front of a part of a block behind its size
+-- a front of a part of a block after its size
 front_of_part : (size : ℕ) (part whole front behind : List ℕ) → whole ≡ size_bytes (pos size) ++ part
     → whole ≡ front ++ behind
     → (length front < 4) ⊎ ((less : List ℕ) × (front ≡ size_bytes (pos size) ++ less)
@@ -415,7 +415,7 @@ still_read limits (AtInnerChunk parts head payload inner) bytes rest stands part
 abbrev pub IsStillRead : Type 0 → Limits → List ℕ → Type 0
 IsStillRead A limits bytes = (before : List (Part A)) × IsReading limits bytes before
 
--- in a step, or behind it
+-- in a step, or after it
 front_of_more : {A : Type 0} (limits : Limits) (p next : Place A) (bytes taken more front behind : List ℕ)
     → Stands limits p bytes → Leads limits p taken next → taken ++ more ≡ front ++ behind
     → ((later : List ℕ) → more ≡ later ++ behind → IsStillRead A limits ((bytes ++ taken) ++ later))
@@ -439,7 +439,7 @@ front_of_more {A} limits p next bytes taken more front behind stands leads same 
               ∙ ap (λ (x : List ℕ). bytes ++ x) (sym cut.1)) read.1,
         )
 
--- The end of a run that is not behind is partial there.
+-- The end of a run that is not after is partial there.
 abbrev IsCutPartial : {A : Type 0} → Limits → Place A → List ℕ → List ℕ → Type 0
 IsCutPartial limits place rest behind = (cut : List ℕ) → rest ≡ cut ++ behind → IsPartialAt limits place cut
 

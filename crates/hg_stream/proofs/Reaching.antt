@@ -55,7 +55,7 @@ run_then limits p q r a b first second = record {
       ∙ sym (flat_map-append (λ step. step.taken) first.steps second.steps);
 }
 
--- a step, and a run behind it
+-- a step, and a run after it
 pub step_then : {A : Type 0} (limits : Limits) (p q r : Place A) (taken rest : List ℕ)
     → Leads limits p taken q → RunsTo limits q r rest → RunsTo limits p r (taken ++ rest)
 step_then limits p q r taken rest leads behind =
@@ -104,7 +104,7 @@ chunks_run limits parts head payload inner (c ∷ more) each fits =
 
 -- ---- pieces
 
--- behind an interruption: the header of a part that is dropped, and the place behind it
+-- after an interruption: the header of a part that is dropped, and the place after it
 inner_header_run : {A : Type 0} (limits : Limits) (parts : List (Part A)) (head : Head A) (payload : List ℕ)
     (inner : Inner) → IsInner A limits inner
     → RunsTo limits (AtInnerHeader parts head payload) (AtChunk parts head payload) (inner_bytes inner)
@@ -222,7 +222,7 @@ frames_run limits parts (frame ∷ frames) (part ∷ more) are few =
 
 -- ---- the places of the grammar
 
--- behind the magic a run with these bytes leads there
+-- after the magic a run with these bytes leads there
 pub record Reaches {A : Type 0} (limits : Limits) (place : Place A) (bytes : List ℕ) : Type 0 where
   pub body : List ℕ
   pub runs : RunsTo limits AtParams place body
@@ -236,11 +236,11 @@ reach_then limits p q front more bytes reached run spelled = record {
   spelled = spelled ∙ ap (λ (x : List ℕ). x ++ more) reached.spelled ∙ append_assoc magic reached.body more;
 }
 
--- behind the magic
+-- after the magic
 pub reach_params : {A : Type 0} (limits : Limits) → Reaches {A = A} limits AtParams magic
 reach_params limits = record { body = []; runs = run_none limits AtParams; spelled = refl }
 
--- behind whole frames
+-- after whole frames
 pub reach_header : {A : Type 0} (limits : Limits) (bytes : List ℕ) (parts : List (Part A))
     → HasParts limits bytes parts → Reaches limits (AtHeader parts) bytes
 reach_header limits bytes parts has =
@@ -286,7 +286,7 @@ reach_chunk limits bytes parts head payload is =
     (run_to limits (AtHeader parts) (AtChunk parts head whole) (AtChunk parts head payload) (sized is.header
     ++ body) (ap (λ (x : List ℕ). AtChunk parts head x) (sym is.payload_is)) run) is.spelled
 
--- behind a size of -1
+-- after a size of -1
 pub reach_inner_header : {A : Type 0} (limits : Limits) (bytes : List ℕ) (parts : List (Part A))
     (head : Head A) (payload : List ℕ) → IsInterrupted limits bytes parts head payload
     → Reaches limits (AtInnerHeader parts head payload) bytes

@@ -25,9 +25,9 @@ use Rattle.hg_stream.specs.Faults.{IsChunkFault}
 
 -- ---- places
 
--- behind the magic; behind whole frames; in a payload, behind chunks with that data; behind a size of -1
+-- after the magic; after whole frames; in a payload, after chunks with that data; after a size of -1
 -- there; and in the
--- payload of an interrupting part, behind chunks with that data
+-- payload of an interrupting part, after chunks with that data
 pub data Place (A : Type 0) : Type 0 where
   AtParams : Place A
   AtHeader : List (Part A) → Place A
@@ -63,7 +63,7 @@ pub record TakesHeader {A : Type 0} (limits : Limits) (parts : List (Part A)) (t
   pub spelled : taken ≡ sized header
   pub leads : next ≡ AtChunk parts head []
 
--- a chunk that is allowed behind that data
+-- a chunk that is allowed after that data
 pub record IsNextChunk (limits : Limits) (whole taken chunk : List ℕ) : Type 0 where
   pub is : IsChunk chunk
   pub fits : length (whole ++ chunk) ≤ limits.payload
@@ -89,7 +89,7 @@ pub data TakesChunk {A : Type 0} (limits : Limits) (parts : List (Part A)) (head
   payload_end : taken ≡ closing → next ≡ AtHeader (parts ++ part_of head payload ∷ [])
       → TakesChunk limits parts head payload taken next
 
--- behind an interruption: nothing comes between, or a part
+-- after an interruption: nothing comes between, or a part
 pub data TakesInner {A : Type 0} (parts : List (Part A)) (head : Head A) (payload taken : List ℕ)
     (next : Place A) : Type 0 where
   no_part : taken ≡ closing → next ≡ AtChunk parts head payload → TakesInner parts head payload taken next
@@ -115,7 +115,7 @@ Leads limits (AtInnerChunk parts head payload inner) taken next =
 
 -- ---- runs
 
--- a whole block or chunk, and the place behind it
+-- a whole block or chunk, and the place after it
 pub record Step (A : Type 0) : Type 0 where
   pub taken : List ℕ
   pub place : Place A
@@ -175,7 +175,7 @@ pub record RefusesInner (A : Type 0) (rest : List ℕ) (verdict : Verdict) : Typ
   pub decided : verdict_of inner_head ≡ verdict
   pub spelled : rest ≡ sized header
 
--- a chunk's size is refused behind that data
+-- a chunk's size is refused after that data
 pub record RefusesChunk (limit : ℕ) (whole rest : List ℕ) (fault : StreamFault) : Type 0 where
   pub wrong : ChunkFault
   pub refused : IsChunkFault wrong limit whole rest
@@ -203,7 +203,7 @@ DecidesAt Closed limits place rest = ⊥
 
 -- ---- whole streams
 
--- behind the magic a run, and then less than a block or chunk
+-- after the magic a run, and then less than a block or chunk
 pub record ReadsOn {A : Type 0} (limits : Limits) (bytes : List ℕ) (parts : List (Part A)) : Type 0 where
   pub steps : List (Step A)
   pub place : Place A
@@ -213,7 +213,7 @@ pub record ReadsOn {A : Type 0} (limits : Limits) (bytes : List ℕ) (parts : Li
   pub parts_are : parts_at place ≡ parts
   pub spelled : bytes ≡ magic ++ (run_bytes steps ++ rest)
 
--- behind the magic a run, and then what decides
+-- after the magic a run, and then what decides
 pub record Settles {A : Type 0} (decision : Decision) (limits : Limits) (bytes : List ℕ)
     (parts : List (Part A)) : Type 0 where
   pub steps : List (Step A)

@@ -16,7 +16,7 @@ use Rattle.hg_stream.proofs.Words.{reading_runs, whole_settles, fault_settles}
 
 -- ---- the four bytes at the front
 
--- bytes that begin with the magic, and what is behind it
+-- bytes that begin with the magic, and what is after it
 behind_magic : (x y : List ℕ) → magic ++ x ≡ magic ++ y → x ≡ y
 behind_magic x y same = (fronts magic magic x y refl same).1
 
@@ -63,7 +63,7 @@ settles limits (Some fault) bytes parts is = foreign_first (fault_settles fault 
 
 -- ---- two at one front
 
--- what stands behind the magic, beside what follows
+-- what stands after the magic, beside what follows
 spelled_with : (bytes run x : List ℕ) → bytes ≡ magic ++ run → bytes ++ x ≡ magic ++ (run ++ x)
 spelled_with bytes run x is = ap (λ (b : List ℕ). b ++ x) is ∙ append_assoc magic run x
 

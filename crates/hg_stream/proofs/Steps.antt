@@ -158,7 +158,7 @@ pub no_params : {A : Type 0} → ReadsParams A []
 unfolding pieces
 no_params = ([], record { sound = refl; says = refl })
 
--- behind the stream parameters
+-- after the stream parameters
 pub behind_params : {A : Type 0} (limits : Limits) (block bytes rest taken : List ℕ) (parts : List (Part A))
     → length block ≤ limits.params → length block < 2 ^ 31 → ReadsParams A block → parts ≡ []
     → bytes ≡ magic ++ rest → rest ++ taken ≡ sized block → (front : List ℕ) × HasParts limits front parts

@@ -24,7 +24,7 @@ use Rattle.hg_stream.specs.Unbundler.{ready_of, state_at, state_of}
 use Rattle.hg_stream.proofs.Steps.{still_reading}
 use Rattle.hg_stream.proofs.Chunks.{chunk_reading}
 
--- want of memory, or another fault
+-- out of memory, or another fault
 pub is_no_memory : (fault : StreamFault) → (fault ≡ NoMemory) ⊎ (fault ≢ NoMemory)
 is_no_memory BadMagic = inr (λ e. cc)
 is_no_memory NegativeSize = inr (λ e. cc)

@@ -24,7 +24,7 @@ use Rattle.hg_stream.proofs.Reaching.{reach_inner_chunk}
 
 -- ---- a place that is reached, and what stands there
 
--- the bytes behind the magic
+-- the bytes after the magic
 behind_magic : {A : Type 0} (limits : Limits) (place : Place A) (front rest bytes : List ℕ)
     → (r : Reaches limits place front) → bytes ≡ front ++ rest → bytes ≡ magic
     ++ (run_bytes r.runs.steps ++ rest)
@@ -89,7 +89,7 @@ chunk_reads_on limits bytes front rest whole parts (of_interrupting head payload
     reads_on limits (AtInnerChunk parts head payload whole) front rest bytes
     (reach_inner_chunk limits front parts head payload whole is) partial spelled
 
--- bytes that are still read are less than the magic, or end behind a run
+-- bytes that are still read are less than the magic, or end after a run
 pub reading_runs : {A : Type 0} (limits : Limits) (bytes : List ℕ) (parts : List (Part A))
     → IsReading limits bytes parts
     → ((length bytes < 4) × (parts ≡ [])) ⊎ ReadsOn limits bytes parts
@@ -170,7 +170,7 @@ inner_settles fault limits bytes parts verdict e fails =
     settles (Faulty fault) limits (AtInnerHeader parts e.head e.payload) e.front (sized e.header) bytes
     (reach_inner_header limits e.front parts e.head e.payload e.interrupted) fails e.spelled
 
--- a fault is decided by the magic, or by what stands behind a run
+-- a fault is decided by the magic, or by what stands after a run
 pub fault_settles : {A : Type 0} (fault : StreamFault) (limits : Limits) (bytes : List ℕ)
     (parts : List (Part A)) → Decides fault limits bytes parts
     → ((fault ≡ BadMagic) × (length bytes ≡ 4) × (bytes ≢ magic) × (parts ≡ []))

@@ -19,7 +19,7 @@ parts_more place (first ∷ parts) part =
     ∙ ap (λ (n : ℕ). (part_bytes place first ++ parts_bytes (place + 1) parts) ++ part_bytes n part)
     (let e : (place + 1) + length parts ≡ place + length (first ∷ parts) = omega arith in e)
 
--- the part at a place was written behind those before it
+-- the part at a place was written after those before it
 pub one_more : {A : Type 0} (out new front : List ℕ) (parts : List (Part A)) (place : ℕ) (part : Part A)
     → out ≡ front ++ parts_bytes 0 (take place parts) → place < length parts → part ≡ get_or parts place part
     → new ≡ out ++ part_bytes place part → new ≡ front ++ parts_bytes 0 (take (place + 1) parts)

@@ -1,4 +1,4 @@
--- A block of bytes behind its size, and what a reader of one has taken.
+-- A block of bytes after its size, and what a reader of one has taken.
 use Rattle.std.specs.Prelude.{◌≡◌, ℕ, ◌+◌, ◌<◌, ◌≤◌, ◌^◌, pos, negsuc, List, [], ◌++◌, length, ◌⊎◌}
 use Rattle.hg_chunks.specs.Size.{size_bytes}
 use Rattle.hg_chunks.specs.Payload.{closing}
@@ -10,7 +10,7 @@ use Rattle.hg_stream.specs.declared.block.Awaits.{Awaits}
 use Rattle.hg_stream.specs.declared.block.Awaits.TheVariants as awaits
 use Rattle.hg_stream.specs.declared.block.BlockIn.{BlockIn}
 
--- a block behind its size
+-- a block after its size
 abbrev pub sized : List ℕ → List ℕ
 sized block = size_bytes (pos (length block)) ++ block
 

@@ -22,7 +22,7 @@ use Rattle.hg_stream.specs.Frames.{magic, HasHead, IsWhole, IsBundle}
 use Rattle.hg_stream.specs.Places.{IsInterrupted, IsInInner, IsBeforeHeader, IsBeforeBlock, IsBeforeChunk}
 use Rattle.hg_stream.specs.Places.{IsReading}
 
--- a chunk's size is a fault; want of memory is none of the bytes
+-- a chunk's size is a fault; out of memory is none of the bytes
 abbrev pub IsChunkFault : ChunkFault → ℕ → List ℕ → List ℕ → Type 0
 IsChunkFault chunk_fault.BadSize limit whole rest = IsBadSize rest
 IsChunkFault chunk_fault.TooLarge limit whole rest = IsTooLarge limit whole rest

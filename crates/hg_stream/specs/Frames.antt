@@ -34,12 +34,15 @@ pub data Piece : Type 0 where
   Pause : Piece
   Break : Inner → Piece
 
+-- the chunks, joined
 abbrev pub joined : List (List ℕ) → List ℕ
 joined chunks = flat_map (λ chunk. chunk) chunks
 
+-- the bytes of a part that interrupts a payload: its header with its size, its chunks, and the closing size
 abbrev pub inner_bytes : Inner → List ℕ
 inner_bytes inner = sized inner.header ++ (flat_map chunk_bytes inner.chunks ++ closing)
 
+-- the bytes of a piece: a chunk, an interruption without a part, or one with a part
 abbrev pub piece_bytes : Piece → List ℕ
 piece_bytes (Chunk chunk) = chunk_bytes chunk
 piece_bytes Pause = interruption ++ closing
@@ -65,6 +68,7 @@ pub record IsInner (A : Type 0) (limits : Limits) (inner : Inner) : Type 0 where
   pub each : AllByRecursion IsChunk inner.chunks
   pub fits : length (joined inner.chunks) ≤ limits.payload
 
+-- a piece that can be written
 abbrev pub IsPiece : (A : Type 0) → Limits → Piece → Type 0
 IsPiece A limits (Chunk chunk) = IsChunk chunk
 IsPiece A limits Pause = Unit {0}
@@ -77,6 +81,7 @@ pub record Frame : Type 0 where
   pub header : List ℕ
   pub pieces : List Piece
 
+-- the bytes of a part: its header with its size, the pieces of its payload, and the closing size
 abbrev pub frame_bytes : Frame → List ℕ
 frame_bytes frame = sized frame.header ++ (flat_map piece_bytes frame.pieces ++ closing)
 

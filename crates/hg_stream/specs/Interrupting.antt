@@ -14,6 +14,7 @@ use Rattle.hg_stream.specs.declared.interrupting.Verdict.TheVariants.{Dropped, A
 abbrev pub is_type : List ℕ → List ℕ → Bool
 is_type kind name = bytes_eq (map to_ascii_lowercase kind) name
 
+-- a parameter that `error:abort` may have: its message or its hint
 abbrev pub is_known_to_abort : List ℕ → Bool
 is_known_to_abort key = bytes_eq key (codes "message") || bytes_eq key (codes "hint")
 

@@ -11,7 +11,7 @@ use Rattle.hg_stream.specs.Places.{IsReading}
 use Rattle.hg_stream.specs.Faults.{Decides, IsFault}
 use Rattle.hg_stream.specs.Written.{bundle_bytes, CanBeWritten}
 
--- a part as it is read behind so many others: its type is cased, and its id is its place
+-- a part as it is read after so many others: its type is cased, and its id is its place
 abbrev pub read_part : {A : Type 0} → ℕ → Part A → Part A
 read_part place part =
     record { kind = cased part.kind; id = place; params = part.params; payload = part.payload }

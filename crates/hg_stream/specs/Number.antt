@@ -5,6 +5,7 @@ use Rattle.hg_stream.specs.declared.fault.StreamFault.TheVariants.{BadMagic, Neg
 use Rattle.hg_stream.specs.declared.fault.StreamFault.TheVariants.{Chunk, NestedInterrupt, ClientAbort}
 use Rattle.hg_stream.specs.declared.fault.StreamFault.TheVariants.{Unsupported, TooLarge, Truncated, NoMemory}
 
+-- the number that a reply gives for a fault
 abbrev pub number_of : StreamFault → ℕ
 number_of BadMagic = 1
 number_of NegativeSize = 2

@@ -11,7 +11,7 @@ use Rattle.hg_stream.specs.Interrupting.{verdict_of}
 use Rattle.hg_stream.specs.Frames.{magic, max_header, Piece, piece_bytes, piece_data, IsPiece, joined}
 use Rattle.hg_stream.specs.Frames.{HasHead, HasParts}
 
--- in the payload of a part with that head, behind whole pieces with that data
+-- in the payload of a part with that head, after whole pieces with that data
 pub record IsInPayload {A : Type 0} (limits : Limits) (bytes : List ℕ) (parts : List (Part A)) (head : Head A)
     (payload : List ℕ) : Type 0 where
   pub front : List ℕ
@@ -25,14 +25,14 @@ pub record IsInPayload {A : Type 0} (limits : Limits) (bytes : List ℕ) (parts 
   pub fits : length payload ≤ limits.payload
   pub spelled : bytes ≡ front ++ (sized header ++ flat_map piece_bytes pieces)
 
--- behind a size of -1
+-- after a size of -1
 pub record IsInterrupted {A : Type 0} (limits : Limits) (bytes : List ℕ) (parts : List (Part A))
     (head : Head A) (payload : List ℕ) : Type 0 where
   pub front : List ℕ
   pub inside : IsInPayload limits front parts head payload
   pub spelled : bytes ≡ front ++ interruption
 
--- in the payload of an interrupting part, behind whole chunks with that data
+-- in the payload of an interrupting part, after whole chunks with that data
 pub record IsInInner {A : Type 0} (limits : Limits) (bytes : List ℕ) (parts : List (Part A)) (head : Head A)
     (payload inner : List ℕ) : Type 0 where
   pub front : List ℕ
@@ -65,7 +65,7 @@ pub data IsBeforeBlock {A : Type 0} (limits : Limits) (front : List ℕ) (parts 
   params : front ≡ magic → parts ≡ [] → most ≡ limits.params → IsBeforeBlock limits front parts most
   header : IsBeforeHeader limits front parts most → IsBeforeBlock limits front parts most
 
--- a chunk comes next, behind that data: of a part, or of an interrupting part
+-- a chunk comes next, after that data: of a part, or of an interrupting part
 pub data IsBeforeChunk {A : Type 0} (limits : Limits) (front : List ℕ) (parts : List (Part A))
     (whole : List ℕ) : Type 0 where
   of_part : (head : Head A) → IsInPayload limits front parts head whole →

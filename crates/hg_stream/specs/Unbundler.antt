@@ -20,6 +20,7 @@ use Rattle.hg_stream.specs.Frames.{magic, max_header, part_of, HasParts, IsWhole
 use Rattle.hg_stream.specs.Places.{IsInPayload, IsInterrupted, IsInInner, header_room, IsReading}
 use Rattle.hg_stream.specs.Faults.{Decides, IsFault, Tells}
 
+-- the state of a reader that stands at this stage
 abbrev pub state_at : Stage → State
 state_at stage.Magic = Reading
 state_at stage.Params = Reading
@@ -34,6 +35,7 @@ state_at (stage.Failed fault) = Failed fault
 abbrev pub state_of : {A : Type 0} → Unbundler A → State
 state_of u = state_at u.stage
 
+-- the limits of the reader
 abbrev pub limits_of : {A : Type 0} → Unbundler A → Limits
 limits_of u = u.limits
 
@@ -61,6 +63,7 @@ pub record Fields (A : Type 0) : Type 0 where
   pub payload : PayloadIn A
   pub inner : PayloadIn A
 
+-- what the reader holds, except its stage and the parts that are ready
 abbrev pub fields_of : {A : Type 0} → Unbundler A → Fields A
 fields_of u = record {
   limits = u.limits;
@@ -71,14 +74,14 @@ fields_of u = record {
   inner = u.inner;
 }
 
--- in the stream parameters, behind the magic
+-- in the stream parameters, after the magic
 pub record AtParams {A : Type 0} (u : Fields A) (bytes : List ℕ) (parts : List (Part A)) : Type 0 where
   pub rest : List ℕ
   pub waits : Waits u.block u.limits.params rest
   pub none : parts ≡ []
   pub spelled : bytes ≡ magic ++ rest
 
--- in a header size or a header, behind whole frames
+-- in a header size or a header, after whole frames
 pub record AtHeader {A : Type 0} (u : Fields A) (bytes : List ℕ) (parts : List (Part A)) : Type 0 where
   pub front : List ℕ
   pub rest : List ℕ
@@ -123,6 +126,7 @@ pub record AtMagic {A : Type 0} (u : Fields A) (bytes : List ℕ) (parts : List 
   pub waits : Waits u.block u.limits.params []
   pub none : parts ≡ []
 
+-- what the fields of a reader hold at each stage, of the bytes that it took and the parts that it gave
 abbrev pub IsAtStage : {A : Type 0} → Stage → Fields A → List ℕ → List (Part A) → Type 0
 IsAtStage stage.Magic u bytes parts = AtMagic u bytes parts
 IsAtStage stage.Params u bytes parts = AtParams u bytes parts
@@ -187,7 +191,7 @@ Halts {A} fault u v taken = (bytes : List ℕ) (parts : List (Part A)) → IsAt 
     → (added : List (Part A)) × (ready_of v ≡ ready_of u ++ added) × HasFinished v (parts ++ added)
     × Breaks fault u.limits (bytes ++ taken) (parts ++ added)
 
--- what a reader that is fed can meet: the fault that the last byte decides, or want of memory within the
+-- what a reader that is fed can meet: the fault that the last byte decides, or out of memory within the
 -- limit on the stream
 abbrev pub Meets : {A : Type 0} → StreamFault → Limits → List ℕ → List (Part A) → Type 0
 Meets NoMemory limits bytes parts = IsReading limits bytes parts × (length bytes ≤ limits.stream)
@@ -226,7 +230,7 @@ Feeds {A} u v taken = (given : List (Part A)) (bytes : List ℕ) → state_of u 
 
 -- ---- parts of steps
 
--- a part was finished behind whole pieces with that data, and the next header is waited for
+-- a part was finished after whole pieces with that data, and the next header is waited for
 abbrev pub Finished : {A : Type 0} → Unbundler A → Unbundler A → List ℕ → Type 0
 Finished {A} u v payload = (front : List ℕ) (parts : List (Part A)) →
     IsInPayload u.limits front parts u.head payload → u.parts_left + length parts ≡ u.limits.parts

@@ -6,7 +6,7 @@ use Rattle.hg_params.specs.Writing.{cased, header_bytes, IsWritable}
 use Rattle.hg_stream.specs.Block.{sized}
 use Rattle.hg_stream.specs.Frames.{magic}
 
--- a part with that number: its header behind its size, and its payload in at most one chunk
+-- a part with that number: its header after its size, and its payload in at most one chunk
 abbrev pub part_bytes : {A : Type 0} → ℕ → Part A → List ℕ
 part_bytes place part = sized (header_bytes (cased part.kind) place part.params) ++ payload_bytes part.payload
 

@@ -1,4 +1,4 @@
-//! A block of bytes behind its size, however it is cut: the stream parameters, or a header.
+//! A block of bytes after its size, however it is cut: the stream parameters, or a header.
 
 ghost use Rattle.std.specs.Prelude.{◌≡◌, ◌≤◌, ◌<◌, ◌+◌, ◌++◌, ◌∷◌, [], List, ℕ, length, take, IfOk, IfErr};
 

@@ -1,9 +1,9 @@
 //! Bundles of the format `HG20`, read in any cutting and written whole.
 //!
 //! A bundle is the magic `HG20`, a signed 32-bit size and so many bytes of stream parameters, parts, and a
-//! size of 0 as end mark. A part is a header behind its size, and a payload: chunks, each behind its size,
+//! size of 0 as end mark. A part is a header after its size, and a payload: chunks, each after its size,
 //! closed by a size of 0. A size of -1 interrupts a payload: a part of its own follows, and the payload goes
-//! on behind it. This is Mercurial's `internals.bundle2`, "Stream Format".
+//! on after it. This is Mercurial's `internals.bundle2`, "Stream Format".
 //!
 //! [`Unbundler`] takes the bytes of one bundle, piece by piece, and gives its parts; it alone knows that
 //! bytes come in pieces. [`write_bundle`] makes the bytes of a list of parts. Nothing here starts a thread or

@@ -42,7 +42,7 @@ enum Stage {
     InnerHeader,
     /// In the payload of an interrupting part.
     Inner,
-    /// Behind the end mark.
+    /// After the end mark.
     Ended,
     Failed(StreamFault),
 }
@@ -99,7 +99,7 @@ impl<A: Allocator + Copy> Unbundler<A> {
     }
 
     /// Takes the whole piece, or the bytes of it up to the end mark, and answers how many. Once ended it
-    /// takes nothing. A fault is answered for good, want of memory too; the parts finished before it can
+    /// takes nothing. A fault is answered for good, out of memory too; the parts finished before it can
     /// still be taken.
     pub fn feed(&mut self, piece: &[u8]) -> Result<usize, StreamFault>
         ensures count { IfOk result (λ n. n ≤ length piece.now) }

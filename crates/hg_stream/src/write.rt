@@ -52,7 +52,7 @@ fn write_part<A: Allocator + Copy>(
     write_payload(out, part.payload.as_slice())
 }
 
-/// Appends a block behind its size.
+/// Appends a block after its size.
 fn append_block<A: Allocator>(out: &mut Vec<u8, A>, block: &[u8]) -> Result<(), NoMemory>
     requires { length block.now < 2 ^ 31 }
     ensures { OnOk result (out.new.items ≡ out.old.items ++ sized block.now) }

@@ -200,7 +200,7 @@ fn payload_limit(payload: u32) -> Limits
     limits_of(268_435_456, payload)
 }
 
-/// The bundle of a root changeset behind a part that asks for replies, its payload of 116 bytes in one chunk,
+/// The bundle of a root changeset after a part that asks for replies, its payload of 116 bytes in one chunk,
 /// or as chunks of 40 and 76 bytes with an interruption and those bytes between them.
 fn append_root_changeset<A: Allocator>(
     out: &mut Vec<u8, A>,

@@ -1,4 +1,4 @@
--- The lines of branches, one behind the other.
+-- The lines of branches, one after the other.
 use Rattle.std.proofs.Common.{◌≡◌, ℕ, ◌+◌, ◌<◌, ◌≤◌, Bool, true, false, List, [], ◌∷◌, ◌++◌, length, map, take, drop}
 use Rattle.std.proofs.Common.{get_or, filter, sym, ap, ◌∙◌}
 use Rattle.std.specs.Prelude.{cond}

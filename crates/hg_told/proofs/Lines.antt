@@ -1,4 +1,4 @@
--- Words and lines with a byte behind each, and joined.
+-- Words and lines with a byte after each, and joined.
 use Rattle.std.proofs.Common.{◌≡◌, ℕ, ◌+◌, ◌-◌, ◌<◌, List, [], ◌∷◌, ◌++◌, length, map, take, get_or, refl, sym}
 use Rattle.std.proofs.Common.{ap, ◌∙◌, arith, ◌≤◌, Bool, true, false, filter, Some, slice_get}
 use Rattle.std.specs.Prelude.{if◌then◌else◌, ◌==◌}
@@ -150,7 +150,7 @@ taken_more xs i x here =
     take_more xs i x (slice_get_within xs i x here)
     ∙ ap (λ y. take i xs ++ y ∷ []) (get_or_from_slice_get xs i x x here)
 
--- two runs of lines, one behind the other
+-- two runs of lines, one after the other
 pub lines_on : (before now next : List ℕ) (first second : List (List ℕ))
     → now ≡ before ++ flat_map (ended 10) first → next ≡ now ++ flat_map (ended 10) second
     → next ≡ before ++ flat_map (ended 10) (first ++ second)

@@ -38,7 +38,7 @@ cut_by true test text e =
     rw e (omega (arith, length-drop (position_or_len test text + 1) text))
 cut_by false test text e = rw e (omega arith)
 
--- what stands behind a cut is shorter
+-- what stands after a cut is shorter
 pub shorter : (test : ℕ → Bool) (left rest : Option (List ℕ)) (text : List ℕ) → rest ≡ Some text
     → left ≡ behind_first test text → size_of left < size_of rest
 shorter test left rest text e f =

@@ -7,21 +7,25 @@ use Rattle.hg_told.specs.declared.batch.Command.{Command}
 use Rattle.hg_told.specs.Text.{behind_first}
 use Rattle.hg_told.specs.Form.{is_equals}
 
+-- the byte between commands
 abbrev pub is_semicolon : ℕ → Bool
 is_semicolon b = b == 59
 
+-- the byte between arguments
 abbrev pub is_comma : ℕ → Bool
 is_comma b = b == 44
 
+-- the byte after a command's name
 abbrev pub is_space : ℕ → Bool
 is_space b = b == 32
 
--- the letter behind a `:` that stands for a byte: `c` for `:`, `o` for `,`, `s` for `;`, `e` for `=`
+-- the letter after a `:` that stands for a byte: `c` for `:`, `o` for `,`, `s` for `;`, `e` for `=`
 abbrev pub letter_of : ℕ → Option ℕ
 letter_of b =
     if b == 58 then Some 99 else if b == 44 then Some 111 else if b == 59 then Some 115
     else if b == 61 then Some 101 else None
 
+-- the byte has an escape
 abbrev pub needs_escape : ℕ → Bool
 needs_escape b = is_some (letter_of b)
 
@@ -31,6 +35,7 @@ byte_of letter =
     if letter == 99 then Some 58 else if letter == 111 then Some 44 else if letter == 115 then Some 59
     else if letter == 101 then Some 61 else None
 
+-- a colon and the letter, where the byte has one
 abbrev pub escape_by : ℕ → Option ℕ → List ℕ
 escape_by b None = b ∷ []
 escape_by b (Some letter) = 58 ∷ letter ∷ []
@@ -48,6 +53,7 @@ abbrev pub unescape_by : ℕ → ℕ → Option ℕ → List ℕ → List ℕ �
 unescape_by b letter None more rest = b ∷ more
 unescape_by b letter (Some byte) more rest = byte ∷ rest
 
+-- the text without escapes; a colon that begins none stays
 unfoldable pub unescaped : List ℕ → List ℕ
 unescaped [] = []
 unescaped (b ∷ []) = b ∷ []
@@ -55,7 +61,7 @@ unescaped (b ∷ letter ∷ rest) =
     if b == 58 then unescape_by b letter (byte_of letter) (unescaped (letter ∷ rest)) (unescaped rest)
     else b ∷ unescaped (letter ∷ rest)
 
--- an argument: the name ends at the first `=`, and the value stands behind it; without one it is empty
+-- an argument: the name ends at the first `=`, and the value stands after it; without one it is empty
 unfoldable pub argument_of : {A : Type 0} → List ℕ → Field A
 argument_of piece = record {
   name = unescaped (before_first is_equals piece);
@@ -71,7 +77,7 @@ arguments_in (byte ∷ bytes) = argument_of (byte ∷ bytes) ∷ []
 unfoldable pub arguments_of : {A : Type 0} → List ℕ → List (Field A)
 arguments_of text = flat_map arguments_in (slice_split is_comma text)
 
--- a command: its name ends at the first space, and its arguments stand behind it
+-- a command: its name ends at the first space, and its arguments stand after it
 unfoldable pub command_of : {A : Type 0} → List ℕ → Command A
 command_of piece = record {
   name = before_first is_space piece;

@@ -26,6 +26,7 @@ is_unquoted b = is_ascii_alphanumeric b || b == 95 || b == 46 || b == 45 || b ==
 abbrev pub quoted_byte : ℕ → List ℕ
 quoted_byte b = if is_unquoted b then b ∷ [] else percent_encode_byte b
 
+-- the name with each byte escaped that is not plain
 unfoldable pub quoted : List ℕ → List ℕ
 quoted name = flat_map quoted_byte name
 

@@ -1,4 +1,4 @@
--- Arguments in a form: fields between `&`, each a name, and behind the first `=` a value.
+-- Arguments in a form: fields between `&`, each a name, and after the first `=` a value.
 use Rattle.std.specs.Prelude.{ℕ, ◌==◌, Bool, List, [], ◌∷◌, map, filter, Option, None, if◌then◌else◌}
 use Rattle.std.specs.Prelude.{unwrap_or, bytes_eq}
 use Rattle.std.specs.List.{slice_split, before_first, flat_map, last_or}
@@ -6,9 +6,11 @@ use Rattle.percent_encoding.specs.Percent.{percent_decode}
 use Rattle.hg_told.specs.declared.form.Field.{Field}
 use Rattle.hg_told.specs.Text.{behind_first}
 
+-- the byte between pieces
 abbrev pub is_ampersand : ℕ → Bool
 is_ampersand b = b == 38
 
+-- the byte between a name and its value
 abbrev pub is_equals : ℕ → Bool
 is_equals b = b == 61
 
@@ -20,7 +22,7 @@ spaced b = if b == 43 then 32 else b
 unfoldable pub plain_of : List ℕ → List ℕ
 plain_of text = percent_decode (map spaced text)
 
--- the name ends at the first `=`, and the value stands behind it; without one it is empty
+-- the name ends at the first `=`, and the value stands after it; without one it is empty
 unfoldable pub field_of : {A : Type 0} → List ℕ → Field A
 field_of piece = record {
   name = plain_of (before_first is_equals piece);

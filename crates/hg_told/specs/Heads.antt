@@ -16,6 +16,7 @@ pub record IsHeadsText (rows : List Changeset) (text : List ℕ) : Type 0 where
   pub are_heads : AreHeads rows heads
   pub says : text ≡ join_with_byte 32 (map encode_lower heads) ++ 10 ∷ []
 
+-- the byte between ids
 abbrev pub is_space : ℕ → Bool
 is_space b = b == 32
 

@@ -19,6 +19,7 @@ key_line key value = key ++ 9 ∷ value
 
 -- ---- phases
 
+-- a draft changeset
 abbrev pub is_draft : Phase → Bool
 is_draft Public = false
 is_draft Draft = true
@@ -53,6 +54,7 @@ breaks_lines b = b == 9 || b == 10 || b == 13
 abbrev pub is_told : List ℕ × Node → Bool
 is_told pair = not (is_null pair.1) && not (list_any breaks_lines pair.0)
 
+-- the line of a bookmark: its name and the digits of its id
 abbrev pub bookmark_line : List ℕ × Node → List ℕ
 bookmark_line pair = key_line pair.0 (encode_lower pair.1.0)
 
@@ -62,6 +64,7 @@ bookmark_lines pairs = map bookmark_line (filter is_told pairs)
 
 -- ---- namespaces
 
+-- the lines of all namespaces, each with an empty value
 abbrev pub namespace_lines : List (List ℕ)
 namespace_lines = map (λ name. key_line name [])
     (codes "bookmarks" ∷ codes "namespaces" ∷ codes "obsolete" ∷ codes "phases" ∷ [])

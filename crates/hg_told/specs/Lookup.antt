@@ -38,6 +38,7 @@ abbrev pub known_of : List Changeset → Option Node → Option Node
 known_of rows None = None
 known_of rows (Some node) = if is_known rows node then Some node else None
 
+-- the id, or else what is named otherwise
 abbrev pub id_or : Option Node → Named → Named
 id_or None other = other
 id_or (Some node) other = Id node
@@ -60,5 +61,6 @@ lookup_line key Ambiguous = codes "0 ambiguous identifier" ++ 10 ∷ []
 lookup_line key Unknown =
     codes "0 unknown revision '" ++ (map without_line_feed key ++ (codes "'" ++ 10 ∷ []))
 
+-- what a client is told of a key
 unfoldable pub lookup_text : List Changeset → Pairs → List ℕ → List ℕ
 lookup_text rows pairs key = lookup_line key (named_by rows pairs key)

@@ -3,7 +3,7 @@ use Rattle.std.specs.Prelude.{ℕ, ◌+◌, drop, Bool, List, [], ◌∷◌, ◌
 use Rattle.std.specs.List.{position}
 use Rattle.std.specs.Option.{option_map}
 
--- what stands behind the first byte that passes, where one does
+-- what stands after the first byte that passes, where one does
 unfoldable pub behind_first : (ℕ → Bool) → List ℕ → Option (List ℕ)
 behind_first test text = option_map (λ place. drop (place + 1) text) (position test text)
 

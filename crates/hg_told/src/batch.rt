@@ -79,7 +79,7 @@ fn read_argument<A: Allocator + Copy>(alloc: A, piece: &[u8]) -> Result<Field<A>
     Ok(Field { name, value })
 }
 
-/// The byte that a letter behind a `:` stands for.
+/// The byte that a letter after a `:` stands for.
 fn byte_of(letter: u8) -> Option<u8>
     ensures { result ≡ byte_for letter }
 {
@@ -92,7 +92,7 @@ fn byte_of(letter: u8) -> Option<u8>
     }
 }
 
-/// The letter behind a `:` that stands for a byte.
+/// The letter after a `:` that stands for a byte.
 fn letter_of(byte: u8) -> Option<u8>
     ensures { result ≡ letter_for byte }
 {

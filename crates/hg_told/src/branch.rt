@@ -12,7 +12,7 @@ use hg_types::{NoMemory, Seq};
 use std::alloc::Allocator;
 
 /// The name of the branch that the text of a changeset tells. Lines end at line feeds, and the third has to
-/// have its end. Behind its second space stand extras, parted by bytes 0, in which `\\`, `\n`, `\r` and `\0`
+/// have its end. After its second space stand extras, parted by bytes 0, in which `\\`, `\n`, `\r` and `\0`
 /// stand for a backslash and for the bytes 10, 13 and 0. The last that begins with `branch:` gives the name;
 /// with none it is `default`. Any bytes are a text. It takes memory for the name alone.
 pub fn branch_of<A: Allocator + Copy>(alloc: A, text: &[u8]) -> Result<Seq<u8, A>, NoMemory>
@@ -52,7 +52,7 @@ fn escaped_branch(text: &[u8]) -> &[u8]
     found
 }
 
-/// What stands behind the second space of the third line, or nothing.
+/// What stands after the second space of the third line, or nothing.
 fn extras_of(text: &[u8]) -> &[u8]
     ensures { result.now ≡ extras_in text.now }
 {
@@ -74,7 +74,7 @@ fn third_line(text: &[u8]) -> Option<&[u8]>
     }
 }
 
-/// What stands behind the second such byte.
+/// What stands after the second such byte.
 fn behind_second(text: &[u8], byte: u8) -> Option<&[u8]>
     ensures { option_map (λ rest. rest.now) result ≡ behind_two (λ b. b == byte) text.now }
 {
@@ -83,7 +83,7 @@ fn behind_second(text: &[u8], byte: u8) -> Option<&[u8]>
     rest
 }
 
-/// What stands behind a key, where an extra, its escapes undone, begins with it.
+/// What stands after a key, where an extra, its escapes undone, begins with it.
 fn behind_key<'a>(extra: &'a [u8], key: &[u8]) -> Option<&'a [u8]>
     ensures none { IfNone result (starts_with nat_eq (plain_extra extra.now) key.now ≡ false) }
     ensures found { IfSome result (λ rest. plain_extra extra.now ≡ key.now ++ plain_extra rest.now) }
@@ -118,7 +118,7 @@ fn read_extra(extra: &[u8]) -> (u8, usize)
     (extra[0], 1)
 }
 
-/// The byte that a character behind a backslash stands for.
+/// The byte that a character after a backslash stands for.
 fn byte_of(letter: u8) -> Option<u8>
     ensures { result ≡ extra_byte letter }
 {

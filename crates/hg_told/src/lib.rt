@@ -1,5 +1,5 @@
 //! What a repository tells a client over HTTP: the texts that a Mercurial client asks a server for before and
-//! behind a push, and the forms in which it asks.
+//! after a push, and the forms in which it asks.
 //!
 //! Each text is a function of values that are borrowed: nothing is changed, and the only refusal is a want of
 //! memory. [`read_form`] and [`read_batch`] read the two forms of arguments, and [`joined_answers`] writes

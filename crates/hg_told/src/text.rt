@@ -34,7 +34,7 @@ fn place_of(byte: u8, text: &[u8]) -> Option<usize>
     text.iter().position(|other| *other == byte)
 }
 
-/// What stands before the first such byte, or all where there is none, and what stands behind it.
+/// What stands before the first such byte, or all where there is none, and what stands after it.
 pub fn split_once(text: &[u8], byte: u8) -> (&[u8], Option<&[u8]>)
     ensures before { result.0.now ≡ before_first (λ b. b == byte) text.now }
     ensures behind { option_map (λ rest. rest.now) result.1 ≡ behind_first (λ b. b == byte) text.now }
@@ -76,7 +76,7 @@ pub fn push_id<A: Allocator>(text: &mut Vec<u8, A>, node: &Node, byte: u8) -> Re
     Ok(())
 }
 
-/// A text of words or lines with a byte behind each, without the last.
+/// A text of words or lines with a byte after each, without the last.
 pub fn joined<A: Allocator>(mut text: Vec<u8, A>) -> Seq<u8, A>
     ensures { result ≡ take (length text.items - 1) text.items }
 {

@@ -316,8 +316,8 @@ fn texts_with_escapes(rt: HostRuntime) {
     }
 }
 
-/// A chain of 70, all obsolete but one: what comes behind that one is hidden, and nothing before it.
-/// A chain of 70 obsolete ones with one that is not (`a_hidden_chain`). Result: those behind it are
+/// A chain of 70, all obsolete but one: what comes after that one is hidden, and nothing before it.
+/// A chain of 70 obsolete ones with one that is not (`a_hidden_chain`). Result: those after it are
 /// hidden.
 #[test]
 fn a_hidden_chain(rt: HostRuntime) -> Result<(), Fail> {

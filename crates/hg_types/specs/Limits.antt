@@ -2,6 +2,7 @@
 use Rattle.std.specs.Prelude.{ℕ, ◌≤◌}
 use Rattle.hg_types.specs.declared.limits.Limits.{Limits}
 
+-- the limits of a server that sets none of its own
 abbrev pub standard_limits : Limits
 standard_limits = record {
   params = 65536;
@@ -13,6 +14,7 @@ standard_limits = record {
   revisions = 2147483647;
 }
 
+-- at least 1, and at most that much
 abbrev pub IsWithin : ℕ → ℕ → Type 0
 IsWithin value most = (1 ≤ value) × (value ≤ most)
 

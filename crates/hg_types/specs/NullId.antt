@@ -6,5 +6,6 @@ use Rattle.hg_types.specs.declared.node.Node.{Node}
 abbrev pub null_id : List ℕ
 null_id = replicate 20 0
 
+-- the null id, as an id
 abbrev pub null_node : Node
 null_node = record { 0 = null_id }

@@ -1,4 +1,4 @@
-//! Want of memory, and copies that may meet it.
+//! Out of memory, and copies that may meet it.
 
 ghost use Rattle.std.specs.Prelude.{◌≡◌, IfOk};
 
@@ -22,7 +22,7 @@ impl<T: Drop> From<AllocFailed<T>> for NoMemory {
     }
 }
 
-/// A copy, which equals its source, or is refused for want of memory.
+/// A copy, which equals its source, or is refused for lack of memory.
 pub trait TryClone<A: Allocator + Copy> {
     /// Copies into memory of `alloc`.
     fn try_clone(&self, alloc: A) -> Result<Self, NoMemory>

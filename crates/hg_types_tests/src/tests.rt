@@ -189,7 +189,7 @@ fn cloned(heap: &LocalHeap) -> Option<bool> {
 }
 
 // Over heaps of every size, so that each growth is refused in turn.
-// A part and its clone over heaps of 16 to 2,032 bytes. Result: an equal clone, or want of memory;
+// A part and its clone over heaps of 16 to 2,032 bytes. Result: an equal clone, or out of memory;
 // both occur.
 #[test]
 fn memory_is_refused_or_the_clone_is_equal(rt: HostRuntime) -> Result<(), Fail> {
@@ -271,7 +271,7 @@ fn large_part<A: Allocator + Copy>(alloc: A) -> Result<Part<A>, NoMemory> {
     })
 }
 
-/// A copy of bytes takes their number and no more, but for what the heap rounds up.
+/// A copy of bytes takes their number and no more, except what the heap rounds up.
 #[test]
 fn a_copy_takes_what_came(rt: HostRuntime) -> Result<(), Fail> {
     let heap = LocalHeap::new(rt.alloc(), 1 << 20)?;

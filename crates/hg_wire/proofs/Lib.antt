@@ -1,4 +1,5 @@
 mod Bodies
-mod Pushed
+mod OneBundle
 mod Lists
 mod Served
+mod Wires

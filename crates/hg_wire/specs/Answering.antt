@@ -1,5 +1,6 @@
 -- What each request is answered.
-use Rattle.std.specs.Prelude.{ℕ, ◌≡◌, ◌⊎◌, Bool, true, false, List, Option, Some, None, codes, bytes_eq}
+use Rattle.std.specs.Prelude.{ℕ, ◌≡◌, ◌⊎◌, ◌+◌, Bool, true, false, List, Option, Some, None, codes, bytes_eq}
+use Rattle.std.specs.Option.{option_copied}
 use mathlib.Core.List.{IsPrefix}
 use Rattle.http.specs.declared.request.Request.{Request}
 use Rattle.http.specs.Request.{body_of}
@@ -9,13 +10,17 @@ use Rattle.hg_stream.specs.Written.{bundle_bytes}
 use Rattle.hg_parts.specs.Repository.{Repository}
 use Rattle.hg_push.specs.Reply.{reply_of}
 use Rattle.hg_push.specs.Run.{RepositoryOf}
-use Rattle.hg_serve.specs.Answers.{Looks}
+use Rattle.hg_ledger.specs.Records.{done_in}
+use Rattle.hg_wire.specs.Looking.{LooksKept}
 use Rattle.hg_told.specs.declared.batch.Command.{Command as Asked}
 use Rattle.hg_told.specs.declared.form.Field.{Field}
 use Rattle.hg_told.specs.Batch.{commands_of}
 use Rattle.hg_told.specs.Capabilities.{capabilities_told}
 use Rattle.hg_http.specs.declared.answer.Answer.{Answer}
 use Rattle.hg_http.specs.declared.answer.Answer.TheVariants.{Told, Refused, Forbidden, NotFound}
+use Rattle.hg_http.specs.declared.answer.Answer.TheVariants.{Shown, Moved}
+use Rattle.hg_http.specs.declared.view.View.{View}
+use Rattle.hg_http.specs.Views.{moved_to, view_of}
 use Rattle.hg_http.specs.declared.answer.Refusal.TheVariants.{NotForced, BadBatch, PushesAlone}
 use Rattle.hg_http.specs.declared.answer.Refusal.TheVariants.{NoMemory}
 use Rattle.hg_http.specs.declared.command.Command.{Command}
@@ -27,6 +32,29 @@ use Rattle.hg_http.specs.Requests.{argument_in, arguments_of, is_from_client, na
 use Rattle.hg_http.specs.Tellings.{Tells}
 use Rattle.hg_wire.specs.Pushes.{IsPushAnswered, key_line, set_line}
 use Rattle.hg_wire.specs.Texts.{are_reads, IsBatchText, IsTextOf}
+use Rattle.hg_wire.specs.Views.{finished, IsViewed}
+use Rattle.hg_wire.specs.declared.terms.Terms.{Terms}
+
+-- What answers say and rest on beside the repository: which text may be the page and which the counters, of a
+-- repository; that by a history so many done pushes are on the device; how many pushes the store had when it was
+-- opened; and where pulls go.
+pub record Around (A : Type 0) : Type 1 where
+  pub page : Repository A → List ℕ → Type 0
+  pub metrics : Repository A → List ℕ → Type 0
+  pub kept : List (Taken A) → ℕ → Type 0
+  pub stored : ℕ
+  pub pull : Option (List ℕ)
+
+-- what answers say beside the repository, on these terms
+abbrev pub around_of : {A S : Type 0} → (List (Taken A) → ℕ → Type 0) → (S → Repository A → List ℕ → Type 0) →
+    (S → Repository A → List ℕ → Type 0) → Terms S → Around A
+around_of kept page metrics terms = record {
+  page = page terms.shown.now;
+  metrics = metrics terms.shown.now;
+  kept = kept;
+  stored = terms.stored;
+  pull = option_copied terms.pull;
+}
 
 -- nothing changed, and this is the answer
 abbrev pub IsSaid : {A : Type 0} → Answer A → List (Taken A) → Answer A → List (Taken A) → Type 0
@@ -44,55 +72,61 @@ abbrev pub OrLacks : {A : Type 0} → (List (Taken A) → Answer A → List (Tak
 OrLacks Says before answer after = Says before answer after ⊎ LacksMemory before answer after
 
 -- The answer is a text that is so told of the repository at one point of the serial order, and not before
--- what the client was told.
-pub record IsToldAt {A : Type 0} (first : RepositoryOf A) (IsText : Repository A → List ℕ → Type 0)
-    (before : List (Taken A)) (answer : Answer A) (after : List (Taken A)) : Type 0 where
-  pub repo : Repository A
-  pub looks : Looks first before after repo
+-- what the client was told; all pushes that were done by then were on the device.
+pub record IsSaidAt {A : Type 0} (first : RepositoryOf A) (kept : List (Taken A) → ℕ → Type 0)
+    (says : List ℕ → Answer A) (IsText : Repository A → List ℕ → Type 0) (before : List (Taken A))
+    (answer : Answer A) (after : List (Taken A)) : Type 0 where
   pub text : List ℕ
-  pub is_text : IsText repo text
-  pub answer_is : answer ≡ Told text
+  pub looks : LooksKept first kept before after (λ repo. IsText repo text)
+  pub answer_is : answer ≡ says text
+
+abbrev pub IsToldAt : {A : Type 0} → RepositoryOf A → (List (Taken A) → ℕ → Type 0) →
+    (Repository A → List ℕ → Type 0) → List (Taken A) → Answer A → List (Taken A) → Type 0
+IsToldAt first kept IsText before answer after = IsSaidAt first kept Told IsText before answer after
 
 -- a batch of commands that only read is told of one repository; any other is refused
-abbrev pub AnswersBatch : {A : Type 0} → RepositoryOf A → List (Asked A) → Bool → List (Taken A) → Answer A →
-    List (Taken A) → Type 0
-AnswersBatch first commands false before answer after = IsSaid (Refused BadBatch) before answer after
-AnswersBatch first commands true before answer after =
-    IsToldAt first (λ repo text. IsBatchText repo commands text) before answer after
+abbrev pub AnswersBatch : {A : Type 0} → RepositoryOf A → (List (Taken A) → ℕ → Type 0) → List (Asked A) →
+    Bool → List (Taken A) → Answer A → List (Taken A) → Type 0
+AnswersBatch first kept commands false before answer after = IsSaid (Refused BadBatch) before answer after
+AnswersBatch first kept commands true before answer after =
+    IsToldAt first kept (λ repo text. IsBatchText repo commands text) before answer after
 
 -- a push of the body, where its heads are forced: `force` in hexadecimal digits
-abbrev pub AnswersForced : {A : Type 0} → ℕ → RepositoryOf A → List ℕ → Bool → List (Taken A) → Answer A →
-    List (Taken A) → Type 0
-AnswersForced capacity first body false before answer after = IsSaid (Refused NotForced) before answer after
-AnswersForced capacity first body true before answer after =
-    IsPushAnswered capacity first before body reply_of answer after
+abbrev pub AnswersForced : {A : Type 0} → ℕ → RepositoryOf A → (List (Taken A) → ℕ → Type 0) → List ℕ → Bool →
+    List (Taken A) → Answer A → List (Taken A) → Type 0
+AnswersForced capacity first kept body false before answer after =
+    IsSaid (Refused NotForced) before answer after
+AnswersForced capacity first kept body true before answer after =
+    IsPushAnswered capacity first kept body reply_of before answer after
 
 -- a push that sets the key
-abbrev pub AnswersFitting : {A : Type 0} → ℕ → RepositoryOf A → List ℕ → List ℕ → List ℕ → List ℕ →
-    List (Taken A) → Answer A → List (Taken A) → Type 0
-AnswersFitting {A} capacity first namespace key old new before answer after =
-    IsPushAnswered capacity first before (bundle_bytes (key_parts {A = A} namespace key old new)) key_line
+abbrev pub AnswersFitting : {A : Type 0} → ℕ → RepositoryOf A → (List (Taken A) → ℕ → Type 0) → List ℕ →
+    List ℕ → List ℕ → List ℕ → List (Taken A) → Answer A → List (Taken A) → Type 0
+AnswersFitting {A} capacity first kept namespace key old new before answer after =
+    IsPushAnswered capacity first kept (bundle_bytes (key_parts {A = A} namespace key old new)) key_line before
     answer after
 
 -- the same where a part can hold the values; else it is not set
-abbrev pub AnswersKey : {A : Type 0} → ℕ → RepositoryOf A → List ℕ → List ℕ → List ℕ → List ℕ → Bool →
-    List (Taken A) → Answer A → List (Taken A) → Type 0
-AnswersKey capacity first namespace key old new false before answer after =
+abbrev pub AnswersKey : {A : Type 0} → ℕ → RepositoryOf A → (List (Taken A) → ℕ → Type 0) → List ℕ → List ℕ →
+    List ℕ → List ℕ → Bool → List (Taken A) → Answer A → List (Taken A) → Type 0
+AnswersKey capacity first kept namespace key old new false before answer after =
     IsSaid (Told (set_line false)) before answer after
-AnswersKey capacity first namespace key old new true before answer after =
-    AnswersFitting capacity first namespace key old new before answer after
+AnswersKey capacity first kept namespace key old new true before answer after =
+    AnswersFitting capacity first kept namespace key old new before answer after
 
-abbrev pub AnswersChange : {A : Type 0} → ℕ → RepositoryOf A → List ℕ → List ℕ → List ℕ → List ℕ →
-    List (Taken A) → Answer A → List (Taken A) → Type 0
-AnswersChange capacity first namespace key old new before answer after =
-    AnswersKey capacity first namespace key old new (fits namespace key old new) before answer after
+-- a change of a key is answered by a push, where its values fit; else as not set
+abbrev pub AnswersChange : {A : Type 0} → ℕ → RepositoryOf A → (List (Taken A) → ℕ → Type 0) → List ℕ →
+    List ℕ → List ℕ → List ℕ → List (Taken A) → Answer A → List (Taken A) → Type 0
+AnswersChange capacity first kept namespace key old new before answer after =
+    AnswersKey capacity first kept namespace key old new (fits namespace key old new) before answer after
 
 -- the change that the arguments ask for
-abbrev pub AnswersPushKey : {A : Type 0} → ℕ → RepositoryOf A → List (Field A) → List (Taken A) → Answer A →
-    List (Taken A) → Type 0
-AnswersPushKey capacity first fields before answer after =
-    AnswersChange capacity first (argument_in fields (codes "namespace")) (argument_in fields (codes "key"))
-    (argument_in fields (codes "old")) (argument_in fields (codes "new")) before answer after
+abbrev pub AnswersPushKey : {A : Type 0} → ℕ → RepositoryOf A → (List (Taken A) → ℕ → Type 0) →
+    List (Field A) → List (Taken A) → Answer A → List (Taken A) → Type 0
+AnswersPushKey capacity first kept fields before answer after =
+    AnswersChange capacity first kept (argument_in fields (codes "namespace"))
+    (argument_in fields (codes "key")) (argument_in fields (codes "old")) (argument_in fields (codes "new"))
+    before answer after
 
 -- what no page in a browser sent is answered so; what one could have sent is forbidden
 abbrev pub IfFromClient : {A : Type 0} → Bool → (List (Taken A) → Answer A → List (Taken A) → Type 0) →
@@ -100,36 +134,67 @@ abbrev pub IfFromClient : {A : Type 0} → Bool → (List (Taken A) → Answer A
 IfFromClient false Answers before answer after = IsSaid Forbidden before answer after
 IfFromClient true Answers before answer after = Answers before answer after
 
+-- where a pull goes: to another address with the same query, if there is one
+abbrev pub pull_answer : {A : Type 0} → Option (List ℕ) → Request (List ℕ) → Answer A
+pull_answer None r = Refused PushesAlone
+pull_answer (Some address) r = Moved (moved_to address r)
+
 -- the answer to a command with these arguments, and what its client has seen then
-abbrev pub AnswersCommand : {A : Type 0} → ℕ → RepositoryOf A → Option Command → List (Field A) →
-    Request (List ℕ) → List (Taken A) → Answer A → List (Taken A) → Type 0
-AnswersCommand capacity first None fields r before answer after = IsSaid NotFound before answer after
-AnswersCommand capacity first (Some Capabilities) fields r before answer after =
+abbrev pub AnswersCommand : {A : Type 0} → ℕ → RepositoryOf A → (List (Taken A) → ℕ → Type 0) →
+    Option (List ℕ) → Command → List (Field A) → Request (List ℕ) → List (Taken A) → Answer A →
+    List (Taken A) → Type 0
+AnswersCommand capacity first kept pull Capabilities fields r before answer after =
     IsSaid (Told capabilities_told) before answer after
-AnswersCommand capacity first (Some GetBundle) fields r before answer after =
-    IsSaid (Refused PushesAlone) before answer after
-AnswersCommand capacity first (Some (Tell read)) fields r before answer after =
-    IsToldAt first (λ repo text. IsTextOf repo read (argument_in fields (subject_of read)) text)
+AnswersCommand capacity first kept pull GetBundle fields r before answer after =
+    IsSaid (pull_answer pull r) before answer after
+AnswersCommand capacity first kept pull (Tell read) fields r before answer after =
+    IsToldAt first kept (λ repo text. IsTextOf repo read (argument_in fields (subject_of read)) text)
     before answer after
-AnswersCommand capacity first (Some Batch) fields r before answer after =
+AnswersCommand capacity first kept pull Batch fields r before answer after =
     let commands = commands_of (argument_in fields (codes "cmds")) in
-    AnswersBatch first commands (are_reads commands) before answer after
-AnswersCommand capacity first (Some Unbundle) fields r before answer after =
-    IfFromClient (is_from_client r) (AnswersForced capacity first (body_of r)
+    AnswersBatch first kept commands (are_reads commands) before answer after
+AnswersCommand capacity first kept pull Unbundle fields r before answer after =
+    IfFromClient (is_from_client r) (AnswersForced capacity first kept (body_of r)
     (bytes_eq (argument_in fields (codes "heads")) (codes "666f726365"))) before answer after
-AnswersCommand capacity first (Some PushKey) fields r before answer after =
-    IfFromClient (is_from_client r) (AnswersPushKey capacity first fields) before answer after
+AnswersCommand capacity first kept pull PushKey fields r before answer after =
+    IfFromClient (is_from_client r) (AnswersPushKey capacity first kept fields) before answer after
+
+-- The answer without a command: a view, of the repository at one point of the serial order. A report names so
+-- many pushes as the store had, and those that were done here.
+abbrev pub AnswersView : {A : Type 0} → RepositoryOf A → Around A → Option View → List (Taken A) → Answer A →
+    List (Taken A) → Type 0
+AnswersView first around None before answer after = IsSaid NotFound before answer after
+AnswersView first around (Some view) before answer after =
+    IsSaidAt first around.kept
+    (λ text. Shown view (finished view (around.stored + done_in first after) text))
+    (IsViewed around.page around.metrics view) before answer after
+
+abbrev pub AnswersAsked : {A : Type 0} → ℕ → RepositoryOf A → Around A → Option Command → List (Field A) →
+    Request (List ℕ) → List (Taken A) → Answer A → List (Taken A) → Type 0
+AnswersAsked capacity first around None fields r before answer after =
+    AnswersView first around (view_of r) before answer after
+AnswersAsked capacity first around (Some command) fields r before answer after =
+    AnswersCommand capacity first around.kept around.pull command fields r before answer after
 
 -- The answer to a request: that to its command with its arguments, or memory was refused before anything
 -- changed.
-abbrev pub Answers : {A : Type 0} → ℕ → RepositoryOf A → Request (List ℕ) → List (Taken A) → Answer A →
-    List (Taken A) → Type 0
-Answers {A} capacity first r before answer after =
-    OrLacks (AnswersCommand capacity first (command_of (name_of A r)) (arguments_of r) r) before answer after
+abbrev pub Answers : {A : Type 0} → ℕ → RepositoryOf A → Around A → Request (List ℕ) → List (Taken A) →
+    Answer A → List (Taken A) → Type 0
+Answers {A} capacity first around r before answer after =
+    OrLacks (AnswersAsked capacity first around (command_of (name_of A r)) (arguments_of r) r) before answer
+    after
+
+-- what contracts see of a connection's service: what its client had seen when the last request was answered, and
+-- the terms
+pub record WireView (A S : Type 0) : Type 0 where
+  pub told : List (Taken A)
+  pub terms : Terms S
 
 -- the response tells the answer
-pub record Responds {A : Type 0} (capacity : ℕ) (first : RepositoryOf A) (before : List (Taken A))
-    (r : Request (List ℕ)) (response : Response) (after : List (Taken A)) : Type 0 where
+pub record Responds {A S : Type 0} (capacity : ℕ) (first : RepositoryOf A)
+    (kept : List (Taken A) → ℕ → Type 0) (page metrics : S → Repository A → List ℕ → Type 0)
+    (old : WireView A S) (r : Request (List ℕ)) (response : Response) (new : WireView A S) : Type 0 where
   pub answer : Answer A
-  pub answers : Answers capacity first r before answer after
+  pub answers : Answers capacity first (around_of kept page metrics old.terms) r old.told answer new.told
   pub tells : Tells answer response
+  pub same : new.terms ≡ old.terms

@@ -1,4 +1,6 @@
 pub mod Texts
+pub mod Looking
+pub mod Views
 pub mod Pushes
 pub mod Answering
 pub mod Serving

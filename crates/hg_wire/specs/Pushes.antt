@@ -1,7 +1,8 @@
 -- A push over HTTP, and what it is answered.
 use Rattle.std.specs.Prelude.{ℕ, ◌≡◌, ◌≢◌, ◌⊎◌, ◌++◌, Bool, true, false, ◌&&◌, List, [], ◌∷◌}
-use Rattle.std.specs.Prelude.{Option, Some, None, codes, bytes_eq}
+use Rattle.std.specs.Prelude.{Option, Some, None, codes, bytes_eq, IfSome, Result, Ok, Err}
 use Rattle.std.specs.List.{list_any}
+use mathlib.Core.List.{IsPrefix}
 use Rattle.hg_types.specs.declared.item.Taken.{Taken}
 use Rattle.hg_types.specs.declared.part.Part.{Part}
 use Rattle.hg_types.specs.declared.part.Param.{Param}
@@ -9,52 +10,86 @@ use Rattle.hg_repo.specs.declared.done.Done.{Done}
 use Rattle.hg_parts.specs.declared.refusal.Refusal.{Refusal as RunRefusal}
 use Rattle.hg_push.specs.declared.outcome.Outcome.{Outcome}
 use Rattle.hg_push.specs.declared.outcome.Outcome.TheVariants.{Done as done_with, Aborted}
-use Rattle.hg_push.specs.Run.{RepositoryOf}
-use Rattle.hg_serve.specs.declared.desk.Answer.{Answer as Ended}
+use Rattle.hg_push.specs.Places.{RestsOn}
+use Rattle.hg_push.specs.Reply.{reply_of}
+use Rattle.hg_push.specs.Run.{RepositoryOf, run_push}
+use Rattle.hg_queue.specs.History.{of, items_of}
+use Rattle.hg_serve.specs.Answers.{Answers as IsAnswered}
+use Rattle.hg_serve.specs.Histories.{newest_first}
 use Rattle.hg_connection.specs.declared.ending.Ending.TheVariants.{InputEnded, ReadFailed}
-use Rattle.hg_connection.specs.Connections.{Exchange, IsExchange}
+use Rattle.hg_connection.specs.Receiving.{IsReceived, mark_of, push_items}
+use Rattle.hg_kept.specs.Kept.{IsRecorded, KeptExchange}
 use Rattle.hg_http.specs.declared.answer.Answer.{Answer}
 use Rattle.hg_http.specs.declared.answer.Answer.TheVariants.{Told, Refused}
 use Rattle.hg_http.specs.declared.answer.Refusal.TheVariants.{NotOpened, NoAnswer}
+use Rattle.hg_wire.specs.declared.push.Told.{Told as ToldPush}
 
+-- how a push ended
 abbrev pub How : Type 0 → Type 0
 How A = Outcome (Done A) (RunRefusal A)
 
--- One bundle was pushed: its bytes begin the body, and end before it only behind an end mark or a fault. No
--- read of the body failed. The push goes on from what its client had seen, and ended so.
-pub record IsPush {A : Type 0} (capacity : ℕ) (first : RepositoryOf A) (before : List (Taken A))
-    (body : List ℕ) (x : Exchange A) : Type 0 where
-  pub is : IsExchange first.settings.limits capacity first before [] x
-  pub read : x.ending ≢ ReadFailed
-  pub behind : List ℕ
-  pub body_is : body ≡ x.consumed ++ behind
-  pub whole : x.ending ≡ InputEnded → behind ≡ []
+-- What is said of an answer holds of it. Where the store failed there is none, and the client may have seen more.
+abbrev pub Answered : {A E : Type 0} → (List (Taken A) → Answer A → List (Taken A) → Type 0) →
+    List (Taken A) → Result (Answer A) E → List (Taken A) → Type 0
+Answered Says before (Ok answer) after = Says before answer after
+Answered Says before (Err e) after = IsPrefix before after
 
--- No push was opened, and nothing changed; or one was, and ended so.
-abbrev pub Pushes : {A : Type 0} → ℕ → RepositoryOf A → List (Taken A) → List ℕ → Option (Ended A) →
-    List (Taken A) → Type 0
-Pushes capacity first before body None after = after ≡ before
-Pushes {A} capacity first before body (Some ended) after =
-    (x : Exchange A) × IsPush capacity first before body x × (x.how ≡ ended.outcome) × (x.after ≡ after)
+-- One bundle was pushed: its bytes begin the body, and end before it only after an end mark or a fault. No
+-- read of the body failed. The push goes on from what its client had seen, and ended so. The answer rests on so
+-- many done pushes, of which a done one is the last, with its bundle as its record; all of these were on the
+-- device.
+pub record IsPush {A : Type 0} (capacity : ℕ) (first : RepositoryOf A)
+    (kept : List (Taken A) → ℕ → Type 0) (before : List (Taken A)) (body : List ℕ) (x : KeptExchange A) :
+    Type 0
+  where
+    pub received : IsReceived first.settings.limits [] x.reads x.ending x.parts x.consumed x.rest
+    pub fresh : of x.push (items_of before) ≡ []
+    pub answers : IsAnswered capacity first x.push (push_items x.push x.parts (mark_of x.ending)) before x.how
+        x.takes x.after
+    pub rests_on : RestsOn run_push first (newest_first x.after) x.push x.how x.rests
+    pub recorded : IsRecorded first x.after x.rests x.consumed x.how
+    pub is_kept : kept x.after x.rests
+    pub read : x.ending ≢ ReadFailed
+    pub behind : List ℕ
+    pub body_is : body ≡ x.consumed ++ behind
+    pub whole : x.ending ≡ InputEnded → behind ≡ []
+
+-- No push was opened, and nothing changed; or one was, and ended so. Its reply was made, if there was memory for
+-- it.
+abbrev pub Pushes : {A : Type 0} → ℕ → RepositoryOf A → (List (Taken A) → ℕ → Type 0) → List (Taken A) →
+    List ℕ → Option (ToldPush A) → List (Taken A) → Type 0
+Pushes capacity first kept before body None after = after ≡ before
+Pushes {A} capacity first kept before body (Some told) after =
+    (x : KeptExchange A) × IsPush capacity first kept before body x × (x.how ≡ told.outcome)
+    × (x.after ≡ after) × IfSome told.reply (λ reply. reply ≡ reply_of told.outcome)
+
+-- the same; where the store failed, nothing is told
+abbrev pub Pushed : {A E : Type 0} → ℕ → RepositoryOf A → (List (Taken A) → ℕ → Type 0) → List (Taken A) →
+    List ℕ → Result (Option (ToldPush A)) E → List (Taken A) → Type 0
+Pushed capacity first kept before body (Ok told) after = Pushes capacity first kept before body told after
+Pushed capacity first kept before body (Err e) after = IsPrefix before after
 
 -- a push that ended so is told by this text, or there was no memory for the answer
 abbrev pub IsReplyTo : {A : Type 0} → (How A → List ℕ) → How A → Answer A → Type 0
 IsReplyTo reply how answer = (answer ≡ Told (reply how)) ⊎ (answer ≡ Refused NoAnswer)
 
-abbrev pub IsReply : {A : Type 0} → (How A → List ℕ) → Option (Ended A) → Answer A → Type 0
+-- the answer is the reply to how the push ended; where none was opened, the refusal that says so
+abbrev pub IsReply : {A : Type 0} → (How A → List ℕ) → Option (ToldPush A) → Answer A → Type 0
 IsReply reply None answer = answer ≡ Refused NotOpened
-IsReply reply (Some ended) answer = IsReplyTo reply ended.outcome answer
+IsReply reply (Some told) answer = IsReplyTo reply told.outcome answer
 
 -- A push of that bundle was answered: it was not opened, and nothing changed; or it was, and the answer tells
 -- how it ended.
-pub record IsPushAnswered {A : Type 0} (capacity : ℕ) (first : RepositoryOf A) (before : List (Taken A))
-    (body : List ℕ) (reply : How A → List ℕ) (answer : Answer A) (after : List (Taken A)) : Type 0 where
-  pub ended : Option (Ended A)
-  pub pushes : Pushes capacity first before body ended after
+pub record IsPushAnswered {A : Type 0} (capacity : ℕ) (first : RepositoryOf A)
+    (kept : List (Taken A) → ℕ → Type 0) (body : List ℕ) (reply : How A → List ℕ) (before : List (Taken A))
+    (answer : Answer A) (after : List (Taken A)) : Type 0 where
+  pub ended : Option (ToldPush A)
+  pub pushes : Pushes capacity first kept before body ended after
   pub answer_is : IsReply reply ended answer
 
 -- ---- a push that sets one key
 
+-- the parameter of a reply that says 1
 abbrev pub is_one : {A : Type 0} → Param A → Bool
 is_one param = bytes_eq param.key (codes "return") && bytes_eq param.value (codes "1")
 
@@ -67,6 +102,7 @@ abbrev pub is_set : {A : Type 0} → How A → Bool
 is_set (done_with done) = list_any says_one done.replies
 is_set (Aborted reason) = false
 
+-- `1` or `0`, and a line feed
 abbrev pub set_line : Bool → List ℕ
 set_line true = 49 ∷ 10 ∷ []
 set_line false = 48 ∷ 10 ∷ []

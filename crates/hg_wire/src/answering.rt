@@ -1,6 +1,7 @@
 //! What a request is answered.
 
 ghost use Rattle.std.specs.Prelude.{◌≡◌, ◌⊎◌, codes, IfOk, MatchResult};
+ghost use Rattle.std.specs.Option.{option_copied};
 ghost use Rattle.std.specs.Str.{bytes_eq};
 ghost use Rattle.http.specs.Request.{body_of};
 ghost use Rattle.hg_http.specs.Commands.{command_of as command_named, subject_of as subject};
@@ -8,41 +9,60 @@ ghost use Rattle.hg_http.specs.Requests.{argument_in, arguments_of, is_from_clie
 ghost use Rattle.hg_http.specs.Requests.{name_of};
 ghost use Rattle.hg_told.specs.Batch.{commands_of};
 ghost use Rattle.hg_told.specs.Capabilities.{capabilities_told};
-ghost use Rattle.hg_wire.specs.Answering.{Answers, AnswersBatch, AnswersCommand, AnswersForced};
-ghost use Rattle.hg_wire.specs.Answering.{AnswersPushKey, IfFromClient, IsSaid, IsToldAt, OrLacks};
+ghost use Rattle.hg_ledger.specs.Records.{AreKept};
+ghost use Rattle.hg_wire.specs.Answering.{Answers, AnswersAsked, AnswersBatch, AnswersCommand, AnswersForced};
+ghost use Rattle.hg_wire.specs.Answering.{AnswersPushKey, around_of, IfFromClient, IsSaid, IsToldAt, OrLacks};
+ghost use Rattle.hg_wire.specs.Answering.{pull_answer};
+ghost use Rattle.hg_wire.specs.Pushes.{Answered};
 ghost use Rattle.hg_wire.specs.Texts.{are_reads as all_read, IsTextOf};
 
 use crate::key::push_key;
+use crate::looking::look;
 use crate::push::unbundle;
 use crate::reading::{Batch, Reading, are_reads};
+use crate::shown::{Shown, Watch};
+use crate::terms::{Host, Terms};
+use crate::viewing::answer_view;
 use bytes::Bytes;
 use hg_http::{
-    Answer, Command, Read, Refusal, argument, command_of, is_from_client, read_arguments,
-    read_name, subject_of,
+    Answer, Command, Read, Refusal, argument, command_of, is_from_client, moved_to, read_arguments,
+    read_name, subject_of, view_of,
 };
-use hg_serve::{Client, Naming, Server};
+use hg_ledger::{NotStored, Storing};
+use hg_serve::Client;
+use hg_store::Device;
 use hg_told::{Field, capabilities_text, read_batch};
 use hg_types::{NoMemory, Seq};
 use http::Request;
 use std::alloc::Allocator;
 use std::sync::Wait;
 
-/// Answers a request. Its client has then seen what the answer tells of.
-pub fn answer_request<J: Naming<A>, A: Allocator + Copy, R: Wait>(
-    server: &Server<J, A>,
-    rt: &R,
-    alloc: A,
+/// Answers a request. Its client has then seen what the answer tells of. Where the store failed, there is no
+/// answer.
+pub fn answer_request<
+    J: Storing<A>,
+    D: Device,
+    A: Allocator + Copy,
+    R: Wait,
+    S: Shown<A>,
+    V: Watch<A>,
+>(
+    host: &Host<'_, J, D, R, A>,
+    terms: &Terms<'_, S>,
     client: Client<J, A>,
     request: &Request<Bytes>,
-) -> (Client<J, A>, Answer<A>)
-    ensures { Answers J.capacity J.first request.now client result.1 result.0 }
+    watch: &mut V,
+) -> (Client<J, A>, Result<Answer<A>, NotStored>)
+    ensures { Answered (Answers J.capacity J.first
+        (around_of (AreKept D.seen D.may_leave J.head J.stored J.first) S.is_page S.are_metrics terms.now)
+        request.now) client result.1 result.0 }
 {
-    match read_request(alloc, request) {
+    match read_request(host.alloc, request) {
         Ok((command, fields)) => {
             let fields = fields.as_slice();
-            answer_command(server, rt, alloc, client, command, fields, request)
+            answer_asked(host, terms, client, command, fields, request, watch)
         }
-        Err(_) => (client, Answer::Refused(Refusal::NoMemory)),
+        Err(_) => (client, Ok(Answer::Refused(Refusal::NoMemory))),
     }
 }
 
@@ -59,27 +79,65 @@ fn read_request<A: Allocator + Copy>(
     Ok((command_of(name.as_slice()), fields))
 }
 
-/// Answers a command.
-fn answer_command<J: Naming<A>, A: Allocator + Copy, R: Wait>(
-    server: &Server<J, A>,
-    rt: &R,
-    alloc: A,
+/// Answers what was asked: a command, or a view.
+fn answer_asked<J: Storing<A>, D: Device, A: Allocator + Copy, R: Wait, S: Shown<A>, V: Watch<A>>(
+    host: &Host<'_, J, D, R, A>,
+    terms: &Terms<'_, S>,
     client: Client<J, A>,
     command: Option<Command>,
     fields: &[Field<A>],
     request: &Request<Bytes>,
-) -> (Client<J, A>, Answer<A>)
-    ensures { OrLacks (AnswersCommand J.capacity J.first command fields.now request.now)
-        client result.1 result.0 }
+    watch: &mut V,
+) -> (Client<J, A>, Result<Answer<A>, NotStored>)
+    ensures { Answered (OrLacks (AnswersAsked J.capacity J.first
+        (around_of (AreKept D.seen D.may_leave J.head J.stored J.first) S.is_page S.are_metrics terms.now)
+        command fields.now request.now)) client result.1 result.0 }
 {
     match command {
-        None => (client, Answer::NotFound),
-        Some(Command::Tell(read)) => tell(server, rt, alloc, client, read, fields),
-        Some(Command::Capabilities) => (client, capabilities(alloc)),
-        Some(Command::Batch) => answer_batch(server, rt, alloc, client, fields),
-        Some(Command::Unbundle) => answer_unbundle(server, rt, alloc, client, fields, request),
-        Some(Command::PushKey) => answer_pushkey(server, rt, alloc, client, fields, request),
-        Some(Command::GetBundle) => (client, Answer::Refused(Refusal::PushesAlone)),
+        Some(command) => answer_command(host, terms.pull, client, command, fields, request, watch),
+        None => answer_view(host, terms, client, view_of(request)),
+    }
+}
+
+/// Answers a command.
+fn answer_command<J: Storing<A>, D: Device, A: Allocator + Copy, R: Wait, V: Watch<A>>(
+    host: &Host<'_, J, D, R, A>,
+    pull: Option<&[u8]>,
+    client: Client<J, A>,
+    command: Command,
+    fields: &[Field<A>],
+    request: &Request<Bytes>,
+    watch: &mut V,
+) -> (Client<J, A>, Result<Answer<A>, NotStored>)
+    ensures { Answered (OrLacks (AnswersCommand J.capacity J.first
+        (AreKept D.seen D.may_leave J.head J.stored J.first) (option_copied pull.entry) command fields.now
+        request.now)) client result.1 result.0 }
+{
+    match command {
+        Command::Tell(read) => tell(host, client, read, fields),
+        Command::Capabilities => (client, Ok(capabilities(host.alloc))),
+        Command::Batch => answer_batch(host, client, fields),
+        Command::Unbundle => answer_unbundle(host, client, fields, request, watch),
+        Command::PushKey => answer_pushkey(host, client, fields, request, watch),
+        Command::GetBundle => (client, Ok(answer_pull(host.alloc, pull, request))),
+    }
+}
+
+/// Where a pull goes, or that nothing can be pulled here.
+fn answer_pull<A: Allocator + Copy>(
+    alloc: A,
+    pull: Option<&[u8]>,
+    request: &Request<Bytes>,
+) -> Answer<A>
+    ensures { (result ≡ pull_answer (option_copied pull.entry) request.now)
+        ⊎ (result ≡ Answer.Refused Refusal.NoMemory) }
+{
+    match pull {
+        None => Answer::Refused(Refusal::PushesAlone),
+        Some(address) => match moved_to(alloc, address, request) {
+            Ok(address) => Answer::Moved(address),
+            Err(_) => Answer::Refused(Refusal::NoMemory),
+        },
     }
 }
 
@@ -94,22 +152,28 @@ fn told<A: Allocator>(text: Result<Seq<u8, A>, NoMemory>) -> Answer<A>
 }
 
 /// Answers a command that only reads, by one look.
-fn tell<J: Naming<A>, A: Allocator + Copy, R: Wait>(
-    server: &Server<J, A>,
-    rt: &R,
-    alloc: A,
+fn tell<J: Storing<A>, D: Device, A: Allocator + Copy, R: Wait>(
+    host: &Host<'_, J, D, R, A>,
     client: Client<J, A>,
     read: Read,
     fields: &[Field<A>],
-) -> (Client<J, A>, Answer<A>)
-    ensures { OrLacks (IsToldAt J.first (λ repo text. IsTextOf repo read
-        (argument_in fields.now (subject read)) text)) client result.1 result.0 }
+) -> (Client<J, A>, Result<Answer<A>, NotStored>)
+    ensures { Answered (OrLacks (IsToldAt J.first
+        (AreKept D.seen D.may_leave J.head J.stored J.first)
+        (λ repo text. IsTextOf repo read (argument_in fields.now (subject read)) text)))
+        client result.1 result.0 }
 {
-    let mut client = client;
     let about = argument(fields, subject_of(read));
-    let question = Reading { alloc, read, about };
-    let text = server.look(rt, &mut client, &question);
-    (client, told(text))
+    let question = Reading {
+        alloc: host.alloc,
+        read,
+        about,
+    };
+    let (client, looked) = look(host, client, &question);
+    match looked {
+        Ok((text, _rests)) => (client, Ok(told(text))),
+        Err(fault) => (client, Err(fault)),
+    }
 }
 
 /// Tells the capabilities.
@@ -120,62 +184,65 @@ fn capabilities<A: Allocator + Copy>(alloc: A) -> Answer<A>
 }
 
 /// Answers a batch: all of it by one look.
-fn answer_batch<J: Naming<A>, A: Allocator + Copy, R: Wait>(
-    server: &Server<J, A>,
-    rt: &R,
-    alloc: A,
+fn answer_batch<J: Storing<A>, D: Device, A: Allocator + Copy, R: Wait>(
+    host: &Host<'_, J, D, R, A>,
     client: Client<J, A>,
     fields: &[Field<A>],
-) -> (Client<J, A>, Answer<A>)
+) -> (Client<J, A>, Result<Answer<A>, NotStored>)
     ensures { let commands = commands_of (argument_in fields.now (codes "cmds")) in
-        OrLacks (AnswersBatch J.first commands (all_read commands)) client result.1 result.0 }
+        Answered (OrLacks (AnswersBatch J.first (AreKept D.seen D.may_leave J.head J.stored J.first) commands
+        (all_read commands))) client result.1 result.0 }
 {
-    match read_batch(alloc, argument(fields, b"cmds".as_slice())) {
-        Ok(commands) => tell_all(server, rt, alloc, client, commands.as_slice()),
-        Err(_) => (client, Answer::Refused(Refusal::NoMemory)),
+    match read_batch(host.alloc, argument(fields, b"cmds".as_slice())) {
+        Ok(commands) => tell_all(host, client, commands.as_slice()),
+        Err(_) => (client, Ok(Answer::Refused(Refusal::NoMemory))),
     }
 }
 
 /// Answers the commands of a batch.
-fn tell_all<J: Naming<A>, A: Allocator + Copy, R: Wait>(
-    server: &Server<J, A>,
-    rt: &R,
-    alloc: A,
+fn tell_all<J: Storing<A>, D: Device, A: Allocator + Copy, R: Wait>(
+    host: &Host<'_, J, D, R, A>,
     client: Client<J, A>,
     commands: &[hg_told::Command<A>],
-) -> (Client<J, A>, Answer<A>)
-    ensures { OrLacks (AnswersBatch J.first commands.now (all_read commands.now)) client result.1 result.0 }
+) -> (Client<J, A>, Result<Answer<A>, NotStored>)
+    ensures { Answered (OrLacks (AnswersBatch J.first (AreKept D.seen D.may_leave J.head J.stored J.first)
+        commands.now (all_read commands.now))) client result.1 result.0 }
 {
     if !are_reads(commands) {
-        return (client, Answer::Refused(Refusal::BadBatch));
+        return (client, Ok(Answer::Refused(Refusal::BadBatch)));
     }
-    let mut client = client;
-    let question = Batch { alloc, commands };
-    let text = server.look(rt, &mut client, &question);
-    (client, told(text))
+    let question = Batch {
+        alloc: host.alloc,
+        commands,
+    };
+    let (client, looked) = look(host, client, &question);
+    match looked {
+        Ok((text, _rests)) => (client, Ok(told(text))),
+        Err(fault) => (client, Err(fault)),
+    }
 }
 
 /// Answers a push, which is the body of the request.
-fn answer_unbundle<J: Naming<A>, A: Allocator + Copy, R: Wait>(
-    server: &Server<J, A>,
-    rt: &R,
-    alloc: A,
+fn answer_unbundle<J: Storing<A>, D: Device, A: Allocator + Copy, R: Wait, V: Watch<A>>(
+    host: &Host<'_, J, D, R, A>,
     client: Client<J, A>,
     fields: &[Field<A>],
     request: &Request<Bytes>,
-) -> (Client<J, A>, Answer<A>)
-    ensures { IfFromClient (came_from_client request.now) (AnswersForced J.capacity J.first
-        (body_of request.now) (bytes_eq (argument_in fields.now (codes "heads")) (codes "666f726365")))
+    watch: &mut V,
+) -> (Client<J, A>, Result<Answer<A>, NotStored>)
+    ensures { Answered (IfFromClient (came_from_client request.now) (AnswersForced J.capacity J.first
+        (AreKept D.seen D.may_leave J.head J.stored J.first) (body_of request.now)
+        (bytes_eq (argument_in fields.now (codes "heads")) (codes "666f726365"))))
         client result.1 result.0 }
 {
     if !is_from_client(request) {
-        return (client, Answer::Forbidden);
+        return (client, Ok(Answer::Forbidden));
     }
     if !are_forced(argument(fields, b"heads".as_slice())) {
-        return (client, Answer::Refused(Refusal::NotForced));
+        return (client, Ok(Answer::Refused(Refusal::NotForced)));
     }
     let body = request.body();
-    unbundle(server, rt, alloc, client, body)
+    unbundle(host, client, body, watch)
 }
 
 /// Whether the heads of a push are forced: `force` in hexadecimal digits.
@@ -186,19 +253,18 @@ fn are_forced(heads: &[u8]) -> bool
 }
 
 /// Answers a push that sets one key.
-fn answer_pushkey<J: Naming<A>, A: Allocator + Copy, R: Wait>(
-    server: &Server<J, A>,
-    rt: &R,
-    alloc: A,
+fn answer_pushkey<J: Storing<A>, D: Device, A: Allocator + Copy, R: Wait, V: Watch<A>>(
+    host: &Host<'_, J, D, R, A>,
     client: Client<J, A>,
     fields: &[Field<A>],
     request: &Request<Bytes>,
-) -> (Client<J, A>, Answer<A>)
-    ensures { OrLacks (IfFromClient (came_from_client request.now)
-        (AnswersPushKey J.capacity J.first fields.now)) client result.1 result.0 }
+    watch: &mut V,
+) -> (Client<J, A>, Result<Answer<A>, NotStored>)
+    ensures { Answered (OrLacks (IfFromClient (came_from_client request.now) (AnswersPushKey J.capacity J.first
+        (AreKept D.seen D.may_leave J.head J.stored J.first) fields.now))) client result.1 result.0 }
 {
     if !is_from_client(request) {
-        return (client, Answer::Forbidden);
+        return (client, Ok(Answer::Forbidden));
     }
-    push_key(server, rt, alloc, client, fields)
+    push_key(host, client, fields, watch)
 }

@@ -4,92 +4,100 @@ ghost use Rattle.std.specs.Prelude.{◌≡◌, ◌⊎◌, true};
 ghost use Rattle.hg_http.specs.Keys.{fits as can_fit};
 ghost use Rattle.std.specs.List.{list_any};
 ghost use Rattle.hg_wire.specs.Answering.{AnswersChange, AnswersFitting, AnswersPushKey, OrLacks};
-ghost use Rattle.hg_wire.specs.Pushes.{IsPushAnswered, IsReply, is_one as returns_one};
+ghost use Rattle.hg_ledger.specs.Records.{AreKept};
+ghost use Rattle.hg_wire.specs.Pushes.{Answered, IsPushAnswered, IsReply, is_one as returns_one};
 ghost use Rattle.hg_wire.specs.Pushes.{is_set as key_is_set, key_line, set_line};
 ghost use Rattle.hg_wire.specs.Pushes.{says_one as part_says_one};
 
-use crate::push::push_bundle;
+use crate::push::{Told, push_bundle};
+use crate::shown::Watch;
+use crate::terms::Host;
 use hg_http::{Answer, KeyChange, Refusal, fits, key_bundle, read_change};
+use hg_ledger::{NotStored, Storing};
 use hg_push::Outcome;
 use hg_repo::{Done, Refusal as RunRefusal};
-use hg_serve::{Answer as Ended, Client, Naming, Server};
+use hg_serve::Client;
+use hg_store::Device;
 use hg_told::Field;
 use hg_types::{Param, Part, Seq};
 use std::alloc::Allocator;
 use std::sync::Wait;
 
 /// Sets a key by a push of its own, and says whether it was set.
-pub fn push_key<J: Naming<A>, A: Allocator + Copy, R: Wait>(
-    server: &Server<J, A>,
-    rt: &R,
-    alloc: A,
+pub fn push_key<J: Storing<A>, D: Device, A: Allocator + Copy, R: Wait, V: Watch<A>>(
+    host: &Host<'_, J, D, R, A>,
     client: Client<J, A>,
     fields: &[Field<A>],
-) -> (Client<J, A>, Answer<A>)
-    ensures { OrLacks (AnswersPushKey J.capacity J.first fields.now) client result.1 result.0 }
+    watch: &mut V,
+) -> (Client<J, A>, Result<Answer<A>, NotStored>)
+    ensures { Answered (OrLacks (AnswersPushKey J.capacity J.first
+        (AreKept D.seen D.may_leave J.head J.stored J.first) fields.now)) client result.1 result.0 }
 {
     let change = read_change(fields);
-    push_change(server, rt, alloc, client, &change)
+    push_change(host, client, &change, watch)
 }
 
 /// Asks for a change by a push of its own, where a part can hold its values.
-fn push_change<J: Naming<A>, A: Allocator + Copy, R: Wait>(
-    server: &Server<J, A>,
-    rt: &R,
-    alloc: A,
+fn push_change<J: Storing<A>, D: Device, A: Allocator + Copy, R: Wait, V: Watch<A>>(
+    host: &Host<'_, J, D, R, A>,
     client: Client<J, A>,
     change: &KeyChange<'_>,
-) -> (Client<J, A>, Answer<A>)
-    ensures { OrLacks (AnswersChange J.capacity J.first change.now.namespace.now change.now.key.now
-        change.now.old.now change.now.new.now) client result.1 result.0 }
+    watch: &mut V,
+) -> (Client<J, A>, Result<Answer<A>, NotStored>)
+    ensures { Answered (OrLacks (AnswersChange J.capacity J.first
+        (AreKept D.seen D.may_leave J.head J.stored J.first) change.now.namespace.now
+        change.now.key.now change.now.old.now change.now.new.now)) client result.1 result.0 }
 {
     if !fits(change) {
-        return (client, line_of(alloc, false, Refusal::NoMemory));
+        return (client, Ok(line_of(host.alloc, false, Refusal::NoMemory)));
     }
-    set_key(server, rt, alloc, client, change)
+    set_key(host, client, change, watch)
 }
 
 /// Pushes the bundle that asks for a change.
-fn set_key<J: Naming<A>, A: Allocator + Copy, R: Wait>(
-    server: &Server<J, A>,
-    rt: &R,
-    alloc: A,
+fn set_key<J: Storing<A>, D: Device, A: Allocator + Copy, R: Wait, V: Watch<A>>(
+    host: &Host<'_, J, D, R, A>,
     client: Client<J, A>,
     change: &KeyChange<'_>,
-) -> (Client<J, A>, Answer<A>)
+    watch: &mut V,
+) -> (Client<J, A>, Result<Answer<A>, NotStored>)
     requires { can_fit change.now.namespace.now change.now.key.now change.now.old.now
         change.now.new.now ≡ true }
-    ensures { OrLacks (AnswersFitting J.capacity J.first change.now.namespace.now change.now.key.now
-        change.now.old.now change.now.new.now) client result.1 result.0 }
+    ensures { Answered (OrLacks (AnswersFitting J.capacity J.first
+        (AreKept D.seen D.may_leave J.head J.stored J.first) change.now.namespace.now
+        change.now.key.now change.now.old.now change.now.new.now)) client result.1 result.0 }
 {
-    match key_bundle(alloc, change) {
-        Ok(bundle) => push_for_key(server, rt, alloc, client, bundle.as_slice()),
-        Err(_) => (client, Answer::Refused(Refusal::NoMemory)),
+    match key_bundle(host.alloc, change) {
+        Ok(bundle) => push_for_key(host, client, bundle.as_slice(), watch),
+        Err(_) => (client, Ok(Answer::Refused(Refusal::NoMemory))),
     }
 }
 
 /// Pushes a bundle, and says whether it set its key.
-fn push_for_key<J: Naming<A>, A: Allocator + Copy, R: Wait>(
-    server: &Server<J, A>,
-    rt: &R,
-    alloc: A,
+fn push_for_key<J: Storing<A>, D: Device, A: Allocator + Copy, R: Wait, V: Watch<A>>(
+    host: &Host<'_, J, D, R, A>,
     client: Client<J, A>,
     bundle: &[u8],
-) -> (Client<J, A>, Answer<A>)
-    ensures { IsPushAnswered J.capacity J.first client bundle.now key_line result.1 result.0 }
+    watch: &mut V,
+) -> (Client<J, A>, Result<Answer<A>, NotStored>)
+    ensures { Answered (IsPushAnswered J.capacity J.first
+        (AreKept D.seen D.may_leave J.head J.stored J.first) bundle.now key_line)
+        client result.1 result.0 }
 {
-    let (client, ended) = push_bundle(server, rt, alloc, client, bundle);
-    let answer = reply_to(alloc, &ended);
-    (client, answer)
+    let (client, told) = push_bundle(host, client, bundle, watch);
+    match told {
+        Ok(told) => (client, Ok(reply_to(host.alloc, &told))),
+        Err(fault) => (client, Err(fault)),
+    }
 }
 
 /// What a push that sets a key is answered.
-fn reply_to<A: Allocator + Copy>(alloc: A, ended: &Option<Ended<A>>) -> Answer<A>
-    ensures { IsReply key_line ended.now result }
+fn reply_to<A: Allocator + Copy>(alloc: A, told: &Option<Told<A>>) -> Answer<A>
+    ensures { IsReply key_line told.now result }
 {
-    match ended {
+    match told {
         None => Answer::Refused(Refusal::NotOpened),
-        Some(ended) => line_of(alloc, is_set(&ended.outcome), Refusal::NoAnswer),
+        Some(told) => line_of(alloc, is_set(&told.outcome), Refusal::NoAnswer),
     }
 }
 

@@ -1,9 +1,12 @@
-//! The service of a connection over HTTP: what each request of a Mercurial client is answered by.
+//! The service of a connection over HTTP: what each request of a Mercurial client is answered by, over a server
+//! and the ledger that keeps its pushes.
 //!
 //! A [`Wire`] is a service of `http_server` that holds one client of a server: [`serve_http`] makes one and
-//! serves a connection with it. A push is served as one bundle of a connection is, and a command that reads is
-//! answered by one look at the repository, also where a batch asks several. Whatever comes is answered: want
-//! of memory too is told, and closes no connection.
+//! serves a connection with it. A push is served as one bundle of `hg_kept` is, and a command that reads is
+//! answered by one look at the repository, also where a batch asks several. Each answer that depends on the
+//! repository waits until the pushes that it rests on are on the device; where the store failed there is none.
+//! Whatever else comes is answered: out of memory too is told, and closes no connection, but that a body which
+//! finds no room in the [`Budget`] of all of them is answered at once, and the connection ends.
 //!
 //! The form of requests and answers is that of Mercurial's `internals.wireprotocol`, "HTTP Version 1
 //! Transport".
@@ -11,13 +14,20 @@
 
 mod answering;
 mod body;
+mod budget;
 mod key;
-mod nowhere;
+mod looking;
 mod push;
 mod reading;
 mod serve;
+mod shown;
+mod terms;
+mod viewing;
 mod wire;
 
 pub use answering::answer_request;
-pub use serve::serve_http;
+pub use budget::Budget;
+pub use serve::{Finish, serve_http};
+pub use shown::{Pushed, Shown, Watch};
+pub use terms::{Host, Terms};
 pub use wire::Wire;

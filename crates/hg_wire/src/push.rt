@@ -1,70 +1,141 @@
 //! A push over HTTP: one bundle, which is all that is read, and what it is answered.
 
-ghost use Rattle.std.specs.Prelude.{IfSome};
-ghost use Rattle.hg_push.specs.Reply.{CanBeTold, reply_of};
-ghost use Rattle.hg_wire.specs.Pushes.{IsPushAnswered, IsReply, Pushes};
+ghost use Rattle.std.specs.Prelude.{◌≡◌, IfSome};
+ghost use Rattle.hg_push.specs.Reply.{reply_of};
+ghost use Rattle.hg_ledger.specs.Records.{AreKept};
+ghost use Rattle.hg_wire.specs.Pushes.{Answered, IsPushAnswered, IsReply, Pushed as EndsOrFails};
+ghost use Rattle.hg_wire.specs.code.Rounds.{TellsRound};
 
 use crate::body::Body;
-use crate::nowhere::Nowhere;
-use hg_connection::{Served, serve_connection};
+use crate::shown::{Pushed, Watch};
+use crate::terms::Host;
+use hg_connection::Inbox;
+use hg_devices::Sending;
 use hg_http::{Answer, Refusal};
-use hg_push::reply_bytes;
-use hg_serve::{Answer as Ended, Client, Naming, NoGate, Server};
+use hg_kept::{KeptRound, Replied, open_kept, serve_bundle_kept};
+use hg_ledger::{NotStored, Storing};
+use hg_push::Outcome;
+use hg_repo::{Done, Refusal as RunRefusal};
+use hg_serve::{Answer as Ended, Client};
+use hg_store::Device;
+use hg_stream::Unbundler;
 use hg_types::Seq;
-use std::alloc::Allocator;
+use std::alloc::{Allocator, Global};
 use std::sync::Wait;
 
-/// Pushes a bundle. Says how the push ended, if one was opened.
-pub fn push_bundle<J: Naming<A>, A: Allocator + Copy, R: Wait>(
-    server: &Server<J, A>,
-    rt: &R,
-    alloc: A,
+/// A push that ended, and all that its answer rests on is on the device.
+#[derive(Drop)]
+pub struct Told<A: Allocator = Global> {
+    pub outcome: Outcome<Done<A>, RunRefusal<A>>,
+    /// Its reply. `None` where there was no memory for it.
+    pub reply: Option<Seq<u8, A>>,
+}
+
+/// Pushes a bundle. Says how the push ended, if one was opened; the store may have failed.
+pub fn push_bundle<J: Storing<A>, D: Device, A: Allocator + Copy, R: Wait, V: Watch<A>>(
+    host: &Host<'_, J, D, R, A>,
     client: Client<J, A>,
     bundle: &[u8],
-) -> (Client<J, A>, Option<Ended<A>>)
-    ensures { Pushes J.capacity J.first client bundle.now result.1 result.0 }
+    watch: &mut V,
+) -> (Client<J, A>, Result<Option<Told<A>>, NotStored>)
+    ensures { EndsOrFails J.capacity J.first (AreKept D.seen D.may_leave J.head J.stored J.first) client
+        bundle.now result.1 result.0 }
 {
-    let _limits = server.limits();
+    let limits = *host.server.limits();
+    let opened = match open_kept(host.server, host.ledger, host.rt, client) {
+        Ok(opened) => opened,
+        Err((client, _fault)) => return (client, Ok(None)),
+    };
+    let mut unbundler = Unbundler::new(host.alloc, limits);
+    let mut inbox = Inbox::new();
     let mut body = Body::new(bundle);
-    let (client, served) = serve_connection(
-        server,
-        rt,
-        alloc,
-        client,
+    let mut reply = Vec::new(host.alloc);
+    let (client, round) = serve_bundle_kept(
+        host.server,
+        host.ledger,
+        host.rt,
+        host.alloc,
+        opened,
+        &mut unbundler,
+        &mut inbox,
         &mut body,
-        &mut Nowhere,
-        1,
-        &mut NoGate,
+        &mut reply,
+        watch,
     );
-    let Served { last, .. } = served;
-    (client, last)
+    tell_watch(watch, &round, bundle);
+    (client, told_of(round, reply))
+}
+
+/// Tells who watches the connection.
+fn tell_watch<A: Allocator, V: Watch<A>>(watch: &mut V, round: &KeptRound<A>, bundle: &[u8]) {
+    let is_kept = match round.replied {
+        Replied::Sent(_) => true,
+        Replied::NotStored => false,
+    };
+    watch.pushed(&Pushed {
+        outcome: &round.answer.outcome,
+        rests: round.rests,
+        is_kept,
+        bundle,
+    });
+}
+
+/// What is told of a push that ended so, whose reply was made there.
+fn told_of<A: Allocator>(
+    round: KeptRound<A>,
+    reply: Vec<u8, A>,
+) -> Result<Option<Told<A>>, NotStored>
+    ensures { TellsRound round.answer.outcome reply.items round.replied result }
+{
+    let KeptRound {
+        answer,
+        rests: _,
+        ending: _,
+        replied,
+        written: _,
+    } = round;
+    let Ended { outcome, takes: _ } = answer;
+    match replied {
+        Replied::NotStored => Err(NotStored),
+        Replied::Sent(Sending::Whole) => Ok(Some(Told {
+            outcome,
+            reply: Some(Seq::from_vec(reply)),
+        })),
+        Replied::Sent(Sending::Broken | Sending::NoMemory) => Ok(Some(Told {
+            outcome,
+            reply: None,
+        })),
+    }
 }
 
 /// Pushes the bundle that is the body of a request, and gives its reply.
-pub fn unbundle<J: Naming<A>, A: Allocator + Copy, R: Wait>(
-    server: &Server<J, A>,
-    rt: &R,
-    alloc: A,
+pub fn unbundle<J: Storing<A>, D: Device, A: Allocator + Copy, R: Wait, V: Watch<A>>(
+    host: &Host<'_, J, D, R, A>,
     client: Client<J, A>,
     bundle: &[u8],
-) -> (Client<J, A>, Answer<A>)
-    ensures { IsPushAnswered J.capacity J.first client bundle.now reply_of result.1 result.0 }
+    watch: &mut V,
+) -> (Client<J, A>, Result<Answer<A>, NotStored>)
+    ensures { Answered (IsPushAnswered J.capacity J.first
+        (AreKept D.seen D.may_leave J.head J.stored J.first) bundle.now reply_of)
+        client result.1 result.0 }
 {
-    let (client, ended) = push_bundle(server, rt, alloc, client, bundle);
-    let answer = reply_to(alloc, &ended);
-    (client, answer)
+    let (client, told) = push_bundle(host, client, bundle, watch);
+    match told {
+        Ok(told) => (client, Ok(reply_to(told))),
+        Err(fault) => (client, Err(fault)),
+    }
 }
 
 /// The reply to a push, or why there is none.
-fn reply_to<A: Allocator + Copy>(alloc: A, ended: &Option<Ended<A>>) -> Answer<A>
-    requires { IfSome ended.now (λ e. CanBeTold e.outcome) }
-    ensures { IsReply reply_of ended.now result }
+fn reply_to<A: Allocator>(told: Option<Told<A>>) -> Answer<A>
+    requires { IfSome told (λ t. IfSome t.reply (λ reply. reply ≡ reply_of t.outcome)) }
+    ensures { IsReply reply_of told result }
 {
-    match ended {
+    match told {
         None => Answer::Refused(Refusal::NotOpened),
-        Some(ended) => match reply_bytes(alloc, &ended.outcome) {
-            Ok(reply) => Answer::Told(Seq::from_vec(reply)),
-            Err(_) => Answer::Refused(Refusal::NoAnswer),
+        Some(Told { outcome: _, reply }) => match reply {
+            Some(reply) => Answer::Told(reply),
+            None => Answer::Refused(Refusal::NoAnswer),
         },
     }
 }

@@ -1,87 +1,172 @@
 //! The service of one connection.
 
-ghost use Rattle.std.specs.Prelude.{◌≡◌};
+ghost use Rattle.std.specs.Prelude.{◌≡◌, false, None, Some};
+ghost use mathlib.Core.List.{IsPrefix};
 
 use crate::answering::answer_request;
+use crate::shown::{Shown, Watch};
+use crate::terms::{Host, Terms};
 use bytes::Bytes;
 use hg_http::respond;
-use hg_serve::{Client, Naming, Server};
+use hg_ledger::{NotStored, Storing};
+use hg_serve::Client;
+use hg_store::Device;
 use http::Request;
-use http_server::{Response, Service};
+use http_server::{Log, Response, Service};
 use std::alloc::{AllocError, Allocator, Global};
 use std::marker::Model;
 use std::sync::Wait;
 
-/// What a connection is served by. Contracts see the history that its client has seen.
-pub struct Wire<'a, J: Naming<A>, R: Wait, A: Allocator = Global> {
-    server: &'a Server<J, A>,
-    rt: &'a R,
-    alloc: A,
+/// What a connection is served by. Contracts see the history that the last answer told of.
+pub struct Wire<
+    'a,
+    J: Storing<A>,
+    D: Device,
+    R: Wait,
+    S: Shown<A>,
+    V: Watch<A>,
+    A: Allocator = Global,
+> {
+    host: Host<'a, J, D, R, A>,
+    terms: &'a Terms<'a, S>,
+    global: Global,
+    watch: &'a mut V,
     client: Option<Client<J, A>>,
+    /// How many requests were answered.
+    answered: u64,
+    /// Whether the store failed before a request was answered.
+    has_failed: bool,
+    /// What the client had seen when the last request was answered.
+    told: Log<Client<J, A>, u64>,
 }
 
-impl<'a, J: Naming<A>, R: Wait, A: Allocator> Model for Wire<'a, J, R, A> {
-    ghost use Rattle.std.specs.Prelude.{List, IsSome};
-    ghost use Rattle.hg_types.specs.declared.item.Taken.{Taken};
-    ghost use Rattle.hg_wire.specs.code.Wires.{seen_by};
+impl<'a, J: Storing<A>, D: Device, R: Wait, S: Shown<A>, V: Watch<A>, A: Allocator> Model
+    for Wire<'a, J, D, R, S, V, A> {
+    ghost use Rattle.std.specs.Prelude.{◌≡◌, IsSome, false};
+    ghost use mathlib.Core.List.{IsPrefix};
+    ghost use Rattle.hg_wire.specs.Answering.{WireView};
+    ghost use Rattle.hg_wire.specs.code.Wires.{seen_by, told_last};
 
-    ghost Value = { List (Taken A) };
+    ghost Value = { WireView A S };
 
-    ghost view = { λ w. seen_by w.client };
+    ghost view = { λ w. record { told = told_last w.told.items; terms = w.terms.now } };
 
-    ghost invariant = { λ w. IsSome w.client };
+    ghost invariant = { λ w. IsSome w.client × IsPrefix (told_last w.told.items) (seen_by w.client)
+        × (w.has_failed ≡ false → seen_by w.client ≡ told_last w.told.items) };
 }
 
-impl<'a, J: Naming<A>, R: Wait, A: Allocator + Copy> Wire<'a, J, R, A> {
+impl<'a, J: Storing<A>, D: Device, R: Wait, S: Shown<A>, V: Watch<A>, A: Allocator + Copy> Wire<
+    'a,
+    J,
+    D,
+    R,
+    S,
+    V,
+    A,
+> {
     /// The service of a connection of this client.
-    pub fn new(server: &'a Server<J, A>, rt: &'a R, alloc: A, client: Client<J, A>) -> Self
-        ensures { result ≡ client }
+    pub fn new(
+        host: Host<'a, J, D, R, A>,
+        terms: &'a Terms<'a, S>,
+        global: Global,
+        client: Client<J, A>,
+        watch: &'a mut V,
+    ) -> Self
+        ensures { result ≡ record { told = client; terms = terms.now } }
     {
+        let told = Log::new().and(&client, &0);
         Wire {
-            server,
-            rt,
-            alloc,
+            host,
+            terms,
+            global,
+            watch,
             client: Some(client),
+            answered: 0,
+            has_failed: false,
+            told,
         }
     }
 
-    /// Its client.
-    pub fn into_client(self) -> Client<J, A>
-        ensures { result ≡ self.entry }
+    /// How many requests were answered.
+    pub fn answered(&self) -> u64 {
+        self.answered
+    }
+
+    /// Its client, and whether the store failed before a request was answered.
+    pub fn into_client(self) -> (Client<J, A>, bool)
+        ensures later { IsPrefix self.entry.told result.0 }
+        ensures same { result.1 ≡ false → result.0 ≡ self.entry.told }
     {
         let Wire {
-            server: _,
-            rt: _,
-            alloc: _,
+            host: _,
+            terms: _,
+            global: _,
+            watch: _,
             client,
+            answered: _,
+            has_failed,
+            told: _,
         } = self;
         match client {
-            Some(client) => client,
+            Some(client) => (client, has_failed),
             None => unreachable!(),
         }
     }
 }
 
-impl<J: Naming<A>, R: Wait, A: Allocator + Copy> Service for Wire<'_, J, R, A> {
+impl<J: Storing<A>, D: Device, R: Wait, S: Shown<A>, V: Watch<A>, A: Allocator + Copy> Service
+    for Wire<'_, J, D, R, S, V, A> {
+    ghost use Rattle.hg_ledger.specs.Records.{AreKept};
     ghost use Rattle.hg_wire.specs.Answering.{Responds};
 
-    ghost answers = { λ old request response new. Responds J.capacity J.first old request response new };
+    ghost answers = { λ old request response new. Responds J.capacity J.first
+        (AreKept D.seen D.may_leave J.head J.stored J.first) S.is_page S.are_metrics old request response
+        new };
 
+    /// Where the store failed there is no answer, and the connection ends: nor is a later request answered.
     fn call(
         &mut self,
         request: &Request<Bytes>,
         response: &mut Response,
     ) -> Result<(), AllocError> {
+        if self.has_failed {
+            return Err(AllocError);
+        }
         let client = match self.client.take() {
             Some(client) => client,
             None => unreachable!(),
         };
-        let (client, answer) = answer_request(self.server, self.rt, self.alloc, client, request);
-        match self.client.replace(client) {
-            None => {}
-            Some(_client) => unreachable!(),
+        let (client, answer) = answer_request(
+            &self.host,
+            self.terms,
+            client,
+            request,
+            &mut *self.watch,
+        );
+        match answer {
+            Ok(answer) => {
+                self.told = Log::new().and(&client, &self.answered);
+                put_back(&mut self.client, client);
+                self.answered = self.answered.saturating_add(1);
+                respond(self.global, &answer, response);
+                Ok(())
+            }
+            Err(NotStored) => {
+                put_back(&mut self.client, client);
+                self.has_failed = true;
+                Err(AllocError)
+            }
         }
-        respond(&answer, response);
-        Ok(())
+    }
+}
+
+/// Puts a client back in its place.
+fn put_back<J: Storing<A>, A: Allocator>(place: &mut Option<Client<J, A>>, client: Client<J, A>)
+    requires { place.old ≡ None }
+    ensures { place.new ≡ Some client }
+{
+    match place.replace(client) {
+        None => {}
+        Some(_client) => unreachable!(),
     }
 }

@@ -1,21 +1,32 @@
-//! What no contract says: whole conversations of a real client, and that want of memory is told.
+//! What no contract says: whole conversations of a real client, and that out of memory is told.
 
 ghost use Rattle.std.specs.Prelude.{◌≡◌, ◌≤◌};
 ghost use Rattle.hg_types.specs.Limits.{IsAllowed};
-ghost use Rattle.hg_serve.specs.Desks.{Begins};
 
 mod conversations;
+mod device;
+mod heads;
 mod memory;
+mod pieces;
 mod requests;
+mod views;
 
-use crate::tests::conversations::{ASKED_0, ASKED_1, ASKED_2, TOLD_0, TOLD_1, TOLD_2};
+use crate::tests::conversations::{
+    ASKED_0, ASKED_1, ASKED_2, ASKED_3, ASKED_4, OTHER_PUSH, RACED_3, TOLD_0, TOLD_1, TOLD_2,
+    TOLD_3, TOLD_4, TOLD_RACED_3,
+};
+use crate::tests::device::Memory;
+use hg_ledger::{Ledger, Parts, Storing};
 use hg_queue::{PartQueue, Taker};
 use hg_repo::Repo;
-use hg_serve::{Client, Naming, Server};
-use hg_types::{Limits, Settings};
-use hg_wire::serve_http;
-use std::alloc::{AllocFailed, Global};
+use hg_restore::replay_records;
+use hg_serve::{Client, Gate, Naming, Point, Server};
+use hg_store::{Head, Log, recover};
+use hg_types::{Limits, NoMemory, Seq, Settings};
+use hg_wire::{Budget, Finish, Pushed, Shown, Terms, Watch, serve_http};
+use std::alloc::{AllocFailed, Allocator, Global};
 use std::hash::RandomState;
+use std::io::Read;
 use std::marker::Brand;
 use std::process::Abort;
 use std::random::RandomSource;
@@ -39,69 +50,334 @@ fn state<R: RandomSource + Abort>(rt: &R) -> RandomState {
     }
 }
 
-/// Serves a connection on which all of this is sent, and says what came back.
-fn answers<J: Naming<Global>, R: RandomSource + Wait + Abort>(
-    rt: &R,
-    alloc: Global,
-    server: &Server<J>,
-    client: Client<J>,
-    asked: &[u8],
-) -> (Client<J>, Vec<u8>) {
-    let mut reader = asked;
-    let mut told = Vec::new(alloc);
-    let (client, done) = serve_http(server, rt, alloc, state(rt), client, &mut reader, &mut told);
-    assert!(rt; done.is_ok(), "the connection is done");
-    (client, told)
+/// A page of one word, and as many counters as there are changesets.
+struct Words;
+
+impl<A: Allocator + Copy> Shown<A> for Words {
+    ghost use Rattle.std.specs.Prelude.{⊤};
+
+    ghost is_page = { λ s repo text. ⊤ };
+
+    ghost are_metrics = { λ s repo text. ⊤ };
+
+    fn page(&self, alloc: A, repo: &Repo<A>) -> Result<Seq<u8, A>, NoMemory> {
+        let _rows = repo.settings();
+        Seq::copy_of(alloc, b"<p>hello".as_slice())
+    }
+
+    fn metrics(&self, alloc: A, repo: &Repo<A>) -> Result<Seq<u8, A>, NoMemory> {
+        let _rows = repo.settings();
+        Seq::copy_of(alloc, b"up 1\n".as_slice())
+    }
 }
 
-/// Serves connections in turn on a server of that name. Each is to be told what stands beside it.
-fn converse<J: Naming<Global>, R: RandomSource + Wait + Abort>(
+/// Counts what it is told of.
+#[derive(Drop)]
+struct Tally {
+    marked: usize,
+    answered: usize,
+    kept: usize,
+    lost: usize,
+    bytes: usize,
+}
+
+impl Tally {
+    fn new() -> Tally {
+        Tally {
+            marked: 0,
+            answered: 0,
+            kept: 0,
+            lost: 0,
+            bytes: 0,
+        }
+    }
+}
+
+impl Gate for Tally {
+    fn at(&mut self, point: Point) {
+        match point {
+            Point::Marked => self.marked = self.marked.saturating_add(1),
+            Point::Answered => self.answered = self.answered.saturating_add(1),
+            _ => {}
+        }
+    }
+}
+
+impl<A: Allocator> Watch<A> for Tally {
+    fn pushed(&mut self, pushed: &Pushed<'_, A>) {
+        if pushed.is_kept {
+            self.kept = self.kept.saturating_add(1);
+        } else {
+            self.lost = self.lost.saturating_add(1);
+        }
+        self.bytes = self.bytes.saturating_add(pushed.bundle.len());
+    }
+}
+
+/// A reader over bytes, of which each read gives at most so many.
+#[derive(Drop)]
+struct Source<'a> {
+    bytes: &'a [u8],
+    step: usize,
+}
+
+impl<'a> Read for Source<'a> {
+    fn read(&mut self, buf: &mut [u8]) -> std::io::Result<usize> {
+        let count = buf.len().min(self.step).min(self.bytes.len());
+        buf[..count].copy_from_slice(&self.bytes[..count]);
+        self.bytes = &self.bytes[count..];
+        Ok(count)
+    }
+}
+
+/// How a test serves.
+#[derive(Clone, Copy)]
+struct Way<'a> {
+    /// How many bytes a read gives at most.
+    step: usize,
+    /// How many calls the device has before it fails.
+    calls: usize,
+    /// What all bodies hold together.
+    budget: usize,
+    /// Where pulls go.
+    pull: Option<&'a [u8]>,
+}
+
+/// As it is served where nothing is tried.
+const PLAIN: Way<'static> = Way {
+    step: 1_000_000,
+    calls: 1_000_000,
+    budget: 1_000_000,
+    pull: None,
+};
+
+/// What is left after some connections.
+#[derive(Drop)]
+struct Left {
+    /// What was told on the last one.
+    told: Vec<u8>,
+    finish: Finish,
+    tally: Tally,
+    journal: usize,
+    /// How many pushes the device has.
+    kept: usize,
+}
+
+/// An open log over a device that has a store without pushes.
+fn open_log<R: Abort>(rt: &R, alloc: Global, calls: usize) -> Log<Memory> {
+    let head = Head {
+        publishing: false,
+        limits: Limits::standard(),
+    };
+    let mut file = Vec::new(alloc);
+    assert!(rt; head.put(&mut file).is_ok());
+    let mut device = match Memory::new(alloc, &file, calls) {
+        Ok(device) => device,
+        Err(_) => panic!(rt; "no memory for a device"),
+    };
+    let found = match recover(alloc, &mut device) {
+        Ok(found) => found,
+        Err(_) => panic!(rt; "no store"),
+    };
+    Log {
+        device,
+        end: found.end,
+        digest: found.digest,
+    }
+}
+
+/// How many pushes are found on the device, each of which is done when it is run again.
+fn kept_on<R: RandomSource + Abort>(rt: &R, alloc: Global, device: &Memory) -> usize {
+    let mut again = match Memory::new(alloc, &device.bytes, 9) {
+        Ok(device) => device,
+        Err(_) => panic!(rt; "no memory for a device"),
+    };
+    let found = match recover(alloc, &mut again) {
+        Ok(found) => found,
+        Err(_) => panic!(rt; "no store is left"),
+    };
+    let mut repo = Repo::new(alloc, settings(), state(rt));
+    assert!(rt; replay_records(alloc, &mut repo, found.records.as_slice()).is_ok());
+    found.records.len()
+}
+
+fn client_of<J: Naming<A>, A: Allocator + Copy, R: Wait + Abort>(
+    rt: &R,
+    server: &Server<J, A>,
+) -> Client<J, A> {
+    match server.client(rt) {
+        Ok(client) => client,
+        Err(_) => panic!(rt; "no client"),
+    }
+}
+
+fn add<J: Naming<A>, A: Allocator, R: Abort>(
+    rt: &R,
+    clients: &mut Vec<Client<J, A>, A>,
+    client: Client<J, A>,
+) {
+    match clients.push(client) {
+        Ok(()) => {}
+        Err(AllocFailed { value: _client, .. }) => panic!(rt; "no memory for a client"),
+    }
+}
+
+/// Serves connections in turn on a server of that name, each with what is said on it.
+fn play<J: Storing<Global>, R: RandomSource + Wait + Abort>(
     rt: &R,
     alloc: Global,
     queue: PartQueue,
     taker: Taker,
     repo: Repo,
-    said: &[(&[u8], &[u8])],
-) -> usize
-    requires { Begins J.table J.capacity J.first queue taker repo }
-{
-    let mut clients = match Vec::with_capacity(alloc, 1) {
-        Ok(clients) => clients,
-        Err(_) => panic!(rt; "no memory"),
-    };
+    said: &[&[u8]],
+    way: Way<'_>,
+) -> Left {
+    let mut clients = Vec::new(alloc);
     let server = Server::<J>::new(alloc, repo, queue, taker);
-    let mut client = match server.client(rt) {
-        Ok(client) => client,
-        Err(_) => panic!(rt; "no client"),
+    let log = open_log(rt, alloc, way.calls);
+    let witnesses = (client_of(rt, &server), client_of(rt, &server));
+    let ledger = match Ledger::new(alloc, log, witnesses) {
+        Ok(ledger) => ledger,
+        Err(_parts) => panic!(rt; "no memory for a ledger"),
     };
-    for (asked, told) in said {
-        let (back, answers) = answers(rt, alloc, &server, client, *asked);
+    let budget = Budget::new(way.budget);
+    let terms = Terms {
+        shown: &Words,
+        budget: &budget,
+        pull: way.pull,
+        stored: 0,
+    };
+    let mut tally = Tally::new();
+    let mut client = client_of(rt, &server);
+    let mut finish = Finish::Done;
+    let mut told = Vec::new(alloc);
+    for asked in said {
+        let mut reader = Source {
+            bytes: *asked,
+            step: way.step,
+        };
+        told = Vec::new(alloc);
+        let keys = state(rt);
+        let (back, ended) = serve_http(
+            &server,
+            &ledger,
+            rt,
+            alloc,
+            keys,
+            &terms,
+            client,
+            &mut tally,
+            &mut reader,
+            &mut told,
+        );
         client = back;
-        assert!(rt; answers.as_slice() == *told, "the answers are those");
+        finish = ended;
     }
-    match clients.push(client) {
-        Ok(()) => {}
-        Err(AllocFailed { value: _client, .. }) => panic!(rt; "no memory for a client"),
+    add(rt, &mut clients, client);
+    let Parts {
+        log,
+        is_broken: _,
+        witnesses: (first, second),
+    } = ledger.into_parts();
+    add(rt, &mut clients, first);
+    add(rt, &mut clients, second);
+    let Log { device, .. } = log;
+    Left {
+        told,
+        finish,
+        tally,
+        journal: server.close(clients).journal.len(),
+        kept: kept_on(rt, alloc, &device),
     }
-    server.close(clients).journal.len()
 }
 
+fn served<R: RandomSource + Wait + Abort>(
+    rt: &R,
+    alloc: Global,
+    said: &[&[u8]],
+    way: Way<'_>,
+) -> Left {
+    match PartQueue::new(alloc, 8) {
+        Ok((queue, taker)) => {
+            let repo = Repo::new(alloc, settings(), state(rt));
+            play::<Brand, R>(rt, alloc, queue, taker, repo, said, way)
+        }
+        Err(_) => panic!(rt; "no memory for a queue"),
+    }
+}
+
+/// Serves connections in turn on a new server. Each is to be told what stands beside it, where the last is to be
+/// seen; then all pushes are on the device. Says how many there are.
 fn conversed<R: RandomSource + Wait + Abort>(
     rt: &R,
     alloc: Global,
     said: &[(&[u8], &[u8])],
 ) -> usize {
-    match PartQueue::new(alloc, 8) {
-        Ok((queue, taker)) => {
-            let repo = Repo::new(alloc, settings(), state(rt));
-            converse::<Brand, R>(rt, alloc, queue, taker, repo, said)
-        }
-        Err(_) => panic!(rt; "no memory for a queue"),
+    let mut asked = Vec::new(alloc);
+    let mut pushes = 0;
+    for (more, told) in said {
+        assert!(rt; asked.push(*more).is_ok(), "there is memory");
+        let left = served(rt, alloc, asked.as_slice(), PLAIN);
+        assert!(rt; left.finish == Finish::Done, "the connection is done");
+        assert!(rt; left.told.as_slice() == *told, "the answers are those");
+        assert_eq!(rt; left.kept, left.journal);
+        pushes = left.journal;
     }
+    pushes
 }
 
 #[test]
 fn a_real_client_pushes_three_times(rt: HostRuntime) {
     let said = [(ASKED_0, TOLD_0), (ASKED_1, TOLD_1), (ASKED_2, TOLD_2)];
     assert_eq!(rt; conversed(&rt, rt.alloc(), &said), 3);
+}
+
+/// Another client pushes between what a client asks and its push.
+#[test]
+fn a_real_client_is_raced(rt: HostRuntime) {
+    let alloc = rt.alloc();
+    let said = [
+        (ASKED_0, TOLD_0),
+        (ASKED_1, TOLD_1),
+        (ASKED_2, TOLD_2),
+        (ASKED_3, TOLD_3),
+    ];
+    assert_eq!(rt; conversed(&rt, alloc, &said), 3);
+    let raced = [ASKED_0, ASKED_1, ASKED_2, ASKED_3, OTHER_PUSH, RACED_3];
+    let left = served(&rt, alloc, &raced, PLAIN);
+    assert!(rt; left.told.as_slice() == TOLD_RACED_3);
+    assert_eq!(rt; left.kept, 4);
+}
+
+#[test]
+fn a_real_client_asks_for_an_id(rt: HostRuntime) {
+    let said = [
+        (ASKED_0, TOLD_0),
+        (ASKED_1, TOLD_1),
+        (ASKED_2, TOLD_2),
+        (ASKED_4, TOLD_4),
+    ];
+    assert_eq!(rt; conversed(&rt, rt.alloc(), &said), 3);
+}
+
+/// A device that fails: nothing is answered after it, and the connection says so.
+#[test]
+fn a_store_that_fails_is_no_answer(rt: HostRuntime) {
+    let alloc = rt.alloc();
+    let said = [ASKED_0];
+    let mut failed = 0usize;
+    for calls in 3..20usize {
+        let left = served(&rt, alloc, &said, Way { calls, ..PLAIN });
+        if left.finish == Finish::NotStored {
+            failed = failed.saturating_add(1);
+            // the push and what comes after it were not answered
+            assert!(rt; TOLD_0.starts_with(left.told.as_slice()));
+            assert!(rt; left.told.len() < TOLD_0.len() - 42 - 67);
+            assert_eq!(rt; left.tally.lost, 1);
+        } else {
+            assert!(rt; left.told.as_slice() == TOLD_0);
+            assert_eq!(rt; left.kept, 1);
+        }
+    }
+    assert!(rt; failed >= 3, "{failed}");
 }

@@ -63,7 +63,7 @@ fn words_that_ask_for_a_push(rt: HostRuntime) -> Result<(), Fail> {
     Ok(())
 }
 
-/// The files keep their order. Behind two dashes a word is a file, whatever it looks like.
+/// The files keep their order. After two dashes a word is a file, whatever it looks like.
 #[test]
 fn words_that_ask_for_a_replay(rt: HostRuntime) -> Result<(), Fail> {
     let two = ["b", "a"];

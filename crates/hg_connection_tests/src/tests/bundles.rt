@@ -75,7 +75,7 @@ fn three_bundles_on_a_connection(rt: HostRuntime) {
     assert!(rt; right);
 }
 
-/// Behind the last bundle that is asked for nothing is read, not even the end of the input.
+/// After the last bundle that is asked for nothing is read, not even the end of the input.
 /// The same byte by byte, `most` 1. Result: 12 reads.
 #[test]
 fn nothing_is_read_behind_the_last_bundle(rt: HostRuntime) {

@@ -14,7 +14,7 @@ const LOST_REPLY: &[u8] =
 const FOREIGN_REPLY: &[u8] =
     b"HG20\0\0\0\0\0\0\0\x29\x0bERROR:ABORT\0\0\0\0\x01\0\x07\x0emessagestream fault 1\0\0\0\0\0\0\0\0";
 
-/// Whether the bytes, behind the bundle without parts, are answered by that reply and that fault. No further
+/// Whether the bytes, after the bundle without parts, are answered by that reply and that fault. No further
 /// bundle is begun.
 fn is_cut<R: RandomSource + Wait + Abort>(
     rt: &R,
@@ -71,7 +71,7 @@ fn each_prefix_of_a_bundle(rt: HostRuntime) {
 }
 
 /// The second bundle is cut short, or holds a fault. Its push is answered, and the first one stays done.
-/// `E`, and behind it in the same read 3 bytes; bytes of another kind; 3 bytes and a failed read.
+/// `E`, and after it in the same read 3 bytes; bytes of another kind; 3 bytes and a failed read.
 /// Result: two replies; the first push stays done.
 #[test]
 fn a_fault_behind_a_whole_bundle(rt: HostRuntime) {

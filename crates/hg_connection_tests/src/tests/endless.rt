@@ -23,7 +23,7 @@ fn short_settings() -> Settings
 /// A payload is interrupted for ever, each time by no part: the limit on the stream ends the connection, at
 /// its first byte past 4,096.
 /// The limit `stream` 4,096: inside a payload a size of -1 and a header size of 0, again and again.
-/// Result: one reply of 61 bytes, the fault Stream(TooLarge); nothing is read behind byte 4,097 but
+/// Result: one reply of 61 bytes, the fault Stream(TooLarge); nothing is read after byte 4,097 but
 /// the rest of its read.
 #[test]
 fn interruptions_for_ever(rt: HostRuntime) {

@@ -284,7 +284,7 @@ fn held<R: Threads + Wait + RandomSource + Abort + Sync>(
     }
 }
 
-/// The first connection's push is opened and nothing of it is read. It is answered behind the second's.
+/// The first connection's push is opened and nothing of it is read. It is answered after the second's.
 /// Capacities 1 and 8: a connection whose push was opened is held until a second connection was
 /// answered; each sends `E`. Result: both get `E` back; the journal is [1, 0].
 #[test]
@@ -340,7 +340,7 @@ fn may_be_held<R: Threads + Wait + RandomSource + Abort + Sync>(
     held(rt, alloc, 1, scene, journal) && held(rt, alloc, 8, scene, journal)
 }
 
-/// The first connection waits for its bundle, or behind its reply for a next one, while the second is
+/// The first connection waits for its bundle, or after its reply for a next one, while the second is
 /// answered.
 #[test]
 fn a_read_holds_no_other_connection(rt: HostRuntime) {

@@ -94,7 +94,7 @@ fn a_large_payload(rt: HostRuntime) -> Result<(), Fail> {
     Ok(())
 }
 
-/// The end of the input is read once, inside a bundle and behind one.
+/// The end of the input is read once, inside a bundle and after one.
 /// 100 bytes of `A`, ten at a time; `E`. Result: 11 reads; 2 reads.
 #[test]
 fn the_end_is_read_once(rt: HostRuntime) {

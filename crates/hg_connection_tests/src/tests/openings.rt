@@ -6,7 +6,7 @@ use hg_push::OpenFault;
 /// Two bundles without parts.
 const TWO: &[u8] = b"HG20\0\0\0\0\0\0\0\0HG20\0\0\0\0\0\0\0\0";
 
-/// Whether a connection that reads so many bytes at a time ends at an opening that is refused, behind so many
+/// Whether a connection that reads so many bytes at a time ends at an opening that is refused, after so many
 /// bundles and so many reads.
 fn ends_at_opening<R: RandomSource + Wait + Abort>(
     rt: &R,

@@ -1,4 +1,4 @@
--- An entry whose name is still in the payload, and the bytes behind it.
+-- An entry whose name is still in the payload, and the bytes after it.
 use Rattle.std.specs.Prelude.{◌≡◌, ℕ, List, Option, Some, None}
 use Rattle.hg_keys.specs.declared.payload.Lent.{Lent}
 use Rattle.hg_keys.specs.Payload.{Entry}

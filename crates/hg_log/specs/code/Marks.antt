@@ -2,7 +2,7 @@
 use Rattle.std.specs.Prelude.{◌≡◌, ◌⊎◌, ◌↔◌, ℕ, ◌-◌, ◌<◌, ◌≤◌, Bool, true, false}
 use Rattle.std.specs.Prelude.{List, Option, Some, slice_index_or}
 
--- the mark of a row stands as far behind the first as the row below the top
+-- the mark of a row stands as far after the first as the row below the top
 -- a row for which none stands is not marked
 pub record IsMarked (top : ℕ) (marks : List Bool) (row : ℕ) : Type 0 where
   pub below : row ≤ top

@@ -303,7 +303,7 @@ enum Told {
 
 impl Told {
     /// After one more answer, which is none where memory was refused: refusals come before the right answer,
-    /// and none behind it.
+    /// and none after it.
     fn after(self, is_right: Option<bool>) -> Told {
         let may_refuse = self == Told::Nothing || self == Told::Refusals;
         let may_answer = self == Told::Refusals || self == Told::Answer;

@@ -10,6 +10,7 @@ use Rattle.hg_parts.specs.declared.refusal.Refusal.TheVariants.{BadPart, Unknown
 use Rattle.hg_parts.specs.Repository.{Repository}
 use Rattle.hg_parts.specs.Handled.{Outcome}
 
+-- each changeset that a bookmark is to be on is known
 abbrev pub are_known : List Changeset → List Entry → Bool
 are_known rows entries = list_all (λ entry. is_known_target rows entry.0) entries
 
@@ -18,15 +19,18 @@ abbrev pub set_each : List Entry → Pairs → Pairs
 set_each [] pairs = pairs
 set_each (entry ∷ entries) pairs = set_each entries (with_bookmark pairs entry.1 entry.0)
 
+-- sets each bookmark, where all changesets are known
 abbrev pub handle_entries : {A : Type 0} → Repository A → ℕ → List Entry → Outcome A
 handle_entries repo place entries =
     if are_known repo.rows entries
     then Ok (record { repo = record repo { bookmarks = set_each entries repo.bookmarks }; reply = None })
     else Err (UnknownNode place)
 
+-- as `handle_entries`, where the payload can be read
 abbrev pub handle_read : {A : Type 0} → Repository A → ℕ → Option (List Entry) → Outcome A
 handle_read repo place (Some entries) = handle_entries repo place entries
 handle_read repo place None = Err (BadPart place)
 
+-- what a `bookmarks` part makes of a repository
 abbrev pub handle_bookmarks : {A : Type 0} → Repository A → ℕ → Part A → Outcome A
 handle_bookmarks repo place part = handle_read repo place (entries_of part.payload)

@@ -35,6 +35,7 @@ use Rattle.hg_parts.specs.Replies.{reply_part, reply_where}
 
 -- ---- its parameters
 
+-- the phase of that number in digits
 abbrev pub phase_named : List ℕ → Option Phase
 phase_named value =
     if bytes_eq value (codes "0") then Some Public else
@@ -46,9 +47,11 @@ abbrev pub target_in : Option (List ℕ) → Option Phase
 target_in None = Some Draft
 target_in (Some value) = phase_named value
 
+-- the phase that the parameter `targetphase` names; none where it is another value
 unfoldable pub target_of : {A : Type 0} → List (Param A) → Option Phase
 target_of params = target_in (value_of (codes "targetphase") params)
 
+-- the version that the part names, `01` where it names none
 unfoldable pub version_of : {A : Type 0} → List (Param A) → List ℕ
 version_of params = unwrap_or (value_of (codes "version") params) (codes "01")
 
@@ -71,6 +74,7 @@ grown_by t phases (Ok (New rev), log) =
 grown_by t phases (Ok Known, log) = Ok (record { rows = log.rows; phases = phases })
 grown_by t phases (Err fault, log) = Err fault
 
+-- goes on, where nothing failed yet
 abbrev pub then_grow : Result Grown AddFault → (Grown → Result Grown AddFault) → Result Grown AddFault
 then_grow (Ok grown) next = next grown
 then_grow (Err fault) next = Err fault
@@ -99,11 +103,13 @@ unfoldable pub result_text : ℕ → ℕ → List ℕ
 result_text before after =
     if nat_le before after then decimal (after - before + 1) else (codes "-" ++ decimal (before - after + 1))
 
+-- the reply: how the number of heads changed
 abbrev pub reply_to_group : {A : Type 0} → Bool → ℕ → ℕ → ℕ → Option (Part A)
 reply_to_group replying id before after =
     reply_where replying
     (reply_part (codes "reply:changegroup") id (codes "return") (result_text before after))
 
+-- the repository with the new rows and their phases, and the reply
 abbrev pub handled_of : {A : Type 0} → Source → Repository A → Bool → Part A → Phase → List (Entry A)
     → Grown → Handled A
 handled_of source repo replying part t entries grown = record {
@@ -111,22 +117,26 @@ handled_of source repo replying part t entries grown = record {
   reply = reply_to_group replying part.id (head_count repo.rows) (head_count grown.rows);
 }
 
+-- done where all rows were added, else refused
 abbrev pub handled_by : {A : Type 0} → (Grown → Handled A) → ℕ → Result Grown AddFault → Outcome A
 handled_by done place (Ok grown) = Ok (done grown)
 handled_by done place (Err fault) = Err (BadChangeset place fault)
 
+-- adds each changeset, with that phase
 unfoldable pub handle_entries : {A : Type 0} → Source → Repository A → Bool → ℕ → Part A → Phase
     → List (Entry A) → Outcome A
 handle_entries source repo replying place part t entries =
     handled_by (handled_of source repo replying part t entries) place
     (add_each repo.settings.limits t entries (record { rows = repo.rows; phases = repo.phases }))
 
+-- as `handle_entries`, where the payload can be read
 abbrev pub handle_decoded : {A E : Type 0} → Source → Repository A → Bool → ℕ → Part A → Phase
     → Result (List (Entry A)) E → Outcome A
 handle_decoded source repo replying place part target (Ok entries) =
     handle_entries source repo replying place part (phase_for source repo.settings target) entries
 handle_decoded source repo replying place part target (Err fault) = Err (BadPart place)
 
+-- as `handle_decoded`, where the parameter names a phase
 abbrev pub handle_target : {A : Type 0} → Source → Repository A → Bool → ℕ → Part A → Option Phase → Outcome A
 handle_target source repo replying place part (Some target) =
     handle_decoded source repo replying place part target (outcome_of (version_of part.params) part.payload)
@@ -139,6 +149,7 @@ reading_in (Some target) (Ok entries) = ChangeGroup target entries
 reading_in (Some target) (Err fault) = Malformed
 reading_in None decoded = Malformed
 
+-- what a changegroup tells without the repository
 abbrev pub read_changegroup : {A : Type 0} → Part A → Reading A
 read_changegroup part = reading_in (target_of part.params) (outcome_of (version_of part.params) part.payload)
 
@@ -155,7 +166,7 @@ handle_changegroup source repo replying place part =
 
 -- ---- the code
 
--- a fault as the refusal of its part; want of memory is told as such
+-- a fault as the refusal of its part; out of memory is reported as such
 abbrev pub refusal_for : {A : Type 0} → ℕ → AddFault → Refusal A
 refusal_for place NoMemory = OutOfMemory
 refusal_for place fault = BadChangeset place fault

@@ -7,6 +7,7 @@ use Rattle.hg_parts.specs.Repository.{Repository}
 use Rattle.hg_parts.specs.Handled.{Outcome}
 use Rattle.hg_parts.specs.parts.Checks.{handle_checked}
 
+-- what a `check:phases` part makes of a repository
 abbrev pub handle_check_phases : {A : Type 0} → Repository A → ℕ → Part A → Outcome A
 handle_check_phases repo place part =
     handle_checked repo place PhasesChanged (phases_checked repo.rows repo.phases part.payload)

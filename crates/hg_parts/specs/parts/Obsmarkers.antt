@@ -16,6 +16,7 @@ use Rattle.hg_parts.specs.Replies.{reply_part, reply_where}
 abbrev pub reply_to_markers : {A : Type 0} → ℕ → ℕ → Part A
 reply_to_markers id count = reply_part (codes "reply:obsmarkers") id (codes "new") (decimal count)
 
+-- merges the markers, where the payload can be read
 abbrev pub handle_read : {A : Type 0} → Repository A → Bool → ℕ → Part A →
     Result (List (Marker A)) MarkerFault → Outcome A
 handle_read repo replying place part (Ok added) = Ok (record {
@@ -29,6 +30,7 @@ abbrev pub reading_in : {A : Type 0} → Result (List (Marker A)) MarkerFault �
 reading_in (Ok added) = Obsmarkers added
 reading_in (Err fault) = Malformed
 
+-- what an `obsmarkers` part tells without the repository
 abbrev pub read_obsmarkers : {A : Type 0} → Part A → Reading A
 read_obsmarkers part = reading_in (markers_of part.payload)
 
@@ -36,5 +38,6 @@ read_obsmarkers part = reading_in (markers_of part.payload)
 abbrev pub handle_markers : {A : Type 0} → Repository A → Bool → ℕ → Part A → List (Marker A) → Outcome A
 handle_markers repo replying place part added = handle_read repo replying place part (Ok added)
 
+-- what an `obsmarkers` part makes of a repository
 abbrev pub handle_obsmarkers : {A : Type 0} → Repository A → Bool → ℕ → Part A → Outcome A
 handle_obsmarkers repo replying place part = handle_read repo replying place part (markers_of part.payload)

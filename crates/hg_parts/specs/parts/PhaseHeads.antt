@@ -19,6 +19,7 @@ use Rattle.hg_parts.specs.declared.refusal.Refusal.TheVariants.{BadPart, Unknown
 use Rattle.hg_parts.specs.Repository.{Repository}
 use Rattle.hg_parts.specs.Handled.{Outcome}
 
+-- each changeset of the entries is known
 abbrev pub are_known : List Changeset → List (Phase × Node) → Bool
 are_known rows entries = list_all (λ entry. is_known rows entry.1) entries
 
@@ -32,6 +33,7 @@ abbrev pub advance_each : List Changeset → List (Phase × Node) → List Phase
 advance_each rows [] phases = phases
 advance_each rows (entry ∷ entries) phases = advance_each rows entries (advanced_by rows phases entry)
 
+-- advances each changeset to its phase, where all are known
 abbrev pub handle_entries : {A : Type 0} → Repository A → ℕ → List (Phase × Node) → Outcome A
 handle_entries repo place entries =
     if are_known repo.rows entries
@@ -41,6 +43,7 @@ handle_entries repo place entries =
     })
     else Err (UnknownNode place)
 
+-- as `handle_entries`, where the payload can be read
 abbrev pub handle_read : {A : Type 0} → Repository A → ℕ → Result (List (Phase × Node)) EntryFault → Outcome A
 handle_read repo place (Ok entries) = handle_entries repo place entries
 handle_read repo place (Err fault) = Err (BadPart place)
@@ -50,9 +53,11 @@ abbrev pub reading_in : {A : Type 0} → Result (List (Phase × Node)) EntryFaul
 reading_in (Ok entries) = PhaseHeads entries
 reading_in (Err fault) = Malformed
 
+-- what a `phase-heads` part tells without the repository
 abbrev pub read_phase_heads : {A : Type 0} → Part A → Reading A
 read_phase_heads part = reading_in (entries_of part.payload)
 
+-- what a `phase-heads` part makes of a repository
 abbrev pub handle_phase_heads : {A : Type 0} → Repository A → ℕ → Part A → Outcome A
 handle_phase_heads repo place part = handle_read repo place (entries_of part.payload)
 

@@ -35,6 +35,7 @@ call_of params =
 abbrev pub keys_of : {A : Type 0} → Repository A → Keys A
 keys_of repo = record { phases = repo.phases; markers = repo.markers; bookmarks = repo.bookmarks }
 
+-- the repository with other phases, bookmarks and markers
 abbrev pub with_keys : {A : Type 0} → Repository A → Keys A → Repository A
 with_keys repo keys = record repo { phases = keys.phases; markers = keys.markers; bookmarks = keys.bookmarks }
 
@@ -43,6 +44,7 @@ abbrev pub result_text : Bool → List ℕ
 result_text true = codes "1"
 result_text false = codes "0"
 
+-- the reply: 1 where the call was content, else 0
 abbrev pub reply_to_key : {A : Type 0} → ℕ → Bool → Part A
 reply_to_key id done = reply_part (codes "reply:pushkey") id (codes "return") (result_text done)
 
@@ -50,6 +52,7 @@ reply_to_key id done = reply_part (codes "reply:pushkey") id (codes "return") (r
 abbrev pub is_refused : {A : Type 0} → Part A → Bool → Bool
 is_refused part done = not done && is_mandatory part.kind
 
+-- done, unless the part is mandatory and its call was not content
 abbrev pub handle_done : {A : Type 0} → Repository A → Bool → ℕ → Part A → KeyCall A → Keys A → Bool →
     Outcome A
 handle_done repo replying place part call keys done =
@@ -57,21 +60,24 @@ handle_done repo replying place part call keys done =
     then Err (KeyFailed place part.id call)
     else Ok (record { repo = with_keys repo keys; reply = reply_where replying (reply_to_key part.id done) })
 
+-- as `handle_done`, where the call's text can be read
 abbrev pub handle_pushed : {A : Type 0} → Repository A → Bool → ℕ → Part A → KeyCall A →
     Result (Keys A × Bool) KeyFault → Outcome A
 handle_pushed repo replying place part call (Ok (keys, done)) =
     handle_done repo replying place part call keys done
 handle_pushed repo replying place part call (Err fault) = Err (BadPart place)
 
+-- as `handle_pushed`, where the part has all parameters of a call
 abbrev pub handle_call : {A : Type 0} → Repository A → Bool → ℕ → Part A → Option (KeyCall A) → Outcome A
 handle_call repo replying place part (Some call) =
     handle_pushed repo replying place part call (key_pushed repo.rows (keys_of repo) call)
 handle_call repo replying place part None = Err (BadPart place)
 
+-- what a `pushkey` part makes of a repository
 abbrev pub handle_pushkey : {A : Type 0} → Repository A → Bool → ℕ → Part A → Outcome A
 handle_pushkey repo replying place part = handle_call repo replying place part (call_of part.params)
 
--- a fault as the refusal of its part; want of memory is told as such
+-- a fault as the refusal of its part; out of memory is reported as such
 abbrev pub refusal_of : {A : Type 0} → ℕ → KeyFault → Refusal A
 refusal_of place NoMemory = OutOfMemory
 refusal_of place fault = BadPart place

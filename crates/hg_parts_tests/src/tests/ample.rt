@@ -3,7 +3,7 @@
 use super::*;
 use hg_parts::prepare;
 
-/// A payload of nearly 64 MiB: its front, and so many rows behind it.
+/// A payload of nearly 64 MiB: its front, and so many rows after it.
 fn longest(alloc: Global, front: &[u8], row: &[u8], rows: usize) -> Result<Seq<u8>, NoMemory> {
     let mut bytes = Vec::with_capacity(alloc, 67_108_864)?;
     bytes.extend_from_slice(front)?;
@@ -60,7 +60,7 @@ fn longest_row() -> [u8; 5_126] {
     row
 }
 
-/// 7,000 such markers behind the version: 34 MiB, since looking at each id takes its time.
+/// 7,000 such markers after the version: 34 MiB, since looking at each id takes its time.
 #[test]
 fn long_marker_data(rt: HostRuntime) -> Result<(), Fail> {
     let row = longest_row();

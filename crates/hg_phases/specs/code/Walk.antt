@@ -19,7 +19,7 @@ abbrev pub AreStanding : (ℕ → Option ℕ × Option ℕ) → List Standing �
 AreStanding parents rows =
     (r : ℕ) → r < length rows → standing_at rows r ≡ standing_in parents (phases_told rows) r
 
--- the row is there and above the target, and gets it; it is listed behind the others
+-- the row is there and above the target, and gets it; it is listed after the others
 pub record IsMoved (target : Phase) (row : Option ℕ) (old : List Standing) (listed : List ℕ)
     (new : List Standing) (more : List ℕ) : Type 0 where
   pub rev : ℕ

@@ -1,7 +1,7 @@
 //! Pushes through a book.
 
 use super::*;
-use hg_push::calls::{Answer, Call, make_calls};
+use hg_push::calls::{Answer, Call, make_call, make_calls};
 use hg_push::{OpenFault, Standing};
 use hg_types::TryClone;
 use std::test::*;
@@ -206,7 +206,7 @@ fn items_by_hand(rt: HostRuntime) -> Result<(), Fail> {
     Ok(())
 }
 
-/// Whether a push that is cut off is told so, whatever is put behind the cut.
+/// Whether a push that is cut off is told so, whatever is put after the cut.
 fn is_cut_off<A: Allocator + Copy>(alloc: A, book: &mut Book<A>) -> bool {
     let opened = book.open() == Ok(0) && cut(book, 0, 0, CutReason::ReadFailed);
     let late = put_output(alloc, book, 0, 0) && end(book, 0, 1);
@@ -301,6 +301,61 @@ fn a_list_of_calls(rt: HostRuntime) -> Result<(), Fail> {
     let state = RandomState::new(&rt)?;
     let mut book = book_from(rt.alloc(), state, 7, 1);
     let told = five_are_answered(rt.alloc(), &mut book) == Ok(true);
+    drop(book);
+    assert!(rt; told);
+    Ok(())
+}
+
+/// Whether the five calls, made one at a time, have their answers, and two more after them.
+fn five_are_made<A: Allocator + Copy>(book: &mut Book<A>) -> bool {
+    let opened = has_opened(&make_call(book, Call::Open), 7);
+    let refused = has_no_row(&make_call(book, Call::Open));
+    let early = has_no_reply(&make_call(book, Call::TakeReply(7)));
+    let ended = has_stepped(&make_call(book, Call::Step(an_end(7, 0))));
+    let told = has_reply(&make_call(book, Call::TakeReply(7)));
+    let again = has_no_reply(&make_call(book, Call::TakeReply(7)));
+    let next = has_opened(&make_call(book, Call::Open), 8);
+    opened && refused && early && ended && told && again && next && has_journal(book, &[7])
+}
+
+// The same calls, each alone, then take 7 and open. Result: the same answers; then none, as the reply was
+// taken, and 8, as its row is free; 7 is in the journal.
+#[test]
+fn calls_one_at_a_time(rt: HostRuntime) -> Result<(), Fail> {
+    let state = RandomState::new(&rt)?;
+    let mut book = book_from(rt.alloc(), state, 7, 1);
+    let told = five_are_made(&mut book);
+    drop(book);
+    assert!(rt; told);
+    Ok(())
+}
+
+/// Whether the answer is that there are no numbers left.
+fn has_no_number<A: Allocator>(answer: &Answer<Done<A>, Refusal<A>>) -> bool {
+    match answer {
+        Answer::Opened(opened) => *opened == Err(OpenFault::Exhausted),
+        _ => false,
+    }
+}
+
+/// Whether a call opens the last push, and those after it none; the last push is done all the same.
+fn the_last_is_opened<A: Allocator + Copy>(book: &mut Book<A>) -> bool {
+    let last = u32::MAX - 1;
+    let opened = has_opened(&make_call(book, Call::Open), last as usize);
+    let none = has_no_number(&make_call(book, Call::Open));
+    let ended = has_stepped(&make_call(book, Call::Step(an_end(last, 0))));
+    let told = has_reply(&make_call(book, Call::TakeReply(last)));
+    let still = has_no_number(&make_call(book, Call::Open));
+    opened && none && ended && told && still && has_journal(book, &[last])
+}
+
+// First push 4,294,967,294, limit 2: open, open, the end and the reply of the first, open. Result:
+// 4,294,967,294; Exhausted; no refusal; done; Exhausted.
+#[test]
+fn calls_at_the_last_number(rt: HostRuntime) -> Result<(), Fail> {
+    let state = RandomState::new(&rt)?;
+    let mut book = book_from(rt.alloc(), state, u32::MAX - 1, 2);
+    let told = the_last_is_opened(&mut book);
     drop(book);
     assert!(rt; told);
     Ok(())

@@ -9,7 +9,7 @@ use std::test::*;
 /// As many parts as a push may have.
 const PARTS: u32 = 10_000;
 
-/// Puts a `replycaps`, and behind it parts `obsmarkers` without a marker, each of which leaves a reply.
+/// Puts a `replycaps`, and after it parts `obsmarkers` without a marker, each of which leaves a reply.
 fn put_all<A: Allocator + Copy>(alloc: A, book: &mut Book<A>) -> bool {
     let mut all = put(book, 0, 0, part(alloc, b"REPLYCAPS", b""));
     for index in 1..PARTS {

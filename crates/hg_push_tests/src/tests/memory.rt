@@ -52,7 +52,7 @@ fn first_part(heap: &LocalHeap, state: RandomState) -> First {
 }
 
 // Two pushes over heaps of 16 to 4,080 bytes; a part of A, its later items, the end mark of B.
-// Result: taken, or refused: A is aborted for want of memory, its later items are dropped, B is
+// Result: taken, or refused: A is aborted for lack of memory, its later items are dropped, B is
 // done.
 #[test]
 fn the_first_part_is_refused(rt: HostRuntime) -> Result<(), Fail> {
@@ -207,7 +207,7 @@ fn dropping_takes_no_memory(rt: HostRuntime) -> Result<(), Fail> {
     Ok(())
 }
 
-/// Whether an opening, a run and a part are refused for want of memory over a full heap.
+/// Whether an opening, a run and a part are refused for lack of memory over a full heap.
 fn are_refused<'a>(
     book: &mut Book<&'a LocalHeap>,
     blocks: &mut Blocks<'a>,
@@ -234,7 +234,7 @@ fn refuses_all(alloc: Global, heap: &LocalHeap, state: RandomState) -> bool {
 }
 
 /// An opening, a part and a run that memory is refused for. The opening uses no number.
-/// Over a full heap: an opening, a run, a part. Result: NoMemory; aborted for want of memory,
+/// Over a full heap: an opening, a run, a part. Result: NoMemory; aborted for lack of memory,
 /// twice; the next opening uses the number that the refused one did not.
 #[test]
 fn growths_are_refused(rt: HostRuntime) -> Result<(), Fail> {
@@ -245,7 +245,7 @@ fn growths_are_refused(rt: HostRuntime) -> Result<(), Fail> {
     Ok(())
 }
 
-/// A reply is its bytes, or want of memory.
+/// A reply is its bytes, or out of memory.
 /// The reply to a bad end mark over heaps of 16 to 8,176 bytes. Result: its 59 bytes, or NoMemory;
 /// both occur.
 #[test]

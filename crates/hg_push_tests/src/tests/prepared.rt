@@ -25,7 +25,7 @@ fn empty_group<A: Allocator + Copy>(alloc: A) -> Result<Part<A>, NoMemory> {
     part_with(alloc, b"CHANGEGROUP", true, b"version", b"02")
 }
 
-/// That changeset as a chunk, and the ends of the changesets and of the manifests behind it.
+/// That changeset as a chunk, and the ends of the changesets and of the manifests after it.
 fn put_root<A: Allocator>(bytes: &mut Vec<u8, A>) -> Result<(), NoMemory> {
     bytes.extend_from_slice(&[0, 0, 0, 0x68])?;
     bytes.extend_from_slice(&ROOT)?;

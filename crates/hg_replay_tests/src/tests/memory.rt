@@ -3,15 +3,15 @@
 use super::*;
 use linked_list_allocator::LocalHeap;
 
-/// The reply to a push that was aborted for want of memory.
+/// The reply to a push that was aborted for lack of memory.
 const REFUSED_REPLY: &[u8] =
     b"HG20\0\0\0\0\0\0\0\x28\x0bERROR:ABORT\0\0\0\0\x01\0\x07\x0dmessageout of memory\0\0\0\0\0\0\0\0";
 
-/// The reply to a bundle of which a part was not kept, for want of memory.
+/// The reply to a bundle of which a part was not kept, for lack of memory.
 const UNREAD_REPLY: &[u8] =
     b"HG20\0\0\0\0\0\0\0\x2a\x0bERROR:ABORT\0\0\0\0\x01\0\x07\x0fmessagestream fault 11\0\0\0\0\0\0\0\0";
 
-/// Whether the bytes tell want of memory. They are empty where there was no memory to tell it.
+/// whether the bytes report out of memory. They are empty where there was no memory to tell it.
 fn tells_want_of_memory(bytes: &[u8]) -> bool {
     bytes.is_empty() || bytes == REFUSED_REPLY || bytes == UNREAD_REPLY
 }

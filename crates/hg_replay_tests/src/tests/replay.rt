@@ -72,7 +72,7 @@ fn gives<R: RandomSource + Abort>(
 
 /// Pushes in turn: what an aborted one brings is not there, and the next follows.
 /// None; pushes that change nothing; A; A twice; A, A with another last byte of its id, A again;
-/// the wrong one alone; twice A behind a check that the null id is the only head; A cut short,
+/// the wrong one alone; twice A after a check that the null id is the only head; A cut short,
 /// `HG10`, A; A, nothing, `FROB`. Read at once and byte by byte. Report and status: empty; empty;
 /// `C 0 A 1 0`; the same; the same with 1; empty with 1; `C 0 A 1 0` with 1, three times.
 #[test]
@@ -99,7 +99,7 @@ fn pushes_in_turn(rt: HostRuntime) {
     assert!(rt; gives(&rt, rt.alloc(), &[ROOT, MARKER], 7, true, 0, PUBLIC_MARKED));
 }
 
-/// A marker, a phase and a bookmark, one behind the other.
+/// A marker, a phase and a bookmark, one after the other.
 /// A, and a marker of A; then a `pushkey` that makes A public; A, public, A again; A, and the
 /// bookmark `a b` on it; the bookmark before A. Report and status: `C 0 A 1 1` and `O 000000000000`
 /// with A; `C 0 A 0 0` and the marker; `C 0 A 0 0`; `C 0 A 1 0` and `B A a%20b`; `C 0 A 1 0` with
@@ -212,7 +212,7 @@ fn a_report_is_cut_short(rt: HostRuntime) {
     assert_eq!(rt; writer.bytes(), DRAFT);
 }
 
-/// Whether a replay over a heap of so many bytes gives the report and that status, or tells want of memory:
+/// Whether a replay over a heap of so many bytes gives the report and that status, or reports out of memory:
 /// then there is no report, or it is one of the repository without the pushes that memory was refused for.
 fn gives_or_tells<R: RandomSource + Abort>(rt: &R, alloc: Global, size: usize) -> Option<u8> {
     let heap = LocalHeap::new(alloc, size).ok()?;
@@ -250,7 +250,7 @@ fn a_growth_of_a_replay_is_refused(rt: HostRuntime) {
     assert!(rt; refused > 0);
 }
 
-/// How often each reader is read: none is read behind its end mark, its fault, its end or a failed read.
+/// How often each reader is read: none is read after its end mark, its fault, its end or a failed read.
 /// A, `HG10`, A cut short and A with a failed read, from readers that tell their reads, to a writer
 /// that tells its uses. Report and status: 2, 4, 3 and 2 reads; a write and a flush.
 #[test]

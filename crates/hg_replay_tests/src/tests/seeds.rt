@@ -1,7 +1,8 @@
 //! What seeds give.
 
 use super::*;
-use hg_replay::{SeedFault, seeded};
+use hg_replay::{SeedFault, empty_repository, seeded};
+use hg_types::{Limits, Node, Phase};
 use linked_list_allocator::LocalHeap;
 
 /// Why the bytes give no repository, if they give none.
@@ -16,7 +17,7 @@ fn fault_of<A: Allocator + Copy>(
     }
 }
 
-/// Bundles that are run, that are refused, and that are none. Behind a whole one more bytes may stand.
+/// Bundles that are run, that are refused, and that are none. After a whole one more bytes may stand.
 #[test]
 fn seeds_and_what_is_none(rt: HostRuntime) {
     let examples: [(&[u8], Option<SeedFault>); 8] = [
@@ -37,6 +38,36 @@ fn seeds_and_what_is_none(rt: HostRuntime) {
     let mut reader = Source::failing(FIRST_PUSH, 4, 2, true);
     told &= fault_of(rt.alloc(), state(&rt), &mut reader) == Some(SeedFault::ReadFailed);
     assert!(rt; told);
+}
+
+/// The limits of a server, by hand.
+const LIMITS: Limits = Limits {
+    params: 65_536,
+    payload: 67_108_864,
+    stream: 268_435_456,
+    parts: 10_000,
+    text: 16_777_216,
+    rows: 1_024,
+    revisions: 2_147_483_647,
+};
+
+// The repository that a server begins with, of one that publishes and of one that does not. Result: that
+// flag, the limits by hand, pushes from 0 on; no changeset, marker or bookmark; the null id is known and
+// public, and another id is not.
+#[test]
+fn the_repository_without_changesets(rt: HostRuntime) -> Result<(), Fail> {
+    for publishing in [false, true] {
+        let repo = empty_repository(rt.alloc(), state(&rt), publishing);
+        assert_eq!(rt; repo.settings().publishing, publishing);
+        assert_eq!(rt; repo.settings().limits, LIMITS);
+        assert_eq!(rt; repo.settings().first_push, 0);
+        assert!(rt; repo.report()?.is_empty());
+        assert!(rt; repo.markers().is_empty());
+        assert_eq!(rt; repo.phase_of(&Node::NULL), Some(Phase::Public));
+        assert_eq!(rt; repo.phase_of(&Node([1; 20])), None);
+        assert_eq!(rt; repo.bookmark(b"@"), None);
+    }
+    Ok(())
 }
 
 /// Over heaps of rising size: memory is refused, or the seed is run. Both are met.

@@ -4,7 +4,7 @@ use super::*;
 use crate::tests::telling::{TellingReader, TellingWriter, Use};
 use std::io::ErrorKind;
 
-/// A bundle of another kind, and bytes behind its magic.
+/// A bundle of another kind, and bytes after its magic.
 const FOREIGN_WITH_MORE: &[u8] = b"HG10 more";
 
 /// Whether the reads gave the bytes from the front, `step` at a time as long as there are so many, and then
@@ -21,7 +21,7 @@ fn gave(reads: &[Option<&[u8]>], bytes: &[u8], step: usize) -> bool {
     true
 }
 
-/// Whether no read is made behind the one that gives the last of so many bytes, but `ends` of them at the end
+/// Whether no read is made after the one that gives the last of so many bytes, but `ends` of them at the end
 /// of the input.
 fn stops<R: RandomSource + Abort>(
     rt: &R,
@@ -41,9 +41,9 @@ fn stops<R: RandomSource + Abort>(
     true
 }
 
-/// The end mark, a fault and the end of the input are each behind the last bytes that are read. The end is
+/// The end mark, a fault and the end of the input are each after the last bytes that are read. The end is
 /// read once.
-/// The empty bundle, the first push, `HG10` and the two interruptions above, some with bytes behind
+/// The empty bundle, the first push, `HG10` and the two interruptions above, some with bytes after
 /// them; 11 bytes of the empty bundle, and none; in pieces of 1, 3 and 4,096 bytes, from a reader
 /// that tells its reads. Reply and status: the last read gives the byte of the end mark or of the
 /// fault, the 4th, the 91st and the 85th; or the end of the input is read once.
@@ -64,7 +64,7 @@ fn no_read_is_made_behind_the_last(rt: HostRuntime) {
     }
 }
 
-/// Whether the read behind so many good ones, which fails so, is the last one.
+/// Whether the read after so many good ones, which fails so, is the last one.
 fn stops_failed<R: RandomSource + Abort>(
     rt: &R,
     alloc: Global,
@@ -128,7 +128,7 @@ fn is_last(write: &Use, last: Last) -> bool {
 }
 
 /// Whether the reply to the race is written by so many writes of 7 bytes, of which the last may be shorter,
-/// and one use more, to a writer with so much room, of which the use behind so many good ones fails.
+/// and one use more, to a writer with so much room, of which the use after so many good ones fails.
 fn writes_end<R: RandomSource + Abort>(
     rt: &R,
     alloc: Global,
@@ -145,7 +145,7 @@ fn writes_end<R: RandomSource + Abort>(
     if same { Some(status) } else { None }
 }
 
-/// The reply is ten writes and a flush. None of them is empty, and none is made behind one that failed.
+/// The reply is ten writes and a flush. None of them is empty, and none is made after one that failed.
 /// The race, to a writer that takes 7 bytes at a write and tells its uses; each use in turn fails;
 /// or none. Reply and status: ten writes, none of them empty, and the flush, up to the failed one;
 /// 3; or 1.

@@ -17,7 +17,7 @@ static REPORT: &[u8] = b"C 0 b80de5d138758541c5f05265ad144ab9fa86d1db 0 0\n\
 
 static REFUSED: [Recipe; 4] = [CHILD, MARKED, NAMED, LOST];
 
-/// What becomes of a seed, and of a push behind it.
+/// What becomes of a seed, and of a push after it.
 #[derive(Clone, Copy, Debug, PartialEq, Eq)]
 enum Came {
     /// Memory was refused for the seed, and the repository is empty.
@@ -124,7 +124,7 @@ fn all_seen(
     Ok(seen)
 }
 
-/// Each growth is refused in turn: what is asked for, or want of memory with all as before, and no third.
+/// Each growth is refused in turn: what is asked for, or out of memory with all as before, and no third.
 #[test]
 fn growths_refused_in_turn(rt: HostRuntime) -> Result<(), Fail> {
     let state = RandomState::new(&rt)?;

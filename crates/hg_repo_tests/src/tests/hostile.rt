@@ -15,7 +15,7 @@ static GIVEN: [Recipe; 5] = [CAPS, CHILD, MARKED, NAMED, PUBLISHED];
 
 static REFUSED: [Recipe; 4] = [CHILD, MARKED, NAMED, LOST];
 
-/// What became of a seed, and of prepared parts behind it.
+/// What became of a seed, and of prepared parts after it.
 #[derive(Clone, Copy, Debug, PartialEq, Eq)]
 enum Came {
     /// Memory was refused for the seed.
@@ -105,7 +105,7 @@ fn ran_behind<'h>(
     }
 }
 
-/// The same behind the seed.
+/// The same after the seed.
 fn came_of<'h>(
     heap: &'h LocalHeap,
     ample: &'h LocalHeap,
@@ -137,7 +137,7 @@ fn all_seen(
     Ok(seen)
 }
 
-/// Each growth of a run of prepared parts is refused in turn: the answer, or want of memory with all as
+/// Each growth of a run of prepared parts is refused in turn: the answer, or out of memory with all as
 /// before.
 #[test]
 fn growths_of_prepared_parts_refused_in_turn(rt: HostRuntime) -> Result<(), Fail> {
@@ -229,7 +229,7 @@ fn limited(text: u32, revisions: u32) -> Settings
     }
 }
 
-/// The changeset of the empty text, and behind it one of two bytes under the id of its child of the text `b`.
+/// The changeset of the empty text, and after it one of two bytes under the id of its child of the text `b`.
 static TWO_BYTES: [Recipe; 2] = [
     ROOT,
     (

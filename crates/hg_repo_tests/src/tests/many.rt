@@ -7,7 +7,7 @@ use hg_repo::prepare;
 /// As many parts as a push may have.
 const PARTS: usize = 10_000;
 
-/// A `replycaps`, and behind it parts `obsmarkers` without a marker, each of which leaves a reply.
+/// A `replycaps`, and after it parts `obsmarkers` without a marker, each of which leaves a reply.
 fn replying_parts<A: Allocator + Copy>(alloc: A) -> Result<Seq<Part<A>, A>, NoMemory> {
     let mut parts = Seq::new(alloc);
     parts.push(part(alloc, b"REPLYCAPS", 0, b"")?)?;

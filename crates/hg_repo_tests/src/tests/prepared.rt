@@ -100,7 +100,7 @@ fn worked_examples_prepared(rt: HostRuntime) -> Result<(), Fail> {
     Ok(())
 }
 
-/// A check of heads, and behind it the front of a changegroup. None says that memory was refused for them.
+/// A check of heads, and after it the front of a changegroup. None says that memory was refused for them.
 fn check_and_group<A: Allocator + Copy>(
     alloc: A,
     heads: &[u8],
@@ -194,7 +194,7 @@ fn prepare_in(heap: &LocalHeap) -> First {
     }
 }
 
-/// Each growth of a preparation is refused in turn: a prepared part, or want of memory.
+/// Each growth of a preparation is refused in turn: a prepared part, or out of memory.
 #[test]
 fn memory_refused_in_preparing(rt: HostRuntime) -> Result<(), Fail> {
     let mut seen = [false; 2];

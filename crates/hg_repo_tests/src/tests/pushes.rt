@@ -420,7 +420,7 @@ fn bookmarks_are_reported(rt: HostRuntime) -> Result<(), Fail> {
     Ok(())
 }
 
-/// The three races, each behind a part that changes something.
+/// The three races, each after a part that changes something.
 static RACED: [Run; 4] = [
     (Source::Push, &[ROOT], Ending::Done(1, 0)),
     (
@@ -440,7 +440,7 @@ static RACED: [Run; 4] = [
     ),
 ];
 
-/// Each other kind of refusal behind a part that changes something.
+/// Each other kind of refusal after a part that changes something.
 static REFUSED: [Run; 7] = [
     (Source::Push, &[ROOT], Ending::Done(1, 0)),
     (

@@ -1,18 +1,19 @@
 //! What an answer rests on, and clients that see what others have seen.
 
-ghost use Rattle.std.specs.Prelude.{◌≡◌, ◌≤◌, Some};
+ghost use Rattle.std.specs.Prelude.{◌≡◌, ◌≤◌, Some, length};
 ghost use mathlib.Core.List.{IsPrefix};
 ghost use Rattle.hg_queue.specs.Words.{seen, IsVisitorIn};
-ghost use Rattle.hg_serve.specs.Answers.{Answers};
+ghost use Rattle.hg_serve.specs.Answers.{Answers, Looks};
 ghost use Rattle.hg_serve.specs.Desks.{IsQueueIn};
 ghost use Rattle.hg_push.specs.Places.{RestsOn};
-ghost use Rattle.hg_push.specs.Run.{run_push};
-ghost use Rattle.hg_serve.specs.Histories.{ending, newest_first};
+ghost use Rattle.hg_push.specs.Run.{run_push, RepositoryOf};
+ghost use Rattle.hg_serve.specs.Histories.{ending, newest_first, serial_run};
 
 use super::{Answer, Desk};
 use crate::client::{Client, Ended};
 use crate::gate::Gate;
 use crate::naming::Naming;
+use crate::question::Question;
 use hg_push::Outcome;
 use hg_queue::{PartQueue, Visitor};
 use hg_repo::{Done, Refusal};
@@ -54,6 +55,31 @@ impl<J: Naming<A>, A: Allocator + Copy> Desk<J, A> {
         let (answer, client) = self.answer(rt, queue, ended, gate);
         let rests = self.rests(push, &answer.outcome);
         (answer, rests, client)
+    }
+
+    /// Asks as `look` does, and says how many pushes were done then.
+    pub(crate) fn look_resting<T, Q: Question<A, T>>(
+        &mut self,
+        queue: &PartQueue<A>,
+        visitor: &mut Visitor<A>,
+        question: &Q,
+    ) -> (T, usize)
+        requires queue { IsQueueIn J.table J.capacity queue.now }
+        requires visitor { IsVisitorIn J.table visitor.old }
+        ensures visitor { IsVisitorIn J.table visitor.new }
+        ensures looked { (repo : RepositoryOf A) × Looks J.first (seen visitor.old) (seen visitor.new) repo
+            × Q.tells question.now repo result.0 }
+        ensures rests { result.1 ≡ length (serial_run J.first (seen visitor.new)).journal }
+    {
+        let answer = self.look(queue, visitor, question);
+        (answer, self.done())
+    }
+
+    /// How many pushes are done.
+    fn done(&self) -> usize
+        ensures { result ≡ length (serial_run J.first self.now.history).journal }
+    {
+        self.book.journal().len()
     }
 
     /// Both visitors have seen beginnings of the history. The second sees all of it.

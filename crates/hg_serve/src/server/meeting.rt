@@ -1,17 +1,18 @@
 //! Calls for those who keep what was pushed.
 
-ghost use Rattle.std.specs.Prelude.{◌≡◌};
+ghost use Rattle.std.specs.Prelude.{◌≡◌, length};
 ghost use mathlib.Core.List.{IsPrefix};
-ghost use Rattle.hg_serve.specs.Answers.{Answers};
+ghost use Rattle.hg_serve.specs.Answers.{Answers, Looks};
 ghost use Rattle.hg_push.specs.Places.{RestsOn};
-ghost use Rattle.hg_push.specs.Run.{run_push};
-ghost use Rattle.hg_serve.specs.Histories.{newest_first};
+ghost use Rattle.hg_push.specs.Run.{run_push, RepositoryOf};
+ghost use Rattle.hg_serve.specs.Histories.{newest_first, serial_run};
 
 use super::Server;
 use crate::client::{Client, Ended};
 use crate::desk::Answer;
 use crate::gate::{Gate, Point};
 use crate::naming::Naming;
+use crate::question::Question;
 use std::alloc::Allocator;
 use std::sync::Wait;
 
@@ -32,6 +33,22 @@ impl<J: Naming<A>, A: Allocator + Copy> Server<J, A> {
         let answered = self.lock(rt).answer_resting(rt, &self.queue, ended, gate);
         gate.at(Point::Answered);
         answered
+    }
+
+    /// Asks as [`Server::look`] does, and says how many pushes were done then: all of them are what the answer
+    /// rests on.
+    pub fn look_resting<R: Wait, T, Q: Question<A, T>>(
+        &self,
+        rt: &R,
+        client: &mut Client<J, A>,
+        question: &Q,
+    ) -> (T, usize)
+        ensures looked { (repo : RepositoryOf A) × Looks J.first client.old client.new repo
+            × Q.tells question.now repo result.0 }
+        ensures rests { result.1 ≡ length (serial_run J.first client.new).journal }
+    {
+        let mut desk = self.lock(rt);
+        desk.look_resting(&self.queue, &mut client.visitor, question)
     }
 
     /// Two clients of the server have seen beginnings of one history. The second sees all of it.

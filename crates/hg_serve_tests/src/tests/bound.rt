@@ -16,7 +16,7 @@ impl Gate for Counts {
     }
 }
 
-/// Behind that many parts of another push and after that many turns, the answer to a push without parts takes
+/// After that many parts of another push and after that many turns, the answer to a push without parts takes
 /// so many items.
 pub fn takes<J: Naming<Global>, R: Wait + Abort>(
     rt: &R,
@@ -113,7 +113,7 @@ pub fn puts_meanwhile<J: Naming<Global>, R: Wait + Abort>(
 }
 
 // As the first of these, and at each take the gate puts a part of the other push. Result: 4 takes;
-// a turn behind the answer finds an item; the other push is done with its 6 parts.
+// a turn after the answer finds an item; the other push is done with its 6 parts.
 #[test]
 fn an_answer_stops_at_its_mark(rt: HostRuntime) -> Result<(), Fail> {
     let closed = played(&rt, rt.alloc(), 4, settings(0, 1_024), Scene::PutsMeanwhile);

@@ -1,4 +1,4 @@
-//! Openings that are refused, by the limit on rows and behind the last number; as many parts as a push may
+//! Openings that are refused, by the limit on rows and after the last number; as many parts as a push may
 //! have; and as many pushes as may be open.
 
 use super::*;
@@ -20,7 +20,7 @@ fn refused_as<J: Naming<Global>, R: Wait + Abort>(
 }
 
 /// With one row, a second opening is refused until the first push is answered. Then the last number is given,
-/// and behind it none is left.
+/// and after it none is left.
 pub fn refused<J: Naming<Global>, R: Wait + Abort>(
     rt: &R,
     alloc: Global,
@@ -58,7 +58,7 @@ fn one_row_and_two_numbers(rt: HostRuntime) -> Result<(), Fail> {
     Ok(())
 }
 
-/// Puts a part that found the queue full, behind one turn.
+/// Puts a part that found the queue full, after one turn.
 fn put_behind_a_turn<J: Naming<Global>, R: Wait>(
     rt: &R,
     server: &Server<J>,
@@ -70,7 +70,7 @@ fn put_behind_a_turn<J: Naming<Global>, R: Wait>(
     turned && tried.is_ok()
 }
 
-/// Puts 10,000 parts, each behind one turn where the queue is full.
+/// Puts 10,000 parts, each after one turn where the queue is full.
 fn put_most<J: Naming<Global>, R: Wait + Abort>(
     rt: &R,
     alloc: Global,

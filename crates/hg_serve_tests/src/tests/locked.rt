@@ -81,7 +81,7 @@ pub fn held<J: Naming<Global> + Send + Sync, R: Threads + Wait + Abort + Sync>(
 }
 
 // Capacity 8: a turn stands inside the lock until three `try_put` of another thread have returned.
-// Result: the puts return; the turn takes the first part; the answer behind it takes 3.
+// Result: the puts return; the turn takes the first part; the answer after it takes 3.
 #[test]
 fn a_turn_held_at_locked_lets_puts_through(rt: HostRuntime) -> Result<(), Fail> {
     let closed = played(&rt, rt.alloc(), 8, settings(0, 1_024), Scene::Held);

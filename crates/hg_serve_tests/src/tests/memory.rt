@@ -228,7 +228,7 @@ fn at_openings<J: Naming<A>, A: Allocator + Copy, H: Hoard, R: Wait + Abort>(
     clients
 }
 
-/// How often pushes of two parts were done, aborted for want of memory, and anything else.
+/// How often pushes of two parts were done, aborted for lack of memory, and anything else.
 #[derive(Clone, Copy)]
 struct Tally {
     done: u32,
@@ -367,7 +367,7 @@ fn is_closed_with(closed: &Option<Closed<&LocalHeap>>, journal: &[u32], head: [u
 
 // A puts `REPLYCAPS`, the `CHANGEGROUP` 02 of the root changeset, `REPLYCAPS` and its end mark;
 // after one turn the heap is filled, and one more turn made; B pushes the root changeset, and B's
-// client a child of it; then A's answer. Result: A is aborted for want of memory, the rest of it
+// client a child of it; then A's answer. Result: A is aborted for lack of memory, the rest of it
 // dropped; B's pushes are done; the journal is [1, 2], and the one head is the child.
 #[test]
 fn memory_refused_at_a_take(rt: HostRuntime) -> Result<(), Fail> {
@@ -378,7 +378,7 @@ fn memory_refused_at_a_take(rt: HostRuntime) -> Result<(), Fail> {
 }
 
 /// The journal is without the push whose items are dropped with the queue.
-/// The same, but A's answer comes at once and no B. Result: A is aborted for want of memory,
+/// The same, but A's answer comes at once and no B. Result: A is aborted for lack of memory,
 /// without a take; the journal is empty, and so is the repository.
 #[test]
 fn closed_with_items_in_the_queue(rt: HostRuntime) -> Result<(), Fail> {
@@ -401,7 +401,7 @@ fn memory_refused_at_an_opening(rt: HostRuntime) -> Result<(), Fail> {
 
 /// Each push from the first one on that memory was enough for is done, and no earlier one.
 /// 300 pushes of the root changeset one after another, each taken and answered over a full heap of
-/// which so many times 16 bytes are free. Result: aborted for want of memory, or done; both occur,
+/// which so many times 16 bytes are free. Result: aborted for lack of memory, or done; both occur,
 /// and the done ones are the last.
 #[test]
 fn memory_refused_at_each_growth_of_an_answer(rt: HostRuntime) -> Result<(), Fail> {

@@ -27,7 +27,7 @@ fn root_group(node: [u8; 20], letter: u8) -> [u8; 129] {
         bytes[4 + at] = node[at];
         bytes[84 + at] = node[at];
     }
-    // a hunk of one byte, behind which the text ends
+    // a hunk of one byte, after which the text ends
     bytes[115] = 1;
     bytes[116] = letter;
     bytes
@@ -56,11 +56,11 @@ fn no_heads<R: Abort>(rt: &R, alloc: Global) -> Part {
     part(rt, alloc, b"CHECK:HEADS", &NULL)
 }
 
-fn a_root<R: Abort>(rt: &R, alloc: Global) -> Part {
+pub fn a_root<R: Abort>(rt: &R, alloc: Global) -> Part {
     group(rt, alloc, &root_group(A_ROOT, b'a'))
 }
 
-fn b_root<R: Abort>(rt: &R, alloc: Global) -> Part {
+pub fn b_root<R: Abort>(rt: &R, alloc: Global) -> Part {
     group(rt, alloc, &root_group(B_ROOT, b'b'))
 }
 

@@ -124,9 +124,9 @@ fn the_greatest_terms(rt: HostRuntime) {
     assert!(rt; right.load(Ordering::SeqCst) && status == 0 && lines == 1_024);
 }
 
-/// Bytes that come behind the last bundle are read and dropped, so that its reply is not lost.
+/// Bytes that come after the last bundle are read and dropped, so that its reply is not lost.
 /// `a_client_that_sends_on`, `a_client_that_sends_behind_its_reply`, `a_client_that_stays`,
-/// `a_client_that_is_gone`: 20,000 bytes, or more behind the reply; one that neither sends nor
+/// `a_client_that_is_gone`: 20,000 bytes, or more after the reply; one that neither sends nor
 /// leaves; one that left. Result: the reply is not lost; the service ends.
 #[test]
 fn a_client_that_sends_on(rt: HostRuntime) -> Result<(), Fail> {
@@ -166,7 +166,7 @@ fn a_client_that_stays(rt: HostRuntime) {
     assert!(rt; status == 0 && was_sent(rt.alloc(), &stays, EMPTY));
 }
 
-/// A client reads its reply up to its end, and sends on behind it, now and a while later.
+/// A client reads its reply up to its end, and sends on after it, now and a while later.
 fn sends_behind<R: Net<Listener = TcpListener, Stream = TcpStream> + Clock + Abort>(
     rt: &R,
     alloc: Global,
@@ -180,7 +180,7 @@ fn sends_behind<R: Net<Listener = TcpListener, Stream = TcpStream> + Clock + Abo
     told && now && writer.write_all(&[0; 1_000]).is_ok()
 }
 
-/// What a client sends behind its last reply is read and dropped: its connection is not reset.
+/// What a client sends after its last reply is read and dropped: its connection is not reset.
 #[test]
 fn a_client_that_sends_behind_its_reply(rt: HostRuntime) {
     let (alloc, listener) = (rt.alloc(), listener(&rt));

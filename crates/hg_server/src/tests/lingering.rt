@@ -1,4 +1,4 @@
-//! What drops a client's last bytes goes on behind a read that a signal broke, or that waited too long.
+//! What drops a client's last bytes goes on after a read that a signal broke, or that waited too long.
 
 use super::*;
 use crate::linger::drop_rest;

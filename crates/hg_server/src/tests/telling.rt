@@ -17,7 +17,7 @@ pub enum Use {
     Ended(bool),
 }
 
-/// Accepts so many connections to a listener; the accepts behind them fail.
+/// Accepts so many connections to a listener; the accepts after them fail.
 #[derive(Drop)]
 pub struct TellingDoor<'a, R: Abort> {
     rt: &'a R,
@@ -117,7 +117,7 @@ fn a_door_hears_each_start(rt: HostRuntime) {
     );
 }
 
-/// Behind an accept that fails the door is asked no more, and hears the end.
+/// After an accept that fails the door is asked no more, and hears the end.
 #[test]
 fn a_door_that_fails_is_asked_no_more(rt: HostRuntime) {
     let listener = listener(&rt);

@@ -1,4 +1,4 @@
--- What the stream tells of a block, of parameters or of a chunk. Want of memory is the stream's own.
+-- What the stream tells of a block, of parameters or of a chunk. Out of memory is the stream's own.
 use Rattle.std.specs.Prelude.{◌≡◌, ℕ, nat_lt, if◌then◌else◌, List, ◌⊎◌}
 use Rattle.hg_chunks.specs.declared.fault.ChunkFault.{ChunkFault}
 use Rattle.hg_chunks.specs.declared.fault.ChunkFault.TheVariants as chunk_fault

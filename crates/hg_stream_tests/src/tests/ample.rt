@@ -152,10 +152,10 @@ fn the_greatest_payloads_are_written(rt: HostRuntime) -> Result<(), Fail> {
     Ok(())
 }
 
-// A size takes no memory, whatever it announces, and four bytes behind it take little. Nor do the first bytes
+// A size takes no memory, whatever it announces, and four bytes after it take little. Nor do the first bytes
 // of a bundle.
 // Over a heap of 128 MiB: the greatest sizes of stream parameters, of a header and of a chunk, and
-// of the latter two in an interrupting part, each with 4 bytes behind it. Result: at most 256 bytes
+// of the latter two in an interrupting part, each with 4 bytes after it. Result: at most 256 bytes
 // in front; none for the size; at most 64 for the 4 bytes.
 #[test]
 fn memory_follows_the_bytes(rt: HostRuntime) -> Result<(), Fail> {
@@ -185,8 +185,8 @@ fn memory_follows_the_bytes(rt: HostRuntime) -> Result<(), Fail> {
 
 // What takes no memory takes none; and a reader that begins again has given all of it back, and reads on.
 // Over such a heap, one reader: the first push, the interrupted one and the empty bundle, begun
-// again behind each. Result: at most 1,024 bytes each; none for `end_input`, `state` and
-// `next_part`; none is left behind `restart`.
+// again after each. Result: at most 1,024 bytes each; none for `end_input`, `state` and
+// `next_part`; none is left after `restart`.
 #[test]
 fn memory_is_given_back(rt: HostRuntime) -> Result<(), Fail> {
     let heap = LocalHeap::new(rt.alloc(), AMPLE)?;

@@ -14,7 +14,7 @@ fn has_failed<A: Allocator + Copy>(reader: &mut Unbundler<A>, fault: StreamFault
 }
 
 /// Whether the last byte shows the fault and no byte before it, in two pieces, byte by byte, in pieces of 3,
-/// at once and with bytes behind it, and the fault stays.
+/// at once and with bytes after it, and the fault stays.
 fn is_fault_at_end<A: Allocator + Copy>(
     alloc: A,
     bytes: &[u8],
@@ -41,7 +41,7 @@ fn is_fault_at_end<A: Allocator + Copy>(
 }
 
 // `"HG10"`, `"hg20"`; stream parameter sizes `ffffffff`, `80000000`, `00010001`; header sizes
-// `ffffffff`, `0003fd07`, `7fffffff`, and `fffffffe` behind a part; chunk size `fffffffe`. Result:
+// `ffffffff`, `0003fd07`, `7fffffff`, and `fffffffe` after a part; chunk size `fffffffe`. Result:
 // BadMagic twice; NegativeSize twice, TooLarge; NegativeSize, TooLarge twice, NegativeSize;
 // Chunk(BadSize): each at its last byte, and for good.
 #[test]
@@ -57,7 +57,7 @@ fn magic_and_sizes(rt: HostRuntime) -> Result<(), Fail> {
         (b"HG20\0\0\0\0\xff\xff\xff\xff", StreamFault::NegativeSize),
         (b"HG20\0\0\0\0\0\x03\xfd\x07", StreamFault::TooLarge),
         (b"HG20\0\0\0\0\x7f\xff\xff\xff", StreamFault::TooLarge),
-        // a header of -2 bytes behind a part
+        // a header of -2 bytes after a part
         (
             b"HG20\0\0\0\0\0\0\0\x08\x01a\0\0\0\0\0\0\0\0\0\0\xff\xff\xff\xfe",
             StreamFault::NegativeSize,
@@ -124,7 +124,7 @@ fn headers_refused(rt: HostRuntime) -> Result<(), Fail> {
 
 // What may not interrupt a payload: sizes, an interruption, aborts, and parts that have to be understood and
 // are not.
-// Behind a chunk and a size of -1: `ffffffff`; `0003fd07`; `output` and then sizes -1 and -2;
+// After a chunk and a size of -1: `ffffffff`; `0003fd07`; `output` and then sizes -1 and -2;
 // `error:abort`; `ERROR:ABORT` with `hint`; `FROB`; `ERROR:ABORT` and `OUTPUT` with a mandatory
 // parameter `x`. Result: NegativeSize; TooLarge; NestedInterrupt, Chunk(BadSize); ClientAbort
 // twice; Unsupported three times.
@@ -172,7 +172,7 @@ fn interruptions_refused(rt: HostRuntime) -> Result<(), Fail> {
 }
 
 // The interrupted first push, whose interrupting part is interrupted in place of closed, or is `FROB`: the
-// fault, its number and its byte, with the bytes behind it and without, and the part before it.
+// fault, its number and its byte, with the bytes after it and without, and the part before it.
 // The same 115 bytes with `ffffffff` in place of the `output` part's closing size; with `0000000b
 // 04 "FROB" 00000000 0000` in place of its header (113 bytes); each up to the fault and whole, byte
 // by byte, in pieces of 3 and at once. Result: fault 6, NestedInterrupt, at byte 91; fault 8,
@@ -216,7 +216,7 @@ fn first_push_interrupted_wrongly(rt: HostRuntime) -> Result<(), Fail> {
     Ok(())
 }
 
-// The input ends inside the bundle, behind each front of the empty one and of one with an interruption.
+// The input ends inside the bundle, after each front of the empty one and of one with an interruption.
 // Each front of the empty bundle and of the interrupted first push. Result: Truncated, for good.
 #[test]
 fn truncated_input(rt: HostRuntime) {
@@ -232,10 +232,10 @@ fn truncated_input(rt: HostRuntime) {
     }
 }
 
-// The part that was finished before the fault can be taken behind it, and the one that was not finished is
+// The part that was finished before the fault can be taken after it, and the one that was not finished is
 // none.
 // The first push up to its first part, then the end of the input, or a chunk size of -2. Result:
-// the first part can be taken behind the fault, and no other.
+// the first part can be taken after the fault, and no other.
 #[test]
 fn parts_before_a_fault(rt: HostRuntime) {
     for fault in [

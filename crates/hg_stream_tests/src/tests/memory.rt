@@ -4,7 +4,7 @@ use super::writing::{RACED, changegroup_part, raced_part, written};
 use super::*;
 use linked_list_allocator::LocalHeap;
 
-/// How often memory was refused, how often behind a finished part, and how often not.
+/// How often memory was refused, how often after a finished part, and how often not.
 #[derive(Clone, Copy)]
 struct Tally {
     refused: u32,
@@ -26,13 +26,13 @@ enum Came {
     Given,
     /// Memory was refused, for good, before a part was finished.
     Refused,
-    /// The same behind a finished part, which was given.
+    /// The same after a finished part, which was given.
     Kept,
     /// Anything else.
     Astray,
 }
 
-/// Whether the reader answers want of memory for good.
+/// Whether the reader answers out of memory for good.
 fn is_out_of_memory<A: Allocator + Copy>(reader: &mut Unbundler<A>) -> bool {
     reader.feed(EMPTY) == Err(StreamFault::NoMemory)
         && reader.end_input() == Err(StreamFault::NoMemory)
@@ -75,9 +75,9 @@ fn feed_bundle<A: Allocator + Copy>(alloc: A, bytes: &[u8], width: usize) -> Cam
 }
 
 // Two parts, one with an interruption, over heaps of every size, at once and byte by byte: they are given, or
-// memory is refused for good. Where it is refused behind the first part, that part stays.
+// memory is refused for good. Where it is refused after the first part, that part stays.
 // The interrupted first push, and two replies, over heaps of each size below 2,560 bytes by eights.
-// Result: the parts, or NoMemory for good, and over some heap behind the first part, which is
+// Result: the parts, or NoMemory for good, and over some heap after the first part, which is
 // given; 119 bytes, or NoMemory; all occur.
 #[test]
 fn memory_refused_to_the_reader(rt: HostRuntime) -> Result<(), Fail> {
@@ -152,7 +152,7 @@ fn giving_takes_no_memory(rt: HostRuntime) -> Result<(), Fail> {
     Ok(())
 }
 
-// Where there is some, they leave it: as much is used behind them as before, while the parts are held.
+// Where there is some, they leave it: as much is used after them as before, while the parts are held.
 #[test]
 fn giving_leaves_the_memory_as_it_was(rt: HostRuntime) -> Result<(), Fail> {
     let heap = LocalHeap::new(rt.alloc(), 1 << 14)?;
@@ -178,7 +178,7 @@ fn write_two<A: Allocator + Copy>(
     Ok(written(alloc, parts.as_slice()))
 }
 
-// Two reply parts over heaps of every size: their bundle, or want of memory.
+// Two reply parts over heaps of every size: their bundle, or out of memory.
 #[test]
 fn memory_refused_to_the_writer(rt: HostRuntime) -> Result<(), Fail> {
     let mut tally = Tally {

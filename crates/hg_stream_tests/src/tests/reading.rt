@@ -46,7 +46,7 @@ const NO_HEADS: Fields<'static> = Fields {
     payload: &[0; 20],
 };
 
-// `"HG20" 00000000 00000000` (12 bytes), in every cutting. Result: ended behind 12 bytes, no parts.
+// `"HG20" 00000000 00000000` (12 bytes), in every cutting. Result: ended after 12 bytes, no parts.
 #[test]
 fn empty_bundle(rt: HostRuntime) -> Result<(), Fail> {
     assert_eq!(rt; EMPTY.len(), 12);
@@ -171,7 +171,7 @@ fn stream_parameters_taken(rt: HostRuntime) -> Result<(), Fail> {
     Ok(())
 }
 
-// Bytes behind the end mark are not taken, in the same piece or in another.
+// Bytes after the end mark are not taken, in the same piece or in another.
 // The empty bundle and 5 bytes more; then 5 bytes. Result: 12 taken; 0 taken; `end_input` is
 // content.
 #[test]

@@ -41,7 +41,7 @@ fn the_greatest_item_is_cloned(rt: HostRuntime) -> Result<(), Fail> {
     Ok(())
 }
 
-/// The mark behind the most parts that a push may have.
+/// The mark after the most parts that a push may have.
 fn mark<A: Allocator>(what: What<A>) -> Item<A> {
     Item {
         push: 3,

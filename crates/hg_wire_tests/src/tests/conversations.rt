@@ -64,7 +64,7 @@ pub const TOLD_0: &[u8] =
     \x01in-reply-to2return1\0\0\0\0\0\0\0\0HTTP/1.1 200 OK\r\ncontent-type: application/mercurial-0.\
     1\r\ncontent-length: 42\r\n\r\n4b7a786830f0205358d0cc466c3dfab83c3aab22\t1";
 
-/// What a client sends for a rewriting push behind it, with a marker, a bookmark and a phase.
+/// What a client sends for a rewriting push after it, with a marker, a bookmark and a phase.
 pub const ASKED_1: &[u8] =
     b"GET /?cmd=capabilities HTTP/1.1\r\nAccept-Encoding: identity\r\naccept: application/mercurial-0.\
     1\r\nhost: 127.0.0.1:46981\r\nuser-agent: mercurial/proto-1.0 (Mercurial 6.3.2)\r\n\r\nGET /?cmd\
@@ -209,3 +209,110 @@ pub const TOLD_2: &[u8] =
     \x01\x03\x01in-reply-to4new0\0\0\0\0\0\0\0\0HTTP/1.1 200 OK\r\ncontent-type: application/mercuri\
     al-0.1\r\ncontent-length: 85\r\n\r\n30b653f69f5c5d07bc0bd38d172d2c1224b7be72\t1\n3f32c9ec3108133\
     53620bc414daa26628e9f48be\t1";
+
+/// What a client sends before a push, after these.
+pub const ASKED_3: &[u8] =
+    b"GET /?cmd=capabilities HTTP/1.1\r\nAccept-Encoding: identity\r\naccept: application/mercurial\
+    -0.1\r\nhost: 127.0.0.1:46981\r\nuser-agent: mercurial/proto-1.0 (Mercurial 6.3.2)\r\n\r\nGET /\
+    ?cmd=batch HTTP/1.1\r\nAccept-Encoding: identity\r\nvary: X-HgArg-1,X-HgProto-1\r\nx-hgarg-1: c\
+    mds=heads+%3Bknown+nodes%3D0259c409ca47e144269f47059ae742320a3482a7\r\nx-hgproto-1: partial-pul\
+    l\r\naccept: application/mercurial-0.1\r\nhost: 127.0.0.1:46981\r\nuser-agent: mercurial/proto-\
+    1.0 (Mercurial 6.3.2)\r\n\r\nGET /?cmd=listkeys HTTP/1.1\r\nAccept-Encoding: identity\r\nvary: \
+    X-HgArg-1,X-HgProto-1\r\nx-hgarg-1: namespace=phases\r\nx-hgproto-1: partial-pull\r\naccept: ap\
+    plication/mercurial-0.1\r\nhost: 127.0.0.1:46981\r\nuser-agent: mercurial/proto-1.0 (Mercurial \
+    6.3.2)\r\n\r\nGET /?cmd=listkeys HTTP/1.1\r\nAccept-Encoding: identity\r\nvary: X-HgArg-1,X-HgP\
+    roto-1\r\nx-hgarg-1: namespace=namespaces\r\nx-hgproto-1: partial-pull\r\naccept: application/m\
+    ercurial-0.1\r\nhost: 127.0.0.1:46981\r\nuser-agent: mercurial/proto-1.0 (Mercurial 6.3.2)\r\n\
+    \r\nGET /?cmd=listkeys HTTP/1.1\r\nAccept-Encoding: identity\r\nvary: X-HgArg-1,X-HgProto-1\r\n\
+    x-hgarg-1: namespace=bookmarks\r\nx-hgproto-1: partial-pull\r\naccept: application/mercurial-0.\
+    1\r\nhost: 127.0.0.1:46981\r\nuser-agent: mercurial/proto-1.0 (Mercurial 6.3.2)\r\n\r\nGET /?cm\
+    d=branchmap HTTP/1.1\r\nAccept-Encoding: identity\r\nvary: X-HgProto-1\r\nx-hgproto-1: partial-\
+    pull\r\naccept: application/mercurial-0.1\r\nhost: 127.0.0.1:46981\r\nuser-agent: mercurial/pro\
+    to-1.0 (Mercurial 6.3.2)\r\n\r\nGET /?cmd=listkeys HTTP/1.1\r\nAccept-Encoding: identity\r\nvar\
+    y: X-HgArg-1,X-HgProto-1\r\nx-hgarg-1: namespace=bookmarks\r\nx-hgproto-1: partial-pull\r\nacce\
+    pt: application/mercurial-0.1\r\nhost: 127.0.0.1:46981\r\nuser-agent: mercurial/proto-1.0 (Merc\
+    urial 6.3.2)\r\n\r\n";
+
+/// What it is answered.
+pub const TOLD_3: &[u8] =
+    b"HTTP/1.1 200 OK\r\ncontent-type: application/mercurial-0.1\r\ncontent-length: 224\r\n\r\nbatc\
+    h branchmap bundle2=HG20%0Abookmarks%0Achangegroup%3D01%2C02%0Aerror%3Dabort%2Cunsupportedconte\
+    nt%2Cpushraced%2Cpushkey%0Aobsmarkers%3DV0%0Aphases%3Dheads%0Apushkey getbundle httpheader=1024 \
+    known lookup pushkey unbundleHTTP/1.1 200 OK\r\ncontent-type: application/mercurial-0.1\r\ncont\
+    ent-length: 84\r\n\r\n2c9e373d819bfee7cca63354d0457853fa66f13c 30b653f69f5c5d07bc0bd38d172d2c12\
+    24b7be72\n;0HTTP/1.1 200 OK\r\ncontent-type: application/mercurial-0.1\r\ncontent-length: 85\r\
+    \n\r\n30b653f69f5c5d07bc0bd38d172d2c1224b7be72\t1\n3f32c9ec310813353620bc414daa26628e9f48be\t1H\
+    TTP/1.1 200 OK\r\ncontent-type: application/mercurial-0.1\r\ncontent-length: 40\r\n\r\nbookmark\
+    s\t\nnamespaces\t\nobsolete\t\nphases\tHTTP/1.1 200 OK\r\ncontent-type: application/mercurial-0\
+    .1\r\ncontent-length: 45\r\n\r\nmain\t3f32c9ec310813353620bc414daa26628e9f48beHTTP/1.1 200 OK\r\
+    \ncontent-type: application/mercurial-0.1\r\ncontent-length: 48\r\n\r\ndefault 2c9e373d819bfee7\
+    cca63354d0457853fa66f13cHTTP/1.1 200 OK\r\ncontent-type: application/mercurial-0.1\r\ncontent-l\
+    ength: 45\r\n\r\nmain\t3f32c9ec310813353620bc414daa26628e9f48be";
+
+/// What another client pushes then: a changeset without parents.
+pub const OTHER_PUSH: &[u8] =
+    b"POST /?cmd=unbundle HTTP/1.1\r\nhost: a\r\ncontent-type: application/mercurial-0.1\r\nx-hgarg\
+    -1: heads=666f726365\r\ncontent-length: 245\r\n\r\nHG20\0\0\0\0\0\0\0\x1d\x0bCHANGEGROUP\0\0\0\
+    \0\x01\0\x07\x02version02\0\0\0\xc0\0\0\0\xb4\x02#\xba?x\x0e\x08=\xc5`\x08\xe5v\x99\xdb\x04\xfa\
+    \x93+\x16\0\0\0\0\0\0\0\0\0\0\0\0\0\0\0\0\0\0\0\0\0\0\0\0\0\0\0\0\0\0\0\0\0\0\0\0\0\0\0\0\0\0\0\
+    \0\0\0\0\0\0\0\0\0\0\0\0\0\0\0\0\0\x02#\xba?x\x0e\x08=\xc5`\x08\xe5v\x99\xdb\x04\xfa\x93+\x16\0\
+    \0\0\0\0\0\0\0\0\0\0@0000000000000000000000000000000000000000\nTest <t@e>\n0 0\n\nanother\0\0\0\
+    \0\0\0\0\0\0\0\0\0\0\0\0\0\0\0\0\0";
+
+/// The push that comes too late.
+pub const RACED_3: &[u8] =
+    b"POST /?cmd=unbundle HTTP/1.1\r\nAccept-Encoding: identity\r\ncontent-type: application/mercur\
+    ial-0.1\r\nvary: X-HgArg-1,X-HgProto-1\r\nx-hgarg-1: heads=666f726365\r\nx-hgproto-1: partial-p\
+    ull\r\naccept: application/mercurial-0.1\r\ncontent-length: 1081\r\nhost: 127.0.0.1:46981\r\nus\
+    er-agent: mercurial/proto-1.0 (Mercurial 6.3.2)\r\n\r\nHG20\0\0\0\0\0\0\0\x10\tREPLYCAPS\0\0\0\
+    \0\0\0\0\0\0\xe0HG20\nbookmarks\nchangegroup=01,02\ncheckheads=related\ndigests=md5,sha1,sha512\
+    \nerror=abort,unsupportedcontent,pushraced,pushkey\nhgtagsfnodes\nlistkeys\nobsmarkers=V0,V1\np\
+    hases=heads\npushkey\nremote-changegroup=http,https\nstream=v2\0\0\0\0\0\0\0\x13\x0cCHECK:PHASE\
+    S\0\0\0\x01\0\0\0\0\0H\0\0\0\0Kzxh0\xf0 SX\xd0\xccFl=\xfa\xb8<:\xab\"\0\0\0\x010\xb6S\xf6\x9f\\\
+    ]\x07\xbc\x0b\xd3\x8d\x17-,\x12$\xb7\xber\0\0\0\x01?2\xc9\xec1\x08\x1356 \xbcAM\xaa&b\x8e\x9fH\
+    \xbe\0\0\0\0\0\0\0\x12\x0bCHECK:HEADS\0\0\0\x02\0\0\0\0\0(,\x9e7=\x81\x9b\xfe\xe7\xcc\xa63T\xd0\
+    ExS\xfaf\xf1<0\xb6S\xf6\x9f\\]\x07\xbc\x0b\xd3\x8d\x17-,\x12$\xb7\xber\0\0\0\0\0\0\0\x1d\x0bCHA\
+    NGEGROUP\0\0\0\x03\x01\0\x07\x02version02\0\0\x01\xdf\0\0\0\xb5\x02Y\xc4\t\xcaG\xe1D&\x9fG\x05\
+    \x9a\xe7B2\n4\x82\xa7,\x9e7=\x81\x9b\xfe\xe7\xcc\xa63T\xd0ExS\xfaf\xf1<\0\0\0\0\0\0\0\0\0\0\0\0\
+    \0\0\0\0\0\0\0\0\0\0\0\0\0\0\0\0\0\0\0\0\0\0\0\0\0\0\0\0\x02Y\xc4\t\xcaG\xe1D&\x9fG\x05\x9a\xe7\
+    B2\n4\x82\xa7\0\0\0\0\0\0\0\0\0\0\0A3f12e44299041a2aebd41a4d80d00953cbdcd145\nTest <t@e>\n0 0\n\
+    g\n\nfrom a\0\0\0\0\0\0\0\x9f?\x12\xe4B\x99\x04\x1a*\xeb\xd4\x1aM\x80\xd0\tS\xcb\xdc\xd1E\x07\
+    \xf5\x8b\xe9\x83\x86\t\xfc]\x90!\xee\xe6\x15X\x13u\"\xed\x93\0\0\0\0\0\0\0\0\0\0\0\0\0\0\0\0\0\
+    \0\0\0\x07\xf5\x8b\xe9\x83\x86\t\xfc]\x90!\xee\xe6\x15X\x13u\"\xed\x93\x02Y\xc4\t\xcaG\xe1D&\
+    \x9fG\x05\x9a\xe7B2\n4\x82\xa7\0\0\0+\0\0\0V\0\0\0+g\04a1aa07735e673e20c00fae80f40dc301ee30616\
+    \n\0\0\0\0\0\0\0\x05g\0\0\0vJ\x1a\xa0w5\xe6s\xe2\x0c\0\xfa\xe8\x0f@\xdc0\x1e\xe3\x06\x16\xb8\
+    \xe0/d3s\x80!\xa0e\xf9Au\xc7\xcd#\xdb_\x05\xbe\0\0\0\0\0\0\0\0\0\0\0\0\0\0\0\0\0\0\0\0\xb8\xe0/\
+    d3s\x80!\xa0e\xf9Au\xc7\xcd#\xdb_\x05\xbe\x02Y\xc4\t\xcaG\xe1D&\x9fG\x05\x9a\xe7B2\n4\x82\xa7\0\
+    \0\0\0\0\0\0\x02\0\0\0\x022\n\0\0\0\0\0\0\0\0\0\0\0\0\0\0\0\x11\nOBSMARKERS\0\0\0\x04\0\0\0\0\0\
+    _\0\x01\0\0\00\00\xb6S\xf6\x9f\\]\x07\xbc\x0b\xd3\x8d\x17-,\x12$\xb7\xber?2\xc9\xec1\x08\x1356 \
+    \xbcAM\xaa&b\x8e\x9fH\xbedate:0.0 0\0ef1:9\0operation:amend\0user:Test <t@e>\0\0\0\0\0\0\0\0";
+
+/// What it is answered: the heads changed.
+pub const TOLD_RACED_3: &[u8] =
+    b"HTTP/1.1 200 OK\r\ncontent-type: application/mercurial-0.1\r\ncontent-length: 64\r\n\r\nHG20\
+    \0\0\0\0\0\0\0,\x0fERROR:PUSHRACED\0\0\0\0\x01\0\x07\rmessageheads changed\0\0\0\0\0\0\0\0";
+
+/// What `hg id -r main` sends.
+pub const ASKED_4: &[u8] =
+    b"GET /?cmd=capabilities HTTP/1.1\r\nAccept-Encoding: identity\r\naccept: application/mercurial\
+    -0.1\r\nhost: 127.0.0.1:46981\r\nuser-agent: mercurial/proto-1.0 (Mercurial 6.3.2)\r\n\r\nGET /\
+    ?cmd=lookup HTTP/1.1\r\nAccept-Encoding: identity\r\nvary: X-HgArg-1,X-HgProto-1\r\nx-hgarg-1: \
+    key=main\r\nx-hgproto-1: partial-pull\r\naccept: application/mercurial-0.1\r\nhost: 127.0.0.1:4\
+    6981\r\nuser-agent: mercurial/proto-1.0 (Mercurial 6.3.2)\r\n\r\nGET /?cmd=listkeys HTTP/1.1\r\
+    \nAccept-Encoding: identity\r\nvary: X-HgArg-1,X-HgProto-1\r\nx-hgarg-1: namespace=namespaces\r\
+    \nx-hgproto-1: partial-pull\r\naccept: application/mercurial-0.1\r\nhost: 127.0.0.1:46981\r\nus\
+    er-agent: mercurial/proto-1.0 (Mercurial 6.3.2)\r\n\r\nGET /?cmd=listkeys HTTP/1.1\r\nAccept-En\
+    coding: identity\r\nvary: X-HgArg-1,X-HgProto-1\r\nx-hgarg-1: namespace=bookmarks\r\nx-hgproto-\
+    1: partial-pull\r\naccept: application/mercurial-0.1\r\nhost: 127.0.0.1:46981\r\nuser-agent: me\
+    rcurial/proto-1.0 (Mercurial 6.3.2)\r\n\r\n";
+
+/// What it is answered.
+pub const TOLD_4: &[u8] =
+    b"HTTP/1.1 200 OK\r\ncontent-type: application/mercurial-0.1\r\ncontent-length: 224\r\n\r\nbatc\
+    h branchmap bundle2=HG20%0Abookmarks%0Achangegroup%3D01%2C02%0Aerror%3Dabort%2Cunsupportedconte\
+    nt%2Cpushraced%2Cpushkey%0Aobsmarkers%3DV0%0Aphases%3Dheads%0Apushkey getbundle httpheader=1024 \
+    known lookup pushkey unbundleHTTP/1.1 200 OK\r\ncontent-type: application/mercurial-0.1\r\ncont\
+    ent-length: 43\r\n\r\n1 3f32c9ec310813353620bc414daa26628e9f48be\nHTTP/1.1 200 OK\r\ncontent-ty\
+    pe: application/mercurial-0.1\r\ncontent-length: 40\r\n\r\nbookmarks\t\nnamespaces\t\nobsolete\
+    \t\nphases\tHTTP/1.1 200 OK\r\ncontent-type: application/mercurial-0.1\r\ncontent-length: 45\r\
+    \n\r\nmain\t3f32c9ec310813353620bc414daa26628e9f48be";

@@ -221,3 +221,107 @@ fn a_key_is_set_once(rt: HostRuntime) {
     ];
     assert_eq!(rt; conversed(&rt, alloc, &talk), 4);
 }
+
+/// The rows of the worked examples: the capabilities have 224 bytes, and the empty repository has one head.
+#[test]
+fn rows_of_an_empty_repository(rt: HostRuntime) {
+    let alloc = rt.alloc();
+    let left = served(
+        &rt,
+        alloc,
+        &[get(&rt, alloc, "capabilities", "").as_slice()],
+        PLAIN,
+    );
+    let head =
+        b"HTTP/1.1 200 OK\r\ncontent-type: application/mercurial-0.1\r\ncontent-length: 224\r\n\r\n";
+    assert!(rt; left.told.starts_with(head));
+    assert_eq!(rt; left.told.len(), head.len() + 224);
+    let heads = said(
+        &rt,
+        alloc,
+        TOLD,
+        "0000000000000000000000000000000000000000\n",
+    );
+    assert_eq!(rt; asked(&rt, alloc, &get(&rt, alloc, "heads", ""), &heads), 0);
+}
+
+/// Sets bookmarks of these names after a first push, and says what a request is answered then.
+fn told_behind_names<R: RandomSource + Wait + Abort>(
+    rt: &R,
+    alloc: Global,
+    names: &[&str],
+    asked: &Vec<u8>,
+) -> Left {
+    let mut talk = Vec::new(alloc);
+    assert!(rt; talk.extend_from_slice(ASKED_0).is_ok());
+    for name in names {
+        let arguments = format!(in alloc;
+            "namespace=bookmarks&key={name}&old=&new=4b7a786830f0205358d0cc466c3dfab83c3aab22"
+        );
+        let arguments = match arguments {
+            Ok(arguments) => arguments,
+            Err(_) => panic!(rt; "no memory"),
+        };
+        let set = post(
+            rt,
+            alloc,
+            "pushkey",
+            arguments.as_str(),
+            CLIENT,
+            b"".as_slice(),
+        );
+        assert!(rt; talk.extend_from_slice(set.as_slice()).is_ok());
+    }
+    let left = served(rt, alloc, &[talk.as_slice(), asked.as_slice()], PLAIN);
+    assert_eq!(rt; left.kept, names.len() + 1);
+    left
+}
+
+/// Names with spaces, `;`, `&`, bytes that are no ASCII, and the bytes 9, 10 and 13, which no line can hold.
+#[test]
+fn names_of_all_forms_are_told(rt: HostRuntime) {
+    let alloc = rt.alloc();
+    let names = [
+        "b+c",
+        "a%3Bb",
+        "d%26e%3D%2Cf",
+        "%C3%BC",
+        "t%09t",
+        "l%0Al",
+        "r%0Dr",
+    ];
+    let list = get(&rt, alloc, "listkeys", "namespace=bookmarks");
+    let left = told_behind_names(&rt, alloc, &names, &list);
+    let id = "4b7a786830f0205358d0cc466c3dfab83c3aab22";
+    let told = format!(in alloc; "a;b\t{id}\nb c\t{id}\nd&e=,f\t{id}\n\u{fc}\t{id}");
+    let told = match told {
+        Ok(told) => told,
+        Err(_) => panic!(rt; "no memory"),
+    };
+    assert!(rt; left.told == said(&rt, alloc, TOLD, told.as_str()));
+    let batch = get(
+        &rt,
+        alloc,
+        "batch",
+        "cmds=lookup+key%3Da%3Asb%3Blookup+key%3Dd%26e%3Ae%3Aof",
+    );
+    let left = told_behind_names(&rt, alloc, &names, &batch);
+    let told = format!(in alloc; "1 {id}\n;1 {id}\n");
+    let told = match told {
+        Ok(told) => told,
+        Err(_) => panic!(rt; "no memory"),
+    };
+    assert!(rt; left.told == said(&rt, alloc, TOLD, told.as_str()));
+    // what no line can hold is in the report
+    let report = b"GET /report HTTP/1.1\r\nhost: a\r\n\r\n".to_vec(alloc);
+    let report = match report {
+        Ok(report) => report,
+        Err(_) => panic!(rt; "no memory"),
+    };
+    let left = told_behind_names(&rt, alloc, &names, &report);
+    for name in [" l%0Al\n", " r%0Dr\n", " t%09t\n"] {
+        let name = name.as_bytes();
+        assert!(rt; left.told.windows(name.len()).any(|window| window == name));
+    }
+    assert!(rt; left.told.ends_with(b"J 6\nJ 7\n"));
+}

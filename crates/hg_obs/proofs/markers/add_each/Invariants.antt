@@ -2,7 +2,7 @@ use Rattle.std.proofs.Common.{◌≡◌, ◌++◌}
 use Rattle.hg_obs.specs.Markers.{merged}
 use Rattle.hg_obs.proofs.markers.add_each.Given as goal
 
--- so far the list is a merge of what came, and behind that comes what is left
+-- so far the list is a merge of what came, and after that comes what is left
 abbrev pub invariant-loop-marker : goal.invariant-loop-marker
 invariant-loop-marker g l =
     record {

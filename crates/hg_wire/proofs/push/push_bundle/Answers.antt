@@ -1,14 +1,17 @@
-use Rattle.std.proofs.Common.{subst}
-use Rattle.hg_connection.specs.Connections.{Connects}
-use Rattle.hg_wire.specs.code.Bodies.{told_of}
-use Rattle.hg_wire.proofs.Pushed.{pushed}
+use Rattle.std.proofs.Common.{[]}
+use Rattle.hg_wire.proofs.OneBundle.{begun, pushed}
 use Rattle.hg_wire.proofs.push.push_bundle.Goals as goal
 
 pub returns : goal.returns
 returns g c =
-    let done = c.serve_connection-client in
-    pushed c.args.server.now g.J.Naming.capacity g.J.Naming.first c.args.client done.result.0 c.args.bundle.now
-    done.new.reader _ _ done.result.1
-    (subst (λ b. Connects c.args.server.now g.J.Naming.capacity g.J.Naming.first 1 (told_of b)
-    (told_of done.new.reader) _ _ c.args.client done.result.0 done.result.1) c.new-body.ensures done.ensures)
-    c.limits-limits.ensures.first
+    let round = c.serve_bundle_kept-client in
+    let s = round.ensures.served in
+    pushed g.D.Device.seen g.D.Device.may_leave g.J.Storing.head g.J.Storing.stored c.args.host.now.server.now
+    g.J.Naming.capacity g.J.Naming.first c.args.client round.result.0 c.args.bundle.now round.new.inbox
+    round.new.reader round.new.writer.items s.0
+    (begun g.D.Device.seen g.D.Device.may_leave g.J.Storing.head g.J.Storing.stored c.args.host.now.server.now
+    g.J.Naming.capacity g.J.Naming.first s.0 round.new.inbox round.new.reader round.new.writer.items
+    c.new-inbox.result [] c.new-body.result (record { bytes = c.args.bundle.now; at = 0; reads = [] })
+    c.new-reply.result.items [] c.in-Ok.opened.1.history c.args.client c.new-inbox.ensures c.new-body.ensures
+    c.new-reply.ensures.items c.in-Ok.ensures.ok.1 s.1)
+    c.limits-limits.ensures.first _ _ _ _ _ _ s.2 _ c.told_of.ensures

@@ -1,0 +1,7 @@
+mod Ranges
+mod Lines
+mod Frames
+mod Fronts
+mod Written
+mod Rests
+mod Told

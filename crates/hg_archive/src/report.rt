@@ -1,0 +1,159 @@
+//! The report of what a store holds, to any writer.
+
+ghost use Rattle.std.specs.Prelude.{◌≡◌, ◌++◌, ℕ, List, IfErr, IfOk, OnOk, length};
+ghost use Rattle.std.specs.List.{flat_map, range_with_len};
+ghost use Rattle.hg_types.specs.Limits.{IsAllowed};
+ghost use Rattle.hg_push.specs.Run.{RepositoryOf};
+ghost use Rattle.hg_restore.specs.Replays.{Replays};
+ghost use Rattle.hg_devices.specs.declared.sending.Sending.{Sending as AnySending};
+ghost use Rattle.hg_devices.specs.declared.sending.Sending.TheVariants.{Whole as sent_whole};
+ghost use Rattle.hg_devices.specs.Sent.{Sends};
+ghost use Rattle.hg_archive.specs.Reporting.{IsUnreported, IsUntold, Reports, empty_repository, journal_line};
+ghost use Rattle.hg_archive.specs.Reporting.{report_text, sending_fault, unrun_fault};
+
+use crate::fault::{Ending, Fault};
+use crate::read::read_whole;
+use hg_devices::{Sending, Writer, send};
+use hg_repo::Repo;
+use hg_restore::{RestoreFault, replay_records};
+use hg_store::Head;
+use hg_types::{NoMemory, Seq, Settings};
+use std::alloc::Allocator;
+use std::hash::RandomState;
+
+/// Runs the records of these bytes of a store, one by one, on the repository that is empty at first, and
+/// writes the report of what it then holds, and after it a line `J n` for each of them, n from 0. A torn
+/// store gives the records that are whole, and says so. A damaged one is refused, and so is one with a record
+/// that is not done when it is run again: then nothing is written. The state is to be random.
+pub fn send_report<A: Allocator + Copy, W: Writer>(
+    alloc: A,
+    state: RandomState,
+    file: Vec<u8, A>,
+    writer: &mut W,
+) -> Result<Ending, Fault>
+    ensures ok { IfOk result (λ ending. (text : List ℕ) × (count : ℕ) × Reports A file.items ending text
+        × Sends sent_whole count (W.told writer.old) (W.told writer.new) text) }
+    ensures err { IfErr result (λ fault.
+        IsUnreported A file.items (W.told writer.old) (W.told writer.new) fault) }
+{
+    let whole = match read_whole(alloc, file) {
+        Ok(whole) => whole,
+        Err(fault) => return Err(fault),
+    };
+    let text = match report_text(alloc, state, &whole.head, whole.records.as_slice()) {
+        Ok(text) => text,
+        Err(fault) => return Err(fault),
+    };
+    match sent(writer, &text) {
+        Ok(()) => {}
+        Err(fault) => return Err(fault),
+    }
+    Ok(whole.ending)
+}
+
+/// The report of what the records give, and the lines of the journal.
+fn report_text<A: Allocator + Copy>(
+    alloc: A,
+    state: RandomState,
+    head: &Head,
+    records: &[Seq<u8, A>],
+) -> Result<Vec<u8, A>, Fault>
+    requires { IsAllowed head.now.limits }
+    ensures ok { IfOk result (λ text. (repo : RepositoryOf A)
+        × Replays head.now.limits (empty_repository head.now) records.now repo
+        × (text.items ≡ report_text repo (length records.now))) }
+    ensures err { IfErr result (λ fault. IsUntold A head.now records.now fault) }
+{
+    let mut repo = empty_repository(alloc, state, head);
+    match replay_records(alloc, &mut repo, records) {
+        Ok(()) => {}
+        Err(fault) => return Err(unrun_fault(fault)),
+    }
+    match told_text(alloc, &repo, records.len()) {
+        Ok(text) => Ok(text),
+        Err(_) => Err(Fault::NoMemory),
+    }
+}
+
+/// Why records do not run to their end, as a fault of the store.
+fn unrun_fault(fault: RestoreFault) -> Fault
+    ensures { result ≡ unrun_fault fault }
+{
+    match fault {
+        RestoreFault::NoBundle(place) => Fault::NoBundle(place),
+        RestoreFault::Refused(place) => Fault::Refused(place),
+        RestoreFault::NoMemory => Fault::NoMemory,
+    }
+}
+
+/// The repository without changesets, of a server that is set up in this way.
+fn empty_repository<A: Allocator + Copy>(alloc: A, state: RandomState, head: &Head) -> Repo<A>
+    requires { IsAllowed head.now.limits }
+    ensures { result ≡ empty_repository head.now }
+{
+    Repo::new(
+        alloc,
+        Settings {
+            publishing: head.publishing,
+            limits: head.limits,
+            first_push: 0,
+        },
+        state,
+    )
+}
+
+/// The report of the repository, and a line for each of so many pushes.
+fn told_text<A: Allocator + Copy>(
+    alloc: A,
+    repo: &Repo<A>,
+    count: usize,
+) -> Result<Vec<u8, A>, NoMemory>
+    ensures { IfOk result (λ text. text.items ≡ report_text repo.now count) }
+{
+    let mut text = repo.report()?;
+    add_lines(alloc, &mut text, count)?;
+    Ok(text)
+}
+
+/// Adds a line for each of so many pushes.
+fn add_lines<A: Allocator + Copy>(
+    alloc: A,
+    text: &mut Vec<u8, A>,
+    count: usize,
+) -> Result<(), NoMemory>
+    ensures { OnOk result (text.new.items ≡ text.old.items
+        ++ flat_map journal_line (range_with_len 0 count)) }
+{
+    for place in 0..count {
+        add_line(alloc, text, place)?;
+    }
+    Ok(())
+}
+
+/// Adds the line of a push.
+fn add_line<A: Allocator + Copy>(
+    alloc: A,
+    text: &mut Vec<u8, A>,
+    place: usize,
+) -> Result<(), NoMemory>
+    ensures { OnOk result (text.new.items ≡ text.old.items ++ journal_line place) }
+{
+    let line = format!(in alloc; "J {place}\n")?;
+    text.extend_from_slice(line.as_bytes())?;
+    Ok(())
+}
+
+/// Writes the bytes and flushes.
+pub(crate) fn sent<W: Writer>(writer: &mut W, bytes: &[u8]) -> Result<(), Fault>
+    ensures ok { OnOk result ((count : ℕ)
+        × Sends sent_whole count (W.told writer.old) (W.told writer.new) bytes.now) }
+    ensures err { IfErr result (λ fault. (sending : AnySending) × (count : ℕ) × (fault ≡ sending_fault sending)
+        × Sends sending count (W.told writer.old) (W.told writer.new) bytes.now) }
+{
+    let (sending, _count) = send(writer, bytes);
+    match sending {
+        Sending::Whole => Ok(()),
+        Sending::Broken => Err(Fault::Unsent),
+        Sending::NoMemory => Err(Fault::NoMemory),
+    }
+}

@@ -1,0 +1,75 @@
+//! What is asked for without a command.
+
+ghost use Rattle.std.specs.Prelude.{◌≡◌, is_some, IfOk};
+ghost use Rattle.std.specs.Str.{bytes_eq};
+ghost use Rattle.http.specs.Request.{head_of};
+ghost use Rattle.http_uri.specs.Uri.{uri_path, uri_query};
+ghost use Rattle.hg_http.specs.Views.{moved_to, view_at, view_of as view_asked};
+
+use crate::request::query_of;
+use bytes::Bytes;
+use hg_types::{NoMemory, Seq};
+use http::Request;
+use std::alloc::Allocator;
+
+/// What a browser or a collector of counters asks for.
+#[derive(Clone, Copy, Debug, PartialEq, Eq)]
+pub enum View {
+    /// The page, at `/`.
+    Page,
+    /// The report, at `/report`.
+    Report,
+    /// The counters, at `/metrics`.
+    Metrics,
+}
+
+/// The view that a request without a command asks for, if it is one: by GET, and by its path. The page has no
+/// query.
+#[tactic(auto, unfolding(crate::specs::Views::view_of))]
+pub fn view_of(request: &Request<Bytes>) -> Option<View>
+    ensures { result ≡ view_asked request.now }
+{
+    if !is_text(request.method().as_str().as_bytes(), b"GET".as_slice()) {
+        return None;
+    }
+    view_at(
+        request.uri().path().as_bytes(),
+        request.uri().query().is_some(),
+    )
+}
+
+#[tactic(auto, unfolding(crate::specs::Views::view_at))]
+fn view_at(path: &[u8], has_query: bool) -> Option<View>
+    ensures { result ≡ view_at path.now has_query }
+{
+    if is_text(path, b"/report".as_slice()) {
+        return Some(View::Report);
+    }
+    if is_text(path, b"/metrics".as_slice()) {
+        return Some(View::Metrics);
+    }
+    if is_text(path, b"/".as_slice()) && !has_query {
+        return Some(View::Page);
+    }
+    None
+}
+
+fn is_text(own: &[u8], other: &[u8]) -> bool
+    ensures { result ≡ bytes_eq own.now other.now }
+{
+    own == other
+}
+
+/// That address, with the query of the request.
+pub fn moved_to<A: Allocator + Copy>(
+    alloc: A,
+    address: &[u8],
+    request: &Request<Bytes>,
+) -> Result<Seq<u8, A>, NoMemory>
+    ensures { IfOk result (λ text. text ≡ moved_to address.now request.now) }
+{
+    let mut text = Vec::from_slice(alloc, address)?;
+    text.push(b'?')?;
+    text.extend_from_slice(query_of(request))?;
+    Ok(Seq::from_vec(text))
+}

@@ -1,0 +1,530 @@
+-- One more bundle of a connection whose pushes are kept.
+use Rattle.std.proofs.Common.{true, false, true≢false, ℕ, ◌≡◌, ◌≢◌, ◌≤◌, ◌<◌, ◌+◌, ◌*◌, ◌^◌, List, [], ◌∷◌}
+use Rattle.std.proofs.Common.{◌++◌, refl, sym, ◌∙◌, ap, subst, inl, inr, arith, length, append_assoc, Option}
+use Rattle.std.proofs.Common.{Some, None}
+use Rattle.std.proofs.lemmas.List.{append-nil, length-append, flat_map_more}
+use Rattle.std.proofs.Math.Nat.{mul-le-mul_right}
+use Rattle.std.proofs.KnownBytes.{Consumes-trans, Consumes-nil, Appends-nil, Appends-trans}
+use Rattle.std.specs.Prelude.{is_some}
+use Rattle.std.specs.Io.KnownBytes.{Consumes, Appends}
+use Rattle.hg_types.specs.declared.limits.Limits.{Limits}
+use Rattle.hg_types.specs.declared.item.Taken.{Taken}
+use Rattle.hg_repo.specs.declared.done.Done.{Done}
+use Rattle.hg_parts.specs.declared.refusal.Refusal.{Refusal}
+use Rattle.hg_push.specs.declared.outcome.Outcome.{Outcome}
+use Rattle.hg_push.specs.Lengths.{greatest_reply}
+use Rattle.hg_push.specs.Reply.{reply_of}
+use Rattle.hg_push.specs.Run.{RepositoryOf}
+use Rattle.hg_push.specs.declared.book.OpenFault.{OpenFault}
+use Rattle.hg_store.specs.declared.head.Head.{Head}
+use Rattle.hg_stream.specs.declared.state.State.{State}
+use Rattle.hg_stream.specs.declared.state.State.TheVariants.{Ended, Reading as going}
+use Rattle.hg_stream.specs.declared.unbundler.Unbundler.{Unbundler}
+use Rattle.hg_stream.specs.Unbundler.{Holds, limits_of, ready_of, state_of}
+use Rattle.hg_stream.specs.Faults.{Tells}
+use Rattle.hg_stream.specs.Laws.{AreSettledOnce}
+use Rattle.hg_stream.specs.Places.{IsReading}
+use Rattle.hg_serve.specs.declared.desk.Answer.{Answer}
+use Rattle.hg_devices.specs.Devices.{Input, Output, ReadAnswer, WriteAnswer, Gave, Failed, Adds}
+use Rattle.hg_devices.proofs.CallerLemmas.{Adds-nil, Adds-trans}
+use Rattle.hg_devices.specs.declared.sending.Sending.{Sending}
+use Rattle.hg_devices.specs.declared.sending.Sending.TheVariants.{Whole as sent_whole, Broken, NoMemory}
+use Rattle.hg_devices.specs.Sent.{IsSent}
+use Rattle.hg_connection.specs.declared.ending.Ending.{Ending}
+use Rattle.hg_connection.specs.declared.ending.Ending.TheVariants.{Whole, Fault, InputEnded, ReadFailed}
+use Rattle.hg_connection.specs.declared.inbox.Next.TheVariants.{Comes, Ends as comes_no_more, Fails}
+use Rattle.hg_connection.specs.declared.served.ConnFault.TheVariants.{Open, ReadFailed as read_failed}
+use Rattle.hg_connection.specs.Receiving.{IsFresh, IsNext, IsPiece, Keeps, Ran, state_at}
+use Rattle.hg_kept.specs.declared.served.Replied.{Replied}
+use Rattle.hg_kept.specs.declared.served.Replied.TheVariants.{Sent, NotStored}
+use Rattle.hg_kept.specs.declared.served.KeptFault.{KeptFault}
+use Rattle.hg_kept.specs.declared.served.KeptFault.TheVariants.{Connection}
+use Rattle.hg_kept.specs.declared.served.KeptServed.{KeptServed}
+use Rattle.hg_kept.specs.Kept.{KeptExchange, IsKeptExchange, Replies, ServesKept, TellsOfKept, kept_fault_of}
+use Rattle.hg_kept.specs.Connections.{AreKeptExchanges, AreWhole, ConnectsKept, EndsBy, TellsLast, bytes_of}
+use Rattle.hg_kept.specs.Connections.{reads_of, uses_of, replies_of, gone_of}
+
+-- a reader of a stream that was begun anew has given no part
+pub fresh : {A : Type 0} → ((limits : Limits) → AreSettledOnce A limits) → (limits : Limits) (u : Unbundler A)
+    → Holds u [] [] → state_of u ≡ going → limits_of u ≡ limits → IsFresh limits u
+fresh {A} law limits u holds state is =
+    let tells : Tells going (limits_of u) [] ([] ++ ready_of u) = subst
+    (λ (st : State). Tells st (limits_of u) [] ([] ++ ready_of u)) state holds.tells in
+    record {
+      empty = holds;
+      state = state;
+      limits_are = is;
+      ready = (law (limits_of u)).one_reading [] (ready_of u) [] tells.0
+          (IsReading.at_magic (omega arith) refl);
+    }
+
+-- the bytes that were read after the last end mark
+abbrev pub last_rest : {A : Type 0} → List ℕ → List (KeptExchange A) → List ℕ
+last_rest waited [] = waited
+last_rest waited (x ∷ xs) = last_rest x.rest xs
+
+-- all bundles so far were whole, and all their replies went out
+pub record Goes {A D : Type 0} (seen : D → List ℕ) (may_leave : D → List ℕ → Type 0) (head : Head)
+    (stored : List (List ℕ)) (limits : Limits) (capacity : ℕ) (first : RepositoryOf A) (input left : Input)
+    (out sent : Output) (before now : List (Taken A)) (waiting : List ℕ) (served : KeptServed A)
+    (number : ℕ) : Type 0 where
+  pub whole : List (KeptExchange A)
+  pub chain : AreKeptExchanges seen may_leave head stored limits capacity first before [] whole now
+  pub rest_is : last_rest [] whole ≡ waiting
+  pub ends : AreWhole whole
+  pub count : number ≡ length whole
+  pub counted : served.bundles ≡ number
+  pub tells : TellsLast served.last whole
+  pub read : Consumes input.left left.left (bytes_of whole ++ waiting)
+  pub reads : Adds input.reads left.reads (reads_of whole)
+  pub uses : Adds out.uses sent.uses (uses_of whole)
+  pub bytes : length (bytes_of whole) ≤ number * limits.stream
+  pub none : number ≡ 0 → waiting ≡ []
+  pub went : Appends out.taken sent.taken (replies_of whole)
+  pub written : served.written ≡ length (replies_of whole)
+  pub short : length (replies_of whole) ≤ number * greatest_reply
+  pub sent_all : replies_of whole ≡ gone_of whole
+  pub fault : served.fault ≡ None
+
+module _ {A D : Type 0} {seen : D → List ℕ} {may_leave : D → List ℕ → Type 0} {head : Head}
+    {stored : List (List ℕ)} (limits : Limits) (capacity : ℕ) (first : RepositoryOf A) where
+  chain_more : (before : List (Taken A)) (waited : List ℕ) (xs : List (KeptExchange A)) (now : List (Taken A))
+      (x : KeptExchange A) → AreKeptExchanges seen may_leave head stored limits capacity first before waited xs now
+      → IsKeptExchange seen may_leave head stored limits capacity first now (last_rest waited xs) x
+      → AreKeptExchanges seen may_leave head stored limits capacity first before waited (xs ++ x ∷ []) x.after
+  chain_more before waited [] now x c is = (
+    subst (λ (h : List (Taken A)). IsKeptExchange seen may_leave head stored limits capacity first h waited x) c
+        is,
+    refl,
+  )
+  chain_more before waited (y ∷ ys) now x c is = (c.0, chain_more y.after y.rest ys now x c.1 is)
+
+last_more : {A : Type 0} (waited : List ℕ) (xs : List (KeptExchange A)) (x : KeptExchange A)
+    → last_rest waited (xs ++ x ∷ []) ≡ x.rest
+last_more waited [] x = refl
+last_more waited (y ∷ ys) x = last_more y.rest ys x
+
+whole_more : {A : Type 0} (xs : List (KeptExchange A)) (x : KeptExchange A) → AreWhole xs → x.ending ≡ Whole
+    → x.replied ≡ Sent sent_whole → AreWhole (xs ++ x ∷ [])
+whole_more [] x all is went = (is, went, tt)
+whole_more (y ∷ ys) x all is went = (all.0, all.1, whole_more ys x all.2 is went)
+
+bytes_more : {A : Type 0} (xs : List (KeptExchange A)) (x : KeptExchange A) → bytes_of xs
+    ++ x.consumed ≡ bytes_of (xs ++ x ∷ [])
+bytes_more {A} xs x = flat_map_more (λ (y : KeptExchange A). y.consumed) [] xs x
+
+reads_more : {A : Type 0} (xs : List (KeptExchange A)) (x : KeptExchange A) → reads_of xs
+    ++ x.reads ≡ reads_of (xs ++ x ∷ [])
+reads_more {A} xs x = flat_map_more (λ (y : KeptExchange A). y.reads) [] xs x
+
+uses_more : {A : Type 0} (xs : List (KeptExchange A)) (x : KeptExchange A) → uses_of xs
+    ++ x.uses ≡ uses_of (xs ++ x ∷ [])
+uses_more {A} xs x = flat_map_more (λ (y : KeptExchange A). y.uses) [] xs x
+
+gone_more : {A : Type 0} (xs : List (KeptExchange A)) (x : KeptExchange A) → gone_of xs
+    ++ x.gone ≡ gone_of (xs ++ x ∷ [])
+gone_more {A} xs x = flat_map_more (λ (y : KeptExchange A). y.gone) [] xs x
+
+replies_more : {A : Type 0} (xs : List (KeptExchange A)) (x : KeptExchange A) → replies_of xs
+    ++ reply_of x.how ≡ replies_of (xs ++ x ∷ [])
+replies_more {A} xs x = flat_map_more (λ (y : KeptExchange A). reply_of y.how) [] xs x
+
+no_fault : (ending : Ending) (replied : Replied) → kept_fault_of ending replied ≡ None → (ending ≡ Whole)
+    × (replied ≡ Sent sent_whole)
+no_fault ReadFailed (Sent sending) e = absurd cc
+no_fault (Fault fault) (Sent sending) e = absurd cc
+no_fault InputEnded (Sent sending) e = absurd cc
+no_fault Whole (Sent sent_whole) e = (refl, refl)
+no_fault Whole (Sent Broken) e = absurd cc
+no_fault Whole (Sent NoMemory) e = absurd cc
+no_fault ending NotStored e = absurd cc
+
+-- what did not go out of a reply
+rest_of : {A D : Type 0} (seen : D → List ℕ) (may_leave : D → List ℕ → Type 0) (head : Head)
+    (stored : List (List ℕ)) (first : RepositoryOf A) (after : List (Taken A)) (rests : ℕ)
+    (reply gone : List ℕ) (uses : List WriteAnswer) (replied : Replied)
+    → Replies seen may_leave head stored first after rests reply gone uses replied
+    → (rest : List ℕ) × (reply ≡ gone ++ rest)
+rest_of seen may_leave head stored first after rests reply gone uses (Sent sending) is =
+    (is.1.rest, is.1.reply_is)
+rest_of seen may_leave head stored first after rests reply gone uses NotStored is =
+    (reply, ap (λ (l : List ℕ). l ++ reply) (sym is.0))
+
+mul_more : (n s : ℕ) → (n + 1) * s ≡ n * s + s
+mul_more n s = grind (arith)
+
+within : (n m s : ℕ) → n ≤ m → n * s ≤ m * s
+within n m s le = mul-le-mul_right s le
+
+-- what went out of one reply more can be added: the replies to so few bundles are short together
+pub can_add : {A D : Type 0} {seen : D → List ℕ} {may_leave : D → List ℕ → Type 0} {head : Head}
+    {stored : List (List ℕ)}
+    (limits : Limits) (capacity : ℕ) (first : RepositoryOf A) (input mid begun left : Input)
+    (out way sent : Output) (before now history after : List (Taken A)) (waiting waited waits : List ℕ)
+    (served : KeptServed A) (number : ℕ) (x : KeptExchange A) (ending : Ending)
+    (how : Outcome (Done A) (Refusal A)) (takes rests : ℕ) (replied : Replied) (written : ℕ)
+    → Goes seen may_leave head stored limits capacity first input mid out way before now waiting served number
+    → ServesKept seen may_leave head stored limits capacity first waited waits begun left way sent history x
+    → TellsOfKept x ending how takes rests replied written after → number < 10000
+    → served.written + written < 2 ^ 64
+can_add {seen = seen} {may_leave = may_leave} {head = head} {stored = stored} limits capacity first input mid
+    begun left out way sent before now history after waiting waited waits served number x ending how takes rests replied written g v t less =
+    let so_far = g.written in
+    let bound = g.short in
+    let most = within number 10000 greatest_reply (omega (arith, less)) in
+    let went = t.written_is in
+    let reply = v.short in
+    let kept = rest_of seen may_leave head stored first x.after x.rests (reply_of x.how) x.gone x.uses x.replied
+    v.is.replies in
+    let parted = ap (λ (l : List ℕ). length l) kept.1 in
+    let both = length-append x.gone kept.0 in
+    omega (arith, so_far, bound, most, went, reply, parted, both)
+
+-- nothing was served yet
+pub starts : {A D : Type 0} {seen : D → List ℕ} {may_leave : D → List ℕ → Type 0} {head : Head}
+    {stored : List (List ℕ)}
+    (limits : Limits) (capacity : ℕ) (first : RepositoryOf A) (input : Input) (out : Output)
+    (before : List (Taken A)) (waiting : List ℕ) (served : KeptServed A) → waiting ≡ []
+    → (served.bundles ≡ 0) × (served.last ≡ None) × (served.written ≡ 0) × (served.fault ≡ None)
+    → Goes seen may_leave head stored limits capacity first input input out out before before waiting served 0
+starts {A = A} limits capacity first input out before waiting served none s = record {
+  whole = [];
+  chain = refl;
+  rest_is = sym none;
+  ends = tt;
+  count = refl;
+  counted = s.0;
+  tells = subst (λ (o : Option (Answer A)). TellsLast {A = A} o []) (sym s.1) refl;
+  read = subst (λ (l : List ℕ). Consumes input.left input.left l) (sym none) (Consumes-nil input.left);
+  reads = Adds-nil input.reads;
+  uses = Adds-nil out.uses;
+  bytes = omega arith;
+  none = λ _. none;
+  went = Appends-nil out.taken;
+  written = s.2;
+  short = omega arith;
+  sent_all = refl;
+  fault = s.3;
+}
+
+-- the same except the fault
+abbrev pub SameBut : {A : Type 0} → KeptServed A → KeptServed A → Option KeptFault → Type 0
+SameBut old new fault = (new.bundles ≡ old.bundles) × (new.last ≡ old.last) × (new.written ≡ old.written)
+    × (new.fault ≡ fault)
+
+-- the connection ends between two bundles
+module _ {A D : Type 0} {seen : D → List ℕ} {may_leave : D → List ℕ → Type 0} {head : Head}
+    {stored : List (List ℕ)} (limits : Limits) (capacity : ℕ) (first : RepositoryOf A) (most : ℕ)
+    (input mid left : Input) (out sent : Output) (before now : List (Taken A)) (waiting after : List ℕ)
+    (served told : KeptServed A) (number : ℕ)
+    (g : Goes seen may_leave head stored limits capacity first input mid out sent before now waiting served number)
+    (less : number ≤ most) where
+  closes : (now' : List (Taken A)) (dropped : List ℕ) (final : List ReadAnswer) (fault : Option KeptFault)
+      → now' ≡ now → Consumes input.left left.left (bytes_of g.whole ++ dropped)
+      → Adds input.reads left.reads (reads_of g.whole ++ final) → length dropped ≤ 4096
+      → SameBut served told fault → EndsBy most g.whole None final dropped left fault
+      → ConnectsKept seen may_leave head stored limits capacity first most input left out sent before now' told
+  closes now' dropped final fault same read reads small is end =
+      let e : g.whole ++ [] ≡ g.whole = append-nil g.whole in
+      let le = within number most limits.stream less in
+      let b = g.bytes in
+      let size : length (bytes_of g.whole ++ dropped) ≤ most * limits.stream + 4096 = omega
+      (arith, le, b, small, length-append (bytes_of g.whole) dropped) in
+      let count' : told.bundles ≡ length g.whole = is.0 ∙ (g.counted ∙ g.count) in
+      let few' : length g.whole ≤ most = let c = g.count in omega (arith, c, less) in
+      record {
+        whole = g.whole;
+        last = None;
+        chain = subst (λ (y : List (KeptExchange A) × List (Taken A)).
+            AreKeptExchanges seen may_leave head stored limits capacity first before [] y.0 y.1)
+            (λ i. (sym e i, sym same i)) g.chain;
+        ends = g.ends;
+        count = count' ∙ ap (λ (l : List (KeptExchange A)). length l) (sym e);
+        few = subst (λ (l : List (KeptExchange A)). length l ≤ most) (sym e) few';
+        tells = subst (λ (y : Option (Answer A) × List (KeptExchange A)). TellsLast y.0 y.1)
+            (λ i. (sym is.1 i, sym e i)) g.tells;
+        final = final;
+        reads = subst (λ (l : List (KeptExchange A)). Adds input.reads left.reads (reads_of l ++ final))
+            (sym e) reads;
+        uses = subst (λ (l : List (KeptExchange A)). Adds out.uses sent.uses (uses_of l)) (sym e) g.uses;
+        dropped = dropped;
+        read = subst (λ (l : List (KeptExchange A)). Consumes input.left left.left (bytes_of l ++ dropped))
+            (sym e) read;
+        bound = subst (λ (l : List (KeptExchange A)). length (bytes_of l
+            ++ dropped) ≤ most * limits.stream + 4096) (sym e) size;
+        gone = replies_of g.whole;
+        gone_is = g.sent_all ∙ ap (λ (l : List (KeptExchange A)). gone_of l) (sym e);
+        unsent = [];
+        replies = ap (λ (l : List (KeptExchange A)). replies_of l) e ∙ sym (append-nil (replies_of g.whole));
+        went = g.went;
+        written = is.2 ∙ g.written;
+        all = λ _. refl;
+        end = subst (λ (f : Option KeptFault). EndsBy most g.whole None final dropped left f) (sym is.3) end;
+      }
+
+  -- one read gave no byte
+  read_nothing : (answer : ReadAnswer) → waiting ≡ [] → Consumes mid.left left.left []
+      → Consumes input.left left.left (bytes_of g.whole ++ [])
+  read_nothing answer none nothing =
+      subst (λ (l : List ℕ). Consumes input.left left.left l) (append-nil (bytes_of g.whole ++ waiting)
+      ∙ ap (λ (l : List ℕ). bytes_of g.whole ++ l) none)
+      (Consumes-trans input.left mid.left left.left (bytes_of g.whole ++ waiting) [] g.read nothing)
+
+  -- the input ended
+  pub at_end : IsNext number waiting after mid left comes_no_more → SameBut served told served.fault
+      → ConnectsKept seen may_leave head stored limits capacity first most input left out sent before now told
+  at_end n is =
+      closes now [] (Gave [] ∷ []) None refl (read_nothing (Gave []) n.0 n.1.bytes)
+      (Adds-trans input.reads mid.reads left.reads (reads_of g.whole) (Gave [] ∷ []) g.reads n.1.told)
+      (omega arith) (is.0, is.1, is.2, is.3 ∙ g.fault) (inr (refl, refl, n.2))
+
+  -- a read failed between two bundles
+  pub at_failure : IsNext number waiting after mid left Fails → SameBut served told (Some (Connection read_failed))
+      → ConnectsKept seen may_leave head stored limits capacity first most input left out sent before now told
+  at_failure n is = closes now [] (Failed ∷ []) (Some (Connection read_failed)) refl
+      (read_nothing Failed n.0 n.1.bytes)
+      (Adds-trans input.reads mid.reads left.reads (reads_of g.whole) (Failed ∷ []) g.reads n.1.told)
+      (omega arith) is (refl, refl)
+
+  none_waits : IsNext number waiting after mid left Comes → g.whole ≡ [] → after ≡ []
+  none_waits n e = let z : number ≡ 0 = g.count ∙ ap (λ (l : List (KeptExchange A)). length l) e in (n.1 z).0
+      ∙ g.none z
+
+  some_before : IsNext number waiting after mid left Comes → IsPiece after → g.whole ≢ []
+  some_before n piece = λ e. (let z : length after ≡ 0 = ap (λ (l : List ℕ). length l) (none_waits n e) in
+      absurd (omega (arith, z, piece.0)))
+
+  -- a push was not opened
+  pub at_opening : (now' : List (Taken A)) (fault : OpenFault) → IsNext number waiting after mid left Comes
+      → now' ≡ now → SameBut served told (Some (Connection (Open fault)))
+      → ConnectsKept seen may_leave head stored limits capacity first most input left out sent before now' told
+  at_opening now' fault n same is = elim n.0 [
+    | inl there ↦ closes now' after [] (Some (Connection (Open fault))) same
+        (subst (λ (y : List ℕ × Input). Consumes input.left y.1.left (bytes_of g.whole ++ y.0))
+        (λ i. (sym there.0 i, sym there.1 i)) g.read)
+        (subst (λ (i : Input). Adds input.reads i.reads (reads_of g.whole ++ [])) (sym there.1)
+        (subst (λ (l : List ReadAnswer). Adds input.reads mid.reads l)
+        (sym (append-nil (reads_of g.whole))) g.reads)) n.3 is (inl refl, none_waits n)
+    | inr read ↦ closes now' after (Gave after ∷ []) (Some (Connection (Open fault))) same
+        (subst (λ (l : List ℕ). Consumes input.left left.left l)
+        (append_assoc (bytes_of g.whole) waiting after
+        ∙ ap (λ (l : List ℕ). bytes_of g.whole ++ (l ++ after)) read.0)
+        (Consumes-trans input.left mid.left left.left (bytes_of g.whole
+        ++ waiting) after g.read read.1.bytes))
+        (Adds-trans input.reads mid.reads left.reads (reads_of g.whole) (Gave after ∷ []) g.reads read.1.told)
+        n.3 is (inr (some_before n read.2, refl), none_waits n)
+  ]
+
+  -- so many bundles were served as were asked for
+  pub at_most : left ≡ mid → number ≡ most → length waiting ≤ 4096 → SameBut served told served.fault
+      → ConnectsKept seen may_leave head stored limits capacity first most input left out sent before now told
+  at_most still all small is =
+      closes now waiting [] None refl
+      (subst (λ (i : Input). Consumes input.left i.left (bytes_of g.whole ++ waiting)) (sym still) g.read)
+      (subst (λ (i : Input). Adds input.reads i.reads (reads_of g.whole ++ [])) (sym still)
+      (subst (λ (l : List ReadAnswer). Adds input.reads mid.reads l)
+      (sym (append-nil (reads_of g.whole))) g.reads)) small (is.0, is.1, is.2, is.3 ∙ g.fault)
+      (inl (sym g.count ∙ all, refl))
+
+ends_with : {A : Type 0} (most : ℕ) (whole : List (KeptExchange A)) (x : KeptExchange A) (left : Input)
+    (fault : Option KeptFault) → kept_fault_of x.ending x.replied ≡ fault → is_some fault ≡ true
+    → Ran x.ending left → EndsBy most whole (Some x) [] x.rest left fault
+ends_with most whole x left None e some ran = absurd (true≢false (sym some))
+ends_with most whole x left (Some fault) e some ran = (refl, refl, e, ran)
+
+none_of : {X : Type 0} (o : Option X) → is_some o ≡ false → o ≡ None
+none_of None e = refl
+none_of (Some x) e = absurd (true≢false e)
+
+-- after a bundle without a fault its end mark was read
+pub ended_whole : (ending : Ending) (replied : Replied) (fault : Option KeptFault)
+    → kept_fault_of ending replied ≡ fault → is_some fault ≡ false → ending ≡ Whole
+ended_whole ending replied fault is none = (no_fault ending replied (is ∙ none_of fault none)).0
+
+sent_gone : (sending : Sending) (gone : List ℕ) (uses : List WriteAnswer) (reply : List ℕ)
+    → sending ≡ sent_whole → IsSent sending gone uses reply → gone ≡ reply
+sent_gone sent_whole gone uses reply is s =
+    sym (s.reply_is ∙ ap (λ (l : List ℕ). gone ++ l) s.ends.0 ∙ append-nil gone)
+sent_gone Broken gone uses reply is s = absurd cc
+sent_gone NoMemory gone uses reply is s = absurd cc
+
+-- what went out of a reply that was sent whole
+gone_whole : {A D : Type 0} (seen : D → List ℕ) (may_leave : D → List ℕ → Type 0) (head : Head)
+    (stored : List (List ℕ)) (first : RepositoryOf A) (after : List (Taken A)) (rests : ℕ)
+    (reply gone : List ℕ) (uses : List WriteAnswer) (replied : Replied) → replied ≡ Sent sent_whole
+    → Replies seen may_leave head stored first after rests reply gone uses replied → gone ≡ reply
+gone_whole seen may_leave head stored first after rests reply gone uses (Sent sending) is r =
+    let whole : sending ≡ sent_whole = cc in sent_gone sending gone uses reply whole r.1
+gone_whole seen may_leave head stored first after rests reply gone uses NotStored is r = absurd cc
+
+rest_waits : (ending : Ending) (rest waiting : List ℕ) → ending ≡ Whole → Keeps ending rest waiting
+    → waiting ≡ rest
+rest_waits Whole rest waiting is keeps = keeps
+rest_waits (Fault fault) rest waiting is keeps = absurd cc
+rest_waits InputEnded rest waiting is keeps = absurd cc
+rest_waits ReadFailed rest waiting is keeps = absurd cc
+
+-- what is told of a bundle is told of it with other reads as well
+pub tells_own : {A : Type 0} (x own : KeptExchange A) (ending : Ending) (how : Outcome (Done A) (Refusal A))
+    (takes rests : ℕ) (replied : Replied) (written : ℕ) (after : List (Taken A))
+    → own ≡ record x { reads = own.reads } → TellsOfKept x ending how takes rests replied written after
+    → TellsOfKept own ending how takes rests replied written after
+tells_own {A} x own ending how takes rests replied written after same t = record {
+  ending_is = ap (λ (y : KeptExchange A). y.ending) same ∙ t.ending_is;
+  how_is = ap (λ (y : KeptExchange A). y.how) same ∙ t.how_is;
+  takes_are = ap (λ (y : KeptExchange A). y.takes) same ∙ t.takes_are;
+  rests_are = ap (λ (y : KeptExchange A). y.rests) same ∙ t.rests_are;
+  replied_is = ap (λ (y : KeptExchange A). y.replied) same ∙ t.replied_is;
+  written_is = t.written_is ∙ ap (λ (y : KeptExchange A). length y.gone) (sym same);
+  after_is = ap (λ (y : KeptExchange A). y.after) same ∙ t.after_is;
+}
+
+module _ {A D : Type 0} {seen : D → List ℕ} {may_leave : D → List ℕ → Type 0} {head : Head}
+    {stored : List (List ℕ)} (limits : Limits) (capacity : ℕ) (first : RepositoryOf A)
+    (input mid left : Input) (out way sent : Output) (before now history now' : List (Taken A))
+    (waiting waits : List ℕ)
+    (served told : KeptServed A) (number : ℕ) (answer : Answer A) (ending : Ending) (rests : ℕ)
+    (replied : Replied) (written : ℕ)
+    (g : Goes seen may_leave head stored limits capacity first input mid out way before now waiting served number)
+    (same : history ≡ now)
+    (x : KeptExchange A)
+    (v : ServesKept seen may_leave head stored limits capacity first waiting waits mid left way sent history x)
+    (t : TellsOfKept x ending answer.outcome answer.takes rests replied written now')
+    (s : (told.bundles ≡ number + 1) × (told.last ≡ Some answer) × (told.written ≡ served.written + written)
+    × (told.fault ≡ kept_fault_of ending replied)) where
+  chained : AreKeptExchanges seen may_leave head stored limits capacity first before [] (g.whole ++ x ∷ []) now'
+  chained =
+      subst (λ (h : List (Taken A)). AreKeptExchanges seen may_leave head stored limits capacity first before []
+      (g.whole ++ x ∷ []) h)
+      t.after_is
+      (chain_more limits capacity first before [] g.whole now x g.chain
+      (subst (λ (y : List (Taken A) × List ℕ). IsKeptExchange seen may_leave head stored limits capacity first y.0
+      y.1 x)
+      (λ i. (same i, sym g.rest_is i)) v.is))
+
+  was_read : Consumes input.left left.left (bytes_of (g.whole ++ x ∷ []) ++ x.rest)
+  was_read =
+      let b = bytes_of g.whole in
+      let spell : (b ++ waiting) ++ v.more ≡ bytes_of (g.whole ++ x ∷ []) ++ x.rest =
+      append_assoc b waiting v.more ∙ ap (λ (l : List ℕ). b ++ l) v.spelled
+      ∙ sym (append_assoc b x.consumed x.rest)
+      ∙ ap (λ (l : List ℕ). l ++ x.rest) (bytes_more g.whole x) in
+      subst (λ (l : List ℕ). Consumes input.left left.left l) spell
+      (Consumes-trans input.left mid.left left.left (b ++ waiting) v.more g.read v.bytes)
+
+  was_asked : Adds input.reads left.reads (reads_of (g.whole ++ x ∷ []))
+  was_asked = subst (λ (l : List ReadAnswer). Adds input.reads left.reads l) (reads_more g.whole x)
+      (Adds-trans input.reads mid.reads left.reads (reads_of g.whole) x.reads g.reads v.told)
+
+  was_used : Adds out.uses sent.uses (uses_of (g.whole ++ x ∷ []))
+  was_used = subst (λ (l : List WriteAnswer). Adds out.uses sent.uses l) (uses_more g.whole x)
+      (Adds-trans out.uses way.uses sent.uses (uses_of g.whole) x.uses g.uses v.used)
+
+  few_bytes : length (bytes_of (g.whole ++ x ∷ []) ++ x.rest) ≤ (number + 1) * limits.stream + 4096
+  few_bytes =
+      let long = ap (λ (l : List ℕ). length l) (sym (bytes_more g.whole x)) in
+      let sum = length-append (bytes_of g.whole) x.consumed in
+      let sum' = length-append (bytes_of (g.whole ++ x ∷ [])) x.rest in
+      let b = g.bytes in
+      let c = v.is.received.bound in
+      omega (arith, long, sum, sum', b, c, mul_more number limits.stream)
+
+  went_out : Appends out.taken sent.taken (replies_of g.whole ++ x.gone)
+  went_out = Appends-trans out.taken way.taken sent.taken (replies_of g.whole) x.gone g.went v.went
+
+  was_written : told.written ≡ length (replies_of g.whole ++ x.gone)
+  was_written =
+      let w = g.written in
+      let a = s.2 in
+      let n = t.written_is in
+      omega (arith, w, a, n, length-append (replies_of g.whole) x.gone)
+
+  short_on : length (replies_of (g.whole ++ x ∷ [])) ≤ (number + 1) * greatest_reply
+  short_on =
+      let before = g.short in
+      let more = v.short in
+      let long = ap (λ (l : List ℕ). length l) (sym (replies_more g.whole x)) in
+      omega (arith, before, more, long, length-append (replies_of g.whole) (reply_of x.how))
+
+  counted_one : told.bundles ≡ length (g.whole ++ x ∷ [])
+  counted_one = let a = s.0 in let c = g.count in omega (arith, a, c, length-append g.whole (x ∷ []))
+
+  tells_it : TellsLast told.last (g.whole ++ x ∷ [])
+  tells_it = subst (λ (o : Option (Answer A)). TellsLast o (g.whole ++ x ∷ [])) (sym s.1)
+      (g.whole, x, refl, sym t.how_is, sym t.takes_are)
+
+  its_fault : kept_fault_of x.ending x.replied ≡ told.fault
+  its_fault = (λ i. kept_fault_of (t.ending_is i) (t.replied_is i)) ∙ sym s.3
+
+  its_rest : (rest : List ℕ) × (reply_of x.how ≡ x.gone ++ rest)
+  its_rest = rest_of seen may_leave head stored first x.after x.rests (reply_of x.how) x.gone x.uses x.replied
+      v.is.replies
+
+  pub at_fault : (most : ℕ) → number < most → is_some told.fault ≡ true
+      → ConnectsKept seen may_leave head stored limits capacity first most input left out sent before now' told
+  at_fault most less some =
+      let up : number + 1 ≤ most = omega (arith, less) in
+      let le = within (number + 1) most limits.stream up in
+      let b = few_bytes in
+      record {
+        whole = g.whole;
+        last = Some x;
+        chain = chained;
+        ends = g.ends;
+        count = counted_one;
+        few = let c = g.count in omega (arith, c, less, length-append g.whole (x ∷ []));
+        tells = tells_it;
+        final = [];
+        reads = subst (λ (l : List ReadAnswer). Adds input.reads left.reads l)
+            (sym (append-nil (reads_of (g.whole ++ x ∷ [])))) was_asked;
+        uses = was_used;
+        dropped = x.rest;
+        read = was_read;
+        bound = omega (arith, b, le);
+        gone = replies_of g.whole ++ x.gone;
+        gone_is = ap (λ (l : List ℕ). l ++ x.gone) g.sent_all ∙ gone_more g.whole x;
+        unsent = its_rest.0;
+        replies = sym (replies_more g.whole x)
+            ∙ (ap (λ (l : List ℕ). replies_of g.whole ++ l) its_rest.1
+            ∙ sym (append_assoc (replies_of g.whole) x.gone its_rest.0));
+        went = went_out;
+        written = was_written;
+        all = λ none. absurd (true≢false (sym some ∙ ap (λ (o : Option KeptFault). is_some o) none));
+        end = ends_with most g.whole x left told.fault its_fault some v.ran;
+      }
+
+  pub goes_on : is_some told.fault ≡ false
+      → Goes seen may_leave head stored limits capacity first input left out sent before now' waits told (number + 1)
+  goes_on none =
+      let both = no_fault x.ending x.replied (its_fault ∙ none_of told.fault none) in
+      let gone : replies_of g.whole
+      ++ x.gone ≡ replies_of (g.whole ++ x ∷ []) = ap (λ (l : List ℕ). replies_of g.whole ++ l)
+      (gone_whole seen may_leave head stored first x.after x.rests (reply_of x.how) x.gone x.uses x.replied both.1
+      v.is.replies) ∙ replies_more g.whole x in
+      let told_ended : Tells Ended limits x.consumed x.parts = subst
+      (λ (e : Ending). Tells (state_at e) limits x.consumed x.parts) both.0 v.is.received.tells in
+      let rest : waits ≡ x.rest = rest_waits x.ending x.rest waits both.0 v.keeps in
+      let long = ap (λ (l : List ℕ). length l) (sym (bytes_more g.whole x)) in
+      let sum = length-append (bytes_of g.whole) x.consumed in
+      let b = g.bytes in
+      let c = told_ended.1 in
+      record {
+        whole = g.whole ++ x ∷ [];
+        chain = chained;
+        rest_is = last_more [] g.whole x ∙ sym rest;
+        ends = whole_more g.whole x g.ends both.0 both.1;
+        count = sym s.0 ∙ counted_one;
+        counted = s.0;
+        tells = tells_it;
+        read = subst (λ (l : List ℕ). Consumes input.left left.left (bytes_of (g.whole ++ x ∷ []) ++ l))
+            (sym rest) was_read;
+        reads = was_asked;
+        uses = was_used;
+        bytes = omega (arith, long, sum, b, c, mul_more number limits.stream);
+        none = λ z. absurd (omega (arith, z));
+        went = subst (λ (l : List ℕ). Appends out.taken sent.taken l) gone went_out;
+        written = was_written ∙ ap (λ (l : List ℕ). length l) gone;
+        short = short_on;
+        sent_all = sym gone ∙ (ap (λ (l : List ℕ). l ++ x.gone) g.sent_all ∙ gone_more g.whole x);
+        fault = none_of told.fault none;
+      }

@@ -1,0 +1,128 @@
+-- One bundle whose push is kept before it is answered.
+use Rattle.std.specs.Prelude.{ℕ, ◌≡◌, ◌≤◌, ◌-◌, ⊤, List, [], ◌++◌, length, Option, Some, None}
+use Rattle.std.specs.Io.KnownBytes.{Consumes, Appends}
+use Rattle.hg_types.specs.declared.part.Part.{Part}
+use Rattle.hg_types.specs.declared.item.Taken.{Taken}
+use Rattle.hg_types.specs.declared.limits.Limits.{Limits}
+use Rattle.hg_repo.specs.declared.done.Done.{Done}
+use Rattle.hg_parts.specs.declared.refusal.Refusal.{Refusal}
+use Rattle.hg_queue.specs.History.{of, items_of}
+use Rattle.hg_push.specs.declared.outcome.Outcome.{Outcome}
+use Rattle.hg_push.specs.declared.outcome.Outcome.TheVariants.{Done as done_with, Aborted}
+use Rattle.hg_push.specs.Lengths.{greatest_reply}
+use Rattle.hg_push.specs.Places.{RestsOn}
+use Rattle.hg_push.specs.Reply.{reply_of}
+use Rattle.hg_push.specs.Run.{RepositoryOf, run_push}
+use Rattle.hg_serve.specs.Answers.{Answers}
+use Rattle.hg_serve.specs.Histories.{newest_first}
+use Rattle.hg_store.specs.declared.head.Head.{Head}
+use Rattle.hg_ledger.specs.Records.{AreKept, IsRecordOf}
+use Rattle.hg_devices.specs.Devices.{Input, Output, ReadAnswer, WriteAnswer, Adds}
+use Rattle.hg_devices.specs.Sent.{IsSent}
+use Rattle.hg_connection.specs.declared.ending.Ending.{Ending}
+use Rattle.hg_connection.specs.Connections.{fault_of}
+use Rattle.hg_connection.specs.Receiving.{IsReceived, Keeps, Ran, mark_of, push_items}
+use Rattle.hg_connection.specs.declared.served.ConnFault.{ConnFault}
+use Rattle.hg_kept.specs.declared.served.Replied.{Replied}
+use Rattle.hg_kept.specs.declared.served.Replied.TheVariants.{Sent, NotStored}
+use Rattle.hg_kept.specs.declared.served.KeptFault.{KeptFault}
+use Rattle.hg_kept.specs.declared.served.KeptFault.TheVariants.{Connection, NotStored as store_failed}
+
+-- the record of a push that ended so: its bytes where it is done
+abbrev pub record_of : {A : Type 0} → Outcome (Done A) (Refusal A) → List ℕ → Option (List ℕ)
+record_of (done_with done) bytes = Some bytes
+record_of (Aborted reason) bytes = None
+
+abbrev pub connection_fault : Option ConnFault → Option KeptFault
+connection_fault None = None
+connection_fault (Some fault) = Some (Connection fault)
+
+-- the fault of a connection whose bundle ended so, and whose reply went out so
+abbrev pub kept_fault_of : Ending → Replied → Option KeptFault
+kept_fault_of ending (Sent sending) = connection_fault (fault_of ending sending)
+kept_fault_of ending NotStored = Some store_failed
+
+-- One bundle of a connection, as `Exchange` has it; besides, how many done pushes its answer rests on, and
+-- what became of its reply.
+pub record KeptExchange (A : Type 0) : Type 0 where
+  pub reads : List ReadAnswer
+  pub consumed : List ℕ
+  pub rest : List ℕ
+  pub ending : Ending
+  pub parts : List (Part A)
+  pub push : ℕ
+  pub how : Outcome (Done A) (Refusal A)
+  pub takes : ℕ
+  pub rests : ℕ
+  pub replied : Replied
+  pub uses : List WriteAnswer
+  pub gone : List ℕ
+  pub after : List (Taken A)
+
+-- A reply that was sent is true: all that it rests on was on the device, so many done pushes. Where the store
+-- failed, the writer was not used.
+abbrev pub Replies : {A D : Type 0} → (D → List ℕ) → (D → List ℕ → Type 0) → Head → List (List ℕ) →
+    RepositoryOf A → List (Taken A) → ℕ → List ℕ → List ℕ → List WriteAnswer → Replied → Type 0
+Replies seen may_leave head stored first after rests reply gone uses (Sent sending) =
+    AreKept seen may_leave head stored first after rests × IsSent sending gone uses reply
+Replies seen may_leave head stored first after rests reply gone uses NotStored = (gone ≡ []) × (uses ≡ [])
+
+-- this became of a reply at a writer, which took so many bytes of it
+pub record RepliesBy {A D : Type 0} (seen : D → List ℕ) (may_leave : D → List ℕ → Type 0) (head : Head)
+    (stored : List (List ℕ)) (first : RepositoryOf A) (after : List (Taken A)) (rests : ℕ) (reply : List ℕ)
+    (out sent : Output) (replied : Replied) (written : ℕ) : Type 0 where
+  pub gone : List ℕ
+  pub uses : List WriteAnswer
+  pub is : Replies seen may_leave head stored first after rests reply gone uses replied
+  pub written_is : written ≡ length gone
+  pub went : Appends out.taken sent.taken gone
+  pub used : Adds out.uses sent.uses uses
+
+-- the record of a done push is its bundle, as it was read; it is the last push that the answer rests on
+abbrev pub IsRecorded : {A : Type 0} → RepositoryOf A → List (Taken A) → ℕ → List ℕ →
+    Outcome (Done A) (Refusal A) → Type 0
+IsRecorded first after rests bytes (done_with done) = (1 ≤ rests) × IsRecordOf first after (rests - 1) bytes
+IsRecorded first after rests bytes (Aborted reason) = ⊤
+
+-- The bundle was received by these reads, after the bytes that waited. The client had seen no item of the
+-- push. Of the push the bundle's parts were put and the mark that the ending asks for, and it was answered so.
+-- The answer rests on so many done pushes, the last of which is this one, where it is done, and its record is
+-- the bundle. The reply was sent only where all of that was on the device.
+pub record IsKeptExchange {A D : Type 0} (seen : D → List ℕ) (may_leave : D → List ℕ → Type 0) (head : Head)
+    (stored : List (List ℕ)) (limits : Limits) (capacity : ℕ) (first : RepositoryOf A)
+    (before : List (Taken A)) (waited : List ℕ) (x : KeptExchange A) : Type 0 where
+  pub received : IsReceived limits waited x.reads x.ending x.parts x.consumed x.rest
+  pub fresh : of x.push (items_of before) ≡ []
+  pub answers : Answers capacity first x.push
+      (push_items x.push x.parts (mark_of x.ending)) before x.how x.takes x.after
+  pub rests_on : RestsOn run_push first (newest_first x.after) x.push x.how x.rests
+  pub recorded : IsRecorded first x.after x.rests x.consumed x.how
+  pub replies : Replies seen may_leave head stored first x.after x.rests (reply_of x.how) x.gone x.uses
+      x.replied
+
+-- one bundle was served by that reader and that writer, and its reply is no longer than a reply can be
+pub record ServesKept {A D : Type 0} (seen : D → List ℕ) (may_leave : D → List ℕ → Type 0) (head : Head)
+    (stored : List (List ℕ)) (limits : Limits) (capacity : ℕ) (first : RepositoryOf A)
+    (waited waiting : List ℕ) (input left : Input) (out sent : Output) (before : List (Taken A))
+    (x : KeptExchange A) : Type 0 where
+  pub is : IsKeptExchange seen may_leave head stored limits capacity first before waited x
+  pub more : List ℕ
+  pub spelled : waited ++ more ≡ x.consumed ++ x.rest
+  pub bytes : Consumes input.left left.left more
+  pub told : Adds input.reads left.reads x.reads
+  pub keeps : Keeps x.ending x.rest waiting
+  pub ran : Ran x.ending left
+  pub went : Appends out.taken sent.taken x.gone
+  pub used : Adds out.uses sent.uses x.uses
+  pub short : length (reply_of x.how) ≤ greatest_reply
+
+-- what the call tells of the bundle
+pub record TellsOfKept {A : Type 0} (x : KeptExchange A) (ending : Ending) (how : Outcome (Done A) (Refusal A))
+    (takes rests : ℕ) (replied : Replied) (written : ℕ) (after : List (Taken A)) : Type 0 where
+  pub ending_is : x.ending ≡ ending
+  pub how_is : x.how ≡ how
+  pub takes_are : x.takes ≡ takes
+  pub rests_are : x.rests ≡ rests
+  pub replied_is : x.replied ≡ replied
+  pub written_is : written ≡ length x.gone
+  pub after_is : x.after ≡ after

@@ -1,0 +1,241 @@
+//! A connection whose pushes are kept before they are answered.
+
+ghost use Rattle.std.specs.Prelude.{◌≡◌, ◌≤◌, ◌-◌, [], IfSome, IfOk, IfErr};
+ghost use Rattle.hg_stream.specs.Unbundler.{limits_of, ready_of, state_of};
+ghost use Rattle.hg_stream.specs.declared.state.State.TheVariants.{Ended as at_end_mark};
+ghost use Rattle.hg_queue.specs.History.{of, items_of};
+ghost use Rattle.hg_connection.specs.declared.ending.Ending.TheVariants.{Whole};
+ghost use Rattle.hg_connection.specs.Receiving.{IsFresh};
+ghost use Rattle.hg_push.specs.Reply.{CanBeTold, reply_of};
+ghost use Rattle.hg_ledger.specs.Records.{IsRecordOf, done_in};
+ghost use Rattle.hg_kept.specs.Kept.{KeptExchange, RepliesBy, ServesKept, TellsOfKept, record_of};
+ghost use Rattle.hg_kept.specs.Connections.{ConnectsKept};
+
+use crate::served::{KeptRound, KeptServed, Replied};
+use hg_connection::{ConnFault, Inbox, Next, mark, next_bundle, receive_kept, send_reply};
+use hg_devices::{Reader, Writer};
+use hg_ledger::{Ledger, Room, Storing};
+use hg_push::laws::{journals_grow, replies_are_short};
+use hg_push::{OpenFault, Outcome};
+use hg_repo::{Done, Refusal};
+use hg_serve::{Client, Gate, Point, Sender, Server};
+use hg_store::Device;
+use hg_stream::Unbundler;
+use hg_stream::laws::{parts_are_few, streams_are_settled_once};
+use hg_types::Seq;
+use std::alloc::Allocator;
+use std::sync::Wait;
+
+/// The record of a push that ended so: its bytes where it is done, and else none. It asks for no memory.
+fn record_of<A: Allocator>(
+    outcome: &Outcome<Done<A>, Refusal<A>>,
+    bytes: Vec<u8, A>,
+) -> Option<Seq<u8, A>>
+    ensures { result ≡ record_of outcome.now bytes.items }
+{
+    match outcome {
+        Outcome::Done(_) => Some(Seq::from_vec(bytes)),
+        Outcome::Aborted(_) => None,
+    }
+}
+
+/// Opens a push with room for its record, which is taken first. Where either is refused, the client comes
+/// back, and nothing is taken.
+pub fn open_kept<J: Storing<A>, D: Device, A: Allocator + Copy, R: Wait>(
+    server: &Server<J, A>,
+    ledger: &Ledger<J, D, A>,
+    rt: &R,
+    client: Client<J, A>,
+) -> Result<(Room, Sender<J, A>), (Client<J, A>, OpenFault)>
+    ensures ok { IfOk result (λ opened. (opened.1.putter.put ≡ []) × (opened.1.history ≡ client)
+        × (of opened.1.putter.push (items_of client) ≡ [])) }
+    ensures err { IfErr result (λ back. back.0 ≡ client) }
+{
+    let room = match ledger.room(rt) {
+        Ok(room) => room,
+        Err(_) => return Err((client, OpenFault::NoMemory)),
+    };
+    match server.open(rt, client) {
+        Ok(sender) => Ok((room, sender)),
+        Err(refused) => {
+            ledger.give_back(rt, room);
+            Err(refused)
+        }
+    }
+}
+
+/// Hands in the record of a push that is done, waits until so many done pushes are on the device, and sends
+/// the reply. Where the store failed, the writer is not used.
+fn reply_kept<J: Storing<A>, D: Device, A: Allocator + Copy, R: Wait, W: Writer>(
+    server: &Server<J, A>,
+    ledger: &Ledger<J, D, A>,
+    rt: &R,
+    alloc: A,
+    client: &mut Client<J, A>,
+    room: Room,
+    rests: usize,
+    bundle: Option<Seq<u8, A>>,
+    writer: &mut W,
+    outcome: &Outcome<Done<A>, Refusal<A>>,
+) -> (Replied, usize)
+    requires rests { rests ≤ done_in J.first client.old }
+    requires bundle { IfSome bundle (λ bytes. (1 ≤ rests) × IsRecordOf J.first client.old (rests - 1) bytes) }
+    requires told { CanBeTold outcome.now }
+    ensures same { client.new ≡ client.old }
+    ensures replied { RepliesBy D.seen D.may_leave J.head J.stored J.first client.old rests
+        (reply_of outcome.now) (W.told writer.old) (W.told writer.new) result.0 result.1 }
+{
+    match ledger.keep(rt, server, client, room, rests, bundle) {
+        Ok(_receipt) => {
+            let (sending, written) = send_reply(alloc, writer, outcome);
+            (Replied::Sent(sending), written)
+        }
+        Err(_) => (Replied::NotStored, 0),
+    }
+}
+
+/// Serves one bundle on a push that was opened with room for its record: receives it and keeps its bytes, puts
+/// its mark, waits for its answer, hands in the record of a done push, waits until all that the reply rests
+/// on is on the device, and only then sends the reply. A reply that a push was aborted waits as well. Where
+/// the store failed, the writer is not used.
+pub fn serve_bundle_kept<
+    J: Storing<A>,
+    D: Device,
+    A: Allocator + Copy,
+    R: Wait,
+    I: Reader,
+    W: Writer,
+    G: Gate,
+>(
+    server: &Server<J, A>,
+    ledger: &Ledger<J, D, A>,
+    rt: &R,
+    alloc: A,
+    opened: (Room, Sender<J, A>),
+    bundle: &mut Unbundler<A>,
+    inbox: &mut Inbox,
+    reader: &mut I,
+    writer: &mut W,
+    gate: &mut G,
+) -> (Client<J, A>, KeptRound<A>)
+    requires bundle { IsFresh server.now bundle.old }
+    requires sender { (opened.1.putter.put ≡ [])
+        × (of opened.1.putter.push (items_of opened.1.history) ≡ []) }
+    ensures served { (x : KeptExchange A)
+        × ServesKept D.seen D.may_leave J.head J.stored server.now J.capacity J.first inbox.old inbox.new
+        (I.told reader.old) (I.told reader.new) (W.told writer.old) (W.told writer.new) opened.1.history x
+        × TellsOfKept x result.1.ending result.1.answer.outcome result.1.answer.takes result.1.rests
+        result.1.replied result.1.written result.0 }
+    ensures whole { result.1.ending ≡ Whole
+        → (state_of bundle.new ≡ at_end_mark) × (ready_of bundle.new ≡ []) }
+    ensures limits { limits_of bundle.new ≡ limits_of bundle.old }
+{
+    parts_are_few::<A>();
+    replies_are_short::<A>();
+    journals_grow::<A>();
+    let _limits = server.limits();
+    let (room, mut sender) = opened;
+    let mut kept = Vec::new(alloc);
+    let ending = receive_kept(
+        server,
+        rt,
+        &mut sender,
+        bundle,
+        inbox,
+        reader,
+        &mut kept,
+        gate,
+    );
+    let ended = mark(server, rt, sender, ending, gate);
+    let (answer, rests, mut client) = server.answer_resting(rt, ended, gate);
+    let record = record_of(&answer.outcome, kept);
+    let (replied, written) = reply_kept(
+        server,
+        ledger,
+        rt,
+        alloc,
+        &mut client,
+        room,
+        rests,
+        record,
+        writer,
+        &answer.outcome,
+    );
+    let round = KeptRound {
+        answer,
+        rests,
+        ending,
+        replied,
+        written,
+    };
+    (client, round)
+}
+
+/// Serves a connection as `serve_connection` does, and keeps each done push before a reply that rests on it is
+/// sent: up to `most` bundles, one after the other.
+///
+/// Room for the record of a push is taken before it is opened; where it is refused, so is the opening. Where
+/// memory is refused for the bytes of a bundle, its push is aborted by that. Between a done push and its
+/// record nothing asks for memory. The connection ends as there, and where the store failed.
+pub fn serve_connection_kept<
+    J: Storing<A>,
+    D: Device,
+    A: Allocator + Copy,
+    R: Wait,
+    I: Reader,
+    W: Writer,
+    G: Gate,
+>(
+    server: &Server<J, A>,
+    ledger: &Ledger<J, D, A>,
+    rt: &R,
+    alloc: A,
+    client: Client<J, A>,
+    reader: &mut I,
+    writer: &mut W,
+    most: u32,
+    gate: &mut G,
+) -> (Client<J, A>, KeptServed<A>)
+    requires { (1 ≤ most) × (most ≤ 10000) }
+    ensures { ConnectsKept D.seen D.may_leave J.head J.stored server.now J.capacity J.first most
+        (I.told reader.old) (I.told reader.new) (W.told writer.old) (W.told writer.new) client result.0 result.1 }
+{
+    streams_are_settled_once::<A>();
+    replies_are_short::<A>();
+    let mut bundle = Unbundler::new(alloc, *server.limits());
+    let mut client = client;
+    let mut served = KeptServed::new();
+    let mut inbox = Inbox::new();
+    'bundles: for number in 0..most {
+        match next_bundle(number, &mut inbox, reader) {
+            Next::Comes => {}
+            Next::Ends => return (client, served),
+            Next::Fails => return (client, served.failed(ConnFault::ReadFailed)),
+        }
+        let opened = match open_kept(server, ledger, rt, client) {
+            Ok(opened) => opened,
+            Err((back, fault)) => return (back, served.failed(ConnFault::Open(fault))),
+        };
+        gate.at(Point::Opened);
+        let (seen, round) = serve_bundle_kept(
+            server,
+            ledger,
+            rt,
+            alloc,
+            opened,
+            &mut bundle,
+            &mut inbox,
+            reader,
+            writer,
+            gate,
+        );
+        client = seen;
+        served = served.more(number, round);
+        if served.fault.is_some() {
+            return (client, served);
+        }
+        bundle.restart();
+    }
+    let _waiting = inbox.pending();
+    (client, served)
+}

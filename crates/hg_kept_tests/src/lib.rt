@@ -1,0 +1,7 @@
+//! The tests of `hg_kept`, over its contracts.
+#![tactic(auto)]
+
+#[cfg(test)]
+mod device;
+#[cfg(test)]
+mod tests;

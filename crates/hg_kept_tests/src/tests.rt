@@ -1,0 +1,385 @@
+//! What no contract says: that many connections over one server and one ledger are all kept, that after a stop
+//! at any call of the device what was answered is there again, and what comes of memory that is refused.
+
+ghost use Rattle.std.specs.Prelude.{◌≤◌};
+
+use crate::device::Memory;
+use hg_kept::{KeptFault, serve_connection_kept};
+use hg_ledger::{Ledger, Parts, Storing};
+use hg_queue::{PartQueue, Taker};
+use hg_repo::Repo;
+use hg_restore::replay_records;
+use hg_serve::{Client, Closed, Naming, NoGate, Server};
+use hg_store::{Head, Log, recover};
+use hg_types::{Limits, Settings};
+use std::alloc::{AllocFailed, Global};
+use std::hash::RandomState;
+use std::io::Read;
+use std::marker::Brand;
+use std::process::Abort;
+use std::random::RandomSource;
+use std::sync::{Mutex, Wait};
+use std::test::*;
+use std::thread;
+use std::thread::Threads;
+
+/// How many threads push.
+const THREADS: u8 = 8;
+
+/// How often each pushes where the device stops at one call after the other.
+const FEW: u8 = 24;
+
+/// How often each pushes where it stops anywhere.
+const MANY: u8 = 200;
+
+fn settings() -> Settings {
+    Settings {
+        publishing: false,
+        limits: Limits::standard(),
+        first_push: 0,
+    }
+}
+
+fn state<R: RandomSource + Abort>(rt: &R) -> RandomState {
+    match RandomState::new(rt) {
+        Ok(state) => state,
+        Err(_) => panic!(*rt; "no random bytes"),
+    }
+}
+
+/// A marker without successors, on a node that no other push has.
+fn marker<R: Abort>(rt: &R, alloc: Global, thread: u8, turn: u8) -> Vec<u8> {
+    let mut made = Vec::new(alloc);
+    let mut ok = made
+        .extend_from_slice(&[0, 0, 0, 0, 0, 0, 0, thread, turn])
+        .is_ok();
+    for _ in 0..18 {
+        ok = ok && made.push(7).is_ok();
+    }
+    assert!(rt; ok);
+    made
+}
+
+/// The bundle of a push with that part.
+fn add_bundle<R: Abort>(rt: &R, made: &mut Vec<u8>, payload: &[u8]) {
+    let size = payload.len() as u32;
+    let ok = made
+        .extend_from_slice(b"HG20\0\0\0\0\0\0\0\x11\x0aOBSMARKERS\0\0\0\0\0\0")
+        .is_ok()
+        && made.extend_from_slice(&size.to_be_bytes()).is_ok()
+        && made.extend_from_slice(payload).is_ok()
+        && made.extend_from_slice(&[0; 8]).is_ok();
+    assert!(rt; ok);
+}
+
+/// The reply to a push of a marker that is done.
+const DONE_REPLY: &[u8] = b"HG20\0\0\0\0\0\0\0\0";
+
+/// A reader over bytes, of which each read gives at most so many.
+#[derive(Drop)]
+struct Source<'a> {
+    bytes: &'a [u8],
+    step: usize,
+}
+
+impl<'a> Read for Source<'a> {
+    fn read(&mut self, buf: &mut [u8]) -> std::io::Result<usize> {
+        let count = buf.len().min(self.step).min(self.bytes.len());
+        buf[..count].copy_from_slice(&self.bytes[..count]);
+        self.bytes = &self.bytes[count..];
+        Ok(count)
+    }
+}
+
+/// How many pushes were told as done, how many replies went out, and how many connections the store failed.
+struct Told {
+    done: Mutex<usize>,
+    replies: Mutex<usize>,
+    refused: Mutex<usize>,
+}
+
+fn grows<R: Wait>(rt: &R, number: &Mutex<usize>, by: usize) {
+    let mut number = number.lock(rt);
+    *number = (*number).saturating_add(by);
+}
+
+/// How many of the replies, one after the other, say that a push is done.
+fn done_replies(bytes: &[u8]) -> usize {
+    let mut count = 0usize;
+    for at in 0..bytes.len() {
+        if bytes[at..].starts_with(DONE_REPLY) {
+            count = count.saturating_add(1);
+        }
+    }
+    count
+}
+
+fn connect<J: Storing<Global>, R: Wait + Abort>(
+    rt: &R,
+    alloc: Global,
+    server: &Server<J>,
+    ledger: &Ledger<J, Memory>,
+    clients: &Mutex<Vec<Client<J>>>,
+    told: &Told,
+    thread: u8,
+    pushes: u8,
+) {
+    let client = match server.client(rt) {
+        Ok(client) => client,
+        Err(_) => panic!(rt; "no client"),
+    };
+    let mut input = Vec::new(alloc);
+    for turn in 0..pushes {
+        // every third push is malformed, and so aborted
+        let payload = marker(rt, alloc, thread, turn);
+        let payload = if turn % 3 == 0 {
+            &payload[1..]
+        } else {
+            &payload[..]
+        };
+        add_bundle(rt, &mut input, payload);
+    }
+    let mut reader = Source {
+        bytes: &input,
+        step: 1 + 13 * thread as usize,
+    };
+    let mut writer: Vec<u8> = Vec::new(alloc);
+    let (client, served) = serve_connection_kept(
+        server,
+        ledger,
+        rt,
+        alloc,
+        client,
+        &mut reader,
+        &mut writer,
+        250,
+        &mut NoGate,
+    );
+    assert!(rt; served.written == writer.len() as u64);
+    grows(rt, &told.done, done_replies(&writer));
+    match served.fault {
+        None => {
+            assert!(rt; served.bundles == pushes as u32);
+            grows(rt, &told.replies, served.bundles as usize);
+        }
+        Some(KeptFault::NotStored) => {
+            // the last answer was not sent
+            assert!(rt; served.bundles > 0);
+            grows(rt, &told.replies, served.bundles as usize - 1);
+            grows(rt, &told.refused, 1);
+        }
+        Some(KeptFault::Connection(_)) => panic!(rt; "the connection failed"),
+    }
+    add(rt, &mut *clients.lock(rt), client);
+}
+
+fn add<J: Naming<Global>, R: Abort>(rt: &R, clients: &mut Vec<Client<J>>, client: Client<J>) {
+    match clients.push(client) {
+        Ok(()) => {}
+        Err(AllocFailed { value: _client, .. }) => panic!(rt; "no memory for a client"),
+    }
+}
+
+/// What is left after a run.
+#[derive(Drop)]
+struct Left {
+    closed: Closed,
+    device: Memory,
+    done: usize,
+    replies: usize,
+    refused: usize,
+}
+
+fn play<J: Storing<Global> + Send + Sync, R: Threads + Wait + Abort + Sync>(
+    rt: &R,
+    alloc: Global,
+    queue: PartQueue,
+    taker: Taker,
+    repo: Repo,
+    log: Log<Memory>,
+    pushes: u8,
+) -> Left {
+    let server = Server::<J>::new(alloc, repo, queue, taker);
+    let first = match server.client(rt) {
+        Ok(client) => client,
+        Err(_) => panic!(rt; "no client"),
+    };
+    let second = match server.client(rt) {
+        Ok(client) => client,
+        Err(_) => panic!(rt; "no client"),
+    };
+    let ledger = match Ledger::new(alloc, log, (first, second)) {
+        Ok(ledger) => ledger,
+        Err(_parts) => panic!(rt; "no memory for a ledger"),
+    };
+    let clients = Mutex::new(Vec::new(alloc));
+    let told = Told {
+        done: Mutex::new(0),
+        replies: Mutex::new(0),
+        refused: Mutex::new(0),
+    };
+    let (list, lent, server_lent, told_lent) = (&clients, &ledger, &server, &told);
+    thread::scope(thread::scope_env(), rt, |scope| {
+        for thread in 0..THREADS {
+            let started = scope.spawn(move || connect(
+                rt,
+                alloc,
+                server_lent,
+                lent,
+                list,
+                told_lent,
+                thread,
+                pushes,
+            ));
+            assert!(rt; started.is_ok());
+        }
+    });
+    let mut clients = clients.into_inner();
+    let Parts {
+        log,
+        is_broken: _,
+        witnesses: (first, second),
+    } = ledger.into_parts();
+    add(rt, &mut clients, first);
+    add(rt, &mut clients, second);
+    let Log { device, .. } = log;
+    let Told {
+        done,
+        replies,
+        refused,
+    } = told;
+    Left {
+        closed: server.close(clients),
+        device,
+        done: done.into_inner(),
+        replies: replies.into_inner(),
+        refused: refused.into_inner(),
+    }
+}
+
+/// Runs the threads, each of so many pushes, on a device that fails after so many calls.
+fn run<R: Threads + Wait + RandomSource + Abort + Sync>(
+    rt: &R,
+    alloc: Global,
+    calls: usize,
+    pushes: u8,
+) -> Left {
+    let head = Head {
+        publishing: false,
+        limits: Limits::standard(),
+    };
+    let mut file = Vec::new(alloc);
+    assert!(rt; head.put(&mut file).is_ok());
+    let mut device = match Memory::new(alloc, &file, calls) {
+        Ok(device) => device,
+        Err(_) => panic!(rt; "no memory for a device"),
+    };
+    let found = match recover(alloc, &mut device) {
+        Ok(found) => found,
+        Err(_) => panic!(rt; "no store"),
+    };
+    let log = Log {
+        device,
+        end: found.end,
+        digest: found.digest,
+    };
+    match PartQueue::new(alloc, 8) {
+        Ok((queue, taker)) => {
+            play::<Brand, R>(
+                rt,
+                alloc,
+                queue,
+                taker,
+                Repo::new(alloc, settings(), state(rt)),
+                log,
+                pushes,
+            )
+        }
+        Err(_) => panic!(rt; "no memory for a queue"),
+    }
+}
+
+/// Starts again from what a crash leaves: what every reply rested on is there, in the order of the journal.
+fn starts_again<R: RandomSource + Abort>(rt: &R, alloc: Global, run: &Left, part: usize) -> usize {
+    let file = match run.device.crashed(part) {
+        Ok(file) => file,
+        Err(_) => panic!(rt; "no memory"),
+    };
+    let mut device = match Memory::new(alloc, &file, 9) {
+        Ok(device) => device,
+        Err(_) => panic!(rt; "no memory"),
+    };
+    let found = match recover(alloc, &mut device) {
+        Ok(found) => found,
+        Err(_) => panic!(rt; "no store is left"),
+    };
+    let mut repo = Repo::new(alloc, settings(), state(rt));
+    assert!(rt; replay_records(alloc, &mut repo, found.records.as_slice()).is_ok());
+    let count = found.records.len();
+    assert!(rt; run.done <= count);
+    let all = run.closed.repo.markers();
+    assert!(rt; count <= all.len());
+    assert!(rt; repo.markers().len() == count);
+    for (again, first) in repo.markers().iter().zip(all) {
+        assert!(rt; again.predecessor == first.predecessor);
+    }
+    count
+}
+
+/// How many of so many pushes of each thread are done: those that are not every third.
+fn done_of(pushes: u8) -> usize {
+    let pushes = pushes as usize;
+    THREADS as usize * (pushes - pushes.div_ceil(3))
+}
+
+#[test]
+fn eight_connections_are_all_kept(rt: HostRuntime) -> Result<(), Fail> {
+    let alloc = rt.alloc();
+    let left = run(&rt, alloc, 1_000_000, FEW);
+    assert!(rt; left.refused == 0);
+    assert!(rt; left.done == done_of(FEW));
+    assert!(rt; left.replies == THREADS as usize * FEW as usize);
+    assert!(rt; starts_again(&rt, alloc, &left, 0) == done_of(FEW));
+    // two syncs a batch: some batches had more than one record
+    assert!(rt; left.device.syncs < 2 * done_of(FEW));
+    Ok(())
+}
+
+// The device stops at each of its first calls in turn.
+#[test]
+fn eight_connections_on_a_device_that_stops(rt: HostRuntime) -> Result<(), Fail> {
+    let alloc = rt.alloc();
+    for calls in 3..40usize {
+        let left = run(&rt, alloc, calls, FEW);
+        assert!(rt; left.refused > 0);
+        for part in [0, 1, 30, 100, 100_000] {
+            let _count = starts_again(&rt, alloc, &left, part);
+        }
+    }
+    Ok(())
+}
+
+/// A number below 1,024 that differs from run to run.
+fn any_number<R: RandomSource + Abort>(rt: &R) -> usize {
+    let mut bytes = [0u8; 2];
+    assert!(rt; rt.fill_bytes(&mut bytes).is_ok());
+    (u16::from_be_bytes(bytes) % 1_024) as usize
+}
+
+// 200 pushes of each of eight connections. The device stops at a call that is drawn, and once at none.
+#[test]
+fn many_pushes_on_a_device_that_stops_anywhere(rt: HostRuntime) -> Result<(), Fail> {
+    let alloc = rt.alloc();
+    for _ in 0..5u8 {
+        let calls = any_number(&rt).saturating_add(3);
+        let left = run(&rt, alloc, calls, MANY);
+        for part in [0, any_number(&rt), 100_000] {
+            let _count = starts_again(&rt, alloc, &left, part);
+        }
+    }
+    let left = run(&rt, alloc, 1_000_000, MANY);
+    assert!(rt; left.refused == 0);
+    assert!(rt; left.done == done_of(MANY));
+    assert!(rt; starts_again(&rt, alloc, &left, 0) == done_of(MANY));
+    Ok(())
+}

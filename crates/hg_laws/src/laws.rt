@@ -1,0 +1,42 @@
+//! What the definitions say together.
+
+ghost use Rattle.std.specs.Prelude.{◌≡◌, ◌↔◌, ℕ, ◌<◌, ◌≤◌, true, List, Some, Contains, All, length};
+ghost use Rattle.hg_types.specs.declared.node.Node.{Node};
+ghost use Rattle.hg_types.specs.declared.phase.Phase.{Phase};
+ghost use Rattle.hg_log.specs.Ancestors.{IsAncestor};
+ghost use Rattle.hg_log.specs.Answer.{is_known as is_known_to_log};
+ghost use Rattle.hg_log.specs.Changeset.{Changeset};
+ghost use Rattle.hg_log.specs.Parents.{parents_of, rev_of};
+ghost use Rattle.hg_log.specs.Rows.{AreLawful as AreLawfulRows, HasNode, IsKnown};
+ghost use Rattle.hg_phases.specs.Order.{lesser, phase_at};
+ghost use Rattle.hg_phases.specs.Phases.{advanced};
+ghost use Rattle.hg_keys.specs.Bookmarks.{Pairs};
+ghost use Rattle.hg_keys.specs.Known.{AreOnKnown, is_known as is_known_to_keys};
+
+/// An id is known where it is null or that of a row: to the changelog, which tells it by the id's text, and to
+/// keys, which tell it by the row's number. So each bookmark is on the null id or on a changeset. The number of
+/// an id is that of its row.
+pub fn ids_are_known_by_their_rows()
+    ensures log { (rows : List Changeset) (node : List ℕ) →
+        (is_known_to_log rows node ≡ true) ↔ IsKnown rows node }
+    ensures keys { (rows : List Changeset) (node : Node) →
+        (is_known_to_keys rows node ≡ true) ↔ IsKnown rows node.0 }
+    ensures bookmarks { (rows : List Changeset) (pairs : Pairs) →
+        AreOnKnown rows pairs ↔ All (λ pair. IsKnown rows pair.1.0) pairs }
+    ensures number { (rows : List Changeset) (node : List ℕ) (r : ℕ) → AreLawfulRows rows →
+        (rev_of rows node ≡ Some r) ↔ HasNode rows r node }
+{}
+
+/// What an advance gives. A changeset that is one of the heads or an ancestor of one gets the target, unless it
+/// is in a lower phase already. Every other keeps its phase, and none comes or goes.
+pub fn advances_lower_ancestors()
+    ensures reached { (rows : List Changeset) (target : Phase) (heads : List ℕ) (phases : List Phase)
+        (head r : ℕ) → AreLawfulRows rows → r < length phases → Contains heads head → IsAncestor rows r head →
+        phase_at (advanced (parents_of rows) target heads phases) r ≡ lesser target (phase_at phases r) }
+    ensures others { (rows : List Changeset) (target : Phase) (heads : List ℕ) (phases : List Phase)
+        (r : ℕ) → AreLawfulRows rows → length phases ≤ length rows → r < length phases →
+        ((head : ℕ) → Contains heads head → ¬ (IsAncestor rows r head)) →
+        phase_at (advanced (parents_of rows) target heads phases) r ≡ phase_at phases r }
+    ensures as_many { (rows : List Changeset) (target : Phase) (heads : List ℕ) (phases : List Phase) →
+        length (advanced (parents_of rows) target heads phases) ≡ length phases }
+{}

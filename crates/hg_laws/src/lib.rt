@@ -1,0 +1,10 @@
+//! What the definitions of the changelog, of phases and of keys say together, beside the crates that use them.
+//!
+//! Each function does nothing; its contract is a law of the definitions that the contracts below cite. No code
+//! stands on this crate, so a law comes here without a new proof of what stands above `hg_log`. Nothing here
+//! starts a thread or waits.
+#![tactic(auto)]
+
+mod laws;
+
+pub use laws::{advances_lower_ancestors, ids_are_known_by_their_rows};

@@ -1,0 +1,10 @@
+pub mod Shown
+pub mod Name
+pub mod Holdings
+pub mod Reasons
+pub mod Numbers
+pub mod Line
+pub mod Tally
+pub mod Heads
+pub mod Rows
+pub mod Metrics

@@ -1,0 +1,115 @@
+//! A push that was answered, and how it ended.
+
+ghost use Rattle.std.specs.Prelude.{◌≡◌, ◌<◌};
+ghost use Rattle.hg_page.specs.Reasons.{name_of_reason, place_of};
+
+/// Why a push was aborted, as its reply says.
+#[derive(Clone, Copy, Debug, PartialEq, Eq)]
+pub enum Reason {
+    /// The heads were not those that the client saw.
+    HeadsChanged,
+    /// The phases were not those that the client saw.
+    PhasesChanged,
+    /// The bookmarks were not those that the client saw.
+    BookmarksChanged,
+    /// A part or a parameter has to be understood and is not known.
+    Unsupported,
+    /// A key that had to be set was not.
+    KeyFailed,
+    /// A part is malformed.
+    BadPart,
+    /// A part holds a bad changeset.
+    BadChangeset,
+    /// A part names an unknown changeset.
+    UnknownNode,
+    /// The client aborted.
+    ClientAborted,
+    /// The index of the end mark is not the number of the parts.
+    BadEnd,
+    /// The bytes hold the stream fault of that number.
+    StreamFault(u8),
+    /// The connection was lost.
+    ConnectionLost,
+    /// The sender gave up.
+    Dropped,
+    /// Memory was refused.
+    NoMemory,
+}
+
+/// How many kinds of reasons there are; stream faults are of one kind.
+pub const REASONS: usize = 14;
+
+impl Reason {
+    ghost use Rattle.std.specs.Prelude.{◌≡◌, ◌<◌};
+    ghost use Rattle.hg_page.specs.Reasons.{name_of_reason, place_of};
+
+    /// The place of its kind among all, below [`REASONS`].
+    pub fn place(self) -> usize
+        ensures place { result ≡ place_of self }
+        ensures within { result < 14 }
+    {
+        match self {
+            Reason::HeadsChanged => 0,
+            Reason::PhasesChanged => 1,
+            Reason::BookmarksChanged => 2,
+            Reason::Unsupported => 3,
+            Reason::KeyFailed => 4,
+            Reason::BadPart => 5,
+            Reason::BadChangeset => 6,
+            Reason::UnknownNode => 7,
+            Reason::ClientAborted => 8,
+            Reason::BadEnd => 9,
+            Reason::StreamFault(_) => 10,
+            Reason::ConnectionLost => 11,
+            Reason::Dropped => 12,
+            Reason::NoMemory => 13,
+        }
+    }
+
+    /// What its kind is called, in lower case letters and spaces.
+    pub fn name(self) -> &'static str
+        ensures { result.now ≡ name_of_reason self }
+    {
+        match self {
+            Reason::HeadsChanged => "heads changed",
+            Reason::PhasesChanged => "phases changed",
+            Reason::BookmarksChanged => "bookmarks changed",
+            Reason::Unsupported => "unsupported content",
+            Reason::KeyFailed => "key not set",
+            Reason::BadPart => "malformed part",
+            Reason::BadChangeset => "bad changeset",
+            Reason::UnknownNode => "unknown node",
+            Reason::ClientAborted => "client aborted",
+            Reason::BadEnd => "bad end mark",
+            Reason::StreamFault(_) => "stream fault",
+            Reason::ConnectionLost => "connection lost",
+            Reason::Dropped => "push dropped",
+            Reason::NoMemory => "out of memory",
+        }
+    }
+}
+
+/// How a push ended.
+#[derive(Clone, Copy, Debug, PartialEq, Eq)]
+pub enum Ending {
+    /// It was done, and its place in the journal, which begins with 0.
+    Done(u64),
+    /// It was aborted and changed nothing.
+    Aborted(Reason),
+}
+
+/// A push that was answered.
+#[derive(Clone, Copy, Debug, PartialEq, Eq)]
+pub struct Push {
+    /// When it was answered: seconds since the beginning of 1970.
+    pub time: u64,
+    pub ending: Ending,
+    /// How many changesets it added.
+    pub changesets: u64,
+    /// How many bytes its bundle had.
+    pub bytes: u64,
+    /// How many microseconds it held the lock.
+    pub locked: u64,
+    /// How many microseconds it waited for the disk.
+    pub synced: u64,
+}

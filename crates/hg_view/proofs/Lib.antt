@@ -1,0 +1,2 @@
+mod PartGrowth
+mod RunGrowth

@@ -1,0 +1,94 @@
+use Rattle.std.proofs.Common.{ℕ, List, ◌++◌, take, ap, ◌∙◌, append_assoc}
+use Rattle.http_server.specs.Connection.{history}
+use Rattle.http_server.specs.History.{History}
+use Rattle.http_server.proofs.KnownLemmas.{Appends-then, Appends-kept, Consumes-then}
+use Rattle.http_server.proofs.StreamLemmas.{Calls-then}
+use Rattle.hg_wire.proofs.Served.{nothing_waits}
+use Rattle.hg_wire.proofs.serve.converse.Goals.{then-wants_write+in_ok-write_to+else-branch-eq0, else-wants_write+in_ok-flush-2+in_ok-read_more+else-not-branch}
+use Rattle.hg_wire.proofs.serve.converse.Goals as goal
+
+pub returns-then-is_done-clause-calls : goal.returns-then-is_done-clause-calls
+returns-then-is_done-clause-calls g c = Calls-then _ _ _ _ _ _ _ c.turns.invariant.2 c.advance.ensures.calls
+
+pub returns-in_err-flush-clause-calls : goal.returns-in_err-flush-clause-calls
+returns-in_err-flush-clause-calls g c = Calls-then _ _ _ _ _ _ _ c.turns.invariant.2 c.advance.ensures.calls
+
+pub returns-in_err-flush-2-clause-calls : goal.returns-in_err-flush-2-clause-calls
+returns-in_err-flush-2-clause-calls g c = Calls-then _ _ _ _ _ _ _ c.turns.invariant.2 c.advance.ensures.calls
+
+pub returns-in_err-read_more-clause-calls : goal.returns-in_err-read_more-clause-calls
+returns-in_err-read_more-clause-calls g c =
+    let all = Calls-then _ _ _ _ _ _ _ c.turns.invariant.2 c.advance.ensures.calls in
+    (all.0, ap (λ (h : History). h.calls) c.in_err-read_more.ensures.err.0 ∙ all.1, all.2)
+
+pub returns-in_err-write_to-clause-calls : goal.returns-in_err-write_to-clause-calls
+returns-in_err-write_to-clause-calls g c =
+    let all = Calls-then _ _ _ _ _ _ _ c.turns.invariant.2 c.advance.ensures.calls in
+    (all.0, ap (λ k. (history k).calls) c.in_err-write_to.ensures.err.0 ∙ all.1, all.2)
+
+pub returns-then-branch-eq0-clause-calls : goal.returns-then-branch-eq0-clause-calls
+returns-then-branch-eq0-clause-calls g c =
+    let all = Calls-then _ _ _ _ _ _ _ c.turns.invariant.2 c.advance.ensures.calls in
+    (all.0, ap (λ (h : History). h.calls) c.in_ok-write_to.ensures.ok.0 ∙ all.1, all.2)
+
+pub returns-then-not-branch-clause-read : goal.returns-then-not-branch-clause-read
+returns-then-not-branch-clause-read g c =
+    let read = c.turns.invariant.0 in
+    let came = c.in_ok-read_more.ensures.ok in (
+      read.0 ++ came.0,
+      Consumes-then _ _ _ read.0 came.0 read.1 came.1,
+      ap (λ (h : History). h.received) came.2
+          ∙ ap (λ (t : List ℕ). t ++ came.0) (c.advance.ensures.quiet.0 ∙ read.2)
+          ∙ append_assoc _ read.0 came.0,
+    )
+
+pub returns-then-not-branch-clause-calls : goal.returns-then-not-branch-clause-calls
+returns-then-not-branch-clause-calls g c =
+    let all = Calls-then _ _ _ _ _ _ _ c.turns.invariant.2 c.advance.ensures.calls in
+    (all.0, ap (λ (h : History). h.calls) c.in_ok-read_more.ensures.ok.2 ∙ all.1, all.2)
+
+pub returns-then-not-branch-clause-empty : goal.returns-then-not-branch-clause-empty
+returns-then-not-branch-clause-empty g c = λ is.
+    ap (λ (h : History). h.pending) c.in_ok-read_more.ensures.ok.2
+    ∙ nothing_waits _ _ c.wants_write.ensures.1 c.if-wants_write.false
+
+pub turns-preserved : goal.turns-preserved
+turns-preserved g c =
+    let read = c.turns.invariant.0 in
+    let written = c.turns.invariant.1 in
+    let quiet = c.advance.ensures.quiet in
+    let config = c.advance.ensures.config ∙ c.turns.invariant.3 in
+    let all = Calls-then _ _ _ _ _ _ _ c.turns.invariant.2 c.advance.ensures.calls in
+    elim c.if-wants_write.branch [
+      | then-wants_write+in_ok-write_to+else-branch-eq0 w ↦
+          let went = w.in_ok-write_to.ensures.ok in
+          let text = take w.in_ok-write_to.field-0 (history c.advance.new.connection).pending in
+          rw (w.connection-is, w.reader-is, w.writer-is) (
+            (read.0, read.1, ap (λ (h : History). h.received) went.0 ∙ quiet.0 ∙ read.2),
+            (
+              written.0 ++ text,
+              Appends-then _ _ _ written.0 text written.1 went.1,
+              ap (λ (h : History). h.sent) went.0 ∙ ap (λ (t : List ℕ). t ++ text) (quiet.2 ∙ written.2)
+                  ∙ append_assoc _ written.0 text,
+            ),
+            (all.0, ap (λ (h : History). h.calls) went.0 ∙ all.1, all.2),
+            w.write_to.ensures.config ∙ config,
+          )
+      | else-wants_write+in_ok-flush-2+in_ok-read_more+else-not-branch w ↦
+          let came = w.in_ok-read_more.ensures.ok in
+          rw (w.connection-is, w.reader-is, w.writer-is) (
+            (
+              read.0 ++ came.0,
+              Consumes-then _ _ _ read.0 came.0 read.1 came.1,
+              ap (λ (h : History). h.received) came.2 ∙ ap (λ (t : List ℕ). t ++ came.0) (quiet.0 ∙ read.2)
+                  ∙ append_assoc _ read.0 came.0,
+            ),
+            (
+              written.0,
+              Appends-kept _ _ _ written.0 written.1 w.flush-else-wants_write.ensures.bytes,
+              ap (λ (h : History). h.sent) came.2 ∙ quiet.2 ∙ written.2,
+            ),
+            (all.0, ap (λ (h : History). h.calls) came.2 ∙ all.1, all.2),
+            w.read_more.ensures.config ∙ config,
+          )
+    ]

@@ -1,0 +1,82 @@
+//! How many bytes the bodies of all requests hold together.
+
+use std::sync::{Mutex, Wait};
+
+/// How many bytes of a request are free: a head has no more.
+const FREE: usize = 16_384;
+
+/// How many bytes the bodies of all requests that were not answered yet may hold together. It is shared by all
+/// connections of a server.
+#[derive(Drop)]
+pub struct Budget {
+    left: Mutex<usize>,
+}
+
+impl Budget {
+    /// A budget of so many bytes.
+    pub fn new(bytes: usize) -> Budget {
+        Budget {
+            left: Mutex::new(bytes),
+        }
+    }
+
+    /// Takes so many, if they are left.
+    fn take<R: Wait>(&self, rt: &R, bytes: usize) -> bool {
+        let mut left = self.left.lock(rt);
+        match left.checked_sub(bytes) {
+            Some(rest) => {
+                *left = rest;
+                true
+            }
+            None => false,
+        }
+    }
+
+    fn give_back<R: Wait>(&self, rt: &R, bytes: usize) {
+        let mut left = self.left.lock(rt);
+        *left = left.saturating_add(bytes);
+    }
+}
+
+/// What one connection holds of it: the bytes that came since its last answer, except a head.
+#[derive(Drop)]
+pub(crate) struct Share<'a> {
+    budget: &'a Budget,
+    came: usize,
+    taken: usize,
+}
+
+impl<'a> Share<'a> {
+    /// Nothing yet.
+    pub(crate) fn new(budget: &'a Budget) -> Share<'a> {
+        Share {
+            budget,
+            came: 0,
+            taken: 0,
+        }
+    }
+
+    /// Counts bytes that came, and says whether there is room for them.
+    pub(crate) fn grow<R: Wait>(&mut self, rt: &R, bytes: usize) -> bool {
+        self.came = self.came.saturating_add(bytes);
+        let wanted = self.came.saturating_sub(FREE);
+        let more = wanted.saturating_sub(self.taken);
+        if more == 0 {
+            return true;
+        }
+        if !self.budget.take(rt, more) {
+            return false;
+        }
+        self.taken = wanted;
+        true
+    }
+
+    /// Gives back what it holds: what came was answered.
+    pub(crate) fn clear<R: Wait>(&mut self, rt: &R) {
+        self.came = 0;
+        if self.taken > 0 {
+            self.budget.give_back(rt, self.taken);
+            self.taken = 0;
+        }
+    }
+}

@@ -1,0 +1,30 @@
+//! What a connection is served by, and the terms of it.
+
+use crate::budget::Budget;
+use hg_ledger::{Ledger, Storing};
+use hg_serve::Server;
+use hg_store::Device;
+use std::alloc::{Allocator, Global};
+use std::sync::Wait;
+
+/// What all connections have in common beside the repository.
+#[derive(Drop)]
+pub struct Terms<'a, S> {
+    /// What a browser is shown.
+    pub shown: &'a S,
+    /// What the bodies of all requests hold together at most.
+    pub budget: &'a Budget,
+    /// Where pulls go, without a query.
+    pub pull: Option<&'a [u8]>,
+    /// How many pushes the store had when it was opened: the place of the first one here.
+    pub stored: usize,
+}
+
+/// A server, and the ledger that keeps its pushes.
+#[derive(Drop)]
+pub struct Host<'a, J: Storing<A>, D: Device, R: Wait, A: Allocator = Global> {
+    pub server: &'a Server<J, A>,
+    pub ledger: &'a Ledger<J, D, A>,
+    pub rt: &'a R,
+    pub alloc: A,
+}
