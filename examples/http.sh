@@ -1,6 +1,6 @@
 #!/usr/bin/env bash
 # An unmodified `hg` pushes to the crates that answer HTTP: examples/http.sh
-# The server of bench/wire, which serves one connection after the other and keeps nothing, is compiled with
+# The server of bench/wire, which serves one connection after the other and keeps each push in a store, is compiled with
 # checks and not proved. Mercurial pushes to it, amends, names a branch and asks. Its report has to be what the
 # client then has. Without `hg` on the path nothing is tried, and it says so.
 set -eu
@@ -15,8 +15,8 @@ export HGUSER='Test <t@e>'
 echo 'Compiling the server with checks, and without proofs: a minute or two.'
 printf '[experimental]\nevolution = all\n' > "$scratch/hgrc"
 export HGRCPATH="$scratch/hgrc"
-scratch_program wire wire_push 'anyhow hg_types hg_repo hg_queue hg_serve hg_wire http_server crossbeam_queue atomic_table'
-"$rt" try -- "127.0.0.1:$port" "$connections" > "$scratch/report" 2> "$scratch/said" &
+scratch_program wire wire_push 'anyhow hg_types hg_repo hg_queue hg_serve hg_store hg_ledger hg_wire http_server crossbeam_queue atomic_table'
+"$rt" try -- "127.0.0.1:$port" "$connections" "$scratch/store" > "$scratch/report" 2> "$scratch/said" &
 server=$!
 trap 'kill $server 2> /dev/null || true; rm -rf "$scratch"' EXIT
 python3 - "$port" << 'END'

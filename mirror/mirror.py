@@ -22,6 +22,11 @@ who pull have the markers::
 
   [experimental]
   evolution = all
+
+Where hgweb runs with this extension, a pull leaves out heads that are not shown
+here. At one address for pushing and pulling the push server says which heads
+there are, hidden ones and those of the last moment too, and a client asks for
+all of them.
 '''
 
 import hashlib
@@ -33,6 +38,7 @@ from mercurial import (
     bundle2,
     error,
     exchange,
+    extensions,
     pycompat,
     registrar,
     util,
@@ -353,6 +359,18 @@ def checkpublishing(repo, found):
         _(b'phases.publish of this repository is not what the store says'),
         hint=_(b"set 'publish = %s' in [phases] of .hg/hgrc") % told,
     )
+
+
+def uisetup(ui):
+    extensions.wrapfunction(exchange, 'getbundlechunks', getbundlechunks)
+
+
+def getbundlechunks(orig, repo, source, heads=None, **kwargs):
+    """Answers a pull by what is shown here of the heads that it asks for."""
+    if source == b'serve' and heads:
+        isshown = repo.changelog.hasnode
+        heads = [node for node in heads if isshown(node)] or [repo.nullid]
+    return orig(repo, source, heads=heads, **kwargs)
 
 
 def configure(ui):
