@@ -7,24 +7,31 @@
 #   make test        the gate: proves everything from nothing, tries the wrong bodies, runs the tests and the program
 #   make test-all    proves everything from nothing, the tests too
 #   make wrong-bodies, make run-tests   two parts of the gate by themselves
+#   make try-install, make try-team   try the installation, and every command of docs/team.md in a room of its own
+#   make try-clients   random pushes of three real clients to host, mirrored: a quarter of an hour
+#   make install     installs what was built below PREFIX (/usr/local), in DESTDIR where that is given
+#   make deb         makes a Debian package of what was built
 #   make docs        lists definitions, examples and wrong bodies, from where each stands, in build/docs
 #   make bench       measures the program; bench/*/run.sh measure the crates below it
 
 PROGRAM := build/hg_pushd
+PREFIX ?= /usr/local
+DESTDIR ?=
 SOURCES := crates.txt $(shell find crates -name out -prune -o -type f \
 	\( -name '*.rt' -o -name '*.antt' \) -print 2>/dev/null)
 
 # a push that `hg push` sent
 PUSHED := examples/pushes/first-changesets/01.hg20
 
-.PHONY: run build serve-demo http-demo test test-all wrong-bodies run-tests docs bench clean toolchain
+.PHONY: run build serve-demo http-demo test test-all wrong-bodies run-tests docs \
+	bench install deb man try-install try-team try-clients clean \
+	toolchain
 
 run: toolchain
 	@bash examples/run.sh $(PUSHED)
 
 toolchain:
-	@command -v rt > /dev/null || \
-	    { echo 'hg_pushd is built with the Rattle toolchain: its command rt is not on the path.'; exit 1; }
+	@bash tools/toolchain.sh
 
 build: $(PROGRAM)
 
@@ -56,6 +63,26 @@ wrong-bodies: $(PROGRAM)
 
 run-tests: toolchain
 	@python3 tools/tests.py
+
+install: $(PROGRAM)
+	@DESTDIR='$(DESTDIR)' PREFIX='$(PREFIX)' bash tools/install.sh $(PROGRAM)
+	@echo 'Installed below $(DESTDIR)$(PREFIX).'
+
+deb: $(PROGRAM)
+	@bash tools/deb.sh $(PROGRAM)
+
+man:
+	@python3 tools/manual.py all build/manual $(if $(wildcard $(PROGRAM)),$(PROGRAM),--compiled)
+	@echo 'The manual and the completions are in build/manual.'
+
+try-install: $(PROGRAM)
+	@bash tests/install.sh $(PROGRAM)
+
+try-team: $(PROGRAM)
+	@python3 tests/team.py $(PROGRAM)
+
+try-clients: $(PROGRAM)
+	@python3 tests/clients.py $(PROGRAM)
 
 docs:
 	@python3 tools/docs.py

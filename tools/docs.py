@@ -1,19 +1,29 @@
 #!/usr/bin/env python3
 """Documents that are made from where the fact stands.
 
-    tools/docs.py    writes build/docs/definitions.md, build/docs/examples.md and build/docs/wrong-bodies.md
+    tools/docs.py            writes docs/definitions.md, the lists of modules on the pages docs/crates/*.md,
+                             build/docs/examples.md and build/docs/wrong-bodies.md
+    tools/docs.py --check    compares what of these stands in the tree with the sources
 
-The definitions come from `specs/`: of each module its first line, and of each word the comment above it. The
+The definitions come from `specs/`: of each module its first lines, and of each word the comment above it. The
 examples come from the comment above each test, the wrong bodies from the head of each edit.
 """
 import os
 import re
+import sys
+import textwrap
 
 import sources
 from wrong_bodies import edits_of
 
 TO = f"{sources.ROOT}/build/docs"
-DEFINED = re.compile(r"^(?:(?:abbrev|unfoldable) )*(?:pub (?:record |data )?|record pub )([\w']+)")
+DEFINITIONS = f"{sources.ROOT}/docs/definitions.md"
+HEAD = """# Definitions
+
+The words that contracts speak with, crate by crate: of each module of `specs/` what it states, and of each word the
+comment above it. `make docs` makes this page of the sources. `tools/standard.txt` says which part of the public
+standard a module states, and [the index](index.md) which clauses use a word."""
+DEFINED = re.compile(r"^(?:\s*(?:abbrev|unfoldable) pub|pub record|pub data|pub(?! mod)|record pub) ([\w']+)")
 TEST = re.compile(r"^#\[test\]$")
 FUNCTION = re.compile(r"^(?:pub )?fn (\w+)")
 
@@ -44,13 +54,19 @@ def definitions(crate):
         lines = sources.read(path).splitlines()
         if module == "Lib" or module.startswith("code") or not lines:
             continue
-        yield f"\n### {module}\n"
-        if lines[0].startswith("--"):
-            yield f"{lines[0].removeprefix('--').strip()}\n"
-        for line, told in commented(lines[1:], "--"):
-            found = DEFINED.match(line)
-            if found and told:
-                yield f"- `{found[1]}`: {told}"
+        words = [(found[1], told) for line, told in commented(lines, "--") if told and (found := DEFINED.match(line))]
+        yield f"\n### {crate} {module}\n"
+        # the first comment of a file is on the module, where no word stands right below it
+        if lines[0].startswith("--") and (not words or not words[0][1].startswith(lines[0].lstrip("- "))):
+            yield wrapped(first_lines(path), "") + "\n"
+        for word, told in words:
+            yield wrapped(f"- `{word}`: {told}", "  ")
+
+
+def wrapped(text, behind):
+    """Text within the width of a page."""
+    how = {"subsequent_indent": behind, "break_long_words": False, "break_on_hyphens": False}
+    return "\n".join(textwrap.wrap(text, 110, **how))
 
 
 def tests_of(crate):
@@ -92,21 +108,81 @@ def wrong_bodies(crate):
         yield f"{told} Refused by {edit.goal} of `{edit.function}`." if edit.function else f"{told} Not tried yet."
 
 
-def write(name, head, told):
-    with open(f"{TO}/{name}.md", "w", encoding="utf-8") as file:
-        file.write(f"{head}\n")
-        for crate in sources.rows():
-            lines = list(told(crate))
-            if lines and not crate.endswith("_tests"):
-                file.write(f"\n## {crate}\n" + "\n".join(["", *lines]) + "\n")
+def made(head, told):
+    """A page: its head, and what is told of each crate."""
+    page = [head]
+    for crate in sources.rows():
+        lines = list(told(crate))
+        if lines and not crate.endswith("_tests"):
+            page += ["", f"## {crate}", "", *lines]
+    return re.sub(r"\n{3,}", "\n\n", "\n".join(page) + "\n")
 
 
-def main():
+def first_lines(path):
+    """What a module of definitions says of itself in its first lines, up to one without words."""
+    kept = []
+    for line in sources.read(path).splitlines():
+        if not line.startswith("--") or not line.strip("- "):
+            break
+        kept.append(line[2:].strip())
+    return " ".join(kept)
+
+
+def modules(crate, of_code):
+    """A line for each module of a crate's definitions: those that contracts cite, or those of the code alone."""
+    folder = f"{sources.ROOT}/crates/{crate}/specs"
+    for path in sources.files(folder, ".antt"):
+        module = os.path.relpath(path, folder).removesuffix(".antt")
+        is_list = module == "Lib" or os.path.isdir(path.removesuffix(".antt"))
+        if not is_list and module.startswith("code/") == of_code:
+            told = f"- `{module.removeprefix('code/')}`: {first_lines(path)}"
+            how = {"subsequent_indent": "  ", "break_long_words": False, "break_on_hyphens": False}
+            yield "\n".join(textwrap.wrap(told, 110, **how))
+
+
+# the line above a list of modules, and whether they are those of the code
+LISTS = (
+    ("What a reader has to believe stands in `specs/`, a module for each matter:", False),
+    ("No clause of a public call speaks of it:", True),
+)
+
+
+def page_of(crate):
+    """The page of a crate, with its lists of modules as the sources give them."""
+    text = sources.read(f"{sources.ROOT}/docs/crates/{crate}.md")
+    for above, of_code in LISTS:
+        before, found, after = text.partition(f"{above}\n\n")
+        if found:
+            _, rest = re.match(r"((?:- .*\n(?:  .*\n)*)*)([\s\S]*)", after).groups()
+            text = before + found + "".join(f"{line}\n" for line in modules(crate, of_code)) + rest
+    return text
+
+
+def pages():
+    """What the pages of the crates are to be, by their paths."""
+    found = {crate: f"{sources.ROOT}/docs/crates/{crate}.md" for crate in sources.rows()}
+    return {path: page_of(crate) for crate, path in found.items() if os.path.exists(path)}
+
+
+def write(path, text):
+    with open(path, "w", encoding="utf-8") as file:
+        file.write(text)
+
+
+def main(words):
+    told = {DEFINITIONS: made(HEAD, definitions), **pages()}
+    if "--check" in words:
+        stale = [it for it, text in told.items() if not os.path.exists(it) or sources.read(it) != text]
+        for path in stale:
+            print(f"docs: {os.path.relpath(path, sources.ROOT)} is not what the sources give: make docs")
+        return int(bool(stale))
+    for path, text in told.items():
+        write(path, text)
     os.makedirs(TO, exist_ok=True)
-    write("definitions", "# Definitions, by the comments above them", definitions)
-    write("examples", "# What the tests show, by the comments above them", examples)
-    write("wrong-bodies", "# Wrong bodies, by the heads of the edits", wrong_bodies)
+    write(f"{TO}/examples.md", made("# What the tests show, by the comments above them", examples))
+    write(f"{TO}/wrong-bodies.md", made("# Wrong bodies, by the heads of the edits", wrong_bodies))
+    return 0
 
 
 if __name__ == "__main__":
-    main()
+    sys.exit(main(sys.argv[1:]))

@@ -24,7 +24,7 @@ import stands
 import tests
 
 LOGS = f"{sources.ROOT}/build/gate"
-CHECKS = ("index", "pictures", "costs", "headings", "paths")
+CHECKS = ("docs", "index", "pictures", "costs", "headings", "paths")
 # a crate is proved in this run, or an earlier run of the same files on this machine proved it
 PROVED = re.compile(r"^(?:rt: )?(hg_\w+) (?:proved$|is kept: )")
 COUNTED = re.compile(r"^(\d+) passed, (\d+) failed$", re.M)
@@ -155,6 +155,10 @@ def prove(stand, count, side):
     if failed or status:
         print("".join(said)[-6000:])
     count.add("proofs, from nothing", passed, failed or status, f"{passed} passed, {failed} failed")
+    status, told, _ = logged("counts", [sys.executable, "tools/counts.py", f"{LOGS}/proofs.log"], cwd=sources.ROOT)
+    if status:
+        print(told)
+    count.add("how many functions may wait", int(not status), status)
 
 
 def run_program(program, count):

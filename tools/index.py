@@ -6,8 +6,8 @@ to refuse one, and the tests that run it; and one of the words that their clause
 module states, and the functions that are promised by it.
 
 `index.py --check` compares docs/index.md with what it would print. It fails on a public function without a
-wrong body that no line of docs/index-exceptions.txt tells of, on a word without a sentence in
-docs/definitions.md, on a clause or a definition that uses a module of specs/code/, and on a module that its
+wrong body that no line of docs/index-exceptions.txt tells of, on a word without a comment
+above it, on a clause or a definition that uses a module of specs/code/, and on a module that its
 crate's page does not name.
 """
 
@@ -20,7 +20,8 @@ from collections import defaultdict
 ROOT = os.path.dirname(os.path.dirname(os.path.abspath(__file__)))
 
 FUNCTION = re.compile(r"^(\s*)(pub(?:\([a-z]+\))? )?(?:const )?fn (\w+)")
-WORD_DEFINED = re.compile(r"(?:abbrev |unfoldable )?pub (?:record |data )?([\w']+)|record pub ([\w']+)")
+WORD_DEFINED = re.compile(
+    r"\s*(?:abbrev|unfoldable) pub ([\w']+)|(?:pub (?:record |data )?|record pub )([\w']+)")
 WORD = re.compile(r"[A-Za-z_][\w']*")
 GHOST = re.compile(r"(?m)^ghost use Rattle\.(hg_\w+)\.specs\.([\w.]+)\.\{([^}]*)\}")
 
@@ -29,7 +30,7 @@ ABOUT = """\
 Made by `tools/index.py` from the sources; `make test` compares it with them. For each crate the public
 functions, with the wrong bodies that turn each, those that each clause was seen to refuse, and the tests that
 run it; and the words that their clauses use, with the module of `specs/` that defines each, and the heading
-of the public standard that this module states. `docs/definitions.md` has a sentence on each word. `python3
+of the public standard that this module states. [Definitions](definitions.md) has the comment above each word. `python3
 tools/docs.py` lists the wrong bodies with what each turns, and the tests with their examples."""
 
 
@@ -178,9 +179,9 @@ def definitions(crate):
         module = os.path.relpath(path, f"{ROOT}/crates/{crate}/specs")[:-5].replace("/", ".")
         before = []
         for line in read(path).split("\n"):
-            line = line.strip()
-            if line.startswith("-- ") or line == "--":
-                before.append(line[3:])
+            text = line.strip()
+            if text.startswith("-- ") or text == "--":
+                before.append(text[3:])
                 continue
             word = WORD_DEFINED.match(line)
             word = word and (word.group(1) or word.group(2))
@@ -240,7 +241,7 @@ def strays(crate):
 
 
 def main():
-    headings, excused, told_words = standard(), exceptions(), read(f"{ROOT}/docs/definitions.md")
+    headings, excused = standard(), exceptions()
     out, missing = [], []
     say = out.append
     say("# From a clause to all that stands behind it")
@@ -324,10 +325,10 @@ def main():
             say("Words of their clauses:")
             say("")
         for (below, word), names in sorted(used.items()):
-            module = known[below].get(word, ("", ""))[0]
+            module, told = known[below].get(word, ("", ""))
             heading = headings.get(f"{below} {module}", headings.get(below, ""))
-            if not re.search(rf"(?<![\w']){re.escape(word)}(?![\w'])", told_words):
-                missing.append(f"{below} {word} ({module}): no sentence in docs/definitions.md")
+            if not told:
+                missing.append(f"{below} {word} ({module}): no comment above it")
             if is_of_code(module):
                 missing.append(f"{below} {word} ({module}): a public clause of {crate} uses it")
             by = f", by {heading}" if heading else ""

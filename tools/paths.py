@@ -1,8 +1,10 @@
 #!/usr/bin/env python3
 """Whether the files and headings that the documents name are there.
 
-    tools/paths.py --check   reads README.md and docs, and fails on a name that leads nowhere; it leaves
-                             docs/index.md out, which is made of the sources
+    tools/paths.py --check   reads README.md and its like, mirror and docs, and fails on a name that leads
+                             nowhere; it leaves docs/index.md out, which is made of the sources
+
+It also compares what they call the toolchain with toolchain.txt.
 
 A name stands in code quotes or is the target of a link. It is looked for from the root, from the document's
 own folder, and in the crate that the document or its section is of; in another crate only where the
@@ -24,6 +26,7 @@ FOLDER = re.compile(r"^(bench|build|crates|docs|examples|proofs|specs|src|tests|
 QUOTED = re.compile(r"`([^`\n]+)`")
 LINK = re.compile(r"\]\(([^)]+)\)")
 OF_CRATE = re.compile(r"\bhg_\w+")
+TOOLCHAIN = re.compile(r"rattle-kit-\S+ logic \w+")
 
 
 def read(path):
@@ -32,7 +35,7 @@ def read(path):
 
 
 def documents():
-    yield "README.md"
+    yield from ("README.md", "CONTRIBUTING.md", "SECURITY.md", "CHANGELOG.md", "mirror/README.md")
     for path in sorted(glob.glob(f"{ROOT}/docs/**/*.*", recursive=True)):
         if path.endswith((".md", ".txt")) and path != f"{ROOT}/docs/index.md":
             yield os.path.relpath(path, ROOT)
@@ -92,8 +95,16 @@ def faults_of_link(target, document):
         yield f"{os.path.relpath(path, ROOT)} has no heading #{anchor}"
 
 
+def faults_of_toolchain(text):
+    """Another name of the toolchain than the one that this tree is proved with."""
+    for name in TOOLCHAIN.findall(text):
+        if name not in read(f"{ROOT}/toolchain.txt"):
+            yield 1, f"{name} is not the toolchain of toolchain.txt"
+
+
 def faults(document):
     text = read(f"{ROOT}/{document}")
+    yield from faults_of_toolchain(text)
     for number, crate, words in paragraphs(text):
         own = re.search(r"docs/crates/(hg_\w+)\.md", document)
         for quoted in QUOTED.findall(words):

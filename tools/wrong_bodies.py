@@ -60,11 +60,28 @@ class Prover:
         return self.crates[crate].words(["--jobs", "1"], keeps=False)
 
     def check(self, crate, room, functions, kept):
-        """What a check of these functions prints, in a copy of the crate."""
-        words = [self.library.RATTLE, "check", *self.words(crate), "--allow-holes", "--incremental", kept]
+        """What a check of these functions prints, in a copy of the crate, with the processor seconds at the end of
+        each function's proof."""
+        words = [self.library.RATTLE, "check", *self.words(crate), "--allow-holes", "--incremental", kept, "--progress"]
         words += [word for it in functions for word in ("--only", it)]
         how = {"stdin": subprocess.DEVNULL, "stdout": subprocess.PIPE, "stderr": subprocess.STDOUT, "errors": "replace"}
-        return subprocess.run(words, cwd=room, check=False, encoding="utf-8", **how).stdout
+        said = []
+        with subprocess.Popen(words, cwd=room, encoding="utf-8", **how) as run:
+            for line in run.stdout:
+                if line.startswith("checked "):
+                    line = f"{line.rstrip()}: {seconds_of(run.pid):.1f} s\n"
+                said.append(line)
+        return "".join(said)
+
+
+def seconds_of(process):
+    """The processor seconds that a process took so far; 0 where it is gone."""
+    try:
+        with open(f"/proc/{process}/stat", encoding="utf-8") as file:
+            fields = file.read().rpartition(")")[2].split()
+    except OSError:
+        return 0.0
+    return (int(fields[11]) + int(fields[12])) / os.sysconf("SC_CLK_TCK")
 
 
 class Edit:
