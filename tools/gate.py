@@ -34,17 +34,19 @@ class Count:
     """What passed and what failed so far."""
 
     def __init__(self):
-        self.start, self.passed, self.failed, self.lock = time.time(), 0, [], threading.Lock()
+        self.start, self.passed, self.failed, self.lock = time.time(), 0, {}, threading.Lock()
 
     def say(self, text):
         took = int(time.time() - self.start)
         print(f"{took // 60:>3}:{took % 60:02}  {text}", flush=True)
 
-    def add(self, name, passed, failed, text=""):
+    def add(self, name, passed, failed, text="", said=""):
+        """Counts a piece; where it failed, what it said at its end is printed, and once more at the end of all."""
         with self.lock:
             self.passed += passed
             if failed:
-                self.failed.append(name)
+                self.failed[name] = said[-1500:]
+                print(said[-6000:])
             self.say(f"{name}: {text or ('passed' if not failed else 'FAILED')}")
 
 
@@ -128,10 +130,8 @@ class Side:
             passed, failed = counted(said) or (0, 1)
             if kind != "judging":
                 self.costs[name, kind] = seconds
-            if status or failed:
-                print(said[-4000:])
             text = f"{passed} passed, {failed} failed" if failed or status else f"{passed} passed"
-            self.count.add(f"{kind} of {name}", passed, failed or status, text)
+            self.count.add(f"{kind} of {name}", passed, failed or status, text, said)
 
 
 def prove(stand, count, side):
@@ -152,13 +152,9 @@ def prove(stand, count, side):
         status = run.wait()
     passed, failed = counted("".join(said)) or (0, 1)
     side.end()
-    if failed or status:
-        print("".join(said)[-6000:])
-    count.add("proofs, from nothing", passed, failed or status, f"{passed} passed, {failed} failed")
-    status, told, _ = logged("counts", [sys.executable, "tools/counts.py", f"{LOGS}/proofs.log"], cwd=sources.ROOT)
-    if status:
-        print(told)
-    count.add("how many functions may wait", int(not status), status)
+    count.add("proofs, from nothing", passed, failed or status, f"{passed} passed, {failed} failed", "".join(said))
+    status, said, _ = logged("counts", [sys.executable, "tools/counts.py", f"{LOGS}/proofs.log"], cwd=sources.ROOT)
+    count.add("how many functions may wait", int(not status), status, said=said)
 
 
 def run_program(program, count):
@@ -167,9 +163,7 @@ def run_program(program, count):
                         ("a limit of memory", ["examples/hostile.sh", program]),
                         ("random bundles", ["bench/fuzz/run.sh", program, "60", "1"])):
         status, said, _ = logged(f"program-{words[0].split('/')[-1]}", ["bash", *words], cwd=sources.ROOT)
-        if status:
-            print(said[-4000:])
-        count.add(f"the program, {name}", int(not status), status)
+        count.add(f"the program, {name}", int(not status), status, said=said)
 
 
 def check_documents(count):
@@ -177,9 +171,7 @@ def check_documents(count):
         if not os.path.exists(f"{sources.ROOT}/tools/{name}.py"):
             continue
         status, said, _ = logged(f"check-{name}", [sys.executable, f"tools/{name}.py", "--check"], cwd=sources.ROOT)
-        if status:
-            print(said[-4000:])
-        count.add(f"tools/{name}.py --check", int(not status), status)
+        count.add(f"tools/{name}.py --check", int(not status), status, said=said)
 
 
 def speed():
@@ -224,8 +216,8 @@ def main():
     minutes, spent = (time.time() - count.start) / 60, (used.ru_utime + used.ru_stime) / 60
     measure.write(f"{LOGS}/costs.csv", costs, minutes, spent, processors, selftest)
     count.say(f"{minutes:.0f} minutes, {spent:.0f} processor minutes with all that ran.")
-    for it in count.failed:
-        print(f"FAILED: {it}")
+    for it, said in count.failed.items():
+        print(f"FAILED: {it}\n{said}".rstrip())
     print(f"{count.passed} passed, {len(count.failed)} failed")
     return 1 if count.failed else 0
 
