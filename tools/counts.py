@@ -4,7 +4,8 @@
     tools/counts.py LOG    reads what `rt ci` printed, and fails where a crate's count in crates.txt is another
 
 `rt ci` does not ask for these counts, and `rt verdict` does, which proves each crate and all below it anew. So
-the counts of one run are compared here. A crate that the log does not name as proved is left out.
+the counts of one run are compared here. Of a crate whose proof an earlier run kept, the log has no count: it is left
+out, and the last line says of how many crates there was one.
 """
 import re
 import sys
@@ -25,15 +26,18 @@ def told():
 
 
 def counted(log):
-    """The count of each crate that the log says is proved."""
-    last = 0
+    """The count of each crate that the log says is proved, by the last verdict before that."""
+    last = None
     for line in log.splitlines():
+        if line.startswith("== "):
+            last = None
         if line.startswith("logic=proved "):
             count = re.search(r"\bmay-wait=(\d+)", line)
             last = int(count[1]) if count else 0
         proved = PROVED.match(line)
-        if proved:
+        if proved and last is not None:
             yield proved[1], last
+            last = None
 
 
 def main():
@@ -44,7 +48,7 @@ def main():
             failed += 1
             print(f"counts: {crate}: {count} functions may wait, and crates.txt says {wanted.get(crate)}")
     print(f"counts: {seen} crates, {failed} differ")
-    return 1 if failed or not seen else 0
+    return 1 if failed else 0
 
 
 if __name__ == "__main__":
