@@ -2,7 +2,8 @@ use Rattle.std.proofs.Common.{◌≡◌, ℕ, ◌<◌, ◌+◌, List, length, ta
 use Rattle.std.specs.List.{AllWithin, slice_get}
 use Rattle.hg_types.specs.declared.node.Node.{Node}
 use Rattle.hg_names.specs.declared.blocks.Block.{Block}
-use Rattle.hg_names.specs.Names.{Held, Pairs, AreInOrder, IsAt, IsGap, node_of}
+use Rattle.hg_names.specs.Names.{Held, Pairs, AreInOrder, node_of}
+use Rattle.hg_names.specs.code.Places.{IsAt, IsGap}
 use Rattle.hg_names.specs.code.Blocks.{pairs_in, start_of, place_at, IsLess, IsGreater, IsSpot}
 use Rattle.hg_names.proofs.Own.{items, read_of, some_block}
 use Rattle.hg_names.proofs.Lookups.{block_order, at_in, gap_in, found_in, none_at}
