@@ -1,6 +1,6 @@
 -- The pairs of a block.
 use Rattle.std.proofs.Common.{◌≡◌, ℕ, ◌+◌, ◌<◌, List, length, get_or, take, sym, ap, ◌∙◌, Result, Ok, Err, OnOk, OnErr}
-use Rattle.std.proofs.Common.{[], ◌∷◌, cond, is_ok, refl, arith, vec_len}
+use Rattle.std.proofs.Common.{[], ◌∷◌, cond, is_ok, arith, vec_len}
 use Rattle.std.specs.List.{flat_map}
 use Rattle.std.proofs.lemmas.Grind.{common_steps}
 use Rattle.std.proofs.lemmas.List.{get_or_read, nil_from_length}

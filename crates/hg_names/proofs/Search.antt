@@ -1,7 +1,7 @@
 -- Where a name is among blocks of names in order.
-use Rattle.std.proofs.Common.{◌≡◌, ◌≢◌, ℕ, suc, ◌+◌, ◌-◌, ◌<◌, ◌≤◌, List, length, get_or, take, Result, Ok, Err}
-use Rattle.std.proofs.Common.{IfOk, IfErr, sym, ap, ◌∙◌, subst, arith, inl, inr, refl}
-use Rattle.std.specs.List.{flat_map, All, AllWithin, HoldsAt}
+use Rattle.std.proofs.Common.{◌≡◌, ℕ, ◌+◌, ◌-◌, ◌<◌, ◌≤◌, List, length, get_or, take, Result, Ok, Err}
+use Rattle.std.proofs.Common.{IfOk, IfErr, sym, ap, ◌∙◌, subst, arith, inl, inr}
+use Rattle.std.specs.List.{flat_map, AllWithin, HoldsAt}
 use Rattle.std.specs.List.Sorted.{IsSearchInRange, IsBinarySearchResult, IsNonDecreasingBy}
 use Rattle.std.specs.Ordering.{is_lt, ordering_index}
 use Rattle.std.specs.declared.cmp.Ordering.TheVariants.{Less, Greater}

@@ -67,7 +67,10 @@ fn place_in<A: Allocator>(pairs: &[Pair<A>], name: &[u8]) -> Result<usize, usize
 }
 
 /// The spot of a name, or else one at which it would go.
-pub(crate) fn spot_of<A: Allocator>(blocks: &[Block<A>], name: &[u8]) -> Result<(usize, usize), (usize, usize)>
+pub(crate) fn spot_of<A: Allocator>(
+    blocks: &[Block<A>],
+    name: &[u8],
+) -> Result<(usize, usize), (usize, usize)>
     requires filled { All IsFilled blocks.now }
     requires some { 0 < length blocks.now }
     requires in_order { AreInOrder (pairs_in blocks.now) }
@@ -125,10 +128,7 @@ pub(crate) fn spot_at<A: Allocator>(blocks: &[Block<A>], place: usize) -> (usize
 }
 
 /// Cuts a block in two. Where memory is refused, the blocks are unchanged.
-fn split<A: Allocator + Copy>(
-    blocks: &mut Vec<Block<A>, A>,
-    block: usize,
-) -> Result<(), NoMemory>
+fn split<A: Allocator + Copy>(blocks: &mut Vec<Block<A>, A>, block: usize) -> Result<(), NoMemory>
     requires filled { All IsFilled blocks.old.items }
     requires within { block < length blocks.old.items }
     requires full { HoldsAt (λ block. 2 ≤ length block.pairs.items) blocks.old.items block }

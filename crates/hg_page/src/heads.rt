@@ -88,8 +88,9 @@ pub fn add_bookmarks<A: Allocator + Copy>(
     bookmarks: &Bookmarks<A>,
     len: usize,
 ) -> Result<(), NoMemory> {
-    for place in 0..len {
-        if let Some((name, node)) = bookmarks.entry(place)
+    let mut entries = bookmarks.entries();
+    for _ in 0..len {
+        if let Some((name, node)) = entries.next()
             && let Some(head) = place_of(heads.as_slice(), &node)
         {
             add_bookmark(alloc, &mut heads[head], name)?;

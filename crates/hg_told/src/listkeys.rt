@@ -154,10 +154,8 @@ fn push_bookmarks<A: Allocator>(
     ensures { OnOk result (lines.new.items ≡ lines.old.items
         ++ flat_map (ended 10) (bookmark_lines bookmarks.now.current)) }
 {
-    for place in 0..bookmarks.len() {
-        let Some((name, node)) = bookmarks.entry(place) else {
-            unreachable!()
-        };
+    let mut entries = bookmarks.entries();
+    while let Some((name, node)) = entries.next() {
         push_bookmark(lines, name, &node)?;
     }
     Ok(())

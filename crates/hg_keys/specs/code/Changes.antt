@@ -2,7 +2,6 @@
 use Rattle.std.specs.Option.{option_to_list}
 use Rattle.std.specs.Prelude.{◌≡◌, ◌≤◌, ◌-◌, ◌^◌, ◌++◌, Option, Some, None, is_some, is_none, if◌then◌else◌, ℕ, Bool, true}
 use Rattle.std.specs.Prelude.{◌&&◌, nat_lt, List, [], ◌∷◌, length, reverse}
-use Rattle.hg_types.specs.declared.node.Node.{Node}
 use Rattle.hg_keys.specs.declared.bookmarks.Change.{Change}
 use Rattle.hg_keys.specs.declared.bookmarks.Change.TheVariants.{Added, Moved, Removed}
 use Rattle.hg_keys.specs.Bookmarks.{Pairs, AreInOrder, node_of, with_bookmark}

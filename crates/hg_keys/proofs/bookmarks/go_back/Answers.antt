@@ -18,6 +18,11 @@ loop-change-preserved g c =
           (in_order_undone change pairs c.loop-change.invariant.in_order);
       can = can_rest changes rest change pairs c.undo.new.names.pairs popped c.undo.ensures.pairs
           c.loop-change.invariant.can;
-      room = omega (arith, ap length popped, length-append rest (change ∷ []), c.loop-change.invariant.room,
-          c.undo.ensures.room);
+      room = omega (
+        arith,
+        ap length popped,
+        length-append rest (change ∷ []),
+        c.loop-change.invariant.room,
+        c.undo.ensures.room,
+      );
     }

@@ -1,4 +1,4 @@
-use Rattle.std.proofs.Common.{◌≡◌, ℕ, List, Some, None, sym, ap, ◌∙◌}
+use Rattle.std.proofs.Common.{ℕ, List, Some, None, sym, ap, ◌∙◌}
 use Rattle.hg_keys.specs.declared.bookmarks.Change.{Change}
 use Rattle.hg_keys.specs.Bookmarks.{with_bookmark}
 use Rattle.hg_keys.specs.code.Changes.{undone}

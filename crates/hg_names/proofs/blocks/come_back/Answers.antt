@@ -3,7 +3,7 @@ use Rattle.std.proofs.lemmas.Bool.{eqb-true}
 use Rattle.std.proofs.lemmas.Grind.{common_steps}
 use Rattle.std.proofs.lemmas.List.{nil_from_length}
 use Rattle.hg_names.specs.declared.blocks.Block.{Block}
-use Rattle.hg_names.specs.Names.{Pairs, with_name}
+use Rattle.hg_names.specs.Names.{with_name}
 use Rattle.hg_names.specs.code.Blocks.{pairs_in, place_at, IsFree}
 use Rattle.hg_names.proofs.Edits.{with_gap, with_first}
 use Rattle.hg_names.proofs.blocks.come_back.Goals as goal

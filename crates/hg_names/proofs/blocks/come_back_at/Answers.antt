@@ -1,11 +1,10 @@
-use Rattle.std.proofs.Common.{◌≡◌, ℕ, ◌+◌, ◌<◌, ◌≤◌, List, [], ◌∷◌, ◌++◌, length, get_or, sym, ap, ◌∙◌, subst, arith}
+use Rattle.std.proofs.Common.{◌≡◌, ◌+◌, ◌<◌, ◌≤◌, [], ◌∷◌, ◌++◌, length, sym, ap, ◌∙◌, subst, arith}
 use Rattle.std.specs.List.{insert, All}
 use Rattle.std.proofs.lemmas.List.Edits.{length-insert}
 use Rattle.std.proofs.lemmas.List.Elements.{All-set}
-use Rattle.hg_types.specs.declared.node.Node.{Node}
 use Rattle.hg_names.specs.declared.blocks.Block.{Block}
 use Rattle.hg_names.specs.Names.{Pairs}
-use Rattle.hg_names.specs.code.Blocks.{pairs_in, place_at, IsFilled, IsOpen}
+use Rattle.hg_names.specs.code.Blocks.{pairs_in, IsFilled}
 use Rattle.hg_names.proofs.Flat.{inserted, inserted_in_two}
 use Rattle.hg_names.proofs.Filled.{all_inserted}
 use Rattle.hg_names.proofs.Own.{items, where_ok}

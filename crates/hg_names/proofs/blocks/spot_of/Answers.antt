@@ -1,9 +1,8 @@
-use Rattle.std.proofs.Common.{◌≡◌, ℕ, ◌<◌, ◌≤◌, ◌+◌, List, length, sym, subst}
+use Rattle.std.proofs.Common.{◌<◌, ◌≤◌, length, sym, subst}
 use Rattle.std.proofs.lemmas.List.{get_or_read}
 use Rattle.hg_names.specs.declared.blocks.Block.{Block}
 use Rattle.hg_names.specs.Names.{Pairs, AreInOrder}
 use Rattle.hg_names.specs.code.Places.{IsAt, IsGap}
-use Rattle.hg_names.specs.code.Blocks.{pairs_in, IsOpen}
 use Rattle.hg_names.proofs.Own.{items}
 use Rattle.hg_names.proofs.Lookups.{block_order, at_in, gap_in}
 use Rattle.hg_names.proofs.blocks.spot_of.Goals as goal

@@ -1,7 +1,7 @@
-use Rattle.std.proofs.Common.{◌≡◌, ℕ, ◌<◌, List, length, Some, sym, ap, subst, ◌∙◌}
+use Rattle.std.proofs.Common.{ℕ, ◌<◌, List, length, Some, sym, ap, subst, ◌∙◌}
 use Rattle.hg_types.specs.declared.node.Node.{Node}
 use Rattle.hg_names.specs.declared.blocks.Block.{Block}
-use Rattle.hg_names.specs.Names.{Held, Pairs, AreInOrder, node_of}
+use Rattle.hg_names.specs.Names.{Held, AreInOrder, node_of}
 use Rattle.hg_names.specs.code.Blocks.{pairs_in, place_at, IsNamed, IsFree}
 use Rattle.hg_names.proofs.Own.{items, read_of}
 use Rattle.hg_names.proofs.Lookups.{found_at, none_at}

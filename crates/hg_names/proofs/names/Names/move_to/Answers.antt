@@ -1,7 +1,6 @@
-use Rattle.std.proofs.Common.{◌≡◌, ℕ, List, Some, sym, ap, subst, ◌∙◌, arith}
-use Rattle.hg_types.specs.declared.node.Node.{Node}
+use Rattle.std.proofs.Common.{List, sym, ap, subst, ◌∙◌}
 use Rattle.hg_names.specs.declared.blocks.Block.{Block}
-use Rattle.hg_names.specs.Names.{Held, Pairs, AreInOrder, node_of, with_name, without}
+use Rattle.hg_names.specs.Names.{Held, AreInOrder, with_name}
 use Rattle.hg_names.specs.code.Blocks.{pairs_in, place_at, IsNamed}
 use Rattle.hg_names.proofs.Edits.{with_moved}
 use Rattle.hg_names.proofs.names.Names.move_to.Goals as goal
