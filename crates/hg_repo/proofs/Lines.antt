@@ -1,11 +1,10 @@
 -- Lines of a report, one more at a time.
-use Rattle.std.proofs.Common.{◌≡◌, ◌∙◌, ℕ, ◌+◌, Bool, true, false, List, [], ◌∷◌, ◌++◌, take, Some, slice_get}
+use Rattle.std.proofs.Common.{◌≡◌, ◌∙◌, ℕ, ◌+◌, Bool, true, false, List, [], ◌∷◌, ◌++◌}
 use Rattle.std.proofs.Common.{ap, sym, arith}
 use Rattle.std.specs.Prelude.{decimal}
 use Rattle.std.specs.Int.{from_bool}
 use Rattle.std.specs.List.{flat_map, range_with_len}
-use Rattle.std.proofs.lemmas.List.{append_assoc, flat_map_more, take_more}
-use Rattle.std.proofs.lemmas.Option.{get_or_from_slice_get, slice_get_within}
+use Rattle.std.proofs.lemmas.List.{append_assoc, flat_map_more}
 use Rattle.std.proofs.lemmas.Fmt.{decimal_digit}
 use Rattle.hg_types.specs.declared.node.Node.{Node}
 use Rattle.hg_log.specs.Changeset.{Changeset}

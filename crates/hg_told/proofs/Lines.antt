@@ -166,6 +166,13 @@ line_left {X} test line all now next left xs x is so more =
     ∙ ap (λ (t : List ℕ). now ++ t) (line_first test line x xs)
     ∙ ap (λ (ys : List X). now ++ flat_map (ended 10) (map line (filter test ys))) (sym is) ∙ so
 
+-- a place in a list, and what is there
+pub taken_more : {X : Type 0} (xs : List X) (i : ℕ) (x : X) → slice_get xs i ≡ Some x
+    → take (i + 1) xs ≡ take i xs ++ x ∷ []
+taken_more xs i x here =
+    take_more xs i x (slice_get_within xs i x here)
+    ∙ ap (λ y. take i xs ++ y ∷ []) (get_or_from_slice_get xs i x x here)
+
 -- two runs of lines, one after the other
 pub lines_on : (before now next : List ℕ) (first second : List (List ℕ))
     → now ≡ before ++ flat_map (ended 10) first → next ≡ now ++ flat_map (ended 10) second
