@@ -15,7 +15,9 @@
 mod answering;
 mod body;
 mod budget;
+mod copies;
 mod key;
+mod long;
 mod looking;
 mod push;
 mod reading;
