@@ -24,6 +24,7 @@ impl<'a> Rest<'a> {
 
 /// The first group of a changegroup, which has its changesets, as its bytes come: of each chunk a number of four
 /// bytes, the chunk's length with itself, and then the chunk.
+#[derive(Drop)]
 struct Group {
     count: u64,
     /// What came of the next number, and how many bytes of it.
@@ -120,12 +121,12 @@ fn part(rest: &mut Rest<'_>, counts: bool) -> u64 {
 
 /// Whether a header is that of a changegroup: its first byte is the length of the type, which follows.
 fn is_changegroup(header: &[u8]) -> bool {
-    match header {
-        [length, behind, ..] => {
-            let kind = &behind[..behind.len().min(usize::from(*length))];
+    match header.split_first() {
+        Some((length, after)) => {
+            let kind = &after[..after.len().min(usize::from(*length))];
             kind.eq_ignore_ascii_case(b"changegroup")
         }
-        _ => false,
+        None => false,
     }
 }
 

@@ -8,8 +8,8 @@ use std::net::TcpStream;
 use std::sync::Wait;
 use std::time::{Clock, Duration, Instant};
 
-/// How long one read or write may wait before it is asked whether serving is over.
-const ONE_WAIT: Duration = Duration::from_secs(1);
+/// For how many seconds one read or write may wait before it is asked whether serving is over.
+const ONE_WAIT: u64 = 1;
 
 /// How many bytes have to come, or to be taken, in the time for which a connection may be silent.
 const LEAST: usize = 1_024;
@@ -141,7 +141,8 @@ fn is_passing(kind: ErrorKind) -> bool {
 
 /// Sets up a connection: small answers are not held back, and no use waits for long.
 pub fn set_up(stream: &TcpStream) -> io::Result<()> {
+    let wait = Some(Duration::from_secs(ONE_WAIT));
     stream.set_nodelay(true)?;
-    stream.set_read_timeout(Some(ONE_WAIT))?;
-    stream.set_write_timeout(Some(ONE_WAIT))
+    stream.set_read_timeout(wait)?;
+    stream.set_write_timeout(wait)
 }
