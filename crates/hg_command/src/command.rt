@@ -1,5 +1,8 @@
 //! The command line.
 
+use crate::archive::{cut, log, read_cut, read_log, read_report, report};
+use crate::hosting::{Hosting, host, read_hosting};
+use crate::options::publishing;
 use crate::serving::{Serving, read_serving, serve};
 use clap::error::ErrorKind;
 use clap::{Arg, ArgAction, ArgMatches, Command, Error};
@@ -20,14 +23,23 @@ pub enum Job<'a> {
     },
     /// Connections, each on a thread.
     Serve(Serving<'a>),
-}
-
-/// Whether the server publishes.
-pub fn publishing<'a>(alloc: Global) -> Arg<'a> {
-    Arg::new(alloc, "publishing")
-        .long("publishing")
-        .help("What is pushed becomes public")
-        .action(ArgAction::SetTrue)
+    /// A store, and connections over HTTP, until the process is ended.
+    Host(Hosting<'a>),
+    /// What a store holds, to standard output.
+    Report {
+        store: &'a str,
+    },
+    /// The bundles of a store from a place on, to standard output or each to a file of its own.
+    Log {
+        store: &'a str,
+        from: usize,
+        to: Option<&'a str>,
+    },
+    /// The end of a store before a place.
+    Cut {
+        store: &'a str,
+        at: usize,
+    },
 }
 
 fn one<'a>(alloc: Global) -> Result<Command<'a>, AllocError> {
@@ -53,7 +65,7 @@ fn replay<'a>(alloc: Global) -> Result<Command<'a>, AllocError> {
 /// How the program ends.
 const STATUSES: &str =
     "Status: 0 where all is done, 1 where a push was aborted, 2 where the words are wrong, \
-3 where a device failed, 4 where memory was refused.";
+3 where a device failed or the store cannot be had, 4 where memory was refused.";
 
 fn command<'a>(alloc: Global) -> Result<Command<'a>, AllocError> {
     let command = Command::new(alloc, "hg_pushd")
@@ -64,7 +76,11 @@ fn command<'a>(alloc: Global) -> Result<Command<'a>, AllocError> {
         .subcommand(one(alloc)?)?;
     command
         .subcommand(replay(alloc)?)?
-        .subcommand(serve(alloc)?)
+        .subcommand(serve(alloc)?)?
+        .subcommand(host(alloc)?)?
+        .subcommand(report(alloc)?)?
+        .subcommand(log(alloc)?)?
+        .subcommand(cut(alloc)?)
 }
 
 /// The files that are named.
@@ -82,6 +98,10 @@ fn read<'a>(alloc: Global, matches: &ArgMatches<'a>) -> Result<Job<'a>, AllocErr
             files: files_of(alloc, inner)?,
         }),
         Some(("serve", inner)) => Ok(Job::Serve(read_serving(inner))),
+        Some(("host", inner)) => Ok(Job::Host(read_hosting(inner))),
+        Some(("report", inner)) => Ok(read_report(inner)),
+        Some(("log", inner)) => Ok(read_log(inner)),
+        Some(("cut", inner)) => Ok(read_cut(inner)),
         Some((_, inner)) => Ok(Job::One {
             publishing: inner.get_flag("publishing"),
         }),

@@ -5,10 +5,14 @@
 //! answer is the status. [`tell`] prints the line of a status.
 #![tactic(auto)]
 
+mod archive;
 mod command;
+mod hosting;
+mod options;
 mod serving;
 mod telling;
 
 pub use command::{Job, job_of, status_of, unreadable};
+pub use hosting::Hosting;
 pub use serving::Serving;
 pub use telling::{asked_for, line_of, tell, words};

@@ -1,7 +1,7 @@
 //! The words after `serve`.
 
-use crate::command::publishing;
-use clap::{Arg, ArgAction, ArgMatches, Command, value_parser};
+use crate::options::{capacity, number, number_of, publishing, word, word_of};
+use clap::{ArgMatches, Command, value_parser};
 use std::alloc::{AllocError, Global};
 
 /// What `serve` is asked for.
@@ -32,34 +32,25 @@ impl Serving<'_> {
     }
 }
 
-fn number<'a>(alloc: Global, name: &'a str, help: &'a str, most: i64, default: &'a str) -> Arg<'a> {
-    Arg::new(alloc, name)
-        .long(name)
-        .value_name("N")
-        .help(help)
-        .value_parser(value_parser!(u32).range(1..=most))
-        .default_value(default)
-}
-
-fn word<'a>(alloc: Global, name: &'a str, value: &'a str, help: &'a str) -> Arg<'a> {
-    Arg::new(alloc, name)
-        .long(name)
-        .value_name(value)
-        .help(help)
-        .action(ArgAction::Set)
-}
-
 /// The command `serve`.
 pub fn serve<'a>(alloc: Global) -> Result<Command<'a>, AllocError> {
-    let connections = Arg::new(alloc, "connections")
-        .long("connections")
-        .value_name("N")
-        .help("How many connections are accepted, 1 to 1024; the server ends behind the last")
-        .value_parser(value_parser!(u32).range(1..=1024))
-        .required(true);
+    let connections = number(
+        alloc,
+        "connections",
+        "N",
+        "How many connections are accepted, 1 to 1024; the server ends after the last",
+        value_parser!(u32).range(1..=1024),
+    );
+    let bundles = number(
+        alloc,
+        "bundles",
+        "N",
+        "How many bundles a connection may send, 1 to 10000",
+        value_parser!(u32).range(1..=10_000),
+    );
     Command::new(alloc, "serve")
         .about("Serves TCP connections, and writes the report and the journal at the end")
-        .after_help(BEHIND)
+        .after_help(AFTER)
         .arg(word(
             alloc,
             "listen",
@@ -67,48 +58,29 @@ pub fn serve<'a>(alloc: Global) -> Result<Command<'a>, AllocError> {
             "Where connections are accepted, as 127.0.0.1:8090; with port 0 on a free port, which is told",
         )
         .required(true))?
-        .arg(connections)?
-        .arg(number(
-            alloc,
-            "capacity",
-            "How many items of pushes the queue holds, 1 to 65536",
-            65_536,
-            "64",
-        ))?
-        .arg(number(
-            alloc,
-            "bundles",
-            "How many bundles a connection may send, 1 to 10000",
-            10_000,
-            "1",
-        ))?
+        .arg(connections.required(true))?
+        .arg(capacity(alloc, "N"))?
+        .arg(bundles.default_value("1"))?
         .arg(publishing(alloc))?
         .arg(word(alloc, "seed", "FILE", "A bundle that is run first"))?
         .arg(word(alloc, "report", "FILE", "Where the report is written").required(true))
 }
 
 /// An example, and what becomes of a connection after its last reply.
-const BEHIND: &str =
+const AFTER: &str =
     "Example: hg_pushd serve --listen 127.0.0.1:8090 --connections 100 --report report.txt\n\n\
-Behind its last reply a connection is shut down for writing, and what its client \
+After its last reply a connection is shut down for writing, and what its client \
 still sends is read and dropped, up to 67108864 bytes and for up to 5 seconds.";
-
-fn number_of(matches: &ArgMatches<'_>, name: &str) -> u32 {
-    match matches.get_one::<u32>(name) {
-        Some(number) => number,
-        None => 1,
-    }
-}
 
 /// Reads what stands after `serve`.
 pub fn read_serving<'a>(matches: &ArgMatches<'a>) -> Serving<'a> {
     Serving {
-        listen: matches.get_str("listen").unwrap_or(""),
+        listen: word_of(matches, "listen"),
         connections: number_of(matches, "connections"),
         capacity: number_of(matches, "capacity"),
         bundles: number_of(matches, "bundles"),
         publishing: matches.get_flag("publishing"),
         seed: matches.get_str("seed"),
-        report: matches.get_str("report").unwrap_or(""),
+        report: word_of(matches, "report"),
     }
 }

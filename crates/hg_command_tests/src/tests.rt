@@ -1,5 +1,6 @@
 //! What the command line asks for.
 
+mod store_words;
 mod words;
 
 use std::test::*;

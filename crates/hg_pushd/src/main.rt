@@ -4,18 +4,23 @@
 //! `hg_pushd replay` runs the bundles of files, one after the other, and writes a report of what the
 //! repository then holds. [`hg_replay::run_one`] and [`hg_replay::run_replay`] are these from any readers to
 //! any writer, proved from the bytes read to the bytes written. `hg_pushd serve` accepts connections and
-//! serves each on a thread: [`serve::serve_on`] is that, from its seed to its report, over `hg_server`. What
-//! readers and writers tell of how they were used is said by `hg_devices`, and the command line is read by
-//! `hg_command`.
+//! serves each on a thread: [`serve::serve_on`] is that, from its seed to its report, over `hg_server`.
+//! `hg_pushd report`, `hg_pushd log` and `hg_pushd cut` read a store and end it: [`archive`] has them, over
+//! `hg_archive`. What readers and writers tell of how they were used is said by `hg_devices`, and the command
+//! line is read by `hg_command`.
 #![tactic(auto)]
 
+mod archive;
 mod door;
+mod host;
 mod report;
 mod serve;
+mod standard;
 
 use crate::door::Listening;
 use crate::report::Report;
 use crate::serve::serve_on;
+use crate::standard::{device_status, take_closed};
 use hg_command::{Job, Serving, asked_for, tell, words};
 use hg_replay::{run_one, run_replay};
 use hg_server::Terms;
@@ -24,15 +29,11 @@ use std::hash::RandomState;
 use std::io;
 use std::io::Input;
 use std::net::{Net, TcpListener, TcpStream};
-use std::os::fd::AsRawFd;
 use std::process::ExitCode;
 use std::random::RandomSource;
 use std::sync::Wait;
 use std::thread::Threads;
 use std::time::Clock;
-
-/// How many standard descriptors there are.
-const STANDARD: i32 = 3;
 
 /// The files of these names, opened in their order. Of one that does not open the status is told.
 fn open_all<R: Files<File = File> + AllocGlobal>(rt: &R, names: &[&str]) -> Result<Vec<File>, u8> {
@@ -53,12 +54,15 @@ fn open<R: Files<File = File>>(rt: &R, name: &str) -> Result<File, u8> {
     }
 }
 
-/// The status where a file or a socket could not be had.
-fn device_status(error: &io::Error) -> u8 {
-    match error.kind() {
-        io::ErrorKind::OutOfMemory => 4,
-        _ => 3,
-    }
+/// Runs one push from standard input.
+fn push_one<R: Input + Print + AllocGlobal>(rt: &R, state: RandomState, publishing: bool) -> u8 {
+    run_one(
+        rt.alloc(),
+        state,
+        &mut rt.reader(),
+        &mut io::writer(rt),
+        publishing,
+    )
 }
 
 /// Replays the pushes of these files. Where one does not open, nothing is run.
@@ -80,20 +84,6 @@ fn replay_files<R: Files<File = File> + AllocGlobal + Print>(
     }
 }
 
-/// Takes the standard descriptors that are closed. A file of the program's would have their number, and get
-/// what is written to standard output or standard error. A folder takes nothing.
-fn take_closed<R: Files<File = File> + AllocGlobal>(rt: &R) -> io::Result<Vec<File>> {
-    let mut taken = Vec::new(rt.alloc());
-    for _ in 0..STANDARD {
-        let folder = File::open(rt, "/")?;
-        if folder.as_raw_fd() >= STANDARD {
-            break;
-        }
-        taken.push(folder)?;
-    }
-    Ok(taken)
-}
-
 /// Opens the seed, binds, and makes the file of the report, in this order; then serves. Where the system is
 /// to pick the port, the address is told on standard output before the first accept. What fails before the
 /// seed is run is the error, and so is a whole report that cannot be put in its place.
@@ -108,7 +98,6 @@ where
         + Clock
         + Sync,
 {
-    let _taken = take_closed(rt)?;
     let mut seed = match serving.seed {
         Some(path) => Some(File::open(rt, path)?),
         None => None,
@@ -135,8 +124,22 @@ where
     Ok(status)
 }
 
-/// Does what these words ask for, and gives the status. A system that gives no random bytes is a device that
-/// failed.
+/// The status of what serves connections, where it could be set up.
+fn served(outcome: io::Result<u8>) -> u8 {
+    match outcome {
+        Ok(status) => status,
+        Err(error) => device_status(&error),
+    }
+}
+
+/// Tells the status on standard error, and gives it.
+fn told<R: Eprint>(rt: &R, status: u8) -> u8 {
+    tell(rt, status);
+    status
+}
+
+/// Does what these words ask for, and gives the status, which is told. A system that gives no random bytes is
+/// a device that failed.
 fn obey<R>(rt: &R, words: &[String]) -> u8
 where
     R: RandomSource
@@ -153,32 +156,39 @@ where
 {
     let job = match asked_for(rt, words) {
         Ok(job) => job,
-        Err(status) => return status,
+        Err(status) => return told(rt, status),
     };
     let Ok(state) = RandomState::new(rt) else {
-        return 3;
+        return told(rt, 3);
+    };
+    let _taken = match take_closed(rt) {
+        Ok(taken) => taken,
+        Err(error) => return told(rt, device_status(&error)),
     };
     match &job {
-        Job::One { publishing } => run_one(
-            rt.alloc(),
-            state,
-            &mut rt.reader(),
-            &mut io::writer(rt),
-            *publishing,
-        ),
-        Job::Replay { publishing, files } => replay_files(rt, state, *publishing, files),
-        Job::Serve(serving) => match serve_files(rt, state, serving) {
-            Ok(status) => status,
-            Err(error) => device_status(&error),
-        },
+        Job::One { publishing } => told(rt, push_one(rt, state, *publishing)),
+        Job::Replay { publishing, files } => told(rt, replay_files(rt, state, *publishing, files)),
+        Job::Serve(serving) => told(rt, served(serve_files(rt, state, serving))),
+        Job::Host(hosting) => host::host(rt, state, hosting),
+        Job::Report { store } => archive::report(rt, rt.alloc(), state, store, &mut io::writer(rt)),
+        Job::Log {
+            store,
+            from,
+            to: None,
+        } => archive::log(rt, rt.alloc(), store, *from, &mut io::writer(rt)),
+        Job::Log {
+            store,
+            from,
+            to: Some(folder),
+        } => archive::log_to(rt, rt.alloc(), store, *from, folder),
+        Job::Cut { store, at } => archive::cut(rt, rt.alloc(), store, *at),
     }
 }
 
 fn main(rt: HostRuntime) -> ExitCode {
     let status = match words(&rt) {
         Ok(words) => obey(&rt, &words),
-        Err(status) => status,
+        Err(status) => told(&rt, status),
     };
-    tell(&rt, status);
     ExitCode::from(status)
 }

@@ -6,7 +6,7 @@ use hg_command::{Job, job_of, line_of, status_of};
 use std::alloc::{AllocError, Global};
 
 /// The program's name, and these words.
-fn spoken(alloc: Global, words: &[&str]) -> Result<Vec<String>, Fail> {
+pub fn spoken(alloc: Global, words: &[&str]) -> Result<Vec<String>, Fail> {
     let mut all = Vec::new(alloc);
     all.push(String::from_str(alloc, "hg_pushd")?)?;
     for word in words {
@@ -107,7 +107,7 @@ fn many_words(rt: HostRuntime) -> Result<(), Fail> {
 }
 
 /// The status of words that ask for nothing, or none where they ask for something.
-fn refused(alloc: Global, words: &[&str]) -> Result<Option<u8>, Fail> {
+pub fn refused(alloc: Global, words: &[&str]) -> Result<Option<u8>, Fail> {
     Ok(match job_of(alloc, &spoken(alloc, words)?) {
         Ok(_) => None,
         Err(error) => Some(status_of(&error)),
