@@ -49,9 +49,13 @@ impl Group {
     /// Looks at more bytes.
     fn feed(&mut self, bytes: &[u8]) {
         let mut rest = Rest { bytes };
-        while !self.is_over && !rest.bytes.is_empty() {
+        'looking: for _ in 0..bytes.len() {
+            if self.is_over || rest.bytes.is_empty() {
+                return;
+            }
             if self.left > 0 {
-                self.left -= rest.take(self.left).len();
+                let skipped = rest.take(self.left).len();
+                self.left = self.left.saturating_sub(skipped);
             } else if let [byte] = rest.take(1) {
                 self.push(*byte);
             }
@@ -60,8 +64,8 @@ impl Group {
 
     /// Takes one byte of a number. One that is no longer than itself ends the group.
     fn push(&mut self, byte: u8) {
-        self.number = (self.number & 0xff_ffff) * 256 + u32::from(byte);
-        self.came += 1;
+        self.number = (self.number << 8) | u32::from(byte);
+        self.came = self.came.saturating_add(1);
         if self.came < 4 {
             return;
         }
@@ -83,7 +87,7 @@ pub fn brought_by(bundle: &[u8]) -> u64 {
     let params = rest.number();
     rest.take(size(params));
     let mut count = 0u64;
-    while !rest.bytes.is_empty() {
+    'parts: for _ in 0..bundle.len() {
         let header = rest.number();
         if header <= 0 {
             break;
@@ -98,9 +102,8 @@ pub fn brought_by(bundle: &[u8]) -> u64 {
 fn part(rest: &mut Rest<'_>, counts: bool) -> u64 {
     let mut group = Group::new();
     let mut is_inside = false;
-    while !rest.bytes.is_empty() {
-        let chunk = rest.number();
-        match chunk {
+    'chunks: for _ in 0..rest.bytes.len() {
+        match rest.number() {
             0 if is_inside => is_inside = false,
             0 => break,
             -1 => {
@@ -108,7 +111,7 @@ fn part(rest: &mut Rest<'_>, counts: bool) -> u64 {
                 rest.take(size(header));
                 is_inside = true;
             }
-            _ => {
+            chunk => {
                 let bytes = rest.take(size(chunk));
                 if counts && !is_inside {
                     group.feed(bytes);
