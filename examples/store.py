@@ -1,0 +1,429 @@
+"""Stores made by hand, read and ended by the built program: store.py PROGRAM [NAME..]
+
+Each case writes the file of a store byte by byte, as its format is, and runs `report`, `log`, `cut` or `replay`. It
+compares the status, standard output, the lines on standard error, and every file below the case's own folder.
+"""
+import fcntl
+import glob
+import hashlib
+import os
+import struct
+import subprocess
+import sys
+import tempfile
+
+from bundles import CAPS, EMPTY, NULL, ROOT_PUSH, bundle, group, heads
+
+PROGRAM = os.path.abspath(sys.argv[1])
+HERE = os.path.dirname(os.path.abspath(__file__))
+LIMITS = (65536, 67108864, 268435456, 10000, 16777216, 1024, 2147483647)
+HEAD = 38
+SHUT = b"\0"
+CASES = []
+
+
+class Wrong(Exception):
+    pass
+
+
+def case(body):
+    CASES.append(body)
+    return body
+
+
+def want(what, got, wanted):
+    if got != wanted:
+        raise Wrong(f"{what}: {str(got)[:400]}, not {str(wanted)[:400]}")
+
+
+def sha1(data):
+    return hashlib.sha1(data).digest()
+
+
+def head(publishing=False):
+    return struct.pack(">8sBB7I", b"HGPUSHES", 1, publishing, *LIMITS)
+
+
+def store_of(bundles, publishing=False, end=SHUT):
+    """The bytes of a store, and the places where its head and each of its records end."""
+    made = head(publishing)
+    digest, ends = sha1(made), [len(made)]
+    for it in bundles:
+        digest = sha1(digest + sha1(it))
+        made += struct.pack(">BI", 1, len(it)) + digest + it
+        ends.append(len(made))
+    return made + end, ends
+
+
+def read(path):
+    with open(path, "rb") as file:
+        return file.read()
+
+
+def found_in(folder):
+    """Every file and folder below a folder, with its bytes."""
+    found = {}
+    for place, _, names in os.walk(folder):
+        found[os.path.relpath(place, folder)] = None
+        found.update((os.path.relpath(f"{place}/{it}", folder), read(f"{place}/{it}")) for it in names)
+    return found
+
+
+class Room:
+    """A folder of its own, in which stores are written and the program is run."""
+
+    def __init__(self, folder):
+        self.folder = folder
+
+    def path(self, name):
+        return f"{self.folder}/{name}"
+
+    def store(self, data, name="store"):
+        os.makedirs(self.path(name), exist_ok=True)
+        with open(self.path(f"{name}/pushes"), "wb") as file:
+            file.write(data)
+
+    def start(self, *words, **how):
+        how = {"stdout": subprocess.PIPE, "stderr": subprocess.PIPE, **how}
+        return subprocess.run([PROGRAM, *words], cwd=self.folder, stdin=subprocess.DEVNULL, check=False, timeout=60,
+                              **how)
+
+    def run(self, words, output=b"", status=0, line=""):
+        """Runs the program, which has to write that output, to tell that line, and to end with that status."""
+        done, name = self.start(*words.split()), f"`{words}`"
+        want(f"status of {name}", (done.returncode, done.stderr.decode()), (status, line and f"hg_pushd: {line}\n"))
+        want(f"output of {name}", done.stdout, output)
+
+    def looks(self, words, output=b"", status=0, line=""):
+        """The same of a command that changes and makes nothing."""
+        before = found_in(self.folder)
+        self.run(words, output, status, line)
+        want(f"files after `{words}`", found_in(self.folder), before)
+
+
+class Row:
+    """The pushes of an example that are done, and what the repository then holds."""
+
+    def __init__(self, folder):
+        self.publishing = os.path.exists(f"{folder}/publishing")
+        statuses = read(f"{folder}/statuses").split()
+        files = sorted(glob.glob(f"{folder}/*.hg20"))
+        self.files = [path for path, status in zip(files, statuses, strict=True) if status == b"0"]
+        self.bundles = [read(it) for it in self.files]
+        self.report = read(f"{folder}/report")
+
+    def store(self):
+        return store_of(self.bundles, self.publishing)[0]
+
+    def words(self):
+        return "replay --publishing" if self.publishing else "replay"
+
+
+def rows():
+    return [Row(os.path.dirname(it)) for it in sorted(glob.glob(f"{HERE}/pushes/*/report"))]
+
+
+def row(name):
+    return Row(f"{HERE}/pushes/{name}")
+
+
+def journal(count):
+    return b"".join(b"J %d\n" % place for place in range(count))
+
+
+def replayed(room, words):
+    done = room.start(*words.split())
+    want(f"status of `{words}`", done.returncode, 0)
+    return done.stdout
+
+
+def root_report():
+    return b"C 0 b80de5d138758541c5f05265ad144ab9fa86d1db 1 0\n"
+
+
+@case
+def the_head_of_a_store(room):
+    """A head has 38 bytes, and a store without pushes an empty report."""
+    data, ends = store_of([], end=b"")
+    want("length of a head", (len(data), ends), (HEAD, [HEAD]))
+    for end in (b"", SHUT, SHUT + b"what stands there is not looked at"):
+        room.store(data + end)
+        room.looks("report --store store")
+        room.looks("log --store store")
+
+
+@case
+def each_row_is_reported(room):
+    """What Mercurial's server held after the pushes of each row, whether it publishes or not."""
+    for it in rows():
+        room.store(it.store())
+        room.looks("report --store store", it.report + journal(len(it.bundles)))
+
+
+@case
+def each_row_is_logged(room):
+    """All bundles, and those from each place on; from a place after the last there is none."""
+    for it in rows():
+        room.store(it.store())
+        room.looks("log --store store", b"".join(it.bundles))
+        for first in range(len(it.bundles) + 2):
+            room.looks(f"log --store store --from {first}", b"".join(it.bundles[first:]))
+        room.looks("log --store store --from 18446744073709551615")
+
+
+@case
+def a_log_is_replayed(room):
+    """Each bundle in a file of its own, named by its place: these files have the same report."""
+    for number, it in enumerate(rows()):
+        room.store(it.store())
+        before, folder = found_in(room.path("store")), f"log-{number}"
+        room.run(f"log --store store --to {folder}")
+        named = [f"{place:010}" for place in range(len(it.bundles))]
+        want("files of a log", found_in(room.path(folder)), {".": None, **dict(zip(named, it.bundles))})
+        want("the store after its log", found_in(room.path("store")), before)
+        files = " ".join(f"{folder}/{name}" for name in named)
+        want("report of a replayed log", replayed(room, f"{it.words()} {files}"), it.report)
+
+
+@case
+def a_log_goes_on(room):
+    """From a place on, into a folder that is there; a file that is there is not written over."""
+    it = row("merge")
+    room.store(it.store())
+    os.mkdir(room.path("log"))
+    room.run("log --store store --from 1 --to log")
+    wanted = {".": None, **{f"{place:010}": it.bundles[place] for place in range(1, len(it.bundles))}}
+    want("files of the log", found_in(room.path("log")), wanted)
+    with open(room.path("log/0000000001"), "wb") as file:
+        file.write(b"mine")
+    wanted |= {"0000000000": it.bundles[0], "0000000001": b"mine"}
+    room.run("log --store store --to log", status=3, line="log/0000000001: there is a file already")
+    want("files of a refused log", found_in(room.path("log")), wanted)
+    room.looks("log --store store --to log", status=3, line="log/0000000000: there is a file already")
+    before = found_in(room.folder)
+    done = room.start("log", "--store", "store", "--to", "missing/log")
+    want("a folder that cannot be made", (done.returncode, done.stderr[:21]), (3, b"hg_pushd: missing/log"))
+    want("files after it", found_in(room.folder), before)
+
+
+@case
+def a_cut_at_each_place(room):
+    """What is left is the store of the pushes before it, and what is cut is kept beside it."""
+    for it in (row("merge"), row("publishing")):
+        for place in range(len(it.bundles)):
+            name = f"{len(it.bundles)}-{place}"
+            room.store(it.store(), name)
+            room.run(f"cut --store {name} --at {place}")
+            left = store_of(it.bundles[:place], it.publishing)[0]
+            kept = b"".join(it.bundles[place:])
+            want("files of a cut", found_in(room.path(name)), {".": None, "pushes": left, f"pushes.cut-{place}": kept})
+            report = replayed(room, f"{it.words()} {' '.join(it.files[:place])}") if place else b""
+            room.looks(f"report --store {name}", report + journal(place))
+            room.looks(f"cut --store {name} --at {place}", status=3,
+                       line=f"{name}/pushes: no such place behind {place} pushes")
+
+
+@case
+def a_cut_at_no_place(room):
+    it = row("merge")
+    room.store(it.store())
+    count = len(it.bundles)
+    for place in (count, count + 1, 2**64 - 1):
+        room.looks(f"cut --store store --at {place}", status=3,
+                   line=f"store/pushes: no such place behind {count} pushes")
+
+
+@case
+def what_is_kept_is_not_written_over(room):
+    it = row("merge")
+    room.store(it.store())
+    with open(room.path("store/pushes.cut-1"), "wb") as file:
+        file.write(b"mine")
+    room.looks("cut --store store --at 1", status=3, line="store/pushes.cut-1: there is a file already")
+
+
+@case
+def beside_a_process_that_holds_it(room):
+    """A held store is read and not cut. Let go, it is cut."""
+    it = row("merge")
+    room.store(it.store())
+    with open(room.path("store/pushes"), "rb") as file:
+        fcntl.flock(file, fcntl.LOCK_EX | fcntl.LOCK_NB)
+        room.looks("report --store store", it.report + journal(len(it.bundles)))
+        room.looks("log --store store", b"".join(it.bundles))
+        room.run("log --store store --to log")
+        room.looks("cut --store store --at 1", status=3, line="store/pushes: another process holds the store")
+    room.run("cut --store store --at 1")
+
+
+TWO = (EMPTY, ROOT_PUSH)
+
+
+def torn(folder, whole):
+    return f"{folder}/pushes: torn: {whole} pushes are whole; `hg_pushd cut --store {folder} --at {whole}` ends it there"
+
+
+@case
+def a_store_cut_at_each_of_its_lengths(room):
+    """Below 38 bytes it is no store. After that its whole records are given, and it is told where it is torn."""
+    data, ends = store_of(TWO)
+    refused = "store/pushes: no store: a file that is shorter than a head"
+    for length in range(HEAD):
+        room.store(data[:length])
+        for words in ("report --store store", "log --store store", "cut --store store --at 0"):
+            room.looks(words, status=3, line=refused)
+    for length in range(HEAD, len(data) + 1):
+        room.store(data[:length])
+        whole = sum(it <= length for it in ends) - 1
+        line = "" if length in (*ends, len(data)) else torn("store", whole)
+        room.looks("report --store store", (b"", b"", root_report())[whole] + journal(whole), line=line)
+        room.looks("log --store store", b"".join(TWO[:whole]), line=line)
+
+
+@case
+def a_torn_store_is_ended(room):
+    """The log of a torn store has its whole pushes, and the cut that its line names mends it."""
+    data, ends = store_of(TWO)
+    for number, length in enumerate((ends[0] + 1, ends[1] - 1, ends[1] + 1, ends[2] - 1)):
+        whole, name = (0, 0, 1, 1)[number], f"store-{number}"
+        room.store(data[:length], name)
+        room.run(f"log --store {name} --to log-{number}", line=torn(name, whole))
+        wanted = {".": None, **{f"{place:010}": TWO[place] for place in range(whole)}}
+        want("log of a torn store", found_in(room.path(f"log-{number}")), wanted)
+        room.run(f"cut --store {name} --at {whole}")
+        left = {".": None, "pushes": store_of(TWO[:whole])[0], f"pushes.cut-{whole}": b""}
+        want("files of a torn store that was cut", found_in(room.path(name)), left)
+        room.looks(f"report --store {name}", journal(whole))
+
+
+@case
+def one_byte_changed(room):
+    """Each byte of a digest and of a bundle in turn, in the first record and in the last."""
+    data, ends = store_of(TWO)
+    for place in (0, 1):
+        for at in range(ends[place] + 5, ends[place + 1]):
+            room.store(data[:at] + bytes([data[at] ^ 1]) + data[at + 1:])
+            line = f"store/pushes: damage at place {place}"
+            room.looks("report --store store", status=3, line=line)
+            room.looks("log --store store", status=3, line=line)
+    room.run("log --store store --to log", status=3, line="store/pushes: damage at place 1")
+    want("files of its log", found_in(room.path("log")), {".": None})
+
+
+@case
+def a_gate_or_a_size_changed(room):
+    """A gate that is neither open nor shut, a shorter record, records in another order."""
+    data, ends = store_of(TWO)
+    line = "store/pushes: damage at place 1"
+    for gate in (2, 3, 128, 255):
+        room.store(data[:ends[1]] + bytes([gate]) + data[ends[1] + 1:])
+        room.looks("report --store store", status=3, line=line)
+    size = len(ROOT_PUSH)
+    room.store(data[:ends[1] + 1] + struct.pack(">I", size - 1) + data[ends[1] + 5:])
+    room.looks("report --store store", status=3, line=line)
+    room.store(data[:ends[1] + 1] + struct.pack(">I", size + 2) + data[ends[1] + 5:])
+    room.looks("report --store store", journal(1), line=torn("store", 1))
+    room.store(data[:ends[1]] + SHUT + data[ends[1] + 1:])
+    room.looks("report --store store", journal(1))
+    room.store(data[:HEAD] + data[ends[1]:ends[2]] + data[HEAD:ends[1]] + SHUT)
+    room.looks("report --store store", status=3, line="store/pushes: damage at place 0")
+
+
+@case
+def a_damaged_store_is_ended(room):
+    """Before its damage, and before a whole record."""
+    data, ends = store_of(TWO)
+    damaged = data[:ends[2] - 1] + bytes([data[ends[2] - 1] ^ 1]) + SHUT
+    room.store(damaged)
+    room.looks("cut --store store --at 2", status=3, line="store/pushes: no such place behind 1 pushes")
+    room.run("cut --store store --at 1")
+    want("the damaged store that was cut", read(room.path("store/pushes")), store_of(TWO[:1])[0])
+    room.looks("report --store store", journal(1))
+
+
+@case
+def a_head_changed(room):
+    """Another magic, version or publishing byte, and limits that are not allowed."""
+    data = store_of(TWO)[0]
+    for at, byte, why in ((0, b"h", "another magic"), (8, b"\2", "another version"),
+                          (9, b"\2", "a publishing byte that is neither 0 nor 1")):
+        room.store(data[:at] + byte + data[at + 1:])
+        for words in ("report --store store", "log --store store", "cut --store store --at 0"):
+            room.looks(words, status=3, line=f"store/pushes: no store: {why}")
+    room.store(data[:14] + bytes([255, 255, 255, 255]) + data[18:])
+    room.looks("report --store store", status=3, line="store/pushes: no store: limits that are not allowed")
+
+
+@case
+def a_record_that_is_not_done(room):
+    """A push that is refused when it is run again, and one that is no bundle: logged, and not reported."""
+    raced = bundle(CAPS, heads(b"\1" * 20))
+    room.store(store_of((ROOT_PUSH, raced))[0])
+    room.looks("log --store store", ROOT_PUSH + raced)
+    room.looks("report --store store", status=3,
+               line="store/pushes: damage at place 1: a push that is not done when it is run again")
+    room.store(store_of((ROOT_PUSH, ROOT_PUSH[:-1]))[0])
+    room.looks("report --store store", status=3, line="store/pushes: damage at place 1: no bundle")
+
+
+@case
+def no_store(room):
+    """No folder, and a folder without the file: nothing is made."""
+    for name in ("missing", "empty"):
+        line = f"{name}/pushes: no store"
+        for words in (f"report --store {name}", f"log --store {name}", f"log --store {name} --to log",
+                      f"cut --store {name} --at 0"):
+            room.looks(words, status=3, line=line)
+        os.makedirs(room.path("empty"), exist_ok=True)
+    room.store(b"")
+    room.looks("report --store store", status=3, line="store/pushes: no store: a file that is shorter than a head")
+
+
+@case
+def a_publishing_store(room):
+    """Its head says that it publishes: what is draft in one store is public in the other."""
+    push = bundle(CAPS, group((b"", NULL)))
+    for publishes, phase in ((False, b"1"), (True, b"0")):
+        room.store(store_of((push,), publishes)[0])
+        room.looks("report --store store", root_report()[:-4] + phase + b" 0\n" + journal(1))
+
+
+@case
+def outputs_that_fail(room):
+    """A full device for the output, and closed descriptors: no line gets into the store."""
+    it = row("merge")
+    room.store(it.store())
+    before = found_in(room.folder)
+    for command in ("report", "log"):
+        with open("/dev/full", "wb") as full:
+            done = room.start(command, "--store", "store", stdout=full)
+        want("a full device", (done.returncode, done.stderr),
+             (3, b"hg_pushd: standard output: the output failed\n"))
+    for closing in ("2>&-", "<&- 2>&-", "1>&- 2>&-", "0>&- 1>&- 2>&-"):
+        for words in ("cut --store store --at 99", "report --store none", "log --store none"):
+            done = subprocess.run(["sh", "-c", f'exec "$0" {words} {closing}', PROGRAM], cwd=room.folder, check=False,
+                                  timeout=60)
+            want(f"status of `{words} {closing}`", done.returncode, 3)
+    want("files after them", found_in(room.folder), before)
+    done = subprocess.run(["sh", "-c", 'exec "$0" cut --store store --at 1 <&- 1>&- 2>&-', PROGRAM], cwd=room.folder,
+                          check=False, timeout=60)
+    want("status of a cut without descriptors", done.returncode, 0)
+    want("the store after it", read(room.path("store/pushes")), store_of(it.bundles[:1])[0])
+
+
+def main():
+    failed, names = 0, sys.argv[2:]
+    cases = [it for it in CASES if not names or it.__name__ in names]
+    for body in cases:
+        with tempfile.TemporaryDirectory(prefix="store-") as folder:
+            try:
+                body(Room(folder))
+            except (Wrong, OSError, subprocess.TimeoutExpired) as error:
+                print(f"{body.__name__}: {error}")
+                failed += 1
+    print(f"Stores: {len(cases) - failed} of {len(cases)} cases as wanted.")
+    return 1 if failed or not cases else 0
+
+
+if __name__ == "__main__":
+    sys.exit(main())
