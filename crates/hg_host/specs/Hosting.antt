@@ -1,6 +1,5 @@
 -- A store that is served.
-use Rattle.std.specs.Prelude.{ℕ, ◌≡◌, Bool, List, Option, length}
-use Rattle.hg_types.specs.declared.item.Taken.{Taken}
+use Rattle.std.specs.Prelude.{ℕ, ◌≡◌, Bool, List, [], ◌∷◌, length}
 use Rattle.hg_types.specs.Limits.{standard_limits}
 use Rattle.hg_store.specs.declared.head.Head.{Head}
 use Rattle.hg_store.specs.Log.{IsSettled}
@@ -19,10 +18,14 @@ pub record IsRecovered {A : Type 0} (publishing : Bool) (head : Head) (records :
   pub head_is : head ≡ head_of publishing
   pub ran : Replays head.limits (empty_repository publishing) records repo
 
--- The store has these records, all of them on the device, and they lead to the repository.
-pub record IsOpened {D : Type 0} (seen : D → List ℕ) (may_leave : D → List ℕ → Type 0) (publishing : Bool)
-    (opened : Recovered D) : Type 0 where
-  pub records : List (List ℕ)
-  pub settled : IsSettled seen may_leave (head_of publishing) records opened.log
-  pub recovered : IsRecovered publishing (head_of publishing) records opened.repo
-  pub count : opened.stored ≡ length records
+-- the records that were noted when a store was opened
+abbrev pub records_of : List (List (List ℕ) × ℕ) → List (List ℕ)
+records_of [] = []
+records_of (noted ∷ more) = noted.0
+
+-- The store has the records that it was opened with, all of them on the device, and they lead to the repository.
+pub record IsOpened {D : Type 0} (seen : D → List ℕ) (may_leave : D → List ℕ → Type 0) (opened : Recovered D) :
+    Type 0 where
+  pub settled : IsSettled seen may_leave (head_of opened.publishing) (records_of opened.records.items) opened.log
+  pub recovered : IsRecovered opened.publishing (head_of opened.publishing) (records_of opened.records.items) opened.repo
+  pub count : opened.stored ≡ length (records_of opened.records.items)

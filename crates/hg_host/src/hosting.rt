@@ -1,6 +1,6 @@
 //! A store that is served to connections, each on a thread of its own, for as long as it can be added to.
 
-ghost use Rattle.std.specs.Prelude.{◌≡◌, Bool, length};
+ghost use Rattle.std.specs.Prelude.{◌≡◌, length};
 ghost use Rattle.hg_store.specs.Log.{IsSettled};
 ghost use Rattle.hg_serve.specs.Desks.{Begins};
 ghost use Rattle.hg_host.specs.Hosting.{IsOpened, IsRecovered};
@@ -192,7 +192,7 @@ where
         + RandomSource
         + Net<Listener = TcpListener, Stream = TcpStream>
         + Sync,
-    requires { (publishing : Bool) × IsOpened D.seen D.may_leave publishing recovered }
+    requires { IsOpened D.seen D.may_leave recovered }
 {
     let capacity = terms.capacity.clamp(1, 65_536);
     let Ok((queue, taker)) = PartQueue::new(alloc, capacity) else {

@@ -22,6 +22,6 @@ mod watch;
 pub use board::Board;
 pub use hosting::host;
 pub use line::{Line, Sent};
-pub use opening::{OpeningFault, Recovered, recover_store};
+pub use opening::{OpeningFault, Recovered, recover_records, recover_store};
 pub use service::Service;
 pub use terms::HostTerms;

@@ -12,6 +12,7 @@ use hg_store::{
     create_store, open_store,
 };
 use hg_types::{Limits, Seq};
+use http_server::Log as Noted;
 use std::alloc::Global;
 use std::fs::{File, Files};
 use std::hash::RandomState;
@@ -63,10 +64,14 @@ impl From<RestoreFault> for OpeningFault {
 /// A store that is open for more records, and the repository that its records lead to.
 #[derive(Drop)]
 pub struct Recovered<D: Device> {
+    /// Whether its server publishes.
+    pub publishing: bool,
     pub repo: Repo,
     pub log: Log<D>,
     /// How many records the store has.
     pub stored: usize,
+    /// Its records, which only contracts see.
+    pub records: Noted<Seq<Seq<u8>>, usize>,
 }
 
 /// Opens the store in a folder, or makes it where there is none, and runs its records, one by one, on the empty
@@ -79,7 +84,7 @@ pub fn recover_store<R: Files<File = File>>(
     publishing: bool,
 ) -> Result<Recovered<StoreFile<HostFile>>, OpeningFault>
     ensures { IfOk result (λ recovered. IsOpened ⟦<StoreFile<HostFile> as Device>⟧.seen
-        ⟦<StoreFile<HostFile> as Device>⟧.may_leave publishing recovered) }
+        ⟦<StoreFile<HostFile> as Device>⟧.may_leave recovered × (recovered.publishing ≡ publishing)) }
 {
     let head = head_of(publishing);
     let opened = open_or_create(files, alloc, folder, &head)?;
@@ -125,10 +130,17 @@ pub fn recover_records<D: Device + Drop>(
     records: &Seq<Seq<u8>>,
 ) -> Result<Recovered<D>, RestoreFault>
     requires { IsSettled D.seen D.may_leave (head_of publishing) records.now log }
-    ensures { IfOk result (λ recovered. IsOpened D.seen D.may_leave publishing recovered) }
+    ensures { IfOk result (λ recovered. IsOpened D.seen D.may_leave recovered
+        × (recovered.publishing ≡ publishing)) }
 {
     let mut repo = empty_repository(alloc, state, publishing);
     replay_records(alloc, &mut repo, records.as_slice())?;
     let stored = records.as_slice().len();
-    Ok(Recovered { repo, log, stored })
+    Ok(Recovered {
+        publishing,
+        repo,
+        log,
+        stored,
+        records: Noted::new().and(records, &stored),
+    })
 }

@@ -82,7 +82,13 @@ where
         requires recovered { IsRecovered J.head.publishing J.head J.stored J.first }
         requires count { recovered.stored ≡ length J.stored }
     {
-        let Recovered { repo, log, stored } = recovered;
+        let Recovered {
+            publishing: _,
+            repo,
+            log,
+            stored,
+            records: _,
+        } = recovered;
         let places = (terms.connections as usize).saturating_add(WITNESSES);
         let board = Board::new(rt, alloc, log.end as u64)?;
         let clients = Vec::with_capacity(alloc, places)?;
