@@ -2,8 +2,7 @@
 //!
 //! [`recover_store`] opens a store, or makes it, and gives the repository that its records lead to. [`host`]
 //! serves that repository and adds to the store: [`Service::serve`] is one connection of it, over any reader and
-//! writer. A [`Line`] is a connection over a socket, which is not waited for longer than the terms say. What a
-//! browser and a collector of counters are shown stands on the [`Board`].
+//! writer. A connection over a socket is not waited for longer than the terms say.
 //!
 //! What one connection does never ends another, except where the store fails: then nothing more is answered.
 #![tactic(auto)]
@@ -19,9 +18,7 @@ mod slots;
 mod terms;
 mod watch;
 
-pub use board::Board;
 pub use hosting::host;
-pub use line::{Line, Sent};
 pub use opening::{OpeningFault, Recovered, recover_records, recover_store};
 pub use service::Service;
 pub use terms::HostTerms;
