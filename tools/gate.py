@@ -158,9 +158,10 @@ def prove(stand, count, side):
 
 
 def run_program(program, count):
-    """Runs the program on examples, on stores, for clients, under a limit of memory, and on random bundles."""
+    """Runs the program on examples, on stores, for clients, over HTTP too, under a limit of memory, and on random bundles."""
     for name, words in (("examples", ["examples/check.sh", program]), ("stores", ["examples/store.sh", program]),
                         ("clients", ["examples/serve.sh", program]),
+                        ("clients over HTTP", ["examples/host.sh", program]),
                         ("a limit of memory", ["examples/hostile.sh", program]),
                         ("random bundles", ["bench/fuzz/run.sh", program, "60", "1"])):
         status, said, _ = logged(f"program-{words[0].split('/')[-1]}", ["bash", *words], cwd=sources.ROOT)

@@ -114,7 +114,13 @@ impl<'a, R: Wait + Clock> Board<'a, R> {
         ensures { IfOk result (λ summary. AreCounted store.now.log.rows store.now.markers
             store.now.bookmarks.current summary.holdings) }
     {
-        let holdings = holdings_of(alloc, &store.log, &store.phases, &store.markers, &store.bookmarks)?;
+        let holdings = holdings_of(
+            alloc,
+            &store.log,
+            &store.phases,
+            &store.markers,
+            &store.bookmarks,
+        )?;
         let time = seconds_now(self.rt);
         let phases = self.phases(time, store);
         let (counters, recent) = self.pushes(alloc)?;

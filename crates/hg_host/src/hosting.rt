@@ -37,11 +37,7 @@ fn attend<J, D, R>(
 where
     J: Storing<Global>,
     D: Device + Drop,
-    R: Wait
-        + Clock
-        + Eprint
-        + RandomSource
-        + Net<Listener = TcpListener, Stream = TcpStream>,
+    R: Wait + Clock + Eprint + RandomSource + Net<Listener = TcpListener, Stream = TcpStream>,
 {
     if !service.connect(rt, alloc, stream) {
         let _ = TcpStream::connect(rt, address);

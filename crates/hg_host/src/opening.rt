@@ -8,8 +8,8 @@ use hg_replay::empty_repository;
 use hg_repo::Repo;
 use hg_restore::{RestoreFault, replay_records};
 use hg_store::{
-    Device, DeviceError, Head, HostFile, Log, Opened, RecoverFault, ReadFault, StoreFault, StoreFile,
-    create_store, open_store,
+    Device, DeviceError, Head, HostFile, Log, Opened, ReadFault, RecoverFault, StoreFault,
+    StoreFile, create_store, open_store,
 };
 use hg_types::{Limits, Seq};
 use http_server::Log as Noted;
@@ -34,7 +34,8 @@ impl OpeningFault {
     pub fn status(&self) -> u8 {
         match self {
             OpeningFault::Restore(RestoreFault::NoMemory) => 4,
-            OpeningFault::Store(StoreFault::Recover(RecoverFault::Device(DeviceError::Memory))) => 4,
+            OpeningFault::Store(StoreFault::Recover(RecoverFault::Device(DeviceError::Memory))) =>
+                4,
             OpeningFault::Store(StoreFault::Recover(RecoverFault::Read(ReadFault::NoMemory))) => 4,
             _ => 3,
         }

@@ -28,7 +28,13 @@ pub struct Watcher<'a, R: Wait + Clock + Eprint> {
 }
 
 impl<'a, R: Wait + Clock + Eprint> Watcher<'a, R> {
-    pub fn new(rt: &'a R, alloc: Global, board: &'a Board<'a, R>, stored: usize, logs: bool) -> Self {
+    pub fn new(
+        rt: &'a R,
+        alloc: Global,
+        board: &'a Board<'a, R>,
+        stored: usize,
+        logs: bool,
+    ) -> Self {
         Watcher {
             rt,
             alloc,
@@ -73,7 +79,11 @@ impl<R: Wait + Clock + Eprint> Watch<Global> for Watcher<'_, R> {
         let push = Push {
             time: seconds_now(self.rt),
             ending,
-            changesets: if is_done { brought_by(pushed.bundle) } else { 0 },
+            changesets: if is_done {
+                brought_by(pushed.bundle)
+            } else {
+                0
+            },
             bytes: pushed.bundle.len() as u64,
             locked: self.held,
             synced: micros_since(self.rt, self.answered),
