@@ -91,13 +91,11 @@ fn tell_listening<R: Eprint>(
 ) {
     let pushes = recovered.stored;
     let changesets = recovered.repo.store().log.len();
-    let _ = eprintln!(
-        rt;
+    let _ = eprintln!(rt;
         "hg_pushd: listening on http://{address}/, {pushes} pushes, {changesets} changesets"
     );
     if !address.ip().is_loopback() {
-        let _ = eprintln!(
-            rt;
+        let _ = eprintln!(rt;
             "hg_pushd: it knows no names, passwords or TLS: a proxy has to bring them"
         );
     }
