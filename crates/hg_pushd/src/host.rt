@@ -1,6 +1,5 @@
 //! A store that is served over HTTP: how it begins, and what is told of it.
 
-ghost use Rattle.std.specs.Prelude.{Bool};
 ghost use Rattle.hg_host.specs.Hosting.{IsOpened};
 
 use crate::standard::device_status;
@@ -48,8 +47,8 @@ where
         + Wait
         + Clock
         + Sync,
-    requires { (publishing : Bool) × IsOpened ⟦<StoreFile<HostFile> as Device>⟧.seen
-        ⟦<StoreFile<HostFile> as Device>⟧.may_leave publishing recovered }
+    requires { IsOpened ⟦<StoreFile<HostFile> as Device>⟧.seen
+        ⟦<StoreFile<HostFile> as Device>⟧.may_leave recovered }
 {
     match bind(rt, hosting.listen) {
         Ok((listener, address)) => {
