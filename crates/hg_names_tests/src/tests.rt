@@ -242,10 +242,7 @@ fn each_growth_refused(rt: HostRuntime) -> Result<(), Fail> {
         let mut names = Names::new(&heap);
         let mut count = 0usize;
         for number in 0..140u16 {
-            if names
-                .insert(&heap, &number.to_be_bytes(), node(1))
-                .is_err()
-            {
+            if names.insert(&heap, &number.to_be_bytes(), node(1)).is_err() {
                 break;
             }
             count = count.saturating_add(1);

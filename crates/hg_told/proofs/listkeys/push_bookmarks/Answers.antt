@@ -1,8 +1,6 @@
-use Rattle.std.proofs.Common.{◌∙◌, ap, sym, ◌++◌, map, filter}
+use Rattle.std.proofs.Common.{◌++◌, map, filter}
 use Rattle.std.specs.List.{flat_map}
-use Rattle.std.proofs.lemmas.List.{append-nil}
 use Rattle.hg_told.specs.Text.{ended}
-use Rattle.hg_keys.specs.Bookmarks.{Pairs}
 use Rattle.hg_told.specs.ListKeys.{bookmark_line, is_told}
 use Rattle.hg_told.proofs.Lines.{line_left}
 use Rattle.hg_told.proofs.listkeys.push_bookmarks.Goals as goal
