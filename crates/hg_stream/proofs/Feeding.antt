@@ -133,10 +133,8 @@ going_at : {A : Type 0} (s : Stage) (f : Fields A) (bytes : List ℕ) (parts : L
     → IsAtStage s f bytes parts → (state_at s ≡ Ended → ⊥) → state_at s ≡ Reading
 going_at stage.Magic f bytes parts at other = refl
 going_at stage.Params f bytes parts at other = refl
-going_at stage.Header f bytes parts at other = refl
-going_at stage.Payload f bytes parts at other = refl
-going_at stage.InnerHeader f bytes parts at other = refl
-going_at stage.Inner f bytes parts at other = refl
+going_at (stage.Header l) f bytes parts at other = refl
+going_at (stage.Payload l) f bytes parts at other = refl
 going_at stage.Ended f bytes parts at other = absurd (other refl)
 going_at (stage.Failed fault) f bytes parts at other = absurd at
 

@@ -2,6 +2,7 @@ mod Magic
 mod Steps
 mod Chunks
 mod Interruptions
+mod Levels
 mod Moves
 mod Telling
 mod Feeding

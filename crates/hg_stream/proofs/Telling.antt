@@ -17,12 +17,14 @@ use Rattle.hg_stream.specs.declared.unbundler.Stage.{Stage}
 use Rattle.hg_stream.specs.declared.unbundler.Stage.TheVariants as stage
 use Rattle.hg_stream.specs.declared.unbundler.Unbundler.{Unbundler}
 use Rattle.hg_stream.specs.Frames.{magic, IsWhole}
-use Rattle.hg_stream.specs.Places.{IsReading, at_magic, params, header, of_part, of_interrupting}
+use Rattle.hg_stream.specs.Payloads.{reader_at}
+use Rattle.hg_stream.specs.Places.{IsReading, at_magic, params, header}
 use Rattle.hg_stream.specs.Faults.{by_grammar, by_length, Stops, Tells}
 use Rattle.hg_stream.specs.Unbundler.{Fields, fields_of, IsAt, IsAtStage, Breaks, Meets, Keeps, Holds}
 use Rattle.hg_stream.specs.Unbundler.{ready_of, state_at, state_of}
 use Rattle.hg_stream.proofs.Steps.{still_reading}
 use Rattle.hg_stream.proofs.Chunks.{chunk_reading}
+use Rattle.hg_stream.proofs.Levels.{chunk_at, header_at}
 
 -- out of memory, or another fault
 pub is_no_memory : (fault : StreamFault) → (fault ≡ NoMemory) ⊎ (fault ≢ NoMemory)
@@ -81,18 +83,12 @@ reading_at stage.Magic u bytes parts h e = at_magic (rw append-nil (omega (arith
 reading_at stage.Params u bytes parts h e =
     still_reading u.limits bytes magic h.rest parts u.limits.params u.block
     (params refl h.none refl) h.waits h.spelled
-reading_at stage.Header u bytes parts h e =
+reading_at (stage.Header l) u bytes parts h e =
     still_reading u.limits bytes h.front h.rest parts _ u.block
-    (header (of_part h.has refl)) h.waits h.spelled
-reading_at stage.Payload u bytes parts h e =
-    chunk_reading u.limits bytes h.front h.rest h.whole parts u.payload
-    (of_part u.head h.inside) h.goes_on h.spelled
-reading_at stage.InnerHeader u bytes parts h e =
-    still_reading u.limits bytes h.front h.rest parts _ u.block
-    (header (of_interrupting u.head h.whole h.interrupted refl)) h.waits h.spelled
-reading_at stage.Inner u bytes parts h e =
-    chunk_reading u.limits bytes h.front h.rest h.data_whole parts u.inner
-    (of_interrupting u.head h.whole h.inside) h.inner h.spelled
+    (header (header_at l u.limits u.head u.payloads.part h.front parts h.before)) h.waits h.spelled
+reading_at (stage.Payload l) u bytes parts h e =
+    chunk_reading u.limits bytes h.front h.rest h.whole parts (reader_at l u.payloads)
+    (chunk_at l u.limits u.head u.payloads.part parts h.front h.whole h.inside) h.goes_on h.spelled
 reading_at stage.Ended u bytes parts h e = absurd (cc)
 reading_at (stage.Failed fault) u bytes parts h e = absurd h
 
@@ -112,18 +108,12 @@ reading_or_whole stage.Magic u bytes parts h =
 reading_or_whole stage.Params u bytes parts h =
     inl (subst (λ x. IsReading u.limits x parts) (append-nil bytes)
     (reading_at stage.Params u bytes parts h refl))
-reading_or_whole stage.Header u bytes parts h =
+reading_or_whole (stage.Header l) u bytes parts h =
     inl (subst (λ x. IsReading u.limits x parts) (append-nil bytes)
-    (reading_at stage.Header u bytes parts h refl))
-reading_or_whole stage.Payload u bytes parts h =
+    (reading_at (stage.Header l) u bytes parts h refl))
+reading_or_whole (stage.Payload l) u bytes parts h =
     inl (subst (λ x. IsReading u.limits x parts) (append-nil bytes)
-    (reading_at stage.Payload u bytes parts h refl))
-reading_or_whole stage.InnerHeader u bytes parts h =
-    inl (subst (λ x. IsReading u.limits x parts) (append-nil bytes)
-    (reading_at stage.InnerHeader u bytes parts h refl))
-reading_or_whole stage.Inner u bytes parts h =
-    inl (subst (λ x. IsReading u.limits x parts) (append-nil bytes)
-    (reading_at stage.Inner u bytes parts h refl))
+    (reading_at (stage.Payload l) u bytes parts h refl))
 reading_or_whole stage.Ended u bytes parts h = inr h
 reading_or_whole (stage.Failed fault) u bytes parts h = absurd h
 
@@ -152,23 +142,14 @@ tells_at stage.Params u bytes parts h within = (
       (reading_at stage.Params u bytes parts h refl),
   within,
 )
-tells_at stage.Header u bytes parts h within = (
+tells_at (stage.Header l) u bytes parts h within = (
   subst (λ x. IsReading u.limits x parts) (append-nil bytes)
-      (reading_at stage.Header u bytes parts h refl),
+      (reading_at (stage.Header l) u bytes parts h refl),
   within,
 )
-tells_at stage.Payload u bytes parts h within = (
+tells_at (stage.Payload l) u bytes parts h within = (
   subst (λ x. IsReading u.limits x parts) (append-nil bytes)
-      (reading_at stage.Payload u bytes parts h refl),
-  within,
-)
-tells_at stage.InnerHeader u bytes parts h within = (
-  subst (λ x. IsReading u.limits x parts) (append-nil bytes)
-      (reading_at stage.InnerHeader u bytes parts h refl),
-  within,
-)
-tells_at stage.Inner u bytes parts h within = (
-  subst (λ x. IsReading u.limits x parts) (append-nil bytes) (reading_at stage.Inner u bytes parts h refl),
+      (reading_at (stage.Payload l) u bytes parts h refl),
   within,
 )
 tells_at stage.Ended u bytes parts h within = (h, within)
@@ -178,10 +159,8 @@ keeps_at : {A : Type 0} (s : Stage) (u : Unbundler A) (bytes : List ℕ) (parts 
     → IsAt u bytes parts → u.stream_left + length bytes ≡ u.limits.stream → Keeps (state_at s) u bytes parts
 keeps_at stage.Magic u bytes parts at counted = (at, counted)
 keeps_at stage.Params u bytes parts at counted = (at, counted)
-keeps_at stage.Header u bytes parts at counted = (at, counted)
-keeps_at stage.Payload u bytes parts at counted = (at, counted)
-keeps_at stage.InnerHeader u bytes parts at counted = (at, counted)
-keeps_at stage.Inner u bytes parts at counted = (at, counted)
+keeps_at (stage.Header l) u bytes parts at counted = (at, counted)
+keeps_at (stage.Payload l) u bytes parts at counted = (at, counted)
 keeps_at stage.Ended u bytes parts at counted = at.left
 keeps_at (stage.Failed fault) u bytes parts at counted = at.left
 
@@ -205,11 +184,10 @@ keeps_same s u v bytes parts parts' same at left parts_left limits keeps =
     kept : (s : Stage) → Keeps (state_at s) u bytes parts → Keeps (state_at s) v bytes parts
     kept stage.Magic k = (at k.0, ap (λ n. n + length bytes) left ∙ k.1 ∙ ap (λ l. l.stream) (sym limits))
     kept stage.Params k = (at k.0, ap (λ n. n + length bytes) left ∙ k.1 ∙ ap (λ l. l.stream) (sym limits))
-    kept stage.Header k = (at k.0, ap (λ n. n + length bytes) left ∙ k.1 ∙ ap (λ l. l.stream) (sym limits))
-    kept stage.Payload k = (at k.0, ap (λ n. n + length bytes) left ∙ k.1 ∙ ap (λ l. l.stream) (sym limits))
-    kept stage.InnerHeader k =
+    kept (stage.Header l) k =
         (at k.0, ap (λ n. n + length bytes) left ∙ k.1 ∙ ap (λ l. l.stream) (sym limits))
-    kept stage.Inner k = (at k.0, ap (λ n. n + length bytes) left ∙ k.1 ∙ ap (λ l. l.stream) (sym limits))
+    kept (stage.Payload l) k =
+        (at k.0, ap (λ n. n + length bytes) left ∙ k.1 ∙ ap (λ l. l.stream) (sym limits))
     kept stage.Ended k = ap (λ n. n + length parts) parts_left ∙ k ∙ ap (λ l. l.parts) (sym limits)
     kept (stage.Failed fault) k = ap (λ n. n + length parts) parts_left ∙ k ∙ ap (λ l. l.parts) (sym limits)
 
@@ -218,20 +196,16 @@ keeps_same s u v bytes parts parts' same at left parts_left limits keeps =
 pub stage_ended : (s : Stage) → state_at s ≡ Ended → s ≡ stage.Ended
 stage_ended stage.Magic e = cc
 stage_ended stage.Params e = cc
-stage_ended stage.Header e = cc
-stage_ended stage.Payload e = cc
-stage_ended stage.InnerHeader e = cc
-stage_ended stage.Inner e = cc
+stage_ended (stage.Header l) e = cc
+stage_ended (stage.Payload l) e = cc
 stage_ended stage.Ended e = refl
 stage_ended (stage.Failed fault) e = cc
 
 pub stage_failed : (s : Stage) (fault : StreamFault) → state_at s ≡ Failed fault → s ≡ stage.Failed fault
 stage_failed stage.Magic fault e = cc
 stage_failed stage.Params fault e = cc
-stage_failed stage.Header fault e = cc
-stage_failed stage.Payload fault e = cc
-stage_failed stage.InnerHeader fault e = cc
-stage_failed stage.Inner fault e = cc
+stage_failed (stage.Header l) fault e = cc
+stage_failed (stage.Payload l) fault e = cc
 stage_failed stage.Ended fault e = cc
 stage_failed (stage.Failed other) fault e = cc
 
@@ -240,10 +214,8 @@ pub goes_on : (s : Stage) → (s ≡ stage.Ended → ⊥) → ((fault : StreamFa
     → state_at s ≡ Reading
 goes_on stage.Magic not_ended not_failed = refl
 goes_on stage.Params not_ended not_failed = refl
-goes_on stage.Header not_ended not_failed = refl
-goes_on stage.Payload not_ended not_failed = refl
-goes_on stage.InnerHeader not_ended not_failed = refl
-goes_on stage.Inner not_ended not_failed = refl
+goes_on (stage.Header l) not_ended not_failed = refl
+goes_on (stage.Payload l) not_ended not_failed = refl
 goes_on stage.Ended not_ended not_failed = absurd (not_ended refl)
 goes_on (stage.Failed fault) not_ended not_failed = absurd (not_failed fault refl)
 

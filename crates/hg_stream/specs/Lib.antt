@@ -3,6 +3,7 @@ pub mod Frames
 pub mod Interrupting
 pub mod Places
 pub mod Faults
+pub mod Payloads
 pub mod Unbundler
 pub mod Written
 pub mod Lengths

@@ -11,12 +11,16 @@ use Rattle.hg_stream.specs.declared.fault.StreamFault.TheVariants.{NoMemory}
 use Rattle.hg_stream.specs.declared.state.State.{State}
 use Rattle.hg_stream.specs.declared.state.State.TheVariants.{Reading, Ended, Failed}
 use Rattle.hg_stream.specs.declared.block.BlockIn.{BlockIn}
+use Rattle.hg_stream.specs.declared.payloads.Level.{Level}
+use Rattle.hg_stream.specs.declared.payloads.Level.TheVariants as level
+use Rattle.hg_stream.specs.declared.payloads.Payloads.{Payloads}
 use Rattle.hg_stream.specs.declared.unbundler.Stage.{Stage}
 use Rattle.hg_stream.specs.declared.unbundler.Stage.TheVariants as stage
 use Rattle.hg_stream.specs.declared.unbundler.Unbundler.{Unbundler}
-use Rattle.hg_stream.specs.Block.{HoldsBlock}
-use Rattle.hg_chunks.specs.Payload.{closing}
+use Rattle.hg_stream.specs.Block.{HoldsBlock, sized, IsBlock}
+use Rattle.hg_chunks.specs.Payload.{interruption, closing}
 use Rattle.hg_stream.specs.Frames.{magic, max_header, part_of, HasParts, IsWhole}
+use Rattle.hg_stream.specs.Payloads.{reader_at}
 use Rattle.hg_stream.specs.Places.{IsInPayload, IsInterrupted, IsInInner, header_room, IsReading}
 use Rattle.hg_stream.specs.Faults.{Decides, IsFault, Tells}
 
@@ -24,10 +28,8 @@ use Rattle.hg_stream.specs.Faults.{Decides, IsFault, Tells}
 abbrev pub state_at : Stage → State
 state_at stage.Magic = Reading
 state_at stage.Params = Reading
-state_at stage.Header = Reading
-state_at stage.Payload = Reading
-state_at stage.InnerHeader = Reading
-state_at stage.Inner = Reading
+state_at (stage.Header l) = Reading
+state_at (stage.Payload l) = Reading
 state_at stage.Ended = Ended
 state_at (stage.Failed fault) = Failed fault
 
@@ -60,8 +62,7 @@ pub record Fields (A : Type 0) : Type 0 where
   pub magic : List ℕ
   pub block : BlockIn A
   pub head : Head A
-  pub payload : PayloadIn A
-  pub inner : PayloadIn A
+  pub payloads : Payloads A
 
 -- what the reader holds, except its stage and the parts that are ready
 abbrev pub fields_of : {A : Type 0} → Unbundler A → Fields A
@@ -70,8 +71,7 @@ fields_of u = record {
   magic = u.magic;
   block = u.block;
   head = u.head;
-  payload = u.payload;
-  inner = u.inner;
+  payloads = u.payloads;
 }
 
 -- in the stream parameters, after the magic
@@ -81,42 +81,56 @@ pub record AtParams {A : Type 0} (u : Fields A) (bytes : List ℕ) (parts : List
   pub none : parts ≡ []
   pub spelled : bytes ≡ magic ++ rest
 
--- in a header size or a header, after whole frames
-pub record AtHeader {A : Type 0} (u : Fields A) (bytes : List ℕ) (parts : List (Part A)) : Type 0 where
+-- a payload that waits after whole pieces, while a part interrupts it
+pub record IsPaused {A : Type 0} (limits : Limits) (head : Head A) (payload : PayloadIn A)
+    (front : List ℕ) (parts : List (Part A)) : Type 0 where
+  pub whole : List ℕ
+  pub interrupted : IsInterrupted limits front parts head whole
+  pub goes_on : Takes limits payload whole []
+
+-- in the payload of the part that interrupts it, after whole chunks with that data
+pub record IsAside {A : Type 0} (limits : Limits) (head : Head A) (payload : PayloadIn A)
+    (front : List ℕ) (parts : List (Part A)) (data_whole : List ℕ) : Type 0 where
+  pub whole : List ℕ
+  pub inside : IsInInner limits front parts head whole data_whole
+  pub goes_on : Takes limits payload whole []
+
+-- a header comes next: that of a part, after whole frames, or that of a part that interrupts a payload
+abbrev pub IsBeforeHeaderAt : {A : Type 0} → Level → Limits → Head A → PayloadIn A → List ℕ → List (Part A)
+    → Type 0
+IsBeforeHeaderAt level.Part limits head payload front parts = HasParts limits front parts
+IsBeforeHeaderAt level.Interrupting limits head payload front parts =
+    IsPaused limits head payload front parts
+
+-- the greatest header that may come next
+abbrev pub room_at : {A : Type 0} → Level → Limits → List (Part A) → ℕ
+room_at level.Part limits parts = header_room limits parts
+room_at level.Interrupting limits parts = max_header
+
+-- in the payload of such a part, after whole pieces or chunks with that data
+abbrev pub IsInsideAt : {A : Type 0} → Level → Limits → Head A → PayloadIn A → List ℕ → List (Part A)
+    → List ℕ → Type 0
+IsInsideAt level.Part limits head payload front parts whole = IsInPayload limits front parts head whole
+IsInsideAt level.Interrupting limits head payload front parts whole =
+    IsAside limits head payload front parts whole
+
+-- in a header size or a header
+pub record AtHeader {A : Type 0} (l : Level) (u : Fields A) (bytes : List ℕ) (parts : List (Part A))
+    : Type 0 where
   pub front : List ℕ
   pub rest : List ℕ
-  pub has : HasParts u.limits front parts
-  pub waits : Waits u.block (header_room u.limits parts) rest
+  pub before : IsBeforeHeaderAt l u.limits u.head u.payloads.part front parts
+  pub waits : Waits u.block (room_at l u.limits parts) rest
   pub spelled : bytes ≡ front ++ rest
 
 -- in a payload
-pub record AtPayload {A : Type 0} (u : Fields A) (bytes : List ℕ) (parts : List (Part A)) : Type 0 where
+pub record AtPayload {A : Type 0} (l : Level) (u : Fields A) (bytes : List ℕ) (parts : List (Part A))
+    : Type 0 where
   pub front : List ℕ
   pub rest : List ℕ
   pub whole : List ℕ
-  pub inside : IsInPayload u.limits front parts u.head whole
-  pub goes_on : Takes u.limits u.payload whole rest
-  pub spelled : bytes ≡ front ++ rest
-
--- in the header size or the header of an interrupting part
-pub record AtInnerHeader {A : Type 0} (u : Fields A) (bytes : List ℕ) (parts : List (Part A)) : Type 0 where
-  pub front : List ℕ
-  pub rest : List ℕ
-  pub whole : List ℕ
-  pub interrupted : IsInterrupted u.limits front parts u.head whole
-  pub goes_on : Takes u.limits u.payload whole []
-  pub waits : Waits u.block max_header rest
-  pub spelled : bytes ≡ front ++ rest
-
--- in the payload of an interrupting part
-pub record AtInner {A : Type 0} (u : Fields A) (bytes : List ℕ) (parts : List (Part A)) : Type 0 where
-  pub front : List ℕ
-  pub rest : List ℕ
-  pub whole : List ℕ
-  pub data_whole : List ℕ
-  pub inside : IsInInner u.limits front parts u.head whole data_whole
-  pub goes_on : Takes u.limits u.payload whole []
-  pub inner : Takes u.limits u.inner data_whole rest
+  pub inside : IsInsideAt l u.limits u.head u.payloads.part front parts whole
+  pub goes_on : Takes u.limits (reader_at l u.payloads) whole rest
   pub spelled : bytes ≡ front ++ rest
 
 -- in the magic
@@ -130,10 +144,8 @@ pub record AtMagic {A : Type 0} (u : Fields A) (bytes : List ℕ) (parts : List 
 abbrev pub IsAtStage : {A : Type 0} → Stage → Fields A → List ℕ → List (Part A) → Type 0
 IsAtStage stage.Magic u bytes parts = AtMagic u bytes parts
 IsAtStage stage.Params u bytes parts = AtParams u bytes parts
-IsAtStage stage.Header u bytes parts = AtHeader u bytes parts
-IsAtStage stage.Payload u bytes parts = AtPayload u bytes parts
-IsAtStage stage.InnerHeader u bytes parts = AtInnerHeader u bytes parts
-IsAtStage stage.Inner u bytes parts = AtInner u bytes parts
+IsAtStage (stage.Header l) u bytes parts = AtHeader l u bytes parts
+IsAtStage (stage.Payload l) u bytes parts = AtPayload l u bytes parts
 IsAtStage stage.Ended u bytes parts = IsWhole u.limits bytes parts
 IsAtStage (stage.Failed fault) u bytes parts = ⊥
 
@@ -235,3 +247,23 @@ abbrev pub Finished : {A : Type 0} → Unbundler A → Unbundler A → List ℕ 
 Finished {A} u v payload = (front : List ℕ) (parts : List (Part A)) →
     IsInPayload u.limits front parts u.head payload → u.parts_left + length parts ≡ u.limits.parts
     → Finishes u v (front ++ closing) parts (part_of u.head payload ∷ [])
+
+-- a whole block was read as a header, and the payload is next
+abbrev pub Opened : {A : Type 0} → Level → Unbundler A → Unbundler A → Type 0
+Opened {A} l u v = (front : List ℕ) (parts : List (Part A)) →
+    IsBeforeHeaderAt l u.limits u.head u.payloads.part front parts
+    → IsBlock (room_at l u.limits parts) u.block.block.items → HasFinished u parts
+    → IsAt v (front ++ sized u.block.block.items) parts
+
+-- an interruption was read, and the header of a part is next
+abbrev pub Interrupted : {A : Type 0} → Level → Unbundler A → Unbundler A → Type 0
+Interrupted {A} l u v = (front : List ℕ) (parts : List (Part A)) (whole : List ℕ) →
+    IsInsideAt l u.limits u.head u.payloads.part front parts whole
+    → Takes u.limits (reader_at l u.payloads) whole [] → HasFinished u parts
+    → IsAt v (front ++ interruption) parts
+
+-- the payload with that data was closed
+abbrev pub Closed : {A : Type 0} → Level → Unbundler A → Unbundler A → List ℕ → Type 0
+Closed {A} l u v payload = (front : List ℕ) (parts : List (Part A)) →
+    IsInsideAt l u.limits u.head u.payloads.part front parts payload → HasFinished u parts
+    → (added : List (Part A)) × Finishes u v (front ++ closing) parts added

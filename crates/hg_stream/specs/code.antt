@@ -1,2 +1,4 @@
 pub mod Told
 pub mod Going
+pub mod Stages
+pub mod Readers

@@ -6,9 +6,11 @@ ghost use Rattle.hg_params.specs.Header.{IsHeader};
 ghost use Rattle.hg_stream.specs.Frames.{part_of};
 ghost use Rattle.hg_stream.specs.code.Told.{room_left, RefusesHeader, RefusesParams, ReadsParams};
 ghost use Rattle.hg_stream.specs.code.Told.{ReadsInterrupting, RefusesInterrupting};
+ghost use Rattle.hg_stream.specs.code.Told.{ReadsHeaderAt, RefusesHeaderAt};
 
 use crate::fault::StreamFault;
 use crate::interrupting::{Verdict, judge};
+use crate::payloads::Level;
 use crate::told::{header_fault, params_fault};
 use hg_params::{Head, read_header, read_stream_params};
 use hg_types::{Part, Seq};
@@ -39,7 +41,7 @@ pub fn make_part<A: Allocator>(head: Head<A>, payload: Seq<u8, A>) -> Part<A>
 }
 
 /// What a whole block says as a header.
-pub fn read_head<A: Allocator + Copy>(alloc: A, block: &[u8]) -> Result<Head<A>, StreamFault>
+fn read_head<A: Allocator + Copy>(alloc: A, block: &[u8]) -> Result<Head<A>, StreamFault>
     ensures ok { IfOk result (λ head. IsHeader block.now head) }
     ensures err { IfErr result (RefusesHeader block.now) }
 {
@@ -50,7 +52,7 @@ pub fn read_head<A: Allocator + Copy>(alloc: A, block: &[u8]) -> Result<Head<A>,
 }
 
 /// Whether the header of an interrupting part, a whole block, may be dropped with its part.
-pub fn read_interrupting<A: Allocator + Copy>(alloc: A, block: &[u8]) -> Result<(), StreamFault>
+fn read_interrupting<A: Allocator + Copy>(alloc: A, block: &[u8]) -> Result<(), StreamFault>
     ensures ok { OnOk result (ReadsInterrupting A block.now) }
     ensures err { IfErr result (RefusesInterrupting A block.now) }
 {
@@ -60,6 +62,23 @@ pub fn read_interrupting<A: Allocator + Copy>(alloc: A, block: &[u8]) -> Result<
         Verdict::Refused => Err(StreamFault::Unsupported),
         Verdict::Dropped => Ok(()),
     }
+}
+
+/// What a whole block says as a header at that level. That of a part is kept in `head`.
+pub fn read_head_at<A: Allocator + Copy>(
+    alloc: A,
+    level: Level,
+    block: &[u8],
+    head: &mut Head<A>,
+) -> Result<(), StreamFault>
+    ensures ok { OnOk result (ReadsHeaderAt level block.now head.old head.new) }
+    ensures err { IfErr result (RefusesHeaderAt A level block.now) }
+{
+    match level {
+        Level::Part => *head = read_head(alloc, block)?,
+        Level::Interrupting => read_interrupting(alloc, block)?,
+    }
+    Ok(())
 }
 
 /// Whether a whole block is stream parameters that are understood.

@@ -15,6 +15,7 @@ mod fault;
 mod head;
 mod interrupting;
 pub mod laws;
+mod payloads;
 mod state;
 mod told;
 mod unbundler;

@@ -7,17 +7,17 @@ ghost use Rattle.hg_types.specs.Limits.{IsAllowed};
 ghost use Rattle.hg_types.specs.declared.part.Part.{Part};
 ghost use Rattle.hg_chunks.specs.PayloadIn.{phase_of};
 ghost use Rattle.hg_stream.specs.code.Going.{GoesOn};
+ghost use Rattle.hg_stream.specs.code.Stages.{stage_after};
 ghost use Rattle.hg_stream.specs.declared.state.State.{State};
 ghost use Rattle.hg_stream.specs.declared.state.State.TheVariants.{Reading, Ended, Failed};
 
 use crate::block::{BlockIn, BlockStep};
 use crate::fault::StreamFault;
-use crate::head::{
-    MAX_HEADER, header_room, make_part, no_head, read_head, read_interrupting, read_params,
-};
+use crate::head::{MAX_HEADER, header_room, make_part, no_head, read_head_at, read_params};
+use crate::payloads::{Level, Payloads};
 use crate::state::State;
 use crate::told::{block_fault, chunk_fault};
-use hg_chunks::{PayloadIn, SizeField, Step};
+use hg_chunks::{SizeField, Step};
 use hg_params::Head;
 use hg_types::{Limits, Part, Seq};
 use std::alloc::{Allocator, Global};
@@ -35,16 +35,23 @@ enum Stage {
     /// In the stream parameters, or in their size.
     Params,
     /// In a header, or in its size.
-    Header,
-    /// In a part's payload.
-    Payload,
-    /// In the header of an interrupting part, or in its size.
-    InnerHeader,
-    /// In the payload of an interrupting part.
-    Inner,
+    Header(Level),
+    /// In a payload.
+    Payload(Level),
     /// After the end mark.
     Ended,
     Failed(StreamFault),
+}
+
+/// Where the reader is after a size of 0 in the place of a header: the bundle ends, or the payload that was
+/// interrupted goes on.
+fn after_last(level: Level) -> Stage
+    ensures { result ≡ stage_after level }
+{
+    match level {
+        Level::Part => Stage::Ended,
+        Level::Interrupting => Stage::Payload(Level::Part),
+    }
 }
 
 /// Takes the bytes of one bundle, in pieces of any sizes, and gives its parts.
@@ -61,20 +68,19 @@ pub struct Unbundler<A: Allocator = Global> {
     block: BlockIn<A>,
     /// The head of the part whose payload is being read.
     head: Head<A>,
-    payload: PayloadIn<A>,
-    /// The payload of an interrupting part.
-    inner: PayloadIn<A>,
+    payloads: Payloads<A>,
     /// The parts that were finished and not yet given.
     ready: VecDeque<Part<A>, A>,
     ghost allowed: { IsAllowed limits },
-    ghost payload_goes_on: { GoesOn (phase_of payload) },
-    ghost inner_goes_on: { GoesOn (phase_of inner) },
+    ghost part_goes_on: { GoesOn (phase_of payloads.part) },
+    ghost interrupting_goes_on: { GoesOn (phase_of payloads.interrupting) },
 }
 
 impl<A: Allocator + Copy> Unbundler<A> {
     ghost use Rattle.hg_stream.specs.Unbundler.{Holds, IsStillReading, Feeds, KeepsParts, Steps, Moves};
     ghost use Rattle.hg_stream.specs.Unbundler.{Fails, Halts, PassesBy, Finished, state_of, limits_of};
-    ghost use Rattle.hg_stream.specs.Unbundler.{ready_of};
+    ghost use Rattle.hg_stream.specs.Unbundler.{ready_of, Opened, Interrupted, Closed};
+    ghost use Rattle.hg_stream.specs.code.Told.{RefusesHeaderAt};
 
     /// A reader that was fed nothing.
     pub fn new(alloc: A, limits: Limits) -> Self
@@ -92,8 +98,7 @@ impl<A: Allocator + Copy> Unbundler<A> {
             magic: SizeField::new(),
             block: BlockIn::new(alloc, limits.params),
             head: no_head(alloc),
-            payload: PayloadIn::new(alloc, limits.payload),
-            inner: PayloadIn::new(alloc, limits.payload),
+            payloads: Payloads::new(alloc, limits.payload),
             ready: VecDeque::new(alloc),
         }
     }
@@ -275,10 +280,8 @@ impl<A: Allocator + Copy> Unbundler<A> {
         match self.stage {
             Stage::Magic => self.take_magic(piece),
             Stage::Params => self.take_params(piece),
-            Stage::Header => self.take_header(piece),
-            Stage::Payload => self.take_payload(piece),
-            Stage::InnerHeader => self.take_inner_header(piece),
-            Stage::Inner => self.take_inner(piece),
+            Stage::Header(level) => self.take_header(level, piece),
+            Stage::Payload(level) => self.take_payload(level, piece),
             Stage::Ended => Ok(0),
             Stage::Failed(fault) => Err(fault),
         }
@@ -316,12 +319,12 @@ impl<A: Allocator + Copy> Unbundler<A> {
             }
         }
         self.block.restart(header_room(self.parts_left));
-        self.stage = Stage::Header;
+        self.stage = Stage::Header(Level::Part);
         Ok(count)
     }
 
-    fn take_header(&mut self, piece: &[u8]) -> Result<usize, StreamFault>
-        requires stage { self.old.stage ≡ Stage.Header }
+    fn take_header(&mut self, level: Level, piece: &[u8]) -> Result<usize, StreamFault>
+        requires stage { self.old.stage ≡ Stage.Header level }
         requires piece { 0 < length piece.now }
         ensures { Steps self.old self.new piece.now result }
     {
@@ -332,92 +335,98 @@ impl<A: Allocator + Copy> Unbundler<A> {
         match step {
             BlockStep::More => Ok(count),
             BlockStep::Nothing => {
-                self.stage = Stage::Ended;
+                self.stage = after_last(level);
                 Ok(count)
             }
             BlockStep::Whole => {
-                self.head = read_head(self.alloc, self.block.block.as_slice())?;
-                self.payload = PayloadIn::new(self.alloc, self.limits.payload);
-                self.stage = Stage::Payload;
+                self.open(level)?;
                 Ok(count)
             }
         }
     }
 
-    fn take_payload(&mut self, piece: &[u8]) -> Result<usize, StreamFault>
-        requires stage { self.old.stage ≡ Stage.Payload }
+    /// Reads the whole block as a header, and waits for its payload.
+    fn open(&mut self, level: Level) -> Result<(), StreamFault>
+        ensures ok { OnOk result (Opened level self.old self.new) }
+        ensures err { IfErr result (RefusesHeaderAt A level self.old.block.block.items) }
+        ensures kept { KeepsParts self.old self.new }
+        ensures limits { limits_of self.new ≡ limits_of self.old }
+        ensures stream_left { self.new.stream_left ≡ self.old.stream_left }
+    {
+        read_head_at(
+            self.alloc,
+            level,
+            self.block.block.as_slice(),
+            &mut self.head,
+        )?;
+        self.payloads.begin(level, self.alloc, self.limits.payload);
+        self.stage = Stage::Payload(level);
+        Ok(())
+    }
+
+    fn take_payload(&mut self, level: Level, piece: &[u8]) -> Result<usize, StreamFault>
+        requires stage { self.old.stage ≡ Stage.Payload level }
         requires piece { 0 < length piece.now }
         ensures { Steps self.old self.new piece.now result }
     {
-        let (count, step) = match self.payload.feed(piece) {
+        let (count, step) = match self.payloads.feed(level, piece) {
             Ok(taken) => taken,
             Err(fault) => return Err(chunk_fault(fault)),
         };
         match step {
             Step::More => Ok(count),
             Step::Interrupt => {
+                self.interrupt(level)?;
+                Ok(count)
+            }
+            Step::Done => {
+                let mut ended = self.payloads.begin(level, self.alloc, self.limits.payload);
+                self.close(level, ended.take_payload())?;
+                Ok(count)
+            }
+        }
+    }
+
+    /// Waits for the header of an interrupting part. No part interrupts such a part.
+    fn interrupt(&mut self, level: Level) -> Result<(), StreamFault>
+        ensures ok { OnOk result (Interrupted level self.old self.new) }
+        ensures err { IfErr result (λ fault. (fault ≡ StreamFault.NestedInterrupt)
+            × (level ≡ Level.Interrupting)) }
+        ensures kept { KeepsParts self.old self.new }
+        ensures limits { limits_of self.new ≡ limits_of self.old }
+        ensures stream_left { self.new.stream_left ≡ self.old.stream_left }
+    {
+        match level {
+            Level::Part => {
                 self.block.restart(MAX_HEADER);
-                self.stage = Stage::InnerHeader;
-                Ok(count)
+                self.stage = Stage::Header(Level::Interrupting);
+                Ok(())
             }
-            Step::Done => {
-                let mut ended = mem::replace(
-                    &mut self.payload,
-                    PayloadIn::new(self.alloc, self.limits.payload),
-                );
-                self.finish_part(ended.take_payload())?;
-                Ok(count)
-            }
+            Level::Interrupting => Err(StreamFault::NestedInterrupt),
         }
     }
 
-    fn take_inner_header(&mut self, piece: &[u8]) -> Result<usize, StreamFault>
-        requires stage { self.old.stage ≡ Stage.InnerHeader }
-        requires piece { 0 < length piece.now }
-        ensures { Steps self.old self.new piece.now result }
+    /// Goes on after a payload with that data: it makes a part, or is dropped.
+    fn close(&mut self, level: Level, payload: Seq<u8, A>) -> Result<(), StreamFault>
+        requires { self.old.stage ≡ Stage.Payload level }
+        ensures ok { OnOk result (Closed level self.old self.new payload) }
+        ensures err { IfErr result (λ fault. fault ≡ StreamFault.NoMemory) }
+        ensures kept { OnErr result (KeepsParts self.old self.new) }
+        ensures limits { limits_of self.new ≡ limits_of self.old }
+        ensures stream_left { self.new.stream_left ≡ self.old.stream_left }
     {
-        let (count, step) = match self.block.feed(piece) {
-            Ok(taken) => taken,
-            Err(fault) => return Err(block_fault(fault)),
-        };
-        match step {
-            BlockStep::More => Ok(count),
-            BlockStep::Nothing => {
-                self.stage = Stage::Payload;
-                Ok(count)
-            }
-            BlockStep::Whole => {
-                read_interrupting(self.alloc, self.block.block.as_slice())?;
-                self.inner = PayloadIn::new(self.alloc, self.limits.payload);
-                self.stage = Stage::Inner;
-                Ok(count)
-            }
-        }
-    }
-
-    fn take_inner(&mut self, piece: &[u8]) -> Result<usize, StreamFault>
-        requires stage { self.old.stage ≡ Stage.Inner }
-        requires piece { 0 < length piece.now }
-        ensures { Steps self.old self.new piece.now result }
-    {
-        let (count, step) = match self.inner.feed(piece) {
-            Ok(taken) => taken,
-            Err(fault) => return Err(chunk_fault(fault)),
-        };
-        match step {
-            Step::More => Ok(count),
-            Step::Interrupt => Err(StreamFault::NestedInterrupt),
-            Step::Done => {
-                self.inner = PayloadIn::new(self.alloc, self.limits.payload);
-                self.stage = Stage::Payload;
-                Ok(count)
+        match level {
+            Level::Part => self.finish_part(payload),
+            Level::Interrupting => {
+                self.stage = Stage::Payload(Level::Part);
+                Ok(())
             }
         }
     }
 
     /// Makes a part of the head and a payload, and waits for the next header.
     fn finish_part(&mut self, payload: Seq<u8, A>) -> Result<(), StreamFault>
-        requires { self.old.stage ≡ Stage.Payload }
+        requires { self.old.stage ≡ Stage.Payload Level.Part }
         ensures ok { OnOk result (Finished self.old self.new payload) }
         ensures err { IfErr result (λ fault. fault ≡ StreamFault.NoMemory) }
         ensures kept { OnErr result (KeepsParts self.old self.new) }
@@ -430,7 +439,7 @@ impl<A: Allocator + Copy> Unbundler<A> {
         }
         self.parts_left = self.parts_left.saturating_sub(1);
         self.block.restart(header_room(self.parts_left));
-        self.stage = Stage::Header;
+        self.stage = Stage::Header(Level::Part);
         Ok(())
     }
 }

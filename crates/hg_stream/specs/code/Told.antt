@@ -15,6 +15,8 @@ use Rattle.hg_stream.specs.declared.fault.StreamFault.{StreamFault}
 use Rattle.hg_stream.specs.declared.fault.StreamFault.TheVariants.{NegativeSize, Params, Header, Chunk}
 use Rattle.hg_stream.specs.declared.fault.StreamFault.TheVariants.{ClientAbort, Unsupported, TooLarge}
 use Rattle.hg_stream.specs.declared.fault.StreamFault.TheVariants.{NoMemory}
+use Rattle.hg_stream.specs.declared.payloads.Level.{Level}
+use Rattle.hg_stream.specs.declared.payloads.Level.TheVariants as level
 use Rattle.hg_stream.specs.declared.interrupting.Verdict.{Verdict}
 use Rattle.hg_stream.specs.declared.interrupting.Verdict.TheVariants.{Dropped, Aborts, Refused}
 use Rattle.hg_stream.specs.Interrupting.{verdict_of}
@@ -63,3 +65,13 @@ abbrev pub RefusesInterrupting : Type 0 → List ℕ → StreamFault → Type 0
 RefusesInterrupting A block fault = RefusesHeader block fault
     ⊎ (((fault ≡ ClientAbort) × JudgesHeader A block Aborts)
     ⊎ ((fault ≡ Unsupported) × JudgesHeader A block Refused))
+
+-- the same of a header at that level
+abbrev pub RefusesHeaderAt : Type 0 → Level → List ℕ → StreamFault → Type 0
+RefusesHeaderAt A level.Part block fault = RefusesHeader block fault
+RefusesHeaderAt A level.Interrupting block fault = RefusesInterrupting A block fault
+
+-- a header was read: that of a part is kept, and that of an interrupting part leaves the one that is kept
+abbrev pub ReadsHeaderAt : {A : Type 0} → Level → List ℕ → Head A → Head A → Type 0
+ReadsHeaderAt level.Part block before after = IsHeader block after
+ReadsHeaderAt {A} level.Interrupting block before after = (after ≡ before) × ReadsInterrupting A block

@@ -5,6 +5,6 @@ pub invariant_of-result : goal.invariant_of-result
 invariant_of-result g c =
     record {
       allowed = c.requires;
-      payload_goes_on = reading_phase _ c.new-3.ensures.phase;
-      inner_goes_on = reading_phase _ c.new-4.ensures.phase;
+      part_goes_on = reading_phase _ c.new-3.ensures.part;
+      interrupting_goes_on = reading_phase _ c.new-3.ensures.interrupting;
     }
