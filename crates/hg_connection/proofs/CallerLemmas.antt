@@ -1,5 +1,5 @@
 -- Lemmas for callers: what the answer to a bundle's push says of the bundle.
-use Rattle.std.proofs.Common.{ℕ, ◌≡◌, ◌≤◌, ◌+◌, List, [], ◌∷◌, ◌++◌, refl, sym, ◌∙◌, ap, subst, length}
+use Rattle.std.proofs.Common.{ℕ, ◌≡◌, ◌≤◌, List, [], ◌∷◌, ◌++◌, refl, sym, ◌∙◌, ap, subst, length}
 use Rattle.hg_types.specs.declared.limits.Limits.{Limits}
 use Rattle.hg_types.specs.Limits.{IsAllowed}
 use Rattle.hg_types.specs.declared.part.Part.{Part}
@@ -19,12 +19,13 @@ use Rattle.hg_serve.specs.Answers.{Answers}
 use Rattle.hg_serve.specs.Clients.{SenderView, EndedView, Ends, GoesOn}
 use Rattle.hg_serve.specs.Histories.{newest_first}
 use Rattle.hg_devices.specs.Devices.{ReadAnswer, Gave}
-use Rattle.hg_connection.specs.declared.ending.Ending.{Ending}
-use Rattle.hg_connection.specs.declared.ending.Ending.TheVariants.{Whole, Fault, InputEnded, ReadFailed}
-use Rattle.hg_connection.specs.Receiving.{IsPiece, IsReceived, mark_of, part_items, push_items}
+use Rattle.hg_receiving.specs.declared.ending.Ending.{Ending}
+use Rattle.hg_receiving.specs.declared.ending.Ending.TheVariants.{Whole}
+use Rattle.hg_receiving.specs.Receiving.{IsPiece, IsReceived, mark_of, part_items, push_items}
+use Rattle.hg_receiving.proofs.CallerLemmas.{AbortedAreShort, DoneAreShort, PartsAreFew, end_whole}
+use Rattle.hg_receiving.proofs.CallerLemmas.{items_length, mark_empty, put_parts}
 use Rattle.hg_connection.proofs.Exchanges.{received_read}
-use Rattle.hg_connection.proofs.Putting.{PartsAreFew, items_length}
-use Rattle.hg_connection.proofs.Shortness.{AbortedAreShort, DoneAreShort, mark_empty, put_parts, reply_short}
+use Rattle.hg_connection.proofs.Shortness.{reply_short}
 
 -- the push that was answered put the bundle's parts and the mark that the ending asks for
 pub answers_bundle : {A : Type 0} (capacity : ℕ) (first : RepositoryOf A) (s new : SenderView A)
@@ -56,12 +57,6 @@ last_same [] (z ∷ w ∷ ys) x y e = absurd cc
 last_same (w ∷ []) [] x y e = absurd cc
 last_same (w ∷ v ∷ xs) [] x y e = absurd cc
 last_same (w ∷ xs) (z ∷ ys) x y e = let r : xs ++ x ∷ [] ≡ ys ++ y ∷ [] = cc in last_same xs ys x y r
-
-end_whole : {A : Type 0} (ending : Ending) → mark_of {A = A} ending ≡ End → ending ≡ Whole
-end_whole Whole e = refl
-end_whole (Fault fault) e = absurd cc
-end_whole InputEnded e = absurd cc
-end_whole ReadFailed e = absurd cc
 
 -- where the push is done, the bundle was read to its end mark, and its parts were run
 pub done_whole : {A : Type 0} (capacity : ℕ) (first : RepositoryOf A) (push : ℕ) (parts : List (Part A))

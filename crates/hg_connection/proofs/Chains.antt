@@ -24,13 +24,14 @@ use Rattle.hg_devices.proofs.CallerLemmas.{Adds-nil, Adds-trans}
 use Rattle.hg_devices.specs.declared.sending.Sending.{Sending}
 use Rattle.hg_devices.specs.declared.sending.Sending.TheVariants.{Whole as sent_whole, Broken, NoMemory}
 use Rattle.hg_devices.specs.Sent.{IsSent}
-use Rattle.hg_connection.specs.declared.ending.Ending.{Ending}
-use Rattle.hg_connection.specs.declared.ending.Ending.TheVariants.{Whole, Fault, InputEnded, ReadFailed}
-use Rattle.hg_connection.specs.declared.inbox.Next.TheVariants.{Comes, Ends as comes_no_more, Fails}
+use Rattle.hg_receiving.specs.declared.ending.Ending.{Ending}
+use Rattle.hg_receiving.specs.declared.ending.Ending.TheVariants.{Whole, Fault, InputEnded, ReadFailed}
+use Rattle.hg_connection.specs.declared.coming.Next.TheVariants.{Comes, Ends as comes_no_more, Fails}
 use Rattle.hg_connection.specs.declared.served.ConnFault.{ConnFault}
 use Rattle.hg_connection.specs.declared.served.ConnFault.TheVariants.{Open, ReadFailed as read_failed}
 use Rattle.hg_connection.specs.declared.served.Served.{Served}
-use Rattle.hg_connection.specs.Receiving.{IsNext, IsPiece, Keeps, Ran, state_at}
+use Rattle.hg_receiving.specs.Receiving.{IsPiece, Keeps, Ran, state_at}
+use Rattle.hg_connection.specs.Receiving.{IsNext}
 use Rattle.hg_connection.specs.Connections.{Exchange, IsExchange, AreExchanges, AreWhole, Connects, EndsBy}
 use Rattle.hg_connection.specs.Connections.{Serves, TellsLast, TellsOf, bytes_of, reads_of, uses_of}
 use Rattle.hg_connection.specs.Connections.{replies_of, gone_of, fault_of}

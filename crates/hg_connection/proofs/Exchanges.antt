@@ -20,13 +20,14 @@ use Rattle.hg_devices.specs.Devices.{Input, Output, ReadAnswer, Gave}
 use Rattle.hg_devices.proofs.CallerLemmas.{Adds-trans}
 use Rattle.hg_devices.specs.declared.sending.Sending.{Sending}
 use Rattle.hg_devices.specs.Sent.{Sends}
-use Rattle.hg_connection.specs.declared.ending.Ending.{Ending}
-use Rattle.hg_connection.specs.declared.ending.Ending.TheVariants.{Whole, Fault, InputEnded, ReadFailed}
-use Rattle.hg_connection.specs.Receiving.{Arrives, IsPiece, IsReceived, Receives, Stops, StopsIn, mark_of}
-use Rattle.hg_connection.specs.Receiving.{push_items}
+use Rattle.hg_receiving.specs.declared.ending.Ending.{Ending}
+use Rattle.hg_receiving.specs.declared.ending.Ending.TheVariants.{Whole, Fault, InputEnded, ReadFailed}
+use Rattle.hg_receiving.specs.Receiving.{IsPiece, IsReceived, Stops, StopsIn, mark_of}
+use Rattle.hg_connection.specs.Receiving.{Arrives, Receives}
+use Rattle.hg_receiving.specs.Receiving.{push_items}
 use Rattle.hg_connection.specs.Connections.{Exchange, Serves}
-use Rattle.hg_connection.proofs.Putting.{PartsAreFew, items_length}
-use Rattle.hg_connection.proofs.Shortness.{AbortedAreShort, DoneAreShort, reply_short}
+use Rattle.hg_receiving.proofs.CallerLemmas.{AbortedAreShort, DoneAreShort, PartsAreFew, items_length}
+use Rattle.hg_connection.proofs.Shortness.{reply_short}
 
 module _ {A : Type 0} (limits : Limits) (capacity : ℕ) (first : RepositoryOf A) (waited waiting : List ℕ)
     (input left : Input) (out sent : Output) (s new : SenderView A) (ending : Ending) (e : EndedView A)
@@ -57,9 +58,9 @@ module _ {A : Type 0} (limits : Limits) (capacity : ℕ) (first : RepositoryOf A
       → IsAllowed limits
       → Serves limits capacity first waited waiting input left out sent s.history
       (record {
-        reads = r.reads;
-        consumed = r.consumed;
-        rest = r.rest;
+        reads = r.bundle.reads;
+        consumed = r.bundle.consumed;
+        rest = r.bundle.rest;
         ending = ending;
         parts = r.parts;
         push = s.putter.push;
@@ -71,18 +72,18 @@ module _ {A : Type 0} (limits : Limits) (capacity : ℕ) (first : RepositoryOf A
         after = after;
       })
   serves fresh done_short aborted_short few allowed = record {
-    is = record { received = r.received; fresh = fresh; answers = answered; sent = w.sent };
-    more = r.more;
-    spelled = r.spelled;
-    bytes = r.bytes;
-    told = r.told;
-    keeps = r.keeps;
-    ran = r.ran;
+    is = record { received = r.bundle.received; fresh = fresh; answers = answered; sent = w.sent };
+    more = r.bundle.more;
+    spelled = r.bundle.spelled;
+    bytes = r.bundle.bytes;
+    told = r.bundle.told;
+    keeps = r.bundle.keeps;
+    ran = r.bundle.ran;
     went = w.bytes;
     used = w.told;
-    short = reply_short done_short aborted_short few limits capacity first waited r.reads ending r.parts
-        r.consumed
-        r.rest s.putter.push s.history how takes after allowed r.received answered;
+    short = reply_short done_short aborted_short few limits capacity first waited r.bundle.reads ending r.parts
+        r.bundle.consumed
+        r.bundle.rest s.putter.push s.history how takes after allowed r.bundle.received answered;
   }
 
 -- the bytes that were fed last were read, if not before the others then as the first
@@ -96,6 +97,7 @@ stops_read {A} limits piece pieces consumed rest s = record {
   goes_on = s.goes_on;
   consumed_is = s.consumed_is;
   fed_is = s.fed_is;
+  some = s.some;
   place = inr (elim s.place [
     | inl first ↦ ([], (λ i. sym first.2 i ∷ first.0 i), first.1)
     | inr later ↦ (piece ∷ later.0, ap (λ (ps : List (List ℕ)). piece ∷ ps) later.1, later.2)

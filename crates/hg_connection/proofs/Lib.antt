@@ -1,4 +1,3 @@
-mod Waiting
 mod Putting
 mod Receivings
 mod Shortness

@@ -1,81 +1,115 @@
 -- The parts of a bundle, put one after another.
-use Rattle.std.proofs.Common.{ℕ, ◌≡◌, ◌≤◌, ◌<◌, ◌+◌, List, [], ◌∷◌, ◌++◌, refl, sym, ◌∙◌, ap, arith, length}
-use Rattle.std.proofs.lemmas.List.{length-append}
+use Rattle.std.proofs.Common.{ℕ, ◌≡◌, ◌≤◌, ◌<◌, ◌+◌, List, [], ◌∷◌, ◌++◌, refl, sym, ◌∙◌, ap, subst, arith}
+use Rattle.std.proofs.Common.{append_assoc, length}
+use Rattle.std.proofs.lemmas.List.{append-nil, length-append}
 use Rattle.hg_types.specs.declared.part.Part.{Part}
-use Rattle.hg_types.specs.declared.limits.Limits.{Limits}
 use Rattle.hg_types.specs.declared.item.Item.{Item}
 use Rattle.hg_types.specs.declared.item.What.TheVariants.{Part as a_part}
-use Rattle.hg_types.specs.Limits.{IsAllowed}
 use Rattle.hg_queue.specs.Words.{next_item}
 use Rattle.hg_stream.specs.declared.unbundler.Unbundler.{Unbundler}
-use Rattle.hg_stream.specs.declared.state.State.{State}
-use Rattle.hg_stream.specs.Faults.{Tells}
-use Rattle.hg_stream.specs.Unbundler.{Holds, limits_of, ready_of, state_of}
+use Rattle.hg_stream.specs.Unbundler.{Holds}
 use Rattle.hg_serve.specs.Clients.{SenderView, GoesOn, Adds}
-use Rattle.hg_connection.specs.Receiving.{Carries, part_items}
+use Rattle.hg_receiving.specs.Receiving.{part_items}
+use Rattle.hg_receiving.proofs.CallerLemmas.{items_append, items_length, items_more}
+use Rattle.hg_connection.specs.Receiving.{Puts}
 
--- a part as an item
-abbrev part_item : {A : Type 0} → ℕ → ℕ → Part A → Item A
-part_item push index part = record { push = push; index = index; what = a_part part }
+-- none was put yet
+pub puts_none : {A : Type 0} (s : SenderView A) → Puts s s []
+puts_none s = record {
+  push = refl;
+  put_is = sym (append-nil s.putter.put);
+  fulls = omega arith;
+  history = refl;
+}
 
-pub items_more : {A : Type 0} (push index : ℕ) (parts : List (Part A)) (part : Part A)
-    → part_items push index (parts ++ part ∷ []) ≡ part_items push index parts
-    ++ record { push = push; index = index + length parts; what = a_part part } ∷ []
-items_more {A} push index [] part =
-    let e : index ≡ index + 0 = omega arith in ap (λ (n : ℕ). part_item push n part ∷ []) e
-items_more {A} push index (other ∷ parts) part =
-    let e : (index + 1) + length parts ≡ index + length (other ∷ parts) = omega arith in
-    ap (λ (l : List (Item A)). part_item push index other ∷ l)
-    (items_more push (index + 1) parts part
-    ∙ ap (λ (n : ℕ). part_items push (index + 1) parts ++ part_item push n part ∷ []) e)
+pub holds_none : {A : Type 0} (u : Unbundler A) (given : List (Part A)) (bytes : List ℕ) → Holds u given bytes
+    → Holds u (given ++ []) bytes
+holds_none {A} u given bytes holds = subst (λ (l : List (Part A)). Holds u l bytes) (sym (append-nil given)) holds
 
-pub items_length : {A : Type 0} (push index : ℕ) (parts : List (Part A))
-    → length (part_items push index parts) ≡ length parts
-items_length push index [] = refl
-items_length push index (part ∷ parts) = let e = items_length push (index + 1) parts in omega (arith, e)
+pub holds_more : {A : Type 0} (u : Unbundler A) (given taken more : List (Part A)) (bytes : List ℕ)
+    → Holds u ((given ++ taken) ++ more) bytes → Holds u (given ++ (taken ++ more)) bytes
+holds_more {A} u given taken more bytes holds =
+    subst (λ (l : List (Part A)). Holds u l bytes) (append_assoc given taken more) holds
+
+-- so many were put
+pub puts_count : {A : Type 0} (old s : SenderView A) (taken : List (Part A)) → Puts old s taken
+    → length s.putter.put ≡ length old.putter.put + length taken
+puts_count {A} old s taken p =
+    let e : length s.putter.put ≡ length (old.putter.put
+    ++ part_items old.putter.push (length old.putter.put) taken) = ap (λ (l : List (Item A)). length l) p.put_is in
+    let sum = length-append old.putter.put (part_items old.putter.push (length old.putter.put) taken) in
+    let count = items_length old.putter.push (length old.putter.put) taken in
+    omega (arith, e, sum, count)
 
 -- one part more was put
-pub carries_more : {A : Type 0} (limits : Limits) (s new : SenderView A) (u v : Unbundler A) (bytes : List ℕ)
-    (given : List (Part A)) (part : Part A)
-    → Holds v (given ++ part ∷ []) bytes → limits_of v ≡ limits_of u → Adds s (a_part part) new
-    → Carries limits s u bytes given → Carries limits new v bytes (given ++ part ∷ [])
-carries_more {A} limits s new u v bytes given part holds same adds c =
-    let plain : length s.putter.put ≡ length given = ap (λ (l : List (Item A)). length l) c.put
-    ∙ items_length s.putter.push 0 given in
-    let count : length s.putter.put ≡ 0 + length given = omega (arith, plain) in
-    let item : next_item s.putter (a_part part) ≡ part_item s.putter.push (0 + length given) part =
-    ap (λ (n : ℕ). part_item s.putter.push n part) count in
-    let now : new.putter.put ≡ part_items s.putter.push 0 (given ++ part ∷ []) = adds.put_is
-    ∙ ((λ i. c.put i ++ item i ∷ []) ∙ sym (items_more s.putter.push 0 given part)) in
+pub puts_more : {A : Type 0} (old s new : SenderView A) (taken : List (Part A)) (part : Part A)
+    → Puts old s taken → Adds s (a_part part) new → Puts old new (taken ++ part ∷ [])
+puts_more {A} old s new taken part p adds =
+    let before = length old.putter.put in
+    let f = p.fulls in
+    let h = adds.fulls in
+    let count = puts_count old s taken p in
+    let item : next_item s.putter (a_part part) ≡ record {
+      push = old.putter.push;
+      index = before + length taken;
+      what = a_part part;
+    } = λ i.
+    record { push = p.push i; index = count i; what = a_part part } in
+    let put : new.putter.put ≡ (old.putter.put ++ part_items old.putter.push before taken)
+    ++ part_items old.putter.push (before + length taken) (part ∷ []) = adds.put_is
+    ∙ (λ i. p.put_is i ++ item i ∷ []) in
     record {
-      holds = holds;
-      limits_are = same ∙ c.limits_are;
-      put = now ∙ ap (λ (p : ℕ). part_items p 0 (given ++ part ∷ [])) (sym adds.push);
+      push = adds.push ∙ p.push;
+      put_is = put ∙ append_assoc old.putter.put (part_items old.putter.push before taken)
+          (part_items old.putter.push (before + length taken) (part ∷ []))
+          ∙ ap (λ (l : List (Item A)). old.putter.put ++ l)
+          (sym (items_more old.putter.push before taken part));
+      fulls = omega (arith, f, h);
+      history = adds.history ∙ p.history;
     }
 
--- the law `parts_are_few`
-abbrev pub PartsAreFew : Type 0 → Type 0
-PartsAreFew A = (limits : Limits) (state : State) (bytes : List ℕ) (parts : List (Part A))
-    → Tells state limits bytes parts → length parts ≤ limits.parts
-
 -- there is room for each part
-pub has_room : {A : Type 0} → PartsAreFew A
-    → (limits : Limits) (s : SenderView A) (u v : Unbundler A) (bytes : List ℕ) (given : List (Part A))
-    (part : Part A)
-    → Holds v (given ++ part ∷ []) bytes → limits_of v ≡ limits_of u → IsAllowed limits
-    → Carries limits s u bytes given → length s.putter.put < 10000
-has_room {A} few limits s u v bytes given part holds same allowed c =
-    let count : length s.putter.put ≡ length given = ap (λ (l : List (Item A)). length l) c.put
-    ∙ items_length s.putter.push 0 given in
-    let least : length ((given ++ part ∷ []) ++ ready_of v) ≤ (limits_of v).parts = few (limits_of v)
-    (state_of v) bytes ((given ++ part ∷ []) ++ ready_of v) holds.tells in
-    let limit : (limits_of v).parts ≡ limits.parts = ap (λ (l : Limits). l.parts) (same ∙ c.limits_are) in
-    let most : limits.parts ≤ 10000 = allowed.parts.1 in
-    let long = length-append (given ++ part ∷ []) (ready_of v) in
-    let long' = length-append given (part ∷ []) in
-    omega (arith, count, least, limit, most, long, long')
+pub has_room : {A : Type 0} (old s : SenderView A) (ready taken left : List (Part A)) (part : Part A)
+    → Puts old s taken → ready ≡ taken ++ part ∷ left → length old.putter.put + length ready ≤ 10000
+    → length s.putter.put < 10000
+has_room {A} old s ready taken left part p spelled few =
+    let count = puts_count old s taken p in
+    let e : length ready ≡ length (taken ++ part ∷ left) = ap (λ (l : List (Part A)). length l) spelled in
+    let sum = length-append taken (part ∷ left) in
+    omega (arith, count, e, sum, few)
 
-pub goes_further : {A : Type 0} (old s new : SenderView A) (put : List (Item A)) → GoesOn old s s.putter.put
-    → GoesOn s new put → GoesOn old new new.putter.put
-goes_further old s new put a b = let f = a.fulls in let h = b.fulls in
-    record { push = b.push ∙ a.push; put_is = refl; fulls = omega arith; history = b.history ∙ a.history }
+-- none is left
+pub all_taken : {X : Type 0} (ready taken left : List X) → ready ≡ taken ++ left → left ≡ [] → taken ≡ ready
+all_taken {X} ready taken left spelled none =
+    sym (spelled ∙ ap (λ (l : List X). taken ++ l) none ∙ append-nil taken)
+
+-- more parts were put of a push that had put these
+pub put_more : {A : Type 0} (first s new : SenderView A) (given more : List (Part A))
+    → GoesOn first s (part_items first.putter.push 0 given) → Puts s new more
+    → GoesOn first new (part_items first.putter.push 0 (given ++ more))
+put_more {A} first s new given more g p =
+    let count : length s.putter.put ≡ 0 + length given =
+    let e : length s.putter.put ≡ length (part_items first.putter.push 0 given) =
+    ap (λ (l : List (Item A)). length l) g.put_is in
+    let n = items_length first.putter.push 0 given in
+    omega (arith, e, n) in
+    let f = g.fulls in
+    let h = p.fulls in
+    record {
+      push = p.push ∙ g.push;
+      put_is = p.put_is ∙ (λ i. g.put_is i ++ part_items (g.push i) (count i) more)
+          ∙ sym (items_append first.putter.push 0 given more);
+      fulls = omega (arith, f, h);
+      history = p.history ∙ g.history;
+    }
+
+-- the parts that are ready have room after those that were put
+pub room_for : {A : Type 0} (first s : SenderView A) (given ready : List (Part A)) (most : ℕ)
+    → GoesOn first s (part_items first.putter.push 0 given) → length (given ++ ready) ≤ most → most ≤ 10000
+    → length s.putter.put + length ready ≤ 10000
+room_for {A} first s given ready most g few limit =
+    let e : length s.putter.put ≡ length (part_items first.putter.push 0 given) =
+    ap (λ (l : List (Item A)). length l) g.put_is in
+    let n = items_length first.putter.push 0 given in
+    let sum = length-append given ready in
+    omega (arith, e, n, sum, few, limit)

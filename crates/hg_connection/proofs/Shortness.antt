@@ -1,51 +1,25 @@
 -- The reply to a bundle's push is short: its parts are few.
-use Rattle.std.proofs.Common.{ℕ, ◌≡◌, ◌≤◌, ◌+◌, List, [], ◌∷◌, ◌++◌, refl, ap, arith, length, Some}
+use Rattle.std.proofs.Common.{ℕ, ◌≡◌, ◌≤◌, List, refl, ap, arith, length}
 use Rattle.hg_types.specs.declared.part.Part.{Part}
 use Rattle.hg_types.specs.declared.limits.Limits.{Limits}
 use Rattle.hg_types.specs.declared.item.Item.{Item}
 use Rattle.hg_types.specs.declared.item.Taken.{Taken}
-use Rattle.hg_types.specs.declared.item.What.{What}
 use Rattle.hg_types.specs.Limits.{IsAllowed}
 use Rattle.hg_repo.specs.declared.done.Done.{Done}
 use Rattle.hg_parts.specs.declared.refusal.Refusal.{Refusal}
 use Rattle.hg_push.specs.declared.outcome.Outcome.{Outcome}
 use Rattle.hg_push.specs.declared.outcome.Outcome.TheVariants.{Done as done_with, Aborted}
-use Rattle.hg_push.specs.declared.outcome.Reason.{Reason}
-use Rattle.hg_push.specs.History.{History, outcome, part_in, parts as ran_parts}
+use Rattle.hg_push.specs.History.{parts as ran_parts}
 use Rattle.hg_push.specs.Lengths.{greatest_reply, most_parts}
-use Rattle.hg_push.specs.Reply.{CanBeTold, reply_of}
-use Rattle.hg_push.specs.Run.{RepositoryOf, run_push}
+use Rattle.hg_push.specs.Reply.{reply_of}
+use Rattle.hg_push.specs.Run.{RepositoryOf}
 use Rattle.hg_push.specs.World.{all_parts}
 use Rattle.hg_serve.specs.Answers.{Answers}
 use Rattle.hg_serve.specs.Histories.{newest_first}
-use Rattle.hg_connection.specs.declared.ending.Ending.{Ending}
-use Rattle.hg_connection.specs.declared.ending.Ending.TheVariants.{Whole, Fault, InputEnded, ReadFailed}
-use Rattle.hg_connection.specs.Receiving.{IsReceived, mark_of, part_items, push_items, state_at}
+use Rattle.hg_receiving.specs.declared.ending.Ending.{Ending}
+use Rattle.hg_receiving.specs.Receiving.{IsReceived, mark_of, push_items, state_at}
 use Rattle.hg_devices.specs.Devices.{ReadAnswer}
-use Rattle.hg_connection.proofs.Putting.{PartsAreFew}
-
--- the law `replies_are_short`: of pushes that are done, and of aborted ones
-abbrev pub DoneAreShort : Type 0 → Type 0
-DoneAreShort A = (first : RepositoryOf A) (p : ℕ) (h : History A) (done : Done A)
-    → outcome run_push first p h ≡ Some (done_with done) → CanBeTold (done_with done)
-    → length (ran_parts p h) ≤ most_parts → length (reply_of (done_with done)) ≤ greatest_reply
-
-abbrev pub AbortedAreShort : Type 0 → Type 0
-AbortedAreShort A = (reason : Reason (Refusal A)) → length (reply_of (Aborted reason)) ≤ greatest_reply
-
-pub mark_empty : {A : Type 0} (ending : Ending) → part_in {A = A} (mark_of ending) ≡ []
-mark_empty Whole = refl
-mark_empty (Fault fault) = refl
-mark_empty InputEnded = refl
-mark_empty ReadFailed = refl
-
--- the parts of what was put
-pub put_parts : {A : Type 0} (push index count : ℕ) (parts : List (Part A)) (mark : What A) → part_in mark ≡ []
-    → all_parts (part_items push index parts ++ record { push = push; index = count; what = mark } ∷ [])
-    ≡ parts
-put_parts {A} push index count [] mark none = ap (λ (ps : List (Part A)). ps ++ []) none
-put_parts {A} push index count (part ∷ parts) mark none =
-    ap (λ (ps : List (Part A)). part ∷ ps) (put_parts push (index + 1) count parts mark none)
+use Rattle.hg_receiving.proofs.CallerLemmas.{AbortedAreShort, DoneAreShort, PartsAreFew, mark_empty, put_parts}
 
 answer_short : {A : Type 0} → DoneAreShort A → AbortedAreShort A
     → (capacity : ℕ) (first : RepositoryOf A) (push : ℕ) (put : List (Item A)) (before : List (Taken A))

@@ -20,13 +20,13 @@ use Rattle.hg_devices.specs.Devices.{Input, Output, ReadAnswer, WriteAnswer, Gav
 use Rattle.hg_devices.specs.declared.sending.Sending.{Sending}
 use Rattle.hg_devices.specs.declared.sending.Sending.TheVariants.{Whole as sent_whole, Broken, NoMemory}
 use Rattle.hg_devices.specs.Sent.{IsSent}
-use Rattle.hg_connection.specs.declared.ending.Ending.{Ending}
-use Rattle.hg_connection.specs.declared.ending.Ending.TheVariants.{Whole, Fault, InputEnded, ReadFailed}
+use Rattle.hg_receiving.specs.declared.ending.Ending.{Ending}
+use Rattle.hg_receiving.specs.declared.ending.Ending.TheVariants.{Whole, Fault, InputEnded, ReadFailed}
 use Rattle.hg_connection.specs.declared.served.ConnFault.{ConnFault}
 use Rattle.hg_connection.specs.declared.served.ConnFault.TheVariants.{Open, ReadFailed as read_failed, Stream}
 use Rattle.hg_connection.specs.declared.served.ConnFault.TheVariants.{WriteFailed, NoMemory as without_memory}
 use Rattle.hg_connection.specs.declared.served.Served.{Served}
-use Rattle.hg_connection.specs.Receiving.{IsReceived, Keeps, Ran, mark_of, push_items}
+use Rattle.hg_receiving.specs.Receiving.{IsReceived, Keeps, Ran, mark_of, push_items}
 
 -- One bundle of a connection: how its reader was read, the bytes that are the bundle's and those that were
 -- read after them, why no more was read of it, and its parts; its push, how that ended and how many items

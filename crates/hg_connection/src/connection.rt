@@ -1,35 +1,25 @@
 //! A connection: bundles from any reader, and their replies to any writer.
 
-ghost use Rattle.std.specs.Prelude.{◌≡◌, ◌≤◌, [], ℕ, List};
+ghost use Rattle.std.specs.Prelude.{◌≡◌, ◌≤◌, ◌+◌, ◌++◌, [], ℕ, List, length};
 ghost use Rattle.hg_types.specs.declared.part.Part.{Part as AnyPart};
-ghost use Rattle.hg_stream.specs.Unbundler.{limits_of, ready_of, state_of};
+ghost use Rattle.hg_stream.specs.Unbundler.{Holds, limits_of, ready_of, state_of};
 ghost use Rattle.hg_stream.specs.declared.state.State.TheVariants.{Ended as at_end_mark};
 ghost use Rattle.hg_queue.specs.History.{of, items_of};
-ghost use Rattle.hg_serve.specs.Clients.{GoesOn};
-ghost use Rattle.hg_connection.specs.declared.ending.Ending.TheVariants.{Whole};
-ghost use Rattle.hg_connection.specs.Receiving.{Carries, Feeds, IsFresh, Receives};
+ghost use Rattle.hg_receiving.specs.declared.ending.Ending.TheVariants.{Whole};
+ghost use Rattle.hg_connection.specs.Receiving.{IsFresh, Puts, Receives};
 ghost use Rattle.hg_connection.specs.Connections.{Connects, Exchange, Serves, TellsOf};
 
-use crate::ending::{Ending, mark};
-use crate::inbox::{Inbox, Next, next_bundle};
-use crate::reply::send_reply;
+use crate::coming::{Next, next_bundle};
+use crate::ending::mark;
 use crate::served::{ConnFault, Round, Served};
 use hg_devices::{Reader, Writer};
 use hg_push::laws::replies_are_short;
+use hg_receiving::{Ending, Inbox, send_reply, turn};
 use hg_serve::{Client, Gate, Naming, Point, Sender, Server};
+use hg_stream::Unbundler;
 use hg_stream::laws::{parts_are_few, streams_are_settled_once};
-use hg_stream::{State, Unbundler};
 use std::alloc::Allocator;
 use std::sync::Wait;
-
-/// Feeds the bytes that wait.
-pub(crate) fn feed_waiting<A: Allocator + Copy>(bundle: &mut Unbundler<A>, inbox: &mut Inbox)
-    ensures { Feeds bundle.old bundle.new inbox.old inbox.new }
-{
-    if let Ok(count) = bundle.feed(inbox.pending()) {
-        inbox.skip(count);
-    }
-}
 
 /// Puts the parts that the bundle has finished.
 pub(crate) fn put_ready<J: Naming<A>, A: Allocator + Copy, R: Wait, G: Gate>(
@@ -39,17 +29,13 @@ pub(crate) fn put_ready<J: Naming<A>, A: Allocator + Copy, R: Wait, G: Gate>(
     bundle: &mut Unbundler<A>,
     gate: &mut G,
 )
-    requires { (bytes : List ℕ) × (given : List (AnyPart A))
-        × Carries server.now sender.old bundle.old bytes given }
-    ensures put { (bytes : List ℕ) (given : List (AnyPart A))
-        → Carries server.now sender.old bundle.old bytes given
-        → (all : List (AnyPart A)) × Carries server.now sender.new bundle.new bytes all }
-    ensures sender { GoesOn sender.old sender.new sender.new.putter.put }
+    requires { length sender.old.putter.put + length (ready_of bundle.old) ≤ 10000 }
+    ensures put { Puts sender.old sender.new (ready_of bundle.old) }
+    ensures holds { (given : List (AnyPart A)) (bytes : List ℕ) → Holds bundle.old given bytes →
+        Holds bundle.new (given ++ ready_of bundle.old) bytes }
     ensures bundle { (state_of bundle.new ≡ state_of bundle.old) × (ready_of bundle.new ≡ []) }
     ensures limits { limits_of bundle.new ≡ limits_of bundle.old }
 {
-    parts_are_few::<A>();
-    let _limits = server.limits();
     'parts: while let Some(part) = bundle.next_part() {
         match server.put(rt, sender, part, gate) {
             Ok(()) => {}
@@ -77,19 +63,14 @@ fn receive<J: Naming<A>, A: Allocator + Copy, R: Wait, I: Reader, G: Gate>(
     ensures whole { result ≡ Whole → (state_of bundle.new ≡ at_end_mark) × (ready_of bundle.new ≡ []) }
     ensures limits { limits_of bundle.new ≡ limits_of bundle.old }
 {
+    parts_are_few::<A>();
     let most = server.limits().stream;
     'turns: for _turn in 0..=most {
-        let _waiting = match inbox.fill(reader) {
-            None => return Ending::ReadFailed,
-            Some(0) => return Ending::InputEnded,
-            Some(count) => count,
-        };
-        feed_waiting(bundle, inbox);
+        let ended = turn(bundle, inbox, reader);
         put_ready(server, rt, sender, bundle, gate);
-        match bundle.state() {
-            State::Reading => {}
-            State::Ended => return Ending::Whole,
-            State::Failed(fault) => return Ending::Fault(fault),
+        match ended {
+            None => {}
+            Some(ending) => return ending,
         }
     }
     unreachable!()

@@ -3,16 +3,16 @@
 ghost use Rattle.std.specs.Prelude.{◌≡◌, []};
 ghost use Rattle.hg_stream.specs.Unbundler.{limits_of, ready_of, state_of};
 ghost use Rattle.hg_stream.specs.declared.state.State.TheVariants.{Ended as at_end_mark};
-ghost use Rattle.hg_connection.specs.declared.ending.Ending.TheVariants.{Whole};
+ghost use Rattle.hg_receiving.specs.declared.ending.Ending.TheVariants.{Whole};
 ghost use Rattle.hg_connection.specs.Receiving.{IsFresh};
 ghost use Rattle.hg_connection.specs.Keeping.{ReceivesKept};
 
-use crate::connection::{feed_waiting, put_ready};
-use crate::ending::Ending;
-use crate::inbox::Inbox;
+use crate::connection::put_ready;
 use hg_devices::Reader;
+use hg_receiving::{Ending, Inbox};
 use hg_serve::{Gate, Naming, Sender, Server};
-use hg_stream::{State, StreamFault, Unbundler};
+use hg_stream::laws::parts_are_few;
+use hg_stream::{StreamFault, Unbundler};
 use std::alloc::Allocator;
 use std::sync::Wait;
 
@@ -37,25 +37,25 @@ pub fn receive_kept<J: Naming<A>, A: Allocator + Copy, R: Wait, I: Reader, G: Ga
     ensures whole { result ≡ Whole → (state_of bundle.new ≡ at_end_mark) × (ready_of bundle.new ≡ []) }
     ensures limits { limits_of bundle.new ≡ limits_of bundle.old }
 {
+    parts_are_few::<A>();
     let most = server.limits().stream;
     'turns: for _turn in 0..=most {
-        let _waiting = match inbox.fill(reader) {
-            None => return Ending::ReadFailed,
-            Some(0) => return Ending::InputEnded,
-            Some(count) => count,
-        };
+        match inbox.fill(reader) {
+            None => {}
+            Some(ending) => return ending,
+        }
         if kept.extend_from_slice(inbox.pending()).is_err() {
             return Ending::Fault(StreamFault::NoMemory);
         }
-        feed_waiting(bundle, inbox);
+        let ended = inbox.feed(bundle);
         put_ready(server, rt, sender, bundle, gate);
-        match bundle.state() {
-            State::Reading => {}
-            State::Ended => {
+        match ended {
+            None => {}
+            Some(ending) => {
+                // what waits is not of this bundle
                 kept.truncate(kept.len() - inbox.pending().len());
-                return Ending::Whole;
+                return ending;
             }
-            State::Failed(fault) => return Ending::Fault(fault),
         }
     }
     unreachable!()

@@ -7,20 +7,18 @@
 //! reader or a writer is used.
 //!
 //! For a server that has to keep what it answers, the steps of one bundle stand alone: [`receive_kept`] keeps
-//! the bytes of a bundle as they are read, [`mark`] puts the mark of its push and [`send_reply`] sends the
-//! reply, so that a caller can do its own between them.
+//! the bytes of a bundle as they are read, and [`mark`] puts the mark of its push, so that a caller can do its own
+//! between them and before the reply.
 #![tactic(auto)]
 
+mod coming;
 mod connection;
 mod ending;
-mod inbox;
 mod keeping;
-mod reply;
 mod served;
 
+pub use coming::{Next, next_bundle};
 pub use connection::serve_connection;
-pub use ending::{Ending, mark};
-pub use inbox::{Inbox, Next, next_bundle};
+pub use ending::mark;
 pub use keeping::receive_kept;
-pub use reply::send_reply;
 pub use served::{ConnFault, Served, fault_of};

@@ -3,9 +3,9 @@
 ghost use Rattle.std.specs.Prelude.{◌≡◌, ◌<◌, ◌^◌, ◌+◌, None, Some};
 ghost use Rattle.hg_connection.specs.Connections.{fault_of};
 
-use crate::ending::Ending;
 use hg_devices::Sending;
 use hg_push::OpenFault;
+use hg_receiving::Ending;
 use hg_serve::Answer;
 use hg_stream::StreamFault;
 use std::alloc::{Allocator, Global};

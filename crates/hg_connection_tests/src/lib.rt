@@ -15,6 +15,10 @@
 //! (`memory_is_gone_before_a_bundle`). Those before it are answered. It is not opened, and its
 //! bytes are dropped; or it is done, and there is no memory for its reply. Both occur.
 //!
+//! Over a heap of 65,536 bytes `A` with a third part is refused memory at the take of its second part
+//! (`memory_is_refused_at_a_take`): 60 bytes, `out of memory`. Another client pushes `A` and then a
+//! child of its changeset: 67 bytes each, and the report has two lines.
+//!
 //! More connections that are held until another one was answered, with `E` each, at the capacities
 //! 1 and 8: in the first read and in the one after the reply (`a_read_holds_no_other_connection`);
 //! after the mark, after the answer, in a write and in the flush

@@ -1,9 +1,6 @@
 -- One bundle, from the opening of its push to the status.
-use Rattle.std.proofs.Common.{ℕ, Bool, true, ◌≡◌, ◌≤◌, ◌<◌, ◌^◌, List, [], sym, ◌∙◌, ap, subst, arith, length}
-use Rattle.std.proofs.Common.{◌++◌}
-use Rattle.std.specs.List.{concat}
+use Rattle.std.proofs.Common.{ℕ, Bool, true, ◌≡◌, ◌≤◌, ◌<◌, ◌^◌, List, [], ◌∙◌, ap, subst, arith, length}
 use Rattle.hg_types.specs.declared.part.Part.{Part}
-use Rattle.hg_types.specs.declared.limits.Limits.{Limits}
 use Rattle.hg_types.specs.Limits.{IsAllowed, standard_limits}
 use Rattle.hg_repo.specs.declared.done.Done.{Done}
 use Rattle.hg_parts.specs.declared.refusal.Refusal.{Refusal}
@@ -13,14 +10,14 @@ use Rattle.hg_push.specs.History.{History}
 use Rattle.hg_push.specs.Lengths.{greatest_reply}
 use Rattle.hg_push.specs.Reply.{reply_of}
 use Rattle.hg_push.specs.Run.{RepositoryOf, run_push}
-use Rattle.hg_stream.specs.declared.state.State.{State}
-use Rattle.hg_stream.specs.Faults.{Tells}
-use Rattle.hg_replay.specs.declared.ending.Ending.{Ending}
+use Rattle.hg_receiving.specs.declared.ending.Ending.{Ending}
 use Rattle.hg_devices.specs.declared.sending.Sending.{Sending}
 use Rattle.hg_devices.specs.Devices.{Input, Output}
-use Rattle.hg_replay.specs.Receiving.{Received, items_of, mark_of, state_at}
+use Rattle.hg_receiving.specs.Receiving.{mark_of, push_items, state_at}
+use Rattle.hg_replay.specs.Receiving.{Received}
 use Rattle.hg_replay.specs.Taking.{BookOf, Ends, HasTaken, IsIdle, Leaves, Takes}
 use Rattle.hg_replay.specs.Answering.{Answered, IsSentTo, empty_repository, status_of}
+use Rattle.hg_receiving.proofs.CallerLemmas.{PartsAreFew}
 use Rattle.hg_replay.proofs.Items.{begins}
 
 pub allowed : IsAllowed standard_limits
@@ -34,16 +31,11 @@ allowed = record {
   revisions = (omega arith, omega arith);
 }
 
--- the law `parts_are_few`
-abbrev pub PartsAreFew : Type 0 → Type 0
-PartsAreFew A = (limits : Limits) (state : State) (bytes : List ℕ) (parts : List (Part A))
-    → Tells state limits bytes parts → length parts ≤ limits.parts
-
 pub few_received : {A : Type 0} → PartsAreFew A
     → (before after : Input) (ending : Ending) (parts : List (Part A))
     → Received standard_limits before after ending parts → length parts < 2 ^ 32
 few_received law before after ending parts r =
-    omega (arith, law standard_limits (state_at ending) (concat r.pieces ++ r.taken) parts r.tells)
+    omega (arith, law standard_limits (state_at ending) r.1.consumed parts r.1.received.tells)
 
 -- an opened push was received, run and ended
 pub takes : {A : Type 0} (input left : Input) (old mid new : BookOf A) (push : ℕ) (ending : Ending)
@@ -53,14 +45,14 @@ pub takes : {A : Type 0} (input left : Input) (old mid new : BookOf A) (push : �
     → ((first : RepositoryOf A) (h : History A) → Holds run_push first h old → Holds run_push first h mid)
     → new.next ≡ mid.next
     → ((first : RepositoryOf A) (before : History A) → HasTaken first before push mid []
-    → Leaves first before push (items_of push parts (mark_of ending)) how new)
+    → Leaves first before push (push_items push parts (mark_of ending)) how new)
     → Takes input left old new ending how
 takes {A} input left old mid new push ending parts how received opens opened holds next leaves = record {
   parts = parts;
   received = received;
   next = next ∙ ap (λ (b : BookOf A). b.next) opens.1;
   leaves = λ first before idle.
-      subst (λ (p : ℕ). Leaves first before p (items_of p parts (mark_of ending)) how new) opens.0
+      subst (λ (p : ℕ). Leaves first before p (push_items p parts (mark_of ending)) how new) opens.0
       (leaves first before (begins first before push old mid idle opens opened holds));
 }
 
@@ -88,7 +80,7 @@ answers {A} publishing input input_after output output_after status old new endi
       received = t.received;
       how = how;
       ends = subst (λ (p : ℕ). Ends {A = A} (empty_repository publishing) [] p
-          (items_of p t.parts (mark_of ending)) how) none (t.leaves (empty_repository publishing) [] idle).ends;
+          (push_items p t.parts (mark_of ending)) how) none (t.leaves (empty_repository publishing) [] idle).ends;
       short = short;
       sending = sending;
       sent = sent;

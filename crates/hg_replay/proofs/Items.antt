@@ -17,27 +17,13 @@ use Rattle.hg_push.specs.Book.{Holds, IsSameOpenings, Opens, is_opened, stepped}
 use Rattle.hg_push.specs.Reply.{CanBeTold}
 use Rattle.hg_push.specs.Rows.{row_of, rows_without}
 use Rattle.hg_push.specs.Run.{RepositoryOf, run_push}
-use Rattle.hg_replay.specs.declared.ending.Ending.{Ending}
-use Rattle.hg_replay.specs.declared.ending.Ending.TheVariants.{Whole, Fault, InputEnded, ReadFailed}
+use Rattle.hg_receiving.specs.declared.ending.Ending.{Ending}
+use Rattle.hg_receiving.specs.declared.ending.Ending.TheVariants.{Whole, Fault, InputEnded, ReadFailed}
 use Rattle.hg_types.specs.declared.item.What.{What}
 use Rattle.hg_types.specs.declared.item.Taken.{Taken}
-use Rattle.hg_replay.specs.Receiving.{items_of, mark_of, part_items}
-use Rattle.hg_replay.specs.Taking.{BookOf, Ends, HasTaken, IsIdle, Leaves}
-
--- a part as an item
-abbrev part_item : {A : Type 0} → ℕ → ℕ → Part A → Item A
-part_item push index part = record { push = push; index = index; what = a_part part }
-
-pub items_more : {A : Type 0} (push index : ℕ) (parts : List (Part A)) (part : Part A)
-    → part_items push index (parts ++ part ∷ []) ≡ part_items push index parts
-    ++ record { push = push; index = index + length parts; what = a_part part } ∷ []
-items_more {A} push index [] part =
-    let e : index ≡ index + 0 = omega arith in ap (λ (n : ℕ). part_item push n part ∷ []) e
-items_more {A} push index (other ∷ parts) part =
-    let e : (index + 1) + length parts ≡ index + length (other ∷ parts) = omega arith in
-    ap (λ (l : List (Item A)). part_item push index other ∷ l)
-    (items_more push (index + 1) parts part
-    ∙ ap (λ (n : ℕ). part_items push (index + 1) parts ++ part_item push n part ∷ []) e)
+use Rattle.hg_receiving.specs.Receiving.{mark_of, part_items, push_items}
+use Rattle.hg_receiving.proofs.CallerLemmas.{items_more}
+use Rattle.hg_replay.specs.Taking.{BookOf, HasTaken, IsIdle, Leaves}
 
 -- a step of the book, as its contract tells it
 pub record Steps {A : Type 0} (b new : BookOf A) (item : Item A) (refused : Bool) : Type 0 where
@@ -194,9 +180,9 @@ one_stepped {A} old b new push index part refused ready left parts is s steps = 
   next = steps.pushes.next ∙ s.next;
   taken = λ first before t.
       let from_none : index ≡ 0 + length s.given = omega (arith, s.index_is) in
-      let e : part_items push 0 s.given ++ part_item push index part
-      ∷ [] ≡ part_items push 0 (s.given ++ part ∷ []) =
-      ap (λ (n : ℕ). part_items push 0 s.given ++ part_item push n part ∷ []) from_none
+      let e : part_items push 0 s.given ++ part_items push index (part
+      ∷ []) ≡ part_items push 0 (s.given ++ part ∷ []) =
+      ap (λ (n : ℕ). part_items push 0 s.given ++ part_items push n (part ∷ [])) from_none
       ∙ sym (items_more push 0 s.given part) in
       subst (HasTaken first before push new) e
       (has_stepped first before push b new (part_items push 0 s.given)
@@ -242,7 +228,7 @@ pub whole_push : {A : Type 0} → ClosedAreEnded A
     (ending : Ending) (index : ℕ) (what : What A) (refused : Bool) → index ≡ length parts
     → what ≡ mark_of ending → Steps b new (record { push = push; index = index; what = what }) refused
     → HasTaken first before push b (part_items push 0 parts)
-    → Closes first before push new (items_of push parts (mark_of ending))
+    → Closes first before push new (push_items push parts (mark_of ending))
 whole_push {A} law first before push b new parts ending index what refused counted is s t =
     let with_mark : Steps b new (record { push = push; index = index; what = mark_of ending }) refused = subst
     (λ (w : What A). Steps b new (record { push = push; index = index; what = w }) refused) is s in

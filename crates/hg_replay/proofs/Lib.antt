@@ -1,5 +1,4 @@
 mod Sending
-mod Reading
 mod Items
 mod Answered
 mod Shortness

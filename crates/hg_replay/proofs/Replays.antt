@@ -1,12 +1,11 @@
 -- One more push of a replay.
-use Rattle.std.proofs.Common.{ℕ, Bool, true, false, ◌≡◌, ◌==◌, ◌||◌, ◌+◌, ◌-◌, ◌<◌, ◌≤◌, List, [], ◌∷◌, ◌++◌}
+use Rattle.std.proofs.Common.{ℕ, Bool, true, false, ◌≡◌, ◌==◌, ◌||◌, ◌+◌, ◌<◌, ◌≤◌, List, [], ◌∷◌, ◌++◌}
 use Rattle.std.proofs.Common.{refl, sym, ◌∙◌, ap, subst, arith, length, map, take, drop, set, get_or}
 use Rattle.std.proofs.Common.{length-drop, if◌then◌else◌}
 use Rattle.std.proofs.lemmas.List.{drop-set-lt, drop_more, get_or-map, length-map, map-append, map-set}
 use Rattle.std.proofs.lemmas.List.{take_all, take_more, take_more_set}
 use Rattle.std.proofs.lemmas.Grind.{drop_more_same}
 use Rattle.std.proofs.lemmas.List.Folds.{list_any-append}
-use Rattle.hg_types.specs.Limits.{standard_limits}
 use Rattle.hg_repo.specs.declared.done.Done.{Done}
 use Rattle.hg_parts.specs.declared.refusal.Refusal.{Refusal}
 use Rattle.hg_push.specs.History.{History}
@@ -15,7 +14,7 @@ use Rattle.hg_push.specs.Run.{RepositoryOf}
 use Rattle.hg_devices.specs.declared.sending.Sending.TheVariants.{Whole as sent_whole}
 use Rattle.hg_devices.specs.Devices.{Input, Output}
 use Rattle.hg_devices.specs.declared.sending.Sending.{Sending}
-use Rattle.hg_replay.specs.declared.ending.Ending.{Ending}
+use Rattle.hg_receiving.specs.declared.ending.Ending.{Ending}
 use Rattle.hg_replay.specs.Taking.{BookOf, IsIdle, Takes}
 use Rattle.hg_replay.specs.Answering.{IsSentTo, empty_repository, status_of}
 use Rattle.hg_repo.specs.Report.{report_of}

@@ -1,18 +1,14 @@
 -- The reply to one bundle's push is short: its parts are few.
-use Rattle.std.proofs.Common.{ℕ, Bool, true, false, ◌≡◌, ◌≤◌, ◌+◌, ◌&&◌, List, [], ◌∷◌, ◌++◌, refl, ap, arith}
+use Rattle.std.proofs.Common.{ℕ, Bool, true, false, ◌≡◌, ◌≤◌, ◌+◌, ◌&&◌, List, [], ◌∷◌, ◌++◌, ap, arith}
 use Rattle.std.proofs.Common.{length, Some, not, ◌∙◌, if◌then◌else◌}
 use Rattle.std.proofs.lemmas.List.{append-nil, length-append}
-use Rattle.std.specs.List.{concat}
 use Rattle.hg_types.specs.declared.part.Part.{Part}
 use Rattle.hg_types.specs.declared.item.Item.{Item}
-use Rattle.hg_types.specs.declared.item.Taken.{Taken}
-use Rattle.hg_types.specs.declared.item.What.{What}
 use Rattle.hg_types.specs.Limits.{standard_limits}
 use Rattle.hg_repo.specs.declared.done.Done.{Done}
 use Rattle.hg_parts.specs.declared.refusal.Refusal.{Refusal}
 use Rattle.hg_push.specs.declared.outcome.Outcome.{Outcome}
 use Rattle.hg_push.specs.declared.outcome.Outcome.TheVariants.{Done as done_with, Aborted}
-use Rattle.hg_push.specs.declared.outcome.Reason.{Reason}
 use Rattle.hg_push.specs.History.{History, is_closed, is_of, outcome, part_in, parts_after}
 use Rattle.hg_push.specs.History.{parts as ran_parts}
 use Rattle.hg_push.specs.Lengths.{greatest_reply, most_parts}
@@ -20,34 +16,11 @@ use Rattle.hg_push.specs.Reply.{CanBeTold, reply_of}
 use Rattle.hg_push.specs.Run.{RepositoryOf, run_push}
 use Rattle.hg_push.specs.World.{all_parts, items_in}
 use Rattle.hg_devices.specs.Devices.{Input}
-use Rattle.hg_replay.specs.declared.ending.Ending.{Ending}
-use Rattle.hg_replay.specs.declared.ending.Ending.TheVariants.{Whole, Fault, InputEnded, ReadFailed}
-use Rattle.hg_replay.specs.Receiving.{Received, items_of, mark_of, part_items, state_at}
+use Rattle.hg_receiving.specs.declared.ending.Ending.{Ending}
+use Rattle.hg_receiving.specs.Receiving.{mark_of, push_items, state_at}
+use Rattle.hg_replay.specs.Receiving.{Received}
 use Rattle.hg_replay.specs.Taking.{Ends}
-use Rattle.hg_replay.proofs.Answered.{PartsAreFew}
-
--- the law `replies_are_short`: of pushes that are done, and of aborted ones
-abbrev pub DoneAreShort : Type 0 → Type 0
-DoneAreShort A = (first : RepositoryOf A) (p : ℕ) (h : History A) (done : Done A)
-    → outcome run_push first p h ≡ Some (done_with done) → CanBeTold (done_with done)
-    → length (ran_parts p h) ≤ most_parts → length (reply_of (done_with done)) ≤ greatest_reply
-
-abbrev pub AbortedAreShort : Type 0 → Type 0
-AbortedAreShort A = (reason : Reason (Refusal A)) → length (reply_of (Aborted reason)) ≤ greatest_reply
-
-mark_empty : {A : Type 0} (ending : Ending) → part_in {A = A} (mark_of ending) ≡ []
-mark_empty Whole = refl
-mark_empty (Fault fault) = refl
-mark_empty InputEnded = refl
-mark_empty ReadFailed = refl
-
--- the parts of a push's items
-given_parts : {A : Type 0} (push index count : ℕ) (parts : List (Part A)) (mark : What A) → part_in mark ≡ []
-    → all_parts (part_items push index parts ++ record { push = push; index = count; what = mark } ∷ [])
-    ≡ parts
-given_parts {A} push index count [] mark none = ap (λ (ps : List (Part A)). ps ++ []) none
-given_parts {A} push index count (part ∷ parts) mark none =
-    ap (λ (ps : List (Part A)). part ∷ ps) (given_parts push (index + 1) count parts mark none)
+use Rattle.hg_receiving.proofs.CallerLemmas.{AbortedAreShort, DoneAreShort, PartsAreFew, mark_empty, put_parts}
 
 more_parts : {A : Type 0} (items : List (Item A)) (item : Item A)
     → length (all_parts (items ++ item ∷ [])) ≡ length (all_parts items) + length (part_in item.what)
@@ -89,13 +62,13 @@ outcome_short done_short aborted_short first p h (Aborted reason) ended told few
 pub reply_short : {A : Type 0} → DoneAreShort A → AbortedAreShort A → PartsAreFew A
     → (first : RepositoryOf A) (push : ℕ) (input left : Input) (ending : Ending) (parts : List (Part A))
     (how : Outcome (Done A) (Refusal A)) → Received standard_limits input left ending parts
-    → Ends first [] push (items_of push parts (mark_of ending)) how → length (reply_of how) ≤ greatest_reply
+    → Ends first [] push (push_items push parts (mark_of ending)) how → length (reply_of how) ≤ greatest_reply
 reply_short {A} done_short aborted_short law first push input left ending parts how received e =
-    let count : length parts ≤ most_parts = law standard_limits (state_at ending) (concat received.pieces
-    ++ received.taken) parts received.tells in
-    let all = given_parts push 0 (length parts) parts (mark_of ending) (mark_empty ending) in
+    let count : length parts ≤ most_parts = law standard_limits (state_at ending) received.1.consumed parts
+    received.1.received.tells in
+    let all = put_parts push 0 (length parts) parts (mark_of ending) (mark_empty ending) in
     let history = e.places ++ [] in
-    let items : items_in history ≡ items_of push parts (mark_of ending) =
+    let items : items_in history ≡ push_items push parts (mark_of ending) =
     ap (λ (h : History A). items_in h) (append-nil e.places) ∙ e.items_are in
     let same : length (all_parts (items_in history)) ≡ length parts =
     ap (λ (items : List (Item A)). length (all_parts items)) items

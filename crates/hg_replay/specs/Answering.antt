@@ -11,13 +11,14 @@ use Rattle.hg_push.specs.declared.outcome.Outcome.TheVariants.{Done as done_with
 use Rattle.hg_push.specs.declared.outcome.Reason.TheVariants.{NoMemory as without_memory}
 use Rattle.hg_push.specs.Lengths.{greatest_reply}
 use Rattle.hg_push.specs.Reply.{reply_of}
-use Rattle.hg_replay.specs.declared.ending.Ending.{Ending}
-use Rattle.hg_replay.specs.declared.ending.Ending.TheVariants.{Fault, ReadFailed}
+use Rattle.hg_receiving.specs.declared.ending.Ending.{Ending}
+use Rattle.hg_receiving.specs.declared.ending.Ending.TheVariants.{Fault, ReadFailed}
 use Rattle.hg_devices.specs.declared.sending.Sending.{Sending}
 use Rattle.hg_devices.specs.declared.sending.Sending.TheVariants.{Whole as sent_whole, Broken, NoMemory}
 use Rattle.hg_devices.specs.Devices.{Input, Output}
 use Rattle.hg_devices.specs.Sent.{Sends}
-use Rattle.hg_replay.specs.Receiving.{Received, items_of, mark_of}
+use Rattle.hg_receiving.specs.Receiving.{mark_of, push_items}
+use Rattle.hg_replay.specs.Receiving.{Received}
 use Rattle.hg_replay.specs.Taking.{Ends}
 
 -- the repository without changesets
@@ -64,7 +65,7 @@ pub record Answered (A : Type 0) (publishing : Bool) (input input_after : Input)
   pub parts : List (Part A)
   pub received : Received standard_limits input input_after ending parts
   pub how : Outcome (Done A) (Refusal A)
-  pub ends : Ends {A = A} (empty_repository publishing) [] 0 (items_of 0 parts (mark_of ending)) how
+  pub ends : Ends {A = A} (empty_repository publishing) [] 0 (push_items 0 parts (mark_of ending)) how
   pub short : length (reply_of how) ≤ greatest_reply
   pub sending : Sending
   pub sent : IsSentTo sending output output_after (reply_of how)

@@ -1,6 +1,6 @@
 -- What is replayed: pushes from readers, one after the other, and the report of the repository that they
 -- give.
-use Rattle.std.specs.Prelude.{ℕ, Bool, ◌≡◌, ◌==◌, ◌+◌, ⊤, List, [], ◌∷◌, ◌++◌, map, if◌then◌else◌}
+use Rattle.std.specs.Prelude.{ℕ, Bool, ◌≡◌, ◌==◌, ◌+◌, List, [], ◌∷◌, ◌++◌, map, if◌then◌else◌}
 use Rattle.std.specs.List.{list_any}
 use Rattle.hg_types.specs.Limits.{standard_limits}
 use Rattle.hg_types.specs.declared.part.Part.{Part}
@@ -13,8 +13,9 @@ use Rattle.hg_push.specs.Run.{RepositoryOf, run_push}
 use Rattle.hg_devices.specs.declared.sending.Sending.{Sending}
 use Rattle.hg_devices.specs.declared.sending.Sending.TheVariants.{Whole as sent_whole, Broken, NoMemory}
 use Rattle.hg_devices.specs.Devices.{Input, Output}
-use Rattle.hg_replay.specs.declared.ending.Ending.{Ending}
-use Rattle.hg_replay.specs.Receiving.{Received, items_of, mark_of}
+use Rattle.hg_receiving.specs.declared.ending.Ending.{Ending}
+use Rattle.hg_receiving.specs.Receiving.{mark_of, push_items}
+use Rattle.hg_replay.specs.Receiving.{Received}
 use Rattle.hg_replay.specs.Taking.{BookOf, Ends, IsIdle, Leaves}
 use Rattle.hg_replay.specs.Answering.{IsSentTo, empty_repository, status_of}
 
@@ -33,7 +34,7 @@ AreReplayed first number before (input ∷ inputs) (left ∷ lefts) (NotOpened �
     (left ≡ input) × AreReplayed first number before inputs lefts replays after
 AreReplayed first number before (input ∷ inputs) (left ∷ lefts) (Ran ending parts how ∷ replays) after =
     Received standard_limits input left ending parts
-    × (ends : Ends first before number (items_of number parts (mark_of ending)) how)
+    × (ends : Ends first before number (push_items number parts (mark_of ending)) how)
     × AreReplayed first (number + 1) (ends.places ++ before) inputs lefts replays after
 AreReplayed first number before inputs lefts replays after = ⊥
 
@@ -82,7 +83,7 @@ IsPlayed {A} input left old new (Ran ending parts how) =
     Received standard_limits input left ending parts
     × (new.next ≡ old.next + 1)
     × ((first : RepositoryOf A) (before : History A) → IsIdle first before old →
-    Leaves first before old.next (items_of old.next parts (mark_of ending)) how new)
+    Leaves first before old.next (push_items old.next parts (mark_of ending)) how new)
 
 -- One push was replayed on a book, and this is its status.
 pub record PlaysOne {A : Type 0} (input left : Input) (old new : BookOf A) (status : ℕ) : Type 0 where

@@ -10,8 +10,8 @@ use Rattle.hg_parts.specs.declared.source.Source.TheVariants.{Seed}
 use Rattle.hg_parts.specs.Repository.{Repository}
 use Rattle.hg_stream.specs.declared.fault.StreamFault.TheVariants.{NoMemory as stream_without_memory}
 use Rattle.hg_devices.specs.Devices.{Input}
-use Rattle.hg_replay.specs.declared.ending.Ending.{Ending}
-use Rattle.hg_replay.specs.declared.ending.Ending.TheVariants.{Whole, Fault, InputEnded, ReadFailed}
+use Rattle.hg_receiving.specs.declared.ending.Ending.{Ending}
+use Rattle.hg_receiving.specs.declared.ending.Ending.TheVariants.{Whole, Fault, InputEnded, ReadFailed}
 use Rattle.hg_replay.specs.declared.seed.SeedFault.{SeedFault}
 use Rattle.hg_replay.specs.declared.seed.SeedFault.TheVariants.{Aborted, ReadFailed as read_failed, NoMemory}
 use Rattle.hg_replay.specs.Receiving.{Received}

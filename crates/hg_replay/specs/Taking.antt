@@ -12,8 +12,9 @@ use Rattle.hg_push.specs.declared.outcome.Outcome.{Outcome}
 use Rattle.hg_push.specs.Run.{RepositoryOf, run_push}
 use Rattle.hg_push.specs.World.{items_in}
 use Rattle.hg_devices.specs.Devices.{Input}
-use Rattle.hg_replay.specs.declared.ending.Ending.{Ending}
-use Rattle.hg_replay.specs.Receiving.{Received, items_of, mark_of}
+use Rattle.hg_receiving.specs.declared.ending.Ending.{Ending}
+use Rattle.hg_receiving.specs.Receiving.{mark_of, push_items}
+use Rattle.hg_replay.specs.Receiving.{Received}
 
 -- a book of pushes to a repository
 abbrev pub BookOf : Type 0 → Type 0
@@ -58,4 +59,4 @@ pub record Takes {A : Type 0} (input left : Input) (old new : BookOf A) (ending 
   pub received : Received standard_limits input left ending parts
   pub next : new.next ≡ old.next + 1
   pub leaves : (first : RepositoryOf A) (before : History A) → IsIdle first before old
-      → Leaves first before old.next (items_of old.next parts (mark_of ending)) how new
+      → Leaves first before old.next (push_items old.next parts (mark_of ending)) how new

@@ -6,14 +6,12 @@
 //! read to the bytes written. Nothing here starts a thread, and nothing waits but a device.
 #![tactic(auto)]
 
-mod ending;
 mod push;
 mod receiving;
 mod replay;
 mod report;
 mod run;
 mod seed;
-mod send;
 mod status;
 
 pub use replay::run_replay;

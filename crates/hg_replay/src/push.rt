@@ -4,14 +4,14 @@ ghost use Rattle.std.specs.Prelude.{◌≡◌, ◌<◌, ◌^◌, [], length, IfN
 ghost use Rattle.hg_push.specs.History.{History};
 ghost use Rattle.hg_push.specs.Run.{RepositoryOf};
 ghost use Rattle.hg_stream.specs.Unbundler.{ready_of};
-ghost use Rattle.hg_replay.specs.Receiving.{items_of, mark_of, part_items};
+ghost use Rattle.hg_receiving.specs.Receiving.{mark_of, part_items, push_items};
 ghost use Rattle.hg_replay.specs.Taking.{HasTaken, IsIdle, Leaves, Takes};
 
-use crate::ending::{Ending, mark_of};
 use crate::receiving::receive;
 use hg_devices::Reader;
 use hg_push::laws::closed_pushes_have_ended;
 use hg_push::{Book, Outcome};
+use hg_receiving::{Ending, cut_of};
 use hg_repo::{Done, Refusal};
 use hg_stream::Unbundler;
 use hg_stream::laws::parts_are_few;
@@ -54,7 +54,7 @@ fn end_push<A: Allocator + Copy>(
         × HasTaken first before push book.old [] }
     ensures next { book.new.next ≡ book.old.next }
     ensures leaves { (first : RepositoryOf A) (before : History A) → HasTaken first before push book.old []
-        → Leaves first before push (items_of push (ready_of bundle.old) (mark_of ending)) result book.new }
+        → Leaves first before push (push_items push (ready_of bundle.old) (mark_of ending)) result book.new }
 {
     let index = step_parts(book, push, bundle);
     let what = mark_of(ending);
@@ -64,6 +64,16 @@ fn end_push<A: Allocator + Copy>(
     match book.take_reply(push) {
         Some(outcome) => outcome,
         None => unreachable!(),
+    }
+}
+
+/// The mark of a push whose bundle ended so: an end mark, or why it is cut off.
+fn mark_of<A: Allocator>(ending: Ending) -> What<A>
+    ensures { result ≡ mark_of ending }
+{
+    match cut_of(ending) {
+        None => What::End,
+        Some(reason) => What::Cut(reason),
     }
 }
 

@@ -6,13 +6,10 @@ ghost use Rattle.hg_stream.specs.Unbundler.{Holds, limits_of, ready_of, state_of
 ghost use Rattle.hg_stream.specs.declared.state.State.TheVariants.{Reading};
 ghost use Rattle.hg_replay.specs.Receiving.{Received};
 
-use crate::ending::Ending;
 use hg_devices::Reader;
-use hg_stream::{State, Unbundler};
+use hg_receiving::{Ending, Inbox, turn};
+use hg_stream::Unbundler;
 use std::alloc::Allocator;
-
-/// How many bytes are read at a time, at most.
-const PIECE: usize = 4_096;
 
 /// How many bytes a bundle may have.
 const STREAM: u32 = 268_435_456;
@@ -25,18 +22,11 @@ pub fn receive<A: Allocator + Copy, R: Reader>(reader: &mut R, bundle: &mut Unbu
     requires limits { limits_of bundle.old ≡ standard_limits }
     ensures { Received standard_limits (R.told reader.old) (R.told reader.new) result (ready_of bundle.new) }
 {
-    let mut buffer = [0u8; PIECE];
+    let mut inbox = Inbox::new();
     for _turn in 0..=STREAM {
-        let count = match reader.read(&mut buffer) {
-            Ok(0) => return Ending::InputEnded,
-            Ok(count) => count,
-            Err(_) => return Ending::ReadFailed,
-        };
-        let _ = bundle.feed(&buffer[..count]);
-        match bundle.state() {
-            State::Reading => {}
-            State::Ended => return Ending::Whole,
-            State::Failed(fault) => return Ending::Fault(fault),
+        match turn(bundle, &mut inbox, reader) {
+            None => {}
+            Some(ending) => return ending,
         }
     }
     unreachable!()

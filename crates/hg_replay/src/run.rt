@@ -4,11 +4,11 @@ ghost use Rattle.std.specs.Prelude.{◌≡◌, ◌⊎◌};
 ghost use Rattle.hg_replay.specs.Answering.{Answered, NotOpened, empty_repository};
 
 use crate::push::take_push;
-use crate::send::send_reply;
 use crate::status::status_of;
 use hg_devices::{Reader, Writer};
 use hg_push::Book;
 use hg_push::laws::replies_are_short;
+use hg_receiving::send_reply;
 use hg_repo::Repo;
 use hg_stream::laws::parts_are_few;
 use hg_types::{Limits, Settings};
@@ -41,7 +41,7 @@ pub fn run_one<A: Allocator + Copy, R: Reader, W: Writer>(
     // the push had few parts, so its reply is short
     parts_are_few::<A>();
     replies_are_short::<A>();
-    let sending = send_reply(alloc, writer, &outcome);
+    let (sending, _) = send_reply(alloc, writer, &outcome);
     status_of(ending, &outcome, sending)
 }
 

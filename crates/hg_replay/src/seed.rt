@@ -5,10 +5,10 @@ ghost use Rattle.hg_types.specs.Limits.{IsAllowed};
 ghost use Rattle.hg_stream.specs.Unbundler.{ready_of};
 ghost use Rattle.hg_replay.specs.Seeding.{Grows, IsRefused, Seeds, ending_fault};
 
-use crate::ending::Ending;
 use crate::receiving::receive;
 use crate::run::empty_repository;
 use hg_devices::Reader;
+use hg_receiving::Ending;
 use hg_repo::{Refusal, Repo, Source};
 use hg_stream::laws::parts_are_few;
 use hg_stream::{StreamFault, Unbundler};

@@ -8,7 +8,7 @@
 //! the empty text, `b80de5d138758541c5f05265ad144ab9fa86d1db`, written A; a push of it is
 //! `REPLYCAPS` and a changegroup, 193 bytes.
 //!
-//! `examples/check.sh` runs the built program on the pushes that Mercurial sent
+//! `tests/check.sh` runs the built program on the pushes that Mercurial sent
 //! (`examples/pushes`): each row whole by `replay`, whose report is what Mercurial's server held,
 //! and its first two pushes by `one`.
 //!

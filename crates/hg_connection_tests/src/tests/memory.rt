@@ -1,9 +1,11 @@
 //! Memory that is refused while a connection is served.
 
 ghost use Rattle.std.specs.Prelude.{◌≤◌};
+ghost use Rattle.hg_serve.specs.Desks.{Begins};
 
 use super::*;
 use hg_push::OpenFault;
+use hg_serve::{Client, Gate, Point};
 use linked_list_allocator::LocalHeap;
 use std::io::Read;
 
@@ -106,15 +108,14 @@ struct Hoarder<'a> {
     given: usize,
 }
 
-impl Hoarder<'_> {
-    fn fill(&mut self) {
-        for _ in 0..self.heap.free() {
-            let Ok(block) = Vec::with_capacity(self.heap, 1) else {
-                return;
-            };
-            if self.blocks.push(block).is_err() {
-                return;
-            }
+/// Takes all memory that is left of a heap, in blocks.
+fn fill<'a>(heap: &'a LocalHeap, blocks: &mut Vec<Vec<u8, &'a LocalHeap>>) {
+    for _ in 0..heap.free() {
+        let Ok(block) = Vec::with_capacity(heap, 1) else {
+            return;
+        };
+        if blocks.push(block).is_err() {
+            return;
         }
     }
 }
@@ -123,7 +124,7 @@ impl Read for Hoarder<'_> {
     fn read(&mut self, buf: &mut [u8]) -> std::io::Result<usize> {
         self.given = self.given.saturating_add(1);
         if self.given == self.before {
-            self.fill();
+            fill(self.heap, &mut self.blocks);
         }
         let count = buf.len().min(EMPTY.len());
         buf[..count].copy_from_slice(&EMPTY[..count]);
@@ -168,5 +169,155 @@ fn memory_is_gone_before_a_bundle(rt: HostRuntime) -> Result<(), Fail> {
         }
     }
     assert!(rt; unopened && unreplied && !wrong);
+    Ok(())
+}
+
+/// Where the parts of a changeset's push begin and end, and where its id, its parent and its link stand.
+const FIRST_PART: usize = 8;
+
+const SECOND_PART: usize = 32;
+
+const PARTS_END: usize = 189;
+
+const NODE: usize = 73;
+
+const PARENT: usize = 93;
+
+const LINK: usize = 153;
+
+/// The child without text of the changeset without text.
+const CHILD: [u8; 20] = [
+    0x37, 0xc4, 0x2b, 0xd6, 0xcc, 0x03, 0x3b, 0x33, 0x08, 0x62, 0x91, 0xc0, 0x07, 0xc3, 0xaa, 0x12,
+    0x70, 0x7a, 0x8b, 0xb4,
+];
+
+/// The push of the changeset with a third part, another `replycaps`.
+fn three_parts() -> [u8; 217] {
+    let mut bytes = [0; 217];
+    bytes[..PARTS_END].copy_from_slice(&ROOT[..PARTS_END]);
+    bytes[PARTS_END..213].copy_from_slice(&ROOT[FIRST_PART..SECOND_PART]);
+    bytes
+}
+
+/// The push of its child.
+fn child() -> [u8; 193] {
+    let mut bytes = [0; 193];
+    bytes.copy_from_slice(ROOT);
+    for at in 0..20 {
+        bytes[PARENT + at] = bytes[NODE + at];
+        bytes[NODE + at] = CHILD[at];
+        bytes[LINK + at] = CHILD[at];
+    }
+    bytes
+}
+
+/// Takes all memory that is left of a heap before the take of that number, and gives it back once the push has
+/// its answer.
+#[derive(Drop)]
+struct Filler<'a> {
+    heap: &'a LocalHeap,
+    blocks: Vec<Vec<u8, &'a LocalHeap>>,
+    before: u32,
+    takes: u32,
+}
+
+impl Gate for Filler<'_> {
+    fn at(&mut self, point: Point) {
+        match point {
+            Point::Locked => {
+                self.takes = self.takes.saturating_add(1);
+                if self.takes == self.before {
+                    fill(self.heap, &mut self.blocks);
+                }
+            }
+            Point::Answered => self.blocks.clear(),
+            _ => {}
+        }
+    }
+}
+
+fn client_of<J: Naming<A>, A: Allocator + Copy, R: Wait + Abort>(
+    rt: &R,
+    server: &Server<J, A>,
+) -> Client<J, A> {
+    match server.client(rt) {
+        Ok(client) => client,
+        Err(_) => panic!(rt; "no client"),
+    }
+}
+
+/// Serves a connection of one bundle. Says whether that is its whole reply, and gives the client back.
+fn is_answered<J: Naming<A>, A: Allocator + Copy, R: Wait, G: Gate>(
+    rt: &R,
+    alloc: A,
+    server: &Server<J, A>,
+    client: Client<J, A>,
+    bundle: &[u8],
+    reply: &[u8],
+    gate: &mut G,
+) -> (bool, Client<J, A>) {
+    let mut reader = Source::new(bundle);
+    let mut writer = Sink::new(alloc);
+    let (client, served) = serve_connection(
+        server,
+        rt,
+        alloc,
+        client,
+        &mut reader,
+        &mut writer,
+        1,
+        gate,
+    );
+    let is_whole = served.fault.is_none() && served.written == reply.len() as u64;
+    (is_whole && writer.bytes() == reply, client)
+}
+
+/// Three connections on a server of that name: the first, of three parts, is refused memory at a take. The client
+/// of the second serves the third. How many pushes were done, and how long the report is; `None` where one was
+/// not answered so.
+fn three_connections<J: Naming<A>, A: Allocator + Copy, R: Wait + Abort, G: Gate>(
+    rt: &R,
+    alloc: A,
+    queue: PartQueue<A>,
+    taker: Taker<A>,
+    repo: Repo<A>,
+    gate: &mut G,
+) -> Option<(usize, usize)>
+    requires { Begins J.table J.capacity J.first queue taker repo }
+{
+    let mut clients = Vec::with_capacity(alloc, 2).ok()?;
+    let server = Server::<J, A>::new(alloc, repo, queue, taker);
+    let a = client_of(rt, &server);
+    let b = client_of(rt, &server);
+    let (is_told, a) = is_answered(rt, alloc, &server, a, &three_parts(), REFUSED_REPLY, gate);
+    let (is_done, b) = is_answered(rt, alloc, &server, b, ROOT, ROOT_REPLY, &mut NoGate);
+    let (is_child_done, b) = is_answered(rt, alloc, &server, b, &child(), ROOT_REPLY, &mut NoGate);
+    clients.push_reserved(a);
+    clients.push_reserved(b);
+    let closed = server.close(clients);
+    let told = (closed.journal.len(), report_of(&closed.repo));
+    (is_told && is_done && is_child_done).then_some(told)
+}
+
+/// Memory is refused at the take of A's second part, in reading it; the queue has room for all items. A is told
+/// so, and its third part and its mark are dropped by the answer to B, which is done as without A; so is the
+/// child that the client of B pushes.
+#[test]
+fn memory_is_refused_at_a_take(rt: HostRuntime) -> Result<(), Fail> {
+    let heap = LocalHeap::new(rt.alloc(), 1 << 16)?;
+    let mut gate = Filler {
+        heap: &heap,
+        blocks: Vec::new(rt.alloc()),
+        before: 2,
+        takes: 0,
+    };
+    let told = match PartQueue::new(&heap, 8) {
+        Ok((queue, taker)) => {
+            let repo = Repo::new(&heap, settings(0), state(&rt));
+            three_connections::<Brand, _, _, _>(&rt, &heap, queue, taker, repo, &mut gate)
+        }
+        Err(_) => None,
+    };
+    assert_eq!(rt; (told, gate.takes), (Some((2, 2 * ROOT_REPORT)), 2));
     Ok(())
 }

@@ -1,20 +1,13 @@
 //! The steps of a connection, each on its own.
 
 use super::*;
-use hg_connection::{
-    Ending, Inbox, Next, Served, fault_of, mark, next_bundle, receive_kept, send_reply,
-};
+use hg_connection::{Next, Served, fault_of, mark, next_bundle, receive_kept};
 use hg_devices::Sending;
 use hg_push::{OpenFault, Outcome, Reason};
-use hg_repo::{Done, Refusal};
+use hg_receiving::{Ending, Inbox};
 use hg_serve::Answer;
 use hg_stream::Unbundler;
-use hg_types::{CutReason, Seq};
-use linked_list_allocator::LocalHeap;
-
-/// The reply to a push whose bytes are of another kind.
-const FOREIGN_REPLY: &[u8] =
-    b"HG20\0\0\0\0\0\0\0\x29\x0bERROR:ABORT\0\0\0\0\x01\0\x07\x0emessagestream fault 1\0\0\0\0\0\0\0\0";
+use hg_types::CutReason;
 
 // How a bundle ended, and what became of its reply: each of four with each of three. Result: no fault where
 // both are whole; that of the bundle, where it has one, whatever became of the reply; else that of the reply.
@@ -42,10 +35,16 @@ fn faults_of_a_bundle_and_its_reply(rt: HostRuntime) {
     }
 }
 
-// Three bundles that were answered, of 70 bytes, and then a fault; and another one. Result: the same, with
-// the fault, and with the other one.
+// Nothing yet. Result: no bundle, no answer, no byte and no fault. Three bundles that were answered, of 70
+// bytes, and then a fault; and another one. Result: the same, with the fault, and with the other one.
 #[test]
 fn a_connection_that_failed(rt: HostRuntime) {
+    let served: Served = Served::new();
+    assert_eq!(rt;
+        (served.bundles, served.written, served.fault),
+        (0, 0, None)
+    );
+    assert!(rt; served.last.is_none());
     let last: Option<Answer> = Some(Answer {
         outcome: Outcome::Aborted(Reason::WrongIndex),
         takes: 5,
@@ -74,45 +73,6 @@ fn drops(inbox: &mut Inbox, count: usize) -> bool {
     }
     inbox.skip(count);
     true
-}
-
-// 5,000 bytes, read at once; 4,095 dropped, and one; the rest; the end of the input. Result: 4,096 wait, and
-// nothing is read before they are dropped, all or in two; then 904; then none.
-#[test]
-fn bytes_that_wait(rt: HostRuntime) -> Result<(), Fail> {
-    let mut bytes = Vec::new(rt.alloc());
-    for place in 0..5_000usize {
-        bytes.push((place % 251) as u8)?;
-    }
-    let mut reader = Source::new(&bytes);
-    let mut inbox = Inbox::new();
-    assert!(rt; inbox.is_empty() && inbox.pending().is_empty());
-    assert_eq!(rt; inbox.fill(&mut reader), Some(4_096));
-    assert!(rt; inbox.pending() == &bytes[..4_096]);
-    assert!(rt; drops(&mut inbox, 0) && drops(&mut inbox, 4_095) && !inbox.is_empty());
-    assert_eq!(rt; inbox.fill(&mut reader), Some(1));
-    assert_eq!(rt;
-        (inbox.pending(), reader.reads()),
-        (&bytes[4_095..4_096], 1)
-    );
-    assert!(rt; drops(&mut inbox, 1) && inbox.is_empty());
-    assert_eq!(rt; inbox.fill(&mut reader), Some(904));
-    assert!(rt; inbox.pending() == &bytes[4_096..]);
-    assert!(rt; drops(&mut inbox, 904) && inbox.pending().is_empty());
-    assert_eq!(rt; (inbox.fill(&mut reader), reader.reads()), (Some(0), 3));
-    Ok(())
-}
-
-// A read that fails, where no byte waits, and then where the next one gives two. Result: none, and no bytes
-// wait; then two.
-#[test]
-fn bytes_after_a_failed_read(rt: HostRuntime) {
-    let mut reader = Source::failing(b"ab", 9, 0, true);
-    let mut inbox = Inbox::new();
-    assert_eq!(rt; inbox.fill(&mut reader), None);
-    assert!(rt; inbox.is_empty());
-    assert_eq!(rt; inbox.fill(&mut reader), Some(2));
-    assert_eq!(rt; inbox.pending(), b"ab".as_slice());
 }
 
 // The first bundle, from a reader that fails; a later one, with a byte that waits, without one from a reader
@@ -266,7 +226,7 @@ fn receives<J: Naming<Global>, R: Wait + Abort, I: Reader>(
 }
 
 /// The same, on a server of an empty repository.
-fn received<R: RandomSource + Wait + Abort>(
+fn received_alone<R: RandomSource + Wait + Abort>(
     rt: &R,
     alloc: Global,
     reader: &mut Source<'_>,
@@ -297,7 +257,7 @@ fn bytes_of_a_whole_bundle_are_kept(rt: HostRuntime) -> Result<(), Fail> {
         bytes.extend_from_slice(b"HG20 more")?;
         for (step, wait) in [1, 7, 4_096, usize::MAX].into_iter().zip(waits) {
             let mut reader = Source::in_pieces(&bytes, step);
-            let received = received(&rt, alloc, &mut reader);
+            let received = received_alone(&rt, alloc, &mut reader);
             assert_eq!(rt; received.ending, Ending::Whole);
             assert!(rt; received.is_done);
             assert_eq!(rt; received.kept.as_slice(), bundle);
@@ -313,62 +273,18 @@ fn bytes_of_a_whole_bundle_are_kept(rt: HostRuntime) -> Result<(), Fail> {
 fn bundles_that_are_not_whole(rt: HostRuntime) {
     let alloc = rt.alloc();
     let mut cut = Source::in_pieces(&ROOT[..192], 50);
-    let received_cut = received(&rt, alloc, &mut cut);
+    let received_cut = received_alone(&rt, alloc, &mut cut);
     assert_eq!(rt; received_cut.ending, Ending::InputEnded);
     assert_eq!(rt; received_cut.kept.as_slice(), &ROOT[..192]);
     let mut failing = Source::failing(ROOT, 50, 2, true);
-    let received_failing = received(&rt, alloc, &mut failing);
+    let received_failing = received_alone(&rt, alloc, &mut failing);
     assert_eq!(rt; received_failing.ending, Ending::ReadFailed);
     assert_eq!(rt; received_failing.kept.as_slice(), &ROOT[..100]);
     let mut foreign = Source::new(b"HG10");
-    let received_foreign = received(&rt, alloc, &mut foreign);
+    let received_foreign = received_alone(&rt, alloc, &mut foreign);
     assert_eq!(rt;
         received_foreign.ending,
         Ending::Fault(StreamFault::BadMagic)
     );
     assert!(rt; !received_cut.is_done && !received_failing.is_done && !received_foreign.is_done);
-}
-
-// A push that is done, and one that the fault 1 cut off; to a writer that takes 5 bytes at a write, and to
-// one that fails after each number of bytes. Result: 12 bytes, those of the empty bundle; 61 bytes that tell the
-// fault; broken with so many bytes.
-#[test]
-fn replies_are_sent(rt: HostRuntime) {
-    let alloc = rt.alloc();
-    let done: Outcome<Done, Refusal> = Outcome::Done(Done {
-        replies: Seq::new(alloc),
-        handled: Seq::new(alloc),
-    });
-    let mut writer = Sink::in_pieces(alloc, 5);
-    assert_eq!(rt; send_reply(alloc, &mut writer, &done), (Sending::Whole, 12));
-    assert_eq!(rt; writer.bytes(), EMPTY);
-    let cut: Outcome<Done, Refusal> = Outcome::Aborted(Reason::Cut(CutReason::Stream(1)));
-    let mut writer = Sink::in_pieces(alloc, 5);
-    assert_eq!(rt; send_reply(alloc, &mut writer, &cut), (Sending::Whole, 61));
-    assert_eq!(rt; writer.bytes(), FOREIGN_REPLY);
-    for room in 0..61usize {
-        let mut writer = Sink::failing(alloc, room, true);
-        assert_eq!(rt;
-            send_reply(alloc, &mut writer, &cut),
-            (Sending::Broken, room)
-        );
-        assert_eq!(rt; writer.bytes(), &FOREIGN_REPLY[..room]);
-    }
-}
-
-// The reply to a push that was cut off, where there is no memory for it, to a writer whose flush fails.
-// Result: out of memory, and the writer is not used.
-#[test]
-fn no_memory_for_a_reply(rt: HostRuntime) -> Result<(), Fail> {
-    let heap = LocalHeap::new(rt.alloc(), 16)?;
-    let cut: Outcome<Done<&LocalHeap>, Refusal<&LocalHeap>> = Outcome::Aborted(Reason::Cut(
-        CutReason::Stream(1),
-    ));
-    let mut writer = Sink::without_flush(rt.alloc());
-    assert_eq!(rt;
-        send_reply(&heap, &mut writer, &cut),
-        (Sending::NoMemory, 0)
-    );
-    assert!(rt; writer.bytes().is_empty());
-    Ok(())
 }

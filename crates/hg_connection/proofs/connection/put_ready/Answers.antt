@@ -1,15 +1,26 @@
-use Rattle.std.proofs.Common.{◌++◌, ◌∷◌, [], ◌∙◌, arith}
-use Rattle.hg_connection.proofs.Putting.{carries_more, has_room, goes_further}
+use Rattle.std.proofs.Common.{List, ◌++◌, ◌∷◌, [], ◌∙◌, ap, refl, sym, arith, append_assoc}
+use Rattle.hg_types.specs.declared.part.Part.{Part}
+use Rattle.hg_stream.specs.Unbundler.{ready_of}
+use Rattle.hg_connection.proofs.Putting.{has_room, holds_more, holds_none, puts_more, puts_none}
 use Rattle.hg_connection.proofs.connection.put_ready.Goals as goal
+
+pub parts-init : goal.parts-init
+parts-init g c = record {
+  taken = [];
+  spelled = refl;
+  put = puts_none c.args.sender.now;
+  holds = λ given bytes holds. holds_none c.args.bundle.now given bytes holds;
+  state = refl;
+  limits = refl;
+}
 
 pub unreachable-requires : goal.unreachable-requires
 unreachable-requires g c =
     let i = c.parts.invariant in
-    let a = i.carries c.requires.0 c.requires.1 c.requires.2 in
     let e = c.in-Some.ensures in
-    let room = has_room c.parts_are_few.ensures c.args.server.now c.parts.sender c.parts.bundle
-    c.next_part.new.self c.requires.0 a.0 c.in-Some.part (e.holds a.0 c.requires.0 a.1.holds) e.limits
-    c.limits-limits.ensures.allowed a.1 in
+    let room = has_room c.args.sender.now c.parts.sender (ready_of c.args.bundle.now) i.taken
+    (ready_of c.next_part.new.self) c.in-Some.part i.put
+    (i.spelled ∙ ap (λ (l : List (Part g.row.A.Denot)). i.taken ++ l) e.part) c.requires in
     let full = c.in-Err.ensures.2 in
     omega (arith, room, full)
 
@@ -18,14 +29,13 @@ parts-preserved g c =
     let i = c.parts.invariant in
     let e = c.in-Some.ensures in
     record {
-      carries = λ bytes given begun.
-          let a = i.carries bytes given begun in (
-            a.0 ++ c.in-Some.part ∷ [],
-            carries_more c.args.server.now c.parts.sender c.put.new.sender c.parts.bundle
-                c.next_part.new.self bytes a.0 c.in-Some.part
-                (e.holds a.0 bytes a.1.holds) e.limits c.in-Ok.ensures a.1,
-          );
-      goes = goes_further c.args.sender.now c.parts.sender c.put.new.sender _ i.goes c.in-Ok.ensures;
+      taken = i.taken ++ c.in-Some.part ∷ [];
+      spelled = i.spelled ∙ ap (λ (l : List (Part g.row.A.Denot)). i.taken ++ l) e.part
+          ∙ sym (append_assoc i.taken (c.in-Some.part ∷ []) (ready_of c.next_part.new.self));
+      put = puts_more c.args.sender.now c.parts.sender c.put.new.sender i.taken c.in-Some.part i.put
+          c.in-Ok.ensures;
+      holds = λ given bytes begun. holds_more c.next_part.new.self given i.taken (c.in-Some.part ∷ []) bytes
+          (e.holds (given ++ i.taken) bytes (i.holds given bytes begun));
       state = e.state ∙ i.state;
       limits = e.limits ∙ i.limits;
     }

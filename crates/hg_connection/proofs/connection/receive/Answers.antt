@@ -1,93 +1,98 @@
-use Rattle.std.proofs.Common.{ℕ, ◌∙◌, refl, sym, subst, arith, Some}
-use Rattle.hg_connection.specs.Receiving.{Fills}
-use Rattle.hg_connection.proofs.Receivings.{starts, read_fails, input_ends, turn_goes_on, turn_ends}
-use Rattle.hg_connection.proofs.Receivings.{turn_fails}
+use Rattle.std.proofs.Common.{[], ◌++◌, ◌∙◌, ap, refl, subst, arith, Option, Some}
+use Rattle.std.proofs.lemmas.List.{length-append}
+use Rattle.hg_stream.specs.Unbundler.{ready_of}
+use Rattle.hg_receiving.specs.declared.ending.Ending.{Ending}
+use Rattle.hg_receiving.specs.Turns.{Turned}
+use Rattle.hg_receiving.proofs.CallerLemmas.{begins, parts_few, parts_taken, within_limit}
+use Rattle.hg_connection.proofs.Putting.{put_more, room_for}
+use Rattle.hg_connection.proofs.Receivings.{starts}
 use Rattle.hg_connection.proofs.connection.receive.Goals as goal
+use Rattle.hg_connection.proofs.connection.receive.Goals.{else-turns-test, then-turns-test+in-None+else-turn-most}
 
 pub turns-init : goal.turns-init
 turns-init g c = record {
-  reads = starts c.args.server.now c.args.inbox.now _ c.args.sender.now
-      c.args.bundle.now c.requires.bundle c.requires.sender;
+  fed = [];
+  given = [];
+  reads = begins c.args.server.now c.args.inbox.now _ c.args.bundle.now c.requires.bundle.empty
+      c.requires.bundle.state c.requires.bundle.limits_are;
+  turns = omega arith;
+  within = omega arith;
+  put = starts c.args.sender.now c.requires.sender;
   limits = refl;
 }
 
-pub returns-in-None-clause-received : goal.returns-in-None-clause-received
-returns-in-None-clause-received g c =
-    read_fails c.args.server.now c.args.inbox.now c.turns.inbox c.fill.new.self _ _ _ c.args.sender.now
-    c.turns.sender c.turns.bundle c.turns._turn c.turns.invariant.reads c.in-None.ensures
-
-pub returns-in-Some-eq0-clause-received : goal.returns-in-Some-eq0-clause-received
-returns-in-Some-eq0-clause-received g c =
-    let none : Fills c.turns.inbox c.fill.new.self (g.I.Reader.told c.turns.reader)
-    (g.I.Reader.told c.fill.new.reader) (Some 0) =
-    subst (λ (n : ℕ). Fills c.turns.inbox c.fill.new.self (g.I.Reader.told c.turns.reader)
-    (g.I.Reader.told c.fill.new.reader) (Some n)) c.in-Some-eq0.field-0-test c.in-Some-eq0.ensures in
-    input_ends c.args.server.now c.args.inbox.now c.turns.inbox c.fill.new.self _ _ _ c.args.sender.now
-    c.turns.sender c.turns.bundle c.turns._turn c.turns.invariant.reads none
-
-pub returns-in-Ended-clause-received : goal.returns-in-Ended-clause-received
-returns-in-Ended-clause-received g c =
-    let p = c.put_ready.ensures in
-    turn_ends c.args.server.now c.args.inbox.now c.turns.inbox c.fill.new.self c.feed_waiting.new.inbox _ _ _
-    c.args.sender.now c.turns.sender c.put_ready.new.sender c.turns.bundle c.feed_waiting.new.bundle
-    c.put_ready.new.bundle c.turns._turn c.in-Some.count c.turns.invariant.reads
-    c.in-Some.ensures (omega (arith, c.in-Some.count-test))
-    (record {
-      fed = c.feed_waiting.ensures;
-      put = p.put;
-      goes = p.sender;
-      state = p.bundle.0;
-      ready = p.bundle.1;
-    }) (sym c.state.ensures ∙ c.in-Ended.is)
-
-pub returns-in-Failed-clause-received : goal.returns-in-Failed-clause-received
-returns-in-Failed-clause-received g c =
-    let p = c.put_ready.ensures in
-    turn_fails c.args.server.now c.args.inbox.now c.turns.inbox c.fill.new.self c.feed_waiting.new.inbox _ _ _
-    c.args.sender.now c.turns.sender c.put_ready.new.sender c.turns.bundle c.feed_waiting.new.bundle
-    c.put_ready.new.bundle c.turns._turn c.in-Some.count c.turns.invariant.reads
-    c.in-Some.ensures (omega (arith, c.in-Some.count-test))
-    (record {
-      fed = c.feed_waiting.ensures;
-      put = p.put;
-      goes = p.sender;
-      state = p.bundle.0;
-      ready = p.bundle.1;
-    }) c.in-Failed.fault (sym c.state.ensures ∙ c.in-Failed.is)
+pub put_ready-requires : goal.put_ready-requires
+put_ready-requires g c =
+    let i = c.turns.invariant in
+    let t = c.turn-ended.ensures.turns c.args.server.now c.args.inbox.now _ i.fed i.given i.reads in
+    room_for c.args.sender.now c.turns.sender i.given (ready_of c.turn-ended.new.bundle) c.args.server.now.parts
+    i.put
+    (parts_few c.parts_are_few.ensures c.args.server.now c.args.inbox.now _ i.fed c.turn-ended.new.inbox _
+    c.turn-ended.new.bundle i.given c.turn-ended.result t)
+    c.limits.ensures.allowed.parts.1
 
 pub turns-preserved : goal.turns-preserved
 turns-preserved g c =
+    let i = c.turns.invariant in
     let p = c.put_ready.ensures in
+    let t = subst (λ (r : Option Ending). Turned c.args.server.now c.args.inbox.now
+    (g.I.Reader.told c.args.reader.now) i.fed c.turn-ended.new.inbox
+    (g.I.Reader.told c.turn-ended.new.reader) c.turn-ended.new.bundle i.given r) c.in-None.is
+    (c.turn-ended.ensures.turns c.args.server.now c.args.inbox.now _ i.fed i.given i.reads) in
     record {
-      reads = turn_goes_on c.args.server.now c.args.inbox.now c.turns.inbox c.fill.new.self
-          c.feed_waiting.new.inbox _ _ _ c.args.sender.now c.turns.sender c.put_ready.new.sender
-          c.turns.bundle c.feed_waiting.new.bundle c.put_ready.new.bundle c.turns._turn c.in-Some.count
-          c.turns.invariant.reads
-          c.in-Some.ensures (omega (arith, c.in-Some.count-test))
-          (record {
-            fed = c.feed_waiting.ensures;
-            put = p.put;
-            goes = p.sender;
-            state = p.bundle.0;
-            ready = p.bundle.1;
-          }) (sym c.state.ensures ∙ c.in-Reading.is);
-      limits = p.limits ∙ c.feed_waiting.ensures.limits ∙ c.turns.invariant.limits;
+      fed = i.fed ++ t.0;
+      given = i.given ++ ready_of c.turn-ended.new.bundle;
+      reads = parts_taken c.args.server.now c.args.inbox.now _ (i.fed ++ t.0) c.turn-ended.new.inbox _
+          c.turn-ended.new.bundle c.put_ready.new.bundle i.given (ready_of c.turn-ended.new.bundle) t.3 p.holds
+          p.bundle.0 p.limits;
+      turns = omega (arith, i.turns, t.1, length-append i.fed t.0);
+      within = within_limit c.args.server.now c.args.inbox.now _ (i.fed ++ t.0) c.turn-ended.new.inbox _
+          c.turn-ended.new.bundle i.given t.3;
+      put = put_more c.args.sender.now c.turns.sender c.put_ready.new.sender i.given
+          (ready_of c.turn-ended.new.bundle) i.put p.put;
+      limits = p.limits ∙ c.turn-ended.ensures.limits ∙ i.limits;
     }
 
-pub returns-in-None-clause-limits : goal.returns-in-None-clause-limits
-returns-in-None-clause-limits g c = c.turns.invariant.limits
+pub returns-in-Some-clause-received : goal.returns-in-Some-clause-received
+returns-in-Some-clause-received g c =
+    let i = c.turns.invariant in
+    let p = c.put_ready.ensures in
+    record {
+      parts = i.given ++ ready_of c.turn-ended.new.bundle;
+      bundle = subst (λ (r : Option Ending). Turned c.args.server.now c.args.inbox.now
+          (g.I.Reader.told c.args.reader.now) i.fed c.turn-ended.new.inbox
+          (g.I.Reader.told c.turn-ended.new.reader) c.turn-ended.new.bundle i.given r) c.in-Some.is
+          (c.turn-ended.ensures.turns c.args.server.now c.args.inbox.now _ i.fed i.given i.reads);
+      put = put_more c.args.sender.now c.turns.sender c.put_ready.new.sender i.given
+          (ready_of c.turn-ended.new.bundle) i.put p.put;
+    }
 
-pub returns-in-Some-eq0-clause-limits : goal.returns-in-Some-eq0-clause-limits
-returns-in-Some-eq0-clause-limits g c = c.turns.invariant.limits
+pub returns-in-Some-clause-whole : goal.returns-in-Some-clause-whole
+returns-in-Some-clause-whole g c = λ whole. (
+  c.put_ready.ensures.bundle.0 ∙ c.turn-ended.ensures.whole (c.in-Some.is ∙ ap (λ x. Some x) whole),
+  c.put_ready.ensures.bundle.1,
+)
 
-pub returns-in-Ended-clause-limits : goal.returns-in-Ended-clause-limits
-returns-in-Ended-clause-limits g c = c.put_ready.ensures.limits ∙ c.feed_waiting.ensures.limits
-    ∙ c.turns.invariant.limits
+pub returns-in-Some-clause-limits : goal.returns-in-Some-clause-limits
+returns-in-Some-clause-limits g c =
+    c.put_ready.ensures.limits ∙ c.turn-ended.ensures.limits ∙ c.turns.invariant.limits
 
-pub returns-in-Failed-clause-limits : goal.returns-in-Failed-clause-limits
-returns-in-Failed-clause-limits g c = c.put_ready.ensures.limits ∙ c.feed_waiting.ensures.limits
-    ∙ c.turns.invariant.limits
-
-pub returns-in-Ended-clause-whole : goal.returns-in-Ended-clause-whole
-returns-in-Ended-clause-whole g c =
-    λ whole. (sym c.state.ensures ∙ c.in-Ended.is, c.put_ready.ensures.bundle.1)
+pub unreachable-requires : goal.unreachable-requires
+unreachable-requires g c =
+    let i = c.turns.invariant in
+    let same = c.limits.ensures.value in
+    let end = c.turns.auto._turn-end in
+    let so_far = i.turns in
+    elim c.turns-test.branch [
+      | else-turns-test w ↦ omega (arith, end, w.turns-test.false)
+      | then-turns-test+in-None+else-turn-most w ↦ (
+          let t = subst (λ (r : Option Ending). Turned c.args.server.now c.args.inbox.now
+          (g.I.Reader.told c.args.reader.now) i.fed w.turn-ended.new.inbox
+          (g.I.Reader.told w.turn-ended.new.reader) w.turn-ended.new.bundle i.given r) w.in-None.is
+          (w.turn-ended.ensures.turns c.args.server.now c.args.inbox.now _ i.fed i.given i.reads) in
+          let within = within_limit c.args.server.now c.args.inbox.now _ (i.fed ++ t.0) w.turn-ended.new.inbox _
+          w.turn-ended.new.bundle i.given t.3 in
+          let long = length-append i.fed t.0 in
+          let some = t.1 in
+          grind arith)
+    ]

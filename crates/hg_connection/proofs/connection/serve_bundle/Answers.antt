@@ -9,9 +9,9 @@ returns-clause-served g c =
     let a = c.answer-answer.ensures in
     let w = c.send_reply-sending.ensures in (
       record {
-        reads = r.reads;
-        consumed = r.consumed;
-        rest = r.rest;
+        reads = r.bundle.reads;
+        consumed = r.bundle.consumed;
+        rest = r.bundle.rest;
         ending = c.receive-ending.result;
         parts = r.parts;
         push = c.args.sender.putter.push;

@@ -1,12 +1,21 @@
-use Rattle.std.proofs.Common.{◌≡◌}
-use Rattle.hg_stream.specs.Unbundler.{limits_of}
-use Rattle.hg_connection.proofs.Receivings.{Reads}
+use Rattle.std.proofs.Common.{◌≡◌, ◌≤◌, ℕ, List, [], length}
+use Rattle.hg_types.specs.declared.part.Part.{Part}
+use Rattle.hg_stream.specs.Unbundler.{limits_of, ready_of}
+use Rattle.hg_serve.specs.Clients.{GoesOn}
+use Rattle.hg_receiving.specs.Receiving.{part_items}
+use Rattle.hg_receiving.specs.Turns.{IsReceiving}
 use Rattle.hg_connection.proofs.keeping.receive_kept.Given as goal
 
 abbrev pub invariant-turns : goal.invariant-turns
 invariant-turns g l = record {
-  reads : Reads l.server l.fn.inbox l.inbox (g.I.Reader.told l.fn.reader)
-      (g.I.Reader.told l.reader) l.fn.sender l.sender l.bundle l._turn;
-  kept : l.kept.items ≡ reads.fed;
+  fed : List ℕ;
+  given : List (Part g.row.A.Denot);
+  reads : IsReceiving l.server l.fn.inbox (g.I.Reader.told l.fn.reader) fed l.inbox
+      (g.I.Reader.told l.reader) l.bundle given;
+  kept : l.kept.items ≡ fed;
+  turns : l._turn ≤ length fed;
+  within : length fed ≤ l.server.stream;
+  put : GoesOn l.fn.sender l.sender (part_items l.fn.sender.putter.push 0 given);
+  ready : ready_of l.bundle ≡ [];
   limits : limits_of l.bundle ≡ limits_of l.fn.bundle;
 }

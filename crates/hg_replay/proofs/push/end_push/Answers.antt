@@ -1,4 +1,3 @@
-use Rattle.std.proofs.Common.{ap}
 use Rattle.hg_stream.specs.Unbundler.{ready_of}
 use Rattle.hg_replay.proofs.Items.{whole_push, ends_so, has_reply}
 use Rattle.hg_replay.proofs.push.end_push.Goals as goal

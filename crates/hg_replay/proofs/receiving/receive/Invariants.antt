@@ -1,9 +1,13 @@
-use Rattle.std.proofs.Common.{◌≡◌, length}
-use Rattle.hg_replay.proofs.Reading.{ReadsOn}
+use Rattle.std.proofs.Common.{ℕ, ◌≤◌, List, [], length}
+use Rattle.hg_types.specs.Limits.{standard_limits}
+use Rattle.hg_receiving.specs.Turns.{IsReceiving}
 use Rattle.hg_replay.proofs.receiving.receive.Given as goal
 
 abbrev pub invariant-loop-turn : goal.invariant-loop-turn
 invariant-loop-turn g l = record {
-  reads : ReadsOn (g.R.Reader.told l.fn.reader) (g.R.Reader.told l.reader) l.bundle l._turn;
-  room : length l.buffer ≡ 4096;
+  fed : List ℕ;
+  reads : IsReceiving standard_limits [] (g.R.Reader.told l.fn.reader) fed l.inbox
+      (g.R.Reader.told l.reader) l.bundle [];
+  turns : l._turn ≤ length fed;
+  within : length fed ≤ 268435456;
 }

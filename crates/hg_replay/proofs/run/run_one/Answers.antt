@@ -32,5 +32,5 @@ returns g c =
     c.parts_are_few.ensures first _ _ _ c.in-Some.ending taken.parts c.in-Some.outcome taken.received
     (taken.leaves first [] begun.1).ends in
     inl (answers c.args.publishing _ _ _ _ c.status_of.result c.new-book.result c.take_push.new.book
-    c.in-Some.ending c.in-Some.outcome c.send_reply-sending.result begun.0 begun.1 taken short
-    c.send_reply-sending.ensures c.status_of.ensures)
+    c.in-Some.ending c.in-Some.outcome c.send_reply-sending.result.0 begun.0 begun.1 taken short
+    (c.send_reply-sending.result.1, c.send_reply-sending.ensures) c.status_of.ensures)

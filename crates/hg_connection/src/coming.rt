@@ -1,0 +1,35 @@
+//! What comes after a bundle.
+
+ghost use Rattle.hg_connection.specs.Receiving.{IsNext};
+
+use hg_devices::Reader;
+use hg_receiving::{Ending, Inbox};
+
+/// What comes after a bundle.
+#[derive(Clone, Copy, Debug, PartialEq, Eq)]
+pub enum Next {
+    /// A bundle, or the first one.
+    Comes,
+    /// The end of the input.
+    Ends,
+    /// A read that failed.
+    Fails,
+}
+
+/// Looks for a byte of the next bundle. For the first one, nothing is read.
+pub fn next_bundle<I: Reader>(number: u32, inbox: &mut Inbox, reader: &mut I) -> Next
+    ensures { IsNext number inbox.old inbox.new (I.told reader.old) (I.told reader.new) result }
+{
+    if number == 0 {
+        let _waiting = inbox.pending();
+        return Next::Comes;
+    }
+    match inbox.fill(reader) {
+        None => {
+            let _waiting = inbox.pending();
+            Next::Comes
+        }
+        Some(Ending::InputEnded) => Next::Ends,
+        Some(_) => Next::Fails,
+    }
+}

@@ -1,0 +1,4 @@
+mod Waiting
+mod Filling
+mod Feeding
+pub mod CallerLemmas

@@ -1,0 +1,32 @@
+//! Why no more is read of a bundle, and how its push is marked.
+
+ghost use Rattle.std.specs.Prelude.{◌≡◌};
+ghost use Rattle.hg_receiving.specs.Receiving.{cut_of};
+
+use hg_stream::StreamFault;
+use hg_types::CutReason;
+
+/// Why no more is read of a bundle.
+#[derive(Clone, Copy, Debug, PartialEq, Eq)]
+pub enum Ending {
+    /// Its end mark was read.
+    Whole,
+    /// Its bytes hold that fault.
+    Fault(StreamFault),
+    /// The input ended before the end mark.
+    InputEnded,
+    /// A read failed.
+    ReadFailed,
+}
+
+/// Why the push of a bundle that ended so is cut off. None where it is whole, and gets an end mark.
+pub fn cut_of(ending: Ending) -> Option<CutReason>
+    ensures { result ≡ cut_of ending }
+{
+    match ending {
+        Ending::Whole => None,
+        Ending::Fault(fault) => Some(CutReason::Stream(fault.number())),
+        Ending::InputEnded => Some(CutReason::Stream(StreamFault::Truncated.number())),
+        Ending::ReadFailed => Some(CutReason::ReadFailed),
+    }
+}
