@@ -1,38 +1,25 @@
--- The way back: a change more, and more room.
-use Rattle.std.proofs.Common.{◌≡◌, ℕ, ◌<◌, ◌≤◌, Bool, true, false, ◌&&◌, cond, ltb, leb, List, [], ◌∷◌, ◌++◌}
-use Rattle.std.proofs.Common.{length, reverse, Option, Some, None, refl, sym, ap, ◌∙◌, subst, arith}
+-- The way back: a change more, and the last one taken back.
+use Rattle.std.proofs.Common.{◌≡◌, ℕ, ◌+◌, ◌≤◌, Bool, true, false, ◌&&◌, cond, List, [], ◌∷◌, ◌++◌, length, reverse}
+use Rattle.std.proofs.Common.{Option, Some, None, refl, sym, ap, ◌∙◌, subst, arith, length-append}
 use Rattle.std.specs.Option.{option_to_list}
 use Rattle.std.specs.Cmp.{first_so, second_so}
 use Rattle.std.proofs.lemmas.List.{append-nil, reverse-append}
-use Rattle.std.proofs.lemmas.Bool.{ltb-true, lt-ltb}
 use Rattle.hg_keys.specs.declared.bookmarks.Change.{Change}
 use Rattle.hg_keys.specs.declared.bookmarks.Change.TheVariants.{Added, Moved, Removed}
 use Rattle.hg_keys.specs.Bookmarks.{Pairs, AreInOrder}
 use Rattle.hg_keys.specs.code.Changes.{undone, all_undone, base_of, can_undo, can_undo_all, kept, IsSound}
+use Rattle.hg_keys.proofs.StayingLemmas.{in_order_with}
 
-both : (p q : Bool) → p ≡ true → q ≡ true → (p && q) ≡ true
+pub both : (p q : Bool) → p ≡ true → q ≡ true → (p && q) ≡ true
 both true q h k = k
 both false q h k = h
 
-room_for : {A : Type 0} (change : Change A) (pairs : Pairs) (room more : ℕ) → room ≤ more
-    → can_undo room change pairs ≡ true → can_undo more change pairs ≡ true
-room_for (Added place) pairs room more le can = can
-room_for (Moved place node) pairs room more le can = can
-room_for (Removed place pair) pairs room more le can =
-    let place_can = first_so (leb place (length pairs)) (ltb (length pairs) room) can in
-    let fits : length pairs < room = ltb-true _ _
-    (second_so (leb place (length pairs)) (ltb (length pairs) room) can) in
-    both _ _ place_can (lt-ltb _ _ (omega (arith, fits, le)))
-
--- more room does no harm
-pub can_with_more : {A : Type 0} (changes : List (Change A)) (pairs : Pairs) (room more : ℕ) → room ≤ more
-    → can_undo_all room changes pairs ≡ true → can_undo_all more changes pairs ≡ true
-can_with_more [] pairs room more le can = refl
-can_with_more (change ∷ changes) pairs room more le can =
-    let this = can_undo room change pairs in
-    let rest = can_undo_all room changes (undone change pairs) in
-    both _ _ (room_for change pairs room more le (first_so this rest can))
-    (can_with_more changes (undone change pairs) room more le (second_so this rest can))
+-- the pairs before a change are in order too
+pub in_order_undone : {A : Type 0} (change : Change A) (pairs : Pairs) → AreInOrder pairs
+    → AreInOrder (undone change pairs)
+in_order_undone (Added name) pairs in_order = in_order_with pairs name in_order None
+in_order_undone (Moved name node) pairs in_order = in_order_with pairs name in_order (Some node)
+in_order_undone (Removed named) pairs in_order = in_order_with pairs named.0 in_order (Some named.1)
 
 -- a change that leads back to the pairs before it leads back to what they lead back to
 pub base_kept : {A : Type 0} (changes : List (Change A)) (change : Option (Change A)) (new old : Pairs)
@@ -45,46 +32,52 @@ base_kept changes (Some change) new old back =
     ∙ ap (all_undone (reverse changes)) back
 
 pub back_kept : {A : Type 0} (changes : List (Change A)) (change : Option (Change A)) (new old : Pairs)
-    (room : ℕ) → all_undone (option_to_list change) new ≡ old
-    → can_undo_all room (option_to_list change) new ≡ true
-    → can_undo_all room (reverse changes) old ≡ true
-    → can_undo_all room (reverse (changes ++ option_to_list change)) new ≡ true
-back_kept changes None new old room back can before =
-    ap (λ cs. can_undo_all room (reverse cs) new) (append-nil changes)
-    ∙ ap (can_undo_all room (reverse changes)) back ∙ before
-back_kept changes (Some change) new old room back can before =
-    ap (λ cs. can_undo_all room cs new) (reverse-append changes (change ∷ []))
-    ∙ both _ _ (first_so (can_undo room change new) true can) (ap (can_undo_all room (reverse changes)) back
+    → all_undone (option_to_list change) new ≡ old
+    → can_undo_all (option_to_list change) new ≡ true
+    → can_undo_all (reverse changes) old ≡ true
+    → can_undo_all (reverse (changes ++ option_to_list change)) new ≡ true
+back_kept changes None new old back can before =
+    ap (λ cs. can_undo_all (reverse cs) new) (append-nil changes)
+    ∙ ap (can_undo_all (reverse changes)) back ∙ before
+back_kept changes (Some change) new old back can before =
+    ap (λ cs. can_undo_all cs new) (reverse-append changes (change ∷ []))
+    ∙ both _ _ (first_so (can_undo change new) true can) (ap (can_undo_all (reverse changes)) back
     ∙ before)
 
+-- there is at most one change more
+one_more : {A : Type 0} (changes : List (Change A)) (change : Option (Change A))
+    → length (changes ++ option_to_list change) ≤ length changes + 1
+one_more changes None = omega (arith, length-append changes [])
+one_more changes (Some change) = omega (arith, length-append changes (change ∷ []))
+
 -- all stands as before, with at least that room
-pub sound_with_more : {A : Type 0} (pairs new : Pairs) (changes same : List (Change A)) (room more : ℕ)
-    (is_marked : Bool) → new ≡ pairs → same ≡ changes → room ≤ more → IsSound pairs changes room is_marked
-    → IsSound new same more is_marked
-sound_with_more pairs new changes same room more is_marked pairs_stay changes_stay le sound =
+pub sound_same : {A : Type 0} (pairs new : Pairs) (changes same : List (Change A)) (room more : ℕ)
+    (is_marked : Bool) → new ≡ pairs → same ≡ changes → (is_marked ≡ true → length changes ≤ more)
+    → IsSound pairs changes room is_marked → IsSound new same more is_marked
+sound_same pairs new changes same room more is_marked pairs_stay changes_stay le sound =
     let stays : IsSound pairs changes more is_marked = record {
       in_order = sound.in_order;
-      base = sound.base;
-      back = λ marked. can_with_more (reverse changes) pairs room more le (sound.back marked);
+      back = sound.back;
+      room = le;
     } in
     subst (λ cs. IsSound new cs more is_marked) (sym changes_stay)
     (subst (λ ps. IsSound ps changes more is_marked) (sym pairs_stay) stays)
 
 -- after a change that is kept where there is a mark
 pub sound_kept : {A : Type 0} (old new : Pairs) (changes : List (Change A)) (change : Option (Change A))
-    (room more : ℕ) (is_marked : Bool) → IsSound old changes room is_marked → AreInOrder new → room ≤ more
-    → all_undone (option_to_list change) new ≡ old → can_undo_all more (option_to_list change) new ≡ true
+    (room more : ℕ) (is_marked : Bool) → IsSound old changes room is_marked → AreInOrder new
+    → (is_marked ≡ true → length changes + 1 ≤ more)
+    → all_undone (option_to_list change) new ≡ old → can_undo_all (option_to_list change) new ≡ true
     → IsSound new (kept is_marked changes change) more is_marked
 sound_kept old new changes change room more true sound in_order le back can = record {
   in_order = in_order;
-  base = λ marked. subst AreInOrder (sym (base_kept changes change new old back)) (sound.base marked);
-  back = λ marked. back_kept changes change new old more back can
-      (can_with_more (reverse changes) old room more le (sound.back marked));
+  back = λ marked. back_kept changes change new old back can (sound.back marked);
+  room = λ marked. omega (arith, one_more changes change, le marked);
 }
 sound_kept old new changes change room more false sound in_order le back can = record {
   in_order = in_order;
-  base = λ marked. absurd cc;
   back = λ marked. absurd cc;
+  room = λ marked. absurd cc;
 }
 
 -- the pairs at the mark stay
@@ -101,13 +94,24 @@ pub base_popped : {A : Type 0} (changes rest : List (Change A)) (change : Change
 base_popped changes rest change pairs is =
     sym (ap (λ cs. base_of cs pairs) is ∙ ap (λ cs. all_undone cs pairs) (reverse-append rest (change ∷ [])))
 
-pub back_popped : {A : Type 0} (changes rest : List (Change A)) (change : Change A) (pairs new : Pairs)
-    (room more : ℕ) → changes ≡ rest ++ change ∷ [] → new ≡ undone change pairs → room ≤ more
-    → can_undo_all room (reverse changes) pairs ≡ true → can_undo_all more (reverse rest) new ≡ true
-back_popped changes rest change pairs new room more is undone_is le can =
-    let whole : can_undo_all room (change ∷ reverse rest) pairs ≡ true = ap (λ cs. can_undo_all room cs pairs)
-    (sym (ap reverse is ∙ reverse-append rest (change ∷ []))) ∙ can in
-    ap (can_undo_all more (reverse rest)) undone_is
-    ∙ can_with_more (reverse rest) (undone change pairs) room more le
-    (second_so (can_undo room change pairs) (can_undo_all room (reverse rest) (undone change pairs))
-    whole)
+popped : {A : Type 0} (changes rest : List (Change A)) (change : Change A) (pairs : Pairs)
+    → changes ≡ rest ++ change ∷ [] → can_undo_all (reverse changes) pairs ≡ true
+    → can_undo_all (change ∷ reverse rest) pairs ≡ true
+popped changes rest change pairs is can =
+    ap (λ cs. can_undo_all cs pairs) (sym (ap reverse is ∙ reverse-append rest (change ∷ []))) ∙ can
+
+-- the last change can be taken back, and then the others
+pub can_last : {A : Type 0} (changes rest : List (Change A)) (change : Change A) (pairs : Pairs)
+    → changes ≡ rest ++ change ∷ [] → can_undo_all (reverse changes) pairs ≡ true
+    → can_undo change pairs ≡ true
+can_last changes rest change pairs is can =
+    first_so (can_undo change pairs) (can_undo_all (reverse rest) (undone change pairs))
+    (popped changes rest change pairs is can)
+
+pub can_rest : {A : Type 0} (changes rest : List (Change A)) (change : Change A) (pairs new : Pairs)
+    → changes ≡ rest ++ change ∷ [] → new ≡ undone change pairs
+    → can_undo_all (reverse changes) pairs ≡ true → can_undo_all (reverse rest) new ≡ true
+can_rest changes rest change pairs new is undone_is can =
+    ap (can_undo_all (reverse rest)) undone_is
+    ∙ second_so (can_undo change pairs) (can_undo_all (reverse rest) (undone change pairs))
+    (popped changes rest change pairs is can)

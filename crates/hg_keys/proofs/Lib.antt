@@ -1,11 +1,10 @@
 pub mod Tables
 pub mod GroupLemmas
 pub mod RoundTrip
-pub mod Lists
-pub mod PairLemmas
-pub mod ChangeLemmas
 pub mod PayloadLemmas
 pub mod CallerLemmas
 pub mod GrammarLemmas
 pub mod SetLemmas
 pub mod StayingLemmas
+pub mod BackLemmas
+pub mod ChangeLemmas

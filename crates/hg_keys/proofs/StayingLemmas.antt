@@ -1,9 +1,9 @@
 -- Bookmarks stay in order, and keys stay lawful.
-use Rattle.std.proofs.Common.{◌≡◌, ◌+◌, ◌*◌, ◌/◌, ◌%◌, ◌<◌, ◌≤◌, ◌&&◌, ℕ, zero, suc, Bool, true, false}
-use Rattle.std.proofs.Common.{true≢false, cond, List, [], ◌∷◌, ◌++◌, length, get_or, take, filter, AllPairs}
-use Rattle.std.proofs.Common.{All, Option, Some, None, Result, Ok, Err, IfOk, refl, sym, ap, ◌∙◌, subst}
+use Rattle.std.proofs.Common.{◌≡◌, ◌+◌, ◌%◌, ◌&&◌, ℕ, zero, suc, Bool, true, false}
+use Rattle.std.proofs.Common.{true≢false, cond, List, [], ◌∷◌, ◌++◌, length, get_or, filter, AllPairs}
+use Rattle.std.proofs.Common.{All, Option, Some, None, Result, Ok, Err, IfOk, refl, sym, ◌∙◌, subst}
 use Rattle.std.proofs.Common.{arith}
-use Rattle.std.proofs.lemmas.List.Elements.{All-append, All-cons, All-nil, All-filter, filter_passes}
+use Rattle.std.proofs.lemmas.List.Elements.{All-append, All-cons, filter_passes}
 use Rattle.std.proofs.lemmas.List.Kept.{AllPairs-filter, AllPairs-cons}
 use Rattle.std.proofs.lemmas.Cmp.{nat_list_cmp_total}
 use Rattle.std.specs.Int.{w32, to_be_bytes}
@@ -17,13 +17,12 @@ use Rattle.hg_types.specs.declared.node.Node.{Node}
 use Rattle.hg_types.specs.declared.phase.Phase.{Phase}
 use Rattle.hg_keys.specs.Bookmarks.{Pairs, name_cmp, is_before, AreInOrder, pair_of, with_bookmark}
 use Rattle.hg_keys.proofs.GrammarLemmas.{bytes_before}
-use Rattle.hg_keys.specs.Base85.{group_bytes, filled_value, fives, fits, is_digit, decoded_groups, decoded}
+use Rattle.hg_keys.specs.Base85.{group_bytes, filled_value, fives, fits, is_digit, decoded}
 use Rattle.hg_keys.specs.declared.fault.Base85Fault.{Base85Fault}
-use Rattle.hg_keys.specs.declared.fault.Base85Fault.TheVariants.{BadDigit, BadLength, Overflow}
 use Rattle.hg_keys.specs.declared.fault.KeyFault.{KeyFault}
 use Rattle.hg_keys.specs.declared.keys.KeyCall.{KeyCall}
 use Rattle.hg_keys.specs.Known.{phase_of_node, AreOnKnown}
-use Rattle.hg_keys.specs.PushKey.{Keys, AreLawful, node_in_hex, phase_in_text, target_in_text, moved_from}
+use Rattle.hg_keys.specs.PushKey.{Keys, AreLawful, node_in_hex, phase_in_text, target_in_text}
 use Rattle.hg_keys.specs.PushKey.{moved_known, moved_as_read, phase_pushed, is_divergent, is_settable}
 use Rattle.hg_keys.specs.PushKey.{is_known_target, are_same, value_of, bookmark_set, bookmark_pushed}
 use Rattle.hg_keys.specs.PushKey.{merged_as_read, merged_as_decoded, markers_pushed, is_empty, with_phases}

@@ -1,26 +1,22 @@
 //! Bookmarks: names for changesets, which move.
 
-ghost use Rattle.std.specs.Prelude.{◌≡◌, ◌≢◌, ◌<◌, ◌≤◌, ◌++◌, [], length, reverse, true, Some, None, IfSome};
-ghost use Rattle.std.specs.Prelude.{IfNone, IfOk, IfErr, OnOk, OnErr, slice_get, slice_index_or, slice_set};
-ghost use Rattle.std.specs.Prelude.{insert, remove, vec_len, vec_capacity};
+ghost use Rattle.std.specs.Prelude.{◌≡◌, ◌≢◌, ◌+◌, ◌<◌, ◌≤◌, [], length, reverse, true, Some, None, IfSome};
+ghost use Rattle.std.specs.Prelude.{IfNone, IfOk, OnOk, OnErr, slice_get, vec_len, vec_capacity};
 ghost use Rattle.std.specs.Option.{option_to_list};
 ghost use Rattle.hg_keys.specs.Bookmarks.{AreInOrder, node_of, with_bookmark};
 ghost use Rattle.hg_keys.specs.code.Changes.{all_undone, base_of, can_undo, can_undo_all, kept, undone};
-ghost use Rattle.hg_keys.specs.code.Places.{IsAt, IsGap};
 
+use hg_names::{Entries, Named, Names};
 use hg_types::{NoMemory, Node, Seq};
 use std::alloc::{Allocator, Global};
 use std::marker::Model;
 
-/// A name, and the changeset that it is on.
-type Bookmark<A> = (Seq<u8, A>, Node);
-
-/// A change that was made after the mark, by the place at which it was made, with what it replaced.
+/// A change that was made after the mark: the name, and what it was on before.
 #[derive(Drop)]
 enum Change<A: Allocator = Global> {
-    Added(usize),
-    Moved(usize, Node),
-    Removed(usize, Bookmark<A>),
+    Added(Seq<u8, A>),
+    Moved(Seq<u8, A>, Node),
+    Removed(Named<A>),
 }
 
 /// A moment to which the bookmarks can go back. What they were then is a part of the value that contracts
@@ -32,17 +28,18 @@ pub struct BookmarkMark {
 
 /// A map from names to changesets. Contracts see its pairs, in the order of the names' bytes.
 ///
-/// A look-up halves the pairs that are left, and a name that is moved costs no more. A name that comes or
-/// goes moves the pairs after it in memory.
+/// They are kept in blocks: a name that is looked up, set or deleted takes about as many steps as the logarithm
+/// of their number, and so does each change on the way back. A name that comes or goes moves those of its block
+/// in memory, and now and then the list of blocks.
 #[derive(Drop)]
 pub struct Bookmarks<A: Allocator = Global> {
-    pairs: Vec<Bookmark<A>, A>,
+    names: Names<A>,
     changes: Vec<Change<A>, A>,
     is_marked: bool,
 }
 
 impl<A: Allocator> Model for Bookmarks<A> {
-    ghost use Rattle.std.specs.Prelude.{Some, None, if◌then◌else◌, vec_capacity};
+    ghost use Rattle.std.specs.Prelude.{Some, None, if◌then◌else◌};
     ghost use Rattle.hg_keys.specs.Bookmarks.{Marked};
 
     ghost Value = { Marked };
@@ -50,11 +47,11 @@ impl<A: Allocator> Model for Bookmarks<A> {
     ghost use Rattle.hg_keys.specs.code.Changes.{base_of, IsSound};
 
     ghost view = { λ b. record {
-      current = b.pairs.items;
-      marked = if b.is_marked then Some (base_of b.changes.items b.pairs.items) else None;
+      current = b.names.pairs;
+      marked = if b.is_marked then Some (base_of b.changes.items b.names.pairs) else None;
     } };
 
-    ghost invariant = { λ b. IsSound b.pairs.items b.changes.items (vec_capacity b.pairs) b.is_marked };
+    ghost invariant = { λ b. IsSound b.names.pairs b.changes.items b.names.room b.is_marked };
 }
 
 impl<A: Allocator + Copy> Bookmarks<A> {
@@ -63,7 +60,7 @@ impl<A: Allocator + Copy> Bookmarks<A> {
         ensures { result ≡ record { current = []; marked = None } }
     {
         Bookmarks {
-            pairs: Vec::new(alloc),
+            names: Names::new(alloc),
             changes: Vec::new(alloc),
             is_marked: false,
         }
@@ -73,10 +70,10 @@ impl<A: Allocator + Copy> Bookmarks<A> {
     pub fn try_clone(&self, alloc: A) -> Result<Self, NoMemory>
         ensures { IfOk result (λ copy. copy ≡ record { current = self.now.current; marked = None }) }
     {
-        let pairs = copies(alloc, self.pairs.as_slice())?;
+        let names = self.names.try_clone(alloc)?;
         let is_marked = false;
         Ok(Bookmarks {
-            pairs,
+            names,
             changes: Vec::new(alloc),
             is_marked,
         })
@@ -89,8 +86,8 @@ impl<A: Allocator + Copy> Bookmarks<A> {
             ≡ record { current = with_bookmark self.old.current name.now node; marked = self.old.marked }) }
         ensures err { OnErr result (self.new ≡ self.old) }
     {
-        self.changes.reserve(usize::from(self.is_marked))?;
-        let change = put(alloc, &mut self.pairs, name, node)?;
+        make_room(&mut self.names, &mut self.changes, self.is_marked)?;
+        let change = put(alloc, &mut self.names, name, node)?;
         keep(&mut self.changes, change, self.is_marked);
         Ok(())
     }
@@ -102,17 +99,14 @@ impl<A: Allocator> Bookmarks<A> {
         ensures len { result ≡ length self.now.current }
         ensures in_order { AreInOrder self.now.current }
     {
-        self.pairs.len()
+        self.names.len()
     }
 
     /// The changeset that a name is on.
     pub fn get(&self, name: &[u8]) -> Option<Node>
         ensures { result ≡ node_of self.now.current name.now }
     {
-        match place_of(self.pairs.as_slice(), name) {
-            Ok(place) => Some(self.pairs[place].1),
-            Err(_) => None,
-        }
+        self.names.find(name)
     }
 
     /// The name at a place in the order of the names' bytes, and the changeset that it is on.
@@ -120,10 +114,14 @@ impl<A: Allocator> Bookmarks<A> {
         ensures found { IfSome result (λ pair. slice_get self.now.current place ≡ Some (pair.0.now, pair.1)) }
         ensures none { IfNone result (length self.now.current ≤ place) }
     {
-        match self.pairs.get(place) {
-            Some(pair) => Some((pair.0.as_slice(), pair.1)),
-            None => None,
-        }
+        self.names.get(place)
+    }
+
+    /// A walk through all bookmarks, in the order of the names' bytes.
+    pub fn entries(&self) -> Entries<'_, A>
+        ensures { result ≡ self.now.current }
+    {
+        self.names.entries()
     }
 
     /// Marks the bookmarks as they are. It takes no memory, and an earlier mark is gone.
@@ -141,54 +139,64 @@ impl<A: Allocator> Bookmarks<A> {
         ensures back { self.old.marked ≡ Some self.new.current }
         ensures gone { self.new.marked ≡ None }
     {
-        go_back(&mut self.pairs, &mut self.changes);
+        go_back(&mut self.names, &mut self.changes);
         self.is_marked = false;
         drop(mark);
     }
 }
 
-/// Where a name is, or else where it would go.
-fn place_of<A: Allocator>(pairs: &[Bookmark<A>], name: &[u8]) -> Result<usize, usize>
-    requires { AreInOrder pairs.now }
-    ensures found { IfOk result (IsAt pairs.now name.now) }
-    ensures absent { IfErr result (IsGap pairs.now name.now) }
+/// Makes room for one more change where there is a mark, and for all of them to be taken back. Where memory is
+/// refused, nothing is changed.
+fn make_room<A: Allocator>(
+    names: &mut Names<A>,
+    changes: &mut Vec<Change<A>, A>,
+    is_marked: bool,
+) -> Result<(), NoMemory>
+    ensures names { names.new.pairs ≡ names.old.pairs }
+    ensures changes { changes.new.items ≡ changes.old.items }
+    ensures more { names.old.room ≤ names.new.room }
+    ensures place { OnOk result (is_marked ≡ true → vec_len changes.new < vec_capacity changes.new) }
+    ensures room { OnOk result (is_marked ≡ true → length changes.old.items + 2 ≤ names.new.room) }
 {
-    pairs.binary_search_by(|pair| pair.0.as_slice().cmp(name))
+    if is_marked {
+        let count = changes.len().checked_add(2).ok_or(NoMemory)?;
+        changes.reserve(1)?;
+        names.reserve(count)?;
+    }
+    Ok(())
 }
 
 /// Sets a name or deletes it, and tells the change, if there is one.
 fn put<A: Allocator + Copy>(
     alloc: A,
-    pairs: &mut Vec<Bookmark<A>, A>,
+    names: &mut Names<A>,
     name: &[u8],
     node: Option<Node>,
 ) -> Result<Option<Change<A>>, NoMemory>
-    requires { AreInOrder pairs.old.items }
-    ensures set { OnOk result (pairs.new.items ≡ with_bookmark pairs.old.items name.now node) }
-    ensures in_order { AreInOrder pairs.new.items }
-    ensures back { IfOk result (λ change. all_undone (option_to_list change) pairs.new.items
-        ≡ pairs.old.items) }
-    ensures can { IfOk result (λ change. can_undo_all (vec_capacity pairs.new)
-        (option_to_list change) pairs.new.items ≡ true) }
-    ensures room { vec_capacity pairs.old ≤ vec_capacity pairs.new }
-    ensures err { OnErr result (pairs.new.items ≡ pairs.old.items) }
+    requires { AreInOrder names.old.pairs }
+    ensures set { OnOk result (names.new.pairs ≡ with_bookmark names.old.pairs name.now node) }
+    ensures back { IfOk result (λ change. all_undone (option_to_list change) names.new.pairs
+        ≡ names.old.pairs) }
+    ensures can { IfOk result (λ change. can_undo_all (option_to_list change) names.new.pairs ≡ true) }
+    ensures room { names.old.room ≤ names.new.room + 1 }
+    ensures err { OnErr result (names.new.pairs ≡ names.old.pairs) }
 {
-    match (place_of(pairs.as_slice(), name), node) {
-        (Ok(place), Some(node)) => {
-            let was = pairs[place].1;
-            pairs[place].1 = node;
-            Ok(Some(Change::Moved(place, was)))
+    match (names.find(name), node) {
+        (Some(was), Some(node)) => {
+            let kept = Seq::copy_of(alloc, name)?;
+            names.move_to(name, node);
+            Ok(Some(Change::Moved(kept, was)))
         }
-        (Ok(place), None) => {
-            let pair = pairs.remove(place);
-            Ok(Some(Change::Removed(place, pair)))
+        (Some(_), None) => {
+            let gone = names.remove(alloc, name)?;
+            Ok(Some(Change::Removed(gone)))
         }
-        (Err(place), Some(node)) => {
-            let name = Seq::copy_of(alloc, name)?;
-            pairs.insert(place, (name, node))?;
-            Ok(Some(Change::Added(place)))
+        (None, Some(node)) => {
+            let kept = Seq::copy_of(alloc, name)?;
+            names.insert(alloc, name, node)?;
+            Ok(Some(Change::Added(kept)))
         }
-        (Err(_), None) => Ok(None),
+        (None, None) => Ok(None),
     }
 }
 
@@ -202,42 +210,30 @@ fn keep<A: Allocator>(changes: &mut Vec<Change<A>, A>, change: Option<Change<A>>
     }
 }
 
-/// Takes back all changes, the last first. There is room for each pair that comes back.
-fn go_back<A: Allocator>(pairs: &mut Vec<Bookmark<A>, A>, changes: &mut Vec<Change<A>, A>)
-    requires { can_undo_all (vec_capacity pairs.old) (reverse changes.old.items) pairs.old.items ≡ true }
-    ensures { pairs.new.items ≡ base_of changes.old.items pairs.old.items }
+/// Takes back all changes, the last first. There is room for each name that comes back.
+fn go_back<A: Allocator>(names: &mut Names<A>, changes: &mut Vec<Change<A>, A>)
+    requires in_order { AreInOrder names.old.pairs }
+    requires can { can_undo_all (reverse changes.old.items) names.old.pairs ≡ true }
+    requires room { length changes.old.items ≤ names.old.room }
+    ensures back { names.new.pairs ≡ base_of changes.old.items names.old.pairs }
+    ensures in_order { AreInOrder names.new.pairs }
 {
     while let Some(change) = changes.pop() {
-        undo(pairs, change);
+        undo(names, change);
     }
 }
 
-/// Takes back one change.
-fn undo<A: Allocator>(pairs: &mut Vec<Bookmark<A>, A>, change: Change<A>)
-    requires { can_undo (vec_capacity pairs.old) change pairs.old.items ≡ true }
-    ensures pairs { pairs.new.items ≡ undone change pairs.old.items }
-    ensures room { vec_capacity pairs.old ≤ vec_capacity pairs.new }
+/// Takes back one change. It takes no memory.
+fn undo<A: Allocator>(names: &mut Names<A>, change: Change<A>)
+    requires in_order { AreInOrder names.old.pairs }
+    requires can { can_undo change names.old.pairs ≡ true }
+    requires room { 0 < names.old.room }
+    ensures pairs { names.new.pairs ≡ undone change names.old.pairs }
+    ensures room { names.old.room ≤ names.new.room + 1 }
 {
     match change {
-        Change::Added(place) => {
-            pairs.remove(place);
-        }
-        Change::Moved(place, node) => pairs[place].1 = node,
-        Change::Removed(place, pair) => pairs.insert(place, pair).unwrap(),
+        Change::Added(name) => names.forget(name.as_slice()),
+        Change::Moved(name, node) => names.move_to(name.as_slice(), node),
+        Change::Removed(gone) => names.put_back(gone),
     }
-}
-
-/// A copy of each pair in turn.
-fn copies<A: Allocator + Copy>(
-    alloc: A,
-    pairs: &[Bookmark<A>],
-) -> Result<Vec<Bookmark<A>, A>, NoMemory>
-    ensures { IfOk result (λ copies. copies.items ≡ pairs.now) }
-{
-    let mut copies = Vec::with_capacity(alloc, pairs.len())?;
-    for pair in pairs {
-        let name = Seq::copy_of(alloc, pair.0.as_slice())?;
-        copies.push((name, pair.1))?;
-    }
-    Ok(copies)
 }

@@ -15,14 +15,18 @@ fn node(byte: u8) -> Node {
 /// Whether the bookmarks are these, in this order.
 fn are<A: Allocator>(bookmarks: &Bookmarks<A>, wanted: &[(&[u8], Node)]) -> bool {
     let mut same = bookmarks.len() == wanted.len() && bookmarks.entry(wanted.len()).is_none();
+    let mut entries = bookmarks.entries();
     for (place, pair) in wanted.iter().enumerate() {
         same = same
             && bookmarks
                 .entry(place)
                 .is_some_and(|entry| entry.0 == pair.0 && entry.1 == pair.1)
+            && entries
+                .next()
+                .is_some_and(|entry| entry.0 == pair.0 && entry.1 == pair.1)
             && bookmarks.get(pair.0) == Some(pair.1);
     }
-    same
+    same && entries.next().is_none()
 }
 
 /// What is set in turn: `b` is moved, `ab` is deleted, and so is a name that is not there.
@@ -119,12 +123,12 @@ fn there_and_back<A: Allocator + Copy>(alloc: A) -> (bool, bool) {
 
 /// Over heaps of each multiple of 16 bytes, so that each growth is refused in turn.
 /// A set, a mark, the sets of the first row, and back, over heaps of each multiple of 16 bytes
-/// below 1,280. Result: the bookmarks at the mark, each time; a set is refused somewhere, and all
+/// below 2,560. Result: the bookmarks at the mark, each time; a set is refused somewhere, and all
 /// are done in the end.
 #[test]
 fn each_growth_of_bookmarks_refused(rt: HostRuntime) -> Result<(), Fail> {
     let (mut refused, mut done) = (0u32, 0u32);
-    for sixteens in 1..80usize {
+    for sixteens in 1..160usize {
         let heap = LocalHeap::new(rt.alloc(), sixteens * 16)?;
         let (all, same) = there_and_back(&heap);
         assert!(rt; same);

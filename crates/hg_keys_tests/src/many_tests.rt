@@ -97,7 +97,7 @@ fn many_are_told(heap: &LocalHeap, long: &[u8]) -> bool {
     let is_long = is_long && bookmarks.get(long) == Some(THERE);
     let is_long = is_long && bookmarks.try_clone(heap).is_ok();
     let many = usize::from(MANY);
-    let is_small = set <= 128 * many && few <= set.saturating_add(1024) && moved <= 384 * many;
+    let is_small = set <= 144 * many && few <= set.saturating_add(1024) && moved <= 384 * many;
     let takes_none = takes_none & is_new;
     is_set & is_copied & takes_none & has_few & is_moved & is_back & is_long & is_small
 }

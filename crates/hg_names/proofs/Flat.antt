@@ -2,8 +2,8 @@
 use Rattle.std.proofs.Common.{◌≡◌, ℕ, suc, ◌+◌, ◌-◌, ◌<◌, ◌≤◌, List, [], ◌∷◌, ◌++◌, length, get_or, set, take, drop}
 use Rattle.std.proofs.Common.{refl, sym, ap, ◌∙◌, arith, length-append, append_assoc}
 use Rattle.std.specs.List.{insert, remove, flat_map}
-use Rattle.std.proofs.lemmas.List.{take-append-drop, drop_more, take_more, set_split, get_or_append_left}
-use Rattle.std.proofs.lemmas.List.{get_or-append-add, set-append_left, set-append_right, append-nil}
+use Rattle.std.proofs.lemmas.List.{take-append-drop, drop_more, take_more, set_split}
+use Rattle.std.proofs.lemmas.List.{set-append_left, set-append_right, append-nil}
 use Rattle.std.proofs.lemmas.List.{take_more_set, take-set, drop-set-lt}
 use Rattle.std.proofs.lemmas.List.Edits.{insert-append_left, insert-append_right, remove-append_left}
 use Rattle.std.proofs.lemmas.List.Edits.{remove-append_right}

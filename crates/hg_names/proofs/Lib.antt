@@ -4,3 +4,5 @@ pub mod Filled
 pub mod Own
 pub mod Search
 pub mod Lookups
+pub mod Parts
+pub mod Edits

@@ -1,18 +1,19 @@
 -- A name among blocks of names, by its place in a block.
-use Rattle.std.proofs.Common.{◌≡◌, ℕ, suc, ◌+◌, ◌<◌, ◌≤◌, true, false, List, [], ◌∷◌, ◌++◌, length, get_or, take, drop}
-use Rattle.std.proofs.Common.{cond, Some, None, refl, sym, ap, ◌∙◌, subst, arith, inl, inr, bytes_eq}
+use Rattle.std.proofs.Common.{◌≡◌, ℕ, ◌+◌, ◌<◌, true, false, List, [], ◌∷◌, ◌++◌, length, get_or, take, drop}
+use Rattle.std.proofs.Common.{is_some, true≢false, cond, Some, None, refl, sym, ap, ◌∙◌, subst, arith, inl, inr, bytes_eq}
 use Rattle.std.specs.List.{flat_map, AllByRecursion, AllWithin}
 use Rattle.std.specs.Ordering.{is_eq}
 use Rattle.std.specs.declared.cmp.Ordering.{Ordering}
 use Rattle.std.specs.declared.cmp.Ordering.TheVariants.{Less, Greater}
 use Rattle.std.proofs.lemmas.Bool.{cases_lt}
-use Rattle.std.proofs.lemmas.List.{take-append-drop, drop_more, length-take, get_or-take, get_or_read}
+use Rattle.std.proofs.lemmas.List.{take-append-drop, drop_more, length-take, get_or-take}
 use Rattle.std.proofs.lemmas.List.Elements.{recursion_from_All}
 use Rattle.std.proofs.lemmas.Map.Text.{is_eq-slice_cmp}
 use Rattle.std.proofs.lemmas.Slice.Eq.{bytes_eq-Decides}
 use Rattle.hg_types.specs.declared.node.Node.{Node}
 use Rattle.hg_names.specs.declared.blocks.Block.{Block}
-use Rattle.hg_names.specs.Names.{Pairs, name_cmp, AreInOrder, IsAt, IsGap, node_of}
+use Rattle.hg_names.specs.Names.{Pairs, name_cmp, AreInOrder, node_of}
+use Rattle.hg_names.specs.code.Places.{IsAt, IsGap}
 use Rattle.hg_names.specs.code.Blocks.{IsLess, IsGreater}
 use Rattle.hg_names.proofs.Search.{own_order, at_joined, gap_joined}
 use Rattle.hg_names.proofs.Own.{items, read_of}
@@ -59,6 +60,23 @@ found_at pairs name place d in_order is_at =
     (sym (take-append-drop place pairs) ∙ ap (λ l. take place pairs ++ l) (drop_more pairs place d is_at.within))
     ∙ rest_of name (take place pairs) (get_or pairs place d ∷ drop (place + 1) pairs) before
     ∙ ap (λ b. cond b (Some (get_or pairs place d).1) (node_of (drop (place + 1) pairs) name)) here
+
+no_pair : List ℕ × Node
+no_pair = ([], record { 0 = [] })
+
+clash : (node : Node) → Some node ≡ None → ⊥
+clash node e = absurd cc
+
+-- a name that is not there has no place
+pub not_at : (pairs : Pairs) (name : List ℕ) (place : ℕ) → AreInOrder pairs → node_of pairs name ≡ None
+    → IsAt pairs name place → ⊥
+not_at pairs name place in_order none is_at =
+    clash (get_or pairs place no_pair).1 (sym (found_at pairs name place no_pair in_order is_at) ∙ none)
+
+-- and one that is there has no gap
+pub not_free : (pairs : Pairs) (name : List ℕ) (place : ℕ) → is_some (node_of pairs name) ≡ true
+    → IsGap pairs name place → ⊥
+not_free pairs name place some gap = true≢false (sym some ∙ ap is_some (none_at pairs name place gap))
 
 -- ---- by a block
 

@@ -1,6 +1,6 @@
 -- The pairs of a block.
-use Rattle.std.proofs.Common.{◌≡◌, ℕ, ◌+◌, ◌<◌, List, length, get_or, take, sym, ap, ◌∙◌, Result, Ok, Err, OnErr}
-use Rattle.std.proofs.Common.{[], ◌∷◌, cond, is_ok, refl, arith, vec_len}
+use Rattle.std.proofs.Common.{◌≡◌, ℕ, ◌+◌, ◌<◌, List, length, get_or, take, sym, ap, ◌∙◌, Result, Ok, Err, OnOk, OnErr}
+use Rattle.std.proofs.Common.{[], ◌∷◌, cond, is_ok, arith, vec_len}
 use Rattle.std.specs.List.{flat_map}
 use Rattle.std.proofs.lemmas.Grind.{common_steps}
 use Rattle.std.proofs.lemmas.List.{get_or_read, nil_from_length}
@@ -26,6 +26,11 @@ read_of {A} blocks b i block pair within is lt read d =
 pub on_err : {X E : Type 0} (r : Result X E) (P : Type 0) → P → OnErr r P
 on_err (Ok x) P holds = tt
 on_err (Err e) P holds = holds
+
+-- what follows from a fact that holds where a call succeeded
+pub ok_map : {X E : Type 0} (r : Result X E) (P Q : Type 0) → (P → Q) → OnOk r P → OnOk r Q
+ok_map (Ok x) P Q f holds = f holds
+ok_map (Err e) P Q f holds = tt
 
 -- what is so where a call succeeded, after one that did
 pub where_ok : {X E L : Type 0} (r : Result X E) (x : X) (new same : List L) → r ≡ Ok x

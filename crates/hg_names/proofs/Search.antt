@@ -1,7 +1,7 @@
 -- Where a name is among blocks of names in order.
-use Rattle.std.proofs.Common.{◌≡◌, ◌≢◌, ℕ, suc, ◌+◌, ◌-◌, ◌<◌, ◌≤◌, List, length, get_or, take, Result, Ok, Err}
-use Rattle.std.proofs.Common.{IfOk, IfErr, sym, ap, ◌∙◌, subst, arith, inl, inr, refl}
-use Rattle.std.specs.List.{flat_map, All, AllWithin, HoldsAt}
+use Rattle.std.proofs.Common.{◌≡◌, ℕ, ◌+◌, ◌-◌, ◌<◌, ◌≤◌, List, length, get_or, take, Result, Ok, Err}
+use Rattle.std.proofs.Common.{IfOk, IfErr, sym, ap, ◌∙◌, subst, arith, inl, inr}
+use Rattle.std.specs.List.{flat_map, AllWithin, HoldsAt}
 use Rattle.std.specs.List.Sorted.{IsSearchInRange, IsBinarySearchResult, IsNonDecreasingBy}
 use Rattle.std.specs.Ordering.{is_lt, ordering_index}
 use Rattle.std.specs.declared.cmp.Ordering.TheVariants.{Less, Greater}
@@ -11,7 +11,8 @@ use Rattle.std.proofs.lemmas.List.Concat.{get_or-flat_map}
 use Rattle.std.proofs.lemmas.List.Folds.{length-flat_map-take}
 use Rattle.std.proofs.lemmas.List.Sorted.{searchable_from_sorted}
 use Rattle.hg_types.specs.declared.node.Node.{Node}
-use Rattle.hg_names.specs.Names.{Pairs, name_cmp, AreInOrder, IsAt, IsGap}
+use Rattle.hg_names.specs.Names.{Pairs, name_cmp, AreInOrder}
+use Rattle.hg_names.specs.code.Places.{IsAt, IsGap}
 use Rattle.hg_names.specs.code.Blocks.{IsLess, IsGreater, IsNotGreater}
 use Rattle.hg_names.proofs.Order.{turned, names_equal, before_upto, behind_greater}
 use Rattle.hg_names.proofs.Flat.{next_start}

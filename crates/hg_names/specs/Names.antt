@@ -1,12 +1,10 @@
 -- Names in the order of their bytes, each with the changeset that it is on.
-use Rattle.std.specs.Prelude.{◌≡◌, ℕ, ◌<◌, ◌≤◌, List, [], length, AllPairs}
-use Rattle.std.specs.Prelude.{Option, bytes_eq, slice_index_or, slice_set}
+use Rattle.std.specs.Prelude.{◌≡◌, ℕ, Bool, List, ◌∷◌, ◌++◌, filter, AllPairs, Option, bytes_eq}
 use Rattle.std.specs.Map.{lookup}
 use Rattle.std.specs.Cmp.Lexicographic.{slice_cmp}
-use Rattle.std.specs.List.{AllWithin, HoldsAt}
-use Rattle.std.specs.Ordering.{nat_cmp}
+use Rattle.std.specs.Ordering.{is_lt, nat_cmp}
 use Rattle.std.specs.declared.cmp.Ordering.{Ordering}
-use Rattle.std.specs.declared.cmp.Ordering.TheVariants.{Less, Greater}
+use Rattle.std.specs.declared.cmp.Ordering.TheVariants.{Less}
 use Rattle.hg_types.specs.declared.node.Node.{Node}
 
 -- a name, and the changeset that it is on
@@ -25,20 +23,20 @@ AreInOrder pairs = AllPairs (λ pair other. name_cmp pair.0 other.0 ≡ Less) pa
 abbrev pub node_of : Pairs → List ℕ → Option Node
 node_of pairs name = lookup (λ other. bytes_eq other name) pairs
 
--- the pair at that place has the name
-pub record IsAt (pairs : Pairs) (name : List ℕ) (place : ℕ) : Type 0 where
-  pub within : place < length pairs
-  pub named : HoldsAt (λ pair. pair.0 ≡ name) pairs place
+-- in the order of names' bytes
+abbrev pub is_before : List ℕ → List ℕ → Bool
+is_before name other = is_lt (name_cmp name other)
 
--- lesser names stand before that place, and greater ones from it on
-pub record IsGap (pairs : Pairs) (name : List ℕ) (place : ℕ) : Type 0 where
-  pub within : place ≤ length pairs
-  pub lesser : AllWithin (λ pair. name_cmp pair.0 name ≡ Less) pairs 0 place
-  pub greater : AllWithin (λ pair. name_cmp pair.0 name ≡ Greater) pairs place (length pairs)
+-- the names with that one on a changeset: the others stay
+unfoldable pub with_name : Pairs → List ℕ → Node → Pairs
+with_name pairs name node =
+    filter (λ pair. is_before pair.0 name) pairs
+    ++ (name, node) ∷ filter (λ pair. is_before name pair.0) pairs
 
--- the name at a place on another changeset
-abbrev pub moved : Pairs → ℕ → Node → Pairs
-moved pairs place node = slice_set pairs place ((slice_index_or pairs place ([], node)).0, node)
+-- the names without that one
+unfoldable pub without : Pairs → List ℕ → Pairs
+without pairs name =
+    filter (λ pair. is_before pair.0 name) pairs ++ filter (λ pair. is_before name pair.0) pairs
 
 -- What contracts see: the pairs, and how many names can come back without asking for memory.
 pub record Held : Type 0 where

@@ -1,11 +1,12 @@
 //! The blocks in which names are kept, and where a name is among them.
 
 ghost use Rattle.std.specs.Prelude.{◌≡◌, ◌<◌, ◌≤◌, ◌+◌, ◌^◌, true, false, length, All, IfOk, IfErr, OnOk, OnErr};
-ghost use Rattle.std.specs.Prelude.{[], ◌∷◌, ◌++◌, insert, remove, vec_len, vec_capacity, slice_get, Some};
+ghost use Rattle.std.specs.Prelude.{[], ◌∷◌, ◌++◌, insert, remove, vec_len, vec_capacity, slice_get, Some, None, is_some};
 ghost use Rattle.std.specs.List.{HoldsAt, AllWithin};
-ghost use Rattle.hg_names.specs.Names.{AreInOrder, IsAt, IsGap, moved};
+ghost use Rattle.hg_names.specs.Names.{AreInOrder, node_of, with_name};
 ghost use Rattle.hg_names.specs.code.Blocks.{pairs_in, start_of, place_at, IsFilled, IsNotGreater, IsGreater};
-ghost use Rattle.hg_names.specs.code.Blocks.{IsLess, IsSpot, IsOpen};
+ghost use Rattle.hg_names.specs.code.Blocks.{IsLess, IsSpot, IsOpen, IsNamed, IsFree};
+ghost use Rattle.hg_names.specs.code.Places.{IsAt, IsGap, moved};
 
 use hg_types::{NoMemory, Node, Seq};
 use std::alloc::{Allocator, Global};
@@ -21,8 +22,9 @@ pub(crate) struct Block<A: Allocator = Global> {
     pub(crate) pairs: Vec<Pair<A>, A>,
 }
 
-/// A block with so many names is cut in two before another joins it.
-const FULL: usize = 64;
+/// A block with so many names is cut in two before another joins it. With fewer the list of blocks gets long,
+/// and a block that comes at its front moves all others; with more, each name that comes moves more of its block.
+const FULL: usize = 256;
 
 /// Whether the first name of a block comes after a name.
 fn is_behind<A: Allocator>(block: &Block<A>, name: &[u8]) -> bool
@@ -34,7 +36,7 @@ fn is_behind<A: Allocator>(block: &Block<A>, name: &[u8]) -> bool
 }
 
 /// The last block whose first name does not come after a name, or else the first one.
-pub(crate) fn block_of<A: Allocator>(blocks: &[Block<A>], name: &[u8]) -> usize
+fn block_of<A: Allocator>(blocks: &[Block<A>], name: &[u8]) -> usize
     requires filled { All IsFilled blocks.now }
     requires some { 0 < length blocks.now }
     requires in_order { AreInOrder (pairs_in blocks.now) }
@@ -57,7 +59,7 @@ pub(crate) fn block_of<A: Allocator>(blocks: &[Block<A>], name: &[u8]) -> usize
 }
 
 /// Where a name is in a block, or else where it would go.
-pub(crate) fn place_in<A: Allocator>(pairs: &[Pair<A>], name: &[u8]) -> Result<usize, usize>
+fn place_in<A: Allocator>(pairs: &[Pair<A>], name: &[u8]) -> Result<usize, usize>
     requires { AreInOrder pairs.now }
     ensures found { IfOk result (IsAt pairs.now name.now) }
     ensures absent { IfErr result (IsGap pairs.now name.now) }
@@ -65,17 +67,49 @@ pub(crate) fn place_in<A: Allocator>(pairs: &[Pair<A>], name: &[u8]) -> Result<u
     pairs.binary_search_by(|pair| pair.0.as_slice().cmp(name))
 }
 
-/// The place of the first name of a block.
-pub(crate) fn count_before<A: Allocator>(blocks: &[Block<A>], block: usize) -> usize
-    requires within { block ≤ length blocks.now }
-    requires fits { length (pairs_in blocks.now) < 2 ^ 64 }
-    ensures { result ≡ start_of blocks.now block }
+/// The spot of a name, or else one at which it would go.
+pub(crate) fn spot_of<A: Allocator>(
+    blocks: &[Block<A>],
+    name: &[u8],
+) -> Result<(usize, usize), (usize, usize)>
+    requires filled { All IsFilled blocks.now }
+    requires some { 0 < length blocks.now }
+    requires in_order { AreInOrder (pairs_in blocks.now) }
+    ensures found { IfOk result (IsNamed blocks.now name.now) }
+    ensures absent { IfErr result (IsFree blocks.now name.now) }
 {
-    let mut count = 0;
-    for number in 0..block {
-        count += blocks[number].pairs.len();
+    let number = block_of(blocks, name);
+    match place_in(blocks[number].pairs.as_slice(), name) {
+        Ok(place) => Ok((number, place)),
+        Err(place) => Err((number, place)),
     }
-    count
+}
+
+/// The spot of a name that is there.
+pub(crate) fn spot_named<A: Allocator>(blocks: &[Block<A>], name: &[u8]) -> (usize, usize)
+    requires filled { All IsFilled blocks.now }
+    requires in_order { AreInOrder (pairs_in blocks.now) }
+    requires there { is_some (node_of (pairs_in blocks.now) name.now) ≡ true }
+    ensures { IsNamed blocks.now name.now result }
+{
+    match spot_of(blocks, name) {
+        Ok(spot) => spot,
+        Err(_) => unreachable!(),
+    }
+}
+
+/// A spot at which a name goes that is not there.
+fn spot_free<A: Allocator>(blocks: &[Block<A>], name: &[u8]) -> (usize, usize)
+    requires filled { All IsFilled blocks.now }
+    requires some { 0 < length blocks.now }
+    requires in_order { AreInOrder (pairs_in blocks.now) }
+    requires absent { node_of (pairs_in blocks.now) name.now ≡ None }
+    ensures { IsFree blocks.now name.now result }
+{
+    match spot_of(blocks, name) {
+        Ok(_) => unreachable!(),
+        Err(spot) => spot,
+    }
 }
 
 /// The block that has the name at a place, and the name's place in it.
@@ -94,25 +128,8 @@ pub(crate) fn spot_at<A: Allocator>(blocks: &[Block<A>], place: usize) -> (usize
     unreachable!()
 }
 
-/// A block that a name can join at a place, and the place in it.
-pub(crate) fn spot_for<A: Allocator>(blocks: &[Block<A>], place: usize) -> (usize, usize)
-    requires some { 0 < length blocks.now }
-    requires within { place ≤ length (pairs_in blocks.now) }
-    ensures place { place_at blocks.now result ≡ place }
-    ensures spot { IsOpen blocks.now result }
-{
-    if place == 0 {
-        return (0, 0);
-    }
-    let (block, place) = spot_at(blocks, place - 1);
-    (block, place + 1)
-}
-
 /// Cuts a block in two. Where memory is refused, the blocks are unchanged.
-pub(crate) fn split<A: Allocator + Copy>(
-    blocks: &mut Vec<Block<A>, A>,
-    block: usize,
-) -> Result<(), NoMemory>
+fn split<A: Allocator + Copy>(blocks: &mut Vec<Block<A>, A>, block: usize) -> Result<(), NoMemory>
     requires filled { All IsFilled blocks.old.items }
     requires within { block < length blocks.old.items }
     requires full { HoldsAt (λ block. 2 ≤ length block.pairs.items) blocks.old.items block }
@@ -131,7 +148,7 @@ pub(crate) fn split<A: Allocator + Copy>(
 }
 
 /// Puts a pair into a block. Where memory is refused, the blocks are unchanged.
-pub(crate) fn put<A: Allocator>(
+fn put<A: Allocator>(
     blocks: &mut Vec<Block<A>, A>,
     spot: (usize, usize),
     pair: Pair<A>,
@@ -155,6 +172,7 @@ pub(crate) fn take_out<A: Allocator>(blocks: &mut Vec<Block<A>, A>, spot: (usize
     requires spot { IsSpot blocks.old.items spot }
     ensures pairs { pairs_in blocks.new.items
         ≡ remove (pairs_in blocks.old.items) (place_at blocks.old.items spot) }
+    ensures fewer { length (pairs_in blocks.old.items) ≡ length (pairs_in blocks.new.items) + 1 }
     ensures pair { slice_get (pairs_in blocks.old.items) (place_at blocks.old.items spot) ≡ Some result }
     ensures filled { All IsFilled blocks.new.items }
     ensures len { vec_len blocks.new ≤ vec_len blocks.old }
@@ -187,17 +205,19 @@ pub(crate) fn move_in<A: Allocator>(
     mem::replace(&mut pair.1, node)
 }
 
-/// Puts a pair in at a place, in a block of its own where there is none, and cuts a full block in two before.
-/// Where memory is refused, the names are unchanged.
+/// Puts a name in that is not there, and cuts a full block in two before. Where memory is refused, the names
+/// are unchanged.
 pub(crate) fn join<A: Allocator + Copy>(
     alloc: A,
     blocks: &mut Vec<Block<A>, A>,
-    place: usize,
     pair: Pair<A>,
 ) -> Result<(), NoMemory>
     requires filled { All IsFilled blocks.old.items }
-    requires within { place ≤ length (pairs_in blocks.old.items) }
-    ensures ok { OnOk result (pairs_in blocks.new.items ≡ insert (pairs_in blocks.old.items) place pair) }
+    requires in_order { AreInOrder (pairs_in blocks.old.items) }
+    requires absent { node_of (pairs_in blocks.old.items) pair.0 ≡ None }
+    ensures ok { OnOk result (pairs_in blocks.new.items
+        ≡ with_name (pairs_in blocks.old.items) pair.0 pair.1) }
+    ensures more { OnOk result (length (pairs_in blocks.new.items) ≡ length (pairs_in blocks.old.items) + 1) }
     ensures err { OnErr result (pairs_in blocks.new.items ≡ pairs_in blocks.old.items) }
     ensures filled { All IsFilled blocks.new.items }
     ensures len { vec_len blocks.new ≤ vec_len blocks.old + 1 }
@@ -206,10 +226,10 @@ pub(crate) fn join<A: Allocator + Copy>(
     if blocks.is_empty() {
         return begin(alloc, blocks, pair);
     }
-    let spot = spot_for(blocks.as_slice(), place);
+    let spot = spot_free(blocks.as_slice(), pair.0.as_slice());
     if blocks[spot.0].pairs.len() >= FULL {
         split(blocks, spot.0)?;
-        let spot = spot_for(blocks.as_slice(), place);
+        let spot = spot_free(blocks.as_slice(), pair.0.as_slice());
         return put(blocks, spot, pair);
     }
     put(blocks, spot, pair)
@@ -234,30 +254,62 @@ fn begin<A: Allocator + Copy>(
     Ok(())
 }
 
-/// Puts a pair in at a place, with an empty block that has room for one. It takes no memory: where the block
-/// that the pair would join has no room, its last pair moves on into the block that came with the pair.
-pub(crate) fn come_back<A: Allocator>(
-    blocks: &mut Vec<Block<A>, A>,
-    place: usize,
-    pair: Pair<A>,
-    mut own: Block<A>,
-)
+/// Puts a name in that is not there, with an empty block that has room for one. It takes no memory.
+pub(crate) fn come_back<A: Allocator>(blocks: &mut Vec<Block<A>, A>, pair: Pair<A>, own: Block<A>)
     requires filled { All IsFilled blocks.old.items }
-    requires within { place ≤ length (pairs_in blocks.old.items) }
+    requires in_order { AreInOrder (pairs_in blocks.old.items) }
+    requires absent { node_of (pairs_in blocks.old.items) pair.0 ≡ None }
     requires room { vec_len blocks.old < vec_capacity blocks.old }
     requires empty { own.pairs.items ≡ [] }
     requires own_room { vec_len own.pairs < vec_capacity own.pairs }
-    ensures pairs { pairs_in blocks.new.items ≡ insert (pairs_in blocks.old.items) place pair }
+    ensures pairs { pairs_in blocks.new.items ≡ with_name (pairs_in blocks.old.items) pair.0 pair.1 }
+    ensures more { length (pairs_in blocks.new.items) ≡ length (pairs_in blocks.old.items) + 1 }
     ensures filled { All IsFilled blocks.new.items }
     ensures len { vec_len blocks.new ≤ vec_len blocks.old + 1 }
     ensures capacity { vec_capacity blocks.old ≤ vec_capacity blocks.new }
 {
     if blocks.is_empty() {
-        own.pairs.push_reserved(pair);
-        blocks.push_reserved(own);
+        come_first(blocks, pair, own);
         return;
     }
-    let spot = spot_for(blocks.as_slice(), place);
+    let spot = spot_free(blocks.as_slice(), pair.0.as_slice());
+    come_back_at(blocks, spot, pair, own);
+}
+
+/// Puts the first pair in, with an empty block that has room for one.
+fn come_first<A: Allocator>(blocks: &mut Vec<Block<A>, A>, pair: Pair<A>, mut own: Block<A>)
+    requires none { vec_len blocks.old ≡ 0 }
+    requires room { vec_len blocks.old < vec_capacity blocks.old }
+    requires empty { own.pairs.items ≡ [] }
+    requires own_room { vec_len own.pairs < vec_capacity own.pairs }
+    ensures pairs { pairs_in blocks.new.items ≡ pair ∷ [] }
+    ensures filled { All IsFilled blocks.new.items }
+    ensures len { vec_len blocks.new ≡ 1 }
+    ensures capacity { vec_capacity blocks.old ≤ vec_capacity blocks.new }
+{
+    own.pairs.push_reserved(pair);
+    blocks.push_reserved(own);
+}
+
+/// Puts a pair in at a spot. Where the block that it would join has no room, the last pair of that block moves
+/// on into the block that came with the pair.
+fn come_back_at<A: Allocator>(
+    blocks: &mut Vec<Block<A>, A>,
+    spot: (usize, usize),
+    pair: Pair<A>,
+    mut own: Block<A>,
+)
+    requires filled { All IsFilled blocks.old.items }
+    requires spot { IsOpen blocks.old.items spot }
+    requires room { vec_len blocks.old < vec_capacity blocks.old }
+    requires empty { own.pairs.items ≡ [] }
+    requires own_room { vec_len own.pairs < vec_capacity own.pairs }
+    ensures pairs { pairs_in blocks.new.items
+        ≡ insert (pairs_in blocks.old.items) (place_at blocks.old.items spot) pair }
+    ensures filled { All IsFilled blocks.new.items }
+    ensures len { vec_len blocks.new ≤ vec_len blocks.old + 1 }
+    ensures capacity { vec_capacity blocks.old ≤ vec_capacity blocks.new }
+{
     let block = &mut blocks[spot.0];
     if block.pairs.len() < block.pairs.capacity() {
         block.pairs.insert(spot.1, pair).unwrap();

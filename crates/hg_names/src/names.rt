@@ -1,14 +1,12 @@
 //! Names in the order of their bytes, each with the changeset that it is on.
 
 ghost use Rattle.std.specs.Prelude.{◌≡◌, ◌<◌, ◌≤◌, ◌+◌, ◌-◌, ◌^◌, [], ◌∷◌, All, IfOk, IfErr, IfSome, IfNone};
-ghost use Rattle.std.specs.Prelude.{OnOk, OnErr, Some, length, slice_get, insert, remove};
-ghost use Rattle.std.specs.List.{HoldsAt};
-ghost use Rattle.hg_names.specs.Names.{AreInOrder, IsAt, IsGap, moved, node_of};
+ghost use Rattle.std.specs.Prelude.{OnOk, OnErr, Some, None, is_some, true, length, slice_get};
+ghost use Rattle.hg_names.specs.Names.{AreInOrder, node_of, with_name, without};
 ghost use Rattle.hg_names.specs.code.Blocks.{IsFilled};
 
 use crate::blocks::{
-    Block, Pair, block_of, come_back, copies, count_before, join, move_in, place_in, spot_at,
-    take_out,
+    Block, Pair, come_back, copies, join, move_in, spot_at, spot_named, spot_of, take_out,
 };
 use hg_types::{NoMemory, Node, Seq};
 use std::alloc::{Allocator, Global};
@@ -36,7 +34,7 @@ impl<A: Allocator> Model for Named<A> {
 /// Names, each with the changeset that it is on. Contracts see the list of these pairs, and how many names
 /// that left can come back without asking for memory.
 ///
-/// They are kept in blocks of at most 64. To find a name takes about as many steps as the logarithm of their
+/// They are kept in blocks of at most 256. To find a name takes about as many steps as the logarithm of their
 /// number; one that joins or leaves moves those of its block, and now and then the list of blocks.
 #[derive(Drop)]
 pub struct Names<A: Allocator = Global> {
@@ -99,41 +97,33 @@ impl<A: Allocator> Names<A> {
         if self.blocks.is_empty() {
             return None;
         }
-        let number = block_of(self.blocks.as_slice(), name);
-        let block = &self.blocks[number];
-        match place_in(block.pairs.as_slice(), name) {
-            Ok(place) => Some(block.pairs[place].1),
+        match spot_of(self.blocks.as_slice(), name) {
+            Ok(spot) => Some(self.blocks[spot.0].pairs[spot.1].1),
             Err(_) => None,
         }
     }
 
-    /// Where a name is, or else where it would go, in names that are in the order of their bytes.
-    pub fn place_of(&self, name: &[u8]) -> Result<usize, usize>
-        requires { AreInOrder self.now.pairs }
-        ensures found { IfOk result (IsAt self.now.pairs name.now) }
-        ensures absent { IfErr result (IsGap self.now.pairs name.now) }
-    {
-        if self.len == 0 {
-            return Err(0);
-        }
-        let number = block_of(self.blocks.as_slice(), name);
-        let before = count_before(self.blocks.as_slice(), number);
-        let block = &self.blocks[number];
-        match place_in(block.pairs.as_slice(), name) {
-            Ok(place) => Ok(before + place),
-            Err(place) => Err(before + place),
-        }
-    }
-
-    /// Puts the name at a place on another changeset, and tells on which it was. It takes no memory.
-    pub fn move_at(&mut self, place: usize, node: Node) -> Node
-        requires { place < length self.old.pairs }
-        ensures moved { self.new.pairs ≡ moved self.old.pairs place node }
-        ensures was { HoldsAt (λ pair. result ≡ pair.1) self.old.pairs place }
+    /// Puts a name that is there on another changeset. It takes no memory.
+    pub fn move_to(&mut self, name: &[u8], node: Node)
+        requires in_order { AreInOrder self.old.pairs }
+        requires there { is_some (node_of self.old.pairs name.now) ≡ true }
+        ensures moved { self.new.pairs ≡ with_name self.old.pairs name.now node }
         ensures room { self.new.room ≡ self.old.room }
     {
-        let spot = spot_at(self.blocks.as_slice(), place);
-        move_in(&mut self.blocks, spot, node)
+        let spot = spot_named(self.blocks.as_slice(), name);
+        move_in(&mut self.blocks, spot, node);
+    }
+
+    /// Drops a name that is there. It takes no memory.
+    pub fn forget(&mut self, name: &[u8])
+        requires in_order { AreInOrder self.old.pairs }
+        requires there { is_some (node_of self.old.pairs name.now) ≡ true }
+        ensures names { self.new.pairs ≡ without self.old.pairs name.now }
+        ensures room { self.old.room ≤ self.new.room }
+    {
+        let spot = spot_named(self.blocks.as_slice(), name);
+        drop(take_out(&mut self.blocks, spot));
+        self.len -= 1;
     }
 
     /// Makes room for so many names to come back. Where memory is refused, nothing is changed.
@@ -146,32 +136,27 @@ impl<A: Allocator> Names<A> {
         Ok(())
     }
 
-    /// Puts a name that left in at a place, before those from there on. It takes no memory.
-    pub fn put_back(&mut self, place: usize, named: Named<A>)
-        requires within { place ≤ length self.old.pairs }
+    /// Puts a name that left in again. It takes no memory.
+    pub fn put_back(&mut self, named: Named<A>)
+        requires in_order { AreInOrder self.old.pairs }
+        requires absent { node_of self.old.pairs named.0 ≡ None }
         requires fits { length self.old.pairs < 2 ^ 64 - 1 }
         requires room { 0 < self.old.room }
-        ensures names { self.new.pairs ≡ insert self.old.pairs place named }
+        ensures names { self.new.pairs ≡ with_name self.old.pairs named.0 named.1 }
         ensures room { self.old.room ≤ self.new.room + 1 }
     {
         let Named { pair, own } = named;
-        come_back(&mut self.blocks, place, pair, own);
+        come_back(&mut self.blocks, pair, own);
         self.len += 1;
     }
 }
 
 impl<A: Allocator + Copy> Names<A> {
-    /// Puts a name in at a place, before those from there on. Where memory is refused, the names are
-    /// unchanged.
-    pub fn insert(
-        &mut self,
-        alloc: A,
-        place: usize,
-        name: &[u8],
-        node: Node,
-    ) -> Result<(), NoMemory>
-        requires { place ≤ length self.old.pairs }
-        ensures ok { OnOk result (self.new.pairs ≡ insert self.old.pairs place (name.now, node)) }
+    /// Puts a name in that is not there. Where memory is refused, the names are unchanged.
+    pub fn insert(&mut self, alloc: A, name: &[u8], node: Node) -> Result<(), NoMemory>
+        requires in_order { AreInOrder self.old.pairs }
+        requires absent { node_of self.old.pairs name.now ≡ None }
+        ensures ok { OnOk result (self.new.pairs ≡ with_name self.old.pairs name.now node) }
         ensures err { OnErr result (self.new.pairs ≡ self.old.pairs) }
         ensures room { self.old.room ≤ self.new.room + 1 }
     {
@@ -179,23 +164,25 @@ impl<A: Allocator + Copy> Names<A> {
             return Err(NoMemory);
         }
         let name = Seq::copy_of(alloc, name)?;
-        join(alloc, &mut self.blocks, place, (name, node))?;
+        join(alloc, &mut self.blocks, (name, node))?;
         self.len += 1;
         Ok(())
     }
 
-    /// Takes out the name at a place, with memory in which it can come back. Where memory is refused, the
+    /// Takes out a name that is there, with memory in which it can come back. Where memory is refused, the
     /// names are unchanged.
-    pub fn remove(&mut self, alloc: A, place: usize) -> Result<Named<A>, NoMemory>
-        requires { place < length self.old.pairs }
-        ensures names { OnOk result (self.new.pairs ≡ remove self.old.pairs place) }
-        ensures name { IfOk result (λ named. slice_get self.old.pairs place ≡ Some named) }
+    pub fn remove(&mut self, alloc: A, name: &[u8]) -> Result<Named<A>, NoMemory>
+        requires in_order { AreInOrder self.old.pairs }
+        requires there { is_some (node_of self.old.pairs name.now) ≡ true }
+        ensures names { OnOk result (self.new.pairs ≡ without self.old.pairs name.now) }
+        ensures name { IfOk result (λ named. named.0 ≡ name.now) }
+        ensures node { IfOk result (λ named. node_of self.old.pairs name.now ≡ Some named.1) }
         ensures fits { OnOk result (length self.new.pairs < 2 ^ 64 - 1) }
         ensures err { OnErr result (self.new.pairs ≡ self.old.pairs) }
         ensures room { self.old.room ≤ self.new.room }
     {
         let pairs = Vec::with_capacity(alloc, 1)?;
-        let spot = spot_at(self.blocks.as_slice(), place);
+        let spot = spot_named(self.blocks.as_slice(), name);
         let pair = take_out(&mut self.blocks, spot);
         self.len -= 1;
         Ok(Named {

@@ -10,7 +10,7 @@ use std::test::*;
 const MANY: u16 = 20_000;
 
 /// How many names there are to choose from where a plain list is the model.
-const SMALL: u64 = 700;
+const SMALL: u64 = 2_800;
 
 fn node(byte: u8) -> Node {
     Node([byte; 20])
@@ -28,8 +28,7 @@ fn are<A: Allocator>(names: &Names<A>, wanted: &[(&[u8], Node)]) -> bool {
             && names
                 .get(place)
                 .is_some_and(|found| found.0 == pair.0 && found.1 == pair.1)
-            && names.find(pair.0) == Some(pair.1)
-            && names.place_of(pair.0) == Ok(place);
+            && names.find(pair.0) == Some(pair.1);
     }
     same && walk.next().is_none()
 }
@@ -39,11 +38,11 @@ fn names_at_their_places(rt: HostRuntime) -> Result<(), Fail> {
     let alloc = rt.alloc();
     let mut names = Names::new(alloc);
     assert!(rt; are(&names, &[]));
-    assert!(rt; names.place_of(b"a") == Err(0));
-    names.insert(alloc, 0, b"b", node(1))?;
-    names.insert(alloc, 0, b"", node(2))?;
-    names.insert(alloc, 2, &[255], node(3))?;
-    names.insert(alloc, 1, b"ab", node(4))?;
+    assert!(rt; names.find(b"a").is_none());
+    names.insert(alloc, b"b", node(1))?;
+    names.insert(alloc, b"", node(2))?;
+    names.insert(alloc, &[255], node(3))?;
+    names.insert(alloc, b"ab", node(4))?;
     assert!(rt;
         are(
             &names,
@@ -55,21 +54,26 @@ fn names_at_their_places(rt: HostRuntime) -> Result<(), Fail> {
             ]
         )
     );
-    assert!(rt; names.place_of(b"a") == Err(1));
-    assert!(rt; names.place_of(b"bb") == Err(3));
-    assert!(rt; names.place_of(&[255, 0]) == Err(4));
-    assert!(rt; names.find(b"a").is_none());
-    assert!(rt; names.move_at(2, node(9)) == node(1));
+    assert!(rt; names.find(b"a").is_none() && names.find(&[255, 0]).is_none());
+    names.move_to(b"b", node(9));
     let copy = names.try_clone(alloc)?;
-    let gone = names.remove(alloc, 1)?;
+    let gone = names.remove(alloc, b"ab")?;
     assert!(rt;
         are(
             &names,
             &[(b"", node(2)), (b"b", node(9)), (&[255], node(3))]
         )
     );
+    names.forget(b"");
+    assert!(rt; are(&names, &[(b"b", node(9)), (&[255], node(3))]));
     names.reserve(1)?;
-    names.put_back(1, gone);
+    names.put_back(gone);
+    assert!(rt;
+        are(
+            &names,
+            &[(b"ab", node(4)), (b"b", node(9)), (&[255], node(3))]
+        )
+    );
     assert!(rt;
         are(
             &copy,
@@ -81,7 +85,6 @@ fn names_at_their_places(rt: HostRuntime) -> Result<(), Fail> {
             ]
         )
     );
-    assert!(rt; names.place_of(b"ab") == Ok(1));
     Ok(())
 }
 
@@ -93,10 +96,9 @@ fn put_many<A: Allocator + Copy>(
 ) -> Result<(), NoMemory> {
     for number in 0..half {
         let below = half.saturating_sub(1).saturating_sub(number);
-        names.insert(alloc, 0, &below.to_be_bytes(), node(1))?;
+        names.insert(alloc, &below.to_be_bytes(), node(1))?;
         let above = half.saturating_add(number);
-        let last = names.len();
-        names.insert(alloc, last, &above.to_be_bytes(), node(2))?;
+        names.insert(alloc, &above.to_be_bytes(), node(2))?;
     }
     Ok(())
 }
@@ -111,7 +113,7 @@ fn many_names_at_their_places(rt: HostRuntime) -> Result<(), Fail> {
     for number in 0..MANY {
         let place = usize::from(number);
         let bytes = number.to_be_bytes();
-        assert!(rt; names.place_of(&bytes) == Ok(place));
+        assert!(rt; names.find(&bytes).is_some());
         assert!(rt;
             names
                 .get(place)
@@ -121,14 +123,22 @@ fn many_names_at_their_places(rt: HostRuntime) -> Result<(), Fail> {
     }
     assert!(rt; walk.next().is_none());
     for number in 0..MANY / 2 {
-        drop(names.remove(alloc, usize::from(number))?);
+        let even = number.saturating_mul(2);
+        drop(names.remove(alloc, &even.to_be_bytes())?);
+    }
+    for number in 0..MANY / 2 {
+        let even = number.saturating_mul(2);
+        let odd = even.saturating_add(1);
+        assert!(rt; names.find(&even.to_be_bytes()).is_none());
+        assert!(rt;
+            names
+                .get(usize::from(number))
+                .is_some_and(|found| found.0 == odd.to_be_bytes().as_slice())
+        );
     }
     for number in 0..MANY / 2 {
         let odd = number.saturating_mul(2).saturating_add(1);
-        assert!(rt; names.place_of(&odd.to_be_bytes()) == Ok(usize::from(number)));
-    }
-    for _ in 0..MANY / 2 {
-        drop(names.remove(alloc, 0)?);
+        names.forget(&odd.to_be_bytes());
     }
     assert!(rt; names.len() == 0);
     assert!(rt; names.entries().next().is_none());
@@ -148,26 +158,28 @@ fn names_like_a_sorted_list(rt: HostRuntime) -> Result<(), Fail> {
     let mut names = Names::new(alloc);
     let mut model: Vec<(u64, u8)> = Vec::new(alloc);
     let mut seed = 12_345u64;
-    for turn in 0..6_000u32 {
+    for turn in 0..24_000u32 {
         seed = next_chance(seed);
         let name = (seed >> 33) % SMALL;
         let byte = seed.to_be_bytes()[4];
         let bytes = name.to_be_bytes();
         match model.binary_search_by(|pair| pair.0.cmp(&name)) {
             Ok(place) => {
-                assert!(rt; names.place_of(&bytes) == Ok(place));
+                assert!(rt; names.find(&bytes) == Some(node(model[place].1)));
                 if turn % 3 == 0 {
-                    drop(names.remove(alloc, place)?);
+                    drop(names.remove(alloc, &bytes)?);
+                    model.remove(place);
+                } else if turn % 3 == 1 {
+                    names.forget(&bytes);
                     model.remove(place);
                 } else {
-                    let was = names.move_at(place, node(byte));
-                    assert!(rt; was == node(model[place].1));
+                    names.move_to(&bytes, node(byte));
                     model[place].1 = byte;
                 }
             }
             Err(place) => {
-                assert!(rt; names.place_of(&bytes) == Err(place));
-                names.insert(alloc, place, &bytes, node(byte))?;
+                assert!(rt; names.find(&bytes).is_none());
+                names.insert(alloc, &bytes, node(byte))?;
                 model.insert(place, (name, byte))?;
             }
         }
@@ -179,7 +191,7 @@ fn names_like_a_sorted_list(rt: HostRuntime) -> Result<(), Fail> {
                 && found.1 == node(pair.1))
         );
     }
-    assert!(rt; walk.next().is_none() && model.len() > 100);
+    assert!(rt; walk.next().is_none() && model.len() > 600);
     Ok(())
 }
 
@@ -188,32 +200,34 @@ fn names_like_a_sorted_list(rt: HostRuntime) -> Result<(), Fail> {
 fn names_come_back(rt: HostRuntime) -> Result<(), Fail> {
     let alloc = rt.alloc();
     let mut names = Names::new(alloc);
-    put_many(alloc, &mut names, 300)?;
+    put_many(alloc, &mut names, 1_200)?;
     let mut gone: Vec<Named> = Vec::new(alloc);
-    for _ in 0..100 {
-        gone.push(names.remove(alloc, 200)?)?;
+    for number in 800..1_200u16 {
+        gone.push(names.remove(alloc, &number.to_be_bytes())?)?;
     }
-    let between = 200u16.to_be_bytes();
-    for number in 0..500u16 {
+    let between = 799u16.to_be_bytes();
+    for number in 0..2_000u16 {
         let low = number.to_be_bytes();
         let name = [between[0], between[1], low[0], low[1]];
-        names.insert(
-            alloc,
-            usize::from(number).saturating_add(200),
-            &name,
-            node(7),
-        )?;
+        names.insert(alloc, &name, node(7))?;
     }
-    names.reserve(100)?;
+    names.reserve(400)?;
     while let Some(named) = gone.pop() {
-        names.put_back(200, named);
+        names.put_back(named);
     }
-    for number in 0..500u16 {
-        drop(names.remove(alloc, 300)?);
-        assert!(rt; names.len() == usize::from(1_099u16.saturating_sub(number)));
+    assert!(rt; names.len() == 4_400);
+    for number in 0..2_000u16 {
+        let low = number.to_be_bytes();
+        let name = [between[0], between[1], low[0], low[1]];
+        drop(names.remove(alloc, &name)?);
+        assert!(rt; names.len() == usize::from(4_399u16.saturating_sub(number)));
     }
-    for number in 0..600u16 {
-        assert!(rt; names.place_of(&number.to_be_bytes()) == Ok(usize::from(number)));
+    for number in 0..2_400u16 {
+        assert!(rt;
+            names
+                .get(usize::from(number))
+                .is_some_and(|found| found.0 == number.to_be_bytes().as_slice())
+        );
     }
     Ok(())
 }
@@ -223,15 +237,12 @@ fn names_come_back(rt: HostRuntime) -> Result<(), Fail> {
 #[test]
 fn each_growth_refused(rt: HostRuntime) -> Result<(), Fail> {
     let (mut refused, mut done) = (0u32, 0u32);
-    for sixteens in (1..2_000usize).step_by(3) {
+    for sixteens in (1..6_000usize).step_by(9) {
         let heap = LocalHeap::new(rt.alloc(), sixteens.saturating_mul(16))?;
         let mut names = Names::new(&heap);
         let mut count = 0usize;
-        for number in 0..140u16 {
-            if names
-                .insert(&heap, count, &number.to_be_bytes(), node(1))
-                .is_err()
-            {
+        for number in 0..300u16 {
+            if names.insert(&heap, &number.to_be_bytes(), node(1)).is_err() {
                 break;
             }
             count = count.saturating_add(1);
@@ -250,20 +261,21 @@ fn each_growth_refused(rt: HostRuntime) -> Result<(), Fail> {
             Ok(copy) => assert!(rt; copy.len() == names.len()),
             Err(_) => refused = refused.saturating_add(1),
         }
+        let first = 0u16.to_be_bytes();
         if count > 0 {
-            match names.remove(&heap, 0) {
+            match names.remove(&heap, &first) {
                 Ok(named) => {
                     assert!(rt; names.len().saturating_add(1) == count);
                     if names.reserve(1).is_ok() {
-                        names.put_back(0, named);
+                        names.put_back(named);
                         assert!(rt; names.len() == count);
-                        assert!(rt; names.place_of(&0u16.to_be_bytes()) == Ok(0));
+                        assert!(rt; names.find(&first) == Some(node(1)));
                     }
                 }
                 Err(_) => assert!(rt; names.len() == count),
             }
         }
-        if count == 140 {
+        if count == 300 {
             done = done.saturating_add(1);
         }
     }

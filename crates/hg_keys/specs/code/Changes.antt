@@ -1,21 +1,16 @@
--- The way back: what takes back each change, by the place at which it was made.
+-- The way back: what takes back each change, by the name and what it was on.
 use Rattle.std.specs.Option.{option_to_list}
-use Rattle.std.specs.Prelude.{◌≡◌, ◌++◌, Option, if◌then◌else◌, ℕ, Bool, true, ◌&&◌, nat_lt, nat_le, List, []}
-use Rattle.std.specs.Prelude.{◌∷◌, length, reverse, insert, remove, slice_index_or, slice_set}
-use Rattle.hg_types.specs.declared.node.Node.{Node}
+use Rattle.std.specs.Prelude.{◌≡◌, ◌≤◌, ◌-◌, ◌^◌, ◌++◌, Option, Some, None, is_some, is_none, if◌then◌else◌, ℕ, Bool, true}
+use Rattle.std.specs.Prelude.{◌&&◌, nat_lt, List, [], ◌∷◌, length, reverse}
 use Rattle.hg_keys.specs.declared.bookmarks.Change.{Change}
 use Rattle.hg_keys.specs.declared.bookmarks.Change.TheVariants.{Added, Moved, Removed}
-use Rattle.hg_keys.specs.Bookmarks.{Pairs, AreInOrder}
-
--- the name at a place on another changeset
-abbrev pub moved : Pairs → ℕ → Node → Pairs
-moved pairs place node = slice_set pairs place ((slice_index_or pairs place ([], node)).0, node)
+use Rattle.hg_keys.specs.Bookmarks.{Pairs, AreInOrder, node_of, with_bookmark}
 
 -- the pairs before a change
 abbrev pub undone : {A : Type 0} → Change A → Pairs → Pairs
-undone (Added place) pairs = remove pairs place
-undone (Moved place node) pairs = moved pairs place node
-undone (Removed place pair) pairs = insert pairs place pair
+undone (Added name) pairs = with_bookmark pairs name None
+undone (Moved name node) pairs = with_bookmark pairs name (Some node)
+undone (Removed named) pairs = with_bookmark pairs named.0 (Some named.1)
 
 -- the pairs before all changes, of which the last comes first here
 abbrev pub all_undone : {A : Type 0} → List (Change A) → Pairs → Pairs
@@ -26,24 +21,25 @@ all_undone (change ∷ changes) pairs = all_undone changes (undone change pairs)
 abbrev pub base_of : {A : Type 0} → List (Change A) → Pairs → Pairs
 base_of changes pairs = all_undone (reverse changes) pairs
 
--- there is such a place, and room for a pair that comes back
-abbrev pub can_undo : {A : Type 0} → ℕ → Change A → Pairs → Bool
-can_undo room (Added place) pairs = nat_lt place (length pairs)
-can_undo room (Moved place node) pairs = nat_lt place (length pairs)
-can_undo room (Removed place pair) pairs = nat_le place (length pairs) && nat_lt (length pairs) room
+-- a name that goes or moves is there, one that comes back is not, and can be counted
+abbrev pub can_undo : {A : Type 0} → Change A → Pairs → Bool
+can_undo (Added name) pairs = is_some (node_of pairs name)
+can_undo (Moved name node) pairs = is_some (node_of pairs name)
+can_undo (Removed named) pairs = is_none (node_of pairs named.0) && nat_lt (length pairs) (2 ^ 64 - 1)
 
-abbrev pub can_undo_all : {A : Type 0} → ℕ → List (Change A) → Pairs → Bool
-can_undo_all room [] pairs = true
-can_undo_all room (change ∷ changes) pairs =
-    can_undo room change pairs && can_undo_all room changes (undone change pairs)
+abbrev pub can_undo_all : {A : Type 0} → List (Change A) → Pairs → Bool
+can_undo_all [] pairs = true
+can_undo_all (change ∷ changes) pairs =
+    can_undo change pairs && can_undo_all changes (undone change pairs)
 
 -- the changes with one more, where there is a mark
 abbrev pub kept : {A : Type 0} → Bool → List (Change A) → Option (Change A) → List (Change A)
 kept is_marked changes change = if is_marked then changes ++ option_to_list change else changes
 
--- The pairs are in order, and so are those at the mark, to which there is a way back that takes no memory.
-pub record IsSound {A : Type 0} (pairs : Pairs) (changes : List (Change A)) (room : ℕ)
+-- The pairs are in order, and there is a way back that takes no memory: as many names as changes were kept can
+-- come back.
+pub record IsSound {A : Type 0} (pairs : Pairs) (changes : List (Change A)) (space : ℕ)
     (is_marked : Bool) : Type 0 where
   pub in_order : AreInOrder pairs
-  pub base : is_marked ≡ true → AreInOrder (base_of changes pairs)
-  pub back : is_marked ≡ true → can_undo_all room (reverse changes) pairs ≡ true
+  pub back : is_marked ≡ true → can_undo_all (reverse changes) pairs ≡ true
+  pub room : is_marked ≡ true → length changes ≤ space

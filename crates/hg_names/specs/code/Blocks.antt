@@ -5,6 +5,7 @@ use Rattle.std.specs.declared.cmp.Ordering.TheVariants.{Less, Greater}
 use Rattle.hg_types.specs.declared.node.Node.{Node}
 use Rattle.hg_names.specs.declared.blocks.Block.{Block}
 use Rattle.hg_names.specs.Names.{Pairs, name_cmp}
+use Rattle.hg_names.specs.code.Places.{IsAt, IsGap}
 
 -- the pairs of all blocks, in their order
 abbrev pub pairs_in : {A : Type 0} → List (Block A) → Pairs
@@ -40,3 +41,13 @@ pub record IsSpot {A : Type 0} (blocks : List (Block A)) (spot : ℕ × ℕ) : T
 pub record IsOpen {A : Type 0} (blocks : List (Block A)) (spot : ℕ × ℕ) : Type 0 where
   pub block : spot.0 < length blocks
   pub within : HoldsAt (λ block. spot.1 ≤ length block.pairs.items) blocks spot.0
+
+-- a name is at that spot
+pub record IsNamed {A : Type 0} (blocks : List (Block A)) (name : List ℕ) (spot : ℕ × ℕ) : Type 0 where
+  pub within : IsSpot blocks spot
+  pub at : IsAt (pairs_in blocks) name (place_at blocks spot)
+
+-- a name that is not there goes to that spot
+pub record IsFree {A : Type 0} (blocks : List (Block A)) (name : List ℕ) (spot : ℕ × ℕ) : Type 0 where
+  pub within : IsOpen blocks spot
+  pub gap : IsGap (pairs_in blocks) name (place_at blocks spot)

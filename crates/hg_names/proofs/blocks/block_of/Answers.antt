@@ -1,4 +1,4 @@
-use Rattle.std.proofs.Common.{◌≡◌, ◌+◌, ◌-◌, ◌/◌, ◌<◌, length, arith, subst}
+use Rattle.std.proofs.Common.{◌+◌, ◌-◌, ◌/◌, ◌<◌, length, arith, subst}
 use Rattle.std.specs.List.{HoldsAt}
 use Rattle.hg_names.specs.declared.blocks.Block.{Block}
 use Rattle.hg_names.specs.code.Blocks.{IsGreater, IsNotGreater}

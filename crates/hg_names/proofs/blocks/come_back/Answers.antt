@@ -1,73 +1,29 @@
-use Rattle.std.proofs.Common.{◌≡◌, ℕ, ◌+◌, ◌<◌, ◌≤◌, List, [], ◌∷◌, ◌++◌, length, get_or, sym, ap, ◌∙◌, subst, arith}
-use Rattle.std.specs.List.{insert, All}
-use Rattle.std.proofs.lemmas.List.Edits.{length-insert}
-use Rattle.std.proofs.lemmas.List.Elements.{All-set}
-use Rattle.hg_types.specs.declared.node.Node.{Node}
+use Rattle.std.proofs.Common.{◌≡◌, ℕ, List, [], sym, ap, subst, ◌∙◌, arith, vec_len}
+use Rattle.std.proofs.lemmas.Bool.{eqb-true}
+use Rattle.std.proofs.lemmas.Grind.{common_steps}
+use Rattle.std.proofs.lemmas.List.{nil_from_length}
 use Rattle.hg_names.specs.declared.blocks.Block.{Block}
-use Rattle.hg_names.specs.Names.{Pairs}
-use Rattle.hg_names.specs.code.Blocks.{pairs_in, place_at, IsFilled, IsOpen}
-use Rattle.hg_names.proofs.Flat.{inserted, inserted_in_two}
-use Rattle.hg_names.proofs.Filled.{all_inserted}
-use Rattle.hg_names.proofs.Own.{items, where_ok}
+use Rattle.hg_names.specs.Names.{with_name}
+use Rattle.hg_names.specs.code.Blocks.{pairs_in, place_at, IsFree}
+use Rattle.hg_names.proofs.Edits.{with_gap, with_first}
 use Rattle.hg_names.proofs.blocks.come_back.Goals as goal
 
-pub returns-then-len-capacity-clause-pairs : goal.returns-then-len-capacity-clause-pairs
-returns-then-len-capacity-clause-pairs g c =
-    let blocks = c.args.blocks.now.items in
-    let spot = c.spot_for-spot.result in
-    let block = c.index_mut-block.result.now in
-    let is = c.index_mut-block.ensures.value in
-    let open_at : IsOpen blocks spot = subst (λ (bs : List (Block g.row.A.Denot)). IsOpen bs spot)
-    c.as_slice.ensures.value c.spot_for-spot.ensures.spot in
-    let place : place_at blocks spot ≡ c.args.place = subst (λ (bs : List (Block g.row.A.Denot)).
-    place_at bs spot ≡ c.args.place) c.as_slice.ensures.value c.spot_for-spot.ensures.place in
-    let made = c.insert.ensures.items ∙ where_ok c.insert.result c.unwrap.result _ _ c.unwrap.ensures in
-    inserted items blocks spot.0 block open_at.block _ spot.1 c.args.pair (open_at.within block)
-    (made ∙ ap (λ (b : Block g.row.A.Denot). insert (items b) spot.1 c.args.pair) is)
-    ∙ ap (λ n. insert (pairs_in blocks) n c.args.pair) place
-
-pub returns-then-len-capacity-clause-filled : goal.returns-then-len-capacity-clause-filled
-returns-then-len-capacity-clause-filled g c =
-    let blocks = c.args.blocks.now.items in
-    let spot = c.spot_for-spot.result in
-    let block = c.index_mut-block.result.now in
-    let is = c.index_mut-block.ensures.value in
-    let open_at : IsOpen blocks spot = subst (λ (bs : List (Block g.row.A.Denot)). IsOpen bs spot)
-    c.as_slice.ensures.value c.spot_for-spot.ensures.spot in
-    let made = c.insert.ensures.items ∙ where_ok c.insert.result c.unwrap.result _ _ c.unwrap.ensures in
-    let own : spot.1 ≤ length (items block) = rw is (open_at.within block) in
-    let some : 0 < length c.insert.new.self.items = rw made
-    (omega (arith, length-insert (items block) spot.1 c.args.pair own)) in
-    All-set IsFilled blocks spot.0 _ some c.requires.filled
+pub returns-then-is_empty-clause-pairs : goal.returns-then-is_empty-clause-pairs
+returns-then-is_empty-clause-pairs g c =
+    let pair = c.args.pair in
+    let none : vec_len c.args.blocks.now ≡ 0 = eqb-true _ _ (sym c.is_empty.ensures ∙ c.if-is_empty.true) in
+    let nil : c.args.blocks.now.items ≡ [] = nil_from_length c.args.blocks.now.items
+    (grind (arith, common_steps, none)) in
+    c.come_first.ensures.pairs ∙ sym (with_first pair)
+    ∙ ap (λ (bs : List (Block g.row.A.Denot)). with_name (pairs_in bs) pair.0 pair.1) (sym nil)
 
 pub returns-clause-pairs : goal.returns-clause-pairs
 returns-clause-pairs g c =
     let blocks = c.args.blocks.now.items in
-    let spot = c.spot_for-spot.result in
-    let block = c.index_mut-block.result.now in
-    let is = c.index_mut-block.ensures.value in
-    let open_at : IsOpen blocks spot = subst (λ (bs : List (Block g.row.A.Denot)). IsOpen bs spot)
-    c.as_slice.ensures.value c.spot_for-spot.ensures.spot in
-    let place : place_at blocks spot ≡ c.args.place = subst (λ (bs : List (Block g.row.A.Denot)).
-    place_at bs spot ≡ c.args.place) c.as_slice.ensures.value c.spot_for-spot.ensures.place in
-    let made = c.insert-2.ensures.items ∙ where_ok c.insert-2.result c.unwrap-2.result _ _ c.unwrap-2.ensures in
-    let upper : c.push_reserved-2.new.self.items ≡ c.with_last_out-last.result ∷ [] =
-    c.push_reserved-2.ensures.items ∙ ap (λ (l : Pairs). l ++ c.with_last_out-last.result ∷ []) c.requires.empty in
-    let whole = ap (λ (l : Pairs). c.with_last_out-last.new.pairs.items ++ l) upper
-    ∙ c.with_last_out-last.ensures.pairs
-    ∙ ap (λ (b : Block g.row.A.Denot). insert (items b) spot.1 c.args.pair) is in
-    ap pairs_in made
-    ∙ inserted_in_two items blocks spot.0 block open_at.block _ _ spot.1 c.args.pair (open_at.within block) whole
-    ∙ ap (λ n. insert (pairs_in blocks) n c.args.pair) place
-
-pub returns-clause-filled : goal.returns-clause-filled
-returns-clause-filled g c =
-    let blocks = c.args.blocks.now.items in
-    let spot = c.spot_for-spot.result in
-    let made = c.insert-2.ensures.items ∙ where_ok c.insert-2.result c.unwrap-2.result _ _ c.unwrap-2.ensures in
-    let upper : c.push_reserved-2.new.self.items ≡ c.with_last_out-last.result ∷ [] =
-    c.push_reserved-2.ensures.items ∙ ap (λ (l : Pairs). l ++ c.with_last_out-last.result ∷ []) c.requires.empty in
-    let some : 0 < length c.push_reserved-2.new.self.items = rw upper (omega arith) in
-    subst (All IsFilled) (sym made)
-    (all_inserted IsFilled _ (spot.0 + 1) _
-    (All-set IsFilled blocks spot.0 _ c.with_last_out-last.ensures.filled c.requires.filled) some)
+    let pair = c.args.pair in
+    let spot = c.spot_free-spot.result in
+    let free : IsFree blocks pair.0 spot = subst (λ (n : List ℕ). IsFree blocks n spot) c.as_slice-2.ensures
+    (subst (λ (bs : List (Block g.row.A.Denot)). IsFree bs c.as_slice-2.result.now spot) c.as_slice.ensures.value
+    c.spot_free-spot.ensures) in
+    c.come_back_at.ensures.pairs
+    ∙ sym (with_gap (pairs_in blocks) pair.0 (place_at blocks spot) pair.1 free.gap)

@@ -1,4 +1,4 @@
-use Rattle.std.proofs.Common.{◌≡◌, ℕ, ◌<◌, List, [], sym, ap, ◌∙◌, set, get_or, length, subst}
+use Rattle.std.proofs.Common.{ℕ, ◌<◌, List, [], ap, ◌∙◌, set, length}
 use Rattle.hg_types.specs.declared.node.Node.{Node}
 use Rattle.hg_names.specs.declared.blocks.Block.{Block}
 use Rattle.hg_names.specs.code.Blocks.{pairs_in, place_at}

@@ -1,4 +1,4 @@
-use Rattle.std.proofs.Common.{◌≡◌, ap, ◌∙◌}
+use Rattle.std.proofs.Common.{ap, ◌∙◌}
 use Rattle.std.specs.List.{insert}
 use Rattle.hg_names.specs.declared.blocks.Block.{Block}
 use Rattle.hg_names.proofs.Flat.{inserted, kept}

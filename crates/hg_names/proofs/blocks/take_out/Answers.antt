@@ -1,12 +1,13 @@
-use Rattle.std.proofs.Common.{◌≡◌, ℕ, ◌<◌, List, [], length, sym, ap, ◌∙◌, refl, arith, subst, vec_len}
+use Rattle.std.proofs.Common.{◌≡◌, ◌+◌, ◌<◌, length, sym, ap, ◌∙◌, refl, arith, subst, vec_len}
 use Rattle.std.specs.List.{remove, All}
 use Rattle.std.proofs.lemmas.Bool.{eqb-true}
 use Rattle.std.proofs.lemmas.Option.{slice_get_read}
 use Rattle.std.proofs.lemmas.List.Folds.{length-flat_map-take}
-use Rattle.hg_types.specs.declared.node.Node.{Node}
 use Rattle.hg_names.specs.declared.blocks.Block.{Block}
 use Rattle.hg_names.specs.code.Blocks.{pairs_in, place_at, IsFilled}
 use Rattle.hg_names.proofs.Flat.{removed, removed_whole, remove_set}
+use Rattle.hg_names.specs.Names.{Pairs}
+use Rattle.hg_names.proofs.Edits.{length_removed}
 use Rattle.hg_names.proofs.Filled.{all_removed}
 use Rattle.hg_names.proofs.Own.{items, read_of, none_left}
 use Rattle.hg_names.proofs.blocks.take_out.Goals as goal
@@ -31,6 +32,34 @@ returns-then-is_empty-clause-pairs g c =
     ∙ removed_whole items blocks spot.0 block c.requires.spot.block spot.1 (c.requires.spot.within block)
     (sym (ap (λ (b : Block g.row.A.Denot). remove (items b) spot.1) is) ∙ sym c.remove-pair.ensures.items
     ∙ none_left (record { pairs = c.remove-pair.new.self }) none)
+
+pub returns-then-is_empty-clause-fewer : goal.returns-then-is_empty-clause-fewer
+returns-then-is_empty-clause-fewer g c =
+    let blocks = c.args.blocks.now.items in
+    let spot = c.args.spot in
+    let block = c.index_mut-block.result.now in
+    let is = c.index_mut-block.ensures.value in
+    let none : vec_len c.remove-pair.new.self ≡ 0 = eqb-true _ _ (sym c.is_empty.ensures ∙ c.if-is_empty.true) in
+    let pairs = ap pairs_in (c.remove.ensures.items ∙ remove_set blocks spot.0 _)
+    ∙ removed_whole items blocks spot.0 block c.requires.spot.block spot.1 (c.requires.spot.within block)
+    (sym (ap (λ (b : Block g.row.A.Denot). remove (items b) spot.1) is) ∙ sym c.remove-pair.ensures.items
+    ∙ none_left (record { pairs = c.remove-pair.new.self }) none) in
+    let fits = length-flat_map-take items blocks spot.0 block c.requires.spot.block in
+    length_removed (pairs_in blocks) (place_at blocks spot)
+    (omega (arith, fits, c.requires.spot.within block)) ∙ ap (λ (ps : Pairs). length ps + 1) (sym pairs)
+
+pub returns-else-is_empty-clause-fewer : goal.returns-else-is_empty-clause-fewer
+returns-else-is_empty-clause-fewer g c =
+    let blocks = c.args.blocks.now.items in
+    let spot = c.args.spot in
+    let block = c.index_mut-block.result.now in
+    let is = c.index_mut-block.ensures.value in
+    let pairs = removed items c.args.blocks.now.items spot.0 block c.requires.spot.block _ spot.1
+    (c.requires.spot.within block)
+    (c.remove-pair.ensures.items ∙ ap (λ (b : Block g.row.A.Denot). remove (items b) spot.1) is) in
+    let fits = length-flat_map-take items blocks spot.0 block c.requires.spot.block in
+    length_removed (pairs_in blocks) (place_at blocks spot)
+    (omega (arith, fits, c.requires.spot.within block)) ∙ ap (λ (ps : Pairs). length ps + 1) (sym pairs)
 
 pub returns-then-is_empty-clause-pair : goal.returns-then-is_empty-clause-pair
 returns-then-is_empty-clause-pair g c =

@@ -1,12 +1,10 @@
-use Rattle.std.proofs.Common.{◌≡◌, ℕ, ◌<◌, ◌+◌, List, length, take, Some, None, sym, ap, subst, ◌∙◌, arith}
-use Rattle.std.specs.List.{AllWithin, slice_get}
-use Rattle.hg_types.specs.declared.node.Node.{Node}
+use Rattle.std.proofs.Common.{◌≡◌, ℕ, ◌<◌, List, length, Some, sym, ap, subst, ◌∙◌, arith}
+use Rattle.std.specs.List.{slice_get}
 use Rattle.hg_names.specs.declared.blocks.Block.{Block}
-use Rattle.hg_names.specs.Names.{Held, Pairs, AreInOrder, IsAt, IsGap, node_of}
-use Rattle.hg_names.specs.code.Blocks.{pairs_in, start_of, place_at, IsLess, IsGreater, IsSpot}
-use Rattle.hg_names.proofs.Own.{items, read_of, some_block}
-use Rattle.hg_names.proofs.Lookups.{block_order, at_in, gap_in, found_in, none_at}
-use Rattle.std.proofs.Common.{get_or, refl}
+use Rattle.hg_names.specs.Names.{Held}
+use Rattle.hg_names.specs.code.Blocks.{pairs_in, place_at, IsSpot}
+use Rattle.hg_names.proofs.Own.{items, read_of}
+use Rattle.std.proofs.Common.{refl}
 use Rattle.std.proofs.lemmas.Option.{slice_get_read}
 use Rattle.std.proofs.lemmas.List.Folds.{length-flat_map-take}
 use Rattle.hg_names.proofs.names.Names.get.Goals as goal

@@ -1,0 +1,232 @@
+-- A name that is set and set back to what it was on.
+use Rattle.std.proofs.Common.{◌≡◌, ℕ, suc, Bool, true, false, true≢false, cond, List, [], ◌∷◌, ◌++◌}
+use Rattle.std.proofs.Common.{get_or, Option, Some, None, refl, sym, ap, ◌∙◌, arith, bytes_eq, subst}
+use Rattle.std.specs.List.{filter, AllByRecursion}
+use Rattle.std.specs.Ordering.{is_lt, is_eq, ordering_reverse}
+use Rattle.std.specs.declared.cmp.Ordering.{Ordering}
+use Rattle.std.specs.declared.cmp.Ordering.TheVariants.{Less, Equal, Greater}
+use Rattle.std.proofs.lemmas.Cmp.{nat_list_cmp_total, tied_itself}
+use Rattle.std.proofs.lemmas.List.{append-nil}
+use Rattle.std.proofs.lemmas.List.Elements.{filter-append, recursion_from_All}
+use Rattle.std.proofs.lemmas.Map.Text.{is_eq-slice_cmp}
+use Rattle.std.proofs.lemmas.Slice.Eq.{bytes_eq-Decides}
+use Rattle.hg_types.specs.declared.node.Node.{Node}
+use Rattle.hg_names.specs.Names.{with_name, without}
+use Rattle.hg_keys.specs.Bookmarks.{Pairs, name_cmp, is_before, AreInOrder, node_of, pair_of, with_bookmark}
+
+turned : (a b : List ℕ) (o : Ordering) → name_cmp a b ≡ o → name_cmp b a ≡ ordering_reverse o
+turned a b o is = nat_list_cmp_total.antisymm b a ∙ ap ordering_reverse is
+
+module _ (name : List ℕ) where
+  abbrev lesser : Pairs → Pairs
+  lesser pairs = filter (λ pair. is_before pair.0 name) pairs
+
+  abbrev greater : Pairs → Pairs
+  greater pairs = filter (λ pair. is_before name pair.0) pairs
+
+  itself : is_before name name ≡ false
+  itself = ap is_lt (tied_itself nat_list_cmp_total name)
+
+  -- how a name stands to another, by each of the three tests
+  before : (other : List ℕ) (o : Ordering) → name_cmp other name ≡ o → is_before other name ≡ is_lt o
+  before other o is = ap is_lt is
+
+  behind : (other : List ℕ) (o : Ordering) → name_cmp other name ≡ o
+      → is_before name other ≡ is_lt (ordering_reverse o)
+  behind other o is = ap is_lt (turned other name o is)
+
+  same : (other : List ℕ) (o : Ordering) → name_cmp other name ≡ o → bytes_eq other name ≡ is_eq o
+  same other o is = sym (is_eq-slice_cmp other name) ∙ ap is_eq is
+
+  keeps : (test : List ℕ → Bool) (pair : List ℕ × Node) (pairs : Pairs) → test pair.0 ≡ true
+      → filter (λ p. test p.0) (pair ∷ pairs) ≡ pair ∷ filter (λ p. test p.0) pairs
+  keeps test pair pairs is =
+      ap (λ b. cond b (pair ∷ filter (λ p. test p.0) pairs) (filter (λ p. test p.0) pairs)) is
+
+  drops : (test : List ℕ → Bool) (pair : List ℕ × Node) (pairs : Pairs) → test pair.0 ≡ false
+      → filter (λ p. test p.0) (pair ∷ pairs) ≡ filter (λ p. test p.0) pairs
+  drops test pair pairs is =
+      ap (λ b. cond b (pair ∷ filter (λ p. test p.0) pairs) (filter (λ p. test p.0) pairs)) is
+
+  -- a filter of what a filter kept
+  twice : (test keep : List ℕ → Bool) (pairs : Pairs) → ((k : List ℕ) → keep k ≡ true → test k ≡ true)
+      → filter (λ p. test p.0) (filter (λ p. keep p.0) pairs) ≡ filter (λ p. keep p.0) pairs
+  twice test keep [] sure = refl
+  twice test keep (pair ∷ pairs) sure = by (twice test keep pairs sure) (keep pair.0) refl
+    where
+      by : filter (λ p. test p.0) (filter (λ p. keep p.0) pairs) ≡ filter (λ p. keep p.0) pairs
+          → (b : Bool) → keep pair.0 ≡ b
+          → filter (λ p. test p.0) (filter (λ p. keep p.0) (pair ∷ pairs)) ≡ filter (λ p. keep p.0) (pair ∷ pairs)
+      by rest true is =
+          ap (λ ps. filter (λ p. test p.0) ps) (keeps keep pair pairs is)
+          ∙ keeps test pair (filter (λ p. keep p.0) pairs) (sure pair.0 is)
+          ∙ ap (λ ps. pair ∷ ps) rest ∙ sym (keeps keep pair pairs is)
+      by rest false is =
+          ap (λ ps. filter (λ p. test p.0) ps) (drops keep pair pairs is) ∙ rest ∙ sym (drops keep pair pairs is)
+
+  -- and of what it kept for another reason
+  never : (test keep : List ℕ → Bool) (pairs : Pairs) → ((k : List ℕ) → keep k ≡ true → test k ≡ false)
+      → filter (λ p. test p.0) (filter (λ p. keep p.0) pairs) ≡ []
+  never test keep [] sure = refl
+  never test keep (pair ∷ pairs) sure = by (never test keep pairs sure) (keep pair.0) refl
+    where
+      by : filter (λ p. test p.0) (filter (λ p. keep p.0) pairs) ≡ [] → (b : Bool) → keep pair.0 ≡ b
+          → filter (λ p. test p.0) (filter (λ p. keep p.0) (pair ∷ pairs)) ≡ []
+      by rest true is =
+          ap (λ ps. filter (λ p. test p.0) ps) (keeps keep pair pairs is)
+          ∙ drops test pair (filter (λ p. keep p.0) pairs) (sure pair.0 is) ∙ rest
+      by rest false is = ap (λ ps. filter (λ p. test p.0) ps) (drops keep pair pairs is) ∙ rest
+
+  -- no name comes both before and after
+  not_behind : (other : List ℕ) → is_before other name ≡ true → is_before name other ≡ false
+  not_behind other is = by (name_cmp other name) refl
+    where
+      by : (o : Ordering) → name_cmp other name ≡ o → is_before name other ≡ false
+      by Less o = behind other Less o
+      by Equal o = behind other Equal o
+      by Greater o = absurd (true≢false (sym is ∙ before other Greater o))
+
+  not_before : (other : List ℕ) → is_before name other ≡ true → is_before other name ≡ false
+  not_before other is = by (name_cmp other name) refl
+    where
+      by : (o : Ordering) → name_cmp other name ≡ o → is_before other name ≡ false
+      by Less o = absurd (true≢false (sym is ∙ behind other Less o))
+      by Equal o = before other Equal o
+      by Greater o = before other Greater o
+
+  none_lesser : (node : Option Node) → lesser (pair_of name node) ≡ []
+  none_lesser None = refl
+  none_lesser (Some node) = drops (λ k. is_before k name) (name, node) [] itself
+
+  none_greater : (node : Option Node) → greater (pair_of name node) ≡ []
+  none_greater None = refl
+  none_greater (Some node) = drops (λ k. is_before name k) (name, node) [] itself
+
+  module _ (pairs : Pairs) (node : Option Node) where
+    lesser_stay : lesser (with_bookmark pairs name node) ≡ lesser pairs
+    unfolding with_bookmark
+    lesser_stay =
+        filter-append (λ pair. is_before pair.0 name) (lesser pairs) (pair_of name node ++ greater pairs)
+        ∙ ap (λ ps. ps ++ lesser (pair_of name node ++ greater pairs))
+        (twice (λ k. is_before k name) (λ k. is_before k name) pairs (λ k is. is))
+        ∙ ap (λ ps. lesser pairs ++ ps)
+        (filter-append (λ pair. is_before pair.0 name) (pair_of name node) (greater pairs)
+        ∙ ap (λ ps. ps ++ lesser (greater pairs)) (none_lesser node)
+        ∙ never (λ k. is_before k name) (λ k. is_before name k) pairs not_before)
+        ∙ append-nil (lesser pairs)
+
+    greater_stay : greater (with_bookmark pairs name node) ≡ greater pairs
+    unfolding with_bookmark
+    greater_stay =
+        filter-append (λ pair. is_before name pair.0) (lesser pairs) (pair_of name node ++ greater pairs)
+        ∙ ap (λ ps. ps ++ greater (pair_of name node ++ greater pairs))
+        (never (λ k. is_before name k) (λ k. is_before k name) pairs not_behind)
+        ∙ filter-append (λ pair. is_before name pair.0) (pair_of name node) (greater pairs)
+        ∙ ap (λ ps. ps ++ greater (greater pairs)) (none_greater node)
+        ∙ twice (λ k. is_before name k) (λ k. is_before name k) pairs (λ k is. is)
+
+  -- pairs that all come after the name
+  abbrev Follow : Pairs → Type 0
+  Follow pairs = AllByRecursion (λ pair. name_cmp pair.0 name ≡ Greater) pairs
+
+  no_lesser : (pairs : Pairs) → Follow pairs → lesser pairs ≡ []
+  no_lesser [] each = refl
+  no_lesser (pair ∷ pairs) each =
+      drops (λ k. is_before k name) pair pairs (before pair.0 Greater each.0) ∙ no_lesser pairs each.1
+
+  all_greater : (pairs : Pairs) → Follow pairs → greater pairs ≡ pairs
+  all_greater [] each = refl
+  all_greater (pair ∷ pairs) each =
+      keeps (λ k. is_before name k) pair pairs (behind pair.0 Greater each.0)
+      ∙ ap (λ ps. pair ∷ ps) (all_greater pairs each.1)
+
+  not_there : (pairs : Pairs) → Follow pairs → node_of pairs name ≡ None
+  not_there [] each = refl
+  not_there (pair ∷ pairs) each =
+      ap (λ b. cond b (Some pair.1) (node_of pairs name)) (same pair.0 Greater each.0) ∙ not_there pairs each.1
+
+  -- what follows a pair that does not come before the name
+  rest_follows : (pair : List ℕ × Node) (pairs : Pairs) → AreInOrder (pair ∷ pairs)
+      → ((k : List ℕ) → name_cmp pair.0 k ≡ Less → name_cmp k name ≡ Greater) → Follow pairs
+  rest_follows pair pairs in_order over =
+      recursion_from_All (λ p. name_cmp p.0 name ≡ Greater) pairs
+      (λ k d low. over (get_or pairs k d).0 (in_order 0 (suc k) d (omega arith) (omega (arith, low))))
+
+  tail_order : (pair : List ℕ × Node) (pairs : Pairs) → AreInOrder (pair ∷ pairs) → AreInOrder pairs
+  tail_order pair pairs in_order =
+      λ i j d less within. in_order (suc i) (suc j) d (omega (arith, less)) (omega (arith, within))
+
+  names_equal : (other : List ℕ) → name_cmp other name ≡ Equal → other ≡ name
+  names_equal other is = (bytes_eq-Decides other name).0 (same other Equal is)
+
+  -- pairs in order are those before the name, the name, and those after it
+  three_parts : (pairs : Pairs) → AreInOrder pairs
+      → lesser pairs ++ (pair_of name (node_of pairs name) ++ greater pairs) ≡ pairs
+  three_parts [] in_order = refl
+  three_parts (pair ∷ pairs) in_order = by (three_parts pairs (tail_order pair pairs in_order)) (name_cmp pair.0 name) refl
+    where
+      by : lesser pairs ++ (pair_of name (node_of pairs name) ++ greater pairs) ≡ pairs
+          → (o : Ordering) → name_cmp pair.0 name ≡ o
+          → lesser (pair ∷ pairs) ++ (pair_of name (node_of (pair ∷ pairs) name) ++ greater (pair ∷ pairs))
+          ≡ pair ∷ pairs
+      by others Less is =
+          let front = keeps (λ k. is_before k name) pair pairs (before pair.0 Less is) in
+          let rest = drops (λ k. is_before name k) pair pairs (behind pair.0 Less is) in
+          let on = ap (λ b. cond b (Some pair.1) (node_of pairs name)) (same pair.0 Less is) in
+          (λ i. front i ++ (pair_of name (on i) ++ rest i))
+          ∙ ap (λ ps. pair ∷ ps) others
+      by others Equal is =
+          let here : pair.0 ≡ name = names_equal pair.0 is in
+          let follow = rest_follows pair pairs in_order
+          (λ k less. turned name k Less (subst (λ n. name_cmp n k ≡ Less) here less)) in
+          let front = drops (λ k. is_before k name) pair pairs (before pair.0 Equal is) ∙ no_lesser pairs follow in
+          let rest = drops (λ k. is_before name k) pair pairs (behind pair.0 Equal is) ∙ all_greater pairs follow in
+          let on = ap (λ b. cond b (Some pair.1) (node_of pairs name)) (same pair.0 Equal is) in
+          (λ i. front i ++ (pair_of name (on i) ++ rest i))
+          ∙ ap (λ (n : List ℕ). (n, pair.1) ∷ pairs) (sym here)
+      by others Greater is =
+          let follow = rest_follows pair pairs in_order
+          (λ k less. turned name k Less (nat_list_cmp_total.trans name pair.0 k (turned pair.0 name Greater is) less)) in
+          let front = drops (λ k. is_before k name) pair pairs (before pair.0 Greater is) ∙ no_lesser pairs follow in
+          let rest = keeps (λ k. is_before name k) pair pairs (behind pair.0 Greater is)
+          ∙ ap (λ ps. pair ∷ ps) (all_greater pairs follow) in
+          let on = ap (λ b. cond b (Some pair.1) (node_of pairs name)) (same pair.0 Greater is)
+          ∙ not_there pairs follow in
+          λ i. front i ++ (pair_of name (on i) ++ rest i)
+
+  whole : (pairs : Pairs) (target : Option Node)
+      → with_bookmark pairs name target ≡ lesser pairs ++ (pair_of name target ++ greater pairs)
+  unfolding with_bookmark
+  whole pairs target = refl
+
+  -- a name that is set and set back
+  pub set_back : (pairs : Pairs) (node : Option Node) → AreInOrder pairs
+      → with_bookmark (with_bookmark pairs name node) name (node_of pairs name) ≡ pairs
+  set_back pairs node in_order =
+      whole (with_bookmark pairs name node) (node_of pairs name)
+      ∙ (λ i. lesser_stay pairs node i ++ (pair_of name (node_of pairs name) ++ greater_stay pairs node i))
+      ∙ three_parts pairs in_order
+
+  -- and where what it was on is known
+  pub set_back_to : (pairs : Pairs) (node was : Option Node) → AreInOrder pairs → node_of pairs name ≡ was
+      → with_bookmark (with_bookmark pairs name node) name was ≡ pairs
+  set_back_to pairs node was in_order is =
+      ap (λ (o : Option Node). with_bookmark (with_bookmark pairs name node) name o) (sym is)
+      ∙ set_back pairs node in_order
+
+  -- a name that is not there is not deleted
+  pub stays_away : (pairs : Pairs) → AreInOrder pairs → node_of pairs name ≡ None
+      → with_bookmark pairs name None ≡ pairs
+  unfolding with_bookmark
+  stays_away pairs in_order is =
+      ap (λ o. lesser pairs ++ (pair_of name o ++ greater pairs)) (sym is) ∙ three_parts pairs in_order
+
+-- what the names below say of an edit
+pub set_is : (pairs : Pairs) (name : List ℕ) (node : Node)
+    → with_name pairs name node ≡ with_bookmark pairs name (Some node)
+unfolding with_name with_bookmark
+set_is pairs name node = refl
+
+pub unset_is : (pairs : Pairs) (name : List ℕ) → without pairs name ≡ with_bookmark pairs name None
+unfolding without with_bookmark
+unset_is pairs name = refl
