@@ -2,7 +2,7 @@
 
 use crate::made::*;
 use hg_archive::*;
-use hg_store::{create_store, open_store};
+use hg_store::{Sealed, create_store, open_store};
 use hg_types::Seq;
 use std::fs;
 use std::hash::RandomState;
@@ -16,9 +16,9 @@ fn fill(rt: &HostRuntime, folder: &str) -> Result<(), Fail> {
     let mut opened = open_store(rt, alloc, folder, &head(false))?;
     let mut batch = Vec::new(alloc);
     for bundle in [ONE.as_slice(), &EMPTY, &TWO] {
-        batch.push(Seq::copy_of(alloc, bundle)?)?;
+        batch.push(Sealed::new(Seq::copy_of(alloc, bundle)?))?;
     }
-    opened.log.append(alloc, &batch)?;
+    opened.log.append(&batch)?;
     Ok(())
 }
 

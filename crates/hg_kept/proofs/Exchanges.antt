@@ -21,8 +21,9 @@ use Rattle.hg_store.specs.declared.head.Head.{Head}
 use Rattle.hg_devices.specs.Devices.{Input, Output, ReadAnswer, Gave}
 use Rattle.hg_devices.proofs.CallerLemmas.{Adds-trans}
 use Rattle.hg_ledger.specs.Records.{IsRecordOf}
-use Rattle.hg_connection.specs.declared.ending.Ending.{Ending}
-use Rattle.hg_connection.specs.Receiving.{Arrives, mark_of, push_items, state_at}
+use Rattle.hg_receiving.specs.declared.ending.Ending.{Ending}
+use Rattle.hg_receiving.specs.Receiving.{mark_of, push_items, state_at}
+use Rattle.hg_connection.specs.Receiving.{Arrives}
 use Rattle.hg_connection.specs.Keeping.{ReceivesKept}
 use Rattle.hg_stream.specs.Faults.{Tells}
 use Rattle.hg_connection.proofs.CallerLemmas.{answers_bundle, done_whole, received_with}
@@ -48,28 +49,28 @@ module _ {A : Type 0} (limits : Limits) (capacity : ℕ) (first : RepositoryOf A
 
     done_recorded : (done : Done A) → Answers capacity first e.push e.put e.history (done_with done) takes after
         → RestsOn run_push first (newest_first after) e.push (done_with done) rests
-        → IsRecorded first after rests r.is.consumed (done_with done)
+        → IsRecorded first after rests r.is.bundle.consumed (done_with done)
     done_recorded done a on =
         let w = done_whole capacity first s.putter.push r.is.parts ending s.history done takes after
         (answered (done_with done) a) in
         let at = (rested (done_with done) on).1 in
         let is : rests ≡ (rested (done_with done) on).0 + 1 = (rested (done_with done) on).2 in
         let back : (rested (done_with done) on).0 ≡ rests - 1 = omega (arith, is) in
-        let tells : IsBundle limits r.is.consumed r.is.parts = subst
-        (λ (x : Ending). Tells (state_at x) limits r.is.consumed r.is.parts) w.0 r.is.received.tells in (
+        let tells : IsBundle limits r.is.bundle.consumed r.is.parts = subst
+        (λ (x : Ending). Tells (state_at x) limits r.is.bundle.consumed r.is.parts) w.0 r.is.bundle.received.tells in (
           omega (arith, is),
           record {
             push = s.putter.push;
             at = subst (λ (k : ℕ). IsPlace run_push first (newest_first after) s.putter.push k) back at;
-            bundle = subst (λ (l : Limits). IsBundle l r.is.consumed (ran_parts s.putter.push (newest_first after))) same
-                (subst (λ (ps : List (Part A)). IsBundle limits r.is.consumed ps) (sym w.1) tells);
+            bundle = subst (λ (l : Limits). IsBundle l r.is.bundle.consumed (ran_parts s.putter.push (newest_first after))) same
+                (subst (λ (ps : List (Part A)). IsBundle limits r.is.bundle.consumed ps) (sym w.1) tells);
           },
         )
 
     pub recorded : (how : Outcome (Done A) (Refusal A))
         → Answers capacity first e.push e.put e.history how takes after
         → RestsOn run_push first (newest_first after) e.push how rests
-        → IsRecorded first after rests r.is.consumed how
+        → IsRecorded first after rests r.is.bundle.consumed how
     recorded (done_with done) a on = done_recorded done a on
     recorded (Aborted reason) a on = tt
 

@@ -11,9 +11,9 @@ use Rattle.hg_serve.specs.declared.desk.Answer.{Answer}
 use Rattle.hg_store.specs.declared.head.Head.{Head}
 use Rattle.hg_devices.specs.Devices.{Input, Output, ReadAnswer, WriteAnswer, Gave, Failed, Adds}
 use Rattle.hg_devices.specs.declared.sending.Sending.TheVariants.{Whole as sent_whole}
-use Rattle.hg_connection.specs.declared.ending.Ending.TheVariants.{Whole}
+use Rattle.hg_receiving.specs.declared.ending.Ending.TheVariants.{Whole}
 use Rattle.hg_connection.specs.declared.served.ConnFault.TheVariants.{Open, ReadFailed as read_failed}
-use Rattle.hg_connection.specs.Receiving.{Ran}
+use Rattle.hg_receiving.specs.Receiving.{Ran}
 use Rattle.hg_kept.specs.declared.served.Replied.TheVariants.{Sent}
 use Rattle.hg_kept.specs.declared.served.KeptFault.{KeptFault}
 use Rattle.hg_kept.specs.declared.served.KeptFault.TheVariants.{Connection}

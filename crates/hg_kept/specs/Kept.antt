@@ -19,9 +19,9 @@ use Rattle.hg_store.specs.declared.head.Head.{Head}
 use Rattle.hg_ledger.specs.Records.{AreKept, IsRecordOf}
 use Rattle.hg_devices.specs.Devices.{Input, Output, ReadAnswer, WriteAnswer, Adds}
 use Rattle.hg_devices.specs.Sent.{IsSent}
-use Rattle.hg_connection.specs.declared.ending.Ending.{Ending}
+use Rattle.hg_receiving.specs.declared.ending.Ending.{Ending}
 use Rattle.hg_connection.specs.Connections.{fault_of}
-use Rattle.hg_connection.specs.Receiving.{IsReceived, Keeps, Ran, mark_of, push_items}
+use Rattle.hg_receiving.specs.Receiving.{IsReceived, Keeps, Ran, mark_of, push_items}
 use Rattle.hg_connection.specs.declared.served.ConnFault.{ConnFault}
 use Rattle.hg_kept.specs.declared.served.Replied.{Replied}
 use Rattle.hg_kept.specs.declared.served.Replied.TheVariants.{Sent, NotStored}

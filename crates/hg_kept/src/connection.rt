@@ -4,7 +4,7 @@ ghost use Rattle.std.specs.Prelude.{◌≡◌, ◌≤◌, ◌-◌, [], IfSome, I
 ghost use Rattle.hg_stream.specs.Unbundler.{limits_of, ready_of, state_of};
 ghost use Rattle.hg_stream.specs.declared.state.State.TheVariants.{Ended as at_end_mark};
 ghost use Rattle.hg_queue.specs.History.{of, items_of};
-ghost use Rattle.hg_connection.specs.declared.ending.Ending.TheVariants.{Whole};
+ghost use Rattle.hg_receiving.specs.declared.ending.Ending.TheVariants.{Whole};
 ghost use Rattle.hg_connection.specs.Receiving.{IsFresh};
 ghost use Rattle.hg_push.specs.Reply.{CanBeTold, reply_of};
 ghost use Rattle.hg_ledger.specs.Records.{IsRecordOf, done_in};
@@ -12,11 +12,12 @@ ghost use Rattle.hg_kept.specs.Kept.{KeptExchange, RepliesBy, ServesKept, TellsO
 ghost use Rattle.hg_kept.specs.Connections.{ConnectsKept};
 
 use crate::served::{KeptRound, KeptServed, Replied};
-use hg_connection::{ConnFault, Inbox, Next, mark, next_bundle, receive_kept, send_reply};
+use hg_connection::{ConnFault, Next, mark, next_bundle, receive_kept};
 use hg_devices::{Reader, Writer};
 use hg_ledger::{Ledger, Room, Storing};
 use hg_push::laws::{journals_grow, replies_are_short};
 use hg_push::{OpenFault, Outcome};
+use hg_receiving::{Inbox, send_reply};
 use hg_repo::{Done, Refusal};
 use hg_serve::{Client, Gate, Point, Sender, Server};
 use hg_store::Device;

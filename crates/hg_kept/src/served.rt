@@ -3,8 +3,9 @@
 ghost use Rattle.std.specs.Prelude.{◌≡◌, ◌<◌, ◌^◌, ◌+◌, None, Some};
 ghost use Rattle.hg_kept.specs.Kept.{kept_fault_of};
 
-use hg_connection::{ConnFault, Ending, fault_of};
+use hg_connection::{ConnFault, fault_of};
 use hg_devices::Sending;
+use hg_receiving::Ending;
 use hg_serve::Answer;
 use std::alloc::{Allocator, Global};
 use thiserror::Error;

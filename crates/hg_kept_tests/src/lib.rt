@@ -4,4 +4,6 @@
 #[cfg(test)]
 mod device;
 #[cfg(test)]
+mod memory;
+#[cfg(test)]
 mod tests;

@@ -1,5 +1,5 @@
-//! What no contract says: that many connections over one server and one ledger are all kept, that after a stop
-//! at any call of the device what was answered is there again, and what comes of memory that is refused.
+//! What no contract says: that many connections over one server and one ledger are all kept, and that after a stop
+//! at any call of the device what was answered is there again.
 
 ghost use Rattle.std.specs.Prelude.{◌≤◌};
 
@@ -12,7 +12,7 @@ use hg_restore::replay_records;
 use hg_serve::{Client, Closed, Naming, NoGate, Server};
 use hg_store::{Head, Log, recover};
 use hg_types::{Limits, Settings};
-use std::alloc::{AllocFailed, Global};
+use std::alloc::{AllocFailed, Allocator, Global};
 use std::hash::RandomState;
 use std::io::Read;
 use std::marker::Brand;
@@ -32,7 +32,7 @@ const FEW: u8 = 24;
 /// How often each pushes where it stops anywhere.
 const MANY: u8 = 200;
 
-fn settings() -> Settings {
+pub fn settings() -> Settings {
     Settings {
         publishing: false,
         limits: Limits::standard(),
@@ -40,7 +40,7 @@ fn settings() -> Settings {
     }
 }
 
-fn state<R: RandomSource + Abort>(rt: &R) -> RandomState {
+pub fn state<R: RandomSource + Abort>(rt: &R) -> RandomState {
     match RandomState::new(rt) {
         Ok(state) => state,
         Err(_) => panic!(*rt; "no random bytes"),
@@ -48,7 +48,7 @@ fn state<R: RandomSource + Abort>(rt: &R) -> RandomState {
 }
 
 /// A marker without successors, on a node that no other push has.
-fn marker<R: Abort>(rt: &R, alloc: Global, thread: u8, turn: u8) -> Vec<u8> {
+pub fn marker<R: Abort>(rt: &R, alloc: Global, thread: u8, turn: u8) -> Vec<u8> {
     let mut made = Vec::new(alloc);
     let mut ok = made
         .extend_from_slice(&[0, 0, 0, 0, 0, 0, 0, thread, turn])
@@ -61,7 +61,7 @@ fn marker<R: Abort>(rt: &R, alloc: Global, thread: u8, turn: u8) -> Vec<u8> {
 }
 
 /// The bundle of a push with that part.
-fn add_bundle<R: Abort>(rt: &R, made: &mut Vec<u8>, payload: &[u8]) {
+pub fn add_bundle<R: Abort>(rt: &R, made: &mut Vec<u8>, payload: &[u8]) {
     let size = payload.len() as u32;
     let ok = made
         .extend_from_slice(b"HG20\0\0\0\0\0\0\0\x11\x0aOBSMARKERS\0\0\0\0\0\0")
@@ -77,9 +77,9 @@ const DONE_REPLY: &[u8] = b"HG20\0\0\0\0\0\0\0\0";
 
 /// A reader over bytes, of which each read gives at most so many.
 #[derive(Drop)]
-struct Source<'a> {
-    bytes: &'a [u8],
-    step: usize,
+pub struct Source<'a> {
+    pub bytes: &'a [u8],
+    pub step: usize,
 }
 
 impl<'a> Read for Source<'a> {
@@ -124,10 +124,7 @@ fn connect<J: Storing<Global>, R: Wait + Abort>(
     thread: u8,
     pushes: u8,
 ) {
-    let client = match server.client(rt) {
-        Ok(client) => client,
-        Err(_) => panic!(rt; "no client"),
-    };
+    let client = client_of(rt, server);
     let mut input = Vec::new(alloc);
     for turn in 0..pushes {
         // every third push is malformed, and so aborted
@@ -200,15 +197,8 @@ fn play<J: Storing<Global> + Send + Sync, R: Threads + Wait + Abort + Sync>(
     pushes: u8,
 ) -> Left {
     let server = Server::<J>::new(alloc, repo, queue, taker);
-    let first = match server.client(rt) {
-        Ok(client) => client,
-        Err(_) => panic!(rt; "no client"),
-    };
-    let second = match server.client(rt) {
-        Ok(client) => client,
-        Err(_) => panic!(rt; "no client"),
-    };
-    let ledger = match Ledger::new(alloc, log, (first, second)) {
+    let witnesses = (client_of(rt, &server), client_of(rt, &server));
+    let ledger = match Ledger::new(alloc, log, witnesses) {
         Ok(ledger) => ledger,
         Err(_parts) => panic!(rt; "no memory for a ledger"),
     };
@@ -237,6 +227,7 @@ fn play<J: Storing<Global> + Send + Sync, R: Threads + Wait + Abort + Sync>(
     let mut clients = clients.into_inner();
     let Parts {
         log,
+        kept: _,
         is_broken: _,
         witnesses: (first, second),
     } = ledger.into_parts();
@@ -257,13 +248,18 @@ fn play<J: Storing<Global> + Send + Sync, R: Threads + Wait + Abort + Sync>(
     }
 }
 
-/// Runs the threads, each of so many pushes, on a device that fails after so many calls.
-fn run<R: Threads + Wait + RandomSource + Abort + Sync>(
+pub fn client_of<J: Naming<A>, A: Allocator + Copy, R: Wait + Abort>(
     rt: &R,
-    alloc: Global,
-    calls: usize,
-    pushes: u8,
-) -> Left {
+    server: &Server<J, A>,
+) -> Client<J, A> {
+    match server.client(rt) {
+        Ok(client) => client,
+        Err(_) => panic!(rt; "no client"),
+    }
+}
+
+/// A log without records, on a device that fails after so many calls.
+pub fn new_log<R: Abort>(rt: &R, alloc: Global, calls: usize) -> Log<Memory> {
     let head = Head {
         publishing: false,
         limits: Limits::standard(),
@@ -278,11 +274,21 @@ fn run<R: Threads + Wait + RandomSource + Abort + Sync>(
         Ok(found) => found,
         Err(_) => panic!(rt; "no store"),
     };
-    let log = Log {
+    Log {
         device,
         end: found.end,
         digest: found.digest,
-    };
+    }
+}
+
+/// Runs the threads, each of so many pushes, on a device that fails after so many calls.
+fn run<R: Threads + Wait + RandomSource + Abort + Sync>(
+    rt: &R,
+    alloc: Global,
+    calls: usize,
+    pushes: u8,
+) -> Left {
+    let log = new_log(rt, alloc, calls);
     match PartQueue::new(alloc, 8) {
         Ok((queue, taker)) => {
             play::<Brand, R>(
@@ -359,14 +365,15 @@ fn eight_connections_on_a_device_that_stops(rt: HostRuntime) -> Result<(), Fail>
     Ok(())
 }
 
-/// A number below 1,024 that differs from run to run.
+/// A number below 4,096 that differs from run to run.
 fn any_number<R: RandomSource + Abort>(rt: &R) -> usize {
     let mut bytes = [0u8; 2];
     assert!(rt; rt.fill_bytes(&mut bytes).is_ok());
-    (u16::from_be_bytes(bytes) % 1_024) as usize
+    (u16::from_be_bytes(bytes) % 4_096) as usize
 }
 
-// 200 pushes of each of eight connections. The device stops at a call that is drawn, and once at none.
+// 200 pushes of each of eight connections. The device stops at a call that is drawn, and once at none. A done push
+// takes two calls, and each batch four more, so that the draw reaches about as far as the pushes.
 #[test]
 fn many_pushes_on_a_device_that_stops_anywhere(rt: HostRuntime) -> Result<(), Fail> {
     let alloc = rt.alloc();

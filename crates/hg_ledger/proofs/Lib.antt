@@ -1,3 +1,4 @@
 mod Staying
 mod Lists
 mod Keeping
+mod Living

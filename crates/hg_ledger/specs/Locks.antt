@@ -5,9 +5,10 @@ use Rattle.hg_push.specs.Run.{RepositoryOf}
 use Rattle.hg_ledger.specs.declared.waiting.Record.{Record}
 use Rattle.hg_ledger.specs.Records.{IsRecordOf}
 
--- A device: how many records are on it after those that it was opened with, the batch that is written next,
+-- A device, how many records are on it after those that it was opened with, the batch that is written next,
 -- whether it is broken, and the history that its witness has seen.
-pub record DiskView (A : Type 0) : Type 0 where
+pub record DiskView (A D : Type 0) : Type 0 where
+  pub device : D
   pub count : ℕ
   pub batch : List (List ℕ)
   pub is_broken : Bool

@@ -3,14 +3,16 @@
 ghost use Rattle.std.specs.Prelude.{◌≡◌, ◌≤◌, ◌+◌, ◌++◌, ◌∷◌, [], false, true, length, IfOk, IfErr, IfSome};
 ghost use mathlib.Core.List.{IsPrefix};
 ghost use Rattle.hg_types.specs.Limits.{IsAllowed};
+ghost use Rattle.hg_store.specs.Device.{LeavesOnly};
 ghost use Rattle.hg_store.specs.Log.{IsSettled};
+ghost use Rattle.hg_ledger.specs.Lives.{IsFront, Lives};
 ghost use Rattle.hg_ledger.specs.Records.{AreKept, IsRecordOf, Keeps};
 
 use crate::laws::records_stay;
 use crate::storing::Storing;
 use hg_serve::{Client, Server};
-use hg_store::{Device, Log};
-use hg_types::Seq;
+use hg_store::laws::records_are_read_back;
+use hg_store::{Device, Log, Sealed};
 use std::alloc::{Allocator, Global};
 use std::marker::Model;
 use std::sync::Wait;
@@ -23,24 +25,26 @@ const MOST: usize = 1 << 62;
 
 /// The device, how many records are on it after those that it was opened with, and a batch that is not
 /// written yet. The records and the batch are, in order, the bundles of the first pushes of the journal that
-/// the witness has seen. After a write or a sync that failed nothing is known of the device.
+/// the witness has seen. After a write or a sync that failed the device is not called again.
 pub struct Disk<J: Storing<A>, D: Device, A: Allocator = Global> {
     log: Log<D>,
     count: usize,
-    batch: Vec<Seq<u8, A>, A>,
+    batch: Vec<Sealed<A>, A>,
     is_broken: bool,
     witness: Client<J, A>,
 }
 
 impl<J: Storing<A>, D: Device, A: Allocator> Model for Disk<J, D, A> {
     ghost use Rattle.std.specs.Prelude.{◌≡◌, ◌<◌, false};
+    ghost use Rattle.hg_ledger.specs.Lives.{Lives};
     ghost use Rattle.hg_ledger.specs.Locks.{DiskView};
     ghost use Rattle.hg_ledger.specs.Records.{AreRecordsFrom, Keeps};
     ghost use Rattle.hg_types.specs.Limits.{IsAllowed};
 
-    ghost Value = { DiskView A };
+    ghost Value = { DiskView A D };
 
     ghost view = { λ d. record {
+      device = d.log.device;
       count = d.count;
       batch = d.batch.items;
       is_broken = d.is_broken;
@@ -49,18 +53,22 @@ impl<J: Storing<A>, D: Device, A: Allocator> Model for Disk<J, D, A> {
 
     ghost invariant = { λ d. IsAllowed J.first.settings.limits
         × (d.is_broken ≡ false → Keeps D.seen D.may_leave J.head J.stored J.first d.witness d.count d.log)
-        × AreRecordsFrom J.first d.witness d.count d.batch.items };
+        × AreRecordsFrom J.first d.witness d.count d.batch.items
+        × Lives D.moment D.left_since D.may_leave J.head J.stored J.first J.opened d.witness d.count
+        d.log.device };
 }
 
 impl<J: Storing<A>, D: Device, A: Allocator + Copy> Disk<J, D, A> {
     /// A device with what it was opened with.
     pub fn new(alloc: A, log: Log<D>, witness: Client<J, A>) -> Result<Self, (Log<D>, Client<J, A>)>
         requires settled { IsSettled D.seen D.may_leave J.head J.stored log }
+        requires opened { J.opened ≡ D.moment log.device }
         requires allowed { IsAllowed J.first.settings.limits }
         ensures made { IfOk result (λ disk. disk
-            ≡ record { count = 0; batch = []; is_broken = false; history = witness }) }
+            ≡ record { device = log.device; count = 0; batch = []; is_broken = false; history = witness }) }
         ensures refused { IfErr result (λ back. back ≡ (log, witness)) }
     {
+        records_are_read_back();
         match Vec::with_capacity(alloc, BATCH) {
             Ok(batch) => Ok(Disk {
                 log,
@@ -103,7 +111,7 @@ impl<J: Storing<A>, D: Device, A: Allocator + Copy> Disk<J, D, A> {
         ensures all { IsPrefix client.old self.new.history }
         ensures later { IsPrefix self.old.history self.new.history }
         ensures records { (self.new.count ≡ self.old.count) × (self.new.batch ≡ self.old.batch)
-            × (self.new.is_broken ≡ self.old.is_broken) }
+            × (self.new.is_broken ≡ self.old.is_broken) × (self.new.device ≡ self.old.device) }
     {
         records_stay::<A>();
         server.meet(rt, client, &mut self.witness);
@@ -127,26 +135,37 @@ impl<J: Storing<A>, D: Device, A: Allocator + Copy> Disk<J, D, A> {
     }
 
     /// Takes the record of the push at the next place into the batch.
-    pub fn take_in(&mut self, bytes: Seq<u8, A>)
+    pub fn take_in(&mut self, bytes: Sealed<A>)
         requires { IsRecordOf J.first self.old.history (self.old.count + length self.old.batch) bytes }
-        ensures { (self.new.history ≡ self.old.history) × (self.new.count ≡ self.old.count) }
+        ensures { (self.new.history ≡ self.old.history) × (self.new.count ≡ self.old.count)
+            × (self.new.device ≡ self.old.device) }
     {
         if self.batch.push(bytes).is_err() {
             self.is_broken = true;
         }
     }
 
-    /// Writes the batch and syncs. Where that fails, the device is broken from then on.
-    pub fn write(&mut self, alloc: A)
+    /// Writes the batch and syncs, and asks for no memory. Where that fails, the device is broken from then on.
+    pub fn write(&mut self)
         ensures lasting { self.old.is_broken ≡ true → self.new.is_broken ≡ true }
         ensures history { self.new.history ≡ self.old.history }
         ensures written { self.new.is_broken ≡ false →
             (self.new.count ≡ self.old.count + length self.old.batch) × (self.new.batch ≡ []) }
+        ensures more { self.old.count ≤ self.new.count }
+
+        // At any moment of the call an end leaves the records that were on the device before it.
+        ensures any_moment { LeavesOnly D.moment D.left_since self.old.device self.new.device
+            (IsFront J.head J.stored J.first self.old.history self.old.count) }
     {
+        records_are_read_back();
         if self.is_broken || self.batch.is_empty() {
             return;
         }
-        if self.count >= MOST || self.log.append(alloc, self.batch.as_slice()).is_err() {
+        if self.count >= MOST {
+            self.is_broken = true;
+            return;
+        }
+        if self.log.append(self.batch.as_slice()).is_err() {
             self.is_broken = true;
             return;
         }
@@ -154,20 +173,24 @@ impl<J: Storing<A>, D: Device, A: Allocator + Copy> Disk<J, D, A> {
         self.batch.clear();
     }
 
-    /// The log, whether it is broken, and the client that has seen the history of its records.
-    pub fn into_parts(self) -> (Log<D>, bool, Client<J, A>)
-        ensures kept { result.1 ≡ false →
-            Keeps D.seen D.may_leave J.head J.stored J.first result.2 self.count result.0 }
-        ensures broken { result.1 ≡ self.is_broken }
-        ensures history { result.2 ≡ self.history }
+    /// The log, how many records are on it after those that it was opened with, whether it is broken, and the
+    /// client that has seen the history of its records.
+    pub fn into_parts(self) -> (Log<D>, usize, bool, Client<J, A>)
+        ensures kept { result.2 ≡ false →
+            Keeps D.seen D.may_leave J.head J.stored J.first result.3 result.1 result.0 }
+        ensures life { Lives D.moment D.left_since D.may_leave J.head J.stored J.first J.opened result.3 result.1
+            result.0.device }
+        ensures count { result.1 ≡ self.count }
+        ensures broken { result.2 ≡ self.is_broken }
+        ensures history { result.3 ≡ self.history }
     {
         let Disk {
             log,
-            count: _,
+            count,
             batch: _,
             is_broken,
             witness,
         } = self;
-        (log, is_broken, witness)
+        (log, count, is_broken, witness)
     }
 }

@@ -1,12 +1,16 @@
 //! What holds of the records of pushes, whatever a history goes on with. The functions do nothing.
 
 ghost use Rattle.std.specs.Prelude.{ℕ, List, ◌<◌};
+ghost use Rattle.std.specs.List.{AllByRecursion};
 ghost use mathlib.Core.List.{IsPrefix};
 ghost use Rattle.hg_types.specs.declared.item.Taken.{Taken as TakenItem};
+ghost use Rattle.hg_store.specs.declared.head.Head.{Head};
 ghost use Rattle.hg_push.specs.Run.{RepositoryOf};
+ghost use Rattle.hg_ledger.specs.Lives.{AreWrites, Before, IsFront};
 ghost use Rattle.hg_ledger.specs.Records.{IsRecordOf, done_in};
 
 use hg_push::laws::{closed_pushes_have_ended, done_pushes_have_a_place, journals_grow};
+use hg_store::Device;
 use std::alloc::Allocator;
 
 /// A record of a push stays its record, whatever the history goes on with. And it was its record already as
@@ -21,4 +25,16 @@ pub fn records_stay<A: Allocator>()
     journals_grow::<A>();
     done_pushes_have_a_place::<A>();
     closed_pushes_have_ended::<A>();
+}
+
+/// **What is on a device stays there**: from the moment at which it had so many records of pushes no end leaves
+/// fewer, whatever was written after it, and whether that failed or not.
+pub fn what_is_kept_stays<A: Allocator, D: Device>()
+    ensures { (head : Head) (stored : List (List ℕ)) (first : RepositoryOf A) (device : D) (count : ℕ)
+        (h : List (TakenItem A)) (earlier : List (Before A D)) →
+        AreWrites D.moment D.left_since head stored first device count h earlier →
+        AllByRecursion (λ before. (file : List ℕ) → D.left_since device (D.moment before.device) file →
+        IsFront head stored first h before.count file) earlier }
+{
+    records_stay::<A>();
 }

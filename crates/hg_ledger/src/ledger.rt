@@ -3,13 +3,14 @@
 ghost use Rattle.std.specs.Prelude.{◌≡◌, ◌≤◌, ◌<◌, ◌-◌, ℕ, [], false, IfOk, IfSome};
 ghost use Rattle.hg_types.specs.Limits.{IsAllowed};
 ghost use Rattle.hg_store.specs.Log.{IsSettled};
+ghost use Rattle.hg_ledger.specs.Lives.{Lives};
 ghost use Rattle.hg_ledger.specs.Records.{AreKept, IsRecordOf, Keeps, done_in};
 
 use crate::disk::Disk;
 use crate::storing::Storing;
 use crate::waiting::{Receipt, Record, Room, Step, Waiting};
 use hg_serve::{Client, Server};
-use hg_store::{Device, Log};
+use hg_store::{Device, Log, Sealed};
 use hg_types::{NoMemory, Seq};
 use std::alloc::{Allocator, Global};
 use std::sync::{Condvar, Mutex, MutexGuard, Wait};
@@ -24,15 +25,16 @@ pub struct NotStored;
 ///
 /// The locks are got in the order of the fields, and the server's lock after them.
 pub struct Ledger<J: Storing<A>, D: Device, A: Allocator = Global> {
-    alloc: A,
     waiting: Mutex<Waiting<J, D, A>>,
     disk: Mutex<Disk<J, D, A>>,
     written: Condvar,
 }
 
-/// What is left of a ledger.
+/// What is left of a ledger: its log, how many records were brought to the device after those that it was opened
+/// with, whether a write or a sync failed, and the two clients.
 pub struct Parts<J: Storing<A>, D: Device, A: Allocator = Global> {
     pub log: Log<D>,
+    pub kept: usize,
     pub is_broken: bool,
     pub witnesses: (Client<J, A>, Client<J, A>),
 }
@@ -46,6 +48,7 @@ impl<J: Storing<A>, D: Device, A: Allocator + Copy> Ledger<J, D, A> {
         witnesses: (Client<J, A>, Client<J, A>),
     ) -> Result<Self, Parts<J, D, A>>
         requires settled { IsSettled D.seen D.may_leave J.head J.stored log }
+        requires opened { J.opened ≡ D.moment log.device }
         requires allowed { IsAllowed J.first.settings.limits }
     {
         let (first, second) = witnesses;
@@ -53,7 +56,6 @@ impl<J: Storing<A>, D: Device, A: Allocator + Copy> Ledger<J, D, A> {
             Ok(disk) => {
                 disk.kept();
                 Ok(Ledger {
-                    alloc,
                     waiting: Mutex::new(Waiting::new(alloc, second)),
                     disk: Mutex::new(disk),
                     written: Condvar::new(),
@@ -61,6 +63,7 @@ impl<J: Storing<A>, D: Device, A: Allocator + Copy> Ledger<J, D, A> {
             }
             Err((log, first)) => Err(Parts {
                 log,
+                kept: 0,
                 is_broken: false,
                 witnesses: (first, second),
             }),
@@ -97,6 +100,7 @@ impl<J: Storing<A>, D: Device, A: Allocator + Copy> Ledger<J, D, A> {
             None => self.give_back(rt, room),
             Some(bytes) => {
                 let place = rests - 1;
+                let bytes = Sealed::new(bytes);
                 let record = Record { place, bytes };
                 self.waiting
                     .lock(rt)
@@ -143,26 +147,30 @@ impl<J: Storing<A>, D: Device, A: Allocator + Copy> Ledger<J, D, A> {
         let mut disk = self.disk.lock(rt);
         waiting.load(rt, server, &mut *disk);
         drop(waiting);
-        disk.write(self.alloc);
+        disk.write();
         self.waiting.lock(rt).note(rt, server, &mut *disk);
         self.written.notify_all();
     }
 
-    /// The log, whether it is broken, and the two clients.
+    /// The log, and what is known of it. **Whatever an end might have left at any moment of the ledger's life is a
+    /// front of the journal**, also where a write or a sync failed; and what one leaves from now on has each record
+    /// that was brought to the device.
     pub fn into_parts(self) -> Parts<J, D, A>
-        ensures { result.is_broken ≡ false → (count : ℕ)
-            × Keeps D.seen D.may_leave J.head J.stored J.first result.witnesses.0 count result.log }
+        ensures kept { result.is_broken ≡ false →
+            Keeps D.seen D.may_leave J.head J.stored J.first result.witnesses.0 result.kept result.log }
+        ensures life { Lives D.moment D.left_since D.may_leave J.head J.stored J.first J.opened
+            result.witnesses.0 result.kept result.log.device }
     {
         let Ledger {
-            alloc: _,
             waiting,
             disk,
             written: _,
         } = self;
-        let (log, is_broken, first) = disk.into_inner().into_parts();
+        let (log, kept, is_broken, first) = disk.into_inner().into_parts();
         let second = waiting.into_inner().into_witness();
         Parts {
             log,
+            kept,
             is_broken,
             witnesses: (first, second),
         }

@@ -3,8 +3,8 @@
 use hg_serve::Naming;
 use std::marker::Brand;
 
-/// Besides what names a server: how the store begins, and which records it had when it was opened. Neither has
-/// a value when the program runs.
+/// Besides what names a server: how the store begins, which records it had when it was opened, and which moment
+/// of its device that was. None of them has a value when the program runs.
 pub trait Storing<A>: Naming<A> {
     ghost use Rattle.std.specs.Prelude.{ℕ, List};
     ghost use Rattle.hg_store.specs.declared.head.Head.{Head};
@@ -12,6 +12,8 @@ pub trait Storing<A>: Naming<A> {
     ghost head: { Head };
 
     ghost stored: { List (List ℕ) };
+
+    ghost opened: { ℕ };
 }
 
 /// The names of ledgers, over any allocator.
@@ -22,4 +24,6 @@ impl<A> Storing<A> for Brand {
     ghost head = { no_head };
 
     ghost stored = { [] };
+
+    ghost opened = { 0 };
 }

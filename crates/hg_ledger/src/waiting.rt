@@ -9,8 +9,8 @@ use crate::disk::{BATCH, Disk};
 use crate::laws::records_stay;
 use crate::storing::Storing;
 use hg_serve::{Client, Server};
-use hg_store::Device;
-use hg_types::{NoMemory, Seq};
+use hg_store::{Device, Sealed};
+use hg_types::NoMemory;
 use std::alloc::{Allocator, Global};
 use std::marker::{Model, PhantomData};
 use std::sync::Wait;
@@ -19,7 +19,7 @@ use std::sync::Wait;
 #[derive(Drop)]
 pub struct Record<A: Allocator = Global> {
     pub place: usize,
-    pub bytes: Seq<u8, A>,
+    pub bytes: Sealed<A>,
 }
 
 /// Room for one record among those that wait. It is spent by a record, or given back.

@@ -227,6 +227,7 @@ fn play<J: Storing<Global> + Send + Sync, R: Threads + Wait + Abort + Sync>(
     let mut clients = clients.into_inner();
     let Parts {
         log,
+        kept: _,
         is_broken: _,
         witnesses: (first, second),
     } = ledger.into_parts();
@@ -381,6 +382,7 @@ fn ask<J: Storing<Global>, R: Wait + Abort>(
     let syncs = parts.log.device.syncs;
     let Parts {
         log: _,
+        kept: _,
         is_broken,
         witnesses: (first, second),
     } = parts;
@@ -421,12 +423,12 @@ fn asked<R: Wait + RandomSource + Abort>(rt: &R, alloc: Global, calls: usize) ->
 }
 
 // Receipts are asked for before a push and after it. The device takes three calls to open the store, with
-// one sync, and four for a record, with two. Result: a receipt each time, with no sync but these three; where
+// one sync, and six for a record, with two. Result: a receipt each time, with no sync but these three; where
 // the device stops at a call of the record, the one before the push alone.
 #[test]
 fn receipts_before_a_push_and_after_it(rt: HostRuntime) {
     let alloc = rt.alloc();
-    for calls in [7, 8, 1_000] {
+    for calls in [9, 10, 1_000] {
         let receipts = Receipts {
             before: true,
             of_one: true,
@@ -435,7 +437,7 @@ fn receipts_before_a_push_and_after_it(rt: HostRuntime) {
         };
         assert_eq!(rt; asked(&rt, alloc, calls), receipts, "{calls} calls");
     }
-    for (calls, syncs) in [(3, 1usize), (4, 1), (5, 2), (6, 2)] {
+    for (calls, syncs) in [(3, 1usize), (4, 1), (5, 1), (6, 1), (7, 2), (8, 2)] {
         let receipts = Receipts {
             before: true,
             of_one: false,
@@ -474,6 +476,7 @@ fn used<'h, J: Storing<&'h LocalHeap>, R: Wait + Abort>(
     used.1 = heap.used();
     let Parts {
         log: _,
+        kept: _,
         is_broken: _,
         witnesses: (first, second),
     } = ledger.into_parts();

@@ -1,10 +1,11 @@
 -- What a crash leaves in each of the two steps of an append.
-use Rattle.std.proofs.Common.{◌≡◌, ◌≢◌, ◌⊎◌, inl, inr, ℕ, ◌+◌, ◌<◌, ◌≤◌, List, [], ◌∷◌, ◌++◌, length, take, drop}
+use Rattle.std.proofs.Common.{◌≡◌, inl, inr, ℕ, ◌+◌, ◌<◌, List, [], ◌∷◌, ◌++◌, length, take, drop}
 use Rattle.std.proofs.Common.{refl, sym, ◌∙◌, ap, subst, arith, append_assoc, length-append, take-append-drop}
-use Rattle.std.proofs.lemmas.List.{take_at, drop_at, take_all, drop_all, append-nil}
+use Rattle.std.proofs.lemmas.List.{take_at, drop_at}
 use Rattle.std.specs.List.{AllByRecursion}
 use Rattle.hg_types.specs.Limits.{IsAllowed}
 use Rattle.hg_store.specs.declared.head.Head.{Head}
+use Rattle.hg_store.specs.code.Fronts.{Begins}
 use Rattle.hg_store.specs.Device.{Holds, Torn, MayBeTorn, Only}
 use Rattle.hg_store.specs.Files.{IsStore, StandsFor, digest_behind, stored}
 use Rattle.hg_store.specs.Head.{first_digest, head_bytes}
@@ -26,11 +27,17 @@ closed_store head records more allowed each = record {
 
 pub closed : (head : Head) (records : List (List ℕ)) (more : List ℕ) → IsAllowed head.limits
     → AllByRecursion IsRecord records → StandsFor head records (stored head records ++ 0 ∷ more)
-closed head records more allowed each = (0 ∷ more, closed_store head records more allowed each, shut more refl)
+closed head records more allowed each = (
+  0 ∷ more,
+  closed_store head records more allowed each,
+  shut more
+      refl,
+)
 
 -- and so a file at rest stands for its records
 pub rests : (head : Head) (records : List (List ℕ)) (file : List ℕ) (outcomes : List ℕ → Type 0)
-    → IsAllowed head.limits → AllByRecursion IsRecord records → file ≡ at_rest head records → Only file outcomes
+    → IsAllowed head.limits → AllByRecursion IsRecord records → file ≡ at_rest head records
+    → Only file outcomes
     → (c : List ℕ) → outcomes c → StandsFor head records c
 rests head records file outcomes allowed each is only c left =
     subst (StandsFor head records) (sym (only c left ∙ is)) (closed head records [] allowed each)
@@ -50,30 +57,19 @@ module _ (head : Head) (records batch : List (List ℕ)) (allowed : IsAllowed he
   pub length-at_rest : length (at_rest head records) ≡ length (stored head records) + 1
   length-at_rest = omega (arith, length-append (stored head records) (0 ∷ []))
 
-  -- the shut gate stands in each outcome of the first write
-  pub torn_behind : (bytes c : List ℕ) → Torn (length (stored head records) + 1) bytes (at_rest head records) c
-      → StandsFor head records c
-  torn_behind bytes c torn =
-      let at : ℕ = length (stored head records) + 1 in
-      let front : take at c ≡ at_rest head records =
-      torn.before ∙ take_all _ _ (omega (arith, length-at_rest)) in
+  -- the shut gate stands in each outcome that begins with the file of before
+  pub begun : (c : List ℕ) → Begins (at_rest head records) c → StandsFor head records c
+  begun c front =
+      let at : ℕ = length (at_rest head records) in
       let spelled : c ≡ stored head records ++ 0 ∷ drop at c =
       sym (take-append-drop at c) ∙ ap (λ (l : List ℕ). l ++ drop at c) front
       ∙ append_assoc (stored head records) (0 ∷ []) (drop at c) in
       subst (StandsFor head records) (sym spelled) (closed head records (drop at c) allowed each)
 
-  pub written_behind : (c : List ℕ) → Holds (at_rest head records) (length (stored head records) + 1)
-      (ungated (digest_behind head records) batch) c → c ≡ staged
-  written_behind c holds =
-      let bytes : List ℕ = ungated (digest_behind head records) batch in
-      let at : ℕ = length (stored head records) + 1 in
-      holds
-      ∙ ap (λ (l : List ℕ). l ++ bytes ++ drop (at + length bytes) (at_rest head records))
-      (take_all at (at_rest head records) (omega (arith, length-at_rest)))
-      ∙ ap (λ (l : List ℕ). at_rest head records ++ bytes ++ l)
-      (drop_all (at + length bytes) (at_rest head records) (omega (arith, length-at_rest)))
-      ∙ append-nil (at_rest head records ++ bytes)
-      ∙ append_assoc (stored head records) (0 ∷ []) bytes
+  pub written_behind : (c : List ℕ) → c ≡ at_rest head records ++ ungated (digest_behind head records) batch
+      → c ≡ staged
+  written_behind c is = is ∙ append_assoc (stored head records) (0 ∷ [])
+      (ungated (digest_behind head records) batch)
 
   front : take (length (stored head records)) staged ≡ stored head records
   front = take_at (stored head records) (0 ∷ ungated (digest_behind head records) batch) _ refl
@@ -87,7 +83,7 @@ module _ (head : Head) (records batch : List (List ℕ)) (allowed : IsAllowed he
       ∙ drop_at (at_rest head records) (ungated (digest_behind head records) batch) _ length-at_rest
 
   -- with its gate open, the batch stands after the records
-  opened : stored head records ++ 1 ∷ ungated (digest_behind head records) batch
+  pub opened : stored head records ++ 1 ∷ ungated (digest_behind head records) batch
       ≡ at_rest head (records ++ batch)
   opened =
       ap (λ (l : List ℕ). stored head records ++ l) (gated (digest_behind head records) batch some)
@@ -117,14 +113,6 @@ module _ (head : Head) (records batch : List (List ℕ)) (allowed : IsAllowed he
     | inr held ↦ inr (subst (StandsFor head (records ++ batch)) (sym (written_gate c held))
         (closed head (records ++ batch) [] allowed all_each))
   ]
-
-  pub stage_crash : (bytes : List ℕ) (old : List ℕ → Type 0) → Only (at_rest head records) old → (c : List ℕ)
-      → MayBeTorn (length (stored head records) + 1) bytes old c → IsBeforeOrAfter head records batch c
-  stage_crash bytes old only c (inl left) =
-      inl (subst (StandsFor head records) (sym (only c left)) (closed head records [] allowed each))
-  stage_crash bytes old only c (inr torn) =
-      inl (torn_behind bytes c
-      (subst (λ f. Torn (length (stored head records) + 1) bytes f c) (only torn.0 torn.1) torn.2))
 
   pub gate_crash : (old : List ℕ → Type 0) → Only staged old → (c : List ℕ)
       → MayBeTorn (length (stored head records)) (1 ∷ []) old c → IsBeforeOrAfter head records batch c

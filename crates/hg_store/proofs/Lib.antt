@@ -6,6 +6,7 @@ mod Reading
 mod Stepping
 mod Moments
 mod Crash
+mod Staying
 mod Repair
 mod Walks
 mod FileSteps

@@ -7,3 +7,4 @@ pub mod Calls
 pub mod History
 pub mod FileLaws
 pub mod Cuts
+pub mod code

@@ -4,8 +4,8 @@
 //! A record is any bytes, as a bundle. [`put_record`] writes it after its size and its digest, which takes
 //! in the digest of the record before; [`read_records`] reads the records of a store, up to its end or to a
 //! torn record. [`laws`] says that a store is read in one way, and that a front of it, cut anywhere, is
-//! read as the records that are whole in it. [`Log`] adds records on a [`Device`]. Nothing here starts a
-//! thread or waits.
+//! read as the records that are whole in it. [`Log`] adds records on a [`Device`], each with the digest of
+//! its bytes, as [`Sealed`] makes it. Nothing here starts a thread or waits.
 //!
 //! Numbers of several bytes have the high byte first. The head of a store has 38 bytes:
 //!
@@ -45,6 +45,7 @@ mod opening;
 mod place;
 mod read;
 mod record;
+mod sealed;
 mod start;
 
 pub use calls::Calls;
@@ -59,4 +60,5 @@ pub use opening::{RecoverFault, recover};
 pub use place::{NewFile, create_file, cut_file, put_whole};
 pub use read::{Found, ReadFault, read_records};
 pub use record::{NoRecord, next_record, put_record};
+pub use sealed::Sealed;
 pub use start::{Opened, StoreFault, open_file};

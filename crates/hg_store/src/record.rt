@@ -1,7 +1,8 @@
 //! One record of a log.
 
 ghost use Rattle.std.specs.Prelude.{◌≡◌, ◌++◌, ◌∷◌, IfOk, IsErrOf, OnErr};
-ghost use Rattle.hg_store.specs.Records.{IsDamaged, IsEnd, IsNext, IsRecord, IsTorn, digest_of, frame};
+ghost use Rattle.sha1.specs.Sha1.{sha1};
+ghost use Rattle.hg_store.specs.Records.{IsDamaged, IsEnd, IsNext, IsRecord, IsTorn, digest_of, frame, size_bytes};
 
 use crate::head::{is_same, read_byte, read_u32};
 use hg_types::NoMemory;
@@ -17,6 +18,9 @@ const SIZE: usize = 4;
 /// How many bytes a digest has.
 const DIGEST: usize = 20;
 
+/// How many bytes a record has before its own: the gate, the size and the digest.
+pub(crate) const HEAD: usize = 1 + SIZE + DIGEST;
+
 /// Why no record is read where one might stand.
 #[derive(Clone, Copy, Debug, PartialEq, Eq)]
 pub enum NoRecord {
@@ -28,15 +32,31 @@ pub enum NoRecord {
     Damaged,
 }
 
+/// The digest of a record after one with that digest, where that of its bytes is there.
+pub(crate) fn chained_after(before: &[u8; 20], inner: &[u8; 20]) -> [u8; 20]
+    ensures { result ≡ sha1 (before.now ++ inner.now) }
+{
+    let mut hasher = Sha1::new();
+    hasher.update(before);
+    hasher.update(inner);
+    hasher.finalize()
+}
+
 /// The digest of a record after one with that digest.
 fn chained(before: &[u8; 20], bytes: &[u8]) -> [u8; 20]
     ensures { result ≡ digest_of before.now bytes.now }
 {
-    let inner = Sha1::digest(bytes);
-    let mut hasher = Sha1::new();
-    hasher.update(before);
-    hasher.update(&inner);
-    hasher.finalize()
+    chained_after(before, &Sha1::digest(bytes))
+}
+
+/// What stands in a record before its bytes: an open gate, their number, and its digest.
+pub(crate) fn frame_head(size: u32, digest: &[u8; 20]) -> [u8; HEAD]
+    ensures { result ≡ 1 ∷ size_bytes size ++ digest.now }
+{
+    let mut head = [OPEN; HEAD];
+    head[1..5].copy_from_slice(&size.to_be_bytes());
+    head[5..].copy_from_slice(digest);
+    head
 }
 
 /// Appends a record after one with that digest, and gives its own. Where memory is refused, `out` may have

@@ -32,8 +32,8 @@ fn fill(rt: &HostRuntime, folder: &str) -> Result<(), Fail> {
     let mut opened = open_store(rt, alloc, folder, &standard())?;
     for record in [b"first".as_slice(), b"next"] {
         let mut batch = Vec::new(alloc);
-        batch.push(Seq::copy_of(alloc, record)?)?;
-        opened.log.append(alloc, &batch)?;
+        batch.push(Sealed::new(Seq::copy_of(alloc, record)?))?;
+        opened.log.append(&batch)?;
     }
     Ok(())
 }

@@ -156,60 +156,78 @@ fn overwritten(alloc: Global, old: &[u8], at: usize, bytes: &[u8]) -> Result<Vec
     Ok(new)
 }
 
-/// Each file that a crash may leave: what was synced, with each write since lost, made, made in part, or
-/// made in part with anything in the rest of its range, and each cut made or not.
+/// Files that a crash may leave: what was synced, with each write and cut since lost or made, in each way; and
+/// with one of them made in part, or made in part with anything in the rest of its range, where those before it and
+/// those after it are lost or made.
 pub fn outcomes(alloc: Global, paper: &Paper) -> Result<Vec<Vec<u8>>, Fail> {
+    let count = paper.steps.len().min(15);
     let mut files = Vec::new(alloc);
-    files.push(paper.synced.to_vec(alloc)?)?;
-    for step in &paper.steps {
-        let mut next = Vec::new(alloc);
-        for file in &files {
-            put_outcomes(alloc, file, step, &mut next)?;
+    for made in 0..1usize << count {
+        files.push(left_by(alloc, paper, made, None)?)?;
+    }
+    for at in 0..count {
+        let before = (1usize << at) - 1;
+        let after = (1usize << count) - (2usize << at);
+        for made in [0, before, after, before | after] {
+            put_torn(alloc, paper, made, at, &mut files)?;
         }
-        files = next;
     }
     Ok(files)
 }
 
-fn put_outcomes(
+/// The file with those steps made of which the bit is set, the first the lowest, and with one of them as it is told.
+fn left_by(
     alloc: Global,
-    file: &[u8],
-    step: &Step,
-    out: &mut Vec<Vec<u8>>,
-) -> Result<(), Fail> {
-    out.push(file.to_vec(alloc)?)?;
-    match step {
-        Step::Cut(len) => {
-            for middle in *len..file.len() {
-                out.push(file[..middle].to_vec(alloc)?)?;
+    paper: &Paper,
+    made: usize,
+    one: Option<(usize, &[u8])>,
+) -> Result<Vec<u8>, Fail> {
+    let mut file = paper.synced.to_vec(alloc)?;
+    for (at, step) in paper.steps.iter().enumerate() {
+        let is_made = made >> at.min(15) & 1 == 1;
+        match (step, one) {
+            (Step::Write(place, _), Some((torn, bytes))) if torn == at => {
+                file = overwritten(alloc, &file, *place, bytes)?;
             }
-        }
-        Step::Write(at, bytes) => {
-            out.push(overwritten(alloc, file, *at, bytes)?)?;
-            if bytes.len() > 1 {
-                put_torn(alloc, file, *at, bytes, out)?;
+            (Step::Write(place, bytes), _) if is_made => {
+                file = overwritten(alloc, &file, *place, bytes)?;
             }
+            (Step::Cut(len), _) if is_made => file.truncate(*len),
+            (_, _) => {}
         }
     }
-    Ok(())
+    Ok(file)
 }
 
+/// The files with those steps made, and with one in part.
 fn put_torn(
     alloc: Global,
-    file: &[u8],
+    paper: &Paper,
+    made: usize,
     at: usize,
-    bytes: &[u8],
     out: &mut Vec<Vec<u8>>,
 ) -> Result<(), Fail> {
-    for cut in 0..bytes.len() {
-        out.push(overwritten(alloc, file, at, &bytes[..cut])?)?;
-        for filling in [0u8, 1, 255] {
-            let mut torn = bytes[..cut].to_vec(alloc)?;
-            while torn.len() < bytes.len() {
-                torn.push(filling)?;
+    match &paper.steps[at] {
+        Step::Cut(len) => {
+            let whole = left_by(alloc, paper, made, None)?;
+            for middle in *len..whole.len() {
+                out.push(whole[..middle].to_vec(alloc)?)?;
             }
-            out.push(overwritten(alloc, file, at, &torn)?)?;
         }
+        Step::Write(_, bytes) if bytes.len() > 1 => {
+            for cut in 0..bytes.len() {
+                let part = &bytes[..cut];
+                out.push(left_by(alloc, paper, made, Some((at, part)))?)?;
+                for filling in [0u8, 1, 255] {
+                    let mut torn = part.to_vec(alloc)?;
+                    while torn.len() < bytes.len() {
+                        torn.push(filling)?;
+                    }
+                    out.push(left_by(alloc, paper, made, Some((at, &torn)))?)?;
+                }
+            }
+        }
+        Step::Write(_, _) => {}
     }
     Ok(())
 }

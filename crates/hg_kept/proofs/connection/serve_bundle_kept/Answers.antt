@@ -37,9 +37,9 @@ returns-clause-served g c =
     c.receive_kept-ending.new.kept.items c.mark-ended.result takes after rests r m
     c.limits-limits.ensures.first how a.answers in (
       record {
-        reads = r.is.reads;
-        consumed = r.is.consumed;
-        rest = r.is.rest;
+        reads = r.is.bundle.reads;
+        consumed = r.is.bundle.consumed;
+        rest = r.is.bundle.rest;
         ending = c.receive_kept-ending.result;
         parts = r.is.parts;
         push = c.args.opened.1.putter.push;
@@ -53,7 +53,7 @@ returns-clause-served g c =
       },
       record {
         is = record {
-          received = r.is.received;
+          received = r.is.bundle.received;
           fresh = c.requires.sender.1;
           answers = put;
           rests_on = rested c.args.server.now capacity first c.args.inbox.now c.receive_kept-ending.new.inbox _ _
@@ -66,18 +66,18 @@ returns-clause-served g c =
               c.limits-limits.ensures.first how a.answers a.rests;
           replies = w.is;
         };
-        more = r.is.more;
-        spelled = r.is.spelled;
-        bytes = r.is.bytes;
-        told = r.is.told;
-        keeps = r.is.keeps;
-        ran = r.is.ran;
+        more = r.is.bundle.more;
+        spelled = r.is.bundle.spelled;
+        bytes = r.is.bundle.bytes;
+        told = r.is.bundle.told;
+        keeps = r.is.bundle.keeps;
+        ran = r.is.bundle.ran;
         went = w.went;
         used = w.used;
         short = bundle_reply_short c.replies_are_short.ensures.done c.replies_are_short.ensures.aborted
-            c.parts_are_few.ensures c.args.server.now capacity first c.args.inbox.now r.is.reads
-            c.receive_kept-ending.result r.is.parts r.is.consumed r.is.rest c.args.opened.1.putter.push
-            c.args.opened.1.history how takes after c.limits-limits.ensures.allowed r.is.received put;
+            c.parts_are_few.ensures c.args.server.now capacity first c.args.inbox.now r.is.bundle.reads
+            c.receive_kept-ending.result r.is.parts r.is.bundle.consumed r.is.bundle.rest c.args.opened.1.putter.push
+            c.args.opened.1.history how takes after c.limits-limits.ensures.allowed r.is.bundle.received put;
       },
       record {
         ending_is = refl;

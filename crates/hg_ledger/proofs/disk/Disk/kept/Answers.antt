@@ -12,5 +12,5 @@ returns g c =
     let whole : d.is_broken ≡ false = ap (λ v. v.is_broken) c.self.view_is ∙ c.requires in
     let inner = are_kept g.D.Device.seen g.D.Device.may_leave g.J.Storing.head g.J.Storing.stored
     g.J.Naming.first d.witness d.count d.log (c.self.invariant.1 whole) in
-    subst (λ (v : DiskView g.row.A.Denot). AreKept g.D.Device.seen g.D.Device.may_leave g.J.Storing.head
+    subst (λ (v : DiskView g.row.A.Denot g.row.D.Denot). AreKept g.D.Device.seen g.D.Device.may_leave g.J.Storing.head
     g.J.Storing.stored g.J.Naming.first v.history v.count) c.self.view_is inner

@@ -12,10 +12,11 @@ invariant_of-self-else-is_err g c =
     let d = c.self.inside in
     let i = c.self.invariant in
     let first = g.J.Naming.first in
-    let here = subst (λ (v : DiskView g.row.A.Denot). IsRecordOf first v.history (v.count + length v.batch)
+    let here = subst (λ (v : DiskView g.row.A.Denot g.row.D.Denot). IsRecordOf first v.history (v.count + length v.batch)
     c.args.bytes) (sym c.self.view_is) c.requires in (
       i.0,
       i.1,
       subst (λ (l : List (List ℕ)). AreRecordsFrom first d.witness d.count l) (sym c.push.ensures.items)
           (either_more first d.witness d.count d.batch.items c.args.bytes (is_ok c.push.result) i.2 here),
+      i.3,
     )

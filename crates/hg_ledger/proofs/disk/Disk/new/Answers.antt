@@ -1,0 +1,22 @@
+use Rattle.std.proofs.Common.{◌≡◌, ℕ, List, sym, subst}
+use Rattle.hg_ledger.specs.Records.{AreRecordsFrom}
+use Rattle.hg_ledger.proofs.Keeping.{nothing}
+use Rattle.hg_ledger.proofs.Living.{begins, kept_front}
+use Rattle.hg_ledger.proofs.disk.Disk.new.Goals as goal
+
+pub invariant_of-result : goal.invariant_of-result
+invariant_of-result g c =
+    let first = g.J.Naming.first in
+    let seen = g.D.Device.seen in
+    let may_leave = g.D.Device.may_leave in
+    let head = g.J.Storing.head in
+    let stored = g.J.Storing.stored in
+    let log = c.args.log in
+    let keeps = nothing seen may_leave head stored first c.args.witness log c.requires.settled in (
+      c.requires.allowed,
+      λ b. keeps,
+      subst (λ (l : List (List ℕ)). AreRecordsFrom first c.args.witness 0 l) (sym c.in-Ok.ensures.items) tt,
+      begins g.D.Device.moment g.D.Device.left_since may_leave head stored first g.J.Storing.opened c.args.witness
+          log.device c.requires.opened (g.met.D.Device.only_now log.device)
+          (kept_front seen may_leave head stored first c.records_are_read_back.ensures c.args.witness 0 log keeps),
+    )
