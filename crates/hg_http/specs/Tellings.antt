@@ -10,7 +10,7 @@ use Rattle.hg_http.specs.declared.view.View.{View}
 use Rattle.hg_http.specs.declared.view.View.TheVariants.{Page, Report, Metrics}
 use Rattle.hg_http.specs.declared.answer.Refusal.{Refusal}
 use Rattle.hg_http.specs.declared.answer.Refusal.TheVariants.{NotForced, BadBatch, PushesAlone, NotOpened}
-use Rattle.hg_http.specs.declared.answer.Refusal.TheVariants.{NoMemory, NoAnswer}
+use Rattle.hg_http.specs.declared.answer.Refusal.TheVariants.{NoMemory, NoAnswer, LongBatch}
 
 -- the text and a line feed
 abbrev pub line : List ℕ → List ℕ
@@ -24,6 +24,7 @@ refusal_text PushesAlone = line (codes "this address takes pushes alone")
 refusal_text NotOpened = line (codes "no push can be opened now")
 refusal_text NoMemory = line (codes "out of memory")
 refusal_text NoAnswer = line (codes "there is no memory for the answer")
+refusal_text LongBatch = line (codes "batch takes 16 commands, 4 of them lookup")
 
 -- one field: the content type
 abbrev pub of_type : List ℕ → List Header

@@ -28,6 +28,8 @@ pub enum Refusal {
     NoMemory,
     /// 6: memory was refused for the answer: a push that was asked for has ended.
     NoAnswer,
+    /// 7: a batch has more commands than are answered at once, or more of them are `lookup`.
+    LongBatch,
 }
 
 impl Refusal {
@@ -42,6 +44,7 @@ impl Refusal {
             Refusal::NotOpened => b"no push can be opened now\n".as_slice(),
             Refusal::NoMemory => b"out of memory\n".as_slice(),
             Refusal::NoAnswer => b"there is no memory for the answer\n".as_slice(),
+            Refusal::LongBatch => b"batch takes 16 commands, 4 of them lookup\n".as_slice(),
         }
     }
 }

@@ -17,10 +17,12 @@ count_lines text = count_by (λ byte. byte == 10) text
 abbrev pub front_of : List ℕ → List ℕ
 front_of text = take (min (length text) 4096) text
 
--- the branch that the first 4,096 bytes tell, where three lines end in them
+-- the branch that a text tells, by its first 4,096 bytes; none where there are more and its three lines do not end in them
 unfoldable pub shown_branch : {A : Type 0} → List ℕ → Option (Name A)
 shown_branch text =
-    if nat_lt (count_lines (front_of text)) 3 then None else Some (name_of (branch_of (front_of text)))
+    if nat_lt 4096 (length text) then
+    (if nat_lt (count_lines (front_of text)) 3 then None else Some (name_of (branch_of (front_of text))))
+    else Some (name_of (branch_of (front_of text)))
 
 -- its id, its phase and its branch are those of a changeset
 pub record IsOf {A : Type 0} (rows : List Changeset) (phases : List Phase) (rev : ℕ) (head : Head A) : Type 0 where

@@ -24,7 +24,7 @@ const LINES: usize = 4096;
 pub struct Head<A: Allocator = Global> {
     pub node: Node,
     pub phase: Phase,
-    /// Its branch; none where the first 4,096 bytes of its text do not hold the three lines that tell it.
+    /// Its branch; none where its text is longer than 4,096 bytes and these do not hold the three lines that tell it.
     pub branch: Option<Name<A>>,
     /// The first of its bookmarks in the order of their names, at most eight.
     pub bookmarks: Seq<Name<A>, A>,
@@ -52,13 +52,13 @@ pub fn last_heads<A: Allocator + Copy>(
     Ok(last)
 }
 
-/// The branch that the first bytes of a text tell, where its three lines stand in them.
+/// The branch that a text tells, by its first bytes. None where there are more, and its three lines do not end in these.
 #[tactic(auto, unfolding(crate::specs::Heads::shown_branch))]
 pub fn shown_branch<A: Allocator + Copy>(alloc: A, text: &[u8]) -> Result<Option<Name<A>>, NoMemory>
     ensures { IfOk result (λ branch. branch ≡ told_branch text.now) }
 {
     let front = front_of(text);
-    if count_lines(front) < 3 {
+    if text.len() > LINES && count_lines(front) < 3 {
         return Ok(None);
     }
     let name = branch_of(alloc, front)?;
@@ -88,8 +88,9 @@ pub fn add_bookmarks<A: Allocator + Copy>(
     bookmarks: &Bookmarks<A>,
     len: usize,
 ) -> Result<(), NoMemory> {
-    for place in 0..len {
-        if let Some((name, node)) = bookmarks.entry(place)
+    let mut entries = bookmarks.entries();
+    for _ in 0..len {
+        if let Some((name, node)) = entries.next()
             && let Some(head) = place_of(heads.as_slice(), &node)
         {
             add_bookmark(alloc, &mut heads[head], name)?;

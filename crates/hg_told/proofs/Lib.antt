@@ -14,3 +14,4 @@ mod Branching
 mod BranchSets
 mod BranchLines
 mod Mapping
+mod Viewing

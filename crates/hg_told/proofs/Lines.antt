@@ -143,6 +143,29 @@ line_untold test line x b before asked failed =
 pub has_id : (rows : List Changeset) (rev : ℕ) (id : List ℕ) → HasNode rows rev id → id_at rows rev ≡ id
 has_id rows rev id has = ap id_of has.row_at ∙ has.node_is
 
+-- the line of the first, where it passes, and those of the others
+line_first : {X : Type 0} (test : X → Bool) (line : X → List ℕ) (x : X) (xs : List X)
+    → flat_map (ended 10) (lines_if test line x) ++ flat_map (ended 10) (map line (filter test xs))
+    ≡ flat_map (ended 10) (map line (filter test (x ∷ xs)))
+line_first {X} test line x xs = by (test x)
+  where
+    by : (b : Bool) → flat_map (ended 10) (if b then line x ∷ [] else []) ++ flat_map (ended 10) (map line (filter test xs))
+        ≡ flat_map (ended 10) (map line (if b then x ∷ filter test xs else filter test xs))
+    by true = ap (λ (t : List ℕ). t ++ flat_map (ended 10) (map line (filter test xs))) (append-nil (ended 10 (line x)))
+    by false = refl
+
+-- the lines so far and those that are left, after one more
+pub line_left : {X : Type 0} (test : X → Bool) (line : X → List ℕ) (all now next : List ℕ) (left xs : List X)
+    (x : X) → left ≡ x ∷ xs → now ++ flat_map (ended 10) (map line (filter test left)) ≡ all
+    → next ≡ now ++ flat_map (ended 10) (lines_if test line x)
+    → next ++ flat_map (ended 10) (map line (filter test xs)) ≡ all
+line_left {X} test line all now next left xs x is so more =
+    let one = flat_map (ended 10) (lines_if test line x) in
+    let rest = flat_map (ended 10) (map line (filter test xs)) in
+    ap (λ (t : List ℕ). t ++ rest) more ∙ append_assoc now one rest
+    ∙ ap (λ (t : List ℕ). now ++ t) (line_first test line x xs)
+    ∙ ap (λ (ys : List X). now ++ flat_map (ended 10) (map line (filter test ys))) (sym is) ∙ so
+
 -- a place in a list, and what is there
 pub taken_more : {X : Type 0} (xs : List X) (i : ℕ) (x : X) → slice_get xs i ≡ Some x
     → take (i + 1) xs ≡ take i xs ++ x ∷ []

@@ -10,3 +10,4 @@ pub mod Branch
 pub mod Hidden
 pub mod BranchMap
 pub mod code
+pub mod Viewed

@@ -1,3 +1,4 @@
 pub mod Behind
 pub mod Hiding
 pub mod Branches
+pub mod Viewed

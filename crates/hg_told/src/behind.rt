@@ -3,7 +3,7 @@
 ghost use Rattle.std.specs.Prelude.{◌≡◌, ℕ, ◌<◌, length, slice_index, IfOk, IfSome};
 ghost use Rattle.hg_told.specs.code.Behind.{AreAdded, AreBehind};
 
-use hg_log::Changelog;
+use crate::viewed::View;
 use hg_types::NoMemory;
 use std::alloc::Allocator;
 
@@ -12,16 +12,16 @@ use std::alloc::Allocator;
 /// the changesets.
 pub fn sets_behind<A: Allocator + Copy>(
     alloc: A,
-    log: &Changelog<A>,
+    view: &View<A>,
     sets: &[u64],
 ) -> Result<Vec<u64, A>, NoMemory>
-    requires { length sets.now ≡ length log.now.rows }
-    ensures { IfOk result (λ behind. AreBehind log.now.rows sets.now behind.items) }
+    requires { length sets.now ≡ length view.now.rows }
+    ensures { IfOk result (λ behind. AreBehind view.now.rows sets.now behind.items) }
 {
-    let mut behind = no_sets(alloc, log.len())?;
-    for rev in (0..log.len()).rev() {
+    let mut behind = no_sets(alloc, view.len())?;
+    for rev in (0..view.len()).rev() {
         let own = sets[rev] | behind[rev];
-        let (p1, p2) = log.parent_revs(rev as u32);
+        let (p1, p2) = view.parent_revs(rev as u32);
         add_sets(&mut behind, p1, own);
         add_sets(&mut behind, p2, own);
     }

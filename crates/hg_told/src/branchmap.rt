@@ -11,11 +11,9 @@ ghost use Rattle.hg_told.specs.code.Behind.{IsIn};
 ghost use Rattle.hg_told.specs.code.Branches.{branch_at, is_last_in, kept_line, AreBranches, AreSetsOf, IsKept};
 
 use crate::behind::{add_sets, no_sets, sets_behind};
-use crate::branch::push_branch;
 use crate::hidden::hidden_changesets;
 use crate::text::{digits_of, joined};
-use hg_log::Changelog;
-use hg_obs::Markers;
+use crate::viewed::View;
 use hg_types::{NoMemory, Seq};
 use percent_encoding::percent_encode_byte;
 use std::alloc::{Allocator, Global};
@@ -40,33 +38,29 @@ const BRANCHES: usize = 64;
 /// two upper-case digits. A head of a branch is a changeset of it that is not hidden and no proper ancestor
 /// of another of the same branch that is not hidden. A branch of hidden changesets alone has no line.
 ///
-/// It costs one pass over the changesets for each 64 branches, beside one that reads their texts.
-pub fn branchmap_text<A: Allocator + Copy>(
-    alloc: A,
-    log: &Changelog<A>,
-    markers: &Markers<A>,
-) -> Result<Seq<u8, A>, NoMemory>
-    ensures { IfOk result (λ text. IsBranchMap log.now.rows markers.now text) }
+/// It costs one pass over the changesets for each 64 branches, beside three.
+pub fn branchmap_text<A: Allocator + Copy>(alloc: A, view: &View<A>) -> Result<Seq<u8, A>, NoMemory>
+    ensures { IfOk result (λ text. IsBranchMap view.now.rows view.now.markers text) }
 {
-    let hidden = hidden_changesets(alloc, log, markers)?;
-    let branches = branches_of(alloc, log, hidden.as_slice())?;
+    let hidden = hidden_changesets(alloc, view)?;
+    let branches = branches_of(alloc, view, hidden.as_slice())?;
     let mut lines = Vec::new(alloc);
-    push_lines(alloc, &mut lines, log, branches.as_slice())?;
+    push_lines(alloc, &mut lines, view, branches.as_slice())?;
     Ok(joined(lines))
 }
 
 /// The branches in ascending order of their names.
 fn branches_of<A: Allocator + Copy>(
     alloc: A,
-    log: &Changelog<A>,
+    view: &View<A>,
     hidden: &[bool],
 ) -> Result<Vec<Branch<A>, A>, NoMemory>
-    requires { length hidden.now ≡ length log.now.rows }
-    ensures lawful { OnOk result (AreLawful log.now.rows) }
-    ensures branches { IfOk result (λ v. AreBranches log.now.rows hidden.now (length log.now.rows)
+    requires { length hidden.now ≡ length view.now.rows }
+    ensures lawful { OnOk result (AreLawful view.now.rows) }
+    ensures branches { IfOk result (λ v. AreBranches view.now.rows hidden.now (length view.now.rows)
         (map (λ b. (b.name.items, b.revs.items)) v.items)) }
 {
-    let members = members_of(alloc, log, hidden)?;
+    let members = members_of(alloc, view, hidden)?;
     let mut branches = Vec::new(alloc);
     for (name, revs) in members {
         branches.push(Branch { name, revs })?;
@@ -76,18 +70,18 @@ fn branches_of<A: Allocator + Copy>(
 
 fn members_of<A: Allocator + Copy>(
     alloc: A,
-    log: &Changelog<A>,
+    view: &View<A>,
     hidden: &[bool],
 ) -> Result<Members<A>, NoMemory>
-    requires { length hidden.now ≡ length log.now.rows }
-    ensures lawful { OnOk result (AreLawful log.now.rows) }
-    ensures members { IfOk result (λ m. AreBranches log.now.rows hidden.now (length log.now.rows)
+    requires { length hidden.now ≡ length view.now.rows }
+    ensures lawful { OnOk result (AreLawful view.now.rows) }
+    ensures members { IfOk result (λ m. AreBranches view.now.rows hidden.now (length view.now.rows)
         (map (λ e. (e.0.items, e.1.items)) m.entries)) }
 {
     let mut members = BTreeMap::new(alloc);
-    for rev in 0..log.len() {
+    for rev in 0..view.len() {
         if !hidden[rev] {
-            add_member(alloc, &mut members, log, rev as u32)?;
+            add_member(alloc, &mut members, view, rev as u32)?;
         }
     }
     Ok(members)
@@ -97,16 +91,15 @@ fn members_of<A: Allocator + Copy>(
 fn add_member<A: Allocator + Copy>(
     alloc: A,
     members: &mut Members<A>,
-    log: &Changelog<A>,
+    view: &View<A>,
     rev: u32,
 ) -> Result<(), NoMemory>
-    requires { rev < length log.now.rows }
-    ensures { OnOk result (IsKept (branch_at log.now.rows rev) rev
+    requires { rev < length view.now.rows }
+    ensures { OnOk result (IsKept (branch_at view.now.rows rev) rev
         (map (λ e. (e.0.items, e.1.items)) members.old.entries)
         (map (λ e. (e.0.items, e.1.items)) members.new.entries)) }
 {
-    let mut name = Vec::new(alloc);
-    push_branch(&mut name, log.text(rev))?;
+    let name = Vec::from_slice(alloc, view.branch(rev))?;
     match members.get_mut(name.as_slice()) {
         Some(revs) => revs.push(rev)?,
         None => {
@@ -121,17 +114,17 @@ fn add_member<A: Allocator + Copy>(
 fn push_lines<A: Allocator + Copy>(
     alloc: A,
     lines: &mut Vec<u8, A>,
-    log: &Changelog<A>,
+    view: &View<A>,
     branches: &[Branch<A>],
 ) -> Result<(), NoMemory>
-    requires { All (λ b. All (λ r. r < length log.now.rows) b.revs.items) branches.now }
+    requires { All (λ b. All (λ r. r < length view.now.rows) b.revs.items) branches.now }
     ensures { OnOk result (lines.new.items ≡ lines.old.items ++ flat_map (ended 10)
-        (map (λ b. kept_line log.now.rows (b.name.items, b.revs.items)) branches.now)) }
+        (map (λ b. kept_line view.now.rows (b.name.items, b.revs.items)) branches.now)) }
 {
     let mut rest = branches;
     while !rest.is_empty() {
         let (some, more) = rest.split_at(rest.len().min(BRANCHES));
-        push_some_lines(alloc, lines, log, some)?;
+        push_some_lines(alloc, lines, view, some)?;
         rest = more;
     }
     Ok(())
@@ -141,18 +134,18 @@ fn push_lines<A: Allocator + Copy>(
 fn push_some_lines<A: Allocator + Copy>(
     alloc: A,
     lines: &mut Vec<u8, A>,
-    log: &Changelog<A>,
+    view: &View<A>,
     branches: &[Branch<A>],
 ) -> Result<(), NoMemory>
     requires few { length branches.now ≤ 64 }
-    requires within { All (λ b. All (λ r. r < length log.now.rows) b.revs.items) branches.now }
+    requires within { All (λ b. All (λ r. r < length view.now.rows) b.revs.items) branches.now }
     ensures { OnOk result (lines.new.items ≡ lines.old.items ++ flat_map (ended 10)
-        (map (λ b. kept_line log.now.rows (b.name.items, b.revs.items)) branches.now)) }
+        (map (λ b. kept_line view.now.rows (b.name.items, b.revs.items)) branches.now)) }
 {
-    let sets = sets_of(alloc, log.len(), branches)?;
-    let behind = sets_behind(alloc, log, sets.as_slice())?;
+    let sets = sets_of(alloc, view.len(), branches)?;
+    let behind = sets_behind(alloc, view, sets.as_slice())?;
     for (place, branch) in branches.iter().enumerate() {
-        push_line(lines, log, branch, behind.as_slice(), place)?;
+        push_line(lines, view, branch, behind.as_slice(), place)?;
     }
     Ok(())
 }
@@ -207,23 +200,23 @@ fn has_set(sets: u64, place: usize) -> bool
 /// Adds the line of a branch, whose number is told.
 fn push_line<A: Allocator>(
     lines: &mut Vec<u8, A>,
-    log: &Changelog<A>,
+    view: &View<A>,
     branch: &Branch<A>,
     behind: &[u64],
     place: usize,
 ) -> Result<(), NoMemory>
     requires place { place < 64 }
-    requires rows { length behind.now ≡ length log.now.rows }
-    requires within { All (λ r. r < length log.now.rows) branch.now.revs.items }
-    requires last { (r : ℕ) → r < length log.now.rows
-        → is_last_in log.now.rows branch.now.revs.items r ≡ not (bit_at (slice_index behind.now r) place == 1) }
+    requires rows { length behind.now ≡ length view.now.rows }
+    requires within { All (λ r. r < length view.now.rows) branch.now.revs.items }
+    requires last { (r : ℕ) → r < length view.now.rows
+        → is_last_in view.now.rows branch.now.revs.items r ≡ not (bit_at (slice_index behind.now r) place == 1) }
     ensures { OnOk result (lines.new.items ≡ lines.old.items
-        ++ ended 10 (kept_line log.now.rows (branch.now.name.items, branch.now.revs.items))) }
+        ++ ended 10 (kept_line view.now.rows (branch.now.name.items, branch.now.revs.items))) }
 {
     push_quoted(lines, branch.name.as_slice())?;
     for rev in branch.revs.as_slice() {
         if !has_set(behind[*rev as usize], place) {
-            push_head(lines, log, *rev)?;
+            push_head(lines, view, *rev)?;
         }
     }
     lines.push(b'\n')?;
@@ -231,16 +224,12 @@ fn push_line<A: Allocator>(
 }
 
 /// Adds a space and the id of a head.
-fn push_head<A: Allocator>(
-    lines: &mut Vec<u8, A>,
-    log: &Changelog<A>,
-    rev: u32,
-) -> Result<(), NoMemory>
-    requires { rev < length log.now.rows }
-    ensures { OnOk result (lines.new.items ≡ lines.old.items ++ head_word log.now.rows rev) }
+fn push_head<A: Allocator>(lines: &mut Vec<u8, A>, view: &View<A>, rev: u32) -> Result<(), NoMemory>
+    requires { rev < length view.now.rows }
+    ensures { OnOk result (lines.new.items ≡ lines.old.items ++ head_word view.now.rows rev) }
 {
     lines.push(b' ')?;
-    lines.extend_from_slice(digits_of(&log.node(rev)).as_slice())?;
+    lines.extend_from_slice(digits_of(&view.node(rev)).as_slice())?;
     Ok(())
 }
 

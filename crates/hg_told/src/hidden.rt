@@ -6,6 +6,7 @@ ghost use Rattle.hg_told.specs.Hidden.{AreHidden};
 ghost use Rattle.hg_told.specs.code.Hiding.{TellsKept};
 
 use crate::behind::sets_behind;
+use crate::viewed::View;
 use hg_log::Changelog;
 use hg_obs::Markers;
 use hg_types::{NoMemory, Seq};
@@ -13,25 +14,24 @@ use std::alloc::Allocator;
 
 /// For each changeset, in the order of the changelog, whether it is hidden: it is obsolete, which is that a
 /// marker has it as its predecessor, and all of its descendants are. It costs by the number of changesets,
-/// with a look-up for each, and takes 17 bytes for each.
+/// and takes 9 bytes for each.
 pub fn hidden_changesets<A: Allocator + Copy>(
     alloc: A,
-    log: &Changelog<A>,
-    markers: &Markers<A>,
+    view: &View<A>,
 ) -> Result<Seq<bool, A>, NoMemory>
-    ensures { IfOk result (λ hidden. AreHidden log.now.rows markers.now hidden) }
+    ensures { IfOk result (λ hidden. AreHidden view.now.rows view.now.markers hidden) }
 {
-    let kept = kept_sets(alloc, log, markers)?;
-    let behind = sets_behind(alloc, log, kept.as_slice())?;
+    let kept = view.kept();
+    let behind = sets_behind(alloc, view, kept)?;
     let mut hidden = Vec::new(alloc);
-    for rev in 0..log.len() {
+    for rev in 0..view.len() {
         hidden.push(is_hidden(kept[rev], behind[rev]))?;
     }
     Ok(Seq::from_vec(hidden))
 }
 
 /// For each changeset a number, whose lowest bit tells whether it is not obsolete.
-fn kept_sets<A: Allocator + Copy>(
+pub fn kept_sets<A: Allocator + Copy>(
     alloc: A,
     log: &Changelog<A>,
     markers: &Markers<A>,

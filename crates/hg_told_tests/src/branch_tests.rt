@@ -9,6 +9,24 @@ use std::alloc::{Allocator, Global};
 use std::hash::RandomState;
 use std::test::*;
 
+/// The branch map of a view of these.
+fn map_of<A: Allocator + Copy>(
+    alloc: A,
+    log: &Changelog<A>,
+    markers: &Markers<A>,
+) -> Result<Seq<u8, A>, NoMemory> {
+    branchmap_text(alloc, &View::of(alloc, log, markers)?)
+}
+
+/// Which changesets of a view of these are hidden.
+fn hidden_of<A: Allocator + Copy>(
+    alloc: A,
+    log: &Changelog<A>,
+    markers: &Markers<A>,
+) -> Result<Seq<bool, A>, NoMemory> {
+    hidden_changesets(alloc, &View::of(alloc, log, markers)?)
+}
+
 /// A changeset: the places of its parents, its text, and its branch.
 #[derive(Clone, Copy)]
 struct Row {
@@ -257,7 +275,8 @@ fn the_branch_map_of_mercurial(rt: HostRuntime) -> Result<(), Fail> {
     let state = RandomState::new(&rt)?;
     let mut log = Changelog::new(alloc, state, Limits::standard());
     let mut markers = Markers::new(alloc, state);
-    assert!(rt; is_text(branchmap_text(alloc, &log, &markers), b""));
+    assert!(rt; is_text(map_of(alloc, &log, &markers), b""));
+    let early = View::of(alloc, &log, &markers)?;
     let rows = rows(alloc)?;
     let nodes = put_all(alloc, &mut log, rows.as_slice())?;
     for place in [13, 16, 17] {
@@ -267,8 +286,9 @@ fn the_branch_map_of_mercurial(rt: HostRuntime) -> Result<(), Fail> {
             *nodes.get(place).ok_or("no changeset")?,
         )?;
     }
-    assert!(rt; is_text(branchmap_text(alloc, &log, &markers), BRANCHES));
-    let hidden = hidden_changesets(alloc, &log, &markers)?;
+    assert!(rt; is_text(map_of(alloc, &log, &markers), BRANCHES));
+    assert!(rt; is_text(branchmap_text(alloc, &early), b""));
+    let hidden = hidden_of(alloc, &log, &markers)?;
     for (place, is_hidden) in hidden.as_slice().iter().enumerate() {
         assert_eq!(rt; *is_hidden, place == 16 || place == 17);
     }
@@ -332,11 +352,11 @@ fn a_hidden_chain(rt: HostRuntime) -> Result<(), Fail> {
             prune(alloc, &mut markers, parent)?;
         }
     }
-    let hidden = hidden_changesets(alloc, &log, &markers)?;
+    let hidden = hidden_of(alloc, &log, &markers)?;
     for (place, is_hidden) in hidden.as_slice().iter().enumerate() {
         assert_eq!(rt; *is_hidden, place > 40);
     }
-    let told = branchmap_text(alloc, &log, &markers)?;
+    let told = map_of(alloc, &log, &markers)?;
     let id = hex::encode(
         alloc,
         log.node(40.min(log.len().saturating_sub(1)) as u32)
@@ -381,7 +401,7 @@ fn more_branches_than_a_pass_tells(rt: HostRuntime) -> Result<(), Fail> {
         }
     }
     let _ = wanted.pop();
-    assert!(rt; is_text(branchmap_text(alloc, &log, &markers), wanted.as_slice()));
+    assert!(rt; is_text(map_of(alloc, &log, &markers), wanted.as_slice()));
     Ok(())
 }
 
@@ -401,7 +421,7 @@ fn three_hundred_heads_of_a_branch(rt: HostRuntime) -> Result<(), Fail> {
         wanted.push(b' ')?;
         wanted.extend_from_slice(id.as_str().as_bytes())?;
     }
-    assert!(rt; is_text(branchmap_text(alloc, &log, &markers), wanted.as_slice()));
+    assert!(rt; is_text(map_of(alloc, &log, &markers), wanted.as_slice()));
     Ok(())
 }
 
@@ -412,8 +432,8 @@ fn tell_branches<A: Allocator + Copy>(alloc: A, state: RandomState) -> Option<bo
     let root = put(alloc, &mut log, Node::NULL, Node::NULL, b"m\nu\n0 0\n")?;
     let _child = put(alloc, &mut log, root, Node::NULL, b"m\nu\n0 0 branch:x\n")?;
     let name = branch_of(alloc, log.text(0)).ok()?;
-    let hidden = hidden_changesets(alloc, &log, &markers).ok()?;
-    let text = branchmap_text(alloc, &log, &markers).ok()?;
+    let hidden = hidden_of(alloc, &log, &markers).ok()?;
+    let text = map_of(alloc, &log, &markers).ok()?;
     Some(name.len() == 7 && hidden.len() == 2 && text.len() == 91)
 }
 

@@ -3,3 +3,4 @@ mod OneBundle
 mod Lists
 mod Served
 mod Wires
+mod Copied

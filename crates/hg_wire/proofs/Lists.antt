@@ -45,3 +45,15 @@ number_more f before now next n so more =
     ∙ ap (λ text. text ++ f n) so
     ∙ flat_map_more f before (range_with_len 0 n) n
     ∙ ap (λ ns. before ++ flat_map f ns) (sym range)
+
+-- what holds place by place of two lists, through a third
+pub AllZip_through : {X Y Z : Type 0} (R : X → Y → Type 0) (S : Y → Z → Type 0) (T : X → Z → Type 0)
+    → ((x : X) (y : Y) (z : Z) → R x y → S y z → T x z) → (xs : List X) (ys : List Y) (zs : List Z)
+    → AllZip R xs ys → AllZip S ys zs → AllZip T xs zs
+AllZip_through R S T through [] [] [] r s = tt
+AllZip_through R S T through [] [] (z ∷ zs) r s = absurd s
+AllZip_through R S T through [] (y ∷ ys) zs r s = absurd r
+AllZip_through R S T through (x ∷ xs) [] zs r s = absurd r
+AllZip_through R S T through (x ∷ xs) (y ∷ ys) [] r s = absurd s
+AllZip_through R S T through (x ∷ xs) (y ∷ ys) (z ∷ zs) r s =
+    (through x y z r.0 s.0, AllZip_through R S T through xs ys zs r.1 s.1)

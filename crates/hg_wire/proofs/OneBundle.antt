@@ -11,9 +11,9 @@ use Rattle.hg_devices.specs.Devices.{Output, ReadAnswer, Gave, Failed, WriteAnsw
 use Rattle.hg_devices.specs.Sent.{IsSent}
 use Rattle.hg_devices.specs.declared.sending.Sending.{Sending}
 use Rattle.hg_devices.specs.declared.sending.Sending.TheVariants.{Whole as sent_whole}
-use Rattle.hg_connection.specs.declared.ending.Ending.{Ending}
-use Rattle.hg_connection.specs.declared.ending.Ending.TheVariants.{InputEnded, ReadFailed}
-use Rattle.hg_connection.specs.Receiving.{IsReceived, last_read, Ran, Stops}
+use Rattle.hg_receiving.specs.declared.ending.Ending.{Ending}
+use Rattle.hg_receiving.specs.declared.ending.Ending.TheVariants.{InputEnded, ReadFailed}
+use Rattle.hg_receiving.specs.Receiving.{IsReceived, last_read, Ran, Stops}
 use Rattle.hg_store.specs.declared.head.Head.{Head}
 use Rattle.hg_ledger.specs.Records.{AreKept}
 use Rattle.hg_kept.specs.Kept.{KeptExchange, Replies, ServesKept, TellsOfKept}

@@ -21,7 +21,8 @@ use Rattle.hg_http.specs.declared.answer.Answer.TheVariants.{Told, Refused, Forb
 use Rattle.hg_http.specs.declared.answer.Answer.TheVariants.{Shown, Moved}
 use Rattle.hg_http.specs.declared.view.View.{View}
 use Rattle.hg_http.specs.Views.{moved_to, view_of}
-use Rattle.hg_http.specs.declared.answer.Refusal.TheVariants.{NotForced, BadBatch, PushesAlone}
+use Rattle.hg_http.specs.declared.answer.Refusal.{Refusal}
+use Rattle.hg_http.specs.declared.answer.Refusal.TheVariants.{NotForced, PushesAlone}
 use Rattle.hg_http.specs.declared.answer.Refusal.TheVariants.{NoMemory}
 use Rattle.hg_http.specs.declared.command.Command.{Command}
 use Rattle.hg_http.specs.declared.command.Command.TheVariants.{Tell, Capabilities, Batch, Unbundle, PushKey}
@@ -31,7 +32,7 @@ use Rattle.hg_http.specs.Keys.{fits, key_parts}
 use Rattle.hg_http.specs.Requests.{argument_in, arguments_of, is_from_client, name_of}
 use Rattle.hg_http.specs.Tellings.{Tells}
 use Rattle.hg_wire.specs.Pushes.{IsPushAnswered, key_line, set_line}
-use Rattle.hg_wire.specs.Texts.{are_reads, IsBatchText, IsTextOf}
+use Rattle.hg_wire.specs.Texts.{refusal_of, IsBatchText, IsTextOf}
 use Rattle.hg_wire.specs.Views.{finished, IsViewed}
 use Rattle.hg_wire.specs.declared.terms.Terms.{Terms}
 
@@ -84,11 +85,11 @@ abbrev pub IsToldAt : {A : Type 0} → RepositoryOf A → (List (Taken A) → �
     (Repository A → List ℕ → Type 0) → List (Taken A) → Answer A → List (Taken A) → Type 0
 IsToldAt first kept IsText before answer after = IsSaidAt first kept Told IsText before answer after
 
--- a batch of commands that only read is told of one repository; any other is refused
+-- a batch that is not refused is told of one repository
 abbrev pub AnswersBatch : {A : Type 0} → RepositoryOf A → (List (Taken A) → ℕ → Type 0) → List (Asked A) →
-    Bool → List (Taken A) → Answer A → List (Taken A) → Type 0
-AnswersBatch first kept commands false before answer after = IsSaid (Refused BadBatch) before answer after
-AnswersBatch first kept commands true before answer after =
+    Option Refusal → List (Taken A) → Answer A → List (Taken A) → Type 0
+AnswersBatch first kept commands (Some why) before answer after = IsSaid (Refused why) before answer after
+AnswersBatch first kept commands None before answer after =
     IsToldAt first kept (λ repo text. IsBatchText repo commands text) before answer after
 
 -- a push of the body, where its heads are forced: `force` in hexadecimal digits
@@ -152,7 +153,7 @@ AnswersCommand capacity first kept pull (Tell read) fields r before answer after
     before answer after
 AnswersCommand capacity first kept pull Batch fields r before answer after =
     let commands = commands_of (argument_in fields (codes "cmds")) in
-    AnswersBatch first kept commands (are_reads commands) before answer after
+    AnswersBatch first kept commands (refusal_of commands) before answer after
 AnswersCommand capacity first kept pull Unbundle fields r before answer after =
     IfFromClient (is_from_client r) (AnswersForced capacity first kept (body_of r)
     (bytes_eq (argument_in fields (codes "heads")) (codes "666f726365"))) before answer after

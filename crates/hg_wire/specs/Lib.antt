@@ -5,3 +5,4 @@ pub mod Pushes
 pub mod Answering
 pub mod Serving
 pub mod code
+pub mod Copied

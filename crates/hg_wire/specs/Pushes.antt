@@ -16,8 +16,8 @@ use Rattle.hg_push.specs.Run.{RepositoryOf, run_push}
 use Rattle.hg_queue.specs.History.{of, items_of}
 use Rattle.hg_serve.specs.Answers.{Answers as IsAnswered}
 use Rattle.hg_serve.specs.Histories.{newest_first}
-use Rattle.hg_connection.specs.declared.ending.Ending.TheVariants.{InputEnded, ReadFailed}
-use Rattle.hg_connection.specs.Receiving.{IsReceived, mark_of, push_items}
+use Rattle.hg_receiving.specs.declared.ending.Ending.TheVariants.{InputEnded, ReadFailed}
+use Rattle.hg_receiving.specs.Receiving.{IsReceived, mark_of, push_items}
 use Rattle.hg_kept.specs.Kept.{IsRecorded, KeptExchange}
 use Rattle.hg_http.specs.declared.answer.Answer.{Answer}
 use Rattle.hg_http.specs.declared.answer.Answer.TheVariants.{Told, Refused}

@@ -1,5 +1,6 @@
 -- What the commands that only read are told of a repository.
-use Rattle.std.specs.Prelude.{ℕ, ◌≡◌, Bool, List, [], Option, Some, None, is_some}
+use Rattle.std.specs.Prelude.{ℕ, ◌≡◌, Bool, ◌&&◌, List, [], Option, Some, None, is_some, codes, count_by, length}
+use Rattle.std.specs.Prelude.{bytes_eq, if◌then◌else◌, nat_le}
 use Rattle.std.specs.List.{AllZip, list_all}
 use Rattle.hg_parts.specs.Repository.{Repository}
 use Rattle.hg_told.specs.declared.batch.Command.{Command}
@@ -8,6 +9,8 @@ use Rattle.hg_told.specs.BranchMap.{IsBranchMap}
 use Rattle.hg_told.specs.Heads.{IsHeadsText, known_text}
 use Rattle.hg_told.specs.ListKeys.{listkeys_text}
 use Rattle.hg_told.specs.Lookup.{lookup_text}
+use Rattle.hg_http.specs.declared.answer.Refusal.{Refusal}
+use Rattle.hg_http.specs.declared.answer.Refusal.TheVariants.{BadBatch, LongBatch}
 use Rattle.hg_http.specs.declared.command.Read.{Read}
 use Rattle.hg_http.specs.declared.command.Read.TheVariants.{Heads, Known, ListKeys, Lookup, BranchMap}
 use Rattle.hg_http.specs.Commands.{read_of, subject_of}
@@ -47,3 +50,16 @@ is_read command = is_some (read_of command.name)
 -- all of a batch's commands do
 abbrev pub are_reads : {A : Type 0} → List (Command A) → Bool
 are_reads commands = list_all is_read commands
+
+-- a command looks up a key
+abbrev pub is_lookup : {A : Type 0} → Command A → Bool
+is_lookup command = bytes_eq command.name (codes "lookup")
+
+-- a batch has at most 16 commands, of which at most 4 look up a key
+abbrev pub is_short : {A : Type 0} → List (Command A) → Bool
+is_short commands = nat_le (length commands) 16 && nat_le (count_by is_lookup commands) 4
+
+-- Why a batch is refused, if it is: a command of it does not only read, or it is not short.
+unfoldable pub refusal_of : {A : Type 0} → List (Command A) → Option Refusal
+refusal_of commands =
+    if are_reads commands then (if is_short commands then None else Some LongBatch) else Some BadBatch

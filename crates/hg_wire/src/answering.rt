@@ -14,12 +14,15 @@ ghost use Rattle.hg_wire.specs.Answering.{Answers, AnswersAsked, AnswersBatch, A
 ghost use Rattle.hg_wire.specs.Answering.{AnswersPushKey, around_of, IfFromClient, IsSaid, IsToldAt, OrLacks};
 ghost use Rattle.hg_wire.specs.Answering.{pull_answer};
 ghost use Rattle.hg_wire.specs.Pushes.{Answered};
-ghost use Rattle.hg_wire.specs.Texts.{are_reads as all_read, IsTextOf};
+ghost use Rattle.hg_wire.specs.Copied.{IsLong};
+ghost use Rattle.hg_wire.specs.Texts.{refusal_of as why_refused, IsBatchText, IsTextOf};
 
+use crate::bound::refusal_of;
 use crate::key::push_key;
+use crate::long::{Long, long_of};
 use crate::looking::look;
 use crate::push::unbundle;
-use crate::reading::{Batch, Reading, are_reads};
+use crate::reading::{Batch, Copying, LongBatch, Reading, batch_text, have_long, long_text};
 use crate::shown::{Shown, Watch};
 use crate::terms::{Host, Terms};
 use crate::viewing::answer_view;
@@ -164,6 +167,9 @@ fn tell<J: Storing<A>, D: Device, A: Allocator + Copy, R: Wait>(
         client result.1 result.0 }
 {
     let about = argument(fields, subject_of(read));
+    if let Some(long) = long_of(read, about) {
+        return tell_long(host, client, read, about, long);
+    }
     let question = Reading {
         alloc: host.alloc,
         read,
@@ -172,6 +178,31 @@ fn tell<J: Storing<A>, D: Device, A: Allocator + Copy, R: Wait>(
     let (client, looked) = look(host, client, &question);
     match looked {
         Ok((text, _rests)) => (client, Ok(told(text))),
+        Err(fault) => (client, Err(fault)),
+    }
+}
+
+/// Answers a command that goes through all changesets: one look copies what it is told of.
+fn tell_long<J: Storing<A>, D: Device, A: Allocator + Copy, R: Wait>(
+    host: &Host<'_, J, D, R, A>,
+    client: Client<J, A>,
+    read: Read,
+    about: &[u8],
+    long: Long,
+) -> (Client<J, A>, Result<Answer<A>, NotStored>)
+    requires { IsLong read about.now long }
+    ensures { Answered (OrLacks (IsToldAt J.first
+        (AreKept D.seen D.may_leave J.head J.stored J.first)
+        (λ repo text. IsTextOf repo read about.now text)))
+        client result.1 result.0 }
+{
+    let question = Copying { alloc: host.alloc };
+    let (client, looked) = look(host, client, &question);
+    match looked {
+        Ok((copies, _rests)) => {
+            let text = long_text(host.alloc, copies, read, about, long);
+            (client, Ok(told(text)))
+        }
         Err(fault) => (client, Err(fault)),
     }
 }
@@ -191,7 +222,7 @@ fn answer_batch<J: Storing<A>, D: Device, A: Allocator + Copy, R: Wait>(
 ) -> (Client<J, A>, Result<Answer<A>, NotStored>)
     ensures { let commands = commands_of (argument_in fields.now (codes "cmds")) in
         Answered (OrLacks (AnswersBatch J.first (AreKept D.seen D.may_leave J.head J.stored J.first) commands
-        (all_read commands))) client result.1 result.0 }
+        (why_refused commands))) client result.1 result.0 }
 {
     match read_batch(host.alloc, argument(fields, b"cmds".as_slice())) {
         Ok(commands) => tell_all(host, client, commands.as_slice()),
@@ -206,10 +237,13 @@ fn tell_all<J: Storing<A>, D: Device, A: Allocator + Copy, R: Wait>(
     commands: &[hg_told::Command<A>],
 ) -> (Client<J, A>, Result<Answer<A>, NotStored>)
     ensures { Answered (OrLacks (AnswersBatch J.first (AreKept D.seen D.may_leave J.head J.stored J.first)
-        commands.now (all_read commands.now))) client result.1 result.0 }
+        commands.now (why_refused commands.now))) client result.1 result.0 }
 {
-    if !are_reads(commands) {
-        return (client, Ok(Answer::Refused(Refusal::BadBatch)));
+    if let Some(why) = refusal_of(commands) {
+        return (client, Ok(Answer::Refused(why)));
+    }
+    if have_long(commands) {
+        return tell_all_long(host, client, commands);
     }
     let question = Batch {
         alloc: host.alloc,
@@ -218,6 +252,30 @@ fn tell_all<J: Storing<A>, D: Device, A: Allocator + Copy, R: Wait>(
     let (client, looked) = look(host, client, &question);
     match looked {
         Ok((text, _rests)) => (client, Ok(told(text))),
+        Err(fault) => (client, Err(fault)),
+    }
+}
+
+/// Answers the commands of a batch of which some go through all changesets: one look copies what these are told
+/// of, and each kind of them costs one pass over the copies.
+fn tell_all_long<J: Storing<A>, D: Device, A: Allocator + Copy, R: Wait>(
+    host: &Host<'_, J, D, R, A>,
+    client: Client<J, A>,
+    commands: &[hg_told::Command<A>],
+) -> (Client<J, A>, Result<Answer<A>, NotStored>)
+    ensures { Answered (OrLacks (IsToldAt J.first (AreKept D.seen D.may_leave J.head J.stored J.first)
+        (λ repo text. IsBatchText repo commands.now text))) client result.1 result.0 }
+{
+    let question = LongBatch {
+        alloc: host.alloc,
+        commands,
+    };
+    let (client, looked) = look(host, client, &question);
+    match looked {
+        Ok((brought, _rests)) => {
+            let text = batch_text(host.alloc, brought, commands);
+            (client, Ok(told(text)))
+        }
         Err(fault) => (client, Err(fault)),
     }
 }

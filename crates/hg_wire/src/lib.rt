@@ -14,8 +14,11 @@
 
 mod answering;
 mod body;
+mod bound;
 mod budget;
+mod copies;
 mod key;
+mod long;
 mod looking;
 mod push;
 mod reading;

@@ -4,16 +4,19 @@ ghost use Rattle.std.specs.Prelude.{◌≡◌, ◌≤◌};
 ghost use Rattle.hg_types.specs.Limits.{IsAllowed};
 
 mod conversations;
+mod cuts;
 mod device;
+mod forms;
 mod heads;
 mod memory;
 mod pieces;
+mod refused;
 mod requests;
 mod views;
 
 use crate::tests::conversations::{
-    ASKED_0, ASKED_1, ASKED_2, ASKED_3, ASKED_4, OTHER_PUSH, RACED_3, TOLD_0, TOLD_1, TOLD_2,
-    TOLD_3, TOLD_4, TOLD_RACED_3,
+    ASKED_0, ASKED_1, ASKED_2, ASKED_3, ASKED_4, ASKED_5, ASKED_6, OTHER_PUSH, RACED_3, TOLD_0,
+    TOLD_1, TOLD_2, TOLD_3, TOLD_4, TOLD_5, TOLD_6, TOLD_RACED_3,
 };
 use crate::tests::device::Memory;
 use hg_ledger::{Ledger, Parts, Storing};
@@ -201,6 +204,23 @@ fn kept_on<R: RandomSource + Abort>(rt: &R, alloc: Global, device: &Memory) -> u
     found.records.len()
 }
 
+/// The text that was written.
+fn written<R: Abort, E: Drop>(rt: &R, text: Result<String, E>) -> String {
+    match text {
+        Ok(text) => text,
+        Err(_) => panic!(rt; "no memory"),
+    }
+}
+
+/// These bytes, one after the other.
+fn joined<R: Abort>(rt: &R, alloc: Global, pieces: &[&[u8]]) -> Vec<u8> {
+    let mut all = Vec::new(alloc);
+    for piece in pieces {
+        assert!(rt; all.extend_from_slice(*piece).is_ok(), "there is memory");
+    }
+    all
+}
+
 fn client_of<J: Naming<A>, A: Allocator + Copy, R: Wait + Abort>(
     rt: &R,
     server: &Server<J, A>,
@@ -276,6 +296,7 @@ fn play<J: Storing<Global>, R: RandomSource + Wait + Abort>(
     add(rt, &mut clients, client);
     let Parts {
         log,
+        kept: _,
         is_broken: _,
         witnesses: (first, second),
     } = ledger.into_parts();
@@ -356,6 +377,29 @@ fn a_real_client_asks_for_an_id(rt: HostRuntime) {
         (ASKED_1, TOLD_1),
         (ASKED_2, TOLD_2),
         (ASKED_4, TOLD_4),
+    ];
+    assert_eq!(rt; conversed(&rt, rt.alloc(), &said), 3);
+}
+
+/// A pull is refused by a text, and nothing of it changes what is here.
+#[test]
+fn a_real_client_pulls_in_vain(rt: HostRuntime) {
+    let said = [
+        (ASKED_0, TOLD_0),
+        (ASKED_1, TOLD_1),
+        (ASKED_2, TOLD_2),
+        (ASKED_5, TOLD_5),
+    ];
+    assert_eq!(rt; conversed(&rt, rt.alloc(), &said), 3);
+}
+
+#[test]
+fn a_real_client_has_nothing_to_push(rt: HostRuntime) {
+    let said = [
+        (ASKED_0, TOLD_0),
+        (ASKED_1, TOLD_1),
+        (ASKED_2, TOLD_2),
+        (ASKED_6, TOLD_6),
     ];
     assert_eq!(rt; conversed(&rt, rt.alloc(), &said), 3);
 }

@@ -316,3 +316,66 @@ pub const TOLD_4: &[u8] =
     pe: application/mercurial-0.1\r\ncontent-length: 40\r\n\r\nbookmarks\t\nnamespaces\t\nobsolete\
     \t\nphases\tHTTP/1.1 200 OK\r\ncontent-type: application/mercurial-0.1\r\ncontent-length: 45\r\
     \n\r\nmain\t3f32c9ec310813353620bc414daa26628e9f48be";
+
+/// What `hg pull` sends.
+pub const ASKED_5: &[u8] =
+    b"GET /?cmd=capabilities HTTP/1.1\r\nAccept-Encoding: identity\r\naccept: application/mercuria\
+    l-0.1\r\nhost: 127.0.0.1:46981\r\nuser-agent: mercurial/proto-1.0 (Mercurial 6.3.2)\r\n\r\nGET \
+    /?cmd=listkeys HTTP/1.1\r\nAccept-Encoding: identity\r\nvary: X-HgArg-1,X-HgProto-1\r\nx-hgarg\
+    -1: namespace=bookmarks\r\nx-hgproto-1: partial-pull\r\naccept: application/mercurial-0.1\r\nh\
+    ost: 127.0.0.1:46981\r\nuser-agent: mercurial/proto-1.0 (Mercurial 6.3.2)\r\n\r\nGET /?cmd=bat\
+    ch HTTP/1.1\r\nAccept-Encoding: identity\r\nvary: X-HgArg-1,X-HgProto-1\r\nx-hgarg-1: cmds=hea\
+    ds+%3Bknown+nodes%3Dd2b47496beb8a90bd2875aeb9cefae26d8505b71\r\nx-hgproto-1: partial-pull\r\na\
+    ccept: application/mercurial-0.1\r\nhost: 127.0.0.1:46981\r\nuser-agent: mercurial/proto-1.0 (\
+    Mercurial 6.3.2)\r\n\r\nGET /?cmd=getbundle HTTP/1.1\r\nAccept-Encoding: identity\r\nvary: X-H\
+    gArg-1,X-HgProto-1\r\nx-hgarg-1: bundlecaps=HG20%2Cbundle2%3DHG20%250Abookmarks%250Achangegrou\
+    p%253D01%252C02%250Acheckheads%253Drelated%250Adigests%253Dmd5%252Csha1%252Csha512%250Aerror%2\
+    53Dabort%252Cunsupportedcontent%252Cpushraced%252Cpushkey%250Ahgtagsfnodes%250Alistkeys%250Aob\
+    smarkers%253DV0%252CV1%250Aphases%253Dheads%250Apushkey%250Aremote-changegroup%253Dhttp%252Cht\
+    tps%250Astream%253Dv2&cg=1&common=d2b47496beb8a90bd2875aeb9cefae26d8505b71&heads=2c9e373d819bf\
+    ee7cca63354d0457853fa66f13c+d2b47496beb8a90bd2875aeb9cefae26d8505b71&obsmarkers=1&phases=1\r\n\
+    x-hgproto-1: partial-pull\r\naccept: application/mercurial-0.1\r\nhost: 127.0.0.1:46981\r\nuse\
+    r-agent: mercurial/proto-1.0 (Mercurial 6.3.2)\r\n\r\n";
+
+/// What it is answered, where the changeset that it asks for is not here: when it was recorded another client
+/// had pushed it, and it was a head in the place of `30b653f69f5c`.
+pub const TOLD_5: &[u8] =
+    b"HTTP/1.1 200 OK\r\ncontent-type: application/mercurial-0.1\r\ncontent-length: 224\r\n\r\nbat\
+    ch branchmap bundle2=HG20%0Abookmarks%0Achangegroup%3D01%2C02%0Aerror%3Dabort%2Cunsupportedcon\
+    tent%2Cpushraced%2Cpushkey%0Aobsmarkers%3DV0%0Aphases%3Dheads%0Apushkey getbundle httpheader=1\
+    024 known lookup pushkey unbundleHTTP/1.1 200 OK\r\ncontent-type: application/mercurial-0.1\r\
+    \ncontent-length: 45\r\n\r\nmain\t3f32c9ec310813353620bc414daa26628e9f48beHTTP/1.1 200 OK\r\nc\
+    ontent-type: application/mercurial-0.1\r\ncontent-length: 84\r\n\r\n2c9e373d819bfee7cca63354d0\
+    457853fa66f13c 30b653f69f5c5d07bc0bd38d172d2c1224b7be72\n;0HTTP/1.1 200 OK\r\ncontent-type: ap\
+    plication/hg-error\r\ncontent-length: 32\r\n\r\nthis address takes pushes alone\n";
+
+/// What `hg push -f` of a client sends that writes bundles of the old form and has nothing to push.
+pub const ASKED_6: &[u8] =
+    b"GET /?cmd=capabilities HTTP/1.1\r\nAccept-Encoding: identity\r\naccept: application/mercuria\
+    l-0.1\r\nhost: 127.0.0.1:46981\r\nuser-agent: mercurial/proto-1.0 (Mercurial 6.3.2)\r\n\r\nGET \
+    /?cmd=batch HTTP/1.1\r\nAccept-Encoding: identity\r\nvary: X-HgArg-1,X-HgProto-1\r\nx-hgarg-1: \
+    cmds=heads+%3Bknown+nodes%3Dd2b47496beb8a90bd2875aeb9cefae26d8505b71\r\nx-hgproto-1: partial-p\
+    ull\r\naccept: application/mercurial-0.1\r\nhost: 127.0.0.1:46981\r\nuser-agent: mercurial/pro\
+    to-1.0 (Mercurial 6.3.2)\r\n\r\nGET /?cmd=listkeys HTTP/1.1\r\nAccept-Encoding: identity\r\nva\
+    ry: X-HgArg-1,X-HgProto-1\r\nx-hgarg-1: namespace=phases\r\nx-hgproto-1: partial-pull\r\naccep\
+    t: application/mercurial-0.1\r\nhost: 127.0.0.1:46981\r\nuser-agent: mercurial/proto-1.0 (Merc\
+    urial 6.3.2)\r\n\r\nGET /?cmd=listkeys HTTP/1.1\r\nAccept-Encoding: identity\r\nvary: X-HgArg-\
+    1,X-HgProto-1\r\nx-hgarg-1: namespace=bookmarks\r\nx-hgproto-1: partial-pull\r\naccept: applic\
+    ation/mercurial-0.1\r\nhost: 127.0.0.1:46981\r\nuser-agent: mercurial/proto-1.0 (Mercurial 6.3\
+    .2)\r\n\r\nGET /?cmd=listkeys HTTP/1.1\r\nAccept-Encoding: identity\r\nvary: X-HgArg-1,X-HgPro\
+    to-1\r\nx-hgarg-1: namespace=phases\r\nx-hgproto-1: partial-pull\r\naccept: application/mercur\
+    ial-0.1\r\nhost: 127.0.0.1:46981\r\nuser-agent: mercurial/proto-1.0 (Mercurial 6.3.2)\r\n\r\n";
+
+/// What it is answered, where that changeset is not here.
+pub const TOLD_6: &[u8] =
+    b"HTTP/1.1 200 OK\r\ncontent-type: application/mercurial-0.1\r\ncontent-length: 224\r\n\r\nbat\
+    ch branchmap bundle2=HG20%0Abookmarks%0Achangegroup%3D01%2C02%0Aerror%3Dabort%2Cunsupportedcon\
+    tent%2Cpushraced%2Cpushkey%0Aobsmarkers%3DV0%0Aphases%3Dheads%0Apushkey getbundle httpheader=1\
+    024 known lookup pushkey unbundleHTTP/1.1 200 OK\r\ncontent-type: application/mercurial-0.1\r\
+    \ncontent-length: 84\r\n\r\n2c9e373d819bfee7cca63354d0457853fa66f13c 30b653f69f5c5d07bc0bd38d1\
+    72d2c1224b7be72\n;0HTTP/1.1 200 OK\r\ncontent-type: application/mercurial-0.1\r\ncontent-lengt\
+    h: 85\r\n\r\n30b653f69f5c5d07bc0bd38d172d2c1224b7be72\t1\n3f32c9ec310813353620bc414daa26628e9f\
+    48be\t1HTTP/1.1 200 OK\r\ncontent-type: application/mercurial-0.1\r\ncontent-length: 45\r\n\r\
+    \nmain\t3f32c9ec310813353620bc414daa26628e9f48beHTTP/1.1 200 OK\r\ncontent-type: application/m\
+    ercurial-0.1\r\ncontent-length: 85\r\n\r\n30b653f69f5c5d07bc0bd38d172d2c1224b7be72\t1\n3f32c9e\
+    c310813353620bc414daa26628e9f48be\t1";

@@ -161,3 +161,93 @@ fn texts_of_no_form_are_taken(rt: HostRuntime) {
     assert!(rt; map.windows(others.len()).any(|window| window == others));
     assert_eq!(rt; map.len(), 6 * 41 + 1 + 4 + 7 + 2);
 }
+
+/// Branches whose names hold the bytes 9, 10, 13 and 0, and what else is quoted: each is told on a line of
+/// its own.
+#[test]
+fn branches_of_all_names_are_told(rt: HostRuntime) {
+    let alloc = rt.alloc();
+    let names = [
+        " branch:t\tb",
+        " branch:l\\nf",
+        " branch:r\\rf",
+        " branch:n\\0z",
+        " branch:b\\\\s",
+        " branch:c:d,e=f/g~h-i_j.k",
+    ];
+    let mut texts = Vec::new(alloc);
+    for (number, name) in names.iter().enumerate() {
+        assert!(rt; texts.push(text_of(&rt, alloc, number, *name)).is_ok());
+    }
+    let bundle = bundle_of(&rt, alloc, texts.as_slice());
+    let pushed = push_of(&rt, alloc, bundle.as_slice());
+    let asked = b"GET /?cmd=branchmap HTTP/1.1\r\nhost: a\r\n\r\n";
+    let told = told_behind(&rt, alloc, &pushed, asked);
+    let quoted = [
+        "b%5Cs ",
+        "c%3Ad%2Ce%3Df/g~h-i_j.k ",
+        "l%0Af ",
+        "n%00z ",
+        "r%0Df ",
+        "t%09b ",
+    ];
+    let lines = body_of(told.as_slice()).split(|byte| *byte == 10);
+    let mut count = 0usize;
+    for (line, name) in lines.zip(quoted.iter()) {
+        assert!(rt; line.starts_with(name.as_bytes()), "{name}");
+        assert_eq!(rt; line.len(), name.len() + 40);
+        count = count.saturating_add(1);
+    }
+    assert_eq!(rt; count, 6);
+    let feeds = body_of(told.as_slice())
+        .iter()
+        .filter(|byte| **byte == 10)
+        .count();
+    assert_eq!(rt; feeds, 5);
+}
+
+/// Three hundred heads are asked for again, in thirteen fields that are cut anywhere: each is known.
+#[test]
+fn three_hundred_ids_are_known(rt: HostRuntime) {
+    let alloc = rt.alloc();
+    let mut texts = Vec::new(alloc);
+    for number in 0..300usize {
+        assert!(rt; texts.push(text_of(&rt, alloc, number, "")).is_ok());
+    }
+    let bundle = bundle_of(&rt, alloc, texts.as_slice());
+    let pushed = push_of(&rt, alloc, bundle.as_slice());
+    let told = told_behind(
+        &rt,
+        alloc,
+        &pushed,
+        b"GET /?cmd=heads HTTP/1.1\r\nhost: a\r\n\r\n",
+    );
+    let mut arguments = joined(&rt, alloc, &[b"nodes=".as_slice()]);
+    for byte in body_of(told.as_slice()) {
+        match *byte {
+            b' ' => assert!(rt; arguments.push(b'+').is_ok()),
+            10 => {}
+            digit => assert!(rt; arguments.push(digit).is_ok()),
+        }
+    }
+    let mut asked = joined(
+        &rt,
+        alloc,
+        &[b"GET /?cmd=known HTTP/1.1\r\nhost: a\r\n".as_slice()],
+    );
+    for (number, piece) in arguments.as_slice().chunks(999).enumerate() {
+        let place = number.saturating_add(1);
+        match format!(in alloc; "x-hgarg-{place}: ") {
+            Ok(name) => {
+                let field = joined(&rt, alloc, &[name.as_bytes(), piece, b"\r\n".as_slice()]);
+                assert!(rt; asked.extend_from_slice(field.as_slice()).is_ok());
+            }
+            Err(_) => panic!(rt; "no memory"),
+        }
+    }
+    assert!(rt; asked.extend_from_slice(b"\r\n").is_ok());
+    let told = told_behind(&rt, alloc, &pushed, asked.as_slice());
+    let known = body_of(told.as_slice());
+    assert_eq!(rt; known.len(), 300);
+    assert!(rt; known.iter().all(|byte| *byte == b'1'));
+}

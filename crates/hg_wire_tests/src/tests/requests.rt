@@ -3,7 +3,7 @@
 use super::*;
 
 /// A request without a body, and its arguments in the field for them.
-fn get<R: Abort>(rt: &R, alloc: Global, command: &str, arguments: &str) -> Vec<u8> {
+pub fn get<R: Abort>(rt: &R, alloc: Global, command: &str, arguments: &str) -> Vec<u8> {
     let asked = format!(in alloc;
         "GET /?cmd={command} HTTP/1.1\r\nhost: a\r\nx-hgarg-1: {arguments}\r\n\r\n"
     );
@@ -39,7 +39,7 @@ fn bytes_of<R: Abort, E: Drop>(rt: &R, text: Result<String, E>) -> Vec<u8> {
 }
 
 /// What an answer of that type is, whole.
-fn said<R: Abort>(rt: &R, alloc: Global, kind: &str, body: &str) -> Vec<u8> {
+pub fn said<R: Abort>(rt: &R, alloc: Global, kind: &str, body: &str) -> Vec<u8> {
     let length = body.len();
     let told = format!(in alloc;
         "HTTP/1.1 200 OK\r\ncontent-type: application/{kind}\r\ncontent-length: {length}\r\n\r\n{body}"
@@ -47,9 +47,9 @@ fn said<R: Abort>(rt: &R, alloc: Global, kind: &str, body: &str) -> Vec<u8> {
     bytes_of(rt, told)
 }
 
-const CLIENT: &str = "content-type: application/mercurial-0.1\r\n";
+pub const CLIENT: &str = "content-type: application/mercurial-0.1\r\n";
 
-const TOLD: &str = "mercurial-0.1";
+pub const TOLD: &str = "mercurial-0.1";
 
 const REFUSED: &str = "hg-error";
 

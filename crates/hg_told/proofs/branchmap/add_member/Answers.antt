@@ -1,17 +1,14 @@
-use Rattle.std.proofs.Common.{◌∙◌, ap, subst, sym, List, ℕ, ◌++◌, Vec, map}
+use Rattle.std.proofs.Common.{◌∙◌, ap, subst, sym, ℕ, Vec, map}
 use Rattle.std.specs.BTreeMap.{insert_entry}
 use Rattle.std.specs.Cmp.Lexicographic.{slice_cmp}
 use Rattle.std.specs.Ordering.{nat_cmp}
-use Rattle.hg_told.specs.Branch.{branch_of}
-use Rattle.hg_told.specs.code.Branches.{text_of, IsKept}
+use Rattle.hg_told.specs.code.Branches.{IsKept}
 use Rattle.hg_told.proofs.Branching.{kept_insert, kept_set}
 use Rattle.hg_told.proofs.branchmap.add_member.Goals as goal
 
 pub returns-in_ok-push-in-Some : goal.returns-in_ok-push-in-Some
 returns-in_ok-push-in-Some g c =
-    let named = c.as_slice.ensures.value ∙ c.in_ok-push_branch.ensures
-    ∙ ap (λ (t : List ℕ). t ++ branch_of c.text.result.now) c.new-name.ensures.items
-    ∙ ap branch_of (sym c.text.ensures.text_is) ∙ ap (λ o. branch_of (text_of o)) (sym c.text.ensures.row_at) in
+    let named = c.as_slice.ensures.value ∙ c.in_ok-name.ensures.items ∙ c.branch-view.ensures in
     let written = c.get_mut.follows.holds c.push.new.self in
     subst (λ name. IsKept name c.args.rev (map (λ e. (e.0.items, e.1.items)) c.args.members.now.entries)
     (map (λ e. (e.0.items, e.1.items)) (c.get_mut.follows.lender c.push.new.self).entries)) named
@@ -21,15 +18,13 @@ returns-in_ok-push-in-Some g c =
 
 pub returns-in_ok-insert-in-None : goal.returns-in_ok-insert-in-None
 returns-in_ok-insert-in-None g c =
-    let named = c.as_slice.ensures.value ∙ c.in_ok-push_branch.ensures
-    ∙ ap (λ (t : List ℕ). t ++ branch_of c.text.result.now) c.new-name.ensures.items
-    ∙ ap branch_of (sym c.text.ensures.text_is) ∙ ap (λ o. branch_of (text_of o)) (sym c.text.ensures.row_at) in
+    let named = c.as_slice.ensures.value ∙ c.in_ok-name.ensures.items ∙ c.branch-view.ensures in
     subst (λ name. IsKept name c.args.rev (map (λ e. (e.0.items, e.1.items)) c.args.members.now.entries)
     (map (λ e. (e.0.items, e.1.items)) c.insert.new.self.entries)) named
     (kept_insert (λ (v : Vec ℕ g.row.A.Denot). v.items) (λ (v : Vec ℕ g.row.A.Denot). v.items)
-    c.push_branch.new.name c.as_slice.result.now c.args.rev _ _ c.in_ok-revs-in-None.revs
+    c.in_ok-name.name c.as_slice.result.now c.args.rev _ _ c.in_ok-revs-in-None.revs
     (sym c.as_slice.ensures.value) c.in-None.ensures.value
     (c.in_ok-insert-in-None.ensures.entries
     ∙ ap (λ m. insert_entry (λ (x y : Vec ℕ g.row.A.Denot). slice_cmp nat_cmp x.items y.items) m.entries
-    c.push_branch.new.name c.in_ok-revs-in-None.revs) c.get_mut.follows.holds-at-none)
+    c.in_ok-name.name c.in_ok-revs-in-None.revs) c.get_mut.follows.holds-at-none)
     c.in_ok-revs-in-None.ensures.items c.in_ok-insert-in-None.ensures.ordered)

@@ -37,5 +37,5 @@ returns-clause-branches g c =
     let same : shown ≡ map view c.in_ok-members.members.entries = sym (append-nil shown)
     ∙ ap (λ es. shown ++ map view es) (sym none) ∙ c.loop-name.invariant
     ∙ ap (map view) c.into_iter-name-iterator.ensures.into_iter_gives.0 in
-    let rows = c.args.log.now.rows in
+    let rows = c.args.view.now.rows in
     subst (λ bs. AreBranches rows c.args.hidden.now (length rows) bs) (sym same) c.in_ok-members.ensures.members

@@ -11,7 +11,7 @@ use Rattle.hg_told.proofs.branchmap.branchmap_text.Goals as goal
 
 pub push_lines-requires : goal.push_lines-requires
 push_lines-requires g c =
-    let rows = c.args.log.now.rows in
+    let rows = c.args.view.now.rows in
     let seen = λ (b : Branch g.row.A.Denot). let pair : List ℕ × List ℕ = (b.name.items, b.revs.items) in pair in
     let bs = c.in_ok-branches.branches.items in
     subst (λ bs. All (λ (b : Branch g.row.A.Denot). All (λ r. r < length rows) b.revs.items) bs)
@@ -22,11 +22,11 @@ push_lines-requires g c =
 
 pub returns : goal.returns
 returns g c =
-    let rows = c.args.log.now.rows in
+    let rows = c.args.view.now.rows in
     let seen = λ (b : Branch g.row.A.Denot). let pair : List ℕ × List ℕ = (b.name.items, b.revs.items) in pair in
     let bs = c.in_ok-branches.branches.items in
-    map_told rows c.args.markers.now c.as_slice.result.now
-    (subst (AreHidden rows c.args.markers.now) (sym c.as_slice.ensures) c.in_ok-hidden.ensures)
+    map_told rows c.args.view.now.markers c.as_slice.result.now
+    (subst (AreHidden rows c.args.view.now.markers) (sym c.as_slice.ensures) c.in_ok-hidden.ensures)
     c.in_ok-branches.ensures.lawful (map seen bs) c.in_ok-branches.ensures.branches _
     (c.joined.ensures
     ∙ lines_joined _ _ _ c.new-lines.ensures.items c.in_ok-push_lines.ensures

@@ -6,7 +6,7 @@ use Rattle.hg_told.proofs.branchmap.members_of.Goals.{then-not-hidden-rev+in_ok-
 
 pub loop-rev-init : goal.loop-rev-init
 loop-rev-init g c =
-    let rows = c.args.log.now.rows in (
+    let rows = c.args.view.now.rows in (
       omega arith,
       subst (λ es. AreBranches rows c.args.hidden.now 0 (map (λ e. (e.0.items, e.1.items)) es))
           (sym c.new-members.ensures.empty) (branches_none rows c.args.hidden.now),
@@ -14,7 +14,7 @@ loop-rev-init g c =
 
 pub loop-rev-preserved : goal.loop-rev-preserved
 loop-rev-preserved g c =
-    let rows = c.args.log.now.rows in
+    let rows = c.args.view.now.rows in
     let hidden = c.args.hidden.now in
     let n = c.loop-rev.rev in
     let held = c.loop-rev.invariant.1 in
@@ -34,7 +34,7 @@ loop-rev-preserved g c =
 
 pub returns-clause-members : goal.returns-clause-members
 returns-clause-members g c =
-    let rows = c.args.log.now.rows in
+    let rows = c.args.view.now.rows in
     let last : c.loop-rev.rev ≡ length rows = omega (arith, c.loop-rev.invariant.0, c.loop-rev-test.false) in
     subst (λ n. AreBranches rows c.args.hidden.now n (map (λ e. (e.0.items, e.1.items)) c.loop-rev.members.entries)) last
     c.loop-rev.invariant.1

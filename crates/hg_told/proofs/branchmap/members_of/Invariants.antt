@@ -4,5 +4,5 @@ use Rattle.hg_told.proofs.branchmap.members_of.Given as goal
 
 -- the branches of the rows so far
 abbrev pub invariant-loop-rev : goal.invariant-loop-rev
-invariant-loop-rev g l = (l.rev ≤ length l.log.rows)
-    × AreBranches l.log.rows l.hidden l.rev (map (λ e. (e.0.items, e.1.items)) l.members.entries)
+invariant-loop-rev g l = (l.rev ≤ length l.view.rows)
+    × AreBranches l.view.rows l.hidden l.rev (map (λ e. (e.0.items, e.1.items)) l.members.entries)

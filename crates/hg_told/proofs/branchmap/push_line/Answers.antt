@@ -15,7 +15,7 @@ loop-rev-init g c =
 
 pub loop-rev-preserved : goal.loop-rev-preserved
 loop-rev-preserved g c =
-    let rows = c.args.log.now.rows in
+    let rows = c.args.view.now.rows in
     let revs = c.args.branch.now.revs.items in
     let items = c.as_slice-rev-items.result.now in
     let i = c.loop-rev.rev-index in
@@ -39,7 +39,7 @@ loop-rev-preserved g c =
 
 pub returns : goal.returns
 returns g c =
-    line_whole (head_word c.args.log.now.rows) (is_last_in c.args.log.now.rows c.args.branch.now.revs.items)
+    line_whole (head_word c.args.view.now.rows) (is_last_in c.args.view.now.rows c.args.branch.now.revs.items)
     c.args.lines.now.items (quoted c.args.branch.now.name.items) c.loop-rev.lines.items _
     c.as_slice-rev-items.result.now _ c.loop-rev.rev-index c.loop-rev-test.false c.as_slice-rev-items.ensures.value
     c.loop-rev.invariant c.in_ok-push.ensures.items

@@ -7,5 +7,5 @@ use Rattle.hg_told.proofs.branchmap.push_line.Given as goal
 -- the name, and the heads among the changesets so far
 abbrev pub invariant-loop-rev : goal.invariant-loop-rev
 invariant-loop-rev g l = l.lines.items ≡ (l.fn.lines.items ++ quoted l.branch.name.items)
-    ++ flat_map (head_word l.log.rows)
-    (filter (is_last_in l.log.rows l.branch.revs.items) (take l.rev-index l.rev-items))
+    ++ flat_map (head_word l.view.rows)
+    (filter (is_last_in l.view.rows l.branch.revs.items) (take l.rev-index l.rev-items))

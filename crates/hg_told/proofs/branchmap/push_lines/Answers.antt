@@ -12,24 +12,24 @@ loop-rest-init g c = (refl, c.requires)
 
 pub push_some_lines-requires-clause-within : goal.push_some_lines-requires-clause-within
 push_some_lines-requires-clause-within g c =
-    subst (λ bs. All (λ (b : Branch g.row.A.Denot). All (λ r. r < length c.args.log.now.rows) b.revs.items) bs)
+    subst (λ bs. All (λ (b : Branch g.row.A.Denot). All (λ r. r < length c.args.view.now.rows) b.revs.items) bs)
     (sym c.split_at.ensures.front)
-    (All-take (λ (b : Branch g.row.A.Denot). All (λ r. r < length c.args.log.now.rows) b.revs.items) _
+    (All-take (λ (b : Branch g.row.A.Denot). All (λ r. r < length c.args.view.now.rows) b.revs.items) _
     c.loop-rest.rest.now c.loop-rest.invariant.1)
 
 pub loop-rest-preserved : goal.loop-rest-preserved
 loop-rest-preserved g c = (
-  lines_left (λ (b : Branch g.row.A.Denot). kept_line c.args.log.now.rows (b.name.items, b.revs.items))
+  lines_left (λ (b : Branch g.row.A.Denot). kept_line c.args.view.now.rows (b.name.items, b.revs.items))
       c.loop-rest.rest.now c.split_at.result.0.now c.split_at.result.1.now _ c.loop-rest.lines.items _ _
       c.split_at.ensures.front c.split_at.ensures.back c.loop-rest.invariant.0 c.in_ok-push_some_lines.ensures,
-  subst (λ bs. All (λ (b : Branch g.row.A.Denot). All (λ r. r < length c.args.log.now.rows) b.revs.items) bs)
+  subst (λ bs. All (λ (b : Branch g.row.A.Denot). All (λ r. r < length c.args.view.now.rows) b.revs.items) bs)
       (sym c.split_at.ensures.back)
-      (All-drop (λ (b : Branch g.row.A.Denot). All (λ r. r < length c.args.log.now.rows) b.revs.items) _
+      (All-drop (λ (b : Branch g.row.A.Denot). All (λ r. r < length c.args.view.now.rows) b.revs.items) _
       c.loop-rest.rest.now c.loop-rest.invariant.1),
 )
 
 pub returns : goal.returns
 returns g c =
-    lines_done (λ (b : Branch g.row.A.Denot). kept_line c.args.log.now.rows (b.name.items, b.revs.items))
+    lines_done (λ (b : Branch g.row.A.Denot). kept_line c.args.view.now.rows (b.name.items, b.revs.items))
     c.loop-rest.rest.now _ _ (eqb-true (length c.loop-rest.rest.now) 0 (sym c.loop-rest-test.ensures))
     c.loop-rest.invariant.0

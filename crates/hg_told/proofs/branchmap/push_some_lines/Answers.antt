@@ -10,12 +10,12 @@ use Rattle.hg_told.proofs.branchmap.push_some_lines.Goals as goal
 
 pub loop-place-init : goal.loop-place-init
 loop-place-init g c =
-    lines_none (λ (b : Branch g.row.A.Denot). kept_line c.args.log.now.rows (b.name.items, b.revs.items))
+    lines_none (λ (b : Branch g.row.A.Denot). kept_line c.args.view.now.rows (b.name.items, b.revs.items))
     c.args.branches.now c.args.lines.now.items
 
 pub push_line-requires-clause-last : goal.push_line-requires-clause-last
 push_line-requires-clause-last g c =
-    let rows = c.args.log.now.rows in
+    let rows = c.args.view.now.rows in
     let branches = c.args.branches.now in
     let p = c.loop-place.place in
     let lists : List (List ℕ) = map (λ b. b.revs.items) branches in
@@ -33,13 +33,13 @@ push_line-requires-clause-last g c =
 
 pub loop-place-preserved : goal.loop-place-preserved
 loop-place-preserved g c =
-    lines_more (λ (b : Branch g.row.A.Denot). kept_line c.args.log.now.rows (b.name.items, b.revs.items))
+    lines_more (λ (b : Branch g.row.A.Denot). kept_line c.args.view.now.rows (b.name.items, b.revs.items))
     c.args.branches.now c.loop-place.place c.index-branches-place.result c.args.lines.now.items
     c.loop-place.lines.items _ c.loop-place-test.true c.index-branches-place.is c.loop-place.invariant
     c.in_ok-push_line.ensures
 
 pub returns : goal.returns
 returns g c =
-    lines_all (λ (b : Branch g.row.A.Denot). kept_line c.args.log.now.rows (b.name.items, b.revs.items))
+    lines_all (λ (b : Branch g.row.A.Denot). kept_line c.args.view.now.rows (b.name.items, b.revs.items))
     c.args.branches.now c.loop-place.place c.args.lines.now.items c.loop-place.lines.items c.loop-place-test.false
     c.loop-place.invariant

@@ -7,4 +7,4 @@ use Rattle.hg_told.proofs.branchmap.push_some_lines.Given as goal
 -- the lines of the branches so far
 abbrev pub invariant-loop-place : goal.invariant-loop-place
 invariant-loop-place g l = l.lines.items ≡ l.fn.lines.items ++ flat_map (ended 10)
-    (map (λ b. kept_line l.log.rows (b.name.items, b.revs.items)) (take l.place l.branches))
+    (map (λ b. kept_line l.view.rows (b.name.items, b.revs.items)) (take l.place l.branches))

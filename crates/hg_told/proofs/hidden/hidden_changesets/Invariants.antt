@@ -4,5 +4,5 @@ use Rattle.hg_told.proofs.hidden.hidden_changesets.Given as goal
 
 -- those so far
 abbrev pub invariant-loop-rev : goal.invariant-loop-rev
-invariant-loop-rev g l = (length l.hidden.items ≡ l.rev) × (l.rev ≤ length l.log.rows)
-    × ((r : ℕ) → r < l.rev → (get_or l.hidden.items r false ≡ true) ↔ IsHidden l.log.rows l.markers r)
+invariant-loop-rev g l = (length l.hidden.items ≡ l.rev) × (l.rev ≤ length l.view.rows)
+    × ((r : ℕ) → r < l.rev → (get_or l.hidden.items r false ≡ true) ↔ IsHidden l.view.rows l.view.markers r)

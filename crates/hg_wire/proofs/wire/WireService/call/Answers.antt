@@ -1,4 +1,4 @@
-use Rattle.std.proofs.Common.{◌≡◌, ◌∙◌, ap, subst, sym}
+use Rattle.std.proofs.Common.{◌∙◌, ap, subst, sym}
 use Rattle.hg_ledger.specs.Records.{AreKept}
 use Rattle.hg_wire.specs.Answering.{around_of, Answers}
 use Rattle.hg_wire.specs.Pushes.{Answered}

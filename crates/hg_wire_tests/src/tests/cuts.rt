@@ -1,0 +1,106 @@
+//! A connection that ends at any byte, and requests with a byte that is another.
+
+use super::*;
+
+/// The answer to a request of which the connection has a part alone.
+const TRUNCATED: &[u8] =
+    b"HTTP/1.1 400 Bad Request\r\nconnection: close\r\ncontent-length: 0\r\n\r\n";
+
+/// Where the pieces begin that begin so.
+fn places_of<R: Abort>(rt: &R, alloc: Global, bytes: &[u8], starts: &[&[u8]]) -> Vec<usize> {
+    let mut places = Vec::new(alloc);
+    for place in 0..bytes.len() {
+        for start in starts {
+            if bytes[place..].starts_with(*start) {
+                assert!(rt; places.push(place).is_ok());
+            }
+        }
+    }
+    places
+}
+
+/// A whole conversation that ends at a byte, of all requests and of each the first and last ones: the whole
+/// requests before it are answered, of the one that is cut nothing is done, and who comes then is served.
+#[test]
+fn a_conversation_is_cut_at_many_bytes(rt: HostRuntime) {
+    let alloc = rt.alloc();
+    let asked = places_of(&rt, alloc, ASKED_0, &[b"GET /?cmd=", b"POST /?cmd="]);
+    let told = places_of(&rt, alloc, TOLD_0, &[b"HTTP/1.1 200 OK\r\n"]);
+    assert_eq!(rt; asked.len(), 7);
+    assert_eq!(rt; told.len(), 7);
+    for count in 0..ASKED_0.len() {
+        if count % 11 != 0 && !asked.iter().any(|place| place.abs_diff(count) < 4) {
+            continue;
+        }
+        let whole = asked
+            .iter()
+            .filter(|place| **place != 0 && **place <= count)
+            .count();
+        let mut wanted = Vec::new(alloc);
+        let end = match told.as_slice().get(whole) {
+            Some(end) => *end,
+            None => panic!(rt; "an answer too much"),
+        };
+        assert!(rt; wanted.extend_from_slice(&TOLD_0[..end]).is_ok());
+        if !asked.iter().any(|place| *place == count) {
+            assert!(rt; wanted.extend_from_slice(TRUNCATED).is_ok());
+        }
+        let step = 1 + count % 97;
+        let left = served(&rt, alloc, &[&ASKED_0[..count]], Way { step, ..PLAIN });
+        assert!(rt; left.finish == Finish::Done, "{count}");
+        assert!(rt; left.told == wanted, "{count}");
+        // the push is the sixth request
+        assert_eq!(rt; left.kept, whole / 6, "{count}");
+        if count % 61 == 0 && whole < 6 {
+            let left = served(&rt, alloc, &[&ASKED_0[..count], ASKED_0], PLAIN);
+            assert!(rt; left.told.as_slice() == TOLD_0);
+            assert_eq!(rt; left.kept, 1);
+        }
+    }
+}
+
+/// A push that ends at each byte of its head and its body: nothing of it is done.
+#[test]
+fn a_push_is_cut_at_each_byte(rt: HostRuntime) {
+    let alloc = rt.alloc();
+    let asked = places_of(&rt, alloc, ASKED_0, &[b"GET /?cmd=", b"POST /?cmd="]);
+    let push = match (asked.as_slice().get(5), asked.as_slice().get(6)) {
+        (Some(start), Some(end)) => &ASKED_0[*start..*end],
+        _ => panic!(rt; "no push"),
+    };
+    for count in 1..push.len() {
+        let left = served(&rt, alloc, &[&push[..count]], PLAIN);
+        assert!(rt; left.finish == Finish::Done, "{count}");
+        assert!(rt; left.told.as_slice() == TRUNCATED, "{count}");
+        assert_eq!(rt; left.journal, 0, "{count}");
+        assert_eq!(rt; left.kept, 0, "{count}");
+    }
+}
+
+/// One byte of a conversation is another, at every third place and by turns with each of a few values:
+/// whatever is told begins as an answer, what is stored is what was done, and who comes then is served.
+#[test]
+fn a_conversation_is_damaged(rt: HostRuntime) {
+    let alloc = rt.alloc();
+    let values = [0u8, 10, 13, 32, 37, 38, 43, 48, 58, 59, 61, 127, 255];
+    for place in 0..ASKED_0.len() {
+        if place % 3 != 0 {
+            continue;
+        }
+        let mut asked = joined(&rt, alloc, &[ASKED_0]);
+        let value = values[place % 13];
+        asked[place] = value;
+        let left = served(&rt, alloc, &[asked.as_slice()], PLAIN);
+        assert!(rt; left.finish == Finish::Done, "{place}");
+        assert!(rt; left.told.starts_with(b"HTTP/1.1 "), "{place}");
+        assert!(rt; left.journal <= 1, "{place}");
+        assert_eq!(rt; left.kept, left.journal, "{place}");
+        if place % 60 == 0 {
+            let more = b"GET /?cmd=known&nodes= HTTP/1.1\r\nhost: a\r\n\r\n";
+            let left = served(&rt, alloc, &[asked.as_slice(), more], PLAIN);
+            assert!(rt; left.finish == Finish::Done);
+            assert!(rt; left.told.starts_with(b"HTTP/1.1 200 OK\r\n"), "{place}");
+            assert_eq!(rt; left.kept, left.journal);
+        }
+    }
+}
