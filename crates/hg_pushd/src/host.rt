@@ -1,9 +1,177 @@
-//! A store that is served over HTTP.
+//! A store that is served over HTTP: how it begins, and what is told of it.
 
-use hg_command::Hosting;
+ghost use Rattle.hg_host.specs.Hosting.{IsOpened};
+
+use crate::standard::device_status;
+use hg_archive::TornNote;
+use hg_command::{Hosting, tell};
+use hg_host::{HostTerms, OpeningFault, Over, Recovered, host as serve_store, recover_store};
+use hg_store::{Device, HostFile, StoreFile};
+use std::fs::{File, Files};
 use std::hash::RandomState;
+use std::io;
+use std::net::{Net, SocketAddr, TcpListener, TcpStream};
+use std::random::RandomSource;
+use std::sync::Wait;
+use std::thread::Threads;
+use std::time::Clock;
 
-/// The status of `host`, which is not part of the program yet: that of a device that failed. Nothing is told.
-pub fn host<R>(_rt: &R, _state: RandomState, _hosting: &Hosting<'_>) -> u8 {
-    3
+/// Opens the store, binds the address, tells where it listens, and serves until the store fails, in this order.
+/// Gives the status; what ends it is told.
+pub fn host<R>(rt: &R, state: RandomState, hosting: &Hosting<'_>) -> u8
+where
+    R: Files<File = File>
+        + Eprint
+        + AllocGlobal
+        + RandomSource
+        + Net<Listener = TcpListener, Stream = TcpStream>
+        + Threads
+        + Wait
+        + Clock
+        + Sync,
+{
+    match recover_store(rt, rt.alloc(), state, hosting.store, hosting.publishing) {
+        Ok(recovered) => listen(rt, hosting, recovered),
+        Err(fault) => not_opened(rt, hosting.store, &fault),
+    }
+}
+
+/// Binds the address, and serves what was recovered. Where the numbers of pushes come to their end, the store is
+/// opened again, and pushes are numbered anew.
+fn listen<R>(rt: &R, hosting: &Hosting<'_>, recovered: Recovered<StoreFile<HostFile>>) -> u8
+where
+    R: Files<File = File>
+        + Eprint
+        + AllocGlobal
+        + RandomSource
+        + Net<Listener = TcpListener, Stream = TcpStream>
+        + Threads
+        + Wait
+        + Clock
+        + Sync,
+    requires { IsOpened ⟦<StoreFile<HostFile> as Device>⟧.seen
+        ⟦<StoreFile<HostFile> as Device>⟧.may_leave recovered }
+{
+    match bind(rt, hosting.listen) {
+        Ok((listener, address)) => {
+            tell_listening(rt, address, &recovered);
+            let terms = terms_of(hosting);
+            match serve_store(rt, rt.alloc(), terms, &listener, address, recovered) {
+                Over::NumbersEnd => serve_again(rt, hosting, &listener, address),
+                over => ended(rt, over),
+            }
+        }
+        Err(error) => not_bound(rt, hosting.listen, &error),
+    }
+}
+
+/// Opens the store and serves it, again each time that the numbers of pushes come to their end. Who connects in
+/// between waits.
+fn serve_again<R>(rt: &R, hosting: &Hosting<'_>, listener: &TcpListener, address: SocketAddr) -> u8
+where
+    R: Files<File = File>
+        + Eprint
+        + AllocGlobal
+        + RandomSource
+        + Net<Listener = TcpListener, Stream = TcpStream>
+        + Threads
+        + Wait
+        + Clock
+        + Sync,
+{
+    'serving: for _ in rt.forever() {
+        let Ok(state) = RandomState::new(rt) else {
+            tell(rt, 3);
+            return 3;
+        };
+        match recover_store(rt, rt.alloc(), state, hosting.store, hosting.publishing) {
+            Ok(recovered) => {
+                let terms = terms_of(hosting);
+                match serve_store(rt, rt.alloc(), terms, listener, address, recovered) {
+                    Over::NumbersEnd => {}
+                    over => return ended(rt, over),
+                }
+            }
+            Err(fault) => return not_opened(rt, hosting.store, &fault),
+        }
+    }
+    unreachable!()
+}
+
+fn bind<R: Net<Listener = TcpListener, Stream = TcpStream>>(
+    rt: &R,
+    listen: &str,
+) -> io::Result<(TcpListener, SocketAddr)> {
+    let listener = TcpListener::bind(rt, listen)?;
+    let address = listener.local_addr()?;
+    Ok((listener, address))
+}
+
+/// How the store is served.
+fn terms_of<'a>(hosting: &Hosting<'a>) -> HostTerms<'a> {
+    HostTerms {
+        connections: hosting.connections,
+        capacity: hosting.capacity,
+        idle: hosting.idle,
+        memory: usize::try_from(hosting.memory).unwrap_or(usize::MAX),
+        pull: hosting.pull,
+        logs: hosting.log,
+    }
+}
+
+/// Tells where it listens and what the store has; and where others reach it, that they need no name.
+fn tell_listening<R: Eprint>(
+    rt: &R,
+    address: SocketAddr,
+    recovered: &Recovered<StoreFile<HostFile>>,
+) {
+    let pushes = recovered.stored;
+    let changesets = recovered.repo.store().log.len();
+    let _ = eprintln!(rt;
+        "hg_pushd: listening on http://{address}/, {pushes} pushes, {changesets} changesets"
+    );
+    if !address.ip().is_loopback() {
+        let _ = eprintln!(rt;
+            "hg_pushd: it knows no names, passwords or TLS: a proxy has to bring them"
+        );
+    }
+}
+
+/// The status where the store was not opened, which is told.
+fn not_opened<R: Eprint>(rt: &R, folder: &str, fault: &OpeningFault) -> u8 {
+    let status = fault.status();
+    if status == 4 {
+        tell(rt, status);
+    } else if let Some(whole) = fault.whole_before_torn() {
+        let note = TornNote { folder, whole };
+        let _ = eprintln!(rt; "hg_pushd: {note}");
+    } else {
+        let _ = eprintln!(rt; "hg_pushd: {folder}/pushes: {fault}");
+    }
+    status
+}
+
+/// The status where the address was not bound, which is told.
+fn not_bound<R: Eprint>(rt: &R, listen: &str, error: &io::Error) -> u8 {
+    let status = device_status(error);
+    if status == 4 {
+        tell(rt, status);
+    } else {
+        let _ = eprintln!(rt; "hg_pushd: {listen}: {error}");
+    }
+    status
+}
+
+/// The status where serving ended for good, which is told.
+fn ended<R: Eprint>(rt: &R, over: Over) -> u8 {
+    match over {
+        Over::NoMemory => {
+            tell(rt, 4);
+            4
+        }
+        Over::StoreFailed | Over::NumbersEnd => {
+            let _ = eprintln!(rt; "hg_pushd: the store failed");
+            3
+        }
+    }
 }

@@ -6,8 +6,9 @@
 //! any writer, proved from the bytes read to the bytes written. `hg_pushd serve` accepts connections and
 //! serves each on a thread: [`serve::serve_on`] is that, from its seed to its report, over `hg_server`.
 //! `hg_pushd report`, `hg_pushd log` and `hg_pushd cut` read a store and end it: [`archive`] has them, over
-//! `hg_archive`. What readers and writers tell of how they were used is said by `hg_devices`, and the command
-//! line is read by `hg_command`.
+//! `hg_archive`. `hg_pushd host` answers HTTP, and keeps each push in a store: [`host`] begins it, over
+//! `hg_host`. What readers and writers tell of how they were used is said by `hg_devices`, and the command line
+//! is read by `hg_command`.
 #![tactic(auto)]
 
 mod archive;

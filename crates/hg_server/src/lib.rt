@@ -14,7 +14,7 @@ mod service;
 mod terms;
 
 pub use door::Door;
-pub use linger::{LINGER_BYTES, LINGER_SECONDS};
+pub use linger::{LINGER_BYTES, LINGER_SECONDS, drain};
 pub use serve::serve_repository;
 pub use service::Service;
 pub use terms::Terms;

@@ -20,7 +20,7 @@ const PIECE: usize = 16_384;
 
 /// Says that no more is written, and drops what the client still sends, up to its end, for so long and so
 /// many bytes.
-pub fn linger<R: Clock>(rt: &R, stream: &TcpStream) {
+pub fn drain<R: Clock>(rt: &R, stream: &TcpStream) {
     if stream.shutdown(Shutdown::Write).is_err() {
         return;
     }

@@ -8,7 +8,7 @@ ghost use Rattle.hg_serve.specs.Desks.{Begins};
 ghost use Rattle.hg_serve.specs.Histories.{serial_run};
 ghost use Rattle.hg_connection.specs.Connections.{Connects};
 
-use crate::linger::linger;
+use crate::linger::drain;
 use crate::replies::Replies;
 use crate::terms::Terms;
 use hg_connection::{ConnFault, Served, serve_connection};
@@ -87,7 +87,7 @@ impl<J: Naming<A>, A: Allocator + Copy> Service<J, A> {
         if missed {
             self.miss_memory();
         }
-        linger(rt, &stream);
+        drain(rt, &stream);
     }
 
     /// Serves a new client, of up to as many bundles as the terms have, from that reader to that writer. The

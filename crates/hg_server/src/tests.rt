@@ -3,7 +3,7 @@
 //! Each client connects and sends all that it has before the service begins, so that a test needs no thread
 //! of its own.
 //!
-//! The bytes are made by `examples/bundles.py`, and compared whole by `examples/serve.py`, which
+//! The bytes are made by `tests/bundles.py`, and compared whole by `tests/serve.py`, which
 //! pushes to the built program over the loopback. `b80de5d1..` is the changeset of the example *a
 //! root changeset*.
 //!

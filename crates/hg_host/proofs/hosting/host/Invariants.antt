@@ -1,0 +1,15 @@
+use Rattle.hg_queue.specs.Words.{id_of, capacity_of}
+use Rattle.hg_host.specs.Hosting.{head_of, records_of}
+use Rattle.hg_host.proofs.hosting.host.Given as goal
+
+abbrev pub ghosts-host_named-J-Naming : goal.ghosts-host_named-J-Naming
+ghosts-host_named-J-Naming g a =
+    record { table = id_of a.queue; capacity = capacity_of a.queue; first = a.recovered.repo }
+
+abbrev pub ghosts-host_named-J-Storing : goal.ghosts-host_named-J-Storing
+ghosts-host_named-J-Storing g a =
+    record {
+      head = head_of a.recovered.publishing;
+      stored = records_of a.recovered.records.items;
+      opened = g.D.Device.moment a.recovered.log.device;
+    }

@@ -1,0 +1,3 @@
+pub mod Hosting
+pub mod Serving
+pub mod Showing

@@ -1,0 +1,280 @@
+//! A server and the ledger of its store, with what its connections share.
+
+ghost use Rattle.std.specs.Prelude.{◌≡◌, [], length};
+ghost use Rattle.std.specs.Option.{option_map};
+ghost use Rattle.hg_types.specs.declared.item.Taken.{Taken};
+ghost use Rattle.hg_types.specs.Limits.{IsAllowed};
+ghost use Rattle.hg_store.specs.Log.{IsSettled};
+ghost use Rattle.hg_serve.specs.Desks.{Begins};
+ghost use Rattle.hg_ledger.specs.Records.{AreKept};
+ghost use Rattle.hg_host.specs.Hosting.{IsRecovered};
+ghost use Rattle.hg_host.specs.Serving.{HostsHttp};
+
+use crate::board::Board;
+use crate::line::{Line, Patience, Sent, set_up};
+use crate::opening::Recovered;
+use crate::slots::{Over, Slots};
+use crate::terms::HostTerms;
+use crate::watch::Watcher;
+use hg_ledger::{Ledger, Parts, Storing};
+use hg_queue::{PartQueue, Taker};
+use hg_serve::{Client, Server};
+use hg_server::drain;
+use hg_store::Device;
+use hg_types::NoMemory;
+use hg_wire::{Budget, Finish, Shown, Terms, serve_http};
+use std::alloc::{AllocFailed, Global};
+use std::hash::RandomState;
+use std::io;
+use std::io::{Read, Write};
+use std::marker::Model;
+use std::net::TcpStream;
+use std::random::RandomSource;
+use std::sync::{Mutex, Wait};
+use std::time::{Clock, Duration};
+
+/// How many clients a ledger has.
+const WITNESSES: usize = 2;
+
+/// A server over the ledger of a store, and what its connections share. Contracts see how many pushes the store
+/// had when it was opened, and where pulls go.
+pub struct Service<'a, J: Storing<Global>, D: Device, R: Wait + Clock> {
+    server: Server<J>,
+    ledger: Ledger<J, D>,
+    clients: Mutex<Vec<Client<J>>>,
+    budget: Budget,
+    board: Board<'a, R>,
+    slots: Slots,
+    terms: HostTerms<'a>,
+    stored: usize,
+}
+
+impl<'a, J: Storing<Global>, D: Device, R: Wait + Clock> Model for Service<'a, J, D, R> {
+    ghost use Rattle.std.specs.Prelude.{◌≡◌, length, true, false};
+    ghost use Rattle.std.specs.Option.{option_map};
+    ghost use Rattle.hg_host.specs.Hosting.{IsRecovered};
+    ghost use Rattle.hg_host.specs.Serving.{HostView};
+
+    ghost Value = { HostView };
+
+    ghost view = { λ s. record { stored = s.stored; publishing = J.head.publishing } };
+
+    ghost invariant = { λ s. (s.stored ≡ length J.stored)
+        × IsRecovered J.head.publishing J.head J.stored J.first };
+}
+
+impl<'a, J, D, R> Service<'a, J, D, R>
+where
+    J: Storing<Global>,
+    D: Device + Drop,
+    R: Wait + Clock + Eprint + RandomSource,
+{
+    /// A service of that queue, over what was recovered of a store. Where memory is refused there is none.
+    pub(crate) fn new(
+        rt: &'a R,
+        alloc: Global,
+        terms: HostTerms<'a>,
+        queue: PartQueue,
+        taker: Taker,
+        recovered: Recovered<D>,
+    ) -> Result<Self, NoMemory>
+        requires begins { Begins J.table J.capacity J.first queue taker recovered.repo }
+        requires settled { IsSettled D.seen D.may_leave J.head J.stored recovered.log }
+        requires opened { J.opened ≡ D.moment recovered.log.device }
+        requires recovered { IsRecovered J.head.publishing J.head J.stored J.first }
+        requires count { recovered.stored ≡ length J.stored }
+    {
+        let Recovered {
+            publishing: _,
+            repo,
+            log,
+            stored,
+            records: _,
+        } = recovered;
+        let places = (terms.connections as usize).saturating_add(WITNESSES);
+        let board = Board::new(rt, alloc, log.end as u64)?;
+        let clients = Vec::with_capacity(alloc, places)?;
+        let server = Server::new(alloc, repo, queue, taker);
+        let witnesses = (new_client(rt, &server), new_client(rt, &server));
+        let ledger = match Ledger::new(alloc, log, witnesses) {
+            Ok(ledger) => ledger,
+            Err(parts) => {
+                close_server(rt, server, parts, clients);
+                return Err(NoMemory);
+            }
+        };
+        Ok(Service {
+            server,
+            ledger,
+            clients: Mutex::new(clients),
+            budget: Budget::new(terms.memory),
+            board,
+            slots: Slots::new(terms.connections),
+            terms,
+            stored,
+        })
+    }
+
+    /// Ends all.
+    pub(crate) fn close(self, rt: &R) {
+        let Service {
+            server,
+            ledger,
+            clients,
+            budget: _,
+            board: _,
+            slots: _,
+            terms: _,
+            stored: _,
+        } = self;
+        close_server(rt, server, ledger.into_parts(), clients.into_inner());
+    }
+
+    /// Serves a connection from that reader to that writer, by a client that may have served others before.
+    pub fn serve<I: Read, W: Write>(
+        &self,
+        rt: &R,
+        alloc: Global,
+        keys: RandomState,
+        reader: &mut I,
+        writer: &mut W,
+    ) -> Finish
+        ensures { HostsHttp J.capacity J.first J.head J.stored (AreKept D.seen D.may_leave J.head J.stored J.first)
+            ⟦<Board<'a, R> as Shown<Global>>⟧.is_page ⟦<Board<'a, R> as Shown<Global>>⟧.are_metrics
+            self.now (I.remaining reader.old) (I.remaining reader.new)
+            (W.contents writer.old) (W.contents writer.new) result }
+    {
+        let terms = Terms {
+            shown: &self.board,
+            budget: &self.budget,
+            pull: self.pull(),
+            stored: self.stored,
+        };
+        let mut watch = Watcher::new(
+            rt,
+            alloc,
+            &self.board,
+            &self.slots,
+            self.stored,
+            self.terms.logs,
+        );
+        let client = self.client(rt);
+        let (client, finish) = serve_http(
+            &self.server,
+            &self.ledger,
+            rt,
+            alloc,
+            keys,
+            &terms,
+            client,
+            &mut watch,
+            reader,
+            writer,
+        );
+        self.leave(rt, client);
+        finish
+    }
+
+    fn pull(&self) -> Option<&[u8]> {
+        match self.terms.pull {
+            Some(address) => Some(address.as_bytes()),
+            None => None,
+        }
+    }
+
+    /// A client that is free, or a new one.
+    fn client(&self, rt: &R) -> Client<J> {
+        if let Some(client) = self.clients.lock(rt).pop() {
+            return client;
+        }
+        new_client(rt, &self.server)
+    }
+
+    /// Keeps a client for the next connection. The list has room for all that are served at one time: one that
+    /// had none would be asked again.
+    fn leave(&self, rt: &R, client: Client<J>) {
+        put(rt, &mut *self.clients.lock(rt), client);
+    }
+
+    /// The places for connections.
+    pub(crate) fn slots(&self) -> &Slots {
+        &self.slots
+    }
+
+    /// Serves a connection over a socket, and gives its place back. Where the store failed, serving is over.
+    pub(crate) fn connect(&self, rt: &R, alloc: Global, stream: TcpStream) {
+        self.board.connect();
+        if let Ok(Finish::NotStored) = self.attend(rt, alloc, &stream) {
+            self.slots.end(rt, Over::StoreFailed);
+        }
+        self.board.disconnect();
+        self.slots.give_back(rt);
+    }
+
+    /// Serves a connection over a socket. An error of the socket, of the clock or of the random bytes ends it
+    /// before it is served.
+    fn attend(&self, rt: &R, alloc: Global, stream: &TcpStream) -> io::Result<Finish> {
+        set_up(stream)?;
+        let keys = RandomState::new(rt)?;
+        let patience = Patience::new(rt, Duration::from_secs(self.terms.idle))?;
+        let mut reader = Line {
+            stream,
+            patience: &patience,
+            slots: &self.slots,
+        };
+        let mut writer = Sent {
+            line: Line {
+                stream,
+                patience: &patience,
+                slots: &self.slots,
+            },
+        };
+        let finish = self.serve(rt, alloc, keys, &mut reader, &mut writer);
+        // where an answer was the last, the client may still send what nobody reads
+        if matches!(finish, Finish::Done | Finish::NoRoom) {
+            drain(rt, stream);
+        }
+        Ok(finish)
+    }
+}
+
+/// A client that has seen nothing.
+fn new_client<J: Storing<Global>, R: Wait>(rt: &R, server: &Server<J>) -> Client<J>
+    ensures { result ≡ [] }
+{
+    match server.client(rt) {
+        Ok(client) => client,
+        Err(_) => unreachable!(),
+    }
+}
+
+/// Adds a client to those that are kept. Where memory is refused it is tried again.
+fn put<J: Storing<Global>, R: Wait>(rt: &R, clients: &mut Vec<Client<J>>, client: Client<J>) {
+    let mut client = client;
+    'putting: for _ in rt.forever() {
+        match clients.push(client) {
+            Ok(()) => return,
+            Err(AllocFailed { value, .. }) => client = value,
+        }
+    }
+    unreachable!()
+}
+
+/// Closes a server with all of its clients.
+fn close_server<J: Storing<Global>, D: Device + Drop, R: Wait>(
+    rt: &R,
+    server: Server<J>,
+    parts: Parts<J, D>,
+    clients: Vec<Client<J>>,
+) {
+    let mut clients = clients;
+    let Parts {
+        log: _log,
+        kept: _,
+        is_broken: _,
+        witnesses: (first, second),
+    } = parts;
+    put(rt, &mut clients, first);
+    put(rt, &mut clients, second);
+    let _closed = server.close(clients);
+}

@@ -1,0 +1,18 @@
+//! How a store is hosted.
+
+/// How a store is hosted.
+#[derive(Clone, Copy, Debug)]
+pub struct HostTerms<'a> {
+    /// How many connections are served at one time, at least 1.
+    pub connections: u32,
+    /// How many items of pushes the queue holds, 1 to 65,536.
+    pub capacity: u32,
+    /// For how many seconds a connection may be silent.
+    pub idle: u64,
+    /// How many bytes the bodies of all open pushes hold together at most.
+    pub memory: usize,
+    /// Where pulls go, without a query.
+    pub pull: Option<&'a str>,
+    /// Whether a line is printed for each push.
+    pub logs: bool,
+}

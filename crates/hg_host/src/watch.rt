@@ -1,0 +1,119 @@
+//! Who watches a connection: how long each push took, and a line for it.
+
+use crate::board::{Board, seconds_now};
+use crate::brought::brought_by;
+use crate::reason::ending_of;
+use crate::slots::{Over, Slots};
+use hg_page::{Ending, Push, log_line};
+use hg_serve::{Gate, Point};
+use hg_wire::{Pushed, Watch};
+use std::alloc::Global;
+use std::str;
+use std::sync::Wait;
+use std::time::{Clock, Duration, Instant};
+
+/// Takes the times of one connection's pushes, puts each on the board, and prints its line if that is wanted.
+/// Where the numbers of pushes come to their end, serving is over.
+#[derive(Drop)]
+pub struct Watcher<'a, R: Wait + Clock + Eprint> {
+    rt: &'a R,
+    alloc: Global,
+    board: &'a Board<'a, R>,
+    slots: &'a Slots,
+    /// How many pushes the store had when it was opened.
+    stored: usize,
+    logs: bool,
+    /// When the lock was got for the push that runs.
+    locked: Option<Instant>,
+    /// For how many microseconds it was held, and when it was given back.
+    held: u64,
+    answered: Option<Instant>,
+}
+
+impl<'a, R: Wait + Clock + Eprint> Watcher<'a, R> {
+    pub fn new(
+        rt: &'a R,
+        alloc: Global,
+        board: &'a Board<'a, R>,
+        slots: &'a Slots,
+        stored: usize,
+        logs: bool,
+    ) -> Self {
+        Watcher {
+            rt,
+            alloc,
+            board,
+            slots,
+            stored,
+            logs,
+            locked: None,
+            held: 0,
+            answered: None,
+        }
+    }
+
+    fn print(&self, push: &Push) {
+        let Ok(line) = log_line(self.alloc, push) else {
+            return;
+        };
+        if let Ok(text) = str::from_utf8(line.as_slice()) {
+            let _ = eprint!(self.rt; "{text}");
+        }
+    }
+}
+
+impl<R: Wait + Clock + Eprint> Gate for Watcher<'_, R> {
+    fn at(&mut self, point: Point) {
+        match point {
+            Point::Marked => self.locked = None,
+            Point::Locked if self.locked.is_none() => self.locked = Instant::now(self.rt).ok(),
+            Point::Answered => {
+                self.held = micros_since(self.rt, self.locked);
+                self.answered = Instant::now(self.rt).ok();
+            }
+            _ => {}
+        }
+    }
+}
+
+impl<R: Wait + Clock + Eprint> Watch<Global> for Watcher<'_, R> {
+    fn pushed(&mut self, pushed: &Pushed<'_>) {
+        let count = (pushed.rests as u64).saturating_add(self.stored as u64);
+        let ending = ending_of(pushed.outcome, count);
+        let is_done = matches!(ending, Ending::Done(_));
+        let push = Push {
+            time: seconds_now(self.rt),
+            ending,
+            changesets: if is_done {
+                brought_by(pushed.bundle)
+            } else {
+                0
+            },
+            bytes: pushed.bundle.len() as u64,
+            locked: self.held,
+            synced: micros_since(self.rt, self.answered),
+        };
+        self.board.add(push, is_done && pushed.is_kept);
+        if self.board.is_full() {
+            self.slots.end(self.rt, Over::NumbersEnd);
+        }
+        if self.logs && pushed.is_kept {
+            self.print(&push);
+        }
+    }
+}
+
+/// How many microseconds ago that was; 0 where there is no clock.
+fn micros_since<R: Clock>(rt: &R, start: Option<Instant>) -> u64 {
+    let Some(start) = start else {
+        return 0;
+    };
+    match start.elapsed(rt) {
+        Ok(spent) => micros(spent),
+        Err(_) => 0,
+    }
+}
+
+fn micros(time: Duration) -> u64 {
+    u64::try_from(time.as_micros()).unwrap_or(u64::MAX)
+}
