@@ -57,6 +57,10 @@ fn responses_of_answers(rt: HostRuntime) -> Result<(), Fail> {
         (Refusal::NotOpened, b"no push can be opened now\n"),
         (Refusal::NoMemory, b"out of memory\n"),
         (Refusal::NoAnswer, b"there is no memory for the answer\n"),
+        (
+            Refusal::LongBatch,
+            b"batch takes 16 commands, 4 of them lookup\n",
+        ),
     ];
     for (refusal, line) in refusals {
         let refused = Answer::Refused(refusal);

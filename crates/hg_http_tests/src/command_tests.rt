@@ -96,6 +96,7 @@ fn lines_of_refusals(rt: HostRuntime) {
         Refusal::NotOpened,
         Refusal::NoMemory,
         Refusal::NoAnswer,
+        Refusal::LongBatch,
     ];
     for refusal in refusals {
         assert!(rt; refusal.text().ends_with(b"\n".as_slice()));

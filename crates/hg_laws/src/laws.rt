@@ -1,6 +1,7 @@
 //! What the definitions say together.
 
-ghost use Rattle.std.specs.Prelude.{◌≡◌, ◌↔◌, ℕ, ◌<◌, ◌≤◌, true, List, Some, Contains, All, length};
+ghost use Rattle.std.specs.Prelude.{◌≡◌, ◌↔◌, ℕ, ◌<◌, ◌≤◌, true, List, Some, None, Contains, All, length};
+ghost use Rattle.hg_types.specs.Bytes.{IsBytes};
 ghost use Rattle.hg_types.specs.declared.node.Node.{Node};
 ghost use Rattle.hg_types.specs.declared.phase.Phase.{Phase};
 ghost use Rattle.hg_log.specs.Ancestors.{IsAncestor};
@@ -9,9 +10,15 @@ ghost use Rattle.hg_log.specs.Changeset.{Changeset};
 ghost use Rattle.hg_log.specs.Parents.{parents_of, rev_of};
 ghost use Rattle.hg_log.specs.Rows.{AreLawful as AreLawfulRows, HasNode, IsKnown};
 ghost use Rattle.hg_phases.specs.Order.{lesser, phase_at};
-ghost use Rattle.hg_phases.specs.Phases.{advanced};
+ghost use Rattle.hg_phases.specs.Phases.{advanced, AreFor};
 ghost use Rattle.hg_keys.specs.Bookmarks.{Pairs};
 ghost use Rattle.hg_keys.specs.Known.{AreOnKnown, is_known as is_known_to_keys};
+
+use hg_keys::Bookmarks;
+use hg_log::Changelog;
+use hg_phases::Phases;
+use hg_types::{Node as NodeId, Phase as PhaseName};
+use std::alloc::Allocator;
 
 /// An id is known where it is null or that of a row: to the changelog, which tells it by the id's text, and to
 /// keys, which tell it by the row's number. So each bookmark is on the null id or on a changeset. The number of
@@ -40,3 +47,43 @@ pub fn advances_lower_ancestors()
     ensures as_many { (rows : List Changeset) (target : Phase) (heads : List ℕ) (phases : List Phase) →
         length (advanced (parents_of rows) target heads phases) ≡ length phases }
 {}
+
+/// A list is of bytes where each of its numbers is below 256. So a payload of bytes is no list of any numbers,
+/// and each list of such numbers is one.
+pub fn bytes_are_below_256()
+    ensures { (bytes : List ℕ) → IsBytes bytes ↔ All (λ byte. byte < 256) bytes }
+{}
+
+/// Phases that are marked, advanced and taken back are those of before, whether the advance was made or memory
+/// was refused for it, and the mark is spent. So a mark is one that can be gone back to.
+pub fn marked_phases_come_back<A: Allocator + Copy>(
+    alloc: A,
+    log: &Changelog<A>,
+    phases: &mut Phases<A>,
+    target: PhaseName,
+    heads: &[u32],
+)
+    requires heads { All (λ head. head < length phases.old.current.phases) heads.now }
+    requires fits { AreFor log.now.rows phases.old.current }
+    ensures back { phases.new.current ≡ phases.old.current }
+    ensures spent { phases.new.marked ≡ None }
+{
+    let mark = phases.mark();
+    let _advanced = phases.advance(alloc, log, target, heads);
+    phases.back_to(mark);
+}
+
+/// The same of bookmarks, of which one is set or deleted in between.
+pub fn marked_bookmarks_come_back<A: Allocator + Copy>(
+    alloc: A,
+    bookmarks: &mut Bookmarks<A>,
+    name: &[u8],
+    node: Option<NodeId>,
+)
+    ensures back { bookmarks.new.current ≡ bookmarks.old.current }
+    ensures spent { bookmarks.new.marked ≡ None }
+{
+    let mark = bookmarks.mark();
+    let _set = bookmarks.set(alloc, name, node);
+    bookmarks.back_to(mark);
+}

@@ -184,8 +184,24 @@ fn long_names_are_cut(rt: HostRuntime) -> Result<(), Fail> {
     let text = page(alloc, &parts, &tally)?;
     assert!(rt; has(&text, b"x</bdi></b>"));
     assert!(rt; has(&text, b"x</bdi>&hellip;</b>"));
-    assert!(rt; has(&text, b"<i>not read</i>"));
     assert!(rt; !has(&text, &name));
+    Ok(())
+}
+
+// A text that ends before its third line is of the branch `default`. Of one that goes on behind 4,096 bytes, whose
+// lines do not end in these, no branch is told.
+#[test]
+fn a_branch_is_told_where_its_lines_were_read(rt: HostRuntime) -> Result<(), Fail> {
+    let alloc = rt.alloc();
+    for (bytes, is_read) in [(9, true), (4096, true), (4097, false)] {
+        let mut parts = empty(alloc, RandomState::new(&rt)?);
+        let tally = Tally::new(alloc, 0)?;
+        let long = [b'x'; 4097];
+        put(alloc, &mut parts, &long[..bytes])?;
+        let text = page(alloc, &parts, &tally)?;
+        assert_eq!(rt; has(&text, b"<i>not read</i>"), !is_read);
+        assert_eq!(rt; has(&text, b"<bdi>default</bdi>"), is_read);
+    }
     Ok(())
 }
 

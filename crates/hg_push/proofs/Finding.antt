@@ -33,6 +33,10 @@ none_tells : (n len : ℕ) → cond (nat_lt n len) (Some n) None ≡ None → le
 none_tells n len none = either_way (nat_lt n len)
     (λ t. let h : cond true (Some n) None ≡ None = rw t at none in cc) (λ f. grind (arith, nat_tests))
 
+-- what is found stands among them
+pub found_within : {X : Type 0} (p : X → Bool) (xs : List X) (i : ℕ) → position p xs ≡ Some i → i < length xs
+found_within p xs i found = let told = position_tells _ _ i found in omega (arith, told.0, told.1)
+
 pub find_nowhere : {X : Type 0} (p : X → Bool) (xs : List X) → position p xs ≡ None → find p xs ≡ None
 find_nowhere p xs none = find_at p xs ∙ slice_get_none xs (position_or_len p xs) (none_tells _ _ none)
 

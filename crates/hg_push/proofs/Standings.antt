@@ -1,8 +1,9 @@
 -- What the rows and the journal tell of a push.
-use Rattle.std.proofs.Common.{ℕ, true, false, ◌≡◌, ◌==◌, List, refl, sym, ◌∙◌, ap, subst, Option, Some, None}
+use Rattle.std.proofs.Common.{ℕ, true, false, ◌≡◌, ◌==◌, ◌<◌, ◌≤◌, arith, List, refl, sym, ◌∙◌, ap, subst, Option, Some, None}
 use Rattle.std.specs.Prelude.{IsSome, position}
 use Rattle.std.specs.List.{list_any}
 use Rattle.std.proofs.Math.ListN.{get_or}
+use Rattle.std.proofs.lemmas.Bool.Decides.{nat_tests}
 use Rattle.hg_push.specs.declared.outcome.Outcome.{Outcome}
 use Rattle.hg_push.specs.declared.outcome.Outcome.TheVariants.{Done, Aborted}
 use Rattle.hg_push.specs.declared.row.Row.{Row}
@@ -13,9 +14,16 @@ use Rattle.hg_push.specs.declared.outcome.Standing.TheVariants.{Done as done_now
 use Rattle.hg_push.specs.History.{History, Running, parts, outcome}
 use Rattle.hg_push.specs.Changed.{is_done}
 use Rattle.hg_push.specs.Rows.{Tells, TellsState, standing_of, standing_in}
-use Rattle.hg_push.specs.Book.{Book, Holds, is_opened}
+use Rattle.hg_push.specs.Book.{Book, Holds, is_between, is_opened}
 use Rattle.hg_push.proofs.Finding.{find_nowhere, found_at}
 use Rattle.hg_push.proofs.Journals.{done_journal}
+
+is_given : (first next p : ℕ) → first ≤ p → p < next → is_between first next p ≡ true
+is_given first next p low high = grind (arith, nat_tests)
+
+-- a number between the first one and the next is not unknown
+pub not_unknown : {X : Type 0} (first next p : ℕ) → first ≤ p → p < next → is_between first next p ≡ false → X
+not_unknown first next p low high unknown = let given = is_given first next p low high in absurd cc
 
 told_standing : {A D E : Type 0} (ps : List (Part A)) (how : Option (Outcome D E)) (state : State D E A)
     → TellsState ps how state → standing_in state ≡ standing_of how

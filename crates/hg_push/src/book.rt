@@ -20,6 +20,7 @@ use crate::step::{
 use hg_repo::{Done, Refusal, Repo};
 use hg_types::{Item, Seq};
 use std::alloc::{Allocator, Global};
+use std::collections::VecDeque;
 use std::marker::Model;
 use thiserror::Error;
 
@@ -43,7 +44,7 @@ pub enum OpenFault {
 pub struct Book<A: Allocator = Global> {
     repo: Repo<A>,
     journal: Vec<u32, A>,
-    rows: Vec<Row<Done<A>, Refusal<A>, A>, A>,
+    rows: VecDeque<Row<Done<A>, Refusal<A>, A>, A>,
     first_push: u32,
     next: u32,
     limit: u32,
@@ -96,7 +97,7 @@ impl<A: Allocator + Copy> Book<A> {
         Book {
             repo,
             journal: Vec::new(alloc),
-            rows: Vec::new(alloc),
+            rows: VecDeque::new(alloc),
             first_push,
             next: first_push,
             limit,
@@ -113,7 +114,7 @@ impl<A: Allocator + Copy> Book<A> {
         if push < self.first_push || push >= self.next {
             return Standing::Unknown;
         }
-        match place_of(self.rows.as_slice(), push) {
+        match place_of(&self.rows, push) {
             Some(at) => row_standing(&self.rows[at]),
             None => {
                 if has_push(self.journal.as_slice(), push) {
@@ -153,7 +154,7 @@ impl<A: Allocator + Copy> Book<A> {
             push,
             state: State::Open(Seq::new(alloc)),
         };
-        if let Err(_) = self.rows.push(row) {
+        if let Err(_) = self.rows.push_back(row) {
             return Err(OpenFault::NoMemory);
         }
         self.next += 1;
@@ -176,7 +177,7 @@ impl<A: Allocator + Copy> Book<A> {
             Holds run_push first (stepped self.old item result h) self.new }
     {
         let Item { push, index, what } = item;
-        let Some(at) = open_place(self.rows.as_slice(), push) else {
+        let Some(at) = open_place(&self.rows, push) else {
             return false;
         };
         let row = &mut self.rows[at];
@@ -184,7 +185,8 @@ impl<A: Allocator + Copy> Book<A> {
     }
 
     /// Hands out how a closed push ended, and takes its row away. None, with nothing changed, where the push
-    /// has no row or is open. What it hands out can be written as a reply.
+    /// has no row or is open. What it hands out can be written as a reply. The rows before that row or those
+    /// after it move, whichever are fewer: none where pushes are answered in the order of their numbers.
     pub fn take_reply(&mut self, push: u32) -> Option<Outcome<Done<A>, Refusal<A>>>
         ensures reply { result ≡ reply_in (row_of push self.old.rows) }
         ensures none { IfNone result (self.new ≡ self.old) }
@@ -197,9 +199,11 @@ impl<A: Allocator + Copy> Book<A> {
         ensures holds { (first : RepositoryOf A) (h : History A) → Holds run_push first h self.old →
             Holds run_push first h self.new }
     {
-        let at = closed_place(self.rows.as_slice(), push)?;
-        let row = self.rows.remove(at);
-        Some(outcome_of(row))
+        let at = closed_place(&self.rows, push)?;
+        match self.rows.remove(at) {
+            Some(row) => Some(outcome_of(row)),
+            None => unreachable!(),
+        }
     }
 
     /// The place of a push in the journal: how many pushes were done before it. `None` where it is not done.

@@ -20,16 +20,17 @@ use crate::row::{Row, State};
 use hg_repo::{Done, Prepared, Refusal, Repo, Source, prepare};
 use hg_types::{NoMemory, Part, Seq, What};
 use std::alloc::Allocator;
+use std::collections::VecDeque;
 use std::mem;
 
 /// The place of the push's row, among rows in the order of their numbers. Where no row between the first one
 /// and the push's was taken away, it is the distance of their numbers; else it is searched by halves.
 #[inline(always)]
-pub fn place_of<D, E, A: Allocator>(rows: &[Row<D, E, A>], push: u32) -> Option<usize>
-    requires { AreInOrder rows.now }
-    ensures { result ≡ position (λ r. r.push == push) rows.now }
+pub fn place_of<D, E, A: Allocator>(rows: &VecDeque<Row<D, E, A>, A>, push: u32) -> Option<usize>
+    requires { AreInOrder rows.now.items }
+    ensures { result ≡ position (λ r. r.push == push) rows.now.items }
 {
-    if let Some(first) = rows.first() {
+    if let Some(first) = rows.front() {
         let distance = push.wrapping_sub(first.push) as usize;
         if distance < rows.len() && rows[distance].push == push {
             return Some(distance);
@@ -69,10 +70,10 @@ pub fn row_standing<D, E, A: Allocator>(row: &Row<D, E, A>) -> Standing
 
 /// The place of the push's row, if the push is open.
 #[inline(always)]
-pub fn open_place<D, E, A: Allocator>(rows: &[Row<D, E, A>], push: u32) -> Option<usize>
-    requires { AreInOrder rows.now }
-    ensures none { IfNone result (IsShut push rows.now) }
-    ensures some { IfSome result (λ at. (at < length rows.now) × IsOpenAt push rows.now at) }
+pub fn open_place<D, E, A: Allocator>(rows: &VecDeque<Row<D, E, A>, A>, push: u32) -> Option<usize>
+    requires { AreInOrder rows.now.items }
+    ensures none { IfNone result (IsShut push rows.now.items) }
+    ensures some { IfSome result (λ at. (at < length rows.now.items) × IsOpenAt push rows.now.items at) }
 {
     let at = place_of(rows, push)?;
     let row = &rows[at];
@@ -83,10 +84,13 @@ pub fn open_place<D, E, A: Allocator>(rows: &[Row<D, E, A>], push: u32) -> Optio
 }
 
 /// The place of the push's row, if the push is closed.
-pub fn closed_place<D, E, A: Allocator>(rows: &[Row<D, E, A>], push: u32) -> Option<usize>
-    requires { AreInOrder rows.now }
-    ensures none { IfNone result (reply_in (row_of push rows.now) ≡ None) }
-    ensures some { IfSome result (λ at. (at < length rows.now) × IsClosedAt push rows.now at) }
+pub fn closed_place<D, E, A: Allocator>(
+    rows: &VecDeque<Row<D, E, A>, A>,
+    push: u32,
+) -> Option<usize>
+    requires { AreInOrder rows.now.items }
+    ensures none { IfNone result (reply_in (row_of push rows.now.items) ≡ None) }
+    ensures some { IfSome result (λ at. (at < length rows.now.items) × IsClosedAt push rows.now.items at) }
 {
     let at = place_of(rows, push)?;
     let row = &rows[at];
@@ -138,9 +142,10 @@ fn close<D: Drop, E: Drop, A: Allocator>(row: &mut Row<D, E, A>, outcome: Outcom
 }
 
 /// How many parts a staged list asks for room for with its first one: about as many as most pushes have, so
-/// that their lists are moved seldom while they grow. A part takes 112 bytes there, and so little room is
-/// given back fast.
-const FIRST_ROOM: usize = 9;
+/// that their lists are moved seldom while they grow. A part takes 112 bytes there. So little room is given
+/// back fast, and with what the C library adds the lists stand 912 bytes apart: at a power of two, as with room
+/// for 9, those of many pushes would share few lines of the cache.
+const FIRST_ROOM: usize = 8;
 
 /// Prepares a part and adds it to an open push, or aborts the push where memory is refused for either.
 #[inline(always)]

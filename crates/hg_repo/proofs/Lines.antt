@@ -1,11 +1,10 @@
 -- Lines of a report, one more at a time.
-use Rattle.std.proofs.Common.{◌≡◌, ◌∙◌, ℕ, ◌+◌, Bool, true, false, List, [], ◌∷◌, ◌++◌, take, Some, slice_get}
+use Rattle.std.proofs.Common.{◌≡◌, ◌∙◌, ℕ, ◌+◌, Bool, true, false, List, [], ◌∷◌, ◌++◌}
 use Rattle.std.proofs.Common.{ap, sym, arith}
 use Rattle.std.specs.Prelude.{decimal}
 use Rattle.std.specs.Int.{from_bool}
 use Rattle.std.specs.List.{flat_map, range_with_len}
-use Rattle.std.proofs.lemmas.List.{append_assoc, flat_map_more, take_more}
-use Rattle.std.proofs.lemmas.Option.{get_or_from_slice_get, slice_get_within}
+use Rattle.std.proofs.lemmas.List.{append_assoc, flat_map_more}
 use Rattle.std.proofs.lemmas.Fmt.{decimal_digit}
 use Rattle.hg_types.specs.declared.node.Node.{Node}
 use Rattle.hg_log.specs.Changeset.{Changeset}
@@ -36,18 +35,12 @@ number_more f before now next n so more =
     ∙ flat_map_more f before (range_with_len 0 n) n
     ∙ ap (λ ns. before ++ flat_map f ns) (sym (range_more n))
 
--- the line of one item more
-pub item_more : {X : Type 0} (f : X → List ℕ) (before now next : List ℕ) (xs : List X) (i : ℕ) (x : X)
-    → slice_get xs i ≡ Some x → now ≡ before ++ flat_map f (take i xs) → next ≡ now ++ f x
-    → next ≡ before ++ flat_map f (take (i + 1) xs)
-item_more f before now next xs i x here so more =
-    let within = slice_get_within xs i x here in
-    let same = get_or_from_slice_get xs i x x here in
-    let last = take_more xs i x within ∙ ap (λ y. take i xs ++ y ∷ []) same in
-    more
-    ∙ ap (λ text. text ++ f x) so
-    ∙ flat_map_more f before (take i xs) x
-    ∙ ap (λ ys. before ++ flat_map f ys) (sym last)
+-- the lines so far and those that are left, after one more
+pub item_left : {X : Type 0} (f : X → List ℕ) (all now next : List ℕ) (left xs : List X) (x : X)
+    → left ≡ x ∷ xs → now ++ flat_map f left ≡ all → next ≡ now ++ f x → next ++ flat_map f xs ≡ all
+item_left {X} f all now next left xs x is so more =
+    ap (λ (t : List ℕ). t ++ flat_map f xs) more ∙ append_assoc now (f x) (flat_map f xs)
+    ∙ ap (λ (ys : List X). now ++ flat_map f ys) (sym is) ∙ so
 
 -- three pieces after nothing
 pub three_pieces : (none one two three xs ys zs : List ℕ)

@@ -66,10 +66,8 @@ pub fn write_bookmarks<A: Allocator + Copy>(
     ensures { OnOk result (string_bytes text.new ≡ string_bytes text.old
         ++ flat_map bookmark_line bookmarks.now.current) }
 {
-    for place in 0..bookmarks.len() {
-        let Some((name, node)) = bookmarks.entry(place) else {
-            unreachable!()
-        };
+    let mut entries = bookmarks.entries();
+    while let Some((name, node)) = entries.next() {
         write_bookmark(alloc, text, name, &node)?;
     }
     Ok(())

@@ -75,32 +75,15 @@ fn are_same_markers<A: Allocator>(markers: &Markers<A>, other: &Markers<A>) -> b
 fn are_same_bookmarks<A: Allocator>(bookmarks: &Bookmarks<A>, other: &Bookmarks<A>) -> bool
     ensures { IsTrue result ↔ (bookmarks.now.current ≡ other.now.current) }
 {
-    if bookmarks.len() != other.len() {
-        return false;
-    }
-    for place in 0..bookmarks.len() {
-        if !is_same_bookmark(bookmarks, other, place) {
+    let mut entries = bookmarks.entries();
+    let mut others = other.entries();
+    while let Some((name, node)) = entries.next() {
+        let Some((other_name, other_node)) = others.next() else {
+            return false;
+        };
+        if name != other_name || node != other_node {
             return false;
         }
     }
-    true
-}
-
-/// Whether both have the same bookmark at that place.
-fn is_same_bookmark<A: Allocator>(
-    bookmarks: &Bookmarks<A>,
-    other: &Bookmarks<A>,
-    place: usize,
-) -> bool
-    requires first { place < length bookmarks.now.current }
-    requires second { place < length other.now.current }
-    ensures { IsTrue result ↔ (slice_get bookmarks.now.current place ≡ slice_get other.now.current place) }
-{
-    let Some((name, node)) = bookmarks.entry(place) else {
-        unreachable!()
-    };
-    let Some((other_name, other_node)) = other.entry(place) else {
-        unreachable!()
-    };
-    name == other_name && node == other_node
+    others.next().is_none()
 }

@@ -2,7 +2,7 @@
 
 use super::race::{a_root, b_root};
 use super::*;
-use hg_serve::Question;
+use hg_serve::{Keeper, Question};
 
 /// How many changesets there are.
 #[derive(Drop)]
@@ -18,6 +18,28 @@ impl Question<Global, usize> for Count {
     }
 }
 
+/// How many changesets were seen.
+#[derive(Drop)]
+struct Seen {
+    count: usize,
+}
+
+impl Keeper<Global, usize> for Seen {
+    ghost use Rattle.std.specs.Prelude.{◌≡◌, ⊤, length};
+
+    ghost fits = { λ seen repo. ⊤ };
+
+    ghost tells = { λ old new repo told. new.count ≡ length repo.rows };
+
+    /// Answers how many more there are.
+    fn keep_up(&mut self, repo: &Repo) -> usize {
+        let count = repo.store().log.len();
+        let more = count.saturating_sub(self.count);
+        self.count = count;
+        more
+    }
+}
+
 /// Pushes one part, and gives the answer, how many done pushes it rests on, and the client.
 fn push<J: Naming<Global>, R: Wait + Abort>(
     rt: &R,
@@ -29,6 +51,20 @@ fn push<J: Naming<Global>, R: Wait + Abort>(
     put(rt, server, &mut sender, part);
     let ended = server.end(rt, sender, &mut NoGate);
     server.answer_resting(rt, ended, &mut NoGate)
+}
+
+/// Two clients look after two pushes, both at once, twice: two changesets come with the first look, and none
+/// with the second.
+fn are_seen_once<J: Naming<Global>, R: Wait>(
+    rt: &R,
+    server: &Server<J>,
+    client: &mut Client<J>,
+    witness: &mut Client<J>,
+) -> bool {
+    let mut seen = Seen { count: 0 };
+    let came = server.look_both(rt, client, witness, &mut seen);
+    let more = server.look_both(rt, client, witness, &mut seen);
+    came == 2 && more == 0 && seen.count == 2
 }
 
 /// Two clients push a root each, and the first a check that fails; a third one looks before, between and
@@ -48,6 +84,8 @@ pub fn looks<J: Naming<Global>, R: Wait + Abort>(
     server.meet(rt, &mut b, &mut a);
     let two = server.look(rt, &mut b, &Count);
     assert!(rt; none == 0 && one == 1 && two == 2);
+    assert_eq!(rt; server.look_resting(rt, &mut a, &Count), (2, 2));
+    assert!(rt; are_seen_once(rt, server, &mut b, &mut reader) && server.limits().rows == 1_024);
     assert!(rt; is_done(&of_a, 1) && is_done(&of_b, 1) && is_race(&raced, 0));
     assert!(rt; rests_a == 1 && rests_b == 2 && rests_raced == 2);
     let mut clients = Vec::new(alloc);
@@ -59,7 +97,8 @@ pub fn looks<J: Naming<Global>, R: Wait + Abort>(
 
 // A pushes a root, B another one, A a check with Z that there is no changeset; a look before, after A
 // and after all, where A and B have met. Result: 0, 1 and 2 changesets; A's answer rests on 1 done
-// push, B's on 2, and that of the check, a race, on 2.
+// push, B's on 2, and that of the check, a race, on 2. A look that says what it rests on: 2 changesets, 2
+// pushes. A keeper that two clients look by, twice: 2 changesets more, and then none.
 #[test]
 fn looks_see_what_was_answered(rt: HostRuntime) -> Result<(), Fail> {
     let closed = played(&rt, rt.alloc(), 8, settings(0, 1_024), Scene::Looks);

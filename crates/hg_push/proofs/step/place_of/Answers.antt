@@ -1,4 +1,5 @@
-use Rattle.std.proofs.Common.{rules, ◌∙◌}
+use Rattle.std.proofs.Common.{rules, ◌∙◌, ap, arith, subst, sym}
+use Rattle.std.specs.List.Sorted.{IsSearchInRange}
 use Rattle.std.proofs.lemmas.List.Sorted.{answers_always}
 use Rattle.hg_push.proofs.Searching.{search_place, found_place}
 use Rattle.hg_push.proofs.step.place_of.Goals as goal
@@ -8,10 +9,11 @@ pub returns : goal.returns
 returns g c =
     let facts = c.binary_search_by_key.ensures in
     let by_key = facts.position (λ row. row.push) (answers_always _ _ _ (λ f a r g called. search rules)) in
-    c.ok.ensures.value ∙ search_place c.args.push c.args.rows.now c.binary_search_by_key.result c.requires
-    facts.bound by_key
+    c.ok.ensures.value ∙ search_place c.args.push c.args.rows.now.items c.binary_search_by_key.result c.requires
+    (subst (IsSearchInRange c.binary_search_by_key.result) c.args.rows.now.ok.0 facts.bound) by_key
 
-pub returns-then-rows-distance : goal.returns-then-rows-distance
-returns-then-rows-distance g c =
-    found_place c.args.push c.args.rows.now _ c.index-rows-distance.result c.requires c.if-distance-rows.true
-    c.if-rows-distance.true
+pub returns-then-index-push : goal.returns-then-index-push
+returns-then-index-push g c =
+    found_place c.args.push c.args.rows.now.items _ c.index.result.now c.requires
+    (omega (arith, c.if-distance-len.true, c.len.ensures, c.args.rows.now.ok.0))
+    (ap (λ r. r.push) (sym c.index.ensures) ∙ c.if-index-push.true)

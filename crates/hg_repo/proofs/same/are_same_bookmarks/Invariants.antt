@@ -1,7 +1,12 @@
-use Rattle.std.proofs.Common.{◌≡◌, ℕ, ◌<◌, slice_get}
+use Rattle.std.proofs.Common.{◌≡◌, length}
 use Rattle.hg_repo.proofs.same.are_same_bookmarks.Given as goal
 
--- the bookmarks so far are the same
-abbrev pub invariant-loop-place : goal.invariant-loop-place
-invariant-loop-place g l =
-    (k : ℕ) → k < l.place → slice_get l.bookmarks.current k ≡ slice_get l.other.current k
+-- all are the same exactly where those that are left are
+abbrev pub invariant-loop-name : goal.invariant-loop-name
+invariant-loop-name g l = record {
+  rest : l.entries ≡ l.others → l.bookmarks.current ≡ l.other.current;
+  all : l.bookmarks.current ≡ l.other.current → l.entries ≡ l.others;
+}
+
+abbrev pub decreases-loop-name : goal.decreases-loop-name
+decreases-loop-name g l = length l.entries

@@ -8,14 +8,14 @@ use Rattle.hg_push.proofs.book.Book.open.Goals as goal
 
 pub invariant_of-self-2 : goal.invariant_of-self-2
 invariant_of-self-2 g c = (
-  rw c.in_default-push.ensures.items
+  rw c.in_default-push_back.ensures.items
       (rows_last c.self.inside.first_push c.self.inside.next c.self.inside.rows.items _ c.self.invariant.1
       refl c.self.invariant.0),
   omega (arith, c.self.invariant.1),
-  room_last c.self.inside.rows.items c.push.new.self.items _ _ _
-      (c.len-places.result + 1) c.in_default-push.ensures.items
-      (omega (arith, c.self.inside.rows.ok, c.len-places.ensures)) (omega (arith, c.in_default.ensures.ok)),
-  rw c.in_default-push.ensures.items (each_last _ c.self.inside.rows.items _ c.self.invariant.3 tt),
+  room_last c.self.inside.rows.items c.push_back.new.self.items _ _ _
+      (c.len-places.result + 1) c.in_default-push_back.ensures.items
+      (omega (arith, c.self.inside.rows.ok.0, c.len-places.ensures)) (omega (arith, c.in_default.ensures.ok)),
+  rw c.in_default-push_back.ensures.items (each_last _ c.self.inside.rows.items _ c.self.invariant.3 tt),
 )
 
 pub returns-clause-opened : goal.returns-clause-opened
@@ -25,5 +25,5 @@ pub returns-clause-holds : goal.returns-clause-holds
 returns-clause-holds g c = λ first h holds.
     holds_opened run_push first h _ _ c.self.invariant.1 c.self.invariant.0
     (opens_from _ _ _ refl c.in_default.ensures.items refl refl refl refl
-    (ap Open c.new.ensures) c.in_default-push.ensures.items)
+    (ap Open c.new.ensures) c.in_default-push_back.ensures.items)
     (subst (λ b. Holds run_push first h b) (sym c.self.view_is) holds)

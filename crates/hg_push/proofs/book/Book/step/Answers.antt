@@ -12,31 +12,29 @@ use Rattle.hg_push.proofs.book.Book.step.Goals as goal
 
 pub open_place-requires : goal.open_place-requires
 open_place-requires g c =
-    rw c.as_slice.ensures.value
-    (rows_in_order (is_between c.self.inside.first_push c.self.inside.next) c.self.inside.rows.items
-    c.self.invariant.0)
+    rows_in_order (is_between c.self.inside.first_push c.self.inside.next) c.self.inside.rows.items
+    c.self.invariant.0
 
 pub returns-in_default-clause-holds : goal.returns-in_default-clause-holds
 returns-in_default-clause-holds g c =
     λ first h holds. holds_unchanged run_push first h c.args.self.now c.args.item holds
-    (subst (IsShut c.args.item.push) (c.as_slice.ensures.value
-    ∙ ap (λ b. b.rows) c.self.view_is) c.in_default.ensures.none)
+    (subst (IsShut c.args.item.push) (ap (λ b. b.rows) c.self.view_is) c.in_default.ensures.none)
 
 pub step_row-requires-clause-is_open : goal.step_row-requires-clause-is_open
 step_row-requires-clause-is_open g c =
-    let at = rw c.as_slice.ensures.value at c.in-Some.ensures.some in
+    let at = c.in-Some.ensures.some in
     at.1.1 c.index_mut-row.result.now c.index_mut-row.ensures.value
 
 pub step_row-requires-clause-room : goal.step_row-requires-clause-room
 step_row-requires-clause-room g c =
-    let at = rw c.as_slice.ensures.value at c.in-Some.ensures.some in
+    let at = c.in-Some.ensures.some in
     let one = room_is c.self.inside.rows.items c.in-Some.at c.index_mut-row.result.now at.0
     c.index_mut-row.ensures.value (at.1.1 _ c.index_mut-row.ensures.value) in
     omega (arith, one, c.self.invariant.2)
 
 pub invariant_of-self : goal.invariant_of-self
 invariant_of-self g c =
-    let at = rw c.as_slice.ensures.value at c.in-Some.ensures.some in
+    let at = c.in-Some.ensures.some in
     let is = c.index_mut-row.ensures.value in
     let count = open_count c.self.inside.rows.items c.in-Some.at c.index_mut-row.result.now c.step_row.new.row
     at.0 is (at.1.1 _ is) in (
@@ -50,7 +48,7 @@ invariant_of-self g c =
 
 pub returns-clause-opened : goal.returns-clause-opened
 returns-clause-opened g c = λ refused.
-    let at = rw c.as_slice.ensures.value at c.in-Some.ensures.some in
+    let at = c.in-Some.ensures.some in
     subst (λ b. is_opened b c.args.item.push ≡ true) c.self.view_is
     (open_at_opened (is_between c.self.inside.first_push c.self.inside.next) c.args.item.push
     c.self.inside.rows.items c.in-Some.at c.index_mut-row.result.now c.self.invariant.0 at.1
@@ -58,7 +56,7 @@ returns-clause-opened g c = λ refused.
 
 pub returns-clause-dropped : goal.returns-clause-dropped
 returns-clause-dropped g c = λ shut.
-    let at = rw c.as_slice.ensures.value at c.in-Some.ensures.some in
+    let at = c.in-Some.ensures.some in
     absurd (open_not_shut c.args.item.push c.self.inside.rows.items c.in-Some.at c.index_mut-row.result.now
     at.1 c.index_mut-row.ensures.value
     (subst (IsShut c.args.item.push) (ap (λ b. b.rows) (sym c.self.view_is)) shut))
@@ -71,7 +69,7 @@ returns-clause-pushes g c =
 
 pub returns-clause-holds : goal.returns-clause-holds
 returns-clause-holds g c = λ first h holds.
-    let at = rw c.as_slice.ensures.value at c.in-Some.ensures.some in
+    let at = c.in-Some.ensures.some in
     step_taken run_push first h c.args.self.now _ c.self.inside.rows.items c.args.item.push c.args.item.index
     c.args.item.what c.step_row.result c.in-Some.at c.index_mut-row.result.now c.step_row.new.row
     (ap (λ b. b.rows) c.self.view_is) refl (ap (λ b. b.first_push) c.self.view_is)
