@@ -13,9 +13,9 @@ The cases of a seed are always the same. What goes wrong is told with its seed a
 import argparse, fcntl, glob, os, random, signal, subprocess, sys, time
 
 HERE = os.path.dirname(os.path.abspath(__file__))
-EXAMPLES = os.path.normpath(os.path.join(HERE, "..", "..", "examples"))
-PUSHES = os.path.join(EXAMPLES, "pushes")
-sys.path.insert(0, EXAMPLES)
+TOP = os.path.normpath(os.path.join(HERE, "..", ".."))
+PUSHES = os.path.join(TOP, "examples", "pushes")
+sys.path.insert(0, os.path.join(TOP, "tests"))
 from bundles import CAPS, EMPTY, bundle, group, heads, number, NULL
 
 # how long a case may take

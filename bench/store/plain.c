@@ -1,13 +1,32 @@
-/* What the writes and the syncs of a store cost alone: each batch is written behind a shut gate and synced, and
-   then its gate is opened by one byte and synced. The records have no digest. Arguments: the bytes of a record,
-   and the records of a batch. */
+/* What stands beside a store. Arguments: a way, the bytes of a record, and a number.
+
+   batch   the writes and the syncs of a store alone, by one thread: so many records in each batch
+   group   the same by so many threads: a record waits until it is on the disk, and whoever finds no other
+           writing writes those that wait, up to 64 of them, as one batch
+   lock    so many threads, each of which holds a lock over the writes and the syncs of its own record
+   sqlite  so many threads with a connection each, which insert a record in a transaction of its own, with a
+           write-ahead log and synchronous=FULL
+
+   A batch is written behind a shut gate, each record by two writes, with a shut gate at its end, and is synced;
+   then its first gate is opened by one byte, and synced. The records have no digest. It prints batches and
+   records a second. */
 #define _GNU_SOURCE
 #include <fcntl.h>
+#include <pthread.h>
+#include <sqlite3.h>
 #include <stdio.h>
 #include <stdlib.h>
 #include <string.h>
 #include <time.h>
 #include <unistd.h>
+
+enum { HEAD = 25, MOST = 64 };
+
+static int file;
+static size_t size;
+static off_t end = 38;
+static char *bytes;
+static double until;
 
 static double now(void) {
     struct timespec time;
@@ -15,39 +34,153 @@ static double now(void) {
     return time.tv_sec + time.tv_nsec * 1e-9;
 }
 
-static void put(int file, const char *bytes, size_t length, off_t at) {
+static void put(const char *from, size_t length, off_t at) {
     while (length > 0) {
-        ssize_t count = pwrite(file, bytes, length, at);
+        ssize_t count = pwrite(file, from, length, at);
         if (count <= 0)
             exit(1);
-        bytes += count;
+        from += count;
         length -= count;
         at += count;
     }
+}
+
+static void sync_file(void) {
     if (fdatasync(file) != 0)
         exit(1);
 }
 
-int main(int count, char **words) {
-    if (count != 3)
-        return 2;
-    size_t record = strtoul(words[1], NULL, 10), batch = strtoul(words[2], NULL, 10);
-    size_t length = batch * (25 + record);
-    char *bytes = malloc(length);
-    memset(bytes, 'x', length);
-    bytes[length - 1] = 0;
-    int file = open("speed.plain", O_CREAT | O_TRUNC | O_RDWR, 0644);
-    off_t end = 38;
-    put(file, bytes, 39, 0);
-    double start = now(), spent = 0;
-    long done = 0;
-    while (spent < 1 && done < 100000) {
-        put(file, bytes, length, end + 1);
-        put(file, "\1", 1, end);
-        end += length;
-        done++;
-        spent = now() - start;
+static void put_batch(long records) {
+    char head[HEAD] = {1};
+    off_t at = end + 1;
+    for (long i = 0; i < records; i++) {
+        size_t skipped = i == 0;
+        put(head + skipped, HEAD - skipped, at);
+        at += HEAD - skipped;
+        put(bytes, size, at);
+        at += size;
     }
-    printf("plain %zu %zu %.1f\n", record, batch, done / spent);
+    put("\0", 1, at);
+    sync_file();
+    put("\1", 1, end);
+    sync_file();
+    end = at;
+}
+
+static pthread_mutex_t lock = PTHREAD_MUTEX_INITIALIZER;
+static pthread_cond_t written = PTHREAD_COND_INITIALIZER;
+static long handed, kept, batches;
+static int is_writing;
+
+static void *group(void *unused) {
+    (void)unused;
+    pthread_mutex_lock(&lock);
+    while (now() < until) {
+        long mine = ++handed;
+        while (kept < mine) {
+            if (is_writing) {
+                pthread_cond_wait(&written, &lock);
+                continue;
+            }
+            long records = handed - kept < MOST ? handed - kept : MOST;
+            is_writing = 1;
+            pthread_mutex_unlock(&lock);
+            put_batch(records);
+            pthread_mutex_lock(&lock);
+            is_writing = 0;
+            kept += records;
+            batches++;
+            pthread_cond_broadcast(&written);
+        }
+    }
+    pthread_mutex_unlock(&lock);
+    return NULL;
+}
+
+static void *locked(void *unused) {
+    (void)unused;
+    while (now() < until) {
+        pthread_mutex_lock(&lock);
+        put_batch(1);
+        kept++;
+        batches++;
+        pthread_mutex_unlock(&lock);
+    }
+    return NULL;
+}
+
+static void run(sqlite3 *base, const char *text) {
+    if (sqlite3_exec(base, text, NULL, NULL, NULL) != SQLITE_OK) {
+        fprintf(stderr, "%s: %s\n", text, sqlite3_errmsg(base));
+        exit(1);
+    }
+}
+
+static sqlite3 *opened(void) {
+    sqlite3 *base;
+    if (sqlite3_open("speed.sqlite", &base) != SQLITE_OK)
+        exit(1);
+    sqlite3_busy_timeout(base, 60000);
+    run(base, "pragma journal_mode=wal");
+    run(base, "pragma synchronous=full");
+    return base;
+}
+
+static void *insert(void *unused) {
+    (void)unused;
+    sqlite3 *base = opened();
+    sqlite3_stmt *put_one;
+    if (sqlite3_prepare_v2(base, "insert into pushes(bundle) values(?)", -1, &put_one, NULL) != SQLITE_OK)
+        exit(1);
+    while (now() < until) {
+        sqlite3_bind_blob(put_one, 1, bytes, size, SQLITE_STATIC);
+        if (sqlite3_step(put_one) != SQLITE_DONE) {
+            fprintf(stderr, "%s\n", sqlite3_errmsg(base));
+            exit(1);
+        }
+        sqlite3_reset(put_one);
+        __atomic_fetch_add(&kept, 1, __ATOMIC_SEQ_CST);
+        __atomic_fetch_add(&batches, 1, __ATOMIC_SEQ_CST);
+    }
+    sqlite3_finalize(put_one);
+    sqlite3_close(base);
+    return NULL;
+}
+
+int main(int count, char **words) {
+    if (count != 4)
+        return 2;
+    const char *way = words[1];
+    size = strtoul(words[2], NULL, 10);
+    long number = strtol(words[3], NULL, 10);
+    double seconds = 2;
+    bytes = malloc(size);
+    memset(bytes, 'x', size);
+    void *(*each)(void *) = strcmp(way, "group") == 0 ? group : strcmp(way, "lock") == 0 ? locked : insert;
+    if (strcmp(way, "sqlite") == 0) {
+        sqlite3 *base = opened();
+        run(base, "create table pushes(place integer primary key, bundle blob)");
+        sqlite3_close(base);
+    } else {
+        file = open("speed.plain", O_CREAT | O_TRUNC | O_RDWR, 0644);
+        char head[39] = {0};
+        put(head, 39, 0);
+        sync_file();
+    }
+    double start = now();
+    until = start + seconds;
+    if (strcmp(way, "batch") == 0) {
+        for (; now() < until; batches++, kept += number)
+            put_batch(number);
+    } else {
+        pthread_t threads[number];
+        for (long i = 0; i < number; i++)
+            if (pthread_create(&threads[i], NULL, each, NULL) != 0)
+                return 1;
+        for (long i = 0; i < number; i++)
+            pthread_join(threads[i], NULL);
+    }
+    double spent = now() - start;
+    printf("%s %zu %ld %.1f %.1f\n", way, size, number, batches / spent, kept / spent);
     return 0;
 }
