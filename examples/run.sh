@@ -39,5 +39,11 @@ echo 'The report. A changeset a line: its number, its id, its phase, whether it 
 cat "$room/report"
 echo
 echo 'Nothing of this was proved (the toolchain says proved=no). make build proves every crate, in half an hour to'
-echo 'an hour and a quarter on four processors, and leaves the program at build/hg_pushd. make serve-demo then shows'
-echo 'it as a server.'
+echo 'an hour and a quarter on four processors, and leaves the program at build/hg_pushd. make serve-demo and'
+echo 'make host-demo then show it as a server.'
+program=$here/../build/hg_pushd
+if [ -x "$program" ] && command -v hg > /dev/null; then
+    echo
+    echo 'The program that was proved is there, and so is hg:'
+    bash "$here/host-demo.sh" "$program"
+fi

@@ -5,14 +5,18 @@
 
 The clients work at the same time: they commit, on old changesets too, amend, name branches, merge, set
 bookmarks and publish, and pull between. 200 pushes (or PUSHES) go to a server that does not publish, and then a
-quarter of them to one that does. The mirror has to hold what `hg_pushd report` prints, line by line: changesets
-in their order with phases, bookmarks and markers. `hg verify` has to find nothing. It needs the command hg.
+quarter of them to one that does. Meanwhile the mirror is killed every few seconds and started again. In the end
+it has to hold what `hg_pushd report` prints, line by line: changesets in their order with phases, bookmarks and
+markers. So does a second repository, which is mirrored from `hg_pushd log` through a pipe, in two goes. `hg verify`
+has to find nothing in either. Then one client pushes alone, and it is measured how long after a record is whole
+the mirror has it. It needs the command hg.
 """
 import os
 import random
 import re
 import shutil
 import signal
+import struct
 import subprocess
 import sys
 import tempfile
@@ -21,7 +25,16 @@ import time
 
 TOP = os.path.dirname(os.path.dirname(os.path.abspath(__file__)))
 CLIENTS = 3
+# what runs the commands of clients: CLIENT of the environment may be chg, which takes a quarter of the time
+CLIENT = os.environ.get("CLIENT", "hg")
 LONGEST = 900
+# In a trial of so many pushes and more each sort of change has to come, and pushes of one client alone show how
+# late the mirror is. In a shorter one there are fewer of these, and it may be later, as on a busy machine.
+LONG = 50
+# how many pushes are made by one client alone
+ALONE = 15
+# how soon the middle one of them has to be mirrored, in seconds
+SOON = 0.2
 SETTINGS = """\
 [ui]
 username = somebody
@@ -46,14 +59,16 @@ class Place:
 
     def __init__(self, folder, program, publishes):
         self.folder, self.program, self.publishes = folder, program, publishes
-        self.started = []
+        self.started, self.mirror, self.kills, self.is_over = [], None, 0, False
         with open(f"{folder}/hgrc", "w", encoding="utf-8") as file:
             file.write(SETTINGS.format(top=TOP))
         self.environment = {"PATH": os.environ["PATH"], "HGRCPATH": f"{folder}/hgrc", "HGPLAIN": "1",
-                            "LC_ALL": "C.UTF-8", "HOME": folder}
+                            "LC_ALL": "C.UTF-8", "HOME": folder, "PYTHONDONTWRITEBYTECODE": "1", "CHGSOCKNAME": f"{folder}/chg",
+                            "CHGTIMEOUT": "120"}
 
     def run(self, *words):
         """The status of a command, and what it said."""
+        words = [CLIENT if words[0] == "hg" else words[0], *words[1:]]
         done = subprocess.run(words, cwd=self.folder, env=self.environment, stdin=subprocess.DEVNULL,
                               stdout=subprocess.PIPE, stderr=subprocess.STDOUT, timeout=120, check=False)
         return done.returncode, done.stdout.decode("utf-8", "replace")
@@ -64,39 +79,74 @@ class Place:
             sys.exit(f"hg {' '.join(words)}: status {status}\n{said}")
         return said
 
+    def begin(self, name, *words):
+        """Starts a process that runs until the end."""
+        with open(f"{self.folder}/{name}.log", "ab") as log:
+            return subprocess.Popen(words, cwd=self.folder, env=self.environment, stdin=subprocess.DEVNULL,
+                                    stdout=log, stderr=log)
+
     def start(self, name, *words):
         """Starts a server, and gives the port that it names."""
-        with open(f"{self.folder}/{name}.log", "wb") as log:
-            self.started.append(subprocess.Popen(words, cwd=self.folder, env=self.environment,
-                                                 stdin=subprocess.DEVNULL, stdout=log, stderr=log))
+        self.started.append(self.begin(name, *words))
         for _ in range(400):
             with open(f"{self.folder}/{name}.log", encoding="utf-8", errors="replace") as log:
                 found = re.search(r"://[\w.]+:(\d+)/", log.read())
-            if found or name == "mirror":
-                return found and found[1]
+            if found:
+                return found[1]
             time.sleep(0.05)
         sys.exit(f"{name} does not start")
+
+    def start_mirror(self):
+        self.mirror = self.begin("mirror", "hg", "-R", "mirrored", "mirror", "--store", "store")
+
+    def kill_mirror(self):
+        """Kills the mirror and starts it again. Until then it may not have ended by itself."""
+        if self.mirror.poll() is not None:
+            with open(f"{self.folder}/mirror.log", encoding="utf-8", errors="replace") as log:
+                sys.exit(f"the mirror ended by itself\n{log.read()[-2000:]}")
+        self.mirror.kill()
+        self.mirror.wait()
+        self.kills += 1
+        self.start_mirror()
+
+    def make(self, name):
+        """Makes a repository that publishes as the server does."""
+        self.hg("init", name)
+        with open(f"{self.folder}/{name}/.hg/hgrc", "w", encoding="utf-8") as file:
+            file.write(f"[phases]\npublish = {'yes' if self.publishes else 'no'}\n")
 
     def serve(self):
         host = [self.program, "host", "--store", "store", "--listen", "127.0.0.1:0"]
         self.push = self.start("host", *host, *(["--publishing"] if self.publishes else []))
-        self.hg("init", "mirrored")
-        with open(f"{self.folder}/mirrored/.hg/hgrc", "w", encoding="utf-8") as file:
-            file.write(f"[phases]\npublish = {'yes' if self.publishes else 'no'}\n")
-        self.start("mirror", "hg", "-R", "mirrored", "mirror", "--store", "store")
+        self.make("mirrored")
+        self.start_mirror()
         hgweb = ["hg", "-R", "mirrored", "serve", "-a", "127.0.0.1", "-p", "0", "--print-url"]
         self.pull = self.start("hgweb", *hgweb)
 
     def end(self):
-        for process in self.started:
+        for process in filter(None, [*self.started, self.mirror]):
             process.send_signal(signal.SIGTERM)
             process.wait()
 
-    def mirrored(self):
+    def follow_log(self, name, first):
+        """Mirrors what `log` writes to a pipe, from a place on; whether both ended well."""
+        log = subprocess.Popen([self.program, "log", "--store", "store", "--from", str(first)], cwd=self.folder,
+                               stdin=subprocess.DEVNULL, stdout=subprocess.PIPE)
+        done = subprocess.run(["hg", "-R", name, "mirror", "--log", "-", "--from", str(first)], cwd=self.folder,
+                              env=self.environment, stdin=log.stdout, stdout=subprocess.PIPE,
+                              stderr=subprocess.STDOUT, timeout=LONGEST, check=False)
+        log.stdout.close()
+        if log.wait() or done.returncode:
+            print(done.stdout.decode("utf-8", "replace")[-2000:])
+        return log.returncode == 0 and done.returncode == 0
+
+    def count(self, name="mirrored"):
+        """How many pushes a repository has."""
         try:
-            with open(f"{self.folder}/mirrored/.hg/store/pushes-mirrored", encoding="ascii") as file:
+            with open(f"{self.folder}/{name}/.hg/store/pushes-mirrored", encoding="ascii") as file:
                 return int(file.read().split()[0])
-        except FileNotFoundError:
+        except (FileNotFoundError, IndexError):
+            # it is empty for a moment where what was not finished is rolled back
             return 0
 
 
@@ -106,6 +156,7 @@ class Client:
     def __init__(self, place, number, seed):
         self.place, self.name = place, f"client{number}"
         self.random, self.count, self.refused = random.Random(f"{seed}.{number}"), 0, 0
+        self.fault = None
         place.hg("clone", "-q", f"http://127.0.0.1:{place.pull}/", self.name)
         with open(f"{place.folder}/{self.name}/.hg/hgrc", "w", encoding="utf-8") as file:
             file.write(f"[paths]\ndefault = http://127.0.0.1:{place.pull}/\n"
@@ -169,25 +220,81 @@ class Client:
         status, said = self.hg("push", *(["-f"] if self.random.random() < 0.8 else []), "--new-branch")
         self.refused += status not in (0, 1)
         if "Traceback" in said:
-            sys.exit(said)
+            self.fault = said
 
 
 def work(client, wanted, end):
-    while client.place.mirrored() < wanted and time.time() < end:
+    while client.place.count() < wanted and time.time() < end and not (client.fault or client.place.is_over):
         client.act()
 
 
-def lines_of_mirror(place):
-    """What the mirror holds, in the lines of a report."""
+def work_together(place, clients, pushes, end):
+    """The clients work, and the mirror is killed meanwhile. Half way the log is mirrored to a second repository;
+    whether that went well."""
+    threads = [threading.Thread(target=work, args=(it, pushes, end)) for it in clients]
+    for it in threads:
+        it.start()
+    followed = None
+    try:
+        while any(it.is_alive() for it in threads):
+            time.sleep(random.uniform(1, 6) if pushes >= LONG else random.uniform(3, 12))
+            place.kill_mirror()
+            if followed is None and place.count() >= pushes // 2:
+                followed = place.follow_log("piped", 0)
+    finally:
+        place.is_over = True
+        for it in threads:
+            it.join()
+    return followed is not False
+
+
+class Records:
+    """The records of a store, as they become whole."""
+
+    def __init__(self, place):
+        self.file, self.end, self.count = open(f"{place.folder}/store/pushes", "rb", buffering=0), 38, 0
+
+    def has_next(self):
+        """Whether another record is whole."""
+        front = os.pread(self.file.fileno(), 5, self.end)
+        if len(front) < 5 or front[0] != 1:
+            return False
+        self.end += 25 + struct.unpack(">I", front[1:])[0]
+        self.count += 1
+        return True
+
+
+def lags(place, client, number):
+    """How long after its record was whole each push of a client was mirrored, in seconds, in ascending order."""
+    records, took = Records(place), []
+    while records.has_next():
+        pass
+    for _ in range(number):
+        client.write()
+        client.hg("commit", "-A", "-m", f"{client.name} {client.count}, alone")
+        push = place.begin("alone", "hg", "-R", client.name, "push", "-f", "--new-branch")
+        end = time.time() + 60
+        while not records.has_next() and time.time() < end:
+            time.sleep(0.001)
+        start = time.monotonic()
+        while place.count() < records.count and time.time() < end:
+            time.sleep(0.001)
+        took.append(time.monotonic() - start if time.time() < end else 60)
+        push.wait()
+    return sorted(took)
+
+
+def lines_of(place, name):
+    """What a repository holds, in the lines of a report."""
     form = ("C {rev} {node} {ifeq(phase, 'public', 0, ifeq(phase, 'draft', 1, 2))} "
             "{ifeq(obsolete, 'obsolete', 1, 0)}\\n")
-    lines = place.hg("-R", "mirrored", "log", "--hidden", "-r", "all()", "-T", form).splitlines()
-    marks = place.hg("-R", "mirrored", "bookmarks", "-T", "{node} {bookmark}\\n")
+    lines = place.hg("-R", name, "log", "--hidden", "-r", "all()", "-T", form).splitlines()
+    marks = place.hg("-R", name, "bookmarks", "-T", "{node} {bookmark}\\n")
     for line in marks.replace("no bookmarks set\n", "").splitlines():
-        node, _, name = line.partition(" ")
-        lines.append(f"B {full(place, node)} {escaped(name)}")
+        node, _, mark = line.partition(" ")
+        lines.append(f"B {full(place, name, node)} {escaped(mark)}")
     python = place.hg("debuginstall", "-T", "{pythonexe}")
-    _, markers = place.run(python, "-c", MARKERS.format(path=b"mirrored"))
+    _, markers = place.run(python, "-c", MARKERS.format(path=name.encode()))
     return sorted_bookmarks(lines) + markers.splitlines()
 
 
@@ -196,8 +303,8 @@ def escaped(name):
     return "".join(chr(it) if bytes([it]).isalnum() else f"%{it:02X}" for it in name.encode())
 
 
-def full(place, node):
-    return place.hg("-R", "mirrored", "log", "--hidden", "-r", node, "-T", "{node}")
+def full(place, name, node):
+    return place.hg("-R", name, "log", "--hidden", "-r", node, "-T", "{node}")
 
 
 def sorted_bookmarks(lines):
@@ -205,19 +312,35 @@ def sorted_bookmarks(lines):
     return [it for it in lines if not it.startswith("B ")] + marks
 
 
-def compare(place):
-    """Whether report and mirror are the same; what differs is printed."""
+def compare(place, name):
+    """Whether the report and a repository are the same; what differs is printed."""
     status, report = place.run(place.program, "report", "--store", "store")
     report = [it for it in report.splitlines() if it[:2] in ("C ", "B ", "O ")]
-    report, mirror = sorted_bookmarks(report), sorted_bookmarks(lines_of_mirror(place))
-    by_kind = {kind: [[it for it in lines if it[0] == kind] for lines in (report, mirror)] for kind in "CBO"}
-    for kind, (wanted, found) in by_kind.items():
-        if wanted != found:
-            print(f"{kind}: not the same")
-            print("\n".join([f"- {it}" for it in wanted if it not in found][:5]
-                            + [f"+ {it}" for it in found if it not in wanted][:5]))
-    counts = {kind: len(wanted) for kind, (wanted, _) in by_kind.items()}
-    return status == 0 and all(wanted == found for wanted, found in by_kind.values()), counts
+    report, found = sorted_bookmarks(report), sorted_bookmarks(lines_of(place, name))
+    for kind in "CBO":
+        wanted, got = ([it for it in lines if it[0] == kind] for lines in (report, found))
+        if wanted != got:
+            print(f"{name}, {kind}: not the same")
+            print("\n".join([f"- {it}" for it in wanted if it not in got][:5]
+                            + [f"+ {it}" for it in got if it not in wanted][:5]))
+    return status == 0 and report == found
+
+
+# what has to be among the changesets of each kind of server, and of one that does not publish
+ALWAYS = {"changesets": "all()", "off the default branch": "not branch(default)", "public": "public()"}
+DRAFTS = {"draft": "draft()", "amended": "obsolete()", "merges": "merge()"}
+
+
+def variety(place):
+    """How many changesets the mirror has of each sort, and how many bookmarks and markers."""
+    sorts = ALWAYS if place.publishes else {**ALWAYS, **DRAFTS}
+    found = {sort: len(place.hg("-R", "mirrored", "log", "--hidden", "-r", revisions, "-T", "x"))
+             for sort, revisions in sorts.items()}
+    lines = lines_of(place, "mirrored")
+    found["bookmarks"] = sum(it.startswith("B ") for it in lines)
+    if not place.publishes:
+        found["markers"] = sum(it.startswith("O ") for it in lines)
+    return found
 
 
 def trial(program, publishes, pushes, seed):
@@ -225,26 +348,38 @@ def trial(program, publishes, pushes, seed):
     place = Place(folder, program, publishes)
     try:
         place.serve()
+        place.make("piped")
         clients = [Client(place, number, seed) for number in range(CLIENTS)]
         end = time.time() + LONGEST
-        threads = [threading.Thread(target=work, args=(it, pushes, end)) for it in clients]
-        for it in threads:
-            it.start()
-        for it in threads:
-            it.join()
+        seen = {"the log through a pipe, half way": work_together(place, clients, pushes, end)}
         done = place.run(program, "report", "--store", "store")[1].count("\nJ ")
-        while place.mirrored() < done and time.time() < end:
+        while place.count() < done and time.time() < end:
             time.sleep(0.05)
-        same, counts = compare(place)
-        status, said = place.run("hg", "-R", "mirrored", "verify")
-        kind = "publishes" if publishes else "does not publish"
-        is_good = same and status == 0 and place.mirrored() >= pushes
-        print(f"clients.py: a server that {kind}, seed {seed}: {place.mirrored()} pushes of {CLIENTS} clients, "
-              f"{sum(it.refused for it in clients)} not made, {counts['C']} changesets, {counts['B']} "
-              f"bookmarks, {counts['O']} markers: {'as wanted' if is_good else 'NOT AS WANTED'}", flush=True)
-        if status:
-            print(said[-2000:])
-        return is_good
+        seen["so many pushes"] = place.count() >= pushes
+        seen["no traceback of a client"] = not any(it.fault for it in clients)
+        together, took = place.count(), lags(place, clients[0], ALONE if pushes >= LONG else ALONE // 3)
+        middle, longest = took[len(took) // 2], took[-1]
+        seen["in time"] = middle < SOON or pushes < LONG and middle < 5 * SOON
+        piped = place.count("piped")
+        seen["the log through a pipe, the rest"] = place.follow_log("piped", max(0, piped - 3))
+        seen["the mirror never ended by itself"] = place.mirror.poll() is None
+        for name in ("mirrored", "piped"):
+            seen[f"the report, line by line: {name}"] = compare(place, name)
+            status, said = place.run("hg", "-R", name, "verify")
+            seen[f"verify: {name}"] = status == 0
+            if status:
+                print(said[-2000:])
+        found = variety(place)
+        seen["of each sort some"] = pushes < LONG or all(found.values())
+        bad = [what for what, is_good in seen.items() if not is_good]
+        print("".join(it.fault for it in clients if it.fault)[-2000:], end="")
+        print(f"clients.py: a server that {'publishes' if publishes else 'does not publish'}, seed {seed}: "
+              f"{together} pushes of {CLIENTS} clients, {sum(it.refused for it in clients)} not made, and "
+              f"{len(took)} of one; {', '.join(f'{number} {sort}' for sort, number in found.items())}; the mirror "
+              f"was killed {place.kills} times; {piped} pushes came half way through the pipe; a push alone "
+              f"was mirrored after {1000 * middle:.0f} ms (middle), {1000 * longest:.0f} ms (longest): "
+              f"{'NOT AS WANTED: ' + '; '.join(bad) if bad else 'as wanted'}", flush=True)
+        return not bad
     finally:
         place.end()
         shutil.rmtree(folder)

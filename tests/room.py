@@ -66,11 +66,20 @@ def cgroup():
             try:
                 yield own
             finally:
-                for folder, _, _ in os.walk(own, topdown=False):
-                    with contextlib.suppress(OSError):
-                        os.rmdir(folder)
+                remove_cgroup(own)
             return
     yield None
+
+
+def remove_cgroup(own):
+    """Removes a cgroup as soon as its last process is gone."""
+    for _ in range(100):
+        for folder, _, _ in os.walk(own, topdown=False):
+            with contextlib.suppress(OSError):
+                os.rmdir(folder)
+        if not os.path.exists(own):
+            return
+        time.sleep(0.1)
 
 
 def run(words, files, hosts, shared, has_systemd, seconds=900):
@@ -86,6 +95,9 @@ def run(words, files, hosts, shared, has_systemd, seconds=900):
         try:
             made.wait(seconds)
         except subprocess.TimeoutExpired:
+            pass
+        finally:
+            # with it all processes of the room end
             made.kill()
             made.wait()
         try:
@@ -168,6 +180,8 @@ def start_systemd(root, command):
 
 def play(root, command):
     shutil.copytree(f"{HERE}/played", f"{root}{PLACE}/bin", dirs_exist_ok=True)
+    # one script plays both, by its name
+    os.symlink("systemctl", f"{root}{PLACE}/bin/journalctl")
     os.chroot(root)
     os.chdir("/")
     with open(f"{PLACE}/told/said", "wb") as said:

@@ -5,15 +5,17 @@
 
 It makes the Debian package of the program, and a clean machine of its own (tests/room.py). There the commands
 of the page run as they stand, root's and a user's, who types names and passwords at a terminal. After each
-section it looks at what the section promised. It needs root, Linux's overlay and namespaces, and the packages
-mercurial, nginx, openssl and curl. Where one is missing it says so, and nothing is tried.
+section it looks at what the section promised, and in the end at what the page says beside its commands. It needs root, Linux's overlay and namespaces, and the packages
+mercurial, nginx, openssl, curl and systemd. Where one is missing it says so, and nothing is tried.
 
 `apt-get install` is played (tests/played), as there is no network: it says whether the packages are there. So
 are `systemctl` and `journalctl` where systemd cannot run, or with --played after the program.
 """
+import glob
 import os
 import re
 import shutil
+import signal
 import subprocess
 import sys
 import tempfile
@@ -69,7 +71,8 @@ class Trial:
         try:
             with open(f"{REPOSITORY}/.hg/store/pushes-mirrored", encoding="ascii") as file:
                 return int(file.read().split()[0])
-        except FileNotFoundError:
+        except (FileNotFoundError, IndexError):
+            # it is empty for a moment where what was not finished is rolled back
             return 0
 
     def has_mirrored(self, pushes, changesets):
@@ -161,18 +164,81 @@ class Trial:
     def after_when_the_mirror_stops(self):
         self.see("the journal has the place and the reason", "Mercurial refuses push 5: " in self.said,
                  self.said)
-        self.see("what was cut is kept", os.path.getsize(f"{STORE}/pushes.cut-5") > 0)
+        looked_at = sorted(os.listdir("/root/pushes-from-5"))
+        self.see("what would be lost was looked at", looked_at == ["0000000005", "0000000006"], looked_at)
+        parts = [read(f"/root/pushes-from-5/{it}") for it in looked_at]
+        self.see("what was cut is kept", read(f"{STORE}/pushes.cut-5") == b"".join(parts))
         status, said = self.user.type("cd ~/other && echo four > file && hg commit -m four && hg push")
         self.see("the clone pushes again", status == 0, said)
         self.has_mirrored(6, 6)
+
+    # What the text says beside the commands.
+
+    def root_types(self, *commands):
+        for command in commands:
+            status, said = self.root.type(command)
+            self.see(f"# {command}", status == 0, said)
+
+    def begin_anew(self):
+        """A repository for the mirror in the place of the one before, by the page's own commands."""
+        made = [command for section, _, command in self.typed if section == "Start the mirror and hgweb"]
+        self.root_types("systemctl stop deqtorap-mirror deqtorap-hgweb",
+                        f"rm -rf {REPOSITORY}", *made[:-1], "systemctl start deqtorap-mirror deqtorap-hgweb")
+
+    def journal_has(self, words):
+        """Waits for words in the mirror's journal; it is started again after five seconds."""
+        end = time.time() + 20
+        told = ""
+        while words not in told and time.time() < end:
+            time.sleep(0.5)
+            _, told = self.root.type("journalctl -u deqtorap-mirror -n 20")
+        self.see(f"the journal has: {words}", words in told, told)
+
+    def try_cut_of_what_was_mirrored(self):
+        self.root_types("systemctl stop deqtorap-host",
+                        f"runuser -u deqtorap -- hg_pushd cut --store {STORE} --at 4",
+                        "systemctl start deqtorap-host")
+        self.journal_has("6 pushes were mirrored here")
+        self.begin_anew()
+        self.has_mirrored(4, 4)
+
+    def try_locks(self):
+        locks = f"runuser -u deqtorap-mirror -- hg debuglocks -R {REPOSITORY}"
+        self.root_types("systemctl stop deqtorap-mirror",
+                        f"runuser -u deqtorap-mirror -- ln -s elsewhere:1 {REPOSITORY}/.hg/store/lock")
+        _, told = self.root.type(locks)
+        self.see("a lock that was left is shown", "elsewhere" in told, told)
+        self.root_types(f"{locks} --force-free-lock --force-free-wlock")
+        _, told = self.root.type(locks)
+        self.see("it is taken away", "elsewhere" not in told and told.count("free") == 2, told)
+        self.root_types("systemctl start deqtorap-mirror")
+
+    def try_publishing(self):
+        """A server that publishes and sends on who pulls from it."""
+        unit = "/etc/systemd/system/deqtorap-host.service"
+        self.root_types("systemctl stop deqtorap-host", f"mv {STORE} /var/backups/store",
+                        f"cp /lib/systemd/system/deqtorap-host.service {unit}",
+                        f"sed -i '/^ExecStart=/s|$| --publishing --pull https://hg.example.org/|' {unit}",
+                        "systemctl daemon-reload", "systemctl start deqtorap-host")
+        self.begin_anew()
+        self.journal_has("publish = yes")
+        self.root_types(f"sed -i 's/^publish = no/publish = yes/' {REPOSITORY}/.hg/hgrc",
+                        "systemctl restart deqtorap-hgweb")
+        status, told = self.user.type("hg init ~/public && cd ~/public && echo five > file && "
+                                      "hg commit -A -m five && hg push https://hg.example.org/")
+        self.see("a push to a server that publishes", status == 0, told)
+        self.has_mirrored(1, 1)
+        self.answers("it is public", "hg log -T '{desc} {phase}\\n'", "five public", self.user)
+        self.answers("who pulls from the push server is sent on", "hg clone http://127.0.0.1:8000/ ~/sent && "
+                     "hg -R ~/sent log -T '{desc} {phase}\\n'", "five public", self.user)
 
     def look(self, when, section):
         slug = re.sub(r"\W+", "_", section.lower())
         getattr(self, f"{when}_{slug}", lambda: None)()
 
     def run(self, page):
-        section = ""
-        for name, who, command in commands(page):
+        section, self.typed = "", commands(page)
+        for name, who, command in self.typed:
             if name != section:
                 self.look("after", section)
                 print(name, flush=True)
@@ -182,8 +248,17 @@ class Trial:
             self.said += said
             self.see(f"{who} {command}", status == 0, f"status {status}\n{said}")
         self.look("after", section)
+        print("What the text says", flush=True)
+        self.try_cut_of_what_was_mirrored()
+        self.try_locks()
+        self.try_publishing()
         print(f"team.py: {self.good} as wanted, {self.bad} not")
         return 1 if self.bad else 0
+
+
+def read(path):
+    with open(path, "rb") as file:
+        return file.read()
 
 
 def write_pushes(folder):
@@ -212,16 +287,17 @@ def in_the_room():
 def main(words):
     if words[0] == "--in-the-room":
         return in_the_room()
-    why = room.missing(["hg", "nginx", "openssl", "curl", "dpkg", "dpkg-deb"])
+    why = room.missing(["hg", "nginx", "openssl", "curl", "dpkg", "dpkg-deb", "systemd-sysusers"])
     if why:
         print(f"team.py: skipped, {why}")
         return 0
-    made = subprocess.run(["bash", f"{TOP}/tools/deb.sh", words[0]], check=True, stdout=subprocess.PIPE,
-                          text=True).stdout
-    package = f"{TOP}/{re.search(r'The package is at (.*)[.]', made)[1]}"
+    # ended by another, it ends the room too
+    signal.signal(signal.SIGTERM, lambda *_: sys.exit(1))
     systemd = room.has_systemd() and "--played" not in words
     print(f"team.py: units run under {'systemd' if systemd else 'a played systemctl'}", flush=True)
     with tempfile.TemporaryDirectory() as folder, tempfile.TemporaryDirectory() as shared:
+        subprocess.run(["bash", f"{TOP}/tools/deb.sh", words[0], folder], check=True, stdout=subprocess.DEVNULL)
+        package = glob.glob(f"{folder}/*.deb")[0]
         files = [package, PAGE, *EXTRA, __file__, room.__file__, *write_pushes(folder)]
         status = room.run(["python3", f"{room.PLACE}/{MAIN}", "--in-the-room"], files,
                           ["hg.example.org", "push.example.org"], shared, systemd)

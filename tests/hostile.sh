@@ -1,5 +1,5 @@
 #!/usr/bin/env bash
-# Clients that ask for more memory than there is: examples/hostile.sh PROGRAM. It ends by itself.
+# Clients that ask for more memory than there is: tests/hostile.sh PROGRAM. It ends by itself.
 set -u
 here=$(cd "$(dirname "$0")" && pwd)
 if ! command -v python3 > /dev/null; then

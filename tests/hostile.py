@@ -5,11 +5,12 @@ memory for is answered so, the others are done, and the report is that of the do
 """
 import select
 
-import clients
-from clients import *
+import loopback
+from loopback import *
+from hostile_pushes import REFUSING, ROWS, longest
 
 # much is hashed and moved here, perhaps on a busy machine
-clients.WAIT = 90
+loopback.WAIT = 90
 
 MIB = 1 << 20
 # what a server has at its start, and the stack of a thread
@@ -298,6 +299,62 @@ def a_thousand_connections_under_a_limit(room):
     close(clients)
     want("done pushes", len(pushes.done), 1_024)
     ended_as_one_by_one(server, room, pushes, 1_024)
+
+
+class Small:
+    """Small pushes, one after another on a connection: how long each waited for its reply."""
+
+    def __init__(self, server):
+        self.client, self.waits = server.connect(), []
+
+    def push(self):
+        text = b"small %d" % len(self.waits)
+        start = time.monotonic()
+        self.client.sendall(bundle(CAPS, group((text, NULL))))
+        want("a small push is done", is_done(read_reply(self.client)), True)
+        self.waits.append(time.monotonic() - start)
+
+    def push_until(self, ended):
+        """At least 100, and on until that is so, with pauses, since a connection has 10,000 bundles."""
+        while len(self.waits) < 100 or not ended.is_set():
+            self.push()
+            time.sleep(0.002)
+
+
+def beside_small_ones(room, make, count):
+    """A hostile push, and small ones beside it. None of them waits longer than the hostile one may hold the lock."""
+    before, hostile, hashed = make(count)
+    server, ended = served(room, len(before) + 2, "--bundles", "10000"), threading.Event()
+    for sent in before:
+        want("refused parts of a push before", server.push(sent).count(b"ERROR"), 0)
+    small, refused = Small(server), []
+
+    def push(place):
+        if place:
+            small.push_until(ended)
+            return
+        try:
+            refused.append(b"ERROR" in server.push(hostile))
+        finally:
+            ended.set()
+
+    together(2, push)
+    small.client.close()
+    want(f"{make.__name__} is refused", refused, [make in REFUSING])
+    slowest = max(small.waits)
+    if slowest > longest(len(hostile), hashed):
+        raise Wrong(f"{make.__name__}: a small push of {len(small.waits)} waited {slowest:.2f} s")
+    server.ended(0, None)
+    done = sum(line.startswith("J ") for line in server.told().splitlines())
+    want("done pushes", done, len(before) + len(small.waits) + (not refused[0]))
+
+
+@case
+def small_pushes_beside_hostile_ones(room):
+    """Of each kind that asks much of the server a push of a quarter of the largest size, beside small ones."""
+    os.environ.pop("GLIBC_TUNABLES", None)
+    for make, most in ROWS.values():
+        beside_small_ones(room, make, most // 4)
 
 
 play("Hostile clients: each was answered, and the others were served.")

@@ -1,9 +1,8 @@
 #!/usr/bin/env bash
-# Runs the built program, and compares its status, what it writes and what it tells: examples/check.sh
-# PROGRAM.
+# Runs the built program, and compares its status, what it writes and what it reports: tests/check.sh PROGRAM
 set -u
 program=$1
-here=$(cd "$(dirname "$0")" && pwd)
+examples=$(cd "$(dirname "$0")/../examples" && pwd)
 room=$(mktemp -d)
 trap 'rm -rf "$room"' EXIT
 failed=0
@@ -34,7 +33,7 @@ aborted 'stream fault 10' > "$room/truncated"
 "$program" --version > "$room/version" || failed=1
 [[ $(cat "$room/version") =~ ^hg_pushd\ [0-9]+\.[0-9]+\.[0-9]+$ ]] || wrong 'the version is not told'
 
-cp "$here/first-push.hg20" "$room/in"
+cp "$examples/first-push.hg20" "$room/in"
 check 'the first push' 0 "$room/empty" '' one
 check 'the first push is published' 0 "$room/empty" '' one --publishing
 check 'a missing subcommand' 2 "$room/nothing" \
@@ -42,7 +41,7 @@ check 'a missing subcommand' 2 "$room/nothing" \
 check 'a bad word' 2 "$room/nothing" "error: unrecognized subcommand 'two'" two
 check 'a word that is not text' 2 "$room/nothing" 'error: a word of the command line is not UTF-8' \
     "$(printf '\xff')"
-head -c 80 "$here/first-push.hg20" > "$room/in"
+head -c 80 "$examples/first-push.hg20" > "$room/in"
 check 'a bundle that is cut short' 1 "$room/truncated" 'hg_pushd: push aborted' one
 for command in one replay serve host report log cut; do
     "$program" $command --help > "$room/help" || failed=1
@@ -66,16 +65,16 @@ told $? 'a standard input for writing'
 "$program" one < "$room" > "$room/out" 2> "$room/err"
 told $? 'a folder'
 cmp -s "$room/out" "$room/lost" || wrong 'a folder has another reply'
-"$program" one < "$here/first-push.hg20" >&- 2> "$room/err"
+"$program" one < "$examples/first-push.hg20" >&- 2> "$room/err"
 told $? 'a closed standard output'
-"$program" one < "$here/first-push.hg20" > /dev/full 2> "$room/err"
+"$program" one < "$examples/first-push.hg20" > /dev/full 2> "$room/err"
 told $? 'a full device'
 mkfifo "$room/pipe"
 exec 5<> "$room/pipe" 6> "$room/pipe" 5>&-
-"$program" one < "$here/first-push.hg20" >&6 2> "$room/err"
+"$program" one < "$examples/first-push.hg20" >&6 2> "$room/err"
 told $? 'a pipe that nobody reads'
 exec 6>&-
-"$program" one < "$here/first-push.hg20" 2>&- > "$room/out" && cmp -s "$room/out" "$room/empty" ||
+"$program" one < "$examples/first-push.hg20" 2>&- > "$room/out" && cmp -s "$room/out" "$room/empty" ||
     wrong 'a closed standard error stops a push'
 "$program" one < "$room/nothing" 2> /dev/full > "$room/out"
 [ $? = 1 ] && cmp -s "$room/out" "$room/truncated" ||
@@ -92,10 +91,10 @@ told $? 'a full device for the help'
 # of none.
 printf 'HG20\0\0\0\0\0\0\0\x2f\x11reply:changegroup\0\0\0\0\0\x02\x0b\x01\x06\x01%s\0\0\0\0\0\0\0\0' \
     in-reply-to2return1 > "$room/changesets"
-first="$here/pushes/first-changesets"
+first="$examples/pushes/first-changesets"
 cp "$first/01.hg20" "$room/in"
 check 'the first changesets' 0 "$room/changesets" '' one
-for row in "$here"/pushes/*/; do
+for row in "$examples"/pushes/*/; do
     words=(one)
     [ -e "$row/publishing" ] && words+=(--publishing)
     for push in 01 02; do
@@ -112,7 +111,7 @@ done
 # The same pushes, each row whole: the report is what Mercurial's server held behind them. The status is 1
 # where it refused one.
 : > "$room/in"
-for row in "$here"/pushes/*/; do
+for row in "$examples"/pushes/*/; do
     words=(replay)
     [ -e "$row/publishing" ] && words+=(--publishing)
     wanted=0 line=''

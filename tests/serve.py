@@ -4,7 +4,7 @@ Each case starts `hg_pushd serve` on a free port of 127.0.0.1, pushes to it, and
 status, the report and what stands on standard error. It ends by itself: a socket waits 30 seconds at most,
 and a server 60.
 """
-from clients import *
+from loopback import *
 
 
 @case

@@ -15,7 +15,7 @@ import tempfile
 from bundles import CAPS, EMPTY, NULL, ROOT_PUSH, bundle, group, heads
 
 PROGRAM = os.path.abspath(sys.argv[1])
-HERE = os.path.dirname(os.path.abspath(__file__))
+EXAMPLES = f"{os.path.dirname(os.path.dirname(os.path.abspath(__file__)))}/examples"
 LIMITS = (65536, 67108864, 268435456, 10000, 16777216, 1024, 2147483647)
 HEAD = 38
 SHUT = b"\0"
@@ -120,11 +120,11 @@ class Row:
 
 
 def rows():
-    return [Row(os.path.dirname(it)) for it in sorted(glob.glob(f"{HERE}/pushes/*/report"))]
+    return [Row(os.path.dirname(it)) for it in sorted(glob.glob(f"{EXAMPLES}/pushes/*/report"))]
 
 
 def row(name):
-    return Row(f"{HERE}/pushes/{name}")
+    return Row(f"{EXAMPLES}/pushes/{name}")
 
 
 def journal(count):

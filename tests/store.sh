@@ -1,5 +1,5 @@
 #!/usr/bin/env bash
-# Stores made by hand, read and ended by the built program: examples/store.sh PROGRAM. It ends by itself.
+# Stores made by hand, read and ended by the built program: tests/store.sh PROGRAM. It ends by itself.
 set -u
 here=$(cd "$(dirname "$0")" && pwd)
 if ! command -v python3 > /dev/null; then

@@ -1,0 +1,298 @@
+"""How `host` of the built program lives with connections that do nothing, or little: life.py PROGRAM [NAME..]
+
+A thousand silent connections beside 24 that push; connections that are silent or slow, in what they send and in
+what they read; bodies beyond the memory; and descriptors that run out. It ends by itself, within a minute on a
+machine with little else to do.
+"""
+import contextlib
+import os
+import re
+import resource
+import selectors
+import socket
+import subprocess
+import sys
+import tempfile
+import time
+
+from bundles import CAPS, EMPTY, NULL, ROOT_PUSH, bundle, group
+from host import EMPTY_REPLY, Host, Wrong, answer, request, want
+
+PUSH = ("content-type: application/mercurial-0.1", "x-hgarg-1: heads=666f726365")
+CASES = []
+
+
+def case(body):
+    CASES.append(body)
+    return body
+
+
+def pushed(text):
+    """A request that pushes one changeset of that text."""
+    return request("/?cmd=unbundle", bundle(CAPS, group((text, NULL))), PUSH)
+
+
+def silent(host, number):
+    """A connection that sent nothing, a part of a head, or a part of a body."""
+    line = host.connect()
+    line.sendall((b"", b"GET /?cmd=heads HT", request("/?cmd=unbundle", ROOT_PUSH, PUSH)[:-7])[number % 3])
+    return line
+
+
+def is_ended(line):
+    """Whether the other side ended the connection, or ends it while this waits."""
+    try:
+        return line.recv(1 << 16) == b""
+    except ConnectionError:
+        return True
+
+
+def opened(host):
+    """How many connections are open, of which one asks."""
+    return int(re.search(rb"^\w*connections\w* (\d+)$", host.ask("/metrics")[2], re.M)[1])
+
+
+def becomes(host, count):
+    """Whether so many connections are open soon, with the one that asks."""
+    for _ in range(300):
+        if opened(host) == count:
+            return True
+        time.sleep(0.1)
+    return False
+
+
+# ---- a thousand silent ones
+
+class Pusher:
+    """A connection that pushes one changeset after the other, each when the answer before it is there."""
+
+    def __init__(self, host, name, pushes):
+        self.line = host.connect()
+        self.line.setsockopt(socket.IPPROTO_TCP, socket.TCP_NODELAY, 1)
+        self.requests = [pushed(b"%s, the %d" % (name, number)) for number in range(pushes)]
+        self.got, self.since, self.times = b"", 0.0, []
+
+    def send(self):
+        self.since = time.perf_counter()
+        self.line.sendall(self.requests[len(self.times)])
+
+    def receive(self):
+        """Reads what is there; true where all pushes are answered."""
+        self.got += self.line.recv(1 << 16)
+        head, end, body = self.got.partition(b"\r\n\r\n")
+        length = re.search(rb"content-length: (\d+)", head)
+        if not end or len(body) < int(length[1]):
+            return False
+        self.times.append(time.perf_counter() - self.since)
+        want("the reply says that it is done", b"reply:changegroup" in body, True)
+        self.got = b""
+        if len(self.times) == len(self.requests):
+            return True
+        self.send()
+        return False
+
+
+def times_of(host, name, pushers=24, pushes=100):
+    """How long each push took, in ascending order."""
+    all_of_them = [Pusher(host, b"%s %d" % (name, number), pushes) for number in range(pushers)]
+    waiting = selectors.DefaultSelector()
+    for it in all_of_them:
+        waiting.register(it.line, selectors.EVENT_READ, it)
+        it.send()
+    while waiting.get_map():
+        for key, _ in waiting.select(30):
+            if key.data.receive():
+                waiting.unregister(key.fileobj)
+                key.fileobj.close()
+    return sorted(it for pusher in all_of_them for it in pusher.times)
+
+
+def part_of(times, percent):
+    """The best of what so many of a hundred pushes took at most, in milliseconds."""
+    return min(it[len(it) * percent // 100] for it in times) * 1e3
+
+
+@case
+def pushes_beside_a_thousand_silent_connections(host):
+    """The 99th of 100 pushes takes at most 1.5 times what it takes without them. What else the machine does counts
+    in both, so they take turns, four at least, and the best of each counts."""
+    host.start("--connections", "1024")
+    alone, beside = [], []
+    for turn in range(16):
+        alone.append(times_of(host, b"alone, %d" % turn))
+        lines = [silent(host, number) for number in range(1000)]
+        want("a thousand are open", becomes(host, 1001), True)
+        beside.append(times_of(host, b"beside, %d" % turn))
+        for it in lines:
+            it.close()
+        want("they are gone", becomes(host, 1), True)
+        if turn >= 3 and part_of(beside, 99) <= 1.5 * part_of(alone, 99):
+            break
+    first, second = part_of(alone, 99), part_of(beside, 99)
+    print(f"    24 that push: the 99th of 100 takes {first:.1f} ms, beside 1,000 silent ones {second:.1f} ms;"
+          f" the 50th {part_of(alone, 50):.1f} and {part_of(beside, 50):.1f} ms; the best of {len(alone)} turns")
+    want(f"{second:.1f} ms are at most 1.5 times {first:.1f} ms", second <= 1.5 * first, True)
+
+
+# ---- silent and slow ones
+
+@case
+def silent_connections_end(host):
+    """Those that sent nothing, a part of a head, and a part of a body; each in its time, and without an answer."""
+    host.start("--idle", "2")
+    lines, start = [silent(host, number) for number in range(3)], time.time()
+    kept = host.connect()
+    kept.sendall(request("/?cmd=heads", None, ()))
+    want("an answer", answer(kept.makefile("rb"))[0], 200)
+    for it in (*lines, kept):
+        want("it is ended", is_ended(it), True)
+        want("in its time", 1.5 < time.time() - start < 6, True)
+    want("pushes", host.report(), "")
+
+
+def sends_slowly(host, sent, size, wait):
+    """Sends so many bytes at a time. The seconds until it was ended; None where all were sent, and the answer."""
+    start = time.time()
+    with host.connect() as line:
+        line.setsockopt(socket.IPPROTO_TCP, socket.TCP_NODELAY, 1)
+        for at in range(0, len(sent), size):
+            line.setblocking(False)
+            try:
+                if not line.recv(1):
+                    return time.time() - start, b""
+            except BlockingIOError:
+                pass
+            except ConnectionError:
+                return time.time() - start, b""
+            line.setblocking(True)
+            try:
+                line.sendall(sent[at:at + size])
+            except ConnectionError:
+                return time.time() - start, b""
+            time.sleep(wait)
+        return None, answer(line.makefile("rb"))[2]
+
+
+@case
+def slow_connections_end(host):
+    """Whoever sends less than 1,024 bytes in the time is ended, though never silent for long; whoever sends more is
+    not, and neither is a short request."""
+    host.start("--idle", "2")
+    long = request("/?cmd=unbundle", EMPTY + bytes(6000), PUSH)
+    for what, sent in (("a head", b"GET /?cmd=heads HTTP/1.1\r\n" + b"a: b\r\n" * 2000), ("a body", long)):
+        spent, _ = sends_slowly(host, sent, 20, 0.1)
+        want(f"{what} at 200 bytes a second is ended", spent is not None and 1.5 < spent < 8, True)
+    want("a body at 2,000 bytes a second", sends_slowly(host, long, 200, 0.1), (None, EMPTY_REPLY))
+    want("a short one, byte by byte", sends_slowly(host, request("/?cmd=heads", None, ()), 1, 0.02)[0], None)
+
+
+@case
+def who_does_not_read_is_ended(host):
+    """An answer of 8 MB of which nothing is read, and one of which 200 bytes a second are."""
+    host.start("--idle", "2")
+    texts = [b"head %d" % number for number in range(1000)]
+    host.push(bundle(CAPS, group(*((text, NULL) for text in texts))))
+    fields = (f"x-hgarg-1: cmds={'heads+%3B' * 200}heads+",)
+    with host.connect() as first, host.connect() as second:
+        for it in (first, second):
+            it.setsockopt(socket.SOL_SOCKET, socket.SO_RCVBUF, 4096)
+            it.sendall(request("/?cmd=batch", None, fields))
+        start = time.time()
+        while opened(host) > 1 and time.time() - start < 15:
+            second.recv(20)
+            time.sleep(0.1)
+        want("both are ended", (opened(host), time.time() - start < 12), (1, True))
+
+
+# ---- what is bounded
+
+def resident(host):
+    with open(f"/proc/{host.process.pid}/status", encoding="ascii") as status:
+        return int(re.search(r"^VmHWM:\s+(\d+) kB", status.read(), re.M)[1]) / 1024
+
+
+def is_refused(line):
+    """Whether the other side answered that there is no memory, or ended the connection. It is not waited for."""
+    line.setblocking(False)
+    try:
+        got = line.recv(1 << 16)
+        return got == b"" or b"out of memory" in got
+    except BlockingIOError:
+        return False
+    except ConnectionError:
+        return True
+
+
+@case
+def bodies_hold_no_more_than_the_memory(host):
+    """Forty bodies of which 4 MiB came, where 16 MiB are allowed for all."""
+    host.start("--memory", str(16 << 20))
+    lines = []
+    for _ in range(40):
+        line = host.connect()
+        lines.append(line)
+        with contextlib.suppress(ConnectionError):
+            line.sendall(request("/?cmd=unbundle", bytes(6 << 20), PUSH)[:4 << 20])
+    time.sleep(1)
+    refused, most = sum(is_refused(it) for it in lines), resident(host)
+    print(f"    {refused} of 40 bodies of 4 MiB are refused where 16 MiB are allowed; the process held {most:.0f} MiB at"
+          " most")
+    want("how many are refused", 36 <= refused < 40, True)
+    want("it held less than 100 MiB", most < 100, True)
+    for it in lines:
+        it.close()
+    want("they are gone", becomes(host, 1), True)
+    want("a small one", host.push(EMPTY)[2], EMPTY_REPLY)
+
+
+@case
+def descriptors_run_out(host):
+    """With 40 descriptors for 100 connections those that are served go on, and who waits is served later."""
+    soft, hard = resource.getrlimit(resource.RLIMIT_NOFILE)
+    resource.setrlimit(resource.RLIMIT_NOFILE, (40, hard))
+    try:
+        host.start("--connections", "100")
+    finally:
+        resource.setrlimit(resource.RLIMIT_NOFILE, (soft, hard))
+    lines = [host.connect() for _ in range(60)]
+    said = host.process.stderr.readline().decode()
+    want(f"it says so: {said!r}", said.startswith("hg_pushd: a connection was not accepted: "), True)
+    lines[0].sendall(request("/?cmd=unbundle", EMPTY, PUSH))
+    want("one that is served", answer(lines[0].makefile("rb"))[2], EMPTY_REPLY)
+    lines[59].sendall(request("/?cmd=unbundle", EMPTY, PUSH))
+    lines[59].settimeout(0.5)
+    with contextlib.suppress(TimeoutError):
+        want("one that waits", lines[59].recv(1), None)
+    os.set_blocking(host.process.stderr.fileno(), False)
+    want("it says so once", host.process.stderr.read(), None)
+    os.set_blocking(host.process.stderr.fileno(), True)
+    for it in lines[:40]:
+        it.close()
+    lines[59].settimeout(30)
+    want("it is served later", answer(lines[59].makefile("rb"))[2], EMPTY_REPLY)
+    want("and so is another", host.push(EMPTY)[2], EMPTY_REPLY)
+
+
+def main():
+    hard = resource.getrlimit(resource.RLIMIT_NOFILE)[1]
+    resource.setrlimit(resource.RLIMIT_NOFILE, (min(hard, 8192), hard))
+    names, failed = sys.argv[2:], 0
+    for body in CASES:
+        if names and body.__name__ not in names:
+            continue
+        with tempfile.TemporaryDirectory(prefix="life-") as folder:
+            host = Host(folder)
+            try:
+                body(host)
+                print(f"as wanted: {body.__name__}", flush=True)
+            except (Wrong, OSError, subprocess.TimeoutExpired) as why:
+                failed += 1
+                print(f"FAILED: {body.__name__}: {why}", flush=True)
+            finally:
+                host.kill()
+    print(f"tests/life.py: {'as wanted' if not failed else f'{failed} not as wanted'}")
+    return 1 if failed else 0
+
+
+if __name__ == "__main__":
+    sys.exit(main())
