@@ -3,7 +3,7 @@
 #   make run         shows a push that Mercurial sent, its reply and the report: a few minutes, nothing proved
 #   make build       proves every crate and leaves the program at build/hg_pushd
 #   make serve-demo  shows the server with two clients, on the program that was built
-#   make http-demo   an unmodified hg pushes to the crates that answer HTTP, compiled and not proved: a minute or two
+#   make host-demo   an unmodified hg pushes to host, which is killed and started again, on what was built
 #   make test        the gate: proves everything from nothing, tries the wrong bodies, runs the tests and the program
 #   make test-all    proves everything from nothing, the tests too
 #   make wrong-bodies, make run-tests   two parts of the gate by themselves
@@ -23,7 +23,7 @@ SOURCES := crates.txt $(shell find crates -name out -prune -o -type f \
 # a push that `hg push` sent
 PUSHED := examples/pushes/first-changesets/01.hg20
 
-.PHONY: run build serve-demo http-demo test test-all wrong-bodies run-tests docs \
+.PHONY: run build serve-demo host-demo test test-all wrong-bodies run-tests docs \
 	bench install deb man try-install try-team try-clients clean \
 	toolchain
 
@@ -49,8 +49,8 @@ $(PROGRAM): $(SOURCES)
 serve-demo: $(PROGRAM)
 	@bash examples/serve-demo.sh $(PROGRAM)
 
-http-demo: toolchain
-	@bash examples/http.sh
+host-demo: $(PROGRAM)
+	@bash examples/host-demo.sh $(PROGRAM)
 
 test: toolchain
 	@python3 tools/gate.py

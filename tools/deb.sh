@@ -1,6 +1,6 @@
 #!/usr/bin/env bash
-# Makes a Debian package of the built program: tools/deb.sh PROGRAM. It needs dpkg-deb, and no network.
-# The package has what tools/install.sh installs, below /usr, and is left in build/.
+# Makes a Debian package of the built program: tools/deb.sh PROGRAM [FOLDER]. It needs dpkg-deb, and no network.
+# The package has what tools/install.sh installs, below /usr, and is left in FOLDER (build/ if left out).
 set -eu
 program=$1
 top=$(cd "$(dirname "$0")/.." && pwd)
@@ -44,7 +44,8 @@ install -m 755 "$top/contrib/debian/postinst" "$top/contrib/debian/prerm" "$root
 (cd "$root" && find usr -type f -print0 | sort -z | xargs -0 md5sum) > "$root/DEBIAN/md5sums"
 find "$root" -type d -exec chmod 755 {} +
 
-mkdir -p "$top/build"
-package=$top/build/deqtorap_${version}_$architecture.deb
+folder=${2:-$top/build}
+mkdir -p "$folder"
+package=$folder/deqtorap_${version}_$architecture.deb
 dpkg-deb --root-owner-group --build "$root" "$package" > /dev/null
 echo "The package is at ${package#"$top"/}."

@@ -1,12 +1,13 @@
 #!/usr/bin/env python3
 """Documents that are made from where the fact stands.
 
-    tools/docs.py            writes docs/definitions.md, the lists of modules on the pages docs/crates/*.md,
+    tools/docs.py            writes docs/definitions.md; on the pages docs/crates/*.md what each crate may use, its
+                             lists of modules and where to read on; the list of crates of docs/architecture.md;
                              build/docs/examples.md and build/docs/wrong-bodies.md
     tools/docs.py --check    compares what of these stands in the tree with the sources
 
-The definitions come from `specs/`: of each module its first lines, and of each word the comment above it. The
-examples come from the comment above each test, the wrong bodies from the head of each edit.
+The definitions come from `specs/`: of each module its first lines, and of each word the comment above it. What a
+crate may use comes from crates.txt, and what it is in the list of crates from the first sentence of its page. The examples come from the comment above each test, the wrong bodies from the head of each edit.
 """
 import os
 import re
@@ -17,7 +18,7 @@ import sources
 from wrong_bodies import edits_of
 
 TO = f"{sources.ROOT}/build/docs"
-DEFINITIONS = f"{sources.ROOT}/docs/definitions.md"
+DEFINITIONS, ARCHITECTURE = (f"{sources.ROOT}/docs/{name}.md" for name in ("definitions", "architecture"))
 HEAD = """# Definitions
 
 The words that contracts speak with, crate by crate: of each module of `specs/` what it states, and of each word the
@@ -140,6 +141,14 @@ def modules(crate, of_code):
             yield "\n".join(textwrap.wrap(told, 110, **how))
 
 
+# where to read on: what a page has of each crate, and the page
+FURTHER = (
+    ("each public call, with the edits that turn it and the tests that run it", "index.md"),
+    ("the definitions in plain words", "definitions.md"),
+    ("planted bodies", "planted.md"),
+)
+# what a page says of the crates that its crate may use
+USES = re.compile(r"\s*\bIt may use `[^.]*\.")
 # the line above a list of modules, and whether they are those of the code
 LISTS = (
     ("What a reader has to believe stands in `specs/`, a module for each matter:", False),
@@ -147,21 +156,51 @@ LISTS = (
 )
 
 
+def with_uses(crate, text):
+    """The page of a crate, with a second paragraph that names what it may use."""
+    heading, first, rest = USES.sub("", text, count=1).split("\n\n", 2)
+    names = sources.rows()[crate].partition(":")[2].split()
+    uses = wrapped(f"It may use {', '.join(f'`{it}`' for it in names)}.", "")
+    return "\n\n".join((heading, first, uses, rest))
+
+
+def read_on(crate):
+    """The pages that have a part on a crate."""
+    for text, page in FURTHER:
+        if f"\n## {crate}\n" in sources.read(f"{sources.ROOT}/docs/{page}"):
+            yield f"- [{text}](../{page}#{crate})\n"
+    yield "- [what its proof costs](../proof-costs.md)\n"
+
+
+def page_path(crate):
+    return f"{sources.ROOT}/docs/crates/{crate}.md"
+
+
 def page_of(crate):
-    """The page of a crate, with its lists of modules as the sources give them."""
-    text = sources.read(f"{sources.ROOT}/docs/crates/{crate}.md")
+    """The page of a crate, with what it may use, its lists of modules and where to read on as the sources give them."""
+    text = with_uses(crate, sources.read(page_path(crate)))
     for above, of_code in LISTS:
         before, found, after = text.partition(f"{above}\n\n")
         if found:
             _, rest = re.match(r"((?:- .*\n(?:  .*\n)*)*)([\s\S]*)", after).groups()
             text = before + found + "".join(f"{line}\n" for line in modules(crate, of_code)) + rest
-    return text
+    before, _, _ = text.partition("\n## Read on\n")
+    return f"{before}\n## Read on\n\n{''.join(read_on(crate))}"
 
 
 def pages():
-    """What the pages of the crates are to be, by their paths."""
-    found = {crate: f"{sources.ROOT}/docs/crates/{crate}.md" for crate in sources.rows()}
-    return {path: page_of(crate) for crate, path in found.items() if os.path.exists(path)}
+    """What the pages of the crates are to be, by their crates."""
+    return {it: page_of(it) for it in sources.rows() if os.path.exists(page_path(it))}
+
+
+def architecture(told):
+    """The page of the architecture, with the list of crates: of each the first sentence of its page."""
+    lines = []
+    for crate, text in told.items():
+        first = re.search(r"\n\n(.*?\.)\s", text, re.S)[1].replace("\n", " ")
+        lines.append(wrapped(f"- `{crate}`: {first[0].lower()}{first[1:]}", "  "))
+    before, _, rest = sources.read(ARCHITECTURE).partition("<!-- crates -->\n")
+    return "\n".join([f"{before}<!-- crates -->", *lines, f"<!-- end -->{rest.partition('<!-- end -->')[2]}"])
 
 
 def write(path, text):
@@ -170,7 +209,9 @@ def write(path, text):
 
 
 def main(words):
-    told = {DEFINITIONS: made(HEAD, definitions), **pages()}
+    of_crates = pages()
+    told = {DEFINITIONS: made(HEAD, definitions), ARCHITECTURE: architecture(of_crates)}
+    told |= {page_path(crate): text for crate, text in of_crates.items()}
     if "--check" in words:
         stale = [it for it, text in told.items() if not os.path.exists(it) or sources.read(it) != text]
         for path in stale:

@@ -6,7 +6,8 @@
 It works in a stand, a folder outside of the repository with copies of the crates, so that nothing is taken from
 what earlier checks kept and nothing of it is lost. `rt ci` proves there, the longest chain of crates first. What
 processors it leaves idle run the tests, and the wrong bodies of each crate as soon as the crates below it are
-proved. What each piece took goes to build/gate/costs.csv, what it said to build/gate/*.log.
+proved, the dearest first. Once all is proved the program is run, beside what is left of these. What each piece took
+goes to build/gate/costs.csv, what it said to build/gate/*.log.
 """
 import os
 import re
@@ -17,16 +18,37 @@ import sys
 import tempfile
 import threading
 import time
+from concurrent.futures import ThreadPoolExecutor
 
+import costs as figures
 import measure
 import sources
 import stands
 import tests
 
 LOGS = f"{sources.ROOT}/build/gate"
-CHECKS = ("docs", "index", "pictures", "costs", "headings", "paths")
+CHECKS = ("docs", "index", "pictures", "costs", "headings", "paths", "words")
+# the kinds of tasks in their order, and how far each is behind the proofs, which get a processor first; tests have
+# limits of time
+NICE = {"speed": "10", "tests": "10", "judging": "19", "wrong bodies": "19"}
+# the processor seconds of a wrong body, and of a group of tests, where no run has measured them
+A_WRONG_BODY, A_GROUP = 12, 300
+# what is run with the program, the longest first: the script, and what follows the program in its words
+PIECES = {
+    "mirror, page and installation": ["tests/gate.sh"],
+    "random bundles": ["bench/fuzz/run.sh", "60", "1"],
+    "clients": ["tests/serve.sh"],
+    "stores": ["tests/store.sh"],
+    "examples": ["tests/check.sh"],
+}
+# what looks how long an answer takes, or may lose the end of one on a busy machine: nothing runs beside it
+ALONE = {
+    "clients over HTTP": ["tests/host.sh"],
+    "a limit of memory": ["tests/hostile.sh"],
+    "a long life": ["tests/life.py"],
+}
 # a crate is proved in this run, or an earlier run of the same files on this machine proved it
-PROVED = re.compile(r"^(?:rt: )?(hg_\w+) (?:proved$|is kept: )")
+PROVED = re.compile(r"^(?:rt: )?(hg_\w+) (proved$|is kept: )")
 COUNTED = re.compile(r"^(\d+) passed, (\d+) failed$", re.M)
 
 
@@ -67,26 +89,49 @@ def counted(said):
     return tuple(map(int, found[-1])) if found else None
 
 
+def crates_with_wrong_bodies():
+    return [it for it in stands.proved() if os.path.isdir(f"{sources.ROOT}/crates/{it}/wrong")]
+
+
+def place_in_row(task, took):
+    """Which task comes before which: the speed of the machine, then tests, which are ready from the beginning, and
+    then wrong bodies; of each kind the dearest, as it was in an earlier run, or as such a task may be."""
+    kind, name = task
+    guess = A_WRONG_BODY * figures.wrong_bodies(name) if kind == "wrong bodies" else A_GROUP
+    return list(NICE).index(kind), -took.get(name, {}).get(kind, guess)
+
+
 class Side:
-    """What runs beside the proofs: tests at once, the wrong bodies of a crate once those below it are proved."""
+    """What runs beside the proofs: tests at once, the wrong bodies of a crate once those below it are proved, the
+    dearest first, so that no long one is left for the end. They have the processors that the proofs leave: the
+    longest chain of proofs never waits for one.
+    """
 
     def __init__(self, stand, count, costs):
         self.stand, self.count, self.costs = stand, count, costs
         self.used, self.proved, self.ended = sources.uses(), set(), False
         self.changed = threading.Condition()
-        self.waiting = [("tests", it) for it in tests.groups()]
-        self.waiting += [("wrong bodies", it) for it in self.with_wrong_bodies()]
-        self.waiting += [("judging", "hg_delta")]
+        waiting = [("speed", "selftest"), ("judging", "hg_delta")]
+        waiting += [("tests", it) for it in tests.groups()]
+        waiting += [("wrong bodies", it) for it in crates_with_wrong_bodies()]
+        _, took = figures.figures()
+        self.waiting = sorted(waiting, key=lambda it: place_in_row(it, took))
+        self.workers, self.speed = [], 0
 
-    def with_wrong_bodies(self):
-        """The crates that have wrong bodies, those with the most lines of proof first."""
-        found = [it for it in stands.proved() if os.path.isdir(f"{sources.ROOT}/crates/{it}/wrong")]
-        size = {it: sum(map(os.path.getsize, sources.files(f"{sources.ROOT}/crates/{it}", ".antt"))) for it in found}
-        return sorted(found, key=lambda it: -size[it])
+    def begin(self, workers):
+        """Has so many more tasks run at once."""
+        made = [threading.Thread(target=self.work, daemon=True) for _ in range(workers)]
+        self.workers += made
+        for it in made:
+            it.start()
+
+    def join(self):
+        for it in self.workers:
+            it.join()
 
     def is_ready(self, task):
         kind, name = task
-        return kind == "tests" or sources.below(name, self.used) <= self.proved
+        return kind in ("tests", "speed") or sources.below(name, self.used) <= self.proved
 
     def note(self, proved):
         with self.changed:
@@ -102,11 +147,10 @@ class Side:
     def next(self):
         with self.changed:
             while self.waiting:
-                # wrong bodies first: they may hold the end
-                ready = sorted(filter(self.is_ready, self.waiting), key=lambda it: it[0] == "tests")
+                ready = next(filter(self.is_ready, self.waiting), None)
                 if ready:
-                    self.waiting.remove(ready[0])
-                    return ready[0]
+                    self.waiting.remove(ready)
+                    return ready
                 if self.ended:
                     kind, name = self.waiting.pop()
                     self.count.add(f"{kind} of {name}", 0, 1, "FAILED: a crate below is not proved")
@@ -120,23 +164,35 @@ class Side:
             if not task:
                 return
             kind, name = task
-            words = {
-                "tests": ["tools/tests.py", name],
-                "wrong bodies": ["tools/wrong_bodies.py", "--built", self.stand, name],
-                "judging": ["tools/test_wrong_bodies.py", "--built", self.stand],
-            }[kind]
-            status, said, seconds = logged(f"{kind.replace(' ', '-')}-{name}", [
-                "nice", "-n", "10", sys.executable, *words], cwd=sources.ROOT)
-            passed, failed = counted(said) or (0, 1)
-            if kind != "judging":
-                self.costs[name, kind] = seconds
-            text = f"{passed} passed, {failed} failed" if failed or status else f"{passed} passed"
-            self.count.add(f"{kind} of {name}", passed, failed or status, text, said)
+            try:
+                self.run(kind, name)
+            except Exception as fault:  # a task that is lost fails the gate
+                self.count.add(f"{kind} of {name}", 0, 1, f"FAILED: {fault!r}")
+
+    def run(self, kind, name):
+        """Runs a task, and counts what came of it."""
+        words = {
+            "speed": ["rt", "selftest"],
+            "tests": [sys.executable, "tools/tests.py", name],
+            "wrong bodies": [sys.executable, "tools/wrong_bodies.py", "--built", self.stand, name],
+            "judging": [sys.executable, "tools/test_wrong_bodies.py", "--built", self.stand],
+        }[kind]
+        place = f"{kind.replace(' ', '-')}-{name}"
+        status, said, seconds = logged(place, ["nice", "-n", NICE[kind], *words], cwd=sources.ROOT)
+        if kind == "speed":
+            self.speed = seconds
+            self.count.say(f"This machine takes {seconds:.0f} processor seconds for the toolchain's own example.")
+            return
+        passed, failed = counted(said) or (0, 1)
+        if kind != "judging":
+            self.costs[name, kind] = seconds
+        text = f"{passed} passed, {failed} failed" if failed or status else f"{passed} passed"
+        self.count.add(f"{kind} of {name}", passed, failed or status, text, said)
 
 
 def prove(stand, count, side):
-    """Proves all crates in the stand, and tells what waits for each."""
-    total = len(stands.proved())
+    """Proves all crates in the stand, and tells what waits for each. Returns those that an earlier run proved."""
+    total, kept = len(stands.proved()), set()
     with open(f"{LOGS}/proofs.log", "w", encoding="utf-8") as log:
         run = subprocess.Popen(["rt", "ci"], cwd=stand, stdout=subprocess.PIPE, stderr=subprocess.STDOUT,
                                stdin=subprocess.DEVNULL, encoding="utf-8", errors="replace")
@@ -147,24 +203,33 @@ def prove(stand, count, side):
             said.append(line)
             found = PROVED.match(line.strip())
             if found:
+                is_kept = found[2] != "proved"
+                kept |= {found[1]} if is_kept else set()
                 side.note({found[1]})
-                count.say(f"proved: {found[1]}, {len(side.proved)} of {total}")
+                count.say(f"proved{' before' if is_kept else ''}: {found[1]}, {len(side.proved)} of {total}")
         status = run.wait()
     passed, failed = counted("".join(said)) or (0, 1)
     side.end()
-    count.add("proofs, from nothing", passed, failed or status, f"{passed} passed, {failed} failed", "".join(said))
+    how = f"all but {len(kept)} from nothing" if kept else "from nothing"
+    count.add(f"proofs, {how}", passed, failed or status, f"{passed} passed, {failed} failed", "".join(said))
     status, said, _ = logged("counts", [sys.executable, "tools/counts.py", f"{LOGS}/proofs.log"], cwd=sources.ROOT)
     count.add("how many functions may wait", int(not status), status, said=said)
+    return kept
 
 
-def run_program(program, count):
-    """Runs the program on examples, on stores, for clients, under a limit of memory, and on random bundles."""
-    for name, words in (("examples", ["examples/check.sh", program]), ("stores", ["examples/store.sh", program]),
-                        ("clients", ["examples/serve.sh", program]),
-                        ("a limit of memory", ["examples/hostile.sh", program]),
-                        ("random bundles", ["bench/fuzz/run.sh", program, "60", "1"])):
-        status, said, _ = logged(f"program-{words[0].split('/')[-1]}", ["bash", *words], cwd=sources.ROOT)
-        count.add(f"the program, {name}", int(not status), status, said=said)
+def run_piece(program, name, words, count):
+    """Runs one piece of what is tried with the program."""
+    script, *more = words
+    how = [sys.executable if script.endswith(".py") else "bash", script, program, *more]
+    status, said, _ = logged(f"program-{script.split('/')[-1]}", how, cwd=sources.ROOT)
+    count.add(f"the program, {name}", int(not status), status, said=said)
+
+
+def run_pieces(program, count):
+    """Runs the pieces that may run side by side: each has a folder and ports of its own."""
+    with ThreadPoolExecutor(len(os.sched_getaffinity(0))) as pool:
+        for it in [pool.submit(run_piece, program, name, words, count) for name, words in PIECES.items()]:
+            it.result()
 
 
 def check_documents(count):
@@ -173,12 +238,6 @@ def check_documents(count):
             continue
         status, said, _ = logged(f"check-{name}", [sys.executable, f"tools/{name}.py", "--check"], cwd=sources.ROOT)
         count.add(f"tools/{name}.py --check", int(not status), status, said=said)
-
-
-def speed():
-    """The processor seconds of a fixed piece of work: the toolchain proves, builds and runs an example of its own.
-    By it runs of two machines can be compared."""
-    return logged("speed", ["rt", "selftest"], cwd=sources.ROOT)[2]
 
 
 def main():
@@ -191,31 +250,31 @@ def main():
     if count.failed:
         print(f"{count.passed} passed, {len(count.failed)} failed")
         return 1
-    selftest = speed()
-    count.say(f"This machine takes {selftest:.0f} processor seconds for the toolchain's own example.")
     with tempfile.TemporaryDirectory(prefix="gate-") as place:
         stand = stands.make(f"{place}/stand", stands.proved())
         side = Side(stand, count, costs)
         watch = measure.Watch(stand)
-        workers = [threading.Thread(target=side.work) for _ in range(max(1, processors - 1))]
-        for it in workers:
-            it.start()
-        prove(stand, count, side)
-        for it in workers:
-            it.join()
-        for name, seconds in watch.end().items():
-            costs[name, "proof"] = seconds
+        side.begin(max(1, processors - 1))
+        kept = prove(stand, count, side)
+        # the processor that the longest chain had
+        side.begin(1)
+        took = watch.end()
         built, program = f"{stand}/crates/hg_pushd/out/hg_pushd", f"{sources.ROOT}/build/hg_pushd"
         is_built = os.path.isfile(built)
         if is_built:
             shutil.copy2(built, program)
+            run_pieces("build/hg_pushd", count)
+        side.join()
     if is_built:
-        run_program("build/hg_pushd", count)
+        for name, words in ALONE.items():
+            run_piece("build/hg_pushd", name, words, count)
     else:
         count.add("the program", 0, 1, "FAILED: it was not built")
+    # what was not proved in this run has no figure, and keeps the one that it has
+    costs.update({(name, "proof"): seconds for name, seconds in took.items() if name not in kept})
     used = resource.getrusage(resource.RUSAGE_CHILDREN)
     minutes, spent = (time.time() - count.start) / 60, (used.ru_utime + used.ru_stime) / 60
-    measure.write(f"{LOGS}/costs.csv", costs, minutes, spent, processors, selftest)
+    measure.write(f"{LOGS}/costs.csv", costs, minutes, spent, processors, side.speed, len(kept))
     count.say(f"{minutes:.0f} minutes, {spent:.0f} processor minutes with all that ran.")
     for it, said in count.failed.items():
         print(f"FAILED: {it}\n{said}".rstrip())

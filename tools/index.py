@@ -3,7 +3,8 @@
 
 For each crate a list of the public functions, with the wrong bodies that turn each, the clauses that were seen
 to refuse one, and the tests that run it; and one of the words that their clauses use: where a word is defined, which heading of the public standard its
-module states, and the functions that are promised by it.
+module states, and the functions that are promised by it. Which function a call means is found by the file it stands
+in, by what that imports, and by the type that a method is called on (calls.py).
 
 `index.py --check` compares docs/index.md with what it would print. It fails on a public function without a
 wrong body that no line of docs/index-exceptions.txt tells of, on a word without a comment
@@ -11,11 +12,14 @@ above it, on a clause or a definition that uses a module of specs/code/, and on 
 crate's page does not name.
 """
 
+import functools
 import os
 import re
 import sys
 import textwrap
 from collections import defaultdict
+
+import calls
 
 ROOT = os.path.dirname(os.path.dirname(os.path.abspath(__file__)))
 
@@ -65,7 +69,6 @@ class Function:
     def __init__(self, crate, path, name, public, head, body, start, end):
         self.crate, self.path, self.name, self.public = crate, path, name, public
         self.head, self.body, self.start, self.end = head, body, start, end
-        self.called = set(re.findall(r"\b[a-z]\w*\b", body))
         self.is_test, self.is_given, self.of = False, False, ""
 
     def is_law(self):
@@ -145,18 +148,33 @@ def refusals_of(crate):
     return found
 
 
-def reached(function, by_name, seen=None):
+def reached(function, calls_of, seen=None):
     """The function, and those that it calls and that its crate gives to nobody."""
     seen = set() if seen is None else seen
     if id(function) in seen:
         return []
     seen.add(id(function))
     all_of_it = [function]
-    for name in sorted(function.called):
-        for callee in by_name.get(name, []):
-            if not callee.is_given and not is_of_tests(callee.path):
-                all_of_it += reached(callee, by_name, seen)
+    for callee in calls_of(function):
+        if not callee.is_given and not is_of_tests(callee.path):
+            all_of_it += reached(callee, calls_of, seen)
     return all_of_it
+
+
+def run_by(tests, calls_of):
+    """The tests that call each function, themselves or by functions of tests."""
+    runs = defaultdict(list)
+    for test in tests:
+        left, seen = [test], {id(test)}
+        while left:
+            for one in calls_of(left.pop()):
+                if id(one) not in seen:
+                    seen.add(id(one))
+                    if is_of_tests(one.path):
+                        left.append(one)
+                    else:
+                        runs[id(one)].append(test.name)
+    return runs
 
 
 def api(crate):
@@ -259,9 +277,7 @@ def main():
                     if ".declared." not in f".{module}.":
                         imports[path][(renamed or name).strip()] = (below, name.strip())
             every += functions_of(crate, path)
-        by_name = defaultdict(list)
-        for function in every:
-            by_name[function.name].append(function)
+        calls_of = functools.lru_cache(None)(calls.Names(crate, every).called)
         turned = defaultdict(list)
         for name, path, old in edits_of(crate):
             place = read(path).find(old)
@@ -271,21 +287,7 @@ def main():
             for function in within or here:
                 turned[id(function)].append(name)
         refusals = refusals_of(crate)
-        in_tests = [f for f in every if is_of_tests(f.path)]
-        runs = defaultdict(list)
-        for test in (f for f in in_tests if f.is_test):
-            called, left = set(), [test]
-            seen = {id(test)}
-            while left:
-                one = left.pop()
-                called |= one.called & set(by_name)
-                for name in one.called & set(by_name):
-                    for helper in by_name[name]:
-                        if is_of_tests(helper.path) and id(helper) not in seen:
-                            seen.add(id(helper))
-                            left.append(helper)
-            for name in called:
-                runs[name].append(test.name)
+        runs = run_by((f for f in every if is_of_tests(f.path) and f.is_test), calls_of)
         given, opened, is_program = api(crate)
         public = []
         for function in every:
@@ -303,7 +305,7 @@ def main():
         say("")
         used = defaultdict(list)
         for function in public:
-            names = [name for one in reached(function, by_name) for name in turned[id(one)]]
+            names = [name for one in reached(function, calls_of) for name in turned[id(one)]]
             where = os.path.relpath(function.path, f"{ROOT}/crates/{crate}/src")
             shown = f"{function.of}::{function.name}" if function.of else function.name
             key = f"{crate} {shown}"
@@ -313,7 +315,7 @@ def main():
                 missing.append(f"{key} ({where}): no wrong body turns it")
             if names:
                 bodies = f"turned by {bodies}"
-            tests = listed(runs[function.name])
+            tests = listed(runs[id(function)])
             seen = refusals[f"{where.removesuffix('.rt').replace('/', '::')}::{shown}"]
             clauses = "".join(f"; {clause} refuses {listed(seen[clause])}" for clause in sorted(seen))
             say(bullet(f"`{shown}` (`{where}`): {bodies}{clauses}{'; run by ' + tests if tests else ''}"))

@@ -21,7 +21,7 @@ class Watch:
 
     def __init__(self, stand):
         self.stand, self.seen, self.is_over = f"{os.path.realpath(stand)}/crates/", {}, False
-        self.thread = threading.Thread(target=self.work)
+        self.thread = threading.Thread(target=self.work, daemon=True)
         self.thread.start()
 
     def work(self):
@@ -52,9 +52,10 @@ class Watch:
         return sums
 
 
-def write(path, costs, minutes, spent, processors, selftest):
-    """Writes what each crate took, and a line that tells of the run."""
+def write(path, costs, minutes, spent, processors, selftest, kept=0):
+    """Writes what each crate took, and a line that tells of the run, and of how many crates the proof was kept."""
     told = f"{minutes:.0f} minutes on {processors} processors, {spent:.0f} processor minutes"
+    told += f", without the proofs of {kept} crates that were kept" if kept else ""
     with open(path, "w", encoding="utf-8") as file:
         file.write(f"# processor seconds; the whole took {told}; `rt selftest` took {selftest:.0f} s\n")
         file.write(",".join(["crate", *STEPS]) + "\n")

@@ -96,12 +96,12 @@ def picture():
 
 
 def functions(crate):
-    """The text of each function's signature and clauses, by its name."""
+    """The text of each function from its name to the next function, by its name."""
     found = {}
     for at, _, names in os.walk(f"{ROOT}/crates/{crate}/src"):
         for name in names:
             if name.endswith(".rt") and "tests" not in at:
-                for head in re.finditer(r"\bfn (\w+)(.*?)\n\s*\{", read(f"{at}/{name}"), re.S):
+                for head in re.finditer(r"\bfn (\w+)(.*?)(?=\bfn \w|\Z)", read(f"{at}/{name}"), re.S):
                     found.setdefault(head.group(1), []).append(head.group(2))
     return found
 

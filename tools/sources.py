@@ -103,6 +103,12 @@ def module_of(path, folder):
     return inside
 
 
+def opened(line):
+    """How many brackets a line opens that it does not close; what stands in a comment is no bracket."""
+    code = re.sub(r"b?'(?:\\.|[^'\\])'|//.*", "", line)
+    return sum(it in "([{" for it in code) - sum(it in ")]}" for it in code)
+
+
 def functions_of(path, folder):
     """The functions of a file, in their order, and those inside of traits with a body."""
     text = read(path)
@@ -129,9 +135,13 @@ def functions_of(path, folder):
             continue
         indent, first = found.group(1), number
         # the body begins with the first line that ends with a brace at the signature's own depth
-        begin = first
+        begin, depth = first, 0
         ends = re.compile(rf"^{indent}(\{{.*|.*[^=] \{{|.*\{{\}}|.*;)$")
-        while begin < len(lines) and not ends.match(lines[begin]):
+        while begin < len(lines):
+            line = lines[begin]
+            if ends.match(line) and depth + opened(line.removesuffix("{")) == 0:
+                break
+            depth += opened(line)
             begin += 1
         end = begin
         if begin < len(lines) and not lines[begin].rstrip().endswith(("{}", "}", ";")):

@@ -13,14 +13,63 @@ import wrong_bodies
 CRATE = "hg_delta"
 # the end of a text is not appended
 TAIL = ("src/text.rt", "text.extend_from_slice(&base[end..])?;", "text.extend_from_slice(&base[base.len()..])?;")
+# want of memory is told as a short delta, by a method of a trait
+METHOD = ("src/fault.rt", "fn from(_e: AllocError) -> Self {",
+          "fn from(_e: AllocError) -> Self { if true { return DeltaFault::Short; }")
 # a hunk may end before it begins
 HUNK = ("src/hunk.rt", "if header.start < before || header.end < header.start {", "if header.start < before {")
 
+# a file of answers, and what is left of it where the goal `returns` alone is asked for
+ANSWERS = """use Rattle.hg_delta.proofs.text.apply.Goals as goal
 
-def edit(place, name, breaks, *pairs):
+helper : (n : ℕ) → n ≤ n
+helper n = omega arith
+
+pub returns-2 : goal.returns-2
+unfolding outcome_of
+returns-2 c =
+    search rules {
+    }
+
+pub returns-3 : goal.returns-3
+returns-3 c = record {
+  one = c.one;
+}
+
+pub returns : goal.returns
+returns c = helper c.args.max
+"""
+LEFT = """use Rattle.hg_delta.proofs.text.apply.Goals as goal
+
+helper : (n : ℕ) → n ≤ n
+helper n = omega arith
+
+pub returns : goal.returns
+returns c = helper c.args.max
+"""
+
+# a function whose contract opens a record at the end of a line, and another one
+FUNCTIONS = """impl Row {
+    fn turn(&mut self)
+        ensures view { view self.new ≡ record (view self.old) {
+            turned = true;
+        } }
+    {
+        self.turned = true;
+    }
+}
+
+fn next(row: &Row) -> u32 {
+    row.next
+}
+"""
+
+
+def edit(place, name, breaks, *pairs, goal=""):
     path = f"{place}/{name}.edit"
     with open(path, "w", encoding="utf-8") as file:
         file.write(f"breaks: {breaks}\n" if breaks else "")
+        file.write(f"goal: {goal}\n" if goal else "")
         for changed, old, new in pairs:
             file.write(f"file: {changed}\nold: {old}\nnew: {new}\n")
     return wrong_bodies.Edit(path)
@@ -30,31 +79,62 @@ def nothing_is_open(crate):
     """A round without edits: the functions that would be turned are proved as they stand."""
     kept = tempfile.mkdtemp(prefix="wrong-kept-")
     asked = {"text::write_text", "text::apply", "hunk::read_hunk"}
-    said = crate.check({}, asked, kept)
+    said = crate.check(wrong_bodies.Room(), asked, kept)
     return wrong_bodies.open_goals(CRATE, said) == {} and f"fn {CRATE}::text::apply: depends on a hole" in said
+
+
+def wanted_of(place):
+    """The edits that are tried together, each with a part of what is to be said of it, and nothing where it is to be
+    refused."""
+    file, old, _ = TAIL
+    nothing, ok, alone = (file, old, f"{old} // as before"), "text::write_text, clause ok", "returns-clause-ok g c"
+    return {
+        edit(place, "refused", ok, TAIL): "",
+        edit(place, "changes_nothing", "", nothing): "no goal of",
+        edit(place, "another_clause", "text::write_text, clause fault", TAIL): "is not open",
+        edit(place, "not_seen_by_the_public_clause", "text::apply, clause text", TAIL): "is not of",
+        edit(place, "a_private_function", "hunk::read_hunk, clause placed", HUNK): "",
+        edit(place, "a_method_of_a_trait", "fault::DeltaFaultFromAllocError::from, its clause", METHOD): "",
+        edit(place, "does_not_compile", "text::apply", (file, "return Err(DeltaFault::TooLong);", "return 7;")):
+            "did not reach the prover",
+        edit(place, "no_such_text", "text::apply", (file, "there is no such text", "none")): "does not stand",
+        edit(place, "one_goal_refused", ok, TAIL, goal=alone): "",
+        edit(place, "one_goal_and_nothing_changed", ok, nothing, goal=alone): "no goal of",
+        edit(place, "one_goal_that_is_proved", "text::write_text, clause fault", TAIL,
+             goal="returns-in_err-hunk-clause-fault g c"): "is not open",
+        edit(place, "one_goal_that_is_not_there", ok, TAIL, goal="returns-then-never-clause-ok g c"): "",
+    }
+
+
+def bodies_of(text):
+    """The lines with which the bodies of the functions of a file begin."""
+    with tempfile.TemporaryDirectory(prefix="edits-") as place:
+        path = f"{place}/row.rt"
+        with open(path, "w", encoding="utf-8") as file:
+            file.write(text)
+        return [text[it.begin :].partition("\n")[0] for it in sources.functions_of(path, place)]
+
+
+def by_its_goal_alone(edits):
+    """Whether one goal was enough where it should be, and nowhere else."""
+    enough = {it.name: not it.asked_why for it in edits if it.named}
+    return [it for it, is_enough in enough.items() if is_enough] == ["one_goal_refused"]
 
 
 def main(words):
     built = words[1] if words[:1] == ["--built"] else sources.ROOT
     crate = wrong_bodies.Crate(wrong_bodies.Prover(os.path.abspath(built)), CRATE)
     with tempfile.TemporaryDirectory(prefix="edits-") as place:
-        file, old, _ = TAIL
-        wanted = {
-            edit(place, "refused", "text::write_text, clause ok", TAIL): "",
-            edit(place, "changes_nothing", "", (file, old, f"{old} // as before")): "no goal of",
-            edit(place, "another_clause", "text::write_text, clause fault", TAIL): "is not open",
-            edit(place, "not_seen_by_the_public_clause", "text::apply, clause text", TAIL): "is not of",
-            edit(place, "a_private_function", "hunk::read_hunk, clause placed", HUNK): "",
-            edit(place, "does_not_compile", "text::apply", (file, "return Err(DeltaFault::TooLong);", "return 7;")):
-                "did not reach the prover",
-            edit(place, "no_such_text", "text::apply", (file, "there is no such text", "none")): "does not stand",
-        }
+        wanted = wanted_of(place)
         crate.try_all(list(wanted))
         told = {it.name: it.why == why if not why else why in it.why for it, why in wanted.items()}
         for it in wanted:
             if not told[it.name]:
                 print(f"{it.name}: {it.why or 'it was refused'}")
     told["a_round_without_edits"] = nothing_is_open(crate)
+    told["one_goal_is_enough_where_it_should_be"] = by_its_goal_alone(wanted)
+    told["answers_of_other_goals_are_left_out"] = wrong_bodies.answers_to(ANSWERS, ["returns"]) == LEFT
+    told["a_contract_is_no_body"] = bodies_of(FUNCTIONS) == ["    {", "fn next(row: &Row) -> u32 {"]
     for name, is_right in told.items():
         print(f"{name}: {'as it should be' if is_right else 'WRONG'}")
     passed = sum(told.values())

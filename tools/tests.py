@@ -8,23 +8,27 @@
 Several crates of tests are compiled as one, with what they stand on, in a stand of their own. A test that
 fails, faults, reads or writes out of bounds, or takes more than its time fails the run.
 """
+import os
 import re
 import subprocess
 import sys
 import tempfile
+import threading
+import time
 
+import measure
 import sources
 import stands
 
-# the most that the tests of a group may take together, compiled with checks
-SECONDS = "900"
+# the most that the tests of a group may take together, compiled with checks, while the proofs have the processors
+SECONDS = "2700"
 # crates of tests that are compiled together; what stands in none of them is run alone
 GROUPS = {
     "formats": ["hg_types_tests", "hg_chunks_tests", "hg_params_tests", "hg_stream_tests", "hg_delta_tests",
                 "hg_cgroup_tests", "hg_obs_tests", "hg_store_tests", "hg_command_tests", "hg_page_tests"],
     "changelog": ["hg_log_tests", "hg_phases_tests", "hg_names_tests", "hg_keys_tests", "hg_checks_tests", "hg_told_tests"],
-    "repository": ["hg_parts_tests", "hg_repo_tests", "hg_push_tests", "hg_replay_tests", "hg_restore_tests",
-                   "hg_archive_tests"],
+    "repository": ["hg_parts_tests", "hg_repo_tests", "hg_push_tests", "hg_receiving_tests", "hg_replay_tests",
+                   "hg_restore_tests", "hg_archive_tests"],
     "threads": ["hg_queue_tests", "hg_serve_tests", "hg_connection_tests", "hg_wire_tests", "hg_ledger_tests",
                 "hg_kept_tests"],
 }
@@ -39,6 +43,38 @@ def groups():
     return {name: members for name, members in made.items() if members}
 
 
+def begun_by(process):
+    """The processes that a process has begun, and those that these have."""
+    began = {}
+    for it in filter(str.isdigit, os.listdir("/proc")):
+        try:
+            began.setdefault(int(measure.stat_of(it)[1]), []).append(int(it))
+        except OSError:
+            continue
+    found = [process]
+    for it in found:
+        found += began.get(it, [])
+    return found[1:]
+
+
+def keep_behind(process):
+    """While a process runs, has what it begins wait for a processor as this one does. `rt try` begins a session, and
+    where the system shares the processors out by sessions, `nice` counts for nothing outside of its own."""
+    nice, told = os.nice(0), set()
+    while nice > 0 and os.path.exists(f"/proc/{process}"):
+        for it in begun_by(process):
+            try:
+                session = measure.stat_of(it)[3]
+                if session not in told | {str(os.getsid(0))}:
+                    told.add(session)
+                    with open(f"/proc/{it}/autogroup", "w", encoding="utf-8") as group:
+                        group.write(str(nice))
+            except OSError:
+                # it has ended, or there are no such groups
+                continue
+        time.sleep(1)
+
+
 def run(name, members):
     """Runs the tests of some crates; returns how many passed, and how many failed."""
     with tempfile.TemporaryDirectory(prefix="tests-") as place:
@@ -50,11 +86,14 @@ def run(name, members):
             crate = f"{name}_tests"
             stands.join_tests(stand, crate, members)
         words = ["rt", "try", "--test", "--seconds", SECONDS]
-        ran = subprocess.run(words, cwd=f"{stand}/crates/{crate}", stdout=subprocess.PIPE,
-                             stderr=subprocess.STDOUT, check=False, encoding="utf-8", errors="replace")
-        told = re.findall(r"^test result: \w+\. (\d+) passed; (\d+) failed", ran.stdout, re.M)
+        with subprocess.Popen(words, cwd=f"{stand}/crates/{crate}", stdout=subprocess.PIPE,
+                              stderr=subprocess.STDOUT, encoding="utf-8", errors="replace") as ran:
+            threading.Thread(target=keep_behind, args=[ran.pid], daemon=True).start()
+            said, _ = ran.communicate()
+        told = re.findall(r"^test result: \w+\. (\d+) passed; (\d+) failed", said, re.M)
         if not told or ran.returncode:
-            print(ran.stdout[-6000:])
+            print(said[-6000:])
+            print("".join(re.findall(r"^test .* \.\.\. (?!ok$).*\n", said, re.M)), end="")
         passed, failed = (int(told[0][0]), int(told[0][1])) if told else (0, 0)
         return passed, failed or int(ran.returncode != 0 or not passed)
 

@@ -2,16 +2,19 @@
 """Whether the documents that are written by hand are short, and in plain English.
 
     tools/words.py --check    lists what is not, with its place and a count; it reads no crate
+    tools/words.py --wrap     wraps the paragraphs that have too wide a line
 
 It looks for words that have a plainer one, in every document by hand; for sentences of more than 30 words, in
 those that users read first; for lines of more than 110 characters; and for how large the documents by hand are
-together. It leaves out code, tables of bytes, and the documents that are made from the sources.
+together. It leaves out code, tables of bytes, and what tools make: whole documents, what stands between two
+marks, and the lists of modules on the pages of the crates.
 """
 
 import glob
 import os
 import re
 import sys
+import textwrap
 
 ROOT = os.path.dirname(os.path.dirname(os.path.abspath(__file__)))
 
@@ -19,7 +22,9 @@ ROOT = os.path.dirname(os.path.dirname(os.path.abspath(__file__)))
 BY_HAND = ["README.md", *(f"docs/{name}.md" for name in (
     "architecture", "reading", "changing", "operating", "team", "pictures", "DECISIONS", "open", "guarantees"))]
 MOST_BYTES = 150_000
-MADE = ["docs/index.md", "docs/proof-costs.md", "docs/definitions.md"]
+MADE = ["docs/index.md", "docs/definitions.md"]
+# the lines above the lists of modules that tools/docs.py makes
+ABOVE_MADE = ("in `specs/`, a module for each matter:", "No clause of a public call speaks of it:")
 FIRST = ["README.md", "docs/operating.md"]
 MOST_WORDS = 30
 WIDTH = 110
@@ -47,10 +52,20 @@ def documents():
                 yield os.path.relpath(path, ROOT)
 
 
+def by_hand(path):
+    """The lines of a document, those that a tool makes empty."""
+    in_marks, in_list = False, False
+    for line in read(path).splitlines():
+        in_marks = in_marks and line != "<!-- end -->" or line in ("<!-- bytes -->", "<!-- crates -->", "<!-- table -->")
+        in_list = in_list and (not line or line.startswith(("- ", "  ")))
+        yield "" if in_marks or in_list else line
+        in_list = in_list or line.endswith(ABOVE_MADE)
+
+
 def prose(path):
     """The lines of a document, those of code empty; code in quotes is one word."""
     in_code = False
-    for line in read(path).splitlines():
+    for line in by_hand(path):
         fence = line.startswith("```")
         in_code ^= fence
         is_code = in_code or fence or line.startswith("    ")
@@ -94,13 +109,53 @@ def plain_words(path):
 
 def wide_lines(path):
     in_code = False
-    for number, line in enumerate(read(path).splitlines(), 1):
+    for number, line in enumerate(by_hand(path), 1):
         in_code ^= line.startswith("```")
         if len(line) > WIDTH and not (in_code or line.startswith(("|", "    "))):
             yield number, f"{len(line)} characters"
 
 
-def main():
+# what begins an entry of a list, and a line that is no text
+ENTRY = re.compile(r"\s*(?:[-*] |\d+\. )")
+NO_TEXT = ("#", "|", ">", "<!--", "```", "![")
+
+
+def wrapped(block):
+    """The lines of a paragraph or an entry; anew where one is too wide."""
+    if max(map(len, block)) <= WIDTH:
+        return block
+    entry = ENTRY.match(block[0])
+    start = entry[0] if entry else ""
+    text = " ".join(it.strip() for it in (block[0][len(start):], *block[1:]))
+    how = {"subsequent_indent": " " * len(start), "break_long_words": False, "break_on_hyphens": False}
+    return textwrap.wrap(text, WIDTH, initial_indent=start, **how)
+
+
+def wrapped_lines(path):
+    """The lines of a document, its text wrapped where it is too wide; code, tables and what a tool makes stay."""
+    block, in_code = [], False
+    for line, own in zip([*read(path).splitlines(), ""], [*by_hand(path), ""]):
+        in_code ^= line.startswith("```")
+        is_code = in_code or not block and line.startswith("    ")
+        is_text = own.strip() and not is_code and not line.startswith(NO_TEXT)
+        if block and (not is_text or ENTRY.match(line)):
+            yield from wrapped(block)
+            block = []
+        if is_text:
+            block.append(line)
+        else:
+            yield line
+
+
+def wrap():
+    for path in documents():
+        text = "\n".join(wrapped_lines(path))
+        with open(f"{ROOT}/{path}", "w", encoding="utf-8") as file:
+            file.write(text)
+    return 0
+
+
+def check():
     found = []
     for path in documents():
         kinds = [plain_words(path), wide_lines(path)]
@@ -108,7 +163,7 @@ def main():
             kinds.append(long_sentences(path))
         for kind in kinds:
             found += [f"words: {path}:{number}: {what}" for number, what in kind]
-    size = sum(len(read(path).encode()) for path in BY_HAND)
+    size = sum(len(line.encode()) + 1 for path in BY_HAND for line in by_hand(path))
     if size > MOST_BYTES:
         found.append(f"words: the documents by hand have {size} bytes of {MOST_BYTES}")
     print("\n".join([*found, f"words: {len(found)} to mend; {size} bytes by hand"]))
@@ -116,4 +171,5 @@ def main():
 
 
 if __name__ == "__main__":
-    sys.exit(main() if sys.argv[1:] == ["--check"] else __doc__)
+    asked = {"--check": check, "--wrap": wrap}.get(" ".join(sys.argv[1:]))
+    sys.exit(asked() if asked else __doc__)

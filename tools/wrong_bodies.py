@@ -4,20 +4,27 @@
     tools/wrong_bodies.py [CRATE..]                 over the crates below, as `make build` left them
     tools/wrong_bodies.py --built FOLDER [CRATE..]  over those of another folder
     tools/wrong_bodies.py --write [CRATE..]         writes at the head of each what was seen to refuse it
+    tools/wrong_bodies.py --take [CRATE..]          writes the goals there that the last run saw, and tries nothing
 
 They stand in crates/NAME/wrong/*.edit:
 
     breaks: FUNCTION, GOAL      what refuses it: a clause of the function's contract, or another goal of its proof
+    goal: NAME ARGUMENTS        that goal as the prover names it, and what its answer takes (written by --write)
     file: src/FILE              the file that the next lines speak of
     old: TEXT                   stands in it once
     new: TEXT                   stands there in the wrong body
 
-Many are tried at once, each function's at most once in a round. A round is one check of a copy of the crate, in
-which every other function has a hole in the place of its proof: nothing is proved again that was not turned.
+Many are tried at once, in one check of a copy of the crate. There each wrong body stands beside the function that
+it turns, as a function of its own with the same contract and proof; every function that is not tried has a hole in
+the place of its proof, and no body. A method of a trait, or a function that calls itself, is turned in its place,
+once in a check; what changes no function, or several, is tried by itself. Where a head has the goal, that goal alone
+is asked for: by the answer that the function's proof has, or else by each tactic that the prover would try. All other
+goals of that function are left. Where a head has none, a check before lists the goals that are the clause it names.
+
 A wrong body is refused where the prover does not prove a goal of the function that its head names. That a
 caller is not proved any more, or that the check ends in some other way, counts for nothing: such a wrong body is
-tried once more alone, and what then is not refused fails the script, as does one that the compiler refuses, and one
-without a head.
+tried once more alone, in its place and with all goals, and what then is not refused fails the script, as does one
+that the compiler refuses, and one without a head.
 """
 import importlib.machinery
 import os
@@ -36,7 +43,20 @@ LOGS = f"{sources.ROOT}/build/wrong"
 # the proof of a function that the prover makes by itself, as of some that call themselves: no file may stand there
 RESERVED = re.compile(r"^\./proofs/(\S+)/Proof\.antt: error\[reserved-name\]", re.M)
 # what a proof file says that names something which the edit took away
-GONE = re.compile(r"has no field|is not in scope|is no name|has no `|operand is missing|cannot continue")
+GONE = re.compile(
+    r"has no field|is not in scope|is no name|has no `|operand is missing|cannot continue|can be named from here")
+# where the compiler found an error
+ERROR = re.compile(r"^(?:\./)?(src/\S+\.rt):(\d+):\d+: error", re.M)
+# the tactics that the prover tries on a goal that has no answer
+TACTICS = ("search tried.rules", "grind (tried.arith, steps.common_steps)")
+# a file of answers that is refused: the prover lists the goals then, and does not try to offer answers to them
+NO_ANSWER = "listed : Unit\nlisted = no_answer\n"
+# what a tactic says where it finds no proof
+FOUND_NOTHING = re.compile(r"`(search|grind)`")
+# the attribute of a function that says which lemmas and definitions its goals want
+LISTS = re.compile(r"#\[tactic\(((?:[^\[\]])*?)\)\]\s*(?:#\[[^\n]*\]\s*|///[^\n]*\n\s*)*$")
+# the most wrong bodies that stand beside each other in one check
+MOST = 40
 
 
 def toolchain():
@@ -89,20 +109,30 @@ class Edit:
 
     def __init__(self, path):
         self.path, self.name = path, os.path.basename(path).removesuffix(".edit")
-        self.function, self.goal, self.pairs = "", "", []
-        self.head, file, old = [], None, None
+        self.function, self.goal, self.named, self.pairs = "", "", "", []
+        file, old = None, None
         for line in sources.read(path).splitlines():
             word, _, text = line.partition(":")
             text = text.removeprefix(" ")
             if word == "breaks":
                 self.function, _, self.goal = (it.strip() for it in text.partition(","))
+            elif word == "goal":
+                self.named = text.strip()
             elif word == "file":
                 file = text.strip()
             elif word == "old":
                 old = text
             elif word == "new":
                 self.pairs.append((file, old, text))
-        self.why = ""
+        # the goals that are asked for, and the one that refused it; why those alone did not
+        self.asks, self.to_ask, self.asked_why = [self.named] if self.named else [], "", ""
+        self.why, self.seen = "", []
+        # the function that it turns by itself, and whether it stands beside it
+        self.number, self.place = 0, None
+
+    def has_all_asked(self):
+        """Whether all goals of its function are asked for: its head does not say which one refuses it."""
+        return not (self.asks or self.function and self.goal)
 
     def turned(self, folder, functions):
         """The functions that its texts stand in; none where it changes a constant or a type."""
@@ -143,8 +173,48 @@ class Crate:
         named = {edit.function} if edit.function else set()
         return edit.turned(self.folder, self.functions) | named
 
+    def placed(self, edit):
+        """The function that an edit turns by itself, and whether it can stand beside it as a function of its own, or
+        has to take its place; nothing where it turns none or several, or its head names another."""
+        turned = edit.turned(self.folder, self.functions)
+        name = next(iter(turned), "")
+        if len(turned) != 1 or "+" in name or not f"{edit.function or name}::".startswith(f"{name}::"):
+            return None
+        fn, text = self.functions[name], self.text_of(name)
+        by_hand = os.path.exists(f"{self.folder}/proofs/{name.replace('::', '/')}/Proof.antt")
+        if by_hand or not all(text.count(old) == 1 for _, old, _ in edit.pairs):
+            return None
+        own = "|".join(["Self::", "self\\.", rf"\b{fn.of}::" if fn.of else "Self::"])
+        calls_itself = re.search(rf"(?:(?<![.:\w])|{own}){fn.name}\s*(?:::<[^>]*>)?\(", text.partition("{\n")[2])
+        is_of_trait = fn.of_trait or (text[0].isspace() and not fn.of)
+        if not (is_of_trait or calls_itself or name in self.reserved):
+            return name, True
+        return None if edit.has_all_asked() or self.tactics(name) else (name, False)
+
+    def chunks(self, edits):
+        """Edits for one check each: those that stand beside their functions, and then those that take their places,
+        each function once in a check."""
+        beside = [it for it in edits if it.place[1]]
+        for at in range(0, len(beside), MOST):
+            yield beside[at : at + MOST]
+        left = [it for it in edits if it not in beside]
+        while left:
+            chosen = list({it.place[0]: it for it in reversed(left)}.values())
+            yield chosen
+            left = [it for it in left if it not in chosen]
+
+    def text_of(self, name):
+        fn = self.functions[name]
+        return sources.read(fn.path)[fn.start : fn.end]
+
+    def tactics(self, name):
+        """What the attribute of a function says to its goals."""
+        fn = self.functions[name]
+        found = LISTS.search(sources.read(fn.path)[: fn.start].rstrip() + "\n")
+        return found[1] if found else ""
+
     def next_round(self, left):
-        """Edits for one check, and the texts that they make: each function at most once, and what changes no
+        """Edits for one check that are turned in their place, each function at most once, and what changes no
         function alone."""
         taken, chosen, texts = set(), [], {}
         for edit in left:
@@ -160,7 +230,112 @@ class Crate:
             chosen.append(edit)
             if not turned:
                 break
-        return chosen, texts
+        return chosen
+
+    def made(self, edits, alone=False):
+        """The copy of the crate in which these edits are tried."""
+        room = Room()
+        if alone or not all(it.place for it in edits):
+            for edit in edits:
+                room.texts = edit.apply(self.folder, room.texts)
+                room.names[edit] = {it: it for it in self.asked(edit)}
+            return room
+        for edit in edits:
+            self.put(room, edit, *edit.place)
+        asked = {it for names in room.names.values() for it in names.values()}
+        for name, fn in self.functions.items():
+            if self.has_hole(name, asked):
+                self.empty(room, fn)
+        for path, pieces in room.pieces.items():
+            text = sources.read(path)
+            for start, end, piece in sorted(pieces, reverse=True):
+                text = f"{text[:start]}{piece}{text[end:]}"
+            room.texts[os.path.relpath(path, self.folder)] = text
+        return room
+
+    def put(self, room, edit, name, is_beside):
+        """Puts a wrong body beside the function that it turns, or in its place, with what that function's proof has.
+        """
+        fn, text, lists = self.functions[name], self.text_of(name), self.tactics(name)
+        made = f"{fn.name}_wrong_{edit.number}" if is_beside else fn.name
+        for _, old, new in edit.pairs:
+            text = text.replace(old, new)
+        text = re.sub(rf"\bfn {fn.name}\b", f"fn {made}", text, count=1)
+        attribute = lists if edit.has_all_asked() else "none"
+        if attribute:
+            text = f"{text[: len(text) - len(text.lstrip())]}#[tactic({attribute})]\n{text}"
+        full = f"{name.rpartition('::')[0]}::{made}".removeprefix("::")
+        room.names[edit] = {name: full}
+        piece = (fn.end, fn.end, f"\n{text}") if is_beside else (fn.start, fn.end, text)
+        room.pieces.setdefault(fn.path, []).append(piece)
+        proofs = {}
+        for kind in ("Answers", "Invariants"):
+            path = f"{self.folder}/proofs/{name.replace('::', '/')}/{kind}.antt"
+            text = sources.read(path) if os.path.exists(path) else ""
+            proofs[kind] = text.replace(*(f"proofs.{it.replace('::', '.')}." for it in (name, full)))
+        if edit.asks:
+            proofs["Answers"], room.tactics[edit] = self.asking(edit.asks, full, proofs["Answers"], lists)
+        elif not edit.has_all_asked():
+            proofs["Answers"] = NO_ANSWER
+        for kind, text in proofs.items():
+            if text:
+                room.proofs[f"proofs/{full.replace('::', '/')}/{kind}.antt"] = text
+
+    def asking(self, asks, function, answers, lists):
+        """Answers that ask for these goals alone: by the answers that they have, and each other one by every tactic
+        that the prover would try. Also how many tactics that is for each. `lists` has the lemmas and the definitions
+        that the function's attribute names for them."""
+        goals = dict(it.partition(" ")[::2] for it in asks)
+        answered = [it for it in goals if re.search(rf"^pub {re.escape(it)} :", answers, re.M)]
+        kept = answers_to(answers, answered) if answered else ""
+        if len(answered) == len(goals):
+            return kept, {it: 0 for it in goals}
+        listed = {"using": [], "unfolding": []}
+        lines = ["use Rattle.std.proofs.Common as tried", "use Rattle.std.proofs.lemmas.Grind as steps"]
+        for word, names in listed.items():
+            found = re.search(rf"{word}\(([^)]*)\)", lists)
+            for path in re.findall(r"[\w:]+", found[1]) if found else []:
+                module, _, name = re.sub(r"^crate\b", self.name, path).replace("::", ".").rpartition(".")
+                names.append(name)
+                use = f"use Rattle.{module}.{{{name}}}"
+                if use not in lines and not re.search(rf"^use .*[{{ ]{name}[,}}]", kept, re.M):
+                    lines.append(use)
+        more = [f"grind (tried.arith, {', '.join(listed['using'])})"] if listed["using"] else []
+        tactics = [*TACTICS, *more]
+        if not answered:
+            lines.append(f"use Rattle.{self.name}.proofs.{function.replace('::', '.')}.Goals as goal")
+        lines += kept.splitlines()
+        for place, (goal, arguments) in enumerate(goals.items()):
+            for number, tactic in enumerate(tactics if goal not in answered else []):
+                name = f"tried-{place}-{number}" if number else goal
+                lines += ["", f"{'' if number else 'pub '}{name} : goal.{goal}"]
+                lines += [f"unfolding {' '.join(listed['unfolding'])}"] if listed["unfolding"] else []
+                lines.append(f"{name} {arguments} = {tactic}")
+        return "\n".join(lines) + "\n", {it: 0 if it in answered else len(tactics) for it in goals}
+
+    def arguments(self, name):
+        """What an answer to a goal of a function takes: the types that it has as parameters, and what is known."""
+        fn, text = self.functions[name], self.text_of(name)
+        head = text.partition(f"fn {fn.name}")[2].partition("(")[0]
+        above = sources.read(fn.path)[: fn.start]
+        impl = re.findall(r"^(?:unsafe )?impl<(.*?)> \w", above, re.M | re.S)[-1:] if text[0].isspace() else []
+        opened = re.findall(r"^(?:unsafe )?impl\b(<?)", above, re.M)[-1:]
+        generic = head.partition("<")[2] + "," + (impl[0] if impl and opened == ["<"] else "")
+        return "g c" if re.search(r"(?:^|[<,]\s*)(?:const )?[A-Z]", generic) else "c"
+
+    def has_hole(self, name, asked):
+        """Whether a function that is not asked for can have a hole in the place of its proof. What stands in an impl
+        of a trait is small, and its name in the prover's words is not always plain."""
+        return not (name in asked or name in self.reserved or "+" in name or self.functions[name].of_trait)
+
+    def empty(self, room, fn):
+        """Takes away the body of a function that has a hole: what it calls is then not read for it."""
+        text = sources.read(fn.path)
+        line = text[fn.begin : fn.end].partition("\n")[0]
+        if line.endswith("{") and " const fn " not in f" {text[fn.start : fn.begin + len(line)]}":
+            start = fn.begin + len(line)
+            indent = re.match(r" *", text[fn.start :])[0]
+            room.pieces.setdefault(fn.path, []).append((start, fn.end, f"\n{indent}    unreachable!()\n{indent}}}\n"))
 
     def hole(self, room, function):
         """Puts a hole in the place of a function's proof."""
@@ -174,28 +349,27 @@ class Crate:
             file.write(f"use Rattle.{self.name}.proofs.{path}.Statement.{{statement}}\n\n")
             file.write(f"pub {last}_spec : {{M : Type 1}} → statement M\n{last}_spec = ?\n")
 
-    def check(self, texts, asked, kept):
-        """What a check says of a copy with these texts, in which only the functions that are asked for are proved.
-        Where a function can have no hole, it is checked once more without that one."""
+    def check(self, made, asked, kept):
+        """What a check says of a copy, in which only the functions that are asked for are proved. Where a function
+        can have no hole, it is checked once more without that one."""
         while True:
-            said = self.check_once(texts, asked, kept)
+            said = self.check_once(made, asked, kept)
             found = {it.replace("/", "::") for it in RESERVED.findall(said)} - self.reserved
             if not found:
                 return said
             self.reserved |= found
 
-    def check_once(self, texts, asked, kept):
+    def check_once(self, made, asked, kept):
         with tempfile.TemporaryDirectory(prefix="wrong-") as room:
             for part in PARTS:
                 if os.path.isdir(f"{self.folder}/{part}"):
                     shutil.copytree(f"{self.folder}/{part}", f"{room}/{part}")
-            for file, text in texts.items():
+            for file, text in {**made.texts, **made.proofs}.items():
+                os.makedirs(os.path.dirname(f"{room}/{file}"), exist_ok=True)
                 with open(f"{room}/{file}", "w", encoding="utf-8") as it:
                     it.write(text)
-            for function, fn in self.functions.items():
-                # what stands in an impl of a trait is small, and its name in the prover's words is not always plain
-                is_plain = not fn.of_trait and "+" not in function
-                if function not in asked and is_plain and function not in self.reserved:
+            for function in self.functions:
+                if self.has_hole(function, asked):
                     self.hole(room, function)
             self.rounds += 1
             said = self.prover.check(self.name, room, sorted(asked), kept)
@@ -204,26 +378,37 @@ class Crate:
                 log.write(said)
             return said
 
-    def try_round(self, chosen, texts, kept):
-        """Tries edits in one check. Where that could not read them, tries each half."""
-        asked = set().union(*map(self.asked, chosen))
-        said = self.check(texts, asked, kept)
+    def try_round(self, chosen, kept, alone=False):
+        """Tries edits in one check. Where that could not read them, tries those that it does not name, or each half.
+        """
+        made = self.made(chosen, alone)
+        asked = {it for names in made.names.values() for it in names.values()}
+        said = self.check(made, asked, kept)
         if not re.search(r"^only=\d+ ", said, re.M):
-            if len(chosen) == 1:
-                chosen[0].why = first_error(said)
+            bad = chosen if len(chosen) == 1 else made.named_by(said)
+            for edit in bad:
+                edit.why = first_error(said)
+            left = [it for it in chosen if it not in bad]
+            if bad and left:
+                self.try_round(left, kept)
+            if bad:
                 return
+            print(f"{self.name}: {len(chosen)} wrong bodies are tried by halves: {first_error(said)}")
             for half in (chosen[: len(chosen) // 2], chosen[len(chosen) // 2 :]):
-                self.try_round(half, self.texts(half), kept)
+                self.try_round(half, kept)
             return
         goals = open_goals(self.name, said)
         for edit in chosen:
-            judge(edit, self.asked(edit), goals, said)
-
-    def texts(self, edits):
-        made = {}
-        for edit in edits:
-            made = edit.apply(self.folder, made)
-        return made
+            names = made.names[edit]
+            (name, there), *_ = names.items()
+            if edit in made.tactics:
+                judge_asked(edit, name, there, made.tactics[edit], said)
+            elif made.pieces and not edit.has_all_asked():
+                edit.asks = [f"{it} {self.arguments(name)}" for it in left_goals(self.name, there, said)
+                             if spoken(it) == edit.goal]
+                edit.why = edit.asked_why = "" if edit.asks else f"it has no goal that is {edit.goal}"
+            else:
+                judge(edit, names, goals, said)
 
     def try_all(self, edits):
         """Tries edits: in rounds, and each that was not refused once more alone. What is then not refused has a
@@ -238,17 +423,65 @@ class Crate:
                     edit.why = "it turns no function, and its head names none"
                 else:
                     left.append(edit)
+            for number, edit in enumerate(left):
+                edit.number, edit.place = number, self.placed(edit)
+            placed = [it for it in left if it.place]
+            # the goals of those without one are listed first; of those without a head all are asked for
+            for chosen in self.chunks([it for it in placed if not it.asks]):
+                self.try_round(chosen, kept)
+            for chosen in self.chunks([it for it in placed if it.asks]):
+                self.try_round(chosen, kept)
+            left = [it for it in left if it not in placed]
             while left:
-                chosen, texts = self.next_round(left)
-                self.try_round(chosen, texts, kept)
+                chosen = self.next_round(left)
+                self.try_round(chosen, kept)
                 left = [it for it in left if it not in chosen]
             for edit in edits:
                 if edit.why and self.asked(edit) and edit.apply(self.folder, {}):
                     edit.why = ""
-                    self.try_round([edit], self.texts([edit]), kept)
+                    self.try_round([edit], kept, alone=True)
         finally:
             shutil.rmtree(kept, ignore_errors=True)
         return edits
+
+
+class Room:
+    """A copy of a crate: the texts that differ there, the functions that stand beside others, by the file that they
+    stand in, with their proofs; for each edit the names that its functions have there, and how many tactics are
+    tried on its goal."""
+
+    def __init__(self):
+        self.texts, self.pieces, self.proofs, self.names, self.tactics = {}, {}, {}, {}, {}
+
+
+    def named_by(self, said):
+        """The edits that stand beside their functions and that the errors of a check are in."""
+        found = set()
+        for file, line in ERROR.findall(said):
+            above = "\n".join(self.texts.get(file, "").split("\n")[: int(line)])
+            found.update(re.findall(r"\bfn (\w+_wrong_\d+)\b", above)[-1:])
+        return [edit for edit, names in self.names.items() for it in names.values() if it.rpartition("::")[2] in found]
+
+
+def answers_to(answers, goals):
+    """A file of answers without those of other goals."""
+    kept, owner = [], ""
+    for line in answers.splitlines():
+        named = re.match(r"pub (\S+) :", line)
+        word = re.match(r"[^\s)\]}-]\S*", line)
+        if named:
+            owner = named[1]
+        elif word and word[0] not in (owner, "unfolding"):
+            owner = ""
+        if not owner or owner in goals:
+            kept.append(line)
+    return "\n".join(kept) + "\n"
+
+
+def left_goals(crate, there, said):
+    """The goals of a function that a check lists above the line that it has for it."""
+    above = said.partition(f"\nfn {crate}::{there}: ")[0].split("\nfn ")[-1]
+    return re.findall(r"^note: src/.*\(`([^`]+)`\)", above, re.M)
 
 
 def first_error(said):
@@ -290,18 +523,63 @@ def refused_answers(name, said):
     return [it for error in errors for it in re.findall(r"^`([^`]+)`", error)]
 
 
-def judge(edit, asked, goals, said):
-    """Says why an edit is not refused, or notes which goal refused it."""
-    own = {name: it for name, it in goals.items() if any(name == fn or name.startswith(f"{fn}::") for fn in asked)}
+def judge(edit, names, goals, said):
+    """Says why an edit is not refused, or notes which goals refused it. `names` has for each function that is asked
+    for its name in the copy."""
+    own = {}
+    for fn, there in names.items():
+        own.update({f"{fn}{it.removeprefix(there)}": opened for it, opened in goals.items()
+                    if f"{it}::".startswith(f"{there}::")})
     wanted = {name: it for name, it in own.items() if not edit.function or name.startswith(edit.function)}
     if not own:
-        told = [it for it in said.splitlines() if re.match(rf"fn \S+::({'|'.join(map(re.escape, asked))}):", it)]
-        edit.why = f"no goal of {', '.join(sorted(asked))} is open: {'; '.join(told)[:300]}"
+        there = "|".join(map(re.escape, names.values()))
+        told = [it for it in said.splitlines() if re.match(rf"fn \S+::({there}):", it)]
+        edit.why = f"no goal of {', '.join(sorted(names))} is open: {'; '.join(told)[:300]}"
     elif not wanted:
         edit.why = f"what is open is not of {edit.function}: {own}"
     elif edit.goal and not any(edit.goal == spoken(it) for opened in wanted.values() for it in opened):
         edit.why = f"{edit.goal} is not open, but {wanted}"
     edit.seen = [(name, [spoken(it) for it in opened]) for name, opened in own.items()]
+    edit.to_ask = goal_to_ask(edit, names, wanted, said)
+
+
+def goal_to_ask(edit, names, wanted, said):
+    """The goal that refuses an edit, as a head may have it: its name, and what an answer to it takes."""
+    for fn, opened in wanted.items():
+        fitting = [it for it in opened if not edit.goal or edit.goal == spoken(it)]
+        if fn not in names or not fitting:
+            continue
+        place = f"./proofs/{names[fn].replace('::', '/')}/Answers.antt"
+        refused = re.findall(rf"^{re.escape(place)}:\d+:\d+: error: `([^`]+)`", said, re.M)
+        for goal in fitting:
+            if goal in refused:
+                return goal
+        # what the prover offers to write stands below the line that names the file
+        offered = re.search(rf"^help: (?:write|add these lines to) {re.escape(place)}\b.*\n((?: .*\n|\n)*)", said, re.M)
+        for goal in fitting:
+            found = offered and re.search(rf"^    ({re.escape(goal)}(?: \S+)*) = \?$", offered[1], re.M)
+            if found:
+                return found[1]
+    return ""
+
+
+def judge_asked(edit, function, there, tactics, said):
+    """Says why an edit is not refused by the goals that were asked for, or notes which one refused it. `there` is the
+    function's name in the copy; `tactics` has how many were tried on each goal, 0 where the proof has an answer."""
+    place = re.escape(f"./proofs/{there.replace('::', '/')}/Answers.antt")
+    told = dict(re.findall(rf"^{place}:\d+:\d+: error: (?:`([^`]+)`: )?(.*)$", said, re.M))
+    stands = re.search(rf"^fn \S+::{re.escape(there)}: not proved; it stands on (.*?), which antt refuses", said, re.M)
+    refused = [it.rpartition(".")[2] for it in re.findall(r"`([^`]+)`", stands[1])] if stands else []
+    gone = any(GONE.search(re.sub(r"`[^`]*`", "", it)) for it in told.values())
+    for place, ask in enumerate(edit.asks):
+        goal = ask.split()[0]
+        tries = [goal, *(f"tried-{place}-{number}" for number in range(1, tactics[goal]))]
+        found_nothing = all(FOUND_NOTHING.match(told.get(it, "")) for it in tries) if tactics[goal] else not gone
+        if goal in refused and found_nothing and edit.goal in ("", spoken(goal)):
+            edit.why = edit.asked_why = ""
+            edit.seen, edit.to_ask = [(function, [spoken(goal)])], ask if tactics[goal] else goal
+            return
+    edit.why = edit.asked_why = f"no goal that was asked for is refused ({', '.join(edit.asks)}): {told}"[:1000]
 
 
 def spoken(goal):
@@ -314,11 +592,46 @@ def spoken(goal):
 
 def write_head(edit):
     """Writes what was seen to refuse an edit at its head."""
-    (name, opened), *_ = edit.seen
-    clauses = [it for it in opened if it.startswith(("clause ", "its clause"))]
-    rest = [it for it in sources.read(edit.path).splitlines() if not it.startswith("breaks:")]
+    if not edit.function:
+        (edit.function, opened), *_ = edit.seen
+        clauses = [it for it in opened if it.startswith(("clause ", "its clause"))]
+        edit.goal = (clauses or opened)[0]
+    head = [f"breaks: {edit.function}, {edit.goal}" if edit.goal else f"breaks: {edit.function}"]
+    # a goal that was asked for alone and not refused so is left out
+    head += [f"goal: {edit.to_ask}"] if edit.to_ask and not (edit.asked_why and edit.to_ask == edit.named) else []
+    rest = [it for it in sources.read(edit.path).splitlines() if not it.startswith(("breaks:", "goal:"))]
     with open(edit.path, "w", encoding="utf-8") as file:
-        file.write("\n".join([f"breaks: {edit.function or name}, {(clauses or opened)[0]}", *rest]) + "\n")
+        file.write("\n".join([*head, *rest]) + "\n")
+
+
+def tell(name, crate, edits, words):
+    """Prints what came of the edits of a crate, and writes what their heads want; returns how many are refused."""
+    for edit in edits:
+        if not edit.why and "--write" in words:
+            write_head(edit)
+        elif not edit.why and not edit.function:
+            edit.why = f"it has no head; {edit.seen}"
+        if edit.why:
+            print(f"wrong body {name}/{edit.name}: NOT REFUSED: {edit.why}")
+        elif edit.named and edit.asked_why:
+            print(f"wrong body {name}/{edit.name}: refused, but not by its goal alone: {edit.asked_why}")
+        if not edit.why and "--seen" in words:
+            print(f"wrong body {name}/{edit.name}: {edit.seen}")
+    with open(f"{LOGS}/{name}.goals", "w", encoding="utf-8") as file:
+        file.writelines(f"{it.name} {it.to_ask}\n" for it in edits if it.to_ask and not it.why and not it.named)
+    refused = sum(not it.why for it in edits)
+    print(f"{name}: {refused} of {len(edits)} wrong bodies refused, in {crate.rounds} checks", flush=True)
+    return refused
+
+
+def take_goals(name):
+    """Writes the goals that the last run saw at the heads of those that have none."""
+    path = f"{LOGS}/{name}.goals"
+    goals = dict(it.split(" ", 1) for it in sources.read(path).splitlines()) if os.path.exists(path) else {}
+    for edit in edits_of(f"{sources.ROOT}/crates/{name}"):
+        if edit.name in goals and edit.function and not edit.named:
+            edit.to_ask = goals[edit.name]
+            write_head(edit)
 
 
 def main(words):
@@ -327,24 +640,17 @@ def main(words):
         at = words.index("--built")
         built = os.path.abspath(words[at + 1])
         del words[at : at + 2]
-    writes = "--write" in words
     names = [it for it in words if not it.startswith("--")]
+    names = names or [it for it in sources.rows() if os.path.isdir(f"{sources.ROOT}/crates/{it}/wrong")]
+    if "--take" in words:
+        for name in names:
+            take_goals(name)
+        return 0
     prover, failed, passed = Prover(built), 0, 0
-    for name in names or [it for it in sources.rows() if os.path.isdir(f"{sources.ROOT}/crates/{it}/wrong")]:
+    for name in names:
         crate = Crate(prover, name)
         edits = crate.try_all(edits_of(crate.folder))
-        for edit in edits:
-            if not edit.why and not edit.function:
-                if writes:
-                    write_head(edit)
-                else:
-                    edit.why = f"it has no head; {edit.seen}"
-            if edit.why:
-                print(f"wrong body {name}/{edit.name}: NOT REFUSED: {edit.why}")
-            if not edit.why and "--seen" in words:
-                print(f"wrong body {name}/{edit.name}: {edit.seen}")
-        refused = sum(not it.why for it in edits)
-        print(f"{name}: {refused} of {len(edits)} wrong bodies refused, in {crate.rounds} checks", flush=True)
+        refused = tell(name, crate, edits, words)
         failed, passed = failed + len(edits) - refused, passed + refused
     print(f"{passed} passed, {failed} failed")
     return 1 if failed else 0
