@@ -1,12 +1,13 @@
 #!/usr/bin/env python3
 """Tries the mirror on stores that this script writes.
 
-    python3 mirror/check.py [--only scenes|publishing|following|bad|killed|SCENE]
+    python3 mirror/check.py [--short | --only scenes|publishing|following|bad|starts|killed|SCENE]
 
 Scenes of pushes are recorded from a real `hg push` to a real `hg serve`. Each is mirrored, from a store and
 from a log, and what the mirror holds is compared with what `hg serve` held, line by line. Then the mirror is
 ended by SIGKILL at random moments and started again, it follows a store that grows, and it is given stores
-that it has to refuse. It needs the command `hg`, and some minutes.
+that it has to refuse. It needs the command `hg`, and some minutes. With --short some scenes are left out, it is
+killed less often, and may be later with a push, as on a busy machine.
 """
 
 import os
@@ -15,6 +16,7 @@ import subprocess
 import sys
 import tempfile
 import time
+from concurrent.futures import ThreadPoolExecutor
 
 import stores
 from recorder import recorded
@@ -24,6 +26,13 @@ from stores import Place, Results, head, sha1, store, write
 # How often the mirror is killed at its work, until it has all pushes; and how often to look at the front that it has.
 KILLS = 25
 FRONTS = 10
+# how soon the middle one of some pushes has to be mirrored, in seconds
+SOON = 0.2
+# how many scenes run at the same time
+AT_ONCE = 4
+# what is tried with --short
+SHORT = {"KILLS": 6, "FRONTS": 3, "SOON": 1}
+SHORT_SCENES = ("merges", "bookmarks", "amends", "orphans")
 
 
 class Client:
@@ -277,10 +286,10 @@ def try_killed(results, folder):
     for start in range(4 * KILLS):
         if name is None:
             name = place.repository(f"killed{start}")
-        before = place.count(name)
+        before = settled(place, name)
         killed += kill_in_work(place.start("mirror", "-R", name, "--store", "store", "--once"), place, name, before,
                                choose)
-        kept = place.count(name)
+        kept = settled(place, name)
         results.see("killed: it does not go back", kept >= before - 1, f"{before}, then {kept}")
         if kept == len(bundles):
             place.mirror(name, "store")
@@ -290,6 +299,13 @@ def try_killed(results, folder):
                 break
     results.see("killed: it comes to the end each time", name is None and killed >= KILLS)
     return killed + try_front(results, place, bundles, states, choose)
+
+
+def settled(place, name):
+    """How many pushes a repository has; if it was killed while it rolled back, that is finished first."""
+    if place.count(name) is None:
+        place.run("recover", "-R", name)
+    return place.count(name)
 
 
 def kill_in_work(run, place, name, before, choose):
@@ -311,7 +327,7 @@ def try_front(results, place, bundles, states, choose):
     for number in range(FRONTS):
         name = place.repository(f"front{number}")
         killed += kill_in_work(place.start("mirror", "-R", name, "--store", "store", "--once"), place, name, 0, choose)
-        kept = place.count(name)
+        kept = settled(place, name)
         # The number may be one of a transaction that was at its end and is rolled back.
         place.run("recover", "-R", name)
         count = place.count(name)
@@ -354,7 +370,7 @@ def try_following(results, folder, place, bundles, wanted):
                 results.see("following: a shut gate is waited for", place.count("follows") == number)
                 os.pwrite(file.fileno(), b"\1", end)
                 end += len(record_bytes)
-                took.append(waited(place, number + 1))
+                took.append(waited(place, "follows", number + 1))
         used = processor_time(run.pid)
         time.sleep(2)
         results.see("following: no busy loop", processor_time(run.pid) - used < 0.1)
@@ -364,7 +380,8 @@ def try_following(results, folder, place, bundles, wanted):
     results.see("following: ended by a signal", run.returncode != 0, said)
     results.same("following: state", place.state("follows"), wanted)
     middle = sorted(took)[len(took) // 2]
-    results.see("following: in time", middle < 0.2 and max(took) < 2, f"{middle:.3f} s, longest {max(took):.3f} s")
+    results.see("following: in time", middle < SOON and max(took) < 10 * SOON,
+                f"{middle:.3f} s, longest {max(took):.3f} s")
     try_replaced(results, place)
     return max(took), middle
 
@@ -385,9 +402,9 @@ def try_replaced(results, place):
     results.see("following: a cut store", status == 255 and "has 0" in said, said)
 
 
-def waited(place, count):
+def waited(place, name, count):
     start = time.monotonic()
-    while place.count("follows") < count and time.monotonic() < start + 20:
+    while (place.count(name) or 0) < count and time.monotonic() < start + 20:
         time.sleep(0.001)
     return time.monotonic() - start
 
@@ -469,41 +486,126 @@ def try_other_stores(results, folder, place, bundles):
     return len(rows) + 1
 
 
+def try_starts(results, folder):
+    """A start does not read what was mirrored before, where its last record is at its place."""
+    os.mkdir(folder)
+    place, bundles = Place(folder), [push.bundle() for push in plain(5)]
+    name = place.repository("starts")
+
+    def start(what, data, words, count):
+        write(f"{folder}/store", data)
+        status, said = place.mirror(name, "store")
+        results.see(f"starts: {what}", words in said and (status == 0) == ("in all" == words), said)
+        results.see(f"starts: {what}: count", place.count(name) == count)
+
+    whole, first = store(bundles), len(head()) + 25
+    spoilt = bytearray(whole)
+    spoilt[first] ^= 1
+    last = len(store(bundles[:2], end=b""))
+    start("three pushes", store(bundles[:3]), "in all", 3)
+    start("damage in what was mirrored is not looked at", bytes(spoilt), "in all", 5)
+    spoilt = bytearray(store(bundles[:3]))
+    spoilt[last + 6] ^= 1
+    start("another digest of the last record", bytes(spoilt), "damaged behind 2", 5)
+    start("a store that ends before it", store(bundles[:4]), "has 4", 5)
+    start("other pushes before it", store(bundles[1:2] + bundles[1:]), "not those mirrored", 5)
+    status, said = place.run("mirror", "-R", name, "--log", "-", given=b"".join(bundles))
+    results.see("starts: the log of the same pushes", status == 0 and said.startswith("0 pushes"), said)
+    more = [*bundles, plain(6)[-1].bundle()]
+    status, said = place.run("mirror", "-R", name, "--log", "-", "--from", "5", given=more[5])
+    results.see("starts: one more from a log", status == 0 and place.count(name) == 6, said)
+    spoilt = bytearray(store(more))
+    spoilt[first] ^= 1
+    start("after a log all is read", bytes(spoilt), "damaged behind 0", 6)
+    start("after a log all is compared", store(more), "in all", 6)
+
+
+def try_two(results, folder):
+    """A mirror that finds that another one has applied a push meanwhile ends, and applies nothing."""
+    os.mkdir(folder)
+    place, bundles = Place(folder), [push.bundle() for push in plain(2)]
+    name = place.repository("two")
+    write(f"{folder}/store", store(bundles[:1]))
+    run = place.start("mirror", "-R", name, "--store", "store")
+    waited(place, name, 1)
+    status, said = place.run("mirror", "-R", name, "--log", "-", "--from", "1", given=bundles[1])
+    results.see("two mirrors: the other", status == 0 and place.count(name) == 2, said)
+    whole = store(bundles)
+    end = len(store(bundles[:1])) - 1
+    with open(f"{folder}/store/pushes", "r+b", buffering=0) as file:
+        os.pwrite(file.fileno(), whole[end + 1:], end + 1)
+        os.pwrite(file.fileno(), whole[end:end + 1], end)
+    try:
+        said = run.communicate(timeout=60)[0].decode()
+    except subprocess.TimeoutExpired:
+        run.kill()
+        said = run.communicate()[0].decode()
+    results.see("two mirrors: the first", run.returncode == 255 and "another mirror has" in said, said)
+    results.see("two mirrors: the count", place.count(name) == 2)
+
+
+def all_at_once(results, tried):
+    """Tries some scenes, each with a folder of its own, several of them at the same time."""
+    with ThreadPoolExecutor(AT_ONCE) as pool:
+        for done in [pool.submit(try_scene, results, *words) for words in tried]:
+            done.result()
+
+
 def scenes(results, folder, only):
-    chosen = [scene for scene in SCENES if only in (None, "scenes", scene.__name__)]
-    for scene in chosen:
-        try_scene(results, f"{folder}/{scene.__name__}", scene)
+    wanted = SHORT_SCENES if only == "short" else (only,)
+    chosen = [it for it in SCENES if only in (None, "scenes") or it.__name__ in wanted]
+    all_at_once(results, [(f"{folder}/{it.__name__}", it) for it in chosen])
     if chosen:
         yield f"{len(chosen)} scenes"
 
 
 def publishing(results, folder, only):
     """The scenes in which nothing is rewritten, on a server that publishes."""
-    if only in (None, "publishing"):
-        for scene in PUBLISHED:
-            try_scene(results, f"{folder}/{scene.__name__}-publishing", scene, publishing=True)
+    if only in (None, "publishing", "short"):
+        chosen = PUBLISHED[1:2] if only == "short" else PUBLISHED
+        all_at_once(results, [(f"{folder}/{it.__name__}-publishing", it, True) for it in chosen])
         try_without_phases(results, f"{folder}/plain")
-        yield f"{len(PUBLISHED)} scenes on a server that publishes"
+        yield f"{len(chosen)} scenes on a server that publishes"
 
 
-def others(results, folder, only):
-    if only in (None, "following", "bad"):
-        place, bundles, wanted = record(f"{folder}/follow", all_kinds)
-        if only != "bad":
-            longest, middle = try_following(results, place.folder, place, bundles, wanted)
-            yield f"a push mirrored after {1000 * middle:.0f} ms (middle), {1000 * longest:.0f} ms (longest)"
-        if only != "following":
-            yield f"{try_bad_stores(results, place.folder, place, bundles[:3])} bad stores and logs"
-    if only in (None, "killed"):
+def starts(results, folder, only):
+    if only in (None, "short", "starts"):
+        try_starts(results, f"{folder}/starts")
+        try_two(results, f"{folder}/two-mirrors")
+        yield "9 starts"
+
+
+def bad(results, folder, only):
+    if only in (None, "short", "bad"):
+        place, bundles, _ = record(f"{folder}/bad", amends)
+        yield f"{try_bad_stores(results, place.folder, place, bundles)} bad stores and logs"
+
+
+def killed(results, folder, only):
+    if only in (None, "short", "killed"):
         yield f"killed at its work {try_killed(results, f'{folder}/killed')} times"
+
+
+def following(results, folder, only):
+    if only in (None, "short", "following"):
+        place, bundles, wanted = record(f"{folder}/follow", all_kinds)
+        longest, middle = try_following(results, place.folder, place, bundles, wanted)
+        yield f"a push mirrored after {1000 * middle:.0f} ms (middle), {1000 * longest:.0f} ms (longest)"
 
 
 def main():
     stores.skip_without_hg("check.py")
     only = sys.argv[2] if sys.argv[1:2] == ["--only"] else None
+    if sys.argv[1:] == ["--short"]:
+        only = "short"
+        globals().update(SHORT)
     results = Results("check.py")
-    with tempfile.TemporaryDirectory() as folder:
-        seen = [words for tried in (scenes, publishing, others) for words in tried(results, folder, only)]
+    with tempfile.TemporaryDirectory() as folder, ThreadPoolExecutor() as pool:
+        beside = [pool.submit(lambda it: list(it(results, folder, only)), it)
+                  for it in (scenes, publishing, starts, bad, killed)]
+        seen = [words for it in beside for words in it.result()]
+        # times are taken when all else is over
+        seen += following(results, folder, only)
     if not seen:
         sys.exit(__doc__)
     results.end("; ".join(seen))

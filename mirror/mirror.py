@@ -66,13 +66,26 @@ STANDARD = (65536, 67108864, 268435456, 10000, 16777216, 1024, 2147483647)
 PAUSE = 0.05
 
 # The file, in the repository's store, with how many pushes were applied and
-# the digest of all of their bundles.
+# the digest of all of their bundles; where they came from a store also where
+# the last record begins and ends there, and its digest.
 KEPT = b'pushes-mirrored'
 NOTHING = b'\0' * 20
 
 
 def sha1(data):
     return hashlib.sha1(data).digest()
+
+
+class othermirror(error.Abort):
+    """Another process has applied pushes meanwhile."""
+
+
+def tohex(digest):
+    return digest.hex().encode()
+
+
+def fromhex(digits):
+    return bytes.fromhex(pycompat.sysstr(digits))
 
 
 class badstore(error.Abort):
@@ -91,8 +104,26 @@ class store:
         head = self.bytes_at(0, HEAD.size)
         self.publishing = self.publishing_of(head)
         self.digest = sha1(head)
-        self.end = HEAD.size
+        self.start = self.end = HEAD.size
         self.count = 0
+
+    def skip(self, state):
+        """Passes over the pushes that were mirrored.
+
+        It does so where the last of their records is at its place: its digest
+        is of all records up to it. Else the store is read from its head.
+        """
+        if state.record is None:
+            return
+        start, end, digest = state.record
+        front = self.bytes_at(start, FRAME.size)
+        size = end - start - FRAME.size
+        if front == FRAME.pack(OPEN, size, digest) and end <= self.size():
+            self.start, self.end, self.digest = start, end, digest
+            self.count = state.count
+
+    def size(self):
+        return os.fstat(self.file.fileno()).st_size
 
     def bytes_at(self, place, size):
         """Up to so many bytes from that place on."""
@@ -133,15 +164,14 @@ class store:
             raise self.torn()
         _gate, size, told = FRAME.unpack(front)
         # A damaged length may tell of gigabytes: they are not asked for.
-        behind = os.fstat(self.file.fileno()).st_size - self.end - FRAME.size
-        if behind < size:
+        if self.size() - self.end - FRAME.size < size:
             raise self.torn()
         bundle = self.bytes_at(self.end + FRAME.size, size)
         if len(bundle) < size:
             raise self.torn()
         if told != sha1(self.digest + sha1(bundle)):
             raise self.damaged()
-        self.digest = told
+        self.digest, self.start = told, self.end
         self.end += FRAME.size + size
         self.count += 1
         return bundle
@@ -284,21 +314,25 @@ class mirrored:
     """How far a repository has come."""
 
     def __init__(self, repo):
-        self.repo = repo
-        self.count, self.digest = 0, NOTHING
+        self.repo, self.source = repo, None
+        self.count, self.digest, self.record = 0, NOTHING, None
         kept = repo.svfs.tryread(KEPT).split()
         if kept:
-            self.count, self.digest = int(kept[0]), bytes.fromhex(
-                pycompat.sysstr(kept[1])
-            )
+            self.count, self.digest = int(kept[0]), fromhex(kept[1])
+        if len(kept) == 5:
+            self.record = int(kept[2]), int(kept[3]), fromhex(kept[4])
 
     def apply(self, bundle):
         """Applies the next push, and notes it in the same transaction."""
-        repo, count = self.repo, self.count + 1
+        repo, found, count = self.repo, self.source, self.count + 1
         digest = sha1(self.digest + sha1(bundle))
+        words = [b'%d' % count, tohex(digest)]
+        if found:
+            words += [b'%d' % found.start, b'%d' % found.end]
+            words += [tohex(found.digest)]
 
         def note(file):
-            file.write(b'%d %s\n' % (count, digest.hex().encode()))
+            file.write(b' '.join(words) + b'\n')
 
         repo.ui.pushbuffer()
         try:
@@ -307,12 +341,22 @@ class mirrored:
                 tr.hookargs.update(
                     {b'source': b'push', b'url': url, b'bundle2': b'1'}
                 )
+                self.checkalone()
                 tr.addfilegenerator(b'mirror', (KEPT,), note)
                 run(repo, tr, bundle)
         finally:
             told = repo.ui.popbuffer()
         repo.ui.debug(told)
         self.count, self.digest = count, digest
+
+
+    def checkalone(self):
+        now = mirrored(self.repo)
+        if (now.count, now.digest) != (self.count, self.digest):
+            raise othermirror(
+                _(b'another mirror has applied pushes here meanwhile'),
+                hint=_(b'end one of the two'),
+            )
 
 
 def run(repo, tr, bundle):
@@ -400,7 +444,7 @@ def applynext(ui, state, bundle):
     place = state.count
     try:
         state.apply(bundle)
-    except (OSError, error.LockError, MemoryError):
+    except (OSError, error.LockError, MemoryError, othermirror):
         raise
     except Exception as fault:
         ui.traceback()
@@ -457,7 +501,9 @@ def mirror(ui, repo, **opts):
     if folder:
         found = store(folder)
         checkpublishing(repo, found)
-        bundles, first = fromstore(found, state, opts['once']), 0
+        found.skip(state)
+        state.source = found
+        bundles, first = fromstore(found, state, opts['once']), found.count
     else:
         bundles, first = fromlog(ui, log), opts['from']
         if first < 0:

@@ -1,17 +1,25 @@
 #!/usr/bin/env python3
 """Seven pushes that Mercurial refuses and a push server may have answered as done.
 
-    python3 mirror/refused.py
+    python3 mirror/refused.py [PROGRAM]
 
 The push server reads changesets, and of manifests and files only their frames. So a client that makes its own
-bundles may push what no repository of Mercurial takes. Each of the seven is written behind two plain pushes, and
-a plain one behind it. The mirror has to stop at its place with a reason, and to hold the two as if it were not
+bundles may push what no repository of Mercurial takes. Each of the seven comes after two plain pushes, and a
+plain one after it. The mirror has to stop at its place with a reason, and to hold the two as if it were not
 there. It needs the command `hg`.
+
+With PROGRAM, the built hg_pushd, the four are pushed to its command `host`, which answers each as done. While it
+holds the store, `cut` refuses. Then it is killed, `log --from` and `cut` take the push and what came after it out
+of the store, and the mirror goes on with what is pushed again. Without it the store is written by this script.
 """
 
 import hashlib
+import os
 import struct
+import subprocess
+import sys
 import tempfile
+import urllib.request
 
 import stores
 from stores import Place, Results, store, write
@@ -131,39 +139,131 @@ def plain(count):
     return pushes
 
 
-def try_refused(results, place, number, what, spoil):
+class Written:
+    """A store that this script writes."""
+
+    def __init__(self, place, name):
+        self.place, self.name, self.bundles = place, name, []
+
+    def take(self, results, what, bundles):
+        self.bundles += bundles
+        write(f"{self.place.folder}/{self.name}", store(self.bundles))
+
+    def cut(self, results, what, at):
+        self.bundles = self.bundles[:at]
+
+
+class Pushed:
+    """A store of the built program, to whose command `host` pushes are sent."""
+
+    def __init__(self, program, place, name):
+        self.program, self.place, self.name, self.bundles = program, place, name, []
+        self.file = f"{place.folder}/{name}/pushes"
+
+    def run(self, *words):
+        """The status of the program, its output, and its lines on standard error."""
+        done = subprocess.run([self.program, *words], cwd=self.place.folder, stdin=subprocess.DEVNULL,
+                              capture_output=True, timeout=60, check=False)
+        return done.returncode, done.stdout, done.stderr.decode()
+
+    def take(self, results, what, bundles):
+        """Has `host` take pushes, tries a cut while it holds the store, and kills it."""
+        host = subprocess.Popen([self.program, "host", "--store", self.name, "--listen", "127.0.0.1:0"],
+                                cwd=self.place.folder, stdin=subprocess.DEVNULL, stderr=subprocess.PIPE)
+        try:
+            address = host.stderr.readline().decode().partition(" on ")[2].partition(",")[0]
+            for bundle in bundles:
+                reply = self.push(address, bundle)
+                results.see(f"{what}: answered as done", reply[:4] == b"HG20" and b"error" not in reply.lower(),
+                            reply)
+            self.bundles += bundles
+            before = read(self.file)
+            status, _, said = self.run("cut", "--store", self.name, "--at", "0")
+            results.see(f"{what}: no cut of a store that is held", status == 3 and "another process holds" in said,
+                        said)
+            results.see(f"{what}: the held store", read(self.file) == before and not self.kept(0))
+        finally:
+            host.kill()
+            host.communicate()
+
+    def push(self, address, bundle):
+        asked = urllib.request.Request(f"{address}?cmd=unbundle&heads=666f726365", bundle,
+                                       {"content-type": "application/mercurial-0.1"})
+        with urllib.request.urlopen(asked, timeout=60) as answer:
+            return answer.read()
+
+    def kept(self, at):
+        """What a cut kept; nothing where there is no such file."""
+        name = f"{self.file}.cut-{at}"
+        return read(name) if os.path.exists(name) else b""
+
+    def cut(self, results, what, at):
+        """Takes the pushes from a place on out of the store."""
+        whole, lost = read(self.file), b"".join(self.bundles[at:])
+        status, _, said = self.run("cut", "--store", self.name, "--at", str(len(self.bundles)))
+        results.see(f"{what}: no cut where there is no push", status == 3 and read(self.file) == whole, said)
+        status, told, said = self.run("log", "--store", self.name, "--from", str(at))
+        results.see(f"{what}: the log from there on", status == 0 and told == lost, said)
+        status, _, said = self.run("cut", "--store", self.name, "--at", str(at))
+        results.see(f"{what}: the cut", status == 0, said)
+        results.see(f"{what}: what is cut is kept", self.kept(at) == lost)
+        self.bundles = self.bundles[:at]
+        left = store(self.bundles, end=b"")
+        results.see(f"{what}: the pushes before it", read(self.file).rstrip(b"\0") == left.rstrip(b"\0"))
+
+    def changesets(self):
+        """The changesets of the report, in its order, and how many pushes it has."""
+        lines = self.run("report", "--store", self.name)[1].decode().splitlines()
+        return ([line.split()[2] for line in lines if line.startswith("C ")],
+                sum(line.startswith("J ") for line in lines))
+
+
+def read(path):
+    with open(path, "rb") as file:
+        return file.read()
+
+
+def try_refused(results, place, kept, number, what, spoil):
     first, second, behind = plain(3)
     before = [first.bundle(), second.bundle()]
     bad = Push(7, second)
     spoil(bad)
-    write(f"{place.folder}/before", store(before))
-    write(f"{place.folder}/store{number}", store([*before, bad.bundle(), behind.bundle()]))
-    wanted = place.repository(f"wanted{number}")
-    place.mirror(wanted, "before")
+    kept.take(results, what, [*before, bad.bundle(), behind.bundle()])
     name = place.repository(f"mirror{number}")
     for turn in ("", ", again"):
-        status, said = place.mirror(name, f"store{number}")
+        status, said = place.mirror(name, kept.name)
         results.see(f"{what}{turn}: told", status == 255 and "refuses push 2: " in said and "at place 2" in said, said)
         results.see(f"{what}{turn}: no traceback", "Traceback" not in said, said)
         results.see(f"{what}{turn}: two pushes", place.count(name) == 2)
-        results.same(f"{what}{turn}: state", place.state(name), place.state(wanted))
-    print(f"{what}: {said.partition('push 2: ')[2].partition(chr(10))[0]}")
+    results.same(f"{what}: state", place.state(name), place.state("wanted"))
+    print(f"{what}: {said.partition('push 2: ')[2].partition(chr(10))[0]}", flush=True)
     status, said = place.run("verify", "-R", name)
     results.see(f"{what}: verify", status == 0, said)
-    write(f"{place.folder}/store{number}", store([*before, behind.bundle()]))
-    status, said = place.mirror(name, f"store{number}")
+    kept.cut(results, what, 2)
+    kept.take(results, what, [behind.bundle()])
+    status, said = place.mirror(name, kept.name)
     results.see(f"{what}: goes on where it was cut out", status == 0 and place.count(name) == 3, said)
+    results.same(f"{what}: state in the end", place.state(name), place.state("whole"))
+    if isinstance(kept, Pushed):
+        mirrored = place.hg("log", "-R", name, "-r", "all()", "-T", "{node}\n").split()
+        results.see(f"{what}: the report", kept.changesets() == (mirrored, 3))
 
 
-def main():
+def main(words):
     stores.skip_without_hg("refused.py")
+    program = os.path.abspath(words[0]) if words else None
     results = Results("refused.py")
     with tempfile.TemporaryDirectory() as folder:
         place = Place(folder)
+        for name, count in (("wanted", 2), ("whole", 3)):
+            write(f"{folder}/{name}.store", store([push.bundle() for push in plain(count)]))
+            place.mirror(place.repository(name), f"{name}.store")
         for number, (what, spoil) in enumerate(REFUSED):
-            try_refused(results, place, number, what, spoil)
-    results.end(f"{len(REFUSED)} pushes that Mercurial refuses")
+            name = f"store{number}"
+            kept = Pushed(program, place, name) if program else Written(place, name)
+            try_refused(results, place, kept, number, what, spoil)
+    results.end(f"{len(REFUSED)} pushes that Mercurial refuses" + (", cut out by the program" if program else ""))
 
 
 if __name__ == "__main__":
-    main()
+    main(sys.argv[1:])

@@ -6,6 +6,7 @@ import shutil
 import struct
 import subprocess
 import sys
+import threading
 
 HERE = os.path.dirname(os.path.abspath(__file__))
 EXTENSION = os.path.join(HERE, "mirror.py")
@@ -50,6 +51,12 @@ def write(folder, data):
         file.write(data)
 
 
+# What runs the commands of clients: CLIENT of the environment may be chg, which runs them in a process that was
+# started before, and so in a quarter of the time. What is tried here, and servers, are run by hg itself.
+CLIENT = os.environ.get("CLIENT", "hg")
+BY_HG = ("mirror", "serve", "recover")
+
+
 class Place:
     """A folder with settings of its own, in which `hg` is run."""
 
@@ -59,7 +66,7 @@ class Place:
             file.write(SETTINGS.format(EXTENSION))
         self.environment = {
             "PATH": os.environ["PATH"], "HGRCPATH": f"{folder}/hgrc", "HGPLAIN": "1", "LC_ALL": "C.UTF-8",
-            "HOME": folder,
+            "HOME": folder, "PYTHONDONTWRITEBYTECODE": "1", "CHGSOCKNAME": f"{folder}/chg", "CHGTIMEOUT": "120",
         }
 
     def start(self, *words, **more):
@@ -68,7 +75,8 @@ class Place:
 
     def run(self, *words, given=None):
         """The status of `hg` and what it said."""
-        done = subprocess.run(["hg", *words], cwd=self.folder, env=self.environment, input=given or b"",
+        command = "hg" if words[0] in BY_HG else CLIENT
+        done = subprocess.run([command, *words], cwd=self.folder, env=self.environment, input=given or b"",
                               stdout=subprocess.PIPE, stderr=subprocess.STDOUT, check=False)
         return done.returncode, done.stdout.decode("utf-8", "replace")
 
@@ -98,23 +106,27 @@ class Place:
                         "experimental.evolution=", "--config", "server.validate=no", *more)
 
     def count(self, repository):
-        """How many pushes a repository says that it has."""
+        """How many pushes a repository says that it has; None where the number is just being rolled back: then the
+        file is taken away, and written anew."""
         try:
             with open(f"{self.folder}/{repository}/.hg/store/pushes-mirrored", encoding="ascii") as file:
                 return int(file.read().split()[0])
         except FileNotFoundError:
-            return 0
+            return None if os.path.exists(f"{self.folder}/{repository}/.hg/store/journal") else 0
+        except IndexError:
+            return None
 
 
 class Results:
     """What was seen as wanted, and what was not."""
 
     def __init__(self, name):
-        self.name, self.good, self.bad = name, 0, 0
+        self.name, self.good, self.bad, self.lock = name, 0, 0, threading.Lock()
 
     def see(self, what, is_good, why=""):
-        self.good += is_good
-        self.bad += not is_good
+        with self.lock:
+            self.good += bool(is_good)
+            self.bad += not is_good
         if not is_good:
             print(f"{self.name}: {what}: not as wanted. {why}".rstrip())
 
