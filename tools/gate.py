@@ -240,6 +240,14 @@ def check_documents(count):
         count.add(f"tools/{name}.py --check", int(not status), status, said=said)
 
 
+def print_costs(costs):
+    """What each kind of piece took, whole and by crate, in processor seconds."""
+    for kind in ("proof", "wrong bodies", "tests"):
+        took = {name: seconds for (name, its), seconds in costs.items() if its == kind}
+        dearest = sorted(took.items(), key=lambda it: -it[1])
+        print(f"{kind}, {sum(took.values()):.0f} s: {', '.join(f'{name} {seconds:.0f}' for name, seconds in dearest)}")
+
+
 def main():
     shutil.rmtree(LOGS, ignore_errors=True)
     os.makedirs(LOGS)
@@ -275,9 +283,10 @@ def main():
     used = resource.getrusage(resource.RUSAGE_CHILDREN)
     minutes, spent = (time.time() - count.start) / 60, (used.ru_utime + used.ru_stime) / 60
     measure.write(f"{LOGS}/costs.csv", costs, minutes, spent, processors, side.speed, len(kept))
-    count.say(f"{minutes:.0f} minutes, {spent:.0f} processor minutes with all that ran.")
     for it, said in count.failed.items():
         print(f"FAILED: {it}\n{said}".rstrip())
+    print_costs(costs)
+    count.say(f"{minutes:.0f} minutes, {spent:.0f} processor minutes with all that ran; `rt selftest` {side.speed:.0f} s.")
     print(f"{count.passed} passed, {len(count.failed)} failed")
     return 1 if count.failed else 0
 

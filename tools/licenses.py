@@ -51,4 +51,4 @@ def main(to):
 
 
 if __name__ == "__main__":
-    main(sys.argv[1]) if len(sys.argv) == 2 else sys.exit(__doc__)
+    main(sys.argv[1]) if len(sys.argv) == 2 and not sys.argv[1].startswith("-") else sys.exit(__doc__)
