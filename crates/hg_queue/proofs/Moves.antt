@@ -12,8 +12,8 @@ use Rattle.hg_queue.specs.History.{is_part, has}
 use Rattle.hg_queue.specs.Rules.{Rule}
 use Rattle.hg_queue.specs.Steps.{unsized, sized, noted, opened, put_by, Marks, counted_full, TakesOne}
 use Rattle.hg_queue.specs.Steps.{counted_empty, settled, history_note, joined, heard}
-use Rattle.hg_queue.proofs.Steps.{MayPut, sizes, opens, puts, marks, counts_full, takes, counts_empty}
-use Rattle.hg_queue.proofs.Steps.{settles, copies, dismisses, joins, notes, hears}
+use Rattle.hg_queue.proofs.Steps.{MayPut, sizes, puts, marks, counts_full, takes, counts_empty, settles}
+use Rattle.hg_queue.proofs.SeatSteps.{opens, copies, dismisses, joins, notes, hears}
 
 module _ {A : Type 0} where
   pub sizes_as : (port n : ℕ) (v : View A) → v ≡ unsized → Forks Rule port v (sized n v) Spent
