@@ -1,30 +1,35 @@
 """What `hg_pushd host` costs in use; run.sh starts it: run.py PROGRAM FOLDER
 
-FOLDER has the program `push` of bench/store, and takes all that is made.
+FOLDER has the programs `push` of bench/store and `load` of bench/wire, and takes all that is made.
 """
 import http.client
 import os
 import re
 import shutil
+import signal
 import statistics
 import subprocess
 import sys
 import time
 
 HERE = os.path.dirname(os.path.abspath(__file__))
-sys.path[:0] = [f"{HERE}/../../examples", f"{HERE}/../store"]
+sys.path[:0] = [f"{HERE}/../../tests", f"{HERE}/../store", f"{HERE}/../wire"]
 from bundles import CAPS, NULL, bundle, group, node_of  # noqa: E402
+import make  # noqa: E402
 import many  # noqa: E402
 
 PROGRAM, FOLDER = sys.argv[1:]
-ROUNDS, PUSHES, STORED = 3, 5, 100_000
+# all together end within so many seconds, and one push or one run of clients within so many
+WHOLE, ONE = 600, 60
+TURNS, PUSHES, STORED = 5, 3, 100_000
 SETTINGS = "[ui]\nusername = a <b@c>\n[web]\nallow-push = *\npush_ssl = no\n[phases]\npublish = no\n"
 ENVIRONMENT = {"PATH": os.environ["PATH"], "HGRCPATH": f"{FOLDER}/hgrc", "HGPLAIN": "1", "HOME": FOLDER,
                "LC_ALL": "C.UTF-8"}
 
 
 def hg(*words):
-    return subprocess.run(["hg", *words], env=ENVIRONMENT, check=True, capture_output=True, encoding="utf-8").stdout
+    return subprocess.run(["hg", *words], env=ENVIRONMENT, check=True, capture_output=True, encoding="utf-8",
+                          timeout=ONE).stdout
 
 
 class Host:
@@ -34,16 +39,21 @@ class Host:
         start = time.perf_counter()
         self.process = subprocess.Popen([PROGRAM, "host", "--store", store, "--listen", "127.0.0.1:0", *words],
                                         stderr=subprocess.PIPE, stdin=subprocess.DEVNULL)
+        self.pid = self.process.pid
         said = self.process.stderr.readline().decode()
         self.seconds = time.perf_counter() - start
         self.port = int(re.search(r"127\.0\.0\.1:(\d+)/", said)[1])
 
+    def spent(self):
+        """The processor seconds that the server took so far, with all of its threads."""
+        return time.clock_gettime(~self.pid << 3 | 2)
+
     def resident(self):
-        with open(f"/proc/{self.process.pid}/status", encoding="ascii") as status:
+        with open(f"/proc/{self.pid}/status", encoding="ascii") as status:
             return int(re.search(r"^VmRSS:\s+(\d+) kB", status.read(), re.M)[1]) * 1024
 
     def push(self, body):
-        line = http.client.HTTPConnection("127.0.0.1", self.port)
+        line = http.client.HTTPConnection("127.0.0.1", self.port, timeout=ONE)
         line.request("POST", "/?cmd=unbundle", body,
                      {"content-type": "application/mercurial-0.1", "x-hgarg-1": "heads=666f726365"})
         if b"reply:changegroup" not in line.getresponse().read():
@@ -62,34 +72,41 @@ class Mercurial(Host):
 
     def __init__(self, store):
         hg("init", store)
-        self.process = subprocess.Popen(["hg", "-R", store, "serve", "-a", "127.0.0.1", "-p", "0", "-E", os.devnull,
-                                         "-A", os.devnull, "--config", "web.prefix="],
-                                        env={**ENVIRONMENT, "PYTHONUNBUFFERED": "1"}, stdout=subprocess.PIPE,
-                                        stdin=subprocess.DEVNULL, stderr=subprocess.DEVNULL)
-        self.port = int(re.search(rb":(\d+)/", self.process.stdout.readline())[1])
+        said = f"{FOLDER}/said"
+        with open(said, "w", encoding="utf-8") as out:
+            subprocess.run(["hg", "-R", store, "serve", "-a", "127.0.0.1", "-p", "0", "-d", "--pid-file",
+                            f"{FOLDER}/pid", "-E", os.devnull, "-A", os.devnull],
+                           env=ENVIRONMENT, check=True, stdin=subprocess.DEVNULL, stdout=out, stderr=out, timeout=ONE)
+        with open(f"{FOLDER}/pid", encoding="ascii") as file:
+            self.pid = int(file.read())
+        with open(said, encoding="utf-8") as file:
+            self.port = int(re.search(r"127\.0\.0\.1:(\d+)", file.read())[1])
 
     def end(self):
-        self.process.kill()
-        self.process.wait()
-        self.process.stdout.close()
+        os.kill(self.pid, signal.SIGTERM)
+        while os.path.exists(f"/proc/{self.pid}"):
+            time.sleep(0.01)
 
 
 # ---- whole pushes of a real client
 
-def clients_of(folder, count):
-    """Clones of one changeset, each of which has changesets of its own to be pushed one after the other."""
+def make_clients(folder, count):
+    """Copies of a repository of one changeset, to each of which changesets of its own are added, that are to be pushed
+    one after the other."""
     hg("init", f"{folder}/first")
     with open(f"{folder}/first/f", "w", encoding="utf-8") as file:
         file.write("first")
     hg("-R", f"{folder}/first", "commit", "-A", "-m", "first", f"{folder}/first/f")
     for number in range(count):
-        client = f"{folder}/{number}"
-        hg("clone", f"{folder}/first", client)
-        for place in range(PUSHES):
-            with open(f"{client}/f", "a", encoding="utf-8") as file:
-                file.write(f"client {number}, change {place}\n")
-            hg("-R", client, "commit", "-m", f"{number}, {place}")
-        yield client
+        client, patches = f"{folder}/{number}", f"{folder}/patches"
+        shutil.copytree(f"{folder}/first", client)
+        with open(patches, "w", encoding="utf-8") as file:
+            for place in range(PUSHES):
+                name = f"change{place}"
+                file.write(f"# HG changeset patch\n# User a <b@c>\n# Date 0 0\n{name} of {number}\n\n"
+                           f"diff --git a/{name} b/{name}\nnew file mode 100644\n--- /dev/null\n+++ b/{name}\n"
+                           f"@@ -0,0 +1,1 @@\n+client {number}, change {place}\n")
+        hg("-R", client, "import", patches)
 
 
 def push_all(clients, url, place):
@@ -97,7 +114,7 @@ def push_all(clients, url, place):
     each, and the seconds until the last was done."""
     start, running, spent = time.perf_counter(), {}, []
     for client in clients:
-        words = ["hg", "-R", client, "push", "-f", "-r", str(place + 1), url]
+        words = ["timeout", str(ONE), "hg", "-R", client, "push", "-f", "-r", str(place + 1), url]
         child = subprocess.Popen(words, env=ENVIRONMENT, stdout=subprocess.DEVNULL, stderr=subprocess.DEVNULL)
         running[child.pid] = child
     while running:
@@ -121,37 +138,52 @@ def start_of_a_client():
     return statistics.median(times)
 
 
+def turn_of(kind, count):
+    """One server, and clients that push to it: what each push took and used, pushes a second, and the processor
+    seconds that the server took for a push."""
+    room = f"{FOLDER}/turn"
+    shutil.copytree(f"{FOLDER}/clients", room, symlinks=True)
+    clients = [f"{room}/{number}" for number in range(count)]
+    server = kind(f"{room}/store")
+    try:
+        url = f"http://127.0.0.1:{server.port}/"
+        # Mercurial's server loads modules at its first requests
+        hg("-R", clients[0], "push", "-r", "0", url)
+        pushes, rates, before = [], [], server.spent()
+        for place in range(PUSHES):
+            spent, last = push_all(clients, url, place)
+            pushes += spent
+            rates.append(count / last)
+        return pushes, rates, (server.spent() - before) / len(pushes)
+    finally:
+        server.end()
+        shutil.rmtree(room)
+
+
 def real_clients():
     with open(f"{FOLDER}/hgrc", "w", encoding="utf-8") as file:
         file.write(SETTINGS)
     own = start_of_a_client()
     print(f"Mercurial {hg('version', '-q').split()[-1].strip('()')}; `hg version` takes {own * 1e3:.0f} ms", flush=True)
-    print("server         clients   ms a push   of these the client's processor   the rest   pushes/s")
+    make_clients(f"{FOLDER}/clients", 8)
+    print("server         clients   ms a push   of these the client's processor   the rest   pushes/s"
+          "   the server's processor, ms a push")
     for count in (1, 8):
-        figures = {Host.name: [], Mercurial.name: []}
-        whole = {Host.name: [], Mercurial.name: []}
-        for turn in range(ROUNDS):
+        pushes = {kind: [] for kind in (Host, Mercurial)}
+        rates = {kind: [] for kind in (Host, Mercurial)}
+        used = {kind: [] for kind in (Host, Mercurial)}
+        for _ in range(TURNS):
             for kind in (Host, Mercurial):
-                room = f"{FOLDER}/clients"
-                os.makedirs(room)
-                clients = list(clients_of(room, count))
-                server = kind(f"{room}/store")
-                try:
-                    url = f"http://127.0.0.1:{server.port}/"
-                    hg("-R", clients[0], "push", "-r", "0", url)
-                    for place in range(PUSHES):
-                        spent, last = push_all(clients, url, place)
-                        figures[kind.name] += spent
-                        whole[kind.name].append(count / last)
-                finally:
-                    server.end()
-                    shutil.rmtree(room)
-        for name, spent in figures.items():
+                spent, rate, processor = turn_of(kind, count)
+                pushes[kind] += spent
+                rates[kind] += rate
+                used[kind].append(processor)
+        for kind, spent in pushes.items():
             took = statistics.median(it for it, _ in spent)
-            used = statistics.median(it for _, it in spent)
+            client = statistics.median(it for _, it in spent)
             rest = statistics.median(it - its for it, its in spent)
-            print(f"{name:14} {count:7} {took * 1e3:11.0f} {used * 1e3:33.0f} {rest * 1e3:10.0f}"
-                  f" {statistics.median(whole[name]):10.1f}", flush=True)
+            print(f"{kind.name:14} {count:7} {took * 1e3:11.0f} {client * 1e3:33.0f} {rest * 1e3:10.0f}"
+                  f" {statistics.median(rates[kind]):10.1f} {statistics.median(used[kind]) * 1e3:35.1f}", flush=True)
 
 
 # ---- durable pushes a second
@@ -172,20 +204,46 @@ def syncs(size, seconds=2.0):
 
 
 def durable():
-    size, best = 2048, {}
-    for _ in range(ROUNDS):
+    """Pushes of one part that is passed over, by connections that stay, and writes that are synced, in turns."""
+    size, rates = 2048, {8: [], 64: [], "syncs": []}
+    for _ in range(TURNS):
         for count in (8, 64):
             server = Host(f"{FOLDER}/store", "--connections", "100")
             try:
                 words = [f"{FOLDER}/push", str(server.port), str(size), str(count)]
-                told = subprocess.run(words, check=True, capture_output=True, encoding="ascii").stdout.split()
+                told = subprocess.run(words, check=True, capture_output=True, encoding="ascii", timeout=ONE).stdout
             finally:
                 server.end()
                 shutil.rmtree(f"{FOLDER}/store")
-            best[count] = max(best.get(count, 0), float(told[4]))
-        best["syncs"] = max(best.get("syncs", 0), syncs(size))
-    print(f"durable pushes of {size} bytes a second: {best[8]:.0f} with 8 connections, {best[64]:.0f} with 64;"
-          f" writes that are synced one by one: {best['syncs']:.0f}", flush=True)
+            rates[count].append(float(told.split()[4]))
+        rates["syncs"].append(syncs(size, 1.0))
+    few, many_at_once, alone = (statistics.median(it) for it in rates.values())
+    print(f"durable pushes of {size} bytes a second: {few:.0f} with 8 connections, {many_at_once:.0f} with 64;"
+          f" writes that are synced one by one: {alone:.0f}", flush=True)
+
+
+def runs():
+    """Whole runs of the clients of bench/wire, each with a push of a changeset, on a repository of 1,001."""
+    make.main(f"{FOLDER}/made", 1001, 10)
+    with open(f"{FOLDER}/made/bundle", "rb") as file:
+        first = file.read()
+    rates, used = {8: [], 64: []}, {8: [], 64: []}
+    for turn in range(TURNS):
+        for count in (8, 64):
+            server = Host(f"{FOLDER}/store", "--connections", "100")
+            try:
+                server.push(first)
+                before = server.spent()
+                words = [f"{FOLDER}/load", str(server.port), str(count), "1000", "3", f"{turn}", f"{FOLDER}/made/heads"]
+                told = subprocess.run(words, check=True, capture_output=True, encoding="ascii", timeout=ONE).stdout
+                used[count].append((server.spent() - before) / int(told.split()[0]))
+            finally:
+                server.end()
+                shutil.rmtree(f"{FOLDER}/store")
+            rates[count].append(float(told.split()[2]))
+    for count, told in rates.items():
+        print(f"runs of {count} clients with a durable push of a changeset each: {statistics.median(told):.0f} a second;"
+              f" the server's processor, ms a run: {statistics.median(used[count]) * 1e3:.2f}", flush=True)
 
 
 # ---- the start, and memory
@@ -239,14 +297,14 @@ def starts():
         store = f"{FOLDER}/{what}"
         write_store(store, pushes(STORED))
         seconds = []
-        for _ in range(ROUNDS):
+        for _ in range(TURNS):
             server = Host(store)
             seconds.append(server.seconds)
             held = server.resident() - before
             server.end()
         size = os.path.getsize(f"{store}/pushes")
         print(f"start of a store of {STORED:,} pushes of one {what} each ({size / 1e6:.1f} MB):"
-              f" {min(seconds):.2f} s; it holds {held / STORED:.0f} bytes for each", flush=True)
+              f" {statistics.median(seconds):.2f} s; it holds {held / STORED:.0f} bytes for each", flush=True)
         shutil.rmtree(store)
     # what the repository itself takes: the same changesets by one push
     server = Host(f"{FOLDER}/one")
@@ -263,14 +321,17 @@ def starts():
 
 
 def main():
+    signal.signal(signal.SIGALRM, lambda *_: sys.exit(f"not done in {WHOLE} seconds"))
+    signal.alarm(WHOLE)
     load, processors = os.getloadavg(), os.cpu_count()
     print(f"load of the machine: {load[0]:.1f} {load[1]:.1f} {load[2]:.1f}, {processors} processors", flush=True)
+    durable()
+    runs()
+    starts()
     if shutil.which("hg"):
         real_clients()
     else:
         print("hg is not installed: no real client pushed")
-    durable()
-    starts()
     print(f"load of the machine at the end: {os.getloadavg()[0]:.1f}")
 
 
