@@ -3,13 +3,14 @@
 ghost use Rattle.std.specs.Prelude.{◌≡◌, length};
 ghost use Rattle.hg_store.specs.Log.{IsSettled};
 ghost use Rattle.hg_serve.specs.Desks.{Begins};
+ghost use Rattle.hg_ledger.specs.Receipts.{IsTallyOf};
 ghost use Rattle.hg_host.specs.Hosting.{IsOpened, IsRecovered};
 
 use crate::opening::Recovered;
 use crate::service::Service;
 use crate::slots::Over;
 use crate::terms::HostTerms;
-use hg_ledger::Storing;
+use hg_ledger::{Storing, Tally};
 use hg_queue::{PartQueue, Taker};
 use hg_store::Device;
 use std::alloc::Global;
@@ -144,7 +145,7 @@ where
     });
 }
 
-/// The same, on a server of that name.
+/// The same, on a server of that name, with a new tally.
 fn host_named<J, D, R>(
     rt: &R,
     alloc: Global,
@@ -154,6 +155,7 @@ fn host_named<J, D, R>(
     queue: PartQueue,
     taker: Taker,
     recovered: Recovered<D>,
+    tally: Tally,
 ) -> Over
 where
     J: Storing<Global> + Send + Sync,
@@ -168,10 +170,12 @@ where
     requires begins { Begins J.table J.capacity J.first queue taker recovered.repo }
     requires settled { IsSettled D.seen D.may_leave J.head J.stored recovered.log }
     requires opened { J.opened ≡ D.moment recovered.log.device }
+    requires tally { IsTallyOf J.tally J.name J.parts tally × (tally.count ≡ 0) }
     requires recovered { IsRecovered J.head.publishing J.head J.stored J.first }
     requires count { recovered.stored ≡ length J.stored }
 {
-    let Ok(service) = Service::<J, D, R>::new(rt, alloc, terms, queue, taker, recovered) else {
+    let Ok(service) = Service::<J, D, R>::new(rt, alloc, terms, queue, taker, recovered, tally)
+    else {
         return Over::NoMemory;
     };
     serve_all(rt, alloc, &service, listener, address);
@@ -206,5 +210,10 @@ where
     let Ok((queue, taker)) = PartQueue::new(alloc, capacity) else {
         return Over::NoMemory;
     };
-    host_named::<Brand, D, R>(rt, alloc, terms, listener, address, queue, taker, recovered)
+    let Ok(tally) = Tally::new(alloc) else {
+        return Over::NoMemory;
+    };
+    host_named::<Brand, D, R>(
+        rt, alloc, terms, listener, address, queue, taker, recovered, tally,
+    )
 }

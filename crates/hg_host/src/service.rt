@@ -6,6 +6,7 @@ ghost use Rattle.hg_types.specs.declared.item.Taken.{Taken};
 ghost use Rattle.hg_types.specs.Limits.{IsAllowed};
 ghost use Rattle.hg_store.specs.Log.{IsSettled};
 ghost use Rattle.hg_serve.specs.Desks.{Begins};
+ghost use Rattle.hg_ledger.specs.Receipts.{IsTallyOf};
 ghost use Rattle.hg_ledger.specs.Records.{AreKept};
 ghost use Rattle.hg_host.specs.Hosting.{IsRecovered};
 ghost use Rattle.hg_host.specs.Serving.{HostsHttp};
@@ -16,7 +17,7 @@ use crate::opening::Recovered;
 use crate::slots::{Over, Slots};
 use crate::terms::HostTerms;
 use crate::watch::Watcher;
-use hg_ledger::{Ledger, Parts, Storing};
+use hg_ledger::{Ledger, Parts, Storing, Tally};
 use hg_queue::{PartQueue, Taker};
 use hg_serve::{Client, Server};
 use hg_server::drain;
@@ -69,7 +70,8 @@ where
     D: Device + Drop,
     R: Wait + Clock + Eprint + RandomSource,
 {
-    /// A service of that queue, over what was recovered of a store. Where memory is refused there is none.
+    /// A service of that queue and that tally, over what was recovered of a store. Where memory is refused there is
+    /// none.
     pub(crate) fn new(
         rt: &'a R,
         alloc: Global,
@@ -77,10 +79,12 @@ where
         queue: PartQueue,
         taker: Taker,
         recovered: Recovered<D>,
+        tally: Tally,
     ) -> Result<Self, NoMemory>
         requires begins { Begins J.table J.capacity J.first queue taker recovered.repo }
         requires settled { IsSettled D.seen D.may_leave J.head J.stored recovered.log }
         requires opened { J.opened ≡ D.moment recovered.log.device }
+        requires tally { IsTallyOf J.tally J.name J.parts tally × (tally.count ≡ 0) }
         requires recovered { IsRecovered J.head.publishing J.head J.stored J.first }
         requires count { recovered.stored ≡ length J.stored }
     {
@@ -96,7 +100,7 @@ where
         let clients = Vec::with_capacity(alloc, places)?;
         let server = Server::new(alloc, repo, queue, taker);
         let witnesses = (new_client(rt, &server), new_client(rt, &server));
-        let ledger = match Ledger::new(alloc, log, witnesses) {
+        let ledger = match Ledger::new(alloc, log, witnesses, tally) {
             Ok(ledger) => ledger,
             Err(parts) => {
                 close_server(rt, server, parts, clients);
@@ -273,6 +277,7 @@ fn close_server<J: Storing<Global>, D: Device + Drop, R: Wait>(
         kept: _,
         is_broken: _,
         witnesses: (first, second),
+        tally: _,
     } = parts;
     put(rt, &mut clients, first);
     put(rt, &mut clients, second);

@@ -47,7 +47,7 @@ pub fn open_kept<J: Storing<A>, D: Device, A: Allocator + Copy, R: Wait>(
     ledger: &Ledger<J, D, A>,
     rt: &R,
     client: Client<J, A>,
-) -> Result<(Room, Sender<J, A>), (Client<J, A>, OpenFault)>
+) -> Result<(Room<J, A>, Sender<J, A>), (Client<J, A>, OpenFault)>
     ensures ok { IfOk result (λ opened. (opened.1.putter.put ≡ []) × (opened.1.history ≡ client)
         × (of opened.1.putter.push (items_of client) ≡ [])) }
     ensures err { IfErr result (λ back. back.0 ≡ client) }
@@ -73,7 +73,7 @@ fn reply_kept<J: Storing<A>, D: Device, A: Allocator + Copy, R: Wait, W: Writer>
     rt: &R,
     alloc: A,
     client: &mut Client<J, A>,
-    room: Room,
+    room: Room<J, A>,
     rests: usize,
     bundle: Option<Seq<u8, A>>,
     writer: &mut W,
@@ -112,7 +112,7 @@ pub fn serve_bundle_kept<
     ledger: &Ledger<J, D, A>,
     rt: &R,
     alloc: A,
-    opened: (Room, Sender<J, A>),
+    opened: (Room<J, A>, Sender<J, A>),
     bundle: &mut Unbundler<A>,
     inbox: &mut Inbox,
     reader: &mut I,

@@ -6,7 +6,7 @@ use crate::device::Memory;
 use crate::tests::{Source, add_bundle, client_of, marker, new_log, settings, state};
 use hg_connection::ConnFault;
 use hg_kept::{KeptFault, serve_connection_kept};
-use hg_ledger::{Ledger, Parts, Storing};
+use hg_ledger::{Ledger, Parts, Storing, Tally};
 use hg_push::OpenFault;
 use hg_queue::{PartQueue, Taker};
 use hg_repo::Repo;
@@ -74,11 +74,12 @@ fn connected<'h, J: Storing<&'h LocalHeap>, R: Wait + Abort, G: Gate>(
     input: &[u8],
     gate: &mut G,
 ) -> Option<Told> {
+    let tally = Tally::new(heap).ok()?;
     let mut clients = Vec::with_capacity(heap, 3).ok()?;
     let server = Server::<J, &'h LocalHeap>::new(heap, repo, queue, taker);
     let witnesses = (client_of(rt, &server), client_of(rt, &server));
     let mut told = None;
-    let parts = match Ledger::new(heap, log, witnesses) {
+    let parts = match Ledger::new(heap, log, witnesses, tally) {
         Ok(ledger) => {
             let mut reader = Source {
                 bytes: input,
@@ -107,6 +108,7 @@ fn connected<'h, J: Storing<&'h LocalHeap>, R: Wait + Abort, G: Gate>(
         kept: _,
         is_broken,
         witnesses: (first, second),
+        tally: _,
     } = parts;
     add(rt, &mut clients, first);
     add(rt, &mut clients, second);

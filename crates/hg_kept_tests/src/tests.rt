@@ -5,7 +5,7 @@ ghost use Rattle.std.specs.Prelude.{◌≤◌};
 
 use crate::device::Memory;
 use hg_kept::{KeptFault, serve_connection_kept};
-use hg_ledger::{Ledger, Parts, Storing};
+use hg_ledger::{Ledger, Parts, Storing, Tally};
 use hg_queue::{PartQueue, Taker};
 use hg_repo::Repo;
 use hg_restore::replay_records;
@@ -198,7 +198,11 @@ fn play<J: Storing<Global> + Send + Sync, R: Threads + Wait + Abort + Sync>(
 ) -> Left {
     let server = Server::<J>::new(alloc, repo, queue, taker);
     let witnesses = (client_of(rt, &server), client_of(rt, &server));
-    let ledger = match Ledger::new(alloc, log, witnesses) {
+    let tally = match Tally::new(alloc) {
+        Ok(tally) => tally,
+        Err(_) => panic!(rt; "no memory for a tally"),
+    };
+    let ledger = match Ledger::new(alloc, log, witnesses, tally) {
         Ok(ledger) => ledger,
         Err(_parts) => panic!(rt; "no memory for a ledger"),
     };
@@ -230,6 +234,7 @@ fn play<J: Storing<Global> + Send + Sync, R: Threads + Wait + Abort + Sync>(
         kept: _,
         is_broken: _,
         witnesses: (first, second),
+        tally: _,
     } = ledger.into_parts();
     add(rt, &mut clients, first);
     add(rt, &mut clients, second);

@@ -2,3 +2,4 @@ mod Staying
 mod Lists
 mod Keeping
 mod Living
+mod Counting

@@ -80,3 +80,9 @@ either_insert P false xs i x all this = all
 pub went_well : {T E : Type 0} {P : Type 0} (r : Result T E) → is_err r ≡ false → OnOk r P → P
 went_well (Ok x) is told = told
 went_well (Err e) is told = cc
+
+-- one room less, and one record more at most
+pub room_left : (made : Bool) (len more rooms left cap now : ℕ) → more ≡ (if made then len + 1 else len)
+    → left + 1 ≡ rooms → len + rooms ≤ cap → cap ≤ now → more + left ≤ now
+room_left true len more rooms left cap now is less low wide = omega (arith, is, less, low, wide)
+room_left false len more rooms left cap now is less low wide = omega (arith, is, less, low, wide)

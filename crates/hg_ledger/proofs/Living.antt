@@ -1,6 +1,6 @@
 -- How what ends leave goes on, as the journal goes on and as batches are added.
-use Rattle.std.proofs.Common.{inl, inr, ⊎_elim, ℕ, ◌≡◌, ◌≤◌, ◌+◌, List, [], ◌∷◌, ◌++◌, refl, sym, ◌∙◌, ap, subst, arith}
-use Rattle.std.proofs.Common.{length, length-append, append_assoc}
+use Rattle.std.proofs.Common.{inl, inr, ⊎_elim, ℕ, ◌≡◌, ◌≤◌, ◌<◌, ◌+◌, List, [], ◌∷◌, ◌++◌, refl, sym, ◌∙◌, ap, subst, arith}
+use Rattle.std.proofs.Common.{length, length-append, append_assoc, take}
 use Rattle.std.specs.List.{AllByRecursion}
 use Rattle.hg_types.specs.declared.item.Taken.{Taken}
 use Rattle.hg_types.specs.Limits.{IsAllowed}
@@ -12,9 +12,9 @@ use Rattle.hg_store.specs.Log.{IsBeforeOrAfter, at_rest}
 use Rattle.hg_store.specs.Records.{IsRecord, shut}
 use Rattle.hg_push.specs.Run.{RepositoryOf}
 use mathlib.Core.List.{IsPrefix}
-use Rattle.hg_ledger.specs.Lives.{AreWrites, Before, IsFront, Lives}
-use Rattle.hg_ledger.specs.Records.{AreRecordsFrom, IsRecordOf, Keeps}
-use Rattle.hg_ledger.proofs.Lists.{each_moves, joined}
+use Rattle.hg_ledger.specs.Lives.{AreWrites, Before, IsFront, Lives, StillHas}
+use Rattle.hg_ledger.specs.Records.{AreRecordsFrom, IsRecordOf, Keeps, done_in}
+use Rattle.hg_ledger.proofs.Lists.{each_moves, each_moves_below, front, joined, length-front}
 
 from_nothing : (n count : ℕ) → n ≡ count → count ≡ 0 + n
 from_nothing n count is = omega (arith, is)
@@ -38,6 +38,28 @@ module _ {A : Type 0} (head : Head) (stored : List (List ℕ)) (first : Reposito
     each = each_moves first h h' moves 0 f.records f.each;
     enough = f.enough;
   }
+
+  -- by the history of a client, of no more pushes than are done in it
+  pub still_has : (later : (before after : List (Taken A)) (k : ℕ) (bytes : List ℕ) → IsPrefix before after
+      → IsRecordOf first before k bytes → IsRecordOf first after k bytes)
+      → (earlier : (before after : List (Taken A)) (k : ℕ) (bytes : List ℕ) → IsPrefix before after
+      → k < done_in first before → IsRecordOf first after k bytes → IsRecordOf first before k bytes)
+      → (client witness whole : List (Taken A)) (rests receipt kept : ℕ) (file : List ℕ)
+      → IsPrefix client whole → IsPrefix witness whole → rests ≤ done_in first client → rests ≤ receipt
+      → receipt ≤ kept → IsFront head stored first witness kept file
+      → StillHas head stored first client rests file
+  still_has later earlier client witness whole rests receipt kept file mine theirs done low few f =
+      let all : rests ≤ length f.records = omega (arith, low, few, f.enough) in
+      record {
+        records = f.records;
+        stands = f.stands;
+        enough = all;
+        each = each_moves_below first whole client (done_in first client)
+            (λ k bytes less r. earlier client whole k bytes mine less r) 0 (take rests f.records)
+            (omega (arith, length-front rests f.records all, done))
+            (front first whole 0 rests f.records
+            (each_moves first witness whole (λ k bytes r. later witness whole k bytes theirs r) 0 f.records f.each));
+      }
 
 module _ {A D : Type 0} (seen : D → List ℕ) (may_leave : D → List ℕ → Type 0) (head : Head)
     (stored : List (List ℕ)) (first : RepositoryOf A)

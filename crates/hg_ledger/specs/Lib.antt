@@ -1,5 +1,5 @@
 pub mod Records
 pub mod Locks
 pub mod Lives
-pub mod Steps
+pub mod Receipts
 pub mod code

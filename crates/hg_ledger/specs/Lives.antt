@@ -1,5 +1,5 @@
 -- What ends leave over a ledger's whole life. An end is that of the process or of the machine, at any moment.
-use Rattle.std.specs.Prelude.{ℕ, ◌≤◌, List, [], ◌∷◌, ◌++◌, length, ⊤}
+use Rattle.std.specs.Prelude.{ℕ, ◌≤◌, List, [], ◌∷◌, ◌++◌, length, take, ⊤}
 use mathlib.Core.List.{IsPrefix}
 use Rattle.hg_types.specs.declared.item.Taken.{Taken}
 use Rattle.hg_store.specs.declared.head.Head.{Head}
@@ -16,6 +16,15 @@ pub record IsFront {A : Type 0} (head : Head) (stored : List (List ℕ)) (first 
   pub stands : StandsFor head (stored ++ records) file
   pub each : AreRecordsFrom first h 0 records
   pub enough : least ≤ length records
+
+-- The file stands for the records that the log was opened with and, after them, so many at least. The first so many
+-- of these are those of the first pushes of the journal, none skipped.
+pub record StillHas {A : Type 0} (head : Head) (stored : List (List ℕ)) (first : RepositoryOf A)
+    (h : List (Taken A)) (count : ℕ) (file : List ℕ) : Type 0 where
+  pub records : List (List ℕ)
+  pub stands : StandsFor head (stored ++ records) file
+  pub enough : count ≤ length records
+  pub each : AreRecordsFrom first h 0 (take count records)
 
 -- Whatever an end might have left since the log was opened, at that moment of its device, is such a file; and
 -- what one leaves from now on has so many records of pushes at least.

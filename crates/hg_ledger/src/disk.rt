@@ -10,6 +10,7 @@ ghost use Rattle.hg_ledger.specs.Records.{AreKept, IsRecordOf, Keeps};
 
 use crate::laws::records_stay;
 use crate::storing::Storing;
+use crate::tally::{Keeper, OpenTally, Receipt};
 use hg_serve::{Client, Server};
 use hg_store::laws::records_are_read_back;
 use hg_store::{Device, Log, Sealed};
@@ -25,13 +26,15 @@ const MOST: usize = 1 << 62;
 
 /// The device, how many records are on it after those that it was opened with, and a batch that is not
 /// written yet. The records and the batch are, in order, the bundles of the first pushes of the journal that
-/// the witness has seen. After a write or a sync that failed the device is not called again.
+/// the witness has seen. The keeper of the tally has counted as many. After a write or a sync that failed the
+/// device is not called again.
 pub struct Disk<J: Storing<A>, D: Device, A: Allocator = Global> {
     log: Log<D>,
     count: usize,
     batch: Vec<Sealed<A>, A>,
     is_broken: bool,
     witness: Client<J, A>,
+    keeper: Keeper<J, A>,
 }
 
 impl<J: Storing<A>, D: Device, A: Allocator> Model for Disk<J, D, A> {
@@ -55,18 +58,25 @@ impl<J: Storing<A>, D: Device, A: Allocator> Model for Disk<J, D, A> {
         × (d.is_broken ≡ false → Keeps D.seen D.may_leave J.head J.stored J.first d.witness d.count d.log)
         × AreRecordsFrom J.first d.witness d.count d.batch.items
         × Lives D.moment D.left_since D.may_leave J.head J.stored J.first J.opened d.witness d.count
-        d.log.device };
+        d.log.device
+        × (d.keeper ≡ d.count) };
 }
 
 impl<J: Storing<A>, D: Device, A: Allocator + Copy> Disk<J, D, A> {
-    /// A device with what it was opened with.
-    pub fn new(alloc: A, log: Log<D>, witness: Client<J, A>) -> Result<Self, (Log<D>, Client<J, A>)>
+    /// A device with what it was opened with, and the keeper of a tally that has counted nothing.
+    pub fn new(
+        alloc: A,
+        log: Log<D>,
+        witness: Client<J, A>,
+        keeper: Keeper<J, A>,
+    ) -> Result<Self, (Log<D>, Client<J, A>, Keeper<J, A>)>
         requires settled { IsSettled D.seen D.may_leave J.head J.stored log }
         requires opened { J.opened ≡ D.moment log.device }
         requires allowed { IsAllowed J.first.settings.limits }
+        requires nothing { keeper ≡ 0 }
         ensures made { IfOk result (λ disk. disk
             ≡ record { device = log.device; count = 0; batch = []; is_broken = false; history = witness }) }
-        ensures refused { IfErr result (λ back. back ≡ (log, witness)) }
+        ensures refused { IfErr result (λ back. back ≡ (log, witness, keeper)) }
     {
         records_are_read_back();
         match Vec::with_capacity(alloc, BATCH) {
@@ -76,8 +86,9 @@ impl<J: Storing<A>, D: Device, A: Allocator + Copy> Disk<J, D, A> {
                 batch,
                 is_broken: false,
                 witness,
+                keeper,
             }),
-            Err(_) => Err((log, witness)),
+            Err(_) => Err((log, witness, keeper)),
         }
     }
 
@@ -134,6 +145,14 @@ impl<J: Storing<A>, D: Device, A: Allocator + Copy> Disk<J, D, A> {
         let _witness = &self.witness;
     }
 
+    /// A receipt for all that is on the device.
+    pub fn counted(&mut self, tally: &OpenTally<J, A>) -> Receipt<J, A>
+        ensures same { self.new ≡ self.old }
+        ensures counted { result ≡ self.old.count }
+    {
+        tally.receipt(&mut self.keeper)
+    }
+
     /// Takes the record of the push at the next place into the batch.
     pub fn take_in(&mut self, bytes: Sealed<A>)
         requires { IsRecordOf J.first self.old.history (self.old.count + length self.old.batch) bytes }
@@ -145,8 +164,9 @@ impl<J: Storing<A>, D: Device, A: Allocator + Copy> Disk<J, D, A> {
         }
     }
 
-    /// Writes the batch and syncs, and asks for no memory. Where that fails, the device is broken from then on.
-    pub fn write(&mut self)
+    /// Writes the batch, syncs and counts it, and asks for no memory. Where that fails, the device is broken from
+    /// then on.
+    pub fn write(&mut self, tally: &OpenTally<J, A>)
         ensures lasting { self.old.is_broken ≡ true → self.new.is_broken ≡ true }
         ensures history { self.new.history ≡ self.old.history }
         ensures written { self.new.is_broken ≡ false →
@@ -171,11 +191,12 @@ impl<J: Storing<A>, D: Device, A: Allocator + Copy> Disk<J, D, A> {
         }
         self.count += self.batch.len();
         self.batch.clear();
+        tally.raise(&mut self.keeper, self.count);
     }
 
-    /// The log, how many records are on it after those that it was opened with, whether it is broken, and the
-    /// client that has seen the history of its records.
-    pub fn into_parts(self) -> (Log<D>, usize, bool, Client<J, A>)
+    /// The log, how many records are on it after those that it was opened with, whether it is broken, the client
+    /// that has seen the history of its records, and the keeper that has counted them.
+    pub fn into_parts(self) -> (Log<D>, usize, bool, Client<J, A>, Keeper<J, A>)
         ensures kept { result.2 ≡ false →
             Keeps D.seen D.may_leave J.head J.stored J.first result.3 result.1 result.0 }
         ensures life { Lives D.moment D.left_since D.may_leave J.head J.stored J.first J.opened result.3 result.1
@@ -183,6 +204,7 @@ impl<J: Storing<A>, D: Device, A: Allocator + Copy> Disk<J, D, A> {
         ensures count { result.1 ≡ self.count }
         ensures broken { result.2 ≡ self.is_broken }
         ensures history { result.3 ≡ self.history }
+        ensures keeper { result.4 ≡ result.1 }
     {
         let Disk {
             log,
@@ -190,7 +212,8 @@ impl<J: Storing<A>, D: Device, A: Allocator + Copy> Disk<J, D, A> {
             batch: _,
             is_broken,
             witness,
+            keeper,
         } = self;
-        (log, count, is_broken, witness)
+        (log, count, is_broken, witness, keeper)
     }
 }

@@ -1,12 +1,12 @@
 //! What holds of the records of pushes, whatever a history goes on with. The functions do nothing.
 
-ghost use Rattle.std.specs.Prelude.{ℕ, List, ◌<◌};
+ghost use Rattle.std.specs.Prelude.{ℕ, List, ◌<◌, ◌≤◌};
 ghost use Rattle.std.specs.List.{AllByRecursion};
 ghost use mathlib.Core.List.{IsPrefix};
 ghost use Rattle.hg_types.specs.declared.item.Taken.{Taken as TakenItem};
 ghost use Rattle.hg_store.specs.declared.head.Head.{Head};
 ghost use Rattle.hg_push.specs.Run.{RepositoryOf};
-ghost use Rattle.hg_ledger.specs.Lives.{AreWrites, Before, IsFront};
+ghost use Rattle.hg_ledger.specs.Lives.{AreWrites, Before, IsFront, StillHas};
 ghost use Rattle.hg_ledger.specs.Records.{IsRecordOf, done_in};
 
 use hg_push::laws::{closed_pushes_have_ended, done_pushes_have_a_place, journals_grow};
@@ -35,6 +35,20 @@ pub fn what_is_kept_stays<A: Allocator, D: Device>()
         AreWrites D.moment D.left_since head stored first device count h earlier →
         AllByRecursion (λ before. (file : List ℕ) → D.left_since device (D.moment before.device) file →
         IsFront head stored first h before.count file) earlier }
+{
+    records_stay::<A>();
+}
+
+/// **What a receipt rests on is left by every end.** A client got a receipt for so many done pushes, and at the end of
+/// the ledger's life its tally has counted as many as the receipt, or more (`Tally::compare`). Then each file that
+/// stands for all that was counted has the records of these pushes, by the client's own history. The two histories
+/// begin one, as those of two clients of a server do.
+pub fn what_a_receipt_rests_on_is_left<A: Allocator>()
+    ensures { (head : Head) (stored : List (List ℕ)) (first : RepositoryOf A)
+        (client witness whole : List (TakenItem A)) (rests receipt kept : ℕ) (file : List ℕ) →
+        IsPrefix client whole → IsPrefix witness whole → rests ≤ done_in first client → rests ≤ receipt →
+        receipt ≤ kept → IsFront head stored first witness kept file →
+        StillHas head stored first client rests file }
 {
     records_stay::<A>();
 }

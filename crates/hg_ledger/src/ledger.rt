@@ -4,11 +4,14 @@ ghost use Rattle.std.specs.Prelude.{◌≡◌, ◌≤◌, ◌<◌, ◌-◌, ℕ,
 ghost use Rattle.hg_types.specs.Limits.{IsAllowed};
 ghost use Rattle.hg_store.specs.Log.{IsSettled};
 ghost use Rattle.hg_ledger.specs.Lives.{Lives};
+ghost use Rattle.hg_ledger.specs.Receipts.{IsTallyOf};
 ghost use Rattle.hg_ledger.specs.Records.{AreKept, IsRecordOf, Keeps, done_in};
 
 use crate::disk::Disk;
+use crate::rooms::{Room, Rooms};
 use crate::storing::Storing;
-use crate::waiting::{Receipt, Record, Room, Step, Waiting};
+use crate::tally::{OpenTally, Receipt, Tally};
+use crate::waiting::{Record, Step, Waiting};
 use hg_serve::{Client, Server};
 use hg_store::{Device, Log, Sealed};
 use hg_types::{NoMemory, Seq};
@@ -28,55 +31,63 @@ pub struct Ledger<J: Storing<A>, D: Device, A: Allocator = Global> {
     waiting: Mutex<Waiting<J, D, A>>,
     disk: Mutex<Disk<J, D, A>>,
     written: Condvar,
+    tally: OpenTally<J, A>,
 }
 
 /// What is left of a ledger: its log, how many records were brought to the device after those that it was opened
-/// with, whether a write or a sync failed, and the two clients.
+/// with, whether a write or a sync failed, the two clients, and the tally, with which receipts are compared.
 pub struct Parts<J: Storing<A>, D: Device, A: Allocator = Global> {
     pub log: Log<D>,
     pub kept: usize,
     pub is_broken: bool,
     pub witnesses: (Client<J, A>, Client<J, A>),
+    pub tally: Tally<A>,
 }
 
 impl<J: Storing<A>, D: Device, A: Allocator + Copy> Ledger<J, D, A> {
-    /// A ledger over a log that is open, with two clients of the server that have seen nothing. They come
-    /// back with the log where memory is refused.
+    /// A ledger over a log that is open, with two clients of the server that have seen nothing, and with a new
+    /// tally. They come back with the log where memory is refused.
     pub fn new(
         alloc: A,
         log: Log<D>,
         witnesses: (Client<J, A>, Client<J, A>),
+        tally: Tally<A>,
     ) -> Result<Self, Parts<J, D, A>>
         requires settled { IsSettled D.seen D.may_leave J.head J.stored log }
         requires opened { J.opened ≡ D.moment log.device }
         requires allowed { IsAllowed J.first.settings.limits }
+        requires tally { IsTallyOf J.tally J.name J.parts tally × (tally.count ≡ 0) }
     {
         let (first, second) = witnesses;
-        match Disk::new(alloc, log, first) {
+        let (tally, mut keeper, rooms) = tally.open::<J>();
+        let counted = tally.receipt(&mut keeper);
+        match Disk::new(alloc, log, first, keeper) {
             Ok(disk) => {
                 disk.kept();
                 Ok(Ledger {
-                    waiting: Mutex::new(Waiting::new(alloc, second)),
+                    waiting: Mutex::new(Waiting::new(alloc, second, counted, Rooms::new(rooms))),
                     disk: Mutex::new(disk),
                     written: Condvar::new(),
+                    tally,
                 })
             }
-            Err((log, first)) => Err(Parts {
+            Err((log, first, keeper)) => Err(Parts {
                 log,
                 kept: 0,
                 is_broken: false,
                 witnesses: (first, second),
+                tally: tally.close(keeper),
             }),
         }
     }
 
     /// Takes room for the record of a push that is not opened yet.
-    pub fn room<R: Wait>(&self, rt: &R) -> Result<Room, NoMemory> {
+    pub fn room<R: Wait>(&self, rt: &R) -> Result<Room<J, A>, NoMemory> {
         self.waiting.lock(rt).room()
     }
 
     /// Gives back the room of a push that was not opened, or was not done.
-    pub fn give_back<R: Wait>(&self, rt: &R, room: Room) {
+    pub fn give_back<R: Wait>(&self, rt: &R, room: Room<J, A>) {
         self.waiting.lock(rt).give_back(room);
     }
 
@@ -87,14 +98,15 @@ impl<J: Storing<A>, D: Device, A: Allocator + Copy> Ledger<J, D, A> {
         rt: &R,
         server: &Server<J, A>,
         client: &mut Client<J, A>,
-        room: Room,
+        room: Room<J, A>,
         rests: usize,
         bundle: Option<Seq<u8, A>>,
-    ) -> Result<Receipt, NotStored>
+    ) -> Result<Receipt<J, A>, NotStored>
         requires rests { rests ≤ done_in J.first client.old }
         requires bundle { IfSome bundle (λ bytes. (1 ≤ rests) × IsRecordOf J.first client.old (rests - 1) bytes) }
         ensures same { client.new ≡ client.old }
         ensures kept { IfOk result (λ _. AreKept D.seen D.may_leave J.head J.stored J.first client.old rests) }
+        ensures counted { IfOk result (λ receipt. rests ≤ receipt) }
     {
         match bundle {
             None => self.give_back(rt, room),
@@ -117,18 +129,19 @@ impl<J: Storing<A>, D: Device, A: Allocator + Copy> Ledger<J, D, A> {
         server: &Server<J, A>,
         client: &mut Client<J, A>,
         rests: usize,
-    ) -> Result<Receipt, NotStored>
+    ) -> Result<Receipt<J, A>, NotStored>
         requires { rests ≤ done_in J.first client.old }
         ensures same { client.new ≡ client.old }
         ensures kept { IfOk result (λ _. AreKept D.seen D.may_leave J.head J.stored J.first client.old rests) }
+        ensures counted { IfOk result (λ receipt. rests ≤ receipt) }
     {
         let mut waiting = self.waiting.lock(rt);
         'waiting: for _ in rt.forever() {
-            match waiting.step(rt, server, client, rests) {
-                Step::Go(receipt) => return Ok(receipt),
-                Step::Stop => return Err(NotStored),
-                Step::Wait => waiting = self.written.wait(rt, waiting),
-                Step::Write => {
+            match waiting.step(rt, server, client, &self.tally, rests) {
+                Ok(receipt) => return Ok(receipt),
+                Err(Step::Stop) => return Err(NotStored),
+                Err(Step::Wait) => waiting = self.written.wait(rt, waiting),
+                Err(Step::Write) => {
                     self.write(rt, server, waiting);
                     waiting = self.waiting.lock(rt);
                 }
@@ -147,8 +160,10 @@ impl<J: Storing<A>, D: Device, A: Allocator + Copy> Ledger<J, D, A> {
         let mut disk = self.disk.lock(rt);
         waiting.load(rt, server, &mut *disk);
         drop(waiting);
-        disk.write();
-        self.waiting.lock(rt).note(rt, server, &mut *disk);
+        disk.write(&self.tally);
+        self.waiting
+            .lock(rt)
+            .note(rt, server, &self.tally, &mut *disk);
         self.written.notify_all();
     }
 
@@ -160,19 +175,22 @@ impl<J: Storing<A>, D: Device, A: Allocator + Copy> Ledger<J, D, A> {
             Keeps D.seen D.may_leave J.head J.stored J.first result.witnesses.0 result.kept result.log }
         ensures life { Lives D.moment D.left_since D.may_leave J.head J.stored J.first J.opened
             result.witnesses.0 result.kept result.log.device }
+        ensures tally { (result.tally.id ≡ J.tally) × (result.tally.count ≡ result.kept) }
     {
         let Ledger {
             waiting,
             disk,
             written: _,
+            tally,
         } = self;
-        let (log, kept, is_broken, first) = disk.into_inner().into_parts();
+        let (log, kept, is_broken, first, keeper) = disk.into_inner().into_parts();
         let second = waiting.into_inner().into_witness();
         Parts {
             log,
             kept,
             is_broken,
             witnesses: (first, second),
+            tally: tally.close(keeper),
         }
     }
 }

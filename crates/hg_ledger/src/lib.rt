@@ -10,9 +10,12 @@
 mod disk;
 pub mod laws;
 mod ledger;
+mod rooms;
 mod storing;
+mod tally;
 mod waiting;
 
 pub use ledger::{Ledger, NotStored, Parts};
+pub use rooms::Room;
 pub use storing::Storing;
-pub use waiting::{Receipt, Room};
+pub use tally::{Receipt, Tally};

@@ -1,13 +1,14 @@
 //! The records that wait, under their lock.
 
-ghost use Rattle.std.specs.Prelude.{◌≡◌, ◌≤◌, false, true, length, IfSome};
+ghost use Rattle.std.specs.Prelude.{◌≡◌, ◌≤◌, false, true, length, IfOk, IfSome};
 ghost use mathlib.Core.List.{IsPrefix};
 ghost use Rattle.hg_ledger.specs.Records.{AreKept, IsRecordOf, done_in};
-ghost use Rattle.hg_ledger.specs.Steps.{Tells};
 
 use crate::disk::{BATCH, Disk};
 use crate::laws::records_stay;
+use crate::rooms::{Room, Rooms};
 use crate::storing::Storing;
+use crate::tally::{OpenTally, Receipt};
 use hg_serve::{Client, Server};
 use hg_store::{Device, Sealed};
 use hg_types::NoMemory;
@@ -22,22 +23,9 @@ pub struct Record<A: Allocator = Global> {
     pub bytes: Sealed<A>,
 }
 
-/// Room for one record among those that wait. It is spent by a record, or given back.
-pub struct Room {
-    taken: (),
-}
-
-/// All that a reply rests on is on the device. Only this crate makes one.
-#[derive(Drop)]
-pub struct Receipt {
-    rests: usize,
-}
-
-/// What a thread does next that waits for records to be on the device.
+/// What a thread does next whose records are not on the device.
 #[derive(Drop)]
 pub enum Step {
-    /// They are.
-    Go(Receipt),
     /// A write or a sync failed.
     Stop,
     /// Another thread writes, or the next record was not handed in yet.
@@ -46,12 +34,13 @@ pub enum Step {
     Write,
 }
 
-/// The records that wait, the highest place first, and room for more; how many are on the device, whether a
-/// thread writes, and whether a write or a sync failed.
+/// The records that wait, the highest place first, and room for more; how many are on the device, with a receipt
+/// for them; whether a thread writes, and whether a write or a sync failed.
 pub struct Waiting<J: Storing<A>, D: Device, A: Allocator = Global> {
     records: Vec<Record<A>, A>,
-    rooms: usize,
+    rooms: Rooms<J, A>,
     count: usize,
+    counted: Receipt<J, A>,
     is_writing: bool,
     is_broken: bool,
     witness: Client<J, A>,
@@ -59,7 +48,7 @@ pub struct Waiting<J: Storing<A>, D: Device, A: Allocator = Global> {
 }
 
 impl<J: Storing<A>, D: Device, A: Allocator> Model for Waiting<J, D, A> {
-    ghost use Rattle.std.specs.Prelude.{◌≡◌, false};
+    ghost use Rattle.std.specs.Prelude.{◌≡◌, ◌≤◌, ◌+◌, false, vec_len, vec_capacity};
     ghost use Rattle.hg_ledger.specs.Locks.{AreWaiting, WaitingView};
     ghost use Rattle.hg_ledger.specs.Records.{AreKept};
 
@@ -68,18 +57,22 @@ impl<J: Storing<A>, D: Device, A: Allocator> Model for Waiting<J, D, A> {
     ghost view = { λ w. record { count = w.count; is_broken = w.is_broken; history = w.witness } };
 
     ghost invariant = { λ w. AreWaiting J.first w.witness w.records.items
-        × (w.is_broken ≡ false → AreKept D.seen D.may_leave J.head J.stored J.first w.witness w.count) };
+        × (w.is_broken ≡ false → AreKept D.seen D.may_leave J.head J.stored J.first w.witness w.count)
+        × (w.count ≤ w.counted)
+        × (vec_len w.records + w.rooms ≤ vec_capacity w.records) };
 }
 
 impl<J: Storing<A>, D: Device, A: Allocator + Copy> Waiting<J, D, A> {
     /// None wait.
-    pub fn new(alloc: A, witness: Client<J, A>) -> Self
-        requires { AreKept D.seen D.may_leave J.head J.stored J.first witness 0 }
+    pub fn new(alloc: A, witness: Client<J, A>, counted: Receipt<J, A>, rooms: Rooms<J, A>) -> Self
+        requires kept { AreKept D.seen D.may_leave J.head J.stored J.first witness 0 }
+        requires rooms { rooms ≡ 0 }
     {
         Waiting {
             records: Vec::new(alloc),
-            rooms: 0,
+            rooms,
             count: 0,
+            counted,
             is_writing: false,
             is_broken: false,
             witness,
@@ -88,62 +81,68 @@ impl<J: Storing<A>, D: Device, A: Allocator + Copy> Waiting<J, D, A> {
     }
 
     /// Takes room for a record more.
-    pub fn room(&mut self) -> Result<Room, NoMemory> {
-        let rooms = self.rooms.saturating_add(1);
-        self.records.reserve(rooms)?;
-        self.rooms = rooms;
-        Ok(Room { taken: () })
+    pub fn room(&mut self) -> Result<Room<J, A>, NoMemory> {
+        let Some(room) = self.rooms.take() else {
+            return Err(NoMemory);
+        };
+        if self.records.reserve(self.rooms.count()).is_err() {
+            self.rooms.give_back(room);
+            return Err(NoMemory);
+        }
+        Ok(room)
     }
 
     /// Gives room back.
-    pub fn give_back(&mut self, room: Room) {
-        let Room { taken: () } = room;
-        self.rooms = self.rooms.saturating_sub(1);
+    pub fn give_back(&mut self, room: Room<J, A>) {
+        self.rooms.give_back(room);
     }
 
-    /// Takes a record. Where there is no room for it, nothing is kept any more.
+    /// Takes a record. There is room for it, so no memory is asked for.
     pub fn hand_in<R: Wait>(
         &mut self,
         rt: &R,
         server: &Server<J, A>,
         client: &mut Client<J, A>,
-        room: Room,
+        room: Room<J, A>,
         entry: Record<A>,
     )
         requires { IsRecordOf J.first client.old entry.place entry.bytes }
-        ensures { client.new ≡ client.old }
+        ensures client { client.new ≡ client.old }
+        ensures taken { self.new.is_broken ≡ self.old.is_broken }
     {
         records_stay::<A>();
-        self.give_back(room);
+        self.rooms.give_back(room);
         server.meet(rt, client, &mut self.witness);
         let at = place_for(self.records.as_slice(), entry.place);
-        if self.records.insert(at, entry).is_err() {
-            self.is_broken = true;
-        }
+        let Ok(()) = self.records.insert(at, entry) else {
+            unreachable!()
+        };
     }
 
-    /// What comes next for a thread whose reply rests on so many done pushes.
+    /// The receipt of a thread whose reply rests on so many done pushes, or what comes next for it.
     pub fn step<R: Wait>(
         &mut self,
         rt: &R,
         server: &Server<J, A>,
         client: &mut Client<J, A>,
+        tally: &OpenTally<J, A>,
         rests: usize,
-    ) -> Step
+    ) -> Result<Receipt<J, A>, Step>
         requires { rests ≤ done_in J.first client.old }
         ensures same { client.new ≡ client.old }
-        ensures kept { Tells (AreKept D.seen D.may_leave J.head J.stored J.first client.old rests) result }
+        ensures kept { IfOk result (λ _. AreKept D.seen D.may_leave J.head J.stored J.first client.old rests) }
+        ensures counted { IfOk result (λ receipt. rests ≤ receipt) }
     {
         if self.is_broken {
-            return Step::Stop;
+            return Err(Step::Stop);
         }
         if rests <= self.count {
-            return Step::Go(self.grant(rt, server, client, rests));
+            return Ok(self.grant(rt, server, client, tally, rests));
         }
         if self.is_writing || !self.has_next() {
-            return Step::Wait;
+            return Err(Step::Wait);
         }
-        Step::Write
+        Err(Step::Write)
     }
 
     /// The receipt for so many done pushes, which are on the device.
@@ -152,17 +151,19 @@ impl<J: Storing<A>, D: Device, A: Allocator + Copy> Waiting<J, D, A> {
         rt: &R,
         server: &Server<J, A>,
         client: &mut Client<J, A>,
+        tally: &OpenTally<J, A>,
         rests: usize,
-    ) -> Receipt
+    ) -> Receipt<J, A>
         requires whole { self.old.is_broken ≡ false }
         requires low { rests ≤ self.old.count }
         requires done { rests ≤ done_in J.first client.old }
         ensures same { client.new ≡ client.old }
         ensures kept { AreKept D.seen D.may_leave J.head J.stored J.first client.old rests }
+        ensures counted { rests ≤ result }
     {
         records_stay::<A>();
         server.meet(rt, client, &mut self.witness);
-        Receipt { rests }
+        tally.again(&mut self.counted)
     }
 
     /// Whether the record that is written next waits here.
@@ -201,7 +202,13 @@ impl<J: Storing<A>, D: Device, A: Allocator + Copy> Waiting<J, D, A> {
     }
 
     /// Notes how far a thread came that wrote.
-    pub fn note<R: Wait>(&mut self, rt: &R, server: &Server<J, A>, disk: &mut Disk<J, D, A>)
+    pub fn note<R: Wait>(
+        &mut self,
+        rt: &R,
+        server: &Server<J, A>,
+        tally: &OpenTally<J, A>,
+        disk: &mut Disk<J, D, A>,
+    )
         ensures lasting { self.old.is_broken ≡ true → self.new.is_broken ≡ true }
     {
         records_stay::<A>();
@@ -213,6 +220,7 @@ impl<J: Storing<A>, D: Device, A: Allocator + Copy> Waiting<J, D, A> {
         disk.kept();
         disk.tell(rt, server, &mut self.witness);
         self.count = disk.count();
+        self.counted = disk.counted(tally);
     }
 
     /// The client that has seen the history of the records. Those that wait are dropped.
@@ -221,6 +229,7 @@ impl<J: Storing<A>, D: Device, A: Allocator + Copy> Waiting<J, D, A> {
             records: _,
             rooms: _,
             count: _,
+            counted: _,
             is_writing: _,
             is_broken: _,
             witness,

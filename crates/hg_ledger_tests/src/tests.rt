@@ -4,7 +4,7 @@
 ghost use Rattle.std.specs.Prelude.{◌≤◌};
 
 use crate::device::Memory;
-use hg_ledger::{Ledger, Parts, Storing};
+use hg_ledger::{Ledger, Parts, Storing, Tally};
 use hg_push::Outcome;
 use hg_queue::{PartQueue, Taker};
 use hg_repo::Repo;
@@ -200,7 +200,7 @@ fn play<J: Storing<Global> + Send + Sync, R: Threads + Wait + Abort + Sync>(
         Ok(client) => client,
         Err(_) => panic!(rt; "no client"),
     };
-    let ledger = match Ledger::new(alloc, log, (first, second)) {
+    let ledger = match Ledger::new(alloc, log, (first, second), tally_over(rt, alloc)) {
         Ok(ledger) => ledger,
         Err(_parts) => panic!(rt; "no memory for a ledger"),
     };
@@ -230,6 +230,7 @@ fn play<J: Storing<Global> + Send + Sync, R: Threads + Wait + Abort + Sync>(
         kept: _,
         is_broken: _,
         witnesses: (first, second),
+        tally: _,
     } = ledger.into_parts();
     add(rt, &mut clients, first);
     add(rt, &mut clients, second);
@@ -365,7 +366,7 @@ fn ask<J: Storing<Global>, R: Wait + Abort>(
     let server = Server::<J>::new(alloc, repo, queue, taker);
     let (first, second) = (client(rt, &server), client(rt, &server));
     let mut mine = client(rt, &server);
-    let ledger = match Ledger::new(alloc, log, (first, second)) {
+    let ledger = match Ledger::new(alloc, log, (first, second), tally_over(rt, alloc)) {
         Ok(ledger) => ledger,
         Err(_parts) => panic!(rt; "no memory for a ledger"),
     };
@@ -373,11 +374,11 @@ fn ask<J: Storing<Global>, R: Wait + Abort>(
         kept: Mutex::new(0),
         refused: Mutex::new(0),
     };
-    let before = ledger.receipt(rt, &server, &mut mine, 0).is_ok();
+    let before = ledger.receipt(rt, &server, &mut mine, 0);
     let payload = marker(rt, alloc, 0, 1);
     let mut mine = push_once(rt, alloc, &server, &ledger, mine, &told, &payload);
-    let of_one = ledger.receipt(rt, &server, &mut mine, 1).is_ok();
-    let of_none = ledger.receipt(rt, &server, &mut mine, 0).is_ok();
+    let of_one = ledger.receipt(rt, &server, &mut mine, 1);
+    let of_none = ledger.receipt(rt, &server, &mut mine, 0);
     let parts = ledger.into_parts();
     let syncs = parts.log.device.syncs;
     let Parts {
@@ -385,19 +386,33 @@ fn ask<J: Storing<Global>, R: Wait + Abort>(
         kept: _,
         is_broken,
         witnesses: (first, second),
+        mut tally,
     } = parts;
-    assert!(rt; is_broken != of_one);
+    assert!(rt; is_broken != of_one.is_ok());
+    let told = Receipts {
+        before: before.is_ok(),
+        of_one: of_one.is_ok(),
+        of_none: of_none.is_ok(),
+        syncs,
+    };
+    for receipt in [before, of_one, of_none] {
+        if let Ok(mut receipt) = receipt {
+            tally.compare(&mut receipt);
+        }
+    }
     let mut clients = Vec::new(alloc);
     add(rt, &mut clients, first);
     add(rt, &mut clients, second);
     add(rt, &mut clients, mine);
     let closed = server.close(clients);
     assert!(rt; closed.journal.as_slice() == [0].as_slice());
-    Receipts {
-        before,
-        of_one,
-        of_none,
-        syncs,
+    told
+}
+
+fn tally_over<A: Allocator, R: Abort>(rt: &R, alloc: A) -> Tally<A> {
+    match Tally::new(alloc) {
+        Ok(tally) => tally,
+        Err(_) => panic!(rt; "no memory for a tally"),
     }
 }
 
@@ -459,7 +474,7 @@ fn used<'h, J: Storing<&'h LocalHeap>, R: Wait + Abort>(
 ) -> (usize, usize) {
     let server = Server::<J, &'h LocalHeap>::new(heap, repo, queue, taker);
     let (first, second) = (client(rt, &server), client(rt, &server));
-    let ledger = match Ledger::new(heap, log, (first, second)) {
+    let ledger = match Ledger::new(heap, log, (first, second), tally_over(rt, heap)) {
         Ok(ledger) => ledger,
         Err(_parts) => panic!(rt; "no memory for a ledger"),
     };
@@ -479,6 +494,7 @@ fn used<'h, J: Storing<&'h LocalHeap>, R: Wait + Abort>(
         kept: _,
         is_broken: _,
         witnesses: (first, second),
+        tally: _,
     } = ledger.into_parts();
     let mut clients = Vec::new(heap);
     add(rt, &mut clients, first);

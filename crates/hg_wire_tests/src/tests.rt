@@ -256,7 +256,11 @@ fn play<J: Storing<Global>, R: RandomSource + Wait + Abort>(
     let server = Server::<J>::new(alloc, repo, queue, taker);
     let log = open_log(rt, alloc, way.calls);
     let witnesses = (client_of(rt, &server), client_of(rt, &server));
-    let ledger = match Ledger::new(alloc, log, witnesses) {
+    let counts = match hg_ledger::Tally::new(alloc) {
+        Ok(counts) => counts,
+        Err(_) => panic!(rt; "no memory for a tally"),
+    };
+    let ledger = match Ledger::new(alloc, log, witnesses, counts) {
         Ok(ledger) => ledger,
         Err(_parts) => panic!(rt; "no memory for a ledger"),
     };
@@ -299,6 +303,7 @@ fn play<J: Storing<Global>, R: RandomSource + Wait + Abort>(
         kept: _,
         is_broken: _,
         witnesses: (first, second),
+        tally: _,
     } = ledger.into_parts();
     add(rt, &mut clients, first);
     add(rt, &mut clients, second);

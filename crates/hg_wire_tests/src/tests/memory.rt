@@ -94,13 +94,16 @@ fn converse_over<J: Storing<A>, A: Allocator + Copy, R: RandomSource + Wait + Ab
     repo: Repo<A>,
     talk: Talk<'_>,
 ) -> Came {
+    let Ok(tally) = hg_ledger::Tally::new(alloc) else {
+        return Came::Unmade;
+    };
     let Ok(mut clients) = Vec::with_capacity(alloc, 3) else {
         return Came::Unmade;
     };
     let server = Server::<J, A>::new(alloc, repo, queue, taker);
     let log = open_log(rt, global, 1_000_000);
     let witnesses = (client_of(rt, &server), client_of(rt, &server));
-    let ledger = match Ledger::new(alloc, log, witnesses) {
+    let ledger = match Ledger::new(alloc, log, witnesses, tally) {
         Ok(ledger) => ledger,
         Err(parts) => {
             let Parts {
@@ -108,6 +111,7 @@ fn converse_over<J: Storing<A>, A: Allocator + Copy, R: RandomSource + Wait + Ab
                 kept: _,
                 is_broken: _,
                 witnesses: (first, second),
+                tally: _,
             } = parts;
             add(rt, &mut clients, first);
             add(rt, &mut clients, second);
@@ -155,6 +159,7 @@ fn converse_over<J: Storing<A>, A: Allocator + Copy, R: RandomSource + Wait + Ab
         kept: _,
         is_broken: _,
         witnesses: (first_witness, second_witness),
+        tally: _,
     } = ledger.into_parts();
     add(rt, &mut clients, first_witness);
     add(rt, &mut clients, second_witness);

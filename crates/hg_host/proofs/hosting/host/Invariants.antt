@@ -12,4 +12,8 @@ ghosts-host_named-J-Storing g a =
       head = head_of a.recovered.publishing;
       stored = records_of a.recovered.records.items;
       opened = g.D.Device.moment a.recovered.log.device;
+      tally = a.tally.id;
     }
+
+abbrev pub ghosts-host_named-J-Ledger : goal.ghosts-host_named-J-Ledger
+ghosts-host_named-J-Ledger g a = record { name = a.tally.name; parts = a.tally.parts }

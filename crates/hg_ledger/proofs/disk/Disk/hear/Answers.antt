@@ -22,4 +22,5 @@ invariant_of-self g c =
       lives_on g.D.Device.moment g.D.Device.left_since g.D.Device.may_leave g.J.Storing.head g.J.Storing.stored first
           g.J.Storing.opened old new d.count d.log.device
           (λ k bytes r. c.records_stay.ensures.later first old new k bytes c.meet.ensures.later r) i.3,
+      i.4,
     )

@@ -19,4 +19,5 @@ invariant_of-result g c =
       begins g.D.Device.moment g.D.Device.left_since may_leave head stored first g.J.Storing.opened c.args.witness
           log.device c.requires.opened (g.met.D.Device.only_now log.device)
           (kept_front seen may_leave head stored first c.records_are_read_back.ensures c.args.witness 0 log keeps),
+      c.requires.nothing,
     )

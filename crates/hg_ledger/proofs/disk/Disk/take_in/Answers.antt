@@ -19,4 +19,5 @@ invariant_of-self-else-is_err g c =
       subst (λ (l : List (List ℕ)). AreRecordsFrom first d.witness d.count l) (sym c.push.ensures.items)
           (either_more first d.witness d.count d.batch.items c.args.bytes (is_ok c.push.result) i.2 here),
       i.3,
+      i.4,
     )

@@ -20,6 +20,9 @@ append-requires-clause-each g c =
     subst (λ (l : List (List ℕ)). AllByRecursion IsRecord l) (sym c.as_slice.ensures.value)
     (fit g.J.Naming.first i.0 d.witness d.count d.batch.items i.2)
 
+pub raise-requires : goal.raise-requires
+raise-requires g c = omega (arith, c.self.invariant.4)
+
 -- an append that failed leaves what was there, too
 pub invariant_of-self-then-is_err : goal.invariant_of-self-then-is_err
 invariant_of-self-then-is_err g c =
@@ -41,6 +44,7 @@ invariant_of-self-then-is_err g c =
       i.2,
       lives_failed moment left_since g.D.Device.may_leave head stored first g.J.Storing.opened d.witness d.count
           d.log.device c.append.new.self.device (g.met.D.Device.counts_now c.append.new.self.device) i.3 run,
+      i.4,
     )
 
 pub returns-then-is_err-clause-any_moment : goal.returns-then-is_err-clause-any_moment
@@ -114,4 +118,5 @@ invariant_of-self-2 g c =
           (d.count + c.len.result) d.log.device c.append.new.self.device i.3 run
           (kept_front seen may_leave head stored first c.records_are_read_back.ensures d.witness
           (d.count + c.len.result) c.append.new.self keeps),
+      c.raise.ensures,
     )

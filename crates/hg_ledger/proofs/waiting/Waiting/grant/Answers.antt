@@ -22,6 +22,8 @@ invariant_of-self g c =
       λ b. kept_on g.D.Device.seen g.D.Device.may_leave g.J.Storing.head g.J.Storing.stored first w.witness new
           w.count (λ k bytes r. c.records_stay.ensures.later first w.witness new k bytes c.meet.ensures.later r)
           (i.1 b),
+      omega (arith, i.2, c.again.ensures.same),
+      i.3,
     )
 
 pub returns-clause-kept : goal.returns-clause-kept
@@ -38,3 +40,8 @@ returns-clause-kept g c =
     kept_back g.D.Device.seen g.D.Device.may_leave g.J.Storing.head g.J.Storing.stored first new mine w.count
     c.args.rests (done_in first mine) (omega (arith, c.requires.low, same)) c.requires.done
     (λ k bytes low r. c.records_stay.ensures.earlier first mine new k bytes c.meet.ensures.one low r) all
+
+pub returns-clause-counted : goal.returns-clause-counted
+returns-clause-counted g c =
+    let same : c.self.inside.count ≡ c.args.self.now.count = ap (λ v. v.count) c.self.view_is in
+    omega (arith, c.requires.low, same, c.self.invariant.2, c.again.ensures.counted)

@@ -24,4 +24,6 @@ invariant_of-self-2 g c =
           new n) count (kept_on g.D.Device.seen g.D.Device.may_leave g.J.Storing.head g.J.Storing.stored first
           there new c.args.disk.now.count
           (λ k bytes r. c.records_stay.ensures.later first there new k bytes c.tell.ensures.all r) c.kept.ensures),
+      omega (arith, c.count-self-inside.ensures, c.counted.ensures.counted),
+      i.3,
     )

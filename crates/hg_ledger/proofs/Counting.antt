@@ -1,0 +1,97 @@
+-- Each step keeps a tally.
+use Rattle.std.proofs.Common.{◌≡◌, ◌≢◌, ◌⊎◌, ℕ, zero, suc, ◌≤◌, List, [], ◌∷◌, set}
+use Rattle.std.proofs.Common.{true, false, true≢false, refl, sym, ◌∙◌, subst, ⊎_elim, arith}
+use mathlib.Core.Option.{none, some, some-ne-none, some-injective}
+use lib.ListN.{get_elem?}
+use Rattle.atomic_table.specs.Table.{Me, step, keeps, opening, Allows, Splits, Joins}
+use Rattle.atomic_table.proofs.Lists.{at_set, at_snoc, set_again}
+use Rattle.hg_ledger.specs.declared.tally.Known.{Known}
+use Rattle.hg_ledger.specs.code.Tallies.{keeper, told, Fits, IsTallied, raised, heard_from, compared}
+
+off : false ≡ true → ⊥
+off e = true≢false (sym e)
+
+pub begins : (words : List ℕ) → IsTallied (opening words [] (keeper 0))
+begins words = (0, 0, one)
+  where
+    one : (at : ℕ) (v : Known) → get_elem? (keeper 0 ∷ []) at ≡ some v → Fits 0 0 at v
+    one zero v e = subst (Fits 0 0 0) (some-injective _ _ e)
+        (record { kept = λ _. (refl, refl); low = omega arith; heard = omega arith })
+    one (suc at) v e = absurd (some-ne-none v (sym e))
+
+fits_set : (seat count now : ℕ) (views : List Known) (id : ℕ) (w : Known)
+    → ((j : ℕ) (u : Known) → j ≢ id → get_elem? views j ≡ some u → Fits seat now j u) → Fits seat now id w
+    → (j : ℕ) (u : Known) → get_elem? (set views id w) j ≡ some u → Fits seat now j u
+fits_set seat count now views id w others mine j u e =
+    ⊎_elim
+    (λ (x : (j ≡ id) × (w ≡ u)). subst (λ (y : ℕ × Known). Fits seat now y.0 y.1) (λ i. (sym x.0 i, x.1 i)) mine)
+    (λ (x : (j ≢ id) × (get_elem? views j ≡ some u)). others j u x.0 x.1)
+    (at_set views id j w u e)
+
+pub raises : (slots id : ℕ) (me : Me (Unit {0}) Known) (new : ℕ) → me.0.is_keeper ≡ true → me.0.least ≤ new
+    → Allows IsTallied slots id me 0 (λ _. new) (λ _. raised (step slots 0 new 0 none) me new)
+raises slots id me new keeps_it low s r homes at small =
+    let mine = r.2 id me.0 at in
+    let known = mine.kept keeps_it in
+    let w : Known = record { is_keeper = me.0.is_keeper; least = new; heard = 0 } in (
+      w,
+      keeps,
+      tt,
+      (
+        r.0,
+        new,
+        fits_set r.0 r.1 new s.views id w
+            (λ j u apart e.
+            let f = r.2 j u e in
+            record {
+              kept = λ k. absurd (apart ((f.kept k).0 ∙ sym known.0));
+              low = omega (arith, f.low, known.1, low);
+              heard = omega (arith, f.heard, known.1, low);
+            })
+            (record { kept = λ _. (known.0, refl); low = omega arith; heard = omega arith }),
+      ),
+      refl,
+    )
+
+pub copies : (id : ℕ) (v : Known) → Splits IsTallied id v v (told v.least)
+copies id v s r at =
+    let mine = r.2 id v at in (
+      r.0,
+      r.1,
+      λ j u e. ⊎_elim
+          (λ was. r.2 j u (subst (λ l. get_elem? l j ≡ some u) (set_again s.views id v at) was))
+          (λ (same : told v.least ≡ u). subst (Fits r.0 r.1 j) same
+          (record { kept = λ k. absurd (off k); low = mine.low; heard = omega arith }))
+          (at_snoc (set s.views id v) (told v.least) u j e),
+    )
+
+pub hears : (id : ℕ) (v : Known) (other : ℕ) (w : Known) → Joins IsTallied id v other w (heard_from v w) (told 0)
+hears id v other w s r at apart there =
+    let mine = r.2 id v at in
+    let both : Known = heard_from v w in
+    let theirs : Fits r.0 r.1 other w = ⊎_elim
+    (λ (t : (other ≡ id) × (both ≡ w)). absurd (apart t.0))
+    (λ (t : (other ≢ id) × (get_elem? s.views other ≡ some w)). r.2 other w t.1)
+    (at_set s.views id other both w there) in (
+      r.0,
+      r.1,
+      fits_set r.0 r.1 r.1 (set s.views id both) other (told 0)
+          (λ j u _ e. fits_set r.0 r.1 r.1 s.views id both (λ i y _ e'. r.2 i y e')
+          (record { kept = mine.kept; low = mine.low; heard = theirs.low }) j u e)
+          (record { kept = λ k. absurd (off k); low = omega arith; heard = omega arith }),
+    )
+
+pub compares : (slots id : ℕ) (me : Me (Unit {0}) Known)
+    → Allows IsTallied slots id me 0 (λ n. n) (compared (step slots 0 0 0 none) me)
+compares slots id me s r homes at small =
+    let mine = r.2 id me.0 at in (
+      me.0,
+      keeps,
+      tt,
+      (
+        r.0,
+        r.1,
+        λ j u e. r.2 j u (subst (λ l. get_elem? l j ≡ some u) (set_again s.views id me.0 at) e),
+      ),
+      (refl, λ k. omega (arith, (mine.kept k).1, mine.heard)),
+    )
