@@ -3,3 +3,4 @@ pub mod Requests
 pub mod Views
 pub mod Tellings
 pub mod Keys
+pub mod Bodies

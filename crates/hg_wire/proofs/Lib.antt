@@ -1,6 +1,4 @@
-mod Bodies
 mod OneBundle
-mod Lists
 mod Served
 mod Wires
-mod Copied
+mod Looked

@@ -19,7 +19,7 @@ use Rattle.hg_ledger.specs.Records.{AreKept}
 use Rattle.hg_kept.specs.Kept.{KeptExchange, Replies, ServesKept, TellsOfKept}
 use Rattle.hg_kept.specs.declared.served.Replied.{Replied}
 use Rattle.hg_kept.specs.declared.served.Replied.TheVariants.{Sent, NotStored}
-use Rattle.hg_wire.specs.code.Bodies.{BodyView, given, told_of}
+use Rattle.hg_http.specs.Bodies.{BodyView, given, told_of}
 use Rattle.hg_wire.specs.code.Rounds.{TellsRound}
 use Rattle.hg_wire.specs.Pushes.{How, IsPush, Pushed}
 use Rattle.hg_wire.specs.declared.push.Told.{Told}

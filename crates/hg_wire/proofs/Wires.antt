@@ -1,5 +1,5 @@
 -- A wire whose client was answered.
-use Rattle.std.proofs.Common.{◌≡◌, ℕ, Bool, false, List, [], ◌∷◌, ◌++◌, Option, Some, refl, sym, ap, subst, ◌∙◌}
+use Rattle.std.proofs.Common.{◌≡◌, ℕ, Bool, false, List, [], ◌∷◌, ◌++◌, Option, Some, append-nil, refl, sym, ap, subst, ◌∙◌}
 use Rattle.std.specs.Option.{IsSome}
 use mathlib.Core.List.{IsPrefix}
 use Rattle.http.specs.declared.request.Request.{Request}
@@ -12,7 +12,10 @@ use Rattle.hg_http.specs.Tellings.{Tells}
 use Rattle.hg_wire.specs.Answering.{around_of, Answers, Responds, WireView}
 use Rattle.hg_wire.specs.code.Wires.{seen_by, told_last}
 use Rattle.hg_wire.specs.declared.terms.Terms.{Terms}
-use Rattle.hg_wire.proofs.Lists.{begins_itself}
+
+-- a list begins itself
+begins_itself : {X : Type 0} (xs : List X) → IsPrefix xs xs
+begins_itself xs = ([], append-nil xs)
 
 -- what is noted in an empty log is what was told last
 pub last_noted : {A : Type 0} (empty items : List (List (Taken A) × ℕ)) (client : List (Taken A)) (number : ℕ) →

@@ -31,9 +31,9 @@ use Rattle.hg_http.specs.Commands.{command_of, subject_of}
 use Rattle.hg_http.specs.Keys.{fits, key_parts}
 use Rattle.hg_http.specs.Requests.{argument_in, arguments_of, is_from_client, name_of}
 use Rattle.hg_http.specs.Tellings.{Tells}
+use Rattle.hg_reading.specs.Texts.{refusal_of, IsBatchText, IsTextOf}
+use Rattle.hg_reading.specs.Views.{finished, IsViewed}
 use Rattle.hg_wire.specs.Pushes.{IsPushAnswered, key_line, set_line}
-use Rattle.hg_wire.specs.Texts.{refusal_of, IsBatchText, IsTextOf}
-use Rattle.hg_wire.specs.Views.{finished, IsViewed}
 use Rattle.hg_wire.specs.declared.terms.Terms.{Terms}
 
 -- What answers say and rest on beside the repository: which text may be the page and which the counters, of a

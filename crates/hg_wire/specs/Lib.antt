@@ -1,8 +1,5 @@
-pub mod Texts
 pub mod Looking
-pub mod Views
 pub mod Pushes
 pub mod Answering
 pub mod Serving
 pub mod code
-pub mod Copied

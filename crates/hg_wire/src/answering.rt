@@ -9,21 +9,17 @@ ghost use Rattle.hg_http.specs.Requests.{argument_in, arguments_of, is_from_clie
 ghost use Rattle.hg_http.specs.Requests.{name_of};
 ghost use Rattle.hg_told.specs.Batch.{commands_of};
 ghost use Rattle.hg_told.specs.Capabilities.{capabilities_told};
+ghost use Rattle.hg_reading.specs.Copied.{IsLong};
+ghost use Rattle.hg_reading.specs.Texts.{refusal_of as why_refused, IsBatchText, IsTextOf};
 ghost use Rattle.hg_ledger.specs.Records.{AreKept};
 ghost use Rattle.hg_wire.specs.Answering.{Answers, AnswersAsked, AnswersBatch, AnswersCommand, AnswersForced};
 ghost use Rattle.hg_wire.specs.Answering.{AnswersPushKey, around_of, IfFromClient, IsSaid, IsToldAt, OrLacks};
 ghost use Rattle.hg_wire.specs.Answering.{pull_answer};
 ghost use Rattle.hg_wire.specs.Pushes.{Answered};
-ghost use Rattle.hg_wire.specs.Copied.{IsLong};
-ghost use Rattle.hg_wire.specs.Texts.{refusal_of as why_refused, IsBatchText, IsTextOf};
 
-use crate::bound::refusal_of;
 use crate::key::push_key;
-use crate::long::{Long, long_of};
 use crate::looking::look;
 use crate::push::unbundle;
-use crate::reading::{Batch, Copying, LongBatch, Reading, batch_text, have_long, long_text};
-use crate::shown::{Shown, Watch};
 use crate::terms::{Host, Terms};
 use crate::viewing::answer_view;
 use bytes::Bytes;
@@ -32,6 +28,10 @@ use hg_http::{
     read_name, subject_of, view_of,
 };
 use hg_ledger::{NotStored, Storing};
+use hg_reading::{
+    Batch, Copying, Long, LongBatch, Reading, Shown, Watch, batch_text, have_long, long_of,
+    long_text, refusal_of,
+};
 use hg_serve::Client;
 use hg_store::Device;
 use hg_told::{Field, capabilities_text, read_batch};

@@ -10,11 +10,11 @@ ghost use Rattle.hg_wire.specs.Pushes.{is_set as key_is_set, key_line, set_line}
 ghost use Rattle.hg_wire.specs.Pushes.{says_one as part_says_one};
 
 use crate::push::{Told, push_bundle};
-use crate::shown::Watch;
 use crate::terms::Host;
 use hg_http::{Answer, KeyChange, Refusal, fits, key_bundle, read_change};
 use hg_ledger::{NotStored, Storing};
 use hg_push::Outcome;
+use hg_reading::Watch;
 use hg_repo::{Done, Refusal as RunRefusal};
 use hg_serve::Client;
 use hg_store::Device;

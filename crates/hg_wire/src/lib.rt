@@ -13,24 +13,18 @@
 #![tactic(auto)]
 
 mod answering;
-mod body;
-mod bound;
 mod budget;
-mod copies;
 mod key;
-mod long;
 mod looking;
 mod push;
-mod reading;
 mod serve;
-mod shown;
 mod terms;
 mod viewing;
 mod wire;
 
 pub use answering::answer_request;
 pub use budget::Budget;
+pub use hg_reading::{Pushed, Shown, Watch};
 pub use serve::{Finish, serve_http};
-pub use shown::{Pushed, Shown, Watch};
 pub use terms::{Host, Terms};
 pub use wire::Wire;

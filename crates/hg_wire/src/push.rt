@@ -6,14 +6,13 @@ ghost use Rattle.hg_ledger.specs.Records.{AreKept};
 ghost use Rattle.hg_wire.specs.Pushes.{Answered, IsPushAnswered, IsReply, Pushed as EndsOrFails};
 ghost use Rattle.hg_wire.specs.code.Rounds.{TellsRound};
 
-use crate::body::Body;
-use crate::shown::{Pushed, Watch};
 use crate::terms::Host;
 use hg_devices::Sending;
-use hg_http::{Answer, Refusal};
+use hg_http::{Answer, Body, Refusal};
 use hg_kept::{KeptRound, Replied, open_kept, serve_bundle_kept};
 use hg_ledger::{NotStored, Storing};
 use hg_push::Outcome;
+use hg_reading::{Pushed, Watch};
 use hg_receiving::Inbox;
 use hg_repo::{Done, Refusal as RunRefusal};
 use hg_serve::{Answer as Ended, Client};

@@ -10,11 +10,11 @@ ghost use Rattle.hg_wire.specs.Answering.{Responds};
 ghost use Rattle.hg_wire.specs.Serving.{ServesHttp, WritesBehind};
 
 use crate::budget::Share;
-use crate::shown::{Shown, Watch};
 use crate::terms::{Host, Terms};
 use crate::wire::Wire;
 use hg_devices::send;
 use hg_ledger::{Ledger, Storing};
+use hg_reading::{Shown, Watch};
 use hg_serve::{Client, Server};
 use hg_store::Device;
 use http_server::{Config, Connection};

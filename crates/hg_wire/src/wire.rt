@@ -4,11 +4,11 @@ ghost use Rattle.std.specs.Prelude.{◌≡◌, false, None, Some};
 ghost use mathlib.Core.List.{IsPrefix};
 
 use crate::answering::answer_request;
-use crate::shown::{Shown, Watch};
 use crate::terms::{Host, Terms};
 use bytes::Bytes;
 use hg_http::respond;
 use hg_ledger::{NotStored, Storing};
+use hg_reading::{Shown, Watch};
 use hg_serve::Client;
 use hg_store::Device;
 use http::Request;

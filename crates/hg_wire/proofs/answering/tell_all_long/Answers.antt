@@ -1,9 +1,9 @@
 use Rattle.std.specs.Prelude.{IfOk}
 use Rattle.hg_ledger.specs.Records.{AreKept}
-use Rattle.hg_wire.specs.Copied.{IsBrought}
+use Rattle.hg_reading.specs.Copied.{IsBrought}
 use Rattle.hg_wire.specs.Looking.{LooksKept}
-use Rattle.hg_wire.specs.Texts.{IsBatchText}
-use Rattle.hg_wire.proofs.Copied.{match_ok, told_or_lacks}
+use Rattle.hg_reading.specs.Texts.{IsBatchText}
+use Rattle.hg_wire.proofs.Looked.{match_ok, told_or_lacks}
 use Rattle.hg_wire.proofs.answering.tell_all_long.Goals as goal
 
 pub returns-in-Ok : goal.returns-in-Ok

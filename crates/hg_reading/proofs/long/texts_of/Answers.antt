@@ -1,0 +1,15 @@
+use Rattle.std.proofs.Common.{◌+◌, sym, subst, take}
+use Rattle.std.specs.List.{AllZip}
+use Rattle.hg_reading.specs.Copied.{IsOfPiece}
+use Rattle.hg_reading.proofs.Lists.{AllZip_next}
+use Rattle.hg_reading.proofs.long.texts_of.Goals as goal
+
+pub loop-piece-preserved : goal.loop-piece-preserved
+loop-piece-preserved g c = (
+  c.text_of.ensures.made,
+  subst (AllZip (IsOfPiece c.args.copies.now) (take (c.loop-piece.piece-index + 1) c.args.pieces.now))
+      (sym c.in_ok-push.ensures.ok)
+      (AllZip_next (IsOfPiece c.args.copies.now) c.args.pieces.now c.loop-piece.texts
+      c.loop-piece.piece-index c.piece-item.result c.in_ok-text_of.field-0
+      c.loop-piece-test.true c.piece-item.is c.loop-piece.invariant.1 c.in_ok-text_of.ensures.text),
+)

@@ -1,0 +1,116 @@
+//! What is shown without a command, as a question to the repository.
+
+ghost use Rattle.std.specs.Prelude.{◌≡◌, ◌++◌, ◌+◌, IfOk, OnOk};
+ghost use Rattle.hg_reading.specs.Views.{finished, IsShown, place_line, place_lines};
+
+use crate::around::Shown;
+use hg_http::{Answer, Refusal, View};
+use hg_repo::Repo;
+use hg_serve::Question;
+use hg_types::{NoMemory, Seq};
+use std::alloc::Allocator;
+
+/// What is asked of the repository for a view. The report of it has no lines of pushes yet.
+#[derive(Drop)]
+pub struct Viewing<'a, S, A: Allocator> {
+    pub alloc: A,
+    pub shown: &'a S,
+    pub view: View,
+}
+
+impl<S: Shown<A>, A: Allocator + Copy> Question<A, Result<Seq<u8, A>, NoMemory>>
+    for Viewing<'_, S, A> {
+    ghost use Rattle.std.specs.Prelude.{IfOk};
+    ghost use Rattle.hg_reading.specs.Views.{IsViewed};
+
+    ghost tells = { λ q repo told. IfOk told (λ text.
+        IsViewed (S.is_page q.shown.now) (S.are_metrics q.shown.now) q.view repo text) };
+
+    fn ask(&self, repo: &Repo<A>) -> Result<Seq<u8, A>, NoMemory> {
+        match self.view {
+            View::Page => self.shown.page(self.alloc, repo),
+            View::Metrics => self.shown.metrics(self.alloc, repo),
+            View::Report => Ok(Seq::from_vec(repo.report()?)),
+        }
+    }
+}
+
+/// The answer that shows a view: after a report stands a line for each push that the store had and for each that
+/// was done here. Or that there was no memory for it.
+pub fn shown<A: Allocator + Copy>(
+    alloc: A,
+    view: View,
+    text: Result<Seq<u8, A>, NoMemory>,
+    stored: usize,
+    rests: usize,
+) -> Answer<A>
+    ensures { IsShown view (stored + rests) text result }
+{
+    match text {
+        Ok(text) => match finished(alloc, view, text, stored, rests) {
+            Ok(text) => Answer::Shown(view, text),
+            Err(_) => Answer::Refused(Refusal::NoMemory),
+        },
+        Err(_) => Answer::Refused(Refusal::NoMemory),
+    }
+}
+
+/// The text, and after a report a line for each push that is stored.
+fn finished<A: Allocator + Copy>(
+    alloc: A,
+    view: View,
+    text: Seq<u8, A>,
+    stored: usize,
+    rests: usize,
+) -> Result<Seq<u8, A>, NoMemory>
+    ensures { IfOk result (λ whole. whole ≡ finished view (stored + rests) text) }
+{
+    match view {
+        View::Page | View::Metrics => Ok(text),
+        View::Report => with_lines(alloc, text, stored, rests),
+    }
+}
+
+/// The report, and after it a line for each push that is stored.
+fn with_lines<A: Allocator + Copy>(
+    alloc: A,
+    report: Seq<u8, A>,
+    stored: usize,
+    rests: usize,
+) -> Result<Seq<u8, A>, NoMemory>
+    ensures { IfOk result (λ text. text ≡ report ++ place_lines (stored + rests)) }
+{
+    let Some(count) = stored.checked_add(rests) else {
+        return Err(NoMemory);
+    };
+    let mut text = report.into_vec();
+    add_lines(alloc, &mut text, count)?;
+    Ok(Seq::from_vec(text))
+}
+
+/// Adds a line for each of so many places.
+fn add_lines<A: Allocator + Copy>(
+    alloc: A,
+    text: &mut Vec<u8, A>,
+    count: usize,
+) -> Result<(), NoMemory>
+    ensures { OnOk result (text.new.items ≡ text.old.items ++ place_lines count) }
+{
+    'lines: for place in 0..count {
+        add_line(alloc, text, place)?;
+    }
+    Ok(())
+}
+
+/// Adds the line of a push.
+fn add_line<A: Allocator + Copy>(
+    alloc: A,
+    text: &mut Vec<u8, A>,
+    place: usize,
+) -> Result<(), NoMemory>
+    ensures { OnOk result (text.new.items ≡ text.old.items ++ place_line place) }
+{
+    let line = format!(in alloc; "J {place}\n")?;
+    text.extend_from_slice(line.as_bytes())?;
+    Ok(())
+}
