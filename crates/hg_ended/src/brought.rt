@@ -1,6 +1,6 @@
 //! How many changesets a bundle brings.
 
-ghost use Rattle.std.specs.Prelude.{◌≡◌, ◌≤◌, ◌<◌, length, take, drop, not, ◌&&◌, if◌then◌else◌};
+ghost use Rattle.std.specs.Prelude.{◌≡◌, ◌≤◌, ◌<◌, length, take, drop, not, false, ◌&&◌, if◌then◌else◌};
 ghost use Rattle.hg_ended.specs.Brought.{after_payload, after_sized, changesets_in, changesets_of, sized_in};
 ghost use Rattle.hg_ended.specs.Brought.{fed, fed_where, is_changegroup, new_group, with_byte, with_size};
 ghost use Rattle.hg_ended.specs.Brought.{next_bytes, next_payload, number_in, size_of};
