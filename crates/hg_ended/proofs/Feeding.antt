@@ -1,10 +1,10 @@
 -- How a group takes bytes: many of a chunk at once, and none once it is over.
-use Rattle.std.proofs.Common.{◌≡◌, ◌≤◌, ◌<◌, ℕ, zero, suc, ◌-◌, List, [], ◌∷◌, length, drop, take, Bool, true, false}
+use Rattle.std.proofs.Common.{◌≡◌, ◌≤◌, ℕ, zero, suc, ◌-◌, List, [], ◌∷◌, length, drop, take, Bool, true, false}
 use Rattle.std.proofs.Common.{if◌then◌else◌, refl, sym, subst, ap, arith}
 use Rattle.std.proofs.Math.Dec.{eqb-suc-zero}
 use Rattle.std.proofs.lemmas.List.{length-drop, take_all}
 use Rattle.hg_ended.specs.declared.brought.Group.{Group}
-use Rattle.hg_ended.specs.Brought.{fed, after_byte}
+use Rattle.hg_ended.specs.Brought.{fed}
 
 -- the first of two values
 pub chosen : {X : Type 0} (b : Bool) (x y : X) → b ≡ true → (if b then x else y) ≡ x

@@ -1,14 +1,9 @@
 -- What is told of a store that is not opened.
 use Rattle.std.specs.Prelude.{ℕ, Option, Some, None}
-use Rattle.hg_store.specs.declared.device.DeviceError.{DeviceError}
 use Rattle.hg_store.specs.declared.device.DeviceError.TheVariants as device
-use Rattle.hg_store.specs.declared.read.ReadFault.{ReadFault}
 use Rattle.hg_store.specs.declared.read.ReadFault.TheVariants as read
-use Rattle.hg_store.specs.declared.opening.RecoverFault.{RecoverFault}
 use Rattle.hg_store.specs.declared.opening.RecoverFault.TheVariants as recover
-use Rattle.hg_store.specs.declared.start.StoreFault.{StoreFault}
 use Rattle.hg_store.specs.declared.start.StoreFault.TheVariants as start
-use Rattle.hg_restore.specs.declared.restore.RestoreFault.{RestoreFault}
 use Rattle.hg_restore.specs.declared.restore.RestoreFault.TheVariants as restore
 use Rattle.hg_opening.specs.declared.opening.OpeningFault.{OpeningFault}
 use Rattle.hg_opening.specs.declared.opening.OpeningFault.TheVariants.{Store, Restore}

@@ -1,5 +1,5 @@
 -- What the commands do whose devices no contract names: standard input and output, files and a listener.
-use Rattle.std.specs.Prelude.{ℕ, ◌≡◌, ◌⊎◌, Bool, List, Option, IsSome, length}
+use Rattle.std.specs.Prelude.{ℕ, ◌≡◌, ◌⊎◌, Bool, List, Option, is_some, length}
 use Rattle.hg_devices.specs.Devices.{Input, Output}
 use Rattle.hg_replay.specs.Answering.{Answered, NotOpened}
 use Rattle.hg_replay.specs.Replaying.{Replayed}
@@ -29,4 +29,4 @@ ReplaysAll A publishing count status = (inputs : List Input) × (lefts : List In
 abbrev pub ServesSome : {S : Type 0} → (A : Type 0) → Bool → Option S → Terms → ℕ → Type 0
 ServesSome A publishing named terms status = (seed : Option Input) × (door : Option (List DoorUse))
     × (shut : Option (List DoorUse)) × (before : Output) × (after : Output)
-    × (IsSome seed ↔ IsSome named) × Serves A publishing seed terms door shut before after status
+    × (is_some seed ≡ is_some named) × Serves A publishing seed terms door shut before after status

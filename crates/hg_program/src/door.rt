@@ -1,6 +1,6 @@
 //! The door of the program: a listener that tells where it listens, and that is closed with its last use.
 
-ghost use Rattle.std.specs.Prelude.{None};
+ghost use Rattle.std.specs.Prelude.{◌≡◌, None};
 
 use hg_server::{Door, Terms};
 use std::io;
@@ -19,12 +19,10 @@ pub struct Listening<'a, R: Print> {
 impl<'a, R: Print> Listening<'a, R> {
     /// The door of so many connections to that listener. Where it is to tell its address, it does so when it
     /// is first asked for a connection: the seed was run then, and memory for the queue was there.
-    pub fn new(
-        rt: &'a R,
-        listener: TcpListener,
-        connections: u32,
-        tells: bool,
-    ) -> Listening<'a, R> {
+    pub fn new(rt: &'a R, listener: TcpListener, connections: u32, tells: bool) -> Listening<'a, R>
+        ensures left { result.left ≡ connections }
+        ensures tells { result.tells ≡ tells }
+    {
         Listening {
             rt,
             listener: Some(listener),

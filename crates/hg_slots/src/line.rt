@@ -12,8 +12,8 @@ use std::time::{Clock, Duration, Instant};
 /// For how many seconds one read or write may wait before it is asked whether serving is over.
 const ONE_WAIT: u64 = 1;
 
-/// How long a connection was silent. Within a request, and within an answer, it has to move so many bytes in the
-/// time that it may be silent for.
+/// How long a connection was silent. Within a request, and within an answer, it has to move 1,024 bytes in the time
+/// that it may be silent for.
 #[derive(Drop)]
 pub struct Patience<'a, R: Clock> {
     rt: &'a R,
@@ -23,7 +23,7 @@ pub struct Patience<'a, R: Clock> {
 }
 
 impl<'a, R: Clock> Patience<'a, R> {
-    /// A connection that begins now. A clock that fails is an error.
+    /// A connection that begins now, and may be silent for so long. A clock that fails is an error.
     pub fn new(rt: &'a R, idle: Duration) -> io::Result<Patience<'a, R>> {
         let now = Instant::now(rt)?;
         Ok(Patience {
@@ -61,8 +61,11 @@ impl<'a, R: Clock> Patience<'a, R> {
 /// What comes on a connection. Once serving is over no more is read, and what waits ends.
 #[derive(Drop)]
 pub struct Line<'a, R: Clock + Wait> {
+    /// The socket, set up by [`set_up`].
     pub stream: &'a TcpStream,
+    /// How long it may be silent, with what is sent on it.
     pub patience: &'a Patience<'a, R>,
+    /// The places for connections, which say whether serving is over.
     pub slots: &'a Slots,
 }
 
@@ -105,6 +108,7 @@ impl<R: Clock + Wait> Read for Line<'_, R> {
 /// What is sent on a connection.
 #[derive(Drop)]
 pub struct Sent<'a, R: Clock + Wait> {
+    /// The connection.
     pub line: Line<'a, R>,
 }
 
@@ -137,7 +141,7 @@ fn is_passing(kind: ErrorKind) -> bool {
     )
 }
 
-/// Sets up a connection: small answers are not held back, and no use waits for long.
+/// Sets up a connection: small answers are not held back, and no read or write waits for longer than a second.
 pub fn set_up(stream: &TcpStream) -> io::Result<()> {
     let wait = Some(Duration::from_secs(ONE_WAIT));
     stream.set_nodelay(true)?;

@@ -1,4 +1,4 @@
-use Rattle.std.proofs.Common.{sym, arith, length, drop}
+use Rattle.std.proofs.Common.{sym, arith}
 use Rattle.hg_ended.proofs.Feeding.{fed_over, fed_skipped, rest_is}
 use Rattle.hg_ended.proofs.brought.Group.step.Goals as goal
 
