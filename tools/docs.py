@@ -157,9 +157,11 @@ LISTS = (
 
 
 def with_uses(crate, text):
-    """The page of a crate, with a second paragraph that names what it may use."""
+    """The page of a crate, with a second paragraph that names what it may use, if there is anything."""
     heading, first, rest = USES.sub("", text, count=1).split("\n\n", 2)
     names = sources.rows()[crate].partition(":")[2].split()
+    if not names:
+        return "\n\n".join((heading, first, rest))
     uses = wrapped(f"It may use {', '.join(f'`{it}`' for it in names)}.", "")
     return "\n\n".join((heading, first, uses, rest))
 

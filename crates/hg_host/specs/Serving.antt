@@ -7,7 +7,7 @@ use Rattle.hg_store.specs.declared.head.Head.{Head}
 use Rattle.hg_wire.specs.declared.serve.Finish.{Finish}
 use Rattle.hg_wire.specs.declared.terms.Terms.{Terms}
 use Rattle.hg_wire.specs.Serving.{ServesHttp}
-use Rattle.hg_host.specs.Hosting.{IsRecovered}
+use Rattle.hg_opening.specs.Opening.{IsRecovered}
 
 -- what contracts see of a service: how many pushes the store had when it was opened, and whether it publishes
 pub record HostView : Type 0 where

@@ -4,14 +4,14 @@ ghost use Rattle.std.specs.Prelude.{◌≡◌, length};
 ghost use Rattle.hg_store.specs.Log.{IsSettled};
 ghost use Rattle.hg_serve.specs.Desks.{Begins};
 ghost use Rattle.hg_ledger.specs.Receipts.{IsTallyOf};
-ghost use Rattle.hg_host.specs.Hosting.{IsOpened, IsRecovered};
+ghost use Rattle.hg_opening.specs.Opening.{IsOpened, IsRecovered};
 
-use crate::opening::Recovered;
 use crate::service::Service;
-use crate::slots::Over;
 use crate::terms::HostTerms;
 use hg_ledger::{Storing, Tally};
+use hg_opening::Recovered;
 use hg_queue::{PartQueue, Taker};
+use hg_slots::Over;
 use hg_store::Device;
 use std::alloc::Global;
 use std::marker::Brand;

@@ -8,19 +8,18 @@ ghost use Rattle.hg_store.specs.Log.{IsSettled};
 ghost use Rattle.hg_serve.specs.Desks.{Begins};
 ghost use Rattle.hg_ledger.specs.Receipts.{IsTallyOf};
 ghost use Rattle.hg_ledger.specs.Records.{AreKept};
-ghost use Rattle.hg_host.specs.Hosting.{IsRecovered};
+ghost use Rattle.hg_opening.specs.Opening.{IsRecovered};
 ghost use Rattle.hg_host.specs.Serving.{HostsHttp};
 
 use crate::board::Board;
-use crate::line::{Line, Patience, Sent, set_up};
-use crate::opening::Recovered;
-use crate::slots::{Over, Slots};
 use crate::terms::HostTerms;
 use crate::watch::Watcher;
 use hg_ledger::{Ledger, Parts, Storing, Tally};
+use hg_opening::Recovered;
 use hg_queue::{PartQueue, Taker};
 use hg_serve::{Client, Server};
 use hg_server::drain;
+use hg_slots::{Line, Over, Patience, Sent, Slots, set_up};
 use hg_store::Device;
 use hg_types::NoMemory;
 use hg_wire::{Budget, Finish, Shown, Terms, serve_http};
@@ -53,7 +52,7 @@ pub struct Service<'a, J: Storing<Global>, D: Device, R: Wait + Clock> {
 impl<'a, J: Storing<Global>, D: Device, R: Wait + Clock> Model for Service<'a, J, D, R> {
     ghost use Rattle.std.specs.Prelude.{◌≡◌, length, true, false};
     ghost use Rattle.std.specs.Option.{option_map};
-    ghost use Rattle.hg_host.specs.Hosting.{IsRecovered};
+    ghost use Rattle.hg_opening.specs.Opening.{IsRecovered};
     ghost use Rattle.hg_host.specs.Serving.{HostView};
 
     ghost Value = { HostView };

@@ -1,11 +1,10 @@
 //! Who watches a connection: how long each push took, and a line for it.
 
 use crate::board::{Board, seconds_now};
-use crate::brought::brought_by;
-use crate::reason::ending_of;
-use crate::slots::{Over, Slots};
+use hg_ended::{brought_by, ending_of};
 use hg_page::{Ending, Push, log_line};
 use hg_serve::{Gate, Point};
+use hg_slots::{Over, Slots};
 use hg_wire::{Pushed, Watch};
 use std::alloc::Global;
 use std::str;

@@ -1,11 +1,12 @@
 //! A store that is served over HTTP: how it begins, and what is told of it.
 
-ghost use Rattle.hg_host.specs.Hosting.{IsOpened};
+ghost use Rattle.hg_opening.specs.Opening.{IsOpened};
 
-use crate::standard::device_status;
 use hg_archive::TornNote;
 use hg_command::{Hosting, tell};
-use hg_host::{HostTerms, OpeningFault, Over, Recovered, host as serve_store, recover_store};
+use hg_host::{HostTerms, Over, host as serve_store};
+use hg_opening::{OpeningFault, Recovered, recover_store};
+use hg_program::device_status;
 use hg_store::{Device, HostFile, StoreFile};
 use std::fs::{File, Files};
 use std::hash::RandomState;

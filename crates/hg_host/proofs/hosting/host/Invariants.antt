@@ -1,5 +1,5 @@
 use Rattle.hg_queue.specs.Words.{id_of, capacity_of}
-use Rattle.hg_host.specs.Hosting.{head_of, records_of}
+use Rattle.hg_opening.specs.Opening.{head_of, records_of}
 use Rattle.hg_host.proofs.hosting.host.Given as goal
 
 abbrev pub ghosts-host_named-J-Naming : goal.ghosts-host_named-J-Naming

@@ -1,0 +1,31 @@
+-- A store that is opened, and the repository that its records lead to.
+use Rattle.std.specs.Prelude.{ℕ, ◌≡◌, Bool, List, [], ◌∷◌, length}
+use Rattle.hg_types.specs.Limits.{standard_limits}
+use Rattle.hg_store.specs.declared.head.Head.{Head}
+use Rattle.hg_store.specs.Log.{IsSettled}
+use Rattle.hg_restore.specs.Replays.{Replays}
+use Rattle.hg_replay.specs.Answering.{empty_repository}
+use Rattle.hg_push.specs.Run.{RepositoryOf}
+use Rattle.hg_opening.specs.declared.opening.Recovered.{Recovered}
+
+-- the head of a store of a server that publishes, or does not
+abbrev pub head_of : Bool → Head
+head_of publishing = record { publishing = publishing; limits = standard_limits }
+
+-- The records of a store of that head, run one by one on the empty repository, lead to this one.
+pub record IsRecovered {A : Type 0} (publishing : Bool) (head : Head) (records : List (List ℕ))
+    (repo : RepositoryOf A) : Type 0 where
+  pub head_is : head ≡ head_of publishing
+  pub ran : Replays head.limits (empty_repository publishing) records repo
+
+-- the records that were noted when a store was opened
+abbrev pub records_of : List (List (List ℕ) × ℕ) → List (List ℕ)
+records_of [] = []
+records_of (noted ∷ more) = noted.0
+
+-- The store has the records that it was opened with, all of them on the device, and they lead to the repository.
+pub record IsOpened {D : Type 0} (seen : D → List ℕ) (may_leave : D → List ℕ → Type 0) (opened : Recovered D) :
+    Type 0 where
+  pub settled : IsSettled seen may_leave (head_of opened.publishing) (records_of opened.records.items) opened.log
+  pub recovered : IsRecovered opened.publishing (head_of opened.publishing) (records_of opened.records.items) opened.repo
+  pub count : opened.stored ≡ length (records_of opened.records.items)

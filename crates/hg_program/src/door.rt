@@ -1,0 +1,72 @@
+//! The door of the program: a listener that tells where it listens, and that is closed with its last use.
+
+ghost use Rattle.std.specs.Prelude.{◌≡◌, None};
+
+use hg_server::{Door, Terms};
+use std::io;
+use std::net::{TcpListener, TcpStream};
+
+/// Accepts connections to a listener. After the last one, and after one that failed, the listener is
+/// closed: who comes late is refused at once, and does not wait for a thread that is never there.
+#[derive(Drop)]
+pub struct Listening<'a, R: Print> {
+    rt: &'a R,
+    listener: Option<TcpListener>,
+    left: u32,
+    tells: bool,
+}
+
+impl<'a, R: Print> Listening<'a, R> {
+    /// The door of so many connections to that listener. Where it is to tell its address, it does so when it
+    /// is first asked for a connection: the seed was run then, and memory for the queue was there.
+    pub fn new(rt: &'a R, listener: TcpListener, connections: u32, tells: bool) -> Listening<'a, R>
+        ensures left { result.left ≡ connections }
+        ensures tells { result.tells ≡ tells }
+    {
+        Listening {
+            rt,
+            listener: Some(listener),
+            left: connections,
+            tells,
+        }
+    }
+
+    /// Prints the address, where that is still to be done.
+    fn tell_address(&mut self) -> io::Result<()> {
+        let rt = self.rt;
+        if let (true, Some(listener)) = (self.tells, &self.listener) {
+            let bound = listener.local_addr()?;
+            println!(rt; "listening on {bound}")?;
+        }
+        self.tells = false;
+        Ok(())
+    }
+
+    /// A connection, where the address was told and the listener is open.
+    fn next(&mut self) -> Option<TcpStream> {
+        self.tell_address().ok()?;
+        let (stream, _) = self.listener.as_ref()?.accept().ok()?;
+        Some(stream)
+    }
+}
+
+impl<R: Print> Door for Listening<'_, R> {
+    ghost told = { λ _. None };
+
+    fn accept(&mut self) -> Option<TcpStream> {
+        let accepted = self.next();
+        self.left = self.left.saturating_sub(1);
+        if self.left == 0 || accepted.is_none() {
+            self.listener = None;
+        }
+        accepted
+    }
+
+    fn hear_start(&mut self, _terms: Terms, started: bool) {
+        if !started {
+            self.listener = None;
+        }
+    }
+
+    fn hear_end(&mut self, _no_memory: bool) {}
+}

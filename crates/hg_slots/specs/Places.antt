@@ -1,0 +1,11 @@
+-- The places for connections, and why serving is over.
+use Rattle.std.specs.Prelude.{Option, Some, None}
+use Rattle.hg_slots.specs.declared.slots.Over.{Over}
+use Rattle.hg_slots.specs.declared.slots.Over.TheVariants.{NoMemory, StoreFailed, NumbersEnd}
+
+-- Why serving is over, where it may have been over before: the first reason stays, except before a store that failed.
+abbrev pub reason_after : Option Over → Over → Over
+reason_after None over = over
+reason_after (Some before) StoreFailed = StoreFailed
+reason_after (Some before) NoMemory = before
+reason_after (Some before) NumbersEnd = before
