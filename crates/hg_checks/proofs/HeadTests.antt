@@ -9,7 +9,7 @@ use Rattle.hg_log.specs.Changeset.{Changeset}
 use Rattle.hg_log.specs.Rows.{AreLawful}
 use Rattle.hg_log.specs.HeadCount.{head_count, head_ids, is_head_id}
 use Rattle.hg_log.proofs.CallerLemmas.{heads_told, told_heads}
-use Rattle.hg_checks.specs.Heads.{are_same_ids}
+use Rattle.hg_checks.specs.Checks.{are_same_ids}
 use Rattle.hg_checks.proofs.SameIds.{as_often, from_as_often}
 
 module _ (rows : List Changeset) (lawful : AreLawful rows) (ids : List (List ℕ)) where

@@ -1,3 +1,4 @@
 mod SameIds
 mod Distinct
 mod HeadTests
+mod Faults

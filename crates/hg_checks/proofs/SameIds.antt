@@ -8,7 +8,7 @@ use Rattle.std.proofs.lemmas.List.Sums.{sum_by-append, sum_by-cons, AllPass-from
 use Rattle.std.proofs.lemmas.List.Sums.{list_all-from_AllPass}
 use Rattle.std.proofs.lemmas.Slice.Eq.{bytes_eq-Decides}
 use Rattle.hg_log.specs.HeadCount.{AreSameIds}
-use Rattle.hg_checks.specs.Heads.{occurrences, are_same_ids}
+use Rattle.hg_checks.specs.Checks.{occurrences, are_same_ids}
 
 abbrev one_if : List ℕ → List ℕ → ℕ
 one_if id other = cond (bytes_eq other id) 1 0

@@ -1,5 +1,3 @@
 pub mod Checked
 pub mod CheckFaults
-pub mod Heads
-pub mod Phases
-pub mod Bookmarks
+pub mod Checks

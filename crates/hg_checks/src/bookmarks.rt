@@ -2,7 +2,7 @@
 
 ghost use Rattle.std.specs.Prelude.{◌≡◌};
 ghost use Rattle.hg_checks.specs.Checked.{Gives, all_checked};
-ghost use Rattle.hg_checks.specs.Bookmarks.{bookmark_checked, bookmarks_checked};
+ghost use Rattle.hg_checks.specs.Checks.{bookmark_checked, bookmarks_checked};
 
 use crate::fault::CheckFault;
 use hg_keys::{Bookmarks, are_same, is_known_target, read_bookmarks};

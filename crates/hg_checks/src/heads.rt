@@ -4,7 +4,7 @@ ghost use Rattle.std.specs.Prelude.{◌≡◌, ◌≢◌, ◌↔◌, IsTrue, IfO
 ghost use Rattle.std.specs.List.{list_all};
 ghost use Rattle.hg_log.specs.HeadCount.{head_ids, is_head_id};
 ghost use Rattle.hg_checks.specs.Checked.{Gives};
-ghost use Rattle.hg_checks.specs.Heads.{are_same_ids, heads_checked};
+ghost use Rattle.hg_checks.specs.Checks.{are_same_ids, heads_checked};
 
 use crate::fault::CheckFault;
 use hg_log::Changelog;

@@ -2,7 +2,7 @@
 
 ghost use Rattle.std.specs.Prelude.{◌≡◌, ◌≤◌, length};
 ghost use Rattle.hg_checks.specs.Checked.{Gives, all_checked};
-ghost use Rattle.hg_checks.specs.Phases.{phase_checked, phases_checked};
+ghost use Rattle.hg_checks.specs.Checks.{phase_checked, phases_checked};
 
 use crate::fault::CheckFault;
 use hg_keys::phase_of_node;

@@ -189,6 +189,47 @@ fn one_draft<A: Allocator + Copy>(alloc: A, log: &Changelog<A>) -> Option<Phases
     }
 }
 
+/// The entry of the empty name on nothing.
+const NO_NAME: [u8; 22] = [
+    0xff, 0xff, 0xff, 0xff, 0xff, 0xff, 0xff, 0xff, 0xff, 0xff, 0xff, 0xff, 0xff, 0xff, 0xff, 0xff,
+    0xff, 0xff, 0xff, 0xff, 0, 0,
+];
+
+/// Whether each payload has that answer from a check of that kind, for no changesets and no bookmarks.
+fn all_kinds<A: Allocator + Copy>(
+    alloc: A,
+    state: RandomState,
+    cases: &[(CheckKind, &[u8], Answer)],
+) -> bool {
+    let log = Changelog::new(alloc, state, Limits::standard());
+    let phases = no_phases(alloc, &log);
+    let bookmarks = Bookmarks::new(alloc);
+    let mut all = true;
+    for case in cases {
+        all = check(alloc, case.0, &log, &phases, &bookmarks, case.1) == case.2 && all;
+    }
+    all
+}
+
+// The null id, 20 bytes 0: the one head; 20 bytes are no whole entry. 24 bytes 0: the null id as public. 20
+// bytes ff and 2 bytes 0: the empty name on nothing; 22 bytes 0: on the null id. Result: content, Short, Short; Short,
+// content, Short; content, Raced.
+#[test]
+fn each_kind_reads_a_payload_of_its_own(rt: HostRuntime) -> Result<(), Fail> {
+    let cases: [(CheckKind, &[u8], Answer); 8] = [
+        (CheckKind::Heads, &[0; 20], CONTENT),
+        (CheckKind::Phases, &[0; 20], SHORT),
+        (CheckKind::Bookmarks, &[0; 20], SHORT),
+        (CheckKind::Heads, &[0; 24], SHORT),
+        (CheckKind::Phases, &[0; 24], CONTENT),
+        (CheckKind::Bookmarks, &[0; 24], SHORT),
+        (CheckKind::Bookmarks, &NO_NAME, CONTENT),
+        (CheckKind::Bookmarks, &[0; 22], RACED),
+    ];
+    assert!(rt; all_kinds(rt.alloc(), RandomState::new(&rt)?, &cases));
+    Ok(())
+}
+
 /// The numbers of phases in four bytes, each before its id, and that many bytes 0 after them.
 fn phases_of<A: Allocator>(
     alloc: A,

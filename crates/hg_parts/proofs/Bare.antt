@@ -15,28 +15,23 @@ use Rattle.hg_keys.specs.declared.keys.KeyCall.{KeyCall}
 use Rattle.hg_keys.specs.Payload as bookmark
 use Rattle.hg_keys.specs.PushKey.{Keys, key_pushed}
 use Rattle.hg_checks.specs.Checked.{Answer}
-use Rattle.hg_checks.specs.Heads.{heads_checked}
-use Rattle.hg_checks.specs.Phases.{phases_checked}
-use Rattle.hg_checks.specs.Bookmarks.{bookmarks_checked}
+use Rattle.hg_checks.specs.Checks.{checked as answer_to}
 use Rattle.hg_cgroup.specs.Outcome.{outcome_of}
 use Rattle.hg_phases.specs.Entries.{entries_of}
 use Rattle.hg_obs.specs.Reading.{markers_of}
 use Rattle.hg_parts.specs.declared.source.Source.{Source}
 use Rattle.hg_parts.specs.declared.refusal.RaceText.{RaceText}
-use Rattle.hg_parts.specs.declared.refusal.RaceText.TheVariants.{HeadsChanged, PhasesChanged}
-use Rattle.hg_parts.specs.declared.refusal.RaceText.TheVariants.{BookmarksChanged}
 use Rattle.hg_parts.specs.declared.table.PartType.{PartType}
-use Rattle.hg_parts.specs.declared.table.PartType.TheVariants.{ReplyCaps, CheckHeads, CheckPhases}
-use Rattle.hg_parts.specs.declared.table.PartType.TheVariants.{CheckBookmarks}
+use Rattle.hg_parts.specs.declared.table.PartType.TheVariants.{ReplyCaps, Check}
 use Rattle.hg_parts.specs.declared.table.PartType.TheVariants.{ChangeGroup, PhaseHeads, Bookmarks, Obsmarkers}
 use Rattle.hg_parts.specs.declared.table.PartType.TheVariants.{Pushkey}
 use Rattle.hg_parts.specs.declared.table.PartType.TheVariants.{Output, ErrorAbort}
 use Rattle.hg_parts.specs.Repository.{Repository}
 use Rattle.hg_parts.specs.Handled.{Handled, Outcome}
-use Rattle.hg_parts.specs.PartTypes.{Support, Supported, Unsupported, is_mandatory, support_of}
+use Rattle.hg_parts.specs.PartTypes.{Support, Supported, Unsupported, is_mandatory, race_text, support_of}
 use Rattle.hg_parts.specs.Replies.{reply_part, reply_where}
 use Rattle.hg_parts.specs.parts.Unsupported.{handle_unsupported}
-use Rattle.hg_parts.specs.parts.Checks.{handle_checked}
+use Rattle.hg_parts.specs.parts.Check.{handle_checked}
 use Rattle.hg_parts.specs.parts.Changegroup as changegroup
 use Rattle.hg_parts.specs.parts.PhaseHeads as phase_heads
 use Rattle.hg_parts.specs.parts.Bookmarks as bookmarks
@@ -131,12 +126,8 @@ module _ {A : Type 0} where
   supported : (source : Source) (repo : Repository A) (replying : Bool) (place : ℕ) (part : Part A)
       (part_type : PartType) → LeavesBare (handle_supported source repo replying place part part_type)
   supported source repo replying place part ReplyCaps = tt
-  supported source repo replying place part CheckHeads =
-      checked repo place HeadsChanged (heads_checked repo.rows part.payload)
-  supported source repo replying place part CheckPhases =
-      checked repo place PhasesChanged (phases_checked repo.rows repo.phases part.payload)
-  supported source repo replying place part CheckBookmarks =
-      checked repo place BookmarksChanged (bookmarks_checked repo.rows repo.bookmarks part.payload)
+  supported source repo replying place part (Check kind) =
+      checked repo place (race_text kind) (answer_to kind repo.rows repo.phases repo.bookmarks part.payload)
   supported source repo replying place part PhaseHeads = phase_entries repo place (entries_of part.payload)
   supported source repo replying place part Bookmarks =
       bookmark_entries repo place (bookmark.entries_of part.payload)

@@ -2,11 +2,12 @@
 use Rattle.std.proofs.Common.{◌≡◌, ℕ, zero, suc, ◌≤◌, List, [], ◌∷◌, length, take, refl}
 use Rattle.std.proofs.Common.{sym, ap, ◌∙◌, arith}
 use Rattle.std.proofs.Math.Seq.{take-length}
+use Rattle.std.proofs.lemmas.List.{take-append-le, length-append}
 use Rattle.hg_types.specs.declared.limits.Settings.{Settings}
 use Rattle.hg_phases.specs.Phases.{AreFor, Marked as MarkedPhases}
 use Rattle.hg_phases.proofs.CallerLemmas.{for_none}
 use Rattle.hg_obs.specs.declared.marker.Marker.{Marker}
-use Rattle.hg_obs.specs.Markers.{AreLawful as AreLawfulMarkers}
+use Rattle.hg_obs.specs.Markers.{fresh, merged, AreLawful as AreLawfulMarkers}
 use Rattle.hg_keys.specs.Bookmarks.{Marked as MarkedBookmarks}
 use Rattle.hg_parts.specs.declared.store.Store.{Store}
 use Rattle.hg_parts.specs.declared.store.StoreMark.{StoreMark}
@@ -78,6 +79,15 @@ module _ {A : Type 0} where
     phases_marked = refl;
     bookmarks_marked = refl;
   }
+
+  -- markers were merged with those that are there
+  pub grown_merged : (old : Store A) (added : List (Marker A))
+      → IsGrown old (record old { markers = merged old.markers added })
+  grown_merged old added =
+      grown_markers old (merged old.markers added)
+      (omega (arith, length-append old.markers (fresh old.markers added)))
+      (take-append-le (length old.markers) old.markers (fresh old.markers added) (omega arith)
+      ∙ take-length old.markers)
 
   -- the bookmarks alone changed, with the same mark
   pub grown_bookmarks : (old : Store A) (bookmarks : MarkedBookmarks)

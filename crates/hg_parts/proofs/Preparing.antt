@@ -17,8 +17,7 @@ use Rattle.hg_parts.specs.declared.prepared.Reading.{Reading}
 use Rattle.hg_parts.specs.declared.prepared.Reading.TheVariants as reading
 use Rattle.hg_parts.specs.declared.source.Source.{Source}
 use Rattle.hg_parts.specs.declared.table.PartType.{PartType}
-use Rattle.hg_parts.specs.declared.table.PartType.TheVariants.{ReplyCaps, CheckHeads, CheckPhases}
-use Rattle.hg_parts.specs.declared.table.PartType.TheVariants.{CheckBookmarks}
+use Rattle.hg_parts.specs.declared.table.PartType.TheVariants.{ReplyCaps, Check}
 use Rattle.hg_parts.specs.declared.table.PartType.TheVariants.{ChangeGroup, PhaseHeads, Bookmarks, Obsmarkers}
 use Rattle.hg_parts.specs.declared.table.PartType.TheVariants.{Pushkey}
 use Rattle.hg_parts.specs.declared.table.PartType.TheVariants.{Output, ErrorAbort}
@@ -81,9 +80,7 @@ module _ {A : Type 0} (source : Source) (repo : Repository A) (replying : Bool) 
   unfolding names_of
   support_read part (Unsupported names) same = ap (handle_unsupported repo place part) same
   support_read part (Supported ReplyCaps) same = refl
-  support_read part (Supported CheckHeads) same = refl
-  support_read part (Supported CheckPhases) same = refl
-  support_read part (Supported CheckBookmarks) same = refl
+  support_read part (Supported (Check kind)) same = refl
   support_read part (Supported PhaseHeads) same = heads_read part (entries_of part.payload)
   support_read part (Supported Bookmarks) same = refl
   support_read part (Supported Obsmarkers) same = markers_read part (markers_of part.payload)
@@ -106,9 +103,7 @@ module _ {A : Type 0} (source : Source) (repo : Repository A) (replying : Bool) 
   kept_enough part reading.Unsupported = refl
   kept_enough part reading.Malformed = refl
   kept_enough part reading.ReplyCaps = refl
-  kept_enough part reading.CheckHeads = refl
-  kept_enough part reading.CheckPhases = refl
-  kept_enough part reading.CheckBookmarks = refl
+  kept_enough part (reading.Check kind) = refl
   kept_enough part (reading.PhaseHeads entries) = refl
   kept_enough part reading.Bookmarks = refl
   kept_enough part (reading.Obsmarkers added) = refl
@@ -146,9 +141,7 @@ support_starts : {A : Type 0} (part : Part A) (support : Support)
     → is_replycaps (read_as part support) ≡ is_reply_caps support
 support_starts part (Unsupported names) = refl
 support_starts part (Supported ReplyCaps) = refl
-support_starts part (Supported CheckHeads) = refl
-support_starts part (Supported CheckPhases) = refl
-support_starts part (Supported CheckBookmarks) = refl
+support_starts part (Supported (Check kind)) = refl
 support_starts part (Supported PhaseHeads) = heads_start _ (entries_of part.payload)
 support_starts part (Supported Bookmarks) = refl
 support_starts part (Supported Obsmarkers) = markers_start (markers_of part.payload)

@@ -1,15 +1,12 @@
 -- Which parts can be refused, and how, for each type of part.
-use Rattle.std.proofs.Common.{◌≡◌, ◌≢◌, ◌==◌, ◌/◌, ◌%◌, ℕ, Bool, true, false, cond, not, ◌&&◌, List, [], ◌∷◌}
-use Rattle.std.proofs.Common.{Option, Some, None, Result, Ok, Err, ok_or, refl, subst, length, inl, inr, bytes_eq}
+use Rattle.std.proofs.Common.{◌≡◌, ◌≢◌, ℕ, Bool, true, false, cond, not, ◌&&◌, List, [], ◌∷◌, Option, Some}
+use Rattle.std.proofs.Common.{None, Result, Ok, Err, ok_or, refl, ap, subst, length, inl, inr, bytes_eq}
 use Rattle.std.proofs.Common.{nat_le}
-use Rattle.std.specs.List.{list_all}
-use Rattle.std.specs.Simd.{first_chunks}
 use Rattle.hg_types.specs.declared.node.Node.{Node}
 use Rattle.hg_types.specs.declared.entry.Entry.{Entry}
 use Rattle.hg_types.specs.declared.limits.Limits.{Limits}
 use Rattle.hg_types.specs.declared.part.Part.{Part}
 use Rattle.hg_types.specs.declared.phase.Phase.{Phase}
-use Rattle.hg_types.specs.Phase.{number_of}
 use Rattle.hg_log.specs.declared.add.Added.{Added}
 use Rattle.hg_log.specs.declared.add.Added.TheVariants.{New, Known}
 use Rattle.hg_log.specs.declared.add.AddFault.{AddFault}
@@ -17,45 +14,35 @@ use Rattle.hg_log.specs.declared.add.AddFault.TheVariants as add
 use Rattle.hg_log.specs.Answer as answer
 use Rattle.hg_log.specs.Answer.{◌>>=◌}
 use Rattle.hg_log.specs.Changeset.{Changeset, Log}
-use Rattle.hg_log.specs.HeadCount.{head_ids}
 use Rattle.hg_log.specs.NodeId.{node_id_of}
 use Rattle.hg_phases.specs.declared.fault.EntryFault.{EntryFault}
-use Rattle.hg_phases.specs.declared.fault.EntryFault.TheVariants as entry_fault
-use Rattle.hg_phases.specs.Entries.{entries_of, entries_in, is_entry}
+use Rattle.hg_phases.specs.Entries.{entries_of}
 use Rattle.hg_obs.specs.declared.fault.MarkerFault.{MarkerFault}
 use Rattle.hg_obs.specs.declared.marker.Marker.{Marker}
 use Rattle.hg_obs.specs.Reading.{markers_of}
 use Rattle.hg_keys.specs.declared.fault.KeyFault.{KeyFault}
 use Rattle.hg_keys.specs.declared.keys.KeyCall.{KeyCall}
-use Rattle.hg_keys.specs.Bookmarks.{Pairs, node_of}
-use Rattle.hg_keys.specs.Known.{phase_of_node}
+use Rattle.hg_keys.specs.Bookmarks.{Pairs}
 use Rattle.hg_keys.specs.Payload as bookmark
-use Rattle.hg_keys.specs.PushKey.{Keys, key_pushed, are_same, is_known_target}
+use Rattle.hg_keys.specs.PushKey.{Keys, key_pushed}
+use Rattle.hg_checks.specs.declared.kind.CheckKind.{CheckKind}
+use Rattle.hg_checks.specs.declared.fault.CheckFault.{CheckFault}
 use Rattle.hg_checks.specs.declared.fault.CheckFault.TheVariants as check
-use Rattle.hg_checks.specs.Checked.{Answer, and_then, all_checked}
-use Rattle.hg_checks.specs.Heads.{ids_in, are_same_ids}
-use Rattle.hg_checks.specs.Phases.{phase_is, phase_checked, phases_as_read}
-use Rattle.hg_checks.specs.Bookmarks.{bookmark_checked, bookmarks_as_read}
+use Rattle.hg_checks.specs.Checked.{Answer}
+use Rattle.hg_checks.specs.Checks.{checked as answer_to, CanTell}
 use Rattle.hg_cgroup.specs.Outcome.{outcome_of}
 use Rattle.hg_parts.specs.declared.source.Source.{Source}
 use Rattle.hg_parts.specs.declared.refusal.Refusal.{Refusal}
-use Rattle.hg_parts.specs.declared.refusal.RaceText.{RaceText}
-use Rattle.hg_parts.specs.declared.refusal.RaceText.TheVariants.{HeadsChanged, PhasesChanged}
-use Rattle.hg_parts.specs.declared.refusal.RaceText.TheVariants.{BookmarksChanged}
 use Rattle.hg_parts.specs.declared.table.PartType.{PartType}
-use Rattle.hg_parts.specs.declared.table.PartType.TheVariants.{ReplyCaps, CheckHeads, CheckPhases}
-use Rattle.hg_parts.specs.declared.table.PartType.TheVariants.{CheckBookmarks}
+use Rattle.hg_parts.specs.declared.table.PartType.TheVariants.{ReplyCaps, Check}
 use Rattle.hg_parts.specs.declared.table.PartType.TheVariants.{ChangeGroup, PhaseHeads, Bookmarks, Obsmarkers}
 use Rattle.hg_parts.specs.declared.table.PartType.TheVariants.{Pushkey}
 use Rattle.hg_parts.specs.declared.table.PartType.TheVariants.{Output, ErrorAbort}
 use Rattle.hg_parts.specs.Repository.{Repository}
 use Rattle.hg_parts.specs.Handled.{Outcome}
-use Rattle.hg_parts.specs.PartTypes.{Support, Supported, Unsupported, is_mandatory, support_of}
+use Rattle.hg_parts.specs.PartTypes.{Support, Supported, Unsupported, is_mandatory, race_text, support_of}
 use Rattle.hg_parts.specs.parts.Unsupported.{handle_unsupported}
-use Rattle.hg_parts.specs.parts.Checks.{handle_checked}
-use Rattle.hg_parts.specs.parts.CheckHeads.{handle_check_heads}
-use Rattle.hg_parts.specs.parts.CheckPhases.{handle_check_phases}
-use Rattle.hg_parts.specs.parts.CheckBookmarks.{handle_check_bookmarks}
+use Rattle.hg_parts.specs.parts.Check.{handle_checked}
 use Rattle.hg_parts.specs.parts.Changegroup as changegroup
 use Rattle.hg_parts.specs.parts.PhaseHeads as phase_heads
 use Rattle.hg_parts.specs.parts.Bookmarks as bookmarks
@@ -152,23 +139,11 @@ module _ {A : Type 0} where
 
 -- ---- each type of part
 
-abbrev IsRead : Result (List (Phase × Node)) EntryFault → Type 0
-IsRead (Ok entries) = Unit {0}
-IsRead (Err fault) = fault ≢ entry_fault.NoMemory
-
-read_choice : (test : Bool) (x y : Result (List (Phase × Node)) EntryFault) → IsRead x → IsRead y
-    → IsRead (cond test x y)
-read_choice true x y first second = first
-read_choice false x y first second = second
-
-pieces_read : (pieces : List (List ℕ)) → IsRead (entries_in pieces)
-unfolding entries_in
-pieces_read pieces = read_choice (list_all is_entry pieces) _ _ tt (λ is. cc)
-
-entries_read : (bytes : List ℕ) → IsRead (entries_of bytes)
-unfolding entries_of
-entries_read bytes = read_choice (length bytes % 24 == 0) _ _
-    (pieces_read (first_chunks 24 (length bytes / 24) bytes)) (λ is. cc)
+-- what the crate of checks says of the faults of each kind: its law, as a call gives it
+abbrev pub ChecksTell : Type 0
+ChecksTell = (kind : CheckKind) (rows : List Changeset) (phases : List Phase) (pairs : Pairs)
+    (payload : List ℕ) (fault : CheckFault) → answer_to kind rows phases pairs payload ≡ Err fault
+    → CanTell kind fault
 
 module _ {A : Type 0} where
   -- where the part is refused, it can be refused so
@@ -186,74 +161,28 @@ module _ {A : Type 0} where
   unsupported repo place part names =
       one_or_other place (Unsupported names) (is_mandatory part.kind) _ _ (refl, (names, refl, refl)) tt
 
-  -- a check as it is told of a part
-  abbrev ChecksAs : ℕ → PartType → RaceText → Repository A → Answer → Type 0
-  ChecksAs place part_type text repo given =
-      RefusesAs place (Supported part_type) (handle_checked repo place text given)
-
-  check_choice : (place : ℕ) (part_type : PartType) (text : RaceText) (repo : Repository A) (test : Bool)
-      (x y : Answer) → ChecksAs place part_type text repo x → ChecksAs place part_type text repo y
-      → ChecksAs place part_type text repo (cond test x y)
-  check_choice place part_type text repo true x y first second = first
-  check_choice place part_type text repo false x y first second = second
-
-  check_then : (place : ℕ) (part_type : PartType) (text : RaceText) (repo : Repository A)
-      (x y : Answer) → ChecksAs place part_type text repo x → ChecksAs place part_type text repo y
-      → ChecksAs place part_type text repo (and_then x y)
-  check_then place part_type text repo (Ok content) y first second = second
-  check_then place part_type text repo (Err fault) y first second = first
-
-  check_each : {X : Type 0} (place : ℕ) (part_type : PartType) (text : RaceText) (repo : Repository A)
-      (one : X → Answer) (entries : List X)
-      → ((x : X) → ChecksAs place part_type text repo (one x))
-      → ChecksAs place part_type text repo (all_checked one entries)
-  check_each place part_type text repo one [] each = tt
-  check_each place part_type text repo one (entry ∷ entries) each =
-      check_then place part_type text repo (one entry) (all_checked one entries) (each entry)
-      (check_each place part_type text repo one entries each)
-
-  check_heads : (repo : Repository A) (place : ℕ) (part : Part A)
-      → RefusesAs place (Supported CheckHeads) (handle_check_heads repo place part)
-  check_heads repo place part =
-      check_choice place CheckHeads HeadsChanged repo (length part.payload % 20 == 0) _ _
-      (check_choice place CheckHeads HeadsChanged repo
-      (are_same_ids (ids_in part.payload) (head_ids repo.rows)) _ _ tt (refl, refl))
-      (refl, (CheckHeads, refl, ((λ is. cc), (λ is. cc), λ is. cc)))
-
-  phase_present : (place : ℕ) (repo : Repository A) (present : Option Phase) (seen : Phase)
-      → ChecksAs place CheckPhases PhasesChanged repo (phase_is present seen)
-  phase_present place repo None seen = (refl, (CheckPhases, refl, inl refl))
-  phase_present place repo (Some present) seen =
-      check_choice place CheckPhases PhasesChanged repo (number_of present == number_of seen) _ _ tt
-      (refl, refl)
-
-  phases_read : (repo : Repository A) (place : ℕ) (entries : Result (List (Phase × Node)) EntryFault)
-      → IsRead entries
-      → ChecksAs place CheckPhases PhasesChanged repo (phases_as_read repo.rows repo.phases entries)
-  phases_read repo place (Ok entries) read =
-      check_each place CheckPhases PhasesChanged repo (phase_checked repo.rows repo.phases) entries
-      (λ entry. phase_present place repo (phase_of_node repo.rows repo.phases entry.1) entry.0)
-  phases_read repo place (Err entry_fault.Short) read =
-      (refl, (CheckPhases, refl, ((λ is. cc), (λ is. cc), λ is. cc)))
-  phases_read repo place (Err entry_fault.BadPhase) read =
-      (refl, (CheckPhases, refl, ((λ is. cc), (λ is. cc), λ is. cc)))
-  phases_read repo place (Err entry_fault.NoMemory) read = read refl
-
-  bookmark_one : (repo : Repository A) (place : ℕ) (entry : bookmark.Entry)
-      → ChecksAs place CheckBookmarks BookmarksChanged repo (bookmark_checked repo.rows repo.bookmarks entry)
-  bookmark_one repo place entry =
-      check_choice place CheckBookmarks BookmarksChanged repo (is_known_target repo.rows entry.0) _ _
-      (check_choice place CheckBookmarks BookmarksChanged repo
-      (are_same (node_of repo.bookmarks entry.1) entry.0) _ _ tt (refl, refl))
-      (refl, (CheckBookmarks, refl, inr (inl refl)))
-
-  bookmarks_read : (repo : Repository A) (place : ℕ) (entries : Option (List bookmark.Entry))
-      → ChecksAs place CheckBookmarks BookmarksChanged repo
-      (bookmarks_as_read repo.rows repo.bookmarks entries)
-  bookmarks_read repo place (Some entries) =
-      check_each place CheckBookmarks BookmarksChanged repo (bookmark_checked repo.rows repo.bookmarks)
-      entries (bookmark_one repo place)
-  bookmarks_read repo place None = (refl, (CheckBookmarks, refl, ((λ is. cc), (λ is. cc), λ is. cc)))
+  -- a check tells a fault that its kind can tell
+  checked : (repo : Repository A) (place : ℕ) (kind : CheckKind) (answer : Answer)
+      → ((fault : CheckFault) → answer ≡ Err fault → CanTell kind fault)
+      → RefusesAs place (Supported (Check kind)) (handle_checked repo place (race_text kind) answer)
+  checked repo place kind (Ok content) can = tt
+  checked repo place kind (Err check.Raced) can = (refl, (kind, refl, refl))
+  checked repo place kind (Err check.Short) can =
+      (refl, (Check kind, refl, ((λ is. cc), (λ is. cc), λ is. cc)))
+  checked repo place kind (Err check.BadPhase) can =
+      (refl, (Check kind, refl, ((λ is. cc), (λ is. cc), λ is. cc)))
+  checked repo place kind (Err check.UnknownNode) can = (
+    refl,
+    (
+      Check kind,
+      refl,
+      elim (can check.UnknownNode refl) [
+        | inl is ↦ inl (ap Check is)
+        | inr is ↦ inr (inl (ap Check is))
+      ],
+    ),
+  )
+  checked repo place kind (Err check.NoMemory) can = absurd (can check.NoMemory refl)
 
   phase_entries : (repo : Repository A) (place : ℕ) (entries : Result (List (Phase × Node)) EntryFault)
       → RefusesAs place (Supported PhaseHeads) (phase_heads.handle_read repo place entries)
@@ -323,15 +252,14 @@ module _ {A : Type 0} where
   targeted source repo replying place part None =
       (refl, (ChangeGroup, refl, ((λ is. cc), (λ is. cc), λ is. cc)))
 
+module _ {A : Type 0} (tell : ChecksTell) where
   supported : (source : Source) (repo : Repository A) (replying : Bool) (place : ℕ) (part : Part A)
       (part_type : PartType) → RefusesAs place (Supported part_type)
       (handle_supported source repo replying place part part_type)
   supported source repo replying place part ReplyCaps = tt
-  supported source repo replying place part CheckHeads = check_heads repo place part
-  supported source repo replying place part CheckPhases =
-      phases_read repo place (entries_of part.payload) (entries_read part.payload)
-  supported source repo replying place part CheckBookmarks =
-      bookmarks_read repo place (bookmark.entries_of part.payload)
+  supported source repo replying place part (Check kind) =
+      checked repo place kind (answer_to kind repo.rows repo.phases repo.bookmarks part.payload)
+      (tell kind repo.rows repo.phases repo.bookmarks part.payload)
   supported source repo replying place part PhaseHeads = phase_entries repo place (entries_of part.payload)
   supported source repo replying place part Bookmarks =
       bookmark_entries repo place (bookmark.entries_of part.payload)

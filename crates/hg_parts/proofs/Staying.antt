@@ -38,26 +38,21 @@ use Rattle.hg_keys.specs.Known.{AreOnKnown}
 use Rattle.hg_keys.specs.Payload as bookmark
 use Rattle.hg_keys.specs.PushKey.{Keys, AreLawful as AreLawfulKeys, is_known_target, key_pushed}
 use Rattle.hg_checks.specs.Checked.{Answer}
-use Rattle.hg_checks.specs.Heads.{heads_checked}
-use Rattle.hg_checks.specs.Phases.{phases_checked}
-use Rattle.hg_checks.specs.Bookmarks.{bookmarks_checked}
+use Rattle.hg_checks.specs.Checks.{checked as answer_to}
 use Rattle.hg_cgroup.specs.Outcome.{outcome_of}
 use Rattle.hg_parts.specs.declared.source.Source.{Source}
 use Rattle.hg_parts.specs.declared.source.Source.TheVariants.{Push, Seed}
 use Rattle.hg_parts.specs.declared.refusal.RaceText.{RaceText}
-use Rattle.hg_parts.specs.declared.refusal.RaceText.TheVariants.{HeadsChanged, PhasesChanged}
-use Rattle.hg_parts.specs.declared.refusal.RaceText.TheVariants.{BookmarksChanged}
 use Rattle.hg_parts.specs.declared.table.PartType.{PartType}
-use Rattle.hg_parts.specs.declared.table.PartType.TheVariants.{ReplyCaps, CheckHeads, CheckPhases}
-use Rattle.hg_parts.specs.declared.table.PartType.TheVariants.{CheckBookmarks}
+use Rattle.hg_parts.specs.declared.table.PartType.TheVariants.{ReplyCaps, Check}
 use Rattle.hg_parts.specs.declared.table.PartType.TheVariants.{ChangeGroup, PhaseHeads, Bookmarks, Obsmarkers}
 use Rattle.hg_parts.specs.declared.table.PartType.TheVariants.{Pushkey}
 use Rattle.hg_parts.specs.declared.table.PartType.TheVariants.{Output, ErrorAbort}
 use Rattle.hg_parts.specs.Repository.{Repository, IsLawful, empty_with}
 use Rattle.hg_parts.specs.Handled.{Handled, Outcome}
-use Rattle.hg_parts.specs.PartTypes.{Support, Supported, Unsupported, is_mandatory, support_of}
+use Rattle.hg_parts.specs.PartTypes.{Support, Supported, Unsupported, is_mandatory, race_text, support_of}
 use Rattle.hg_parts.specs.parts.Unsupported.{handle_unsupported}
-use Rattle.hg_parts.specs.parts.Checks.{handle_checked}
+use Rattle.hg_parts.specs.parts.Check.{handle_checked}
 use Rattle.hg_parts.specs.parts.Changegroup as changegroup
 use Rattle.hg_parts.specs.parts.PhaseHeads as phase_heads
 use Rattle.hg_parts.specs.parts.Bookmarks as bookmarks
@@ -346,10 +341,8 @@ module _ {A : Type 0} (laws : Laws A) where
         supported : (part_type : PartType)
             → LeavesLawful (handle_supported source repo replying place part part_type)
         supported ReplyCaps = lawful
-        supported CheckHeads = checked HeadsChanged (heads_checked repo.rows part.payload)
-        supported CheckPhases = checked PhasesChanged (phases_checked repo.rows repo.phases part.payload)
-        supported CheckBookmarks =
-            checked BookmarksChanged (bookmarks_checked repo.rows repo.bookmarks part.payload)
+        supported (Check kind) =
+            checked (race_text kind) (answer_to kind repo.rows repo.phases repo.bookmarks part.payload)
         supported PhaseHeads = phase_entries (entries_of part.payload)
         supported Bookmarks = bookmark_entries (bookmark.entries_of part.payload)
         supported Obsmarkers = markers (markers_of part.payload) refl

@@ -3,8 +3,7 @@ use Rattle.std.specs.Prelude.{ℕ, Bool, Ok, Err}
 use Rattle.hg_types.specs.declared.part.Part.{Part}
 use Rattle.hg_parts.specs.declared.source.Source.{Source}
 use Rattle.hg_parts.specs.declared.table.PartType.{PartType}
-use Rattle.hg_parts.specs.declared.table.PartType.TheVariants.{ReplyCaps, CheckHeads, CheckPhases}
-use Rattle.hg_parts.specs.declared.table.PartType.TheVariants.{CheckBookmarks}
+use Rattle.hg_parts.specs.declared.table.PartType.TheVariants.{ReplyCaps, Check}
 use Rattle.hg_parts.specs.declared.table.PartType.TheVariants.{ChangeGroup, PhaseHeads, Bookmarks, Obsmarkers}
 use Rattle.hg_parts.specs.declared.table.PartType.TheVariants.{Pushkey}
 use Rattle.hg_parts.specs.declared.table.PartType.TheVariants.{Output, ErrorAbort}
@@ -14,9 +13,7 @@ use Rattle.hg_parts.specs.Handled.{Outcome, nothing_done}
 use Rattle.hg_parts.specs.PartTypes.{Support, Supported, Unsupported, support_of}
 use Rattle.hg_parts.specs.parts.Unsupported.{handle_unsupported}
 use Rattle.hg_parts.specs.parts.Changegroup.{handle_changegroup}
-use Rattle.hg_parts.specs.parts.CheckHeads.{handle_check_heads}
-use Rattle.hg_parts.specs.parts.CheckPhases.{handle_check_phases}
-use Rattle.hg_parts.specs.parts.CheckBookmarks.{handle_check_bookmarks}
+use Rattle.hg_parts.specs.parts.Check.{handle_check}
 use Rattle.hg_parts.specs.parts.PhaseHeads.{handle_phase_heads}
 use Rattle.hg_parts.specs.parts.Bookmarks.{handle_bookmarks}
 use Rattle.hg_parts.specs.parts.Obsmarkers.{handle_obsmarkers}
@@ -25,9 +22,7 @@ use Rattle.hg_parts.specs.parts.Pushkey.{handle_pushkey}
 -- a supported part, by its type: the faults of its format, then the faults against the repository
 abbrev pub handle_supported : {A : Type 0} → Source → Repository A → Bool → ℕ → Part A → PartType → Outcome A
 handle_supported source repo replying place part ReplyCaps = Ok (nothing_done repo)
-handle_supported source repo replying place part CheckHeads = handle_check_heads repo place part
-handle_supported source repo replying place part CheckPhases = handle_check_phases repo place part
-handle_supported source repo replying place part CheckBookmarks = handle_check_bookmarks repo place part
+handle_supported source repo replying place part (Check kind) = handle_check kind repo place part
 handle_supported source repo replying place part PhaseHeads = handle_phase_heads repo place part
 handle_supported source repo replying place part Bookmarks = handle_bookmarks repo place part
 handle_supported source repo replying place part Obsmarkers = handle_obsmarkers repo replying place part

@@ -6,9 +6,13 @@ use Rattle.std.specs.Str.{str_to_ascii_lowercase, str_eq_ignore_ascii_case}
 use Rattle.std.specs.Char.{is_ascii_uppercase}
 use Rattle.hg_types.specs.declared.part.Part.{Part}
 use Rattle.hg_types.specs.declared.part.Param.{Param}
+use Rattle.hg_checks.specs.declared.kind.CheckKind.{CheckKind}
+use Rattle.hg_checks.specs.declared.kind.CheckKind.TheVariants as check
+use Rattle.hg_parts.specs.declared.refusal.RaceText.{RaceText}
+use Rattle.hg_parts.specs.declared.refusal.RaceText.TheVariants.{HeadsChanged, PhasesChanged}
+use Rattle.hg_parts.specs.declared.refusal.RaceText.TheVariants.{BookmarksChanged}
 use Rattle.hg_parts.specs.declared.table.PartType.{PartType}
-use Rattle.hg_parts.specs.declared.table.PartType.TheVariants.{ReplyCaps, CheckHeads, CheckPhases}
-use Rattle.hg_parts.specs.declared.table.PartType.TheVariants.{CheckBookmarks}
+use Rattle.hg_parts.specs.declared.table.PartType.TheVariants.{ReplyCaps, Check}
 use Rattle.hg_parts.specs.declared.table.PartType.TheVariants.{ChangeGroup, PhaseHeads, Bookmarks, Obsmarkers}
 use Rattle.hg_parts.specs.declared.table.PartType.TheVariants.{Pushkey}
 use Rattle.hg_parts.specs.declared.table.PartType.TheVariants.{Output, ErrorAbort}
@@ -23,9 +27,9 @@ pub record Row : Type 0 where
 abbrev pub table : List Row
 table =
     record { part_type = ReplyCaps; name = codes "replycaps"; known = [] }
-    ∷ record { part_type = CheckHeads; name = codes "check:heads"; known = [] }
-    ∷ record { part_type = CheckPhases; name = codes "check:phases"; known = [] }
-    ∷ record { part_type = CheckBookmarks; name = codes "check:bookmarks"; known = [] }
+    ∷ record { part_type = Check check.Heads; name = codes "check:heads"; known = [] }
+    ∷ record { part_type = Check check.Phases; name = codes "check:phases"; known = [] }
+    ∷ record { part_type = Check check.Bookmarks; name = codes "check:bookmarks"; known = [] }
     ∷ record { part_type = PhaseHeads; name = codes "phase-heads"; known = [] }
     ∷ record { part_type = Bookmarks; name = codes "bookmarks"; known = [] }
     ∷ record { part_type = Obsmarkers; name = codes "obsmarkers"; known = [] }
@@ -46,6 +50,12 @@ table =
       known = codes "message" ∷ codes "hint" ∷ [];
     }
     ∷ []
+
+-- what a race tells of a check of that kind
+abbrev pub race_text : CheckKind → RaceText
+race_text check.Heads = HeadsChanged
+race_text check.Phases = PhasesChanged
+race_text check.Bookmarks = BookmarksChanged
 
 -- the row of a type: types are compared without regard to case
 unfoldable pub row_of : List ℕ → Option Row

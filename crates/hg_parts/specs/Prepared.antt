@@ -8,8 +8,7 @@ use Rattle.hg_parts.specs.declared.prepared.Reading.TheVariants as reading
 use Rattle.hg_parts.specs.declared.refusal.Refusal.TheVariants.{BadPart, ClientAbort}
 use Rattle.hg_parts.specs.declared.source.Source.{Source}
 use Rattle.hg_parts.specs.declared.table.PartType.{PartType}
-use Rattle.hg_parts.specs.declared.table.PartType.TheVariants.{ReplyCaps, CheckHeads, CheckPhases}
-use Rattle.hg_parts.specs.declared.table.PartType.TheVariants.{CheckBookmarks}
+use Rattle.hg_parts.specs.declared.table.PartType.TheVariants.{ReplyCaps, Check}
 use Rattle.hg_parts.specs.declared.table.PartType.TheVariants.{ChangeGroup, PhaseHeads, Bookmarks, Obsmarkers}
 use Rattle.hg_parts.specs.declared.table.PartType.TheVariants.{Pushkey}
 use Rattle.hg_parts.specs.declared.table.PartType.TheVariants.{Output, ErrorAbort}
@@ -18,9 +17,7 @@ use Rattle.hg_parts.specs.Handled.{Outcome, nothing_done}
 use Rattle.hg_parts.specs.PartTypes.{Support, Supported, Unsupported, support_of, unsupported_names}
 use Rattle.hg_parts.specs.parts.Unsupported.{handle_unsupported}
 use Rattle.hg_parts.specs.parts.Changegroup.{read_changegroup, handle_group}
-use Rattle.hg_parts.specs.parts.CheckHeads.{handle_check_heads}
-use Rattle.hg_parts.specs.parts.CheckPhases.{handle_check_phases}
-use Rattle.hg_parts.specs.parts.CheckBookmarks.{handle_check_bookmarks}
+use Rattle.hg_parts.specs.parts.Check.{handle_check}
 use Rattle.hg_parts.specs.parts.PhaseHeads.{read_phase_heads, handle_entries as handle_heads}
 use Rattle.hg_parts.specs.parts.Bookmarks.{handle_bookmarks}
 use Rattle.hg_parts.specs.parts.Obsmarkers.{read_obsmarkers, handle_markers}
@@ -31,9 +28,7 @@ use Rattle.hg_parts.specs.parts.Pushkey.{handle_pushkey}
 -- a supported part, by its type: three types are read, the others wait for their turn
 abbrev pub read_supported : {A : Type 0} → Part A → PartType → Reading A
 read_supported part ReplyCaps = reading.ReplyCaps
-read_supported part CheckHeads = reading.CheckHeads
-read_supported part CheckPhases = reading.CheckPhases
-read_supported part CheckBookmarks = reading.CheckBookmarks
+read_supported part (Check kind) = reading.Check kind
 read_supported part PhaseHeads = read_phase_heads part
 read_supported part Bookmarks = reading.Bookmarks
 read_supported part Obsmarkers = read_obsmarkers part
@@ -93,9 +88,7 @@ handle_reading source repo replying place part reading.Unsupported =
     handle_unsupported repo place part (unsupported_names part)
 handle_reading source repo replying place part reading.Malformed = Err (BadPart place)
 handle_reading source repo replying place part reading.ReplyCaps = Ok (nothing_done repo)
-handle_reading source repo replying place part reading.CheckHeads = handle_check_heads repo place part
-handle_reading source repo replying place part reading.CheckPhases = handle_check_phases repo place part
-handle_reading source repo replying place part reading.CheckBookmarks = handle_check_bookmarks repo place part
+handle_reading source repo replying place part (reading.Check kind) = handle_check kind repo place part
 handle_reading source repo replying place part (reading.PhaseHeads entries) = handle_heads repo place entries
 handle_reading source repo replying place part reading.Bookmarks = handle_bookmarks repo place part
 handle_reading source repo replying place part (reading.Obsmarkers added) =

@@ -1,15 +1,15 @@
 -- Which parts can be refused, and how.
 use Rattle.std.specs.Prelude.{◌≡◌, ◌≢◌, ◌⊎◌, ℕ, List}
 use Rattle.hg_log.specs.declared.add.AddFault.TheVariants as add
+use Rattle.hg_checks.specs.declared.kind.CheckKind.{CheckKind}
+use Rattle.hg_checks.specs.declared.kind.CheckKind.TheVariants as check
 use Rattle.hg_parts.specs.declared.refusal.Refusal.{Refusal}
 use Rattle.hg_parts.specs.declared.refusal.Refusal.TheVariants as refusal
-use Rattle.hg_parts.specs.declared.refusal.RaceText.TheVariants.{HeadsChanged, PhasesChanged}
-use Rattle.hg_parts.specs.declared.refusal.RaceText.TheVariants.{BookmarksChanged}
 use Rattle.hg_parts.specs.declared.table.PartType.{PartType}
-use Rattle.hg_parts.specs.declared.table.PartType.TheVariants.{CheckHeads, CheckPhases, CheckBookmarks}
-use Rattle.hg_parts.specs.declared.table.PartType.TheVariants.{ReplyCaps, ChangeGroup, PhaseHeads, Bookmarks}
+use Rattle.hg_parts.specs.declared.table.PartType.TheVariants.{ReplyCaps, Check, ChangeGroup, PhaseHeads}
+use Rattle.hg_parts.specs.declared.table.PartType.TheVariants.{Bookmarks}
 use Rattle.hg_parts.specs.declared.table.PartType.TheVariants.{Pushkey, Output, ErrorAbort}
-use Rattle.hg_parts.specs.PartTypes.{Support, Supported, Unsupported}
+use Rattle.hg_parts.specs.PartTypes.{Support, Supported, Unsupported, race_text}
 
 -- the types whose parts have a format that bytes may not have
 abbrev pub HasFormat : PartType → Type 0
@@ -17,7 +17,7 @@ HasFormat part_type = (part_type ≢ ReplyCaps) × (part_type ≢ Output) × (pa
 
 -- the types whose parts name changesets that are to be known
 abbrev pub NamesChangesets : PartType → Type 0
-NamesChangesets part_type = (part_type ≡ CheckPhases) ⊎ (part_type ≡ CheckBookmarks)
+NamesChangesets part_type = (part_type ≡ Check check.Phases) ⊎ (part_type ≡ Check check.Bookmarks)
     ⊎ (part_type ≡ PhaseHeads) ⊎ (part_type ≡ Bookmarks)
 
 -- The part at this place, of this support, can be refused so. Out of memory is no refusal of a part, nor of
@@ -25,10 +25,8 @@ NamesChangesets part_type = (part_type ≡ CheckPhases) ⊎ (part_type ≡ Check
 abbrev pub CanBeRefused : {A : Type 0} → ℕ → Support → Refusal A → Type 0
 CanBeRefused place support (refusal.Unsupported at kind params) = (at ≡ place)
     × ((names : List (List ℕ)) × (support ≡ Unsupported names) × (params ≡ names))
-CanBeRefused place support (refusal.Raced at HeadsChanged) = (at ≡ place) × (support ≡ Supported CheckHeads)
-CanBeRefused place support (refusal.Raced at PhasesChanged) = (at ≡ place) × (support ≡ Supported CheckPhases)
-CanBeRefused place support (refusal.Raced at BookmarksChanged) =
-    (at ≡ place) × (support ≡ Supported CheckBookmarks)
+CanBeRefused place support (refusal.Raced at text) = (at ≡ place)
+    × ((kind : CheckKind) × (support ≡ Supported (Check kind)) × (text ≡ race_text kind))
 CanBeRefused place support (refusal.KeyFailed at id call) = (at ≡ place) × (support ≡ Supported Pushkey)
 CanBeRefused place support (refusal.BadPart at) = (at ≡ place)
     × ((part_type : PartType) × (support ≡ Supported part_type) × HasFormat part_type)

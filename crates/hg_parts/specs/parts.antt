@@ -1,9 +1,6 @@
 pub mod Unsupported
-pub mod Checks
+pub mod Check
 pub mod Changegroup
-pub mod CheckHeads
-pub mod CheckPhases
-pub mod CheckBookmarks
 pub mod PhaseHeads
 pub mod Bookmarks
 pub mod Obsmarkers

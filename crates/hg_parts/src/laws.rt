@@ -18,6 +18,7 @@ ghost use Rattle.hg_parts.specs.Store.{repository_of, empty_store, with_marks, w
 ghost use Rattle.hg_parts.specs.Store.{IsGrown, IsSound};
 
 use crate::store::Store;
+use hg_checks::laws::checks_tell_their_faults;
 use hg_keys::{bookmarks_stay_lawful, keys_stay_lawful};
 use hg_log::answers_keep_rows_lawful;
 use hg_obs::{markers_stay_lawful, reading_is_the_grammar as markers_are_read};
@@ -38,7 +39,9 @@ pub fn refusals_tell_their_parts<A: Allocator>()
     ensures { (source : AnySource) (repo : Repository A) (replying : Bool) (place : ℕ) (part : AnyPart A)
         (refusal : AnyRefusal A) → handle source repo replying place part ≡ Err refusal
         → CanBeRefused place (support_of part) refusal }
-{}
+{
+    checks_tell_their_faults();
+}
 
 /// The empty repository is lawful, and a part that is handled on a lawful repository leaves a lawful one,
 /// whatever its type: by the definitions alone. The payload of a part is bytes.

@@ -1,8 +1,8 @@
 //! What each type of part asks of a repository.
 //!
 //! A [`Store`] is what parts change in place: the changelog, the phases, the markers and the bookmarks.
-//! [`handle_part`] handles one part on it, and gives its reply, if it has one, or the [`Refusal`] of its
-//! push. [`Store::mark`] and [`Store::back_to`] take back what a push did. Contracts see a repository as a
+//! [`handle_part`] handles one part on it, in its [`Turn`], and gives its reply, if it has one, or the
+//! [`Refusal`] of its push. [`Store::mark`] and [`Store::back_to`] take back what a push did. Contracts see a repository as a
 //! value, the record `Repository`, and handling as the function `handle` on it.
 //!
 //! Each type of part is a module of `parts`, with its definition beside it in `specs/parts`. Nothing here
@@ -19,6 +19,7 @@ mod replies;
 mod source;
 mod store;
 mod table;
+mod turn;
 
 pub use handle::{handle_part, handle_prepared};
 pub use prepared::{Prepared, prepare};
@@ -26,3 +27,4 @@ pub use refusal::{RaceText, Refusal};
 pub use source::Source;
 pub use store::{Store, StoreMark};
 pub use table::starts_replies;
+pub use turn::Turn;

@@ -6,20 +6,17 @@
 //! parameters first, whose faults are `Refusal::BadPart`, and then meets the repository.
 //!
 //! - One that changes nothing takes `&Store`, and ensures `NothingGives` of its definition, whatever the
-//!   settings.
-//! - One that changes something takes `&mut Store`, and has the clauses of `handle_part`: the store stays
-//!   sound where the part is handled, it grows at most, a reply can be written, and it gives what its
-//!   definition says.
+//!   settings. The checks are one such type, `check`, each of a kind of `hg_checks`.
+//! - One that changes something takes `&mut Store` and its `Turn`, and owes the record `Handles` of its
+//!   definition: the store stays sound where the part is handled, it grows at most, a reply can be written, and
+//!   it gives what its definition says.
 //!
 //! A type of part that asks nothing has no module: `replycaps` and `output`, whose payloads are not looked
 //! at, and `error:abort`, which ends its push.
 
 pub mod bookmarks;
 pub mod changegroup;
-pub mod check_bookmarks;
-pub mod check_heads;
-pub mod check_phases;
-pub mod checks;
+pub mod check;
 pub mod obsmarkers;
 pub mod phase_heads;
 pub mod pushkey;

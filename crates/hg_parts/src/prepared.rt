@@ -16,6 +16,7 @@ use crate::parts::changegroup::read_changegroup;
 use crate::parts::obsmarkers::{MarkerData, read_obsmarkers};
 use crate::parts::phase_heads::read_phase_heads;
 use crate::table::{PartType, supported_type};
+use hg_checks::CheckKind;
 use hg_types::{Entry, NoMemory, Node, Part, Phase, Seq};
 use std::alloc::{Allocator, Global};
 
@@ -27,9 +28,7 @@ pub enum Reading<A: Allocator = Global> {
     /// Its bytes do not have the format of its type.
     Malformed,
     ReplyCaps,
-    CheckHeads,
-    CheckPhases,
-    CheckBookmarks,
+    Check(CheckKind),
     /// The changesets of `phase-heads`, each after its phase.
     PhaseHeads(Seq<(Phase, Node), A>),
     Bookmarks,
@@ -92,9 +91,7 @@ fn is_read<A: Allocator>(reading: &Reading<A>) -> bool
         | Reading::Obsmarkers(_)
         | Reading::ChangeGroup { .. } => true,
         Reading::ReplyCaps
-        | Reading::CheckHeads
-        | Reading::CheckPhases
-        | Reading::CheckBookmarks
+        | Reading::Check(_)
         | Reading::Bookmarks
         | Reading::Pushkey
         | Reading::Output
@@ -118,9 +115,7 @@ pub fn read_part<A: Allocator + Copy>(alloc: A, part: &Part<A>) -> Result<Readin
     };
     match part_type {
         PartType::ReplyCaps => Ok(Reading::ReplyCaps),
-        PartType::CheckHeads => Ok(Reading::CheckHeads),
-        PartType::CheckPhases => Ok(Reading::CheckPhases),
-        PartType::CheckBookmarks => Ok(Reading::CheckBookmarks),
+        PartType::Check(kind) => Ok(Reading::Check(kind)),
         PartType::PhaseHeads => read_phase_heads(alloc, part),
         PartType::Bookmarks => Ok(Reading::Bookmarks),
         PartType::Obsmarkers => read_obsmarkers(alloc, part),

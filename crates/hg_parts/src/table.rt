@@ -8,10 +8,12 @@ ghost use Rattle.std.specs.Prelude.{◌≡◌, IfOk, IfNone, IfSome, option_map,
 ghost use Rattle.std.specs.Prelude.{map};
 ghost use Rattle.std.specs.List.{list_any};
 ghost use Rattle.std.specs.Str.{str_eq_ignore_ascii_case};
-ghost use Rattle.hg_parts.specs.PartTypes.{table, row_of, is_reply_caps, is_unknown, support_of};
-ghost use Rattle.hg_parts.specs.PartTypes.{unsupported_names, Supported, Unsupported};
+ghost use Rattle.hg_parts.specs.PartTypes.{table, race_text, row_of, is_reply_caps, is_unknown};
+ghost use Rattle.hg_parts.specs.PartTypes.{support_of, unsupported_names, Supported, Unsupported};
 ghost use Rattle.hg_parts.specs.code.Table.{row_value};
 
+use crate::refusal::RaceText;
+use hg_checks::CheckKind;
 use hg_types::{NoMemory, Param, Part, Seq, TryClone};
 use std::alloc::Allocator;
 
@@ -21,12 +23,8 @@ pub enum PartType {
     /// `replycaps`: what the client can read in a reply. Parts handled after it leave replies. Its payload
     /// is not looked at.
     ReplyCaps,
-    /// `check:heads`: the heads that the client saw.
-    CheckHeads,
-    /// `check:phases`: the phases that the client saw.
-    CheckPhases,
-    /// `check:bookmarks`: the bookmarks that the client saw.
-    CheckBookmarks,
+    /// `check:heads` and others: what the client saw of what its kind says.
+    Check(CheckKind),
     /// `phase-heads`: changesets that are in a lower phase at the client.
     PhaseHeads,
     /// `bookmarks`: names, and the changeset that each is to be on.
@@ -59,17 +57,17 @@ static TABLE: &[Row] = &[
         known: &[],
     },
     Row {
-        part_type: PartType::CheckHeads,
+        part_type: PartType::Check(CheckKind::Heads),
         name: b"check:heads",
         known: &[],
     },
     Row {
-        part_type: PartType::CheckPhases,
+        part_type: PartType::Check(CheckKind::Phases),
         name: b"check:phases",
         known: &[],
     },
     Row {
-        part_type: PartType::CheckBookmarks,
+        part_type: PartType::Check(CheckKind::Bookmarks),
         name: b"check:bookmarks",
         known: &[],
     },
@@ -159,6 +157,17 @@ fn row_of(kind: &[u8]) -> Option<&'static Row>
     ensures { option_map row_value (option_copied result) ≡ row_of kind.now }
 {
     find_row(rows(), kind)
+}
+
+/// What a race tells of a check of that kind.
+pub fn race_text(kind: CheckKind) -> RaceText
+    ensures { result ≡ race_text kind }
+{
+    match kind {
+        CheckKind::Heads => RaceText::HeadsChanged,
+        CheckKind::Phases => RaceText::PhasesChanged,
+        CheckKind::Bookmarks => RaceText::BookmarksChanged,
+    }
 }
 
 /// The type of a part, if it is supported.

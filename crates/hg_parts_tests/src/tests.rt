@@ -8,7 +8,7 @@ mod steps;
 use hg_log::node_id;
 use hg_parts::laws::marks_keep_stores_sound;
 use hg_parts::{
-    RaceText, Refusal, Source, Store, handle_part, handle_prepared, prepare, starts_replies,
+    RaceText, Refusal, Source, Store, Turn, handle_part, handle_prepared, prepare, starts_replies,
 };
 use hg_types::{Limits, NoMemory, Node, Param, Part, Phase, Seq, Settings};
 use linked_list_allocator::LocalHeap;
@@ -173,15 +173,13 @@ fn handled<A: Allocator + Copy>(
     part: &Part<A>,
 ) -> Result<Option<Part<A>>, Refusal<A>> {
     let mark = held.store.mark();
-    match handle_part(
-        alloc,
-        &mut held.store,
-        &held.settings,
+    let turn = Turn {
+        settings: held.settings,
         source,
-        true,
-        0,
-        part,
-    ) {
+        replying: true,
+        place: 0,
+    };
+    match handle_part(alloc, &mut held.store, turn, part) {
         Ok(reply) => Ok(reply),
         Err(refusal) => {
             held.store.back_to(mark);
@@ -306,8 +304,13 @@ fn cloned(alloc: Global, state: RandomState) -> Result<bool, NoMemory> {
     );
     let mut copy = held.store.try_clone(alloc)?;
     let prepared = prepare(alloc, group(alloc, &[child(ROOT, NULL, b'b')])?)?;
-    let settings = held.settings;
-    let answer = handle_prepared(alloc, &mut copy, &settings, Source::Push, true, 0, prepared);
+    let turn = Turn {
+        settings: held.settings,
+        source: Source::Push,
+        replying: true,
+        place: 0,
+    };
+    let answer = handle_prepared(alloc, &mut copy, turn, prepared);
     let rows = (held.store.log.len(), copy.log.len());
     let told = Came::Told(false, b'1');
     drop(held);

@@ -9,7 +9,9 @@ ghost use Rattle.hg_repo.specs.Run.{run_of, with_reply, PartsGive};
 ghost use Rattle.hg_repo.specs.Replies.{AreReplies};
 
 use crate::done::Done;
-use hg_parts::{Prepared, Refusal, Source, Store, handle_part, handle_prepared, starts_replies};
+use hg_parts::{
+    Prepared, Refusal, Source, Store, Turn, handle_part, handle_prepared, starts_replies,
+};
 use hg_types::{NoMemory, Part, Seq, Settings};
 use std::alloc::Allocator;
 
@@ -33,7 +35,13 @@ pub fn run_parts<A: Allocator + Copy>(
     let mut replies = Seq::new(alloc);
     let mut replying = false;
     for (place, part) in parts.iter().enumerate() {
-        let reply = handle_part(alloc, store, settings, source, replying, place as u32, part)?;
+        let turn = Turn {
+            settings: *settings,
+            source,
+            replying,
+            place: place as u32,
+        };
+        let reply = handle_part(alloc, store, turn, part)?;
         keep_reply(&mut replies, reply)?;
         replying = replying || starts_replies(part);
     }
@@ -64,7 +72,13 @@ pub fn run_prepared<A: Allocator + Copy>(
     let mut place = 0;
     for part in prepared {
         let starts = part.starts_replies();
-        let reply = handle_prepared(alloc, store, settings, source, replying, place, part)?;
+        let turn = Turn {
+            settings: *settings,
+            source,
+            replying,
+            place,
+        };
+        let reply = handle_prepared(alloc, store, turn, part)?;
         keep_reply(&mut replies, reply)?;
         replying = replying || starts;
         place += 1;

@@ -6,16 +6,17 @@
 //! known. Then each name is set or deleted, in order, whatever it is.
 
 ghost use Rattle.std.specs.Prelude.{◌≡◌, true, OnOk};
-ghost use Rattle.hg_parts.specs.Handled.{NothingGives};
+ghost use Rattle.hg_parts.specs.Handled.{Handles};
 ghost use Rattle.hg_keys.specs.Known.{AreOnKnown};
-ghost use Rattle.hg_parts.specs.Store.{repository_of, IsSound, IsGrown};
+ghost use Rattle.hg_parts.specs.Store.{repository_of, IsSound};
 ghost use Rattle.hg_parts.specs.parts.Bookmarks.{are_known, set_each, handle_bookmarks};
 
 use crate::refusal::Refusal;
 use crate::store::Store;
+use crate::turn::Turn;
 use hg_keys::{BookmarkFault, Bookmarks, is_known_target, read_bookmarks};
 use hg_log::Changelog;
-use hg_types::{NoMemory, Node, Part, Seq, Settings};
+use hg_types::{NoMemory, Node, Part, Seq};
 use std::alloc::Allocator;
 
 /// Sets the bookmarks in the payload.
@@ -25,16 +26,15 @@ use std::alloc::Allocator;
 pub fn handle_bookmarks<A: Allocator + Copy>(
     alloc: A,
     store: &mut Store<A>,
-    settings: &Settings,
-    place: u32,
+    turn: Turn,
     part: &Part<A>,
-) -> Result<(), Refusal<A>>
-    requires { IsSound settings.now store.old }
-    ensures sound { OnOk result (IsSound settings.now store.new) }
-    ensures grown { IsGrown store.old store.new }
-    ensures gives { NothingGives (handle_bookmarks (repository_of settings.now store.old) place part.now)
-        (repository_of settings.now store.new) result }
+) -> Result<Option<Part<A>>, Refusal<A>>
+    requires { IsSound turn.settings store.old }
+    ensures { Handles turn
+        (handle_bookmarks (repository_of turn.settings store.old) turn.place part.now)
+        store.old store.new result }
 {
+    let place = turn.place;
     let entries = match read_bookmarks(alloc, part.payload.as_slice()) {
         Ok(entries) => entries,
         Err(BookmarkFault::NoMemory) => return Err(Refusal::NoMemory),
@@ -44,7 +44,7 @@ pub fn handle_bookmarks<A: Allocator + Copy>(
         return Err(Refusal::UnknownNode { place });
     }
     set_each(alloc, &store.log, &mut store.bookmarks, entries.as_slice())?;
-    Ok(())
+    Ok(None)
 }
 
 /// Whether the changeset of each entry is known.

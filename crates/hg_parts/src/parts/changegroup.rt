@@ -19,7 +19,7 @@ ghost use Rattle.std.specs.Prelude.{◌≡◌, ◌<◌, ◌^◌, ◌++◌, All, 
 ghost use Rattle.std.specs.Option.{option_to_list};
 ghost use Rattle.hg_log.specs.Answer.{answer_of};
 ghost use Rattle.hg_phases.specs.Phases.{AreFor};
-ghost use Rattle.hg_parts.specs.Handled.{HandleGives};
+ghost use Rattle.hg_parts.specs.Handled.{Handles};
 ghost use Rattle.hg_parts.specs.Replies.{IsReply};
 ghost use Rattle.hg_parts.specs.Store.{repository_of, IsSound, IsGrown};
 ghost use Rattle.hg_parts.specs.parts.Changegroup.{phase_named, target_of, version_of, phase_for, grown_by};
@@ -33,6 +33,7 @@ use crate::refusal::Refusal;
 use crate::replies::reply_part;
 use crate::source::Source;
 use crate::store::Store;
+use crate::turn::Turn;
 use hg_cgroup::{GroupFault, decode};
 use hg_log::{AddFault, Added, Changelog};
 use hg_phases::Phases;
@@ -63,56 +64,56 @@ pub fn read_changegroup<A: Allocator + Copy>(
 pub fn handle_group<A: Allocator + Copy>(
     alloc: A,
     store: &mut Store<A>,
-    settings: &Settings,
-    source: Source,
-    replying: bool,
-    place: u32,
+    turn: Turn,
     part: &Part<A>,
     target: Phase,
     entries: &[Entry<A>],
 ) -> Result<Option<Part<A>>, Refusal<A>>
-    requires { IsSound settings.now store.old }
-    ensures sound { OnOk result (IsSound settings.now store.new) }
-    ensures grown { IsGrown store.old store.new }
-    ensures reply { IfOk result (λ reply. IfSome reply IsReply) }
-    ensures gives { HandleGives
-        (handle_group source
-        (repository_of settings.now store.old) replying place part.now target entries.now)
-        (repository_of settings.now store.new) result }
+    requires { IsSound turn.settings store.old }
+    ensures { Handles turn
+        (handle_group turn.source (repository_of turn.settings store.old) turn.replying turn.place part.now
+        target entries.now)
+        store.old store.new result }
 {
-    let t = phase_for(source, settings, target);
-    handle_entries(
-        alloc, store, settings, source, replying, place, part, t, entries,
-    )
+    let t = phase_for(turn.source, &turn.settings, target);
+    handle_entries(alloc, store, turn, part, t, entries)
 }
 
 /// Adds the entries at that phase, and gives the reply.
 fn handle_entries<A: Allocator + Copy>(
     alloc: A,
     store: &mut Store<A>,
-    settings: &Settings,
-    source: Source,
-    replying: bool,
-    place: u32,
+    turn: Turn,
     part: &Part<A>,
     t: Phase,
     entries: &[Entry<A>],
 ) -> Result<Option<Part<A>>, Refusal<A>>
-    requires { IsSound settings.now store.old }
-    ensures sound { OnOk result (IsSound settings.now store.new) }
-    ensures grown { IsGrown store.old store.new }
-    ensures reply { IfOk result (λ reply. IfSome reply IsReply) }
-    ensures gives { HandleGives
-        (handle_entries source (repository_of settings.now store.old) replying place part.now t entries.now)
-        (repository_of settings.now store.new) result }
+    requires { IsSound turn.settings store.old }
+    ensures { Handles turn
+        (handle_entries turn.source (repository_of turn.settings store.old) turn.replying turn.place part.now
+        t entries.now)
+        store.old store.new result }
 {
     let before = store.log.head_count();
-    match add_each(store, settings, t, entries) {
-        Err(fault) => return Err(refusal_for(place, fault)),
+    match add_each(store, &turn.settings, t, entries) {
+        Err(fault) => return Err(refusal_for(turn.place, fault)),
         Ok(()) => (),
     }
-    advance_group(alloc, &store.log, &mut store.phases, source, t, entries)?;
-    let reply = reply_to_group(alloc, replying, part.id, before, store.log.head_count())?;
+    advance_group(
+        alloc,
+        &store.log,
+        &mut store.phases,
+        turn.source,
+        t,
+        entries,
+    )?;
+    let reply = reply_to_group(
+        alloc,
+        turn.replying,
+        part.id,
+        before,
+        store.log.head_count(),
+    )?;
     Ok(reply)
 }
 

@@ -4,18 +4,19 @@
 //! "obsmarkers"); what is none is a fault of format. Each marker that is not there yet is added, in order.
 //! The reply `reply:obsmarkers` tells in `new` how many these are.
 
-ghost use Rattle.std.specs.Prelude.{◌≡◌, IfOk, IfSome, OnOk};
-ghost use Rattle.hg_parts.specs.Handled.{HandleGives};
+ghost use Rattle.std.specs.Prelude.{◌≡◌, IfOk, IfSome};
+ghost use Rattle.hg_parts.specs.Handled.{Handles};
 ghost use Rattle.hg_parts.specs.Replies.{reply_where, IsReply};
-ghost use Rattle.hg_parts.specs.Store.{repository_of, IsSound, IsGrown};
+ghost use Rattle.hg_parts.specs.Store.{repository_of, IsSound};
 ghost use Rattle.hg_parts.specs.parts.Obsmarkers.{reply_to_markers, read_obsmarkers, handle_markers};
 
 use crate::prepared::Reading;
 use crate::refusal::Refusal;
 use crate::replies::reply_part;
 use crate::store::Store;
+use crate::turn::Turn;
 use hg_obs::{Marker, MarkerFault, markers_stay_lawful, read_markers};
-use hg_types::{NoMemory, Part, Seq, Settings};
+use hg_types::{NoMemory, Part, Seq};
 use std::alloc::{Allocator, Global};
 use std::marker::Model;
 
@@ -61,24 +62,19 @@ pub fn read_obsmarkers<A: Allocator + Copy>(
 pub fn handle_markers<A: Allocator + Copy>(
     alloc: A,
     store: &mut Store<A>,
-    settings: &Settings,
-    replying: bool,
-    place: u32,
+    turn: Turn,
     part: &Part<A>,
     markers: MarkerData<A>,
 ) -> Result<Option<Part<A>>, Refusal<A>>
-    requires { IsSound settings.now store.old }
-    ensures sound { OnOk result (IsSound settings.now store.new) }
-    ensures grown { IsGrown store.old store.new }
-    ensures reply { IfOk result (λ reply. IfSome reply IsReply) }
-    ensures gives { HandleGives (handle_markers
-        (repository_of settings.now store.old) replying place part.now markers)
-        (repository_of settings.now store.new) result }
+    requires { IsSound turn.settings store.old }
+    ensures { Handles turn
+        (handle_markers (repository_of turn.settings store.old) turn.replying turn.place part.now markers)
+        store.old store.new result }
 {
     markers_stay_lawful::<A>();
     let MarkerData { list } = markers;
     let count = store.markers.merge(list)?;
-    let reply = reply_to_markers(alloc, replying, part.id, count)?;
+    let reply = reply_to_markers(alloc, turn.replying, part.id, count)?;
     Ok(reply)
 }
 

@@ -8,8 +8,8 @@
 
 ghost use Rattle.std.specs.Prelude.{◌≡◌, ◌<◌, All, length, IfOk, IfSome, OnOk};
 ghost use Rattle.hg_phases.specs.Phases.{AreFor};
-ghost use Rattle.hg_parts.specs.Handled.{NothingGives};
-ghost use Rattle.hg_parts.specs.Store.{repository_of, IsSound, IsGrown};
+ghost use Rattle.hg_parts.specs.Handled.{Handles};
+ghost use Rattle.hg_parts.specs.Store.{repository_of, IsSound};
 ghost use Rattle.hg_parts.specs.parts.PhaseHeads.{are_known, advance_each, advanced_to, head_in, heads_of};
 ghost use Rattle.hg_parts.specs.parts.PhaseHeads.{handle_entries, read_phase_heads};
 
@@ -17,10 +17,11 @@ use crate::parts::changegroup::push_some;
 use crate::prepared::Reading;
 use crate::refusal::Refusal;
 use crate::store::Store;
+use crate::turn::Turn;
 use hg_keys::is_known;
 use hg_log::Changelog;
 use hg_phases::{EntryFault, Phases, read_entries};
-use hg_types::{NoMemory, Node, Part, Phase, Settings};
+use hg_types::{NoMemory, Node, Part, Phase};
 use std::alloc::Allocator;
 
 /// Reads the payload. One that is no entries is a fault of the format.
@@ -41,21 +42,19 @@ pub fn read_phase_heads<A: Allocator + Copy>(
 pub fn handle_phase_heads<A: Allocator + Copy>(
     alloc: A,
     store: &mut Store<A>,
-    settings: &Settings,
-    place: u32,
+    turn: Turn,
     entries: &[(Phase, Node)],
-) -> Result<(), Refusal<A>>
-    requires { IsSound settings.now store.old }
-    ensures sound { OnOk result (IsSound settings.now store.new) }
-    ensures grown { IsGrown store.old store.new }
-    ensures gives { NothingGives (handle_entries (repository_of settings.now store.old) place entries.now)
-        (repository_of settings.now store.new) result }
+) -> Result<Option<Part<A>>, Refusal<A>>
+    requires { IsSound turn.settings store.old }
+    ensures { Handles turn
+        (handle_entries (repository_of turn.settings store.old) turn.place entries.now)
+        store.old store.new result }
 {
     if !are_known(&store.log, entries) {
-        return Err(Refusal::UnknownNode { place });
+        return Err(Refusal::UnknownNode { place: turn.place });
     }
     advance_each(alloc, &store.log, &mut store.phases, entries)?;
-    Ok(())
+    Ok(None)
 }
 
 /// Whether the changeset of each entry is known.

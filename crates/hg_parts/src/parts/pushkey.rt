@@ -6,10 +6,10 @@
 //! part whose call does not take effect refuses the push. The reply `reply:pushkey` tells in `return` whether
 //! it did, 1 or 0. The payload is not looked at.
 
-ghost use Rattle.std.specs.Prelude.{◌≡◌, Some, IfOk, IfSome, OnOk};
-ghost use Rattle.hg_parts.specs.Handled.{HandleGives};
+ghost use Rattle.std.specs.Prelude.{◌≡◌, Some, IfOk, IfSome};
+ghost use Rattle.hg_parts.specs.Handled.{Handles};
 ghost use Rattle.hg_parts.specs.Replies.{reply_where, IsReply};
-ghost use Rattle.hg_parts.specs.Store.{repository_of, IsSound, IsGrown};
+ghost use Rattle.hg_parts.specs.Store.{repository_of, IsSound};
 ghost use Rattle.hg_parts.specs.parts.Pushkey.{call_of, is_refused, refusal_of, reply_to_key, result_text};
 ghost use Rattle.hg_parts.specs.parts.Pushkey.{handle_call, handle_pushkey};
 
@@ -17,8 +17,9 @@ use crate::params::value_of;
 use crate::refusal::Refusal;
 use crate::replies::reply_part;
 use crate::store::Store;
+use crate::turn::Turn;
 use hg_keys::{KeyCall, KeyFault, push_key};
-use hg_types::{NoMemory, Param, Part, Seq, Settings};
+use hg_types::{NoMemory, Param, Part, Seq};
 use std::alloc::Allocator;
 
 /// Sets the key.
@@ -28,43 +29,34 @@ use std::alloc::Allocator;
 pub fn handle_pushkey<A: Allocator + Copy>(
     alloc: A,
     store: &mut Store<A>,
-    settings: &Settings,
-    replying: bool,
-    place: u32,
+    turn: Turn,
     part: &Part<A>,
 ) -> Result<Option<Part<A>>, Refusal<A>>
-    requires { IsSound settings.now store.old }
-    ensures sound { OnOk result (IsSound settings.now store.new) }
-    ensures grown { IsGrown store.old store.new }
-    ensures reply { IfOk result (λ reply. IfSome reply IsReply) }
-    ensures gives { HandleGives (handle_pushkey
-        (repository_of settings.now store.old) replying place part.now)
-        (repository_of settings.now store.new) result }
+    requires { IsSound turn.settings store.old }
+    ensures { Handles turn
+        (handle_pushkey (repository_of turn.settings store.old) turn.replying turn.place part.now)
+        store.old store.new result }
 {
     let Some(call) = call_of(alloc, part.params.as_slice())? else {
-        return Err(Refusal::BadPart { place });
+        return Err(Refusal::BadPart { place: turn.place });
     };
-    handle_call(alloc, store, settings, replying, place, part, call)
+    handle_call(alloc, store, turn, part, call)
 }
 
 /// Makes the call, and gives the reply.
 fn handle_call<A: Allocator + Copy>(
     alloc: A,
     store: &mut Store<A>,
-    settings: &Settings,
-    replying: bool,
-    place: u32,
+    turn: Turn,
     part: &Part<A>,
     call: KeyCall<A>,
 ) -> Result<Option<Part<A>>, Refusal<A>>
-    requires { IsSound settings.now store.old }
-    ensures sound { OnOk result (IsSound settings.now store.new) }
-    ensures grown { IsGrown store.old store.new }
-    ensures reply { IfOk result (λ reply. IfSome reply IsReply) }
-    ensures gives { HandleGives (handle_call (repository_of settings.now store.old) replying place part.now
-        (Some call))
-        (repository_of settings.now store.new) result }
+    requires { IsSound turn.settings store.old }
+    ensures { Handles turn
+        (handle_call (repository_of turn.settings store.old) turn.replying turn.place part.now (Some call))
+        store.old store.new result }
 {
+    let place = turn.place;
     let done = match push_key(
         alloc,
         &store.log,
@@ -83,7 +75,7 @@ fn handle_call<A: Allocator + Copy>(
             call,
         });
     }
-    let reply = reply_to_key(alloc, replying, part.id, done)?;
+    let reply = reply_to_key(alloc, turn.replying, part.id, done)?;
     Ok(reply)
 }
 

@@ -496,8 +496,14 @@ fn handle_both<A: Allocator + Copy>(
     ensures grown { IsGrown store.old store.new }
 {
     growing_adds_up::<A>();
-    let _reply = handle_part(alloc, store, settings, Source::Push, true, 0, first)?;
-    handle_part(alloc, store, settings, Source::Push, true, 1, second)
+    let turn = Turn {
+        settings: *settings,
+        source: Source::Push,
+        replying: true,
+        place: 0,
+    };
+    let _reply = handle_part(alloc, store, turn, first)?;
+    handle_part(alloc, store, Turn { place: 1, ..turn }, second)
 }
 
 /// What becomes of a push of two parts. The store goes back where one is refused.

@@ -1,7 +1,7 @@
 use Rattle.std.proofs.Common.{rules, ◌≡◌, ◌≢◌, ◌↔◌, sym, ◌∙◌, true, false, arith, length, AllPairs, IsTrue}
 use Rattle.std.proofs.lemmas.Result.{IfOk-weaker}
 use Rattle.hg_log.specs.HeadCount.{head_ids}
-use Rattle.hg_checks.specs.Heads.{are_same_ids}
+use Rattle.hg_checks.specs.Checks.{are_same_ids}
 use Rattle.hg_checks.proofs.HeadTests.{other_number, no_head, heads_or_twice}
 use Rattle.hg_checks.proofs.heads.are_heads.Goals as goal
 use Rattle.hg_checks.proofs.heads.are_heads.Goals.{then-ids-head_count-via-then-ids-head_count}

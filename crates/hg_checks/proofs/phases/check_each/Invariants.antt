@@ -1,6 +1,6 @@
 use Rattle.std.proofs.Common.{◌≡◌, drop}
 use Rattle.hg_checks.specs.Checked.{all_checked}
-use Rattle.hg_checks.specs.Phases.{phase_checked}
+use Rattle.hg_checks.specs.Checks.{phase_checked}
 use Rattle.hg_checks.proofs.phases.check_each.Given as goal
 
 -- the entries that are left decide

@@ -7,8 +7,8 @@ use Rattle.hg_parts.proofs.handle.handle_prepared.Goals as goal
 
 pub returns-clause-gives : goal.returns-clause-gives
 returns-clause-gives g c = λ part made.
-    let repo : Repository g.row.A.Denot = repository_of c.args.settings.now c.args.store.now in
-    let new : Repository g.row.A.Denot = repository_of c.args.settings.now c.handle_reading.new.store in
+    let repo : Repository g.row.A.Denot = repository_of c.args.turn.settings c.args.store.now in
+    let new : Repository g.row.A.Denot = repository_of c.args.turn.settings c.handle_reading.new.store in
     subst (λ (given : Outcome g.row.A.Denot). HandleGives given new c.handle_reading.result)
-    (sym (made_handled c.args.source repo c.args.replying c.args.place part c.args.prepared made))
+    (sym (made_handled c.args.turn.source repo c.args.turn.replying c.args.turn.place part c.args.prepared made))
     c.handle_reading.ensures.gives

@@ -1,4 +1,4 @@
-use Rattle.std.proofs.Common.{ap}
+use Rattle.std.proofs.Common.{rules, ap}
 use Rattle.hg_keys.specs.Bookmarks.{Marked}
 use Rattle.hg_parts.specs.Repository.{Repository}
 use Rattle.hg_parts.specs.Store.{repository_of}
@@ -6,20 +6,32 @@ use Rattle.hg_parts.specs.parts.Changegroup.{grown_of}
 use Rattle.hg_parts.proofs.Adding.{entries_done, entries_refused}
 use Rattle.hg_parts.proofs.parts.changegroup.handle_entries.Goals as goal
 
-pub returns-clause-gives : goal.returns-clause-gives
-returns-clause-gives g c =
-    let repo : Repository g.row.A.Denot = repository_of c.args.settings.now c.args.store.now in
+pub returns : goal.returns
+returns g c =
+    let turn = c.args.turn in
+    let repo : Repository g.row.A.Denot = repository_of turn.settings c.args.store.now in
     let added = c.add_each.new.store in
-    entries_done c.args.source repo c.args.replying c.args.place c.args.part.now c.args.t c.args.entries.now
-    (grown_of added) c.advance_group.new.phases.current.phases added.markers added.bookmarks.current
-    c.head_count-before.result c.head_count.result c.in_ok-reply.reply
-    c.in-Ok.ensures.gives c.in_ok-advance_group.ensures.ok c.in-Ok.ensures.others.markers
-    (ap (λ (marked : Marked). marked.current) c.in-Ok.ensures.others.bookmarks)
-    c.head_count-before.ensures.count c.head_count.ensures.count c.in_ok-reply.ensures.value
+    record {
+      sound = search rules;
+      grown = search rules;
+      reply = c.in_ok-reply.ensures.reply;
+      gives = entries_done turn.source repo turn.replying turn.place c.args.part.now c.args.t
+          c.args.entries.now (grown_of added) c.advance_group.new.phases.current.phases added.markers
+          added.bookmarks.current c.head_count-before.result c.head_count.result c.in_ok-reply.reply
+          c.in-Ok.ensures.gives c.in_ok-advance_group.ensures.ok c.in-Ok.ensures.others.markers
+          (ap (λ (marked : Marked). marked.current) c.in-Ok.ensures.others.bookmarks)
+          c.head_count-before.ensures.count c.head_count.ensures.count c.in_ok-reply.ensures.value;
+    }
 
-pub returns-in-Err-clause-gives : goal.returns-in-Err-clause-gives
-returns-in-Err-clause-gives g c =
-    let repo : Repository g.row.A.Denot = repository_of c.args.settings.now c.args.store.now in
-    rw c.refusal_for.ensures
-    (entries_refused c.args.source repo c.args.replying c.args.place c.args.part.now c.args.t
-    c.args.entries.now c.in-Err.fault c.in-Err.ensures.gives)
+pub returns-in-Err : goal.returns-in-Err
+returns-in-Err g c =
+    let turn = c.args.turn in
+    let repo : Repository g.row.A.Denot = repository_of turn.settings c.args.store.now in
+    record {
+      sound = tt;
+      grown = c.add_each.ensures.grown;
+      reply = tt;
+      gives = rw c.refusal_for.ensures
+          (entries_refused turn.source repo turn.replying turn.place c.args.part.now c.args.t
+          c.args.entries.now c.in-Err.fault c.in-Err.ensures.gives);
+    }
