@@ -75,7 +75,7 @@ def lines_of(kind, params, payload):
     kind = kind.lower()
     if kind == b"changegroup":
         return changesets(payload, params.get(b"version", b"01"))
-    if kind == b"check:heads":
+    if kind in (b"check:heads", b"check:updated-heads"):
         return (f"head {payload[at:at + 20].hex()[:12]}" for at in range(0, len(payload), 20))
     if kind in (b"phase-heads", b"check:phases"):
         entries = (payload[at:at + 24] for at in range(0, len(payload), 24))
