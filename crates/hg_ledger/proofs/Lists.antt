@@ -64,12 +64,6 @@ length-front zero xs low = refl
 length-front (suc n) [] low = absurd (omega (arith, low))
 length-front (suc n) (x ∷ xs) low = omega (arith, length-front n xs (omega (arith, low)))
 
-pub either_more : {A : Type 0} (first : RepositoryOf A) (h : List (Taken A)) (k : ℕ) (xs : List (List ℕ))
-    (x : List ℕ) (made : Bool) → AreRecordsFrom first h k xs → IsRecordOf first h (k + length xs) x
-    → AreRecordsFrom first h k (if made then xs ++ x ∷ [] else xs)
-either_more first h k xs x true some this = one_more first h k xs x some this
-either_more first h k xs x false some this = some
-
 pub either_insert : {X : Type 0} (P : X → Type 0) (made : Bool) (xs : List X) (i : ℕ) (x : X) → All P xs → P x
     → All P (if made then insert xs i x else xs)
 either_insert P true xs i x all this =

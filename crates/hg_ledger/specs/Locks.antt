@@ -5,12 +5,13 @@ use Rattle.hg_push.specs.Run.{RepositoryOf}
 use Rattle.hg_ledger.specs.declared.waiting.Record.{Record}
 use Rattle.hg_ledger.specs.Records.{IsRecordOf}
 
--- A device, how many records are on it after those that it was opened with, the batch that is written next,
--- whether it is broken, and the history that its witness has seen.
+-- A device, how many records are on it after those that it was opened with, the batch that is written next, for how
+-- many more that has room, whether it is broken, and the history that its witness has seen.
 pub record DiskView (A D : Type 0) : Type 0 where
   pub device : D
   pub count : ℕ
   pub batch : List (List ℕ)
+  pub room : ℕ
   pub is_broken : Bool
   pub history : List (Taken A)
 

@@ -1,6 +1,6 @@
 //! The device under its lock, with the records that are on it and the batch that is written next.
 
-ghost use Rattle.std.specs.Prelude.{◌≡◌, ◌≤◌, ◌+◌, ◌++◌, ◌∷◌, [], false, true, length, IfOk, IfErr, IfSome};
+ghost use Rattle.std.specs.Prelude.{◌≡◌, ◌≤◌, ◌<◌, ◌+◌, ◌++◌, ◌∷◌, [], false, true, length, IfOk, IfErr, IfSome};
 ghost use mathlib.Core.List.{IsPrefix};
 ghost use Rattle.hg_types.specs.Limits.{IsAllowed};
 ghost use Rattle.hg_store.specs.Device.{LeavesOnly};
@@ -38,7 +38,7 @@ pub struct Disk<J: Storing<A>, D: Device, A: Allocator = Global> {
 }
 
 impl<J: Storing<A>, D: Device, A: Allocator> Model for Disk<J, D, A> {
-    ghost use Rattle.std.specs.Prelude.{◌≡◌, ◌<◌, false};
+    ghost use Rattle.std.specs.Prelude.{◌≡◌, ◌-◌, false, vec_len, vec_capacity};
     ghost use Rattle.hg_ledger.specs.Lives.{Lives};
     ghost use Rattle.hg_ledger.specs.Locks.{DiskView};
     ghost use Rattle.hg_ledger.specs.Records.{AreRecordsFrom, Keeps};
@@ -50,6 +50,7 @@ impl<J: Storing<A>, D: Device, A: Allocator> Model for Disk<J, D, A> {
       device = d.log.device;
       count = d.count;
       batch = d.batch.items;
+      room = vec_capacity d.batch - vec_len d.batch;
       is_broken = d.is_broken;
       history = d.witness;
     } };
@@ -74,8 +75,8 @@ impl<J: Storing<A>, D: Device, A: Allocator + Copy> Disk<J, D, A> {
         requires opened { J.opened ≡ D.moment log.device }
         requires allowed { IsAllowed J.first.settings.limits }
         requires nothing { keeper ≡ 0 }
-        ensures made { IfOk result (λ disk. disk
-            ≡ record { device = log.device; count = 0; batch = []; is_broken = false; history = witness }) }
+        ensures made { IfOk result (λ disk. (disk.device ≡ log.device) × (disk.count ≡ 0) × (disk.batch ≡ [])
+            × (disk.is_broken ≡ false) × (disk.history ≡ witness)) }
         ensures refused { IfErr result (λ back. back ≡ (log, witness, keeper)) }
     {
         records_are_read_back();
@@ -108,7 +109,8 @@ impl<J: Storing<A>, D: Device, A: Allocator + Copy> Disk<J, D, A> {
 
     /// The place of the record that the batch takes next. `None` where it has room for no more.
     pub fn next_place(&self) -> Option<usize>
-        ensures { IfSome result (λ place. place ≡ self.now.count + length self.now.batch) }
+        ensures place { IfSome result (λ place. place ≡ self.now.count + length self.now.batch) }
+        ensures room { IfSome result (λ _. 0 < self.now.room) }
     {
         if self.count >= MOST || self.batch.len() >= self.batch.capacity() {
             return None;
@@ -153,15 +155,15 @@ impl<J: Storing<A>, D: Device, A: Allocator + Copy> Disk<J, D, A> {
         tally.receipt(&mut self.keeper)
     }
 
-    /// Takes the record of the push at the next place into the batch.
+    /// Takes the record of the push at the next place into the batch. It has room, so no memory is asked for.
     pub fn take_in(&mut self, bytes: Sealed<A>)
-        requires { IsRecordOf J.first self.old.history (self.old.count + length self.old.batch) bytes }
-        ensures { (self.new.history ≡ self.old.history) × (self.new.count ≡ self.old.count)
+        requires next { IsRecordOf J.first self.old.history (self.old.count + length self.old.batch) bytes }
+        requires room { 0 < self.old.room }
+        ensures same { (self.new.history ≡ self.old.history) × (self.new.count ≡ self.old.count)
             × (self.new.device ≡ self.old.device) }
+        ensures taken { self.new.is_broken ≡ self.old.is_broken }
     {
-        if self.batch.push(bytes).is_err() {
-            self.is_broken = true;
-        }
+        self.batch.push_reserved(bytes);
     }
 
     /// Writes the batch, syncs and counts it, and asks for no memory. Where that fails, the device is broken from

@@ -1,23 +1,25 @@
 use Rattle.std.proofs.Common.{◌≡◌, ◌≤◌, ◌<◌, ◌+◌, ◌++◌, ◌∷◌, [], false, true, ℕ, List, refl, sym, ap, subst, ◌∙◌}
 use Rattle.std.proofs.Common.{arith, length}
 use mathlib.Core.List.{IsPrefix}
-use Rattle.std.specs.Prelude.{is_ok}
 use Rattle.hg_ledger.specs.Locks.{DiskView}
 use Rattle.hg_ledger.specs.Records.{AreRecordsFrom, IsRecordOf}
-use Rattle.hg_ledger.proofs.Lists.{either_more}
+use Rattle.hg_ledger.proofs.Lists.{one_more}
 use Rattle.hg_ledger.proofs.disk.Disk.take_in.Goals as goal
 
-pub invariant_of-self-else-is_err : goal.invariant_of-self-else-is_err
-invariant_of-self-else-is_err g c =
+pub invariant_of-self : goal.invariant_of-self
+invariant_of-self g c =
     let d = c.self.inside in
     let i = c.self.invariant in
     let first = g.J.Naming.first in
     let here = subst (λ (v : DiskView g.row.A.Denot g.row.D.Denot). IsRecordOf first v.history (v.count + length v.batch)
-    c.args.bytes) (sym c.self.view_is) c.requires in (
+    c.args.bytes) (sym c.self.view_is) c.requires.next in (
       i.0,
       i.1,
-      subst (λ (l : List (List ℕ)). AreRecordsFrom first d.witness d.count l) (sym c.push.ensures.items)
-          (either_more first d.witness d.count d.batch.items c.args.bytes (is_ok c.push.result) i.2 here),
+      subst (λ (l : List (List ℕ)). AreRecordsFrom first d.witness d.count l) (sym c.push_reserved.ensures.items)
+          (one_more first d.witness d.count d.batch.items c.args.bytes i.2 here),
       i.3,
       i.4,
     )
+
+pub push_reserved-requires : goal.push_reserved-requires
+push_reserved-requires g c = omega (arith, c.requires.room, ap (λ v. v.room) c.self.view_is)
