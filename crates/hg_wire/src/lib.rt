@@ -17,6 +17,7 @@ mod body;
 mod bound;
 mod budget;
 mod copies;
+mod follow;
 mod key;
 mod long;
 mod looking;
