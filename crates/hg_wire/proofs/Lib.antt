@@ -4,3 +4,4 @@ mod Lists
 mod Served
 mod Wires
 mod Copied
+mod Following

@@ -1,3 +1,4 @@
 pub mod Bodies
 pub mod Wires
 pub mod Rounds
+pub mod Following

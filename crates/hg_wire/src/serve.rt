@@ -1,16 +1,18 @@
 //! A connection over HTTP.
 
-ghost use Rattle.std.specs.Prelude.{◌≡◌, ◌++◌, ℕ, List, [], true, false, Ok, OnOk, OnErr};
+ghost use Rattle.std.specs.Prelude.{◌≡◌, ◌≢◌, ℕ, ◌⊎◌, Bool, true, false, Ok, List, [], ◌++◌, MatchResult, OnOk, OnErr};
+ghost use mathlib.Core.List.{IsPrefix};
 ghost use Rattle.std.specs.Io.KnownBytes.{Appends, Consumes, Keeps};
 ghost use Rattle.http_server.specs.Connection.{config_of, history};
 ghost use Rattle.http_server.specs.Exchange.{Calls};
-ghost use Rattle.http_server.specs.History.{after_read, IsQuiet};
+ghost use Rattle.http_server.specs.History.{after_read, IsQuiet, Rests, new_history};
 ghost use Rattle.hg_ledger.specs.Records.{AreKept};
 ghost use Rattle.hg_wire.specs.Answering.{Responds};
-ghost use Rattle.hg_wire.specs.Serving.{ServesHttp, WritesBehind};
+ghost use Rattle.hg_wire.specs.Serving.{Converses, IsTold, no_room_text, ServesHttp};
+ghost use Rattle.hg_wire.specs.code.Following.{FollowsAt, FollowsOn, IsHeld, Passes};
 
 use crate::budget::Share;
-use crate::follow::{Follower, Step};
+use crate::follow::{Follower, Found};
 use crate::shown::{Shown, Watch};
 use crate::terms::{Host, Terms};
 use crate::wire::Wire;
@@ -60,6 +62,9 @@ pub fn serve_http<
     reader: &mut I,
     writer: &mut W,
 ) -> (Client<J>, Finish)
+    ensures { ServesHttp J.capacity J.first (AreKept D.seen D.may_leave J.head J.stored J.first) S.is_page
+        S.are_metrics terms.now client (I.remaining reader.old) (I.remaining reader.new)
+        (W.contents writer.old) (W.contents writer.new) result.1 result.0 }
 {
     let mut config = Config::default();
     config.max_body_len = server.limits().stream as usize;
@@ -79,6 +84,8 @@ pub fn serve_http<
 
 /// How the conversation ended.
 fn end_of(ended: io::Result<()>, has_failed: bool) -> Finish
+    ensures failed { has_failed ≡ true → result ≡ Finish.NotStored }
+    ensures done { result ≡ Finish.Done → ended ≡ Ok tt }
 {
     if has_failed {
         return Finish::NotStored;
@@ -121,6 +128,9 @@ fn serve_stretches<
     reader: &mut I,
     writer: &mut W,
 ) -> io::Result<()>
+    ensures { Converses (result ≢ Ok tt) config (Responds J.capacity J.first
+        (AreKept D.seen D.may_leave J.head J.stored J.first) S.is_page S.are_metrics) wire.old wire.new
+        (I.remaining reader.old) (I.remaining reader.new) (W.contents writer.old) (W.contents writer.new) }
 {
     // A loop is proved to end, so this one counts its turns.
     'stretches: for _ in 0..u64::MAX {
@@ -142,33 +152,48 @@ fn refuse<I: BufRead, W: Write>(
     follower: &mut Follower,
     reader: &mut I,
     writer: &mut W,
-) -> io::Result<bool> {
+) -> io::Result<bool>
+    ensures { (dropped told : List ℕ) × Consumes (I.remaining reader.old) (I.remaining reader.new) dropped
+        × Appends (W.contents writer.old) (W.contents writer.new) told
+        × MatchResult result (λ is_last. Passes follower.old dropped × (told ≡ no_room_text is_last))
+        (λ _. (told ≡ []) ⊎ (Passes follower.old dropped × ((is_last : Bool) × IsPrefix told
+        (no_room_text is_last)))) }
+{
     pass_over(follower, reader)?;
     let is_last = follower.is_last();
-    let text = match is_last {
-        true => NO_ROOM_LAST,
-        false => NO_ROOM,
-    };
-    let (sending, _) = send(writer, text);
+    let (sending, _) = send(writer, no_room(is_last));
     if sending != Sending::Whole {
         return Err(ErrorKind::WriteZero.into());
     }
     Ok(is_last)
 }
 
+/// The answer to a body that found no room.
+fn no_room(is_last: bool) -> &'static [u8]
+    ensures { result.now ≡ no_room_text is_last }
+{
+    match is_last {
+        true => NO_ROOM_LAST,
+        false => NO_ROOM,
+    }
+}
+
 /// Reads and drops the rest of the request that is being followed.
-fn pass_over<I: BufRead>(follower: &mut Follower, reader: &mut I) -> io::Result<()> {
+fn pass_over<I: BufRead>(follower: &mut Follower, reader: &mut I) -> io::Result<()>
+    ensures { (dropped : List ℕ) × Consumes (I.remaining reader.old) (I.remaining reader.new) dropped
+        × OnOk result (Passes follower.old dropped) }
+{
     'pieces: for _ in 0..u64::MAX {
         let bytes = reader.fill_buf()?;
         if bytes.is_empty() {
             return Err(ErrorKind::UnexpectedEof.into());
         }
-        let (step, count) = follower.pass(bytes);
+        let (found, count) = follower.pass(bytes);
         reader.consume(count);
-        match step {
-            Step::Ended => return Ok(()),
-            Step::Lost => return Err(ErrorKind::InvalidData.into()),
-            _ => {}
+        match found {
+            Found::More => {}
+            Found::End => return Ok(()),
+            Found::Nothing => return Err(ErrorKind::InvalidData.into()),
         }
     }
     Err(ErrorKind::TimedOut.into())
@@ -194,6 +219,18 @@ fn converse<
     reader: &mut I,
     writer: &mut W,
 ) -> io::Result<bool>
+    requires { (history connection.old ≡ new_history) × FollowsAt follower.old [] 0
+        × (follower.old.limits ≡ (config_of connection.old).limits) }
+    ensures read { (more : List ℕ) × Consumes (I.remaining reader.old) (I.remaining reader.new) more
+        × ((history connection.new).received ≡ (history connection.old).received ++ more) }
+    ensures written { (more : List ℕ) × Appends (W.contents writer.old) (W.contents writer.new) more
+        × ((history connection.new).sent ≡ (history connection.old).sent ++ more) }
+    ensures calls { Calls (Responds J.capacity J.first (AreKept D.seen D.may_leave J.head J.stored J.first)
+        S.is_page S.are_metrics) wire.old wire.new (history connection.old).calls
+        (history connection.new).calls }
+    ensures config { config_of connection.new ≡ config_of connection.old }
+    ensures held { result ≡ Ok false → IsHeld (config_of connection.new) (history connection.new)
+        follower.new }
 {
     let mut has_room = true;
     // A loop is proved to end, so this one counts its turns.
@@ -228,6 +265,12 @@ fn advance<J: Storing<A>, D: Device, R: Wait, S: Shown<A>, V: Watch<A>, A: Alloc
     wire: &mut Wire<'_, J, D, R, S, V, A>,
     share: &mut Share<'_>,
 ) -> bool
+    ensures calls { Calls (Responds J.capacity J.first (AreKept D.seen D.may_leave J.head J.stored J.first)
+        S.is_page S.are_metrics) wire.old wire.new (history connection.old).calls
+        (history connection.new).calls }
+    ensures quiet { IsQuiet (history connection.old) (history connection.new) }
+    ensures config { config_of connection.new ≡ config_of connection.old }
+    ensures rests { Rests (config_of connection.new) (history connection.new) }
 {
     let before = wire.answered();
     connection.advance(wire);
@@ -246,6 +289,13 @@ fn read_more<R: Wait, I: BufRead>(
     share: &mut Share<'_>,
     reader: &mut I,
 ) -> io::Result<bool>
+    ensures ok { OnOk result ((more : List ℕ)
+        × Consumes (I.remaining reader.old) (I.remaining reader.new) more
+        × (history connection.new ≡ after_read (history connection.old) more)
+        × FollowsOn follower.old follower.new more) }
+    ensures err { OnErr result ((history connection.new ≡ history connection.old)
+        × Keeps (I.remaining reader.old) (I.remaining reader.new)) }
+    ensures config { config_of connection.new ≡ config_of connection.old }
 {
     let bytes = reader.fill_buf()?;
     let mut rest = bytes;
