@@ -1,5 +1,5 @@
 -- What has been read of the requests of a connection.
-use Rattle.std.proofs.Common.{◌≡◌, ◌≢◌, ℕ, ◌+◌, ◌-◌, ◌≤◌, zero, suc, Bool, true, false, List, [], ◌∷◌, ◌++◌, length, drop}
+use Rattle.std.proofs.Common.{◌≡◌, ◌≢◌, ℕ, ◌+◌, ◌-◌, ◌≤◌, zero, suc, Bool, true, false, List, [], ◌∷◌, ◌++◌, length, drop, take}
 use Rattle.std.proofs.Common.{refl, sym, ap, subst, ◌∙◌, arith, append_assoc, append-nil, length-append, length-drop}
 use Rattle.std.proofs.lemmas.List.{length-map}
 use Rattle.std.specs.Prelude.{map}
@@ -233,9 +233,10 @@ follows_same limits limits₂ server server₂ held held₂ stream count l s h x
 -- what is left, by how long it is
 dropped : (gone count : ℕ) (bytes : List ℕ) → length (drop gone bytes) + count ≡ length bytes →
     drop gone bytes ≡ drop count bytes
-dropped 0 count bytes long = ap (λ n. drop n bytes) (omega (arith, long))
-dropped (suc gone) count [] long = ap (λ n. drop n []) (omega (arith, long)) ∙ refl
-dropped (suc gone) 0 (byte ∷ bytes) long = absurd (omega (arith, long, length-drop gone bytes))
+dropped zero count bytes long = ap (λ n. drop n bytes) (omega (arith, long))
+dropped (suc gone) zero [] long = refl
+dropped (suc gone) (suc count) [] long = refl
+dropped (suc gone) zero (byte ∷ bytes) long = absurd (omega (arith, long, length-drop gone bytes))
 dropped (suc gone) (suc count) (byte ∷ bytes) long = dropped gone count bytes (omega (arith, long))
 
 -- what is left of what was held and of what came, where it is no longer than what came
@@ -243,6 +244,39 @@ pub left_behind : (held bytes left : List ℕ) (gone count : ℕ) → left ≡ d
     length left + count ≡ length bytes → left ≡ drop count bytes
 left_behind [] bytes left gone count is long =
     is ∙ dropped gone count bytes (ap (λ (l : List ℕ). length l + count) (sym is) ∙ long)
-left_behind (byte ∷ held) bytes left 0 count is long =
+left_behind (byte ∷ held) bytes left zero count is long =
     absurd (omega (arith, ap length is, long, length-append held bytes))
 left_behind (byte ∷ held) bytes left (suc gone) count is long = left_behind held bytes left gone count is long
+
+-- a request that has ended, with what is left
+pub ended_at : (limits limits₂ : Limits) (server : Server) (held stream left : List ℕ) (count : ℕ) →
+    limits ≡ limits₂ → held ≡ left → server.reading ≡ Reads.Done → Follows limits server held stream count →
+    BeginsWith limits₂ stream (count + 1) left
+ended_at limits limits₂ server held stream left count same is ended x =
+    let all = ended_whole limits server held stream count ended x [] in
+    let here : BeginsWith limits stream (count + 1) held = (
+      all.0,
+      subst (λ s. ReadsRequests limits s all.0 held) (append-nil stream)
+          (subst (λ h. ReadsRequests limits (stream ++ []) all.0 h) (append-nil held) all.1),
+      all.2,
+    ) in
+    subst (λ l. BeginsWith l stream (count + 1) left) same (subst (λ h. BeginsWith limits stream (count + 1) h) is here)
+
+-- the front of what is shown
+take_front : (more rest : List ℕ) → take (length more) (more ++ rest) ≡ more
+take_front [] rest = refl
+take_front (byte ∷ more) rest = ap (λ (l : List ℕ). byte ∷ l) (take_front more rest)
+
+pub front_is : (shown more rest : List ℕ) (n : ℕ) → length more ≡ n → shown ≡ more ++ rest → take n shown ≡ more
+front_is shown more rest n is parts =
+    ap (λ l. take n l) parts ∙ subst (λ k. take k (more ++ rest) ≡ more) is (take_front more rest)
+
+pub front_within : (shown more rest : List ℕ) (n : ℕ) → length more ≡ n → shown ≡ more ++ rest → n ≤ length shown
+front_within shown more rest n is parts = omega (arith, is, ap length parts, length-append more rest)
+
+-- the same bytes in other groups
+pub regrouped : (stream gone front back shown : List ℕ) → front ++ back ≡ shown →
+    (stream ++ gone) ++ shown ≡ (stream ++ (gone ++ front)) ++ back
+regrouped stream gone front back shown is =
+    ap (λ (l : List ℕ). (stream ++ gone) ++ l) (sym is) ∙ sym (append_assoc (stream ++ gone) front back)
+    ∙ ap (λ (l : List ℕ). l ++ back) (append_assoc stream gone front)

@@ -86,7 +86,7 @@ module _ {V : Type 0} (config : Config) (answers : V → Asked (List ℕ) → Re
         Appends between wrote (no_room_text false) → SoFar config answers old new input rest out wrote
     one_refused old now new input left middle rest out sent between wrote h dropped x is calls read passed written
         told =
-        let last = record { history = h; dropped = dropped } in
+        let last : Refused = record { history = h; dropped = dropped } in
         record {
           refused = x.refused ++ last ∷ [];
           each = each_more (IsRefused config) x.refused last x.each is;
@@ -191,6 +191,14 @@ converses_as A B config answers old new input left out sent f x = record {
   read = x.read;
   written = x.written;
 }
+
+-- and another word for what it began with
+pub converses_from : {V : Type 0} (breaks : Type 0) (config : Config)
+    (answers : V → Asked (List ℕ) → Response → V → Type 0) (old old₂ new : V) (input left out sent : Option (List ℕ)) →
+    old ≡ old₂ → Converses breaks config answers old new input left out sent →
+    Converses breaks config answers old₂ new input left out sent
+converses_from breaks config answers old old₂ new input left out sent is x =
+    subst (λ from. Converses breaks config answers from new input left out sent) is x
 
 -- a connection that waits for input has answered all whole requests
 open_by : (config : Config) (h : History) → h.pending ≡ [] → (IsDone h → ⊥) →

@@ -89,8 +89,8 @@ pub record Converses {V : Type 0} (breaks : Type 0) (config : Config)
   pub passed : List ℕ
   pub told : List ℕ
   pub ends : Ends breaks config history passed told
-  pub read : Consumes input left (flat_map read_of refused ++ history.received ++ passed)
-  pub written : Appends out sent (flat_map sent_of refused ++ history.sent ++ told)
+  pub read : Consumes input left (flat_map read_of refused ++ (history.received ++ passed))
+  pub written : Appends out sent (flat_map sent_of refused ++ (history.sent ++ told))
 
 -- What was received begins with requests of HTTP's grammar, and what was sent, or waits, is in order the
 -- responses to them: each tells the answer to its request, and each goes on from what the client had seen
