@@ -233,7 +233,8 @@ follows_same limits limits₂ server server₂ held held₂ stream count l s h x
 -- what is left, by how long it is
 dropped : (gone count : ℕ) (bytes : List ℕ) → length (drop gone bytes) + count ≡ length bytes →
     drop gone bytes ≡ drop count bytes
-dropped zero count bytes long = ap (λ n. drop n bytes) (omega (arith, long))
+dropped zero count bytes long =
+    let none : zero ≡ count = omega (arith, long, length-drop zero bytes) in ap (λ (n : ℕ). drop n bytes) none
 dropped (suc gone) zero [] long = refl
 dropped (suc gone) (suc count) [] long = refl
 dropped (suc gone) zero (byte ∷ bytes) long = absurd (omega (arith, long, length-drop gone bytes))

@@ -1,4 +1,4 @@
-use Rattle.std.proofs.Common.{◌≡◌, ℕ, List, [], ◌++◌, refl, sym, subst, ap, arith, append-nil, append_assoc, ◌∙◌, drop, take, take_all, take-append-drop}
+use Rattle.std.proofs.Common.{◌≡◌, ℕ, ◌+◌, List, [], ◌++◌, refl, sym, subst, ap, arith, append-nil, append_assoc, ◌∙◌, drop, take, take_all, take-append-drop}
 use Rattle.std.specs.Io.BufRead.{FillKeeps}
 use Rattle.std.proofs.BufReadLemmas.{Consumes_shown}
 use Rattle.std.proofs.KnownBytes.{Consumes-nil}
