@@ -164,6 +164,10 @@ pub ends_last : (breaks : Type 0) (config : Config) (h : History) (f : Follower)
 ends_last breaks config h f dropped told served held passes is =
     inr (inr (is_refused config h f dropped served held passes, inl is))
 
+-- a failure is no success
+pub is_broken : {T E : Type 0} (result : Result T E) (error : E) (value : T) → result ≡ Err error → result ≢ Ok value
+is_broken result error value is = λ done. let clash = sym is ∙ done in cc
+
 -- another word for a connection that breaks off
 told_as : (A B : Type 0) (told : List ℕ) → (A → B) → IsTold A told → IsTold B told
 told_as A B told f (inl is) = inl is

@@ -6,7 +6,7 @@ use Rattle.http_server.specs.History.{IsServed, new_history}
 use Rattle.http_server.proofs.Theorems.{always_served}
 use Rattle.hg_wire.specs.Serving.{no_room_text}
 use Rattle.hg_wire.specs.code.Following.{IsHeld}
-use Rattle.hg_wire.proofs.Served.{ends_last, ends_plainly, ends_refused, ends_with, fresh_calls, fresh_read, fresh_written, is_refused, new_served, one_refused}
+use Rattle.hg_wire.proofs.Served.{ends_last, ends_plainly, ends_refused, ends_with, fresh_calls, fresh_read, fresh_written, is_broken, is_refused, new_served, one_refused}
 use Rattle.hg_wire.proofs.serve.serve_stretches.Goals as goal
 
 pub returns-in_err-converse : goal.returns-in_err-converse
@@ -45,7 +45,7 @@ returns-in_err-refuse g c =
     ends_with _ _ _ _ _ _ _ _ _ _ _ _ _ _ h r.0 r.1 c.stretches.invariant served
     (fresh_calls _ old h _ _ fresh c.converse.ensures.calls) (fresh_read old h _ _ fresh c.converse.ensures.read) r.2
     (fresh_written old h _ _ fresh c.converse.ensures.written) r.3
-    (ends_refused _ _ h f r.0 r.1 (λ e. let clash = e in cc) served held r.4)
+    (ends_refused _ _ h f r.0 r.1 (is_broken _ _ _ refl) served held r.4)
 
 pub returns-then-branch-2 : goal.returns-then-branch-2
 returns-then-branch-2 g c =
@@ -77,7 +77,8 @@ stretches-preserved g c =
     one_refused _ _ _ _ _ _ _ _ _ _ _ _ _ h r.0 c.stretches.invariant (is_refused _ h f r.0 served held r.4.0)
     (fresh_calls _ old h _ _ fresh c.converse.ensures.calls) (fresh_read old h _ _ fresh c.converse.ensures.read) r.2
     (fresh_written old h _ _ fresh c.converse.ensures.written)
-    (subst (λ text. Appends _ _ text) (r.4.1 ∙ ap no_room_text c.if-branch-2.false) r.3)
+    (subst (λ text. Appends (g.W.Write.contents c.converse.new.writer) (g.W.Write.contents c.refuse.new.writer) text)
+    (r.4.1 ∙ ap no_room_text c.if-branch-2.false) r.3)
 
 pub returns : goal.returns
 returns g c =
