@@ -51,60 +51,60 @@ begins_with limits stream later rest trace =
     (all.0, all.1, sym (length-map all.0 request_view) ∙ ap length all.2)
 
 module _ (limits : Limits) where
-    -- at the beginning
-    pub follows_none : Follows limits (new_server limits) [] [] 0
-    follows_none = record {
-      same_limits = refl;
-      silent = refl;
-      leads = λ more later rest trace.
-          subst (λ n. BeginsWith limits more n rest) (omega arith) (begins_with limits more later rest trace);
-      rest = [];
-      whole = ([], refl, refl);
-    }
+  -- at the beginning
+  pub follows_none : Follows limits (new_server limits) [] [] 0
+  follows_none = record {
+    same_limits = refl;
+    silent = refl;
+    leads = λ more later rest trace.
+        subst (λ n. BeginsWith limits more n rest) (omega arith) (begins_with limits more later rest trace);
+    rest = [];
+    whole = ([], refl, refl);
+  }
 
-    -- more bytes came, and are held
-    pub follows_more : (server : Server) (held stream : List ℕ) (count : ℕ) (more : List ℕ) →
-        Follows limits server held stream count → Follows limits server (held ++ more) (stream ++ more) count
-    follows_more server held stream count more x = record {
-      same_limits = x.same_limits;
-      silent = x.silent;
-      leads = λ bytes later rest trace.
-          subst (λ s. BeginsWith limits s (count + begun server.reading + length later.requests) rest)
-          (sym (append_assoc stream more bytes))
-          (x.leads (more ++ bytes) later rest
-          (subst (λ s. Trace server s later rest) (append_assoc held more bytes) trace));
-      rest = x.rest ++ more;
-      whole = (x.whole.0, requests_before limits x.whole.0 stream x.rest more x.whole.1, x.whole.2);
-    }
+  -- more bytes came, and are held
+  pub follows_more : (server : Server) (held stream : List ℕ) (count : ℕ) (more : List ℕ) →
+      Follows limits server held stream count → Follows limits server (held ++ more) (stream ++ more) count
+  follows_more server held stream count more x = record {
+    same_limits = x.same_limits;
+    silent = x.silent;
+    leads = λ bytes later rest trace.
+        subst (λ s. BeginsWith limits s (count + begun server.reading + length later.requests) rest)
+        (sym (append_assoc stream more bytes))
+        (x.leads (more ++ bytes) later rest
+        (subst (λ s. Trace server s later rest) (append_assoc held more bytes) trace));
+    rest = x.rest ++ more;
+    whole = (x.whole.0, requests_before limits x.whole.0 stream x.rest more x.whole.1, x.whole.2);
+  }
 
-    -- the request has ended: it is one of those that are whole
-    pub ended_whole : (server : Server) (held stream : List ℕ) (count : ℕ) → server.reading ≡ Reads.Done →
-        Follows limits server held stream count → (more : List ℕ) →
-        BeginsWith limits (stream ++ more) (count + 1) (held ++ more)
-    ended_whole server held stream count is x more =
-        let all = x.leads more nothing (held ++ more)
-        (stops server (held ++ more) (subst IsBetween (sym is) tt)) in
-        (all.0, all.1, all.2 ∙ ap (λ r. count + begun r + 0) is ∙ omega arith)
+  -- the request has ended: it is one of those that are whole
+  pub ended_whole : (server : Server) (held stream : List ℕ) (count : ℕ) → server.reading ≡ Reads.Done →
+      Follows limits server held stream count → (more : List ℕ) →
+      BeginsWith limits (stream ++ more) (count + 1) (held ++ more)
+  ended_whole server held stream count is x more =
+      let all = x.leads more nothing (held ++ more)
+      (stops server (held ++ more) (subst IsBetween (sym is) tt)) in
+      (all.0, all.1, all.2 ∙ ap (λ r. count + begun r + 0) is ∙ omega arith)
 
-    -- and the next one begins
-    pub follows_next : (server : Server) (held stream : List ℕ) (count : ℕ) → server.reading ≡ Reads.Done →
-        Follows limits server held stream count → Follows limits (new_server limits) held stream (count + 1)
-    follows_next server held stream count is x =
-        let all = ended_whole server held stream count is x in
-        let here = all [] in
-        record {
-          same_limits = refl;
-          silent = refl;
-          leads = λ more later rest trace.
-              let first = all more in
-              let next = begins_with limits (held ++ more) later rest trace in (
-                first.0 ++ next.0,
-                requests_then limits first.0 next.0 (stream ++ more) (held ++ more) rest first.1 next.1,
-                length-append first.0 next.0 ∙ omega (arith, first.2, next.2),
-              );
-          rest = held ++ [];
-          whole = (here.0, subst (λ s. ReadsRequests limits s here.0 (held ++ [])) (append-nil stream) here.1, here.2);
-        }
+  -- and the next one begins
+  pub follows_next : (server : Server) (held stream : List ℕ) (count : ℕ) → server.reading ≡ Reads.Done →
+      Follows limits server held stream count → Follows limits (new_server limits) held stream (count + 1)
+  follows_next server held stream count is x =
+      let all = ended_whole server held stream count is x in
+      let here = all [] in
+      record {
+        same_limits = refl;
+        silent = refl;
+        leads = λ more later rest trace.
+            let first = all more in
+            let next = begins_with limits (held ++ more) later rest trace in (
+              first.0 ++ next.0,
+              requests_then limits first.0 next.0 (stream ++ more) (held ++ more) rest first.1 next.1,
+              length-append first.0 next.0 ∙ omega (arith, first.2, next.2),
+            );
+        rest = held ++ [];
+        whole = (here.0, subst (λ s. ReadsRequests limits s here.0 (held ++ [])) (append-nil stream) here.1, here.2);
+      }
 
 -- what one event counts for
 counts_head : (e : Event RequestSpans) (old new : Server) (input : List ℕ) (spans : List HeaderSpan) (len : ℕ)
@@ -183,9 +183,9 @@ pub follows_read : (limits : Limits) (old new : Server) (held : List ℕ) (spans
     Follows limits old held stream count → Follows limits new (drop read.consumed held) stream count
 follows_read limits old new held spans read stream count x p u c was =
     let each : (later : Seen) →
-        (length (observe held spans read.event later).requests + begun old.reading ≡ begun new.reading + length later.requests)
-        × (new.writing ≡ old.writing) × (new.limits ≡ old.limits) =
-        λ later. counts old.reading old new held spans read later refl was.silent x p u c in
+    (length (observe held spans read.event later).requests + begun old.reading ≡ begun new.reading + length later.requests)
+    × (new.writing ≡ old.writing) × (new.limits ≡ old.limits) =
+    λ later. counts old.reading old new held spans read later refl was.silent x p u c in
     record {
       same_limits = (each nothing).2 ∙ was.same_limits;
       silent = (each nothing).1 ∙ was.silent;

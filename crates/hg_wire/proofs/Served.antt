@@ -70,67 +70,67 @@ pub record SoFar {V : Type 0} (config : Config) (answers : V → Asked (List ℕ
   pub written : Appends out sent (flat_map sent_of refused)
 
 module _ {V : Type 0} (config : Config) (answers : V → Asked (List ℕ) → Response → V → Type 0) where
-    pub begins : (old : V) (input out : Option (List ℕ)) → SoFar config answers old old input input out out
-    begins old input out = record {
-      refused = [];
-      each = tt;
-      calls = refl;
-      read = Consumes-nil input;
-      written = Appends-nil out;
-    }
+  pub begins : (old : V) (input out : Option (List ℕ)) → SoFar config answers old old input input out out
+  begins old input out = record {
+    refused = [];
+    each = tt;
+    calls = refl;
+    read = Consumes-nil input;
+    written = Appends-nil out;
+  }
 
-    pub one_refused : (old now new : V) (input left middle rest out sent between wrote : Option (List ℕ))
-        (h : History) (dropped : List ℕ) → SoFar config answers old now input left out sent →
-        IsRefused config (record { history = h; dropped = dropped }) → Chain answers now h.calls new →
-        Consumes left middle h.received → Consumes middle rest dropped → Appends sent between h.sent →
-        Appends between wrote (no_room_text false) → SoFar config answers old new input rest out wrote
-    one_refused old now new input left middle rest out sent between wrote h dropped x is calls read passed written
-        told =
-        let last : Refused = record { history = h; dropped = dropped } in
-        record {
-          refused = x.refused ++ last ∷ [];
-          each = each_more (IsRefused config) x.refused last x.each is;
-          calls = subst (λ cs. Chain answers old cs new) (sym (one_more calls_of x.refused last))
-              (Chain-append answers (flat_map calls_of x.refused) h.calls old now new x.calls calls);
-          read = subst (λ bytes. Consumes input rest bytes) (sym (one_more read_of x.refused last))
-              (Consumes-then input left rest (flat_map read_of x.refused) (h.received ++ dropped) x.read
-              (Consumes-then left middle rest h.received dropped read passed));
-          written = subst (λ bytes. Appends out wrote bytes) (sym (one_more sent_of x.refused last))
-              (Appends-then out sent wrote (flat_map sent_of x.refused) (h.sent ++ no_room_text false) x.written
-              (Appends-then sent between wrote h.sent (no_room_text false) written told));
-        }
+  pub one_refused : (old now new : V) (input left middle rest out sent between wrote : Option (List ℕ))
+      (h : History) (dropped : List ℕ) → SoFar config answers old now input left out sent →
+      IsRefused config (record { history = h; dropped = dropped }) → Chain answers now h.calls new →
+      Consumes left middle h.received → Consumes middle rest dropped → Appends sent between h.sent →
+      Appends between wrote (no_room_text false) → SoFar config answers old new input rest out wrote
+  one_refused old now new input left middle rest out sent between wrote h dropped x is calls read passed written
+      told =
+      let last : Refused = record { history = h; dropped = dropped } in
+      record {
+        refused = x.refused ++ last ∷ [];
+        each = each_more (IsRefused config) x.refused last x.each is;
+        calls = subst (λ cs. Chain answers old cs new) (sym (one_more calls_of x.refused last))
+            (Chain-append answers (flat_map calls_of x.refused) h.calls old now new x.calls calls);
+        read = subst (λ bytes. Consumes input rest bytes) (sym (one_more read_of x.refused last))
+            (Consumes-then input left rest (flat_map read_of x.refused) (h.received ++ dropped) x.read
+            (Consumes-then left middle rest h.received dropped read passed));
+        written = subst (λ bytes. Appends out wrote bytes) (sym (one_more sent_of x.refused last))
+            (Appends-then out sent wrote (flat_map sent_of x.refused) (h.sent ++ no_room_text false) x.written
+            (Appends-then sent between wrote h.sent (no_room_text false) written told));
+      }
 
-    pub ends_with : (breaks : Type 0) (old now new : V)
-        (input left middle rest out sent between wrote : Option (List ℕ)) (h : History) (passed told : List ℕ) →
-        SoFar config answers old now input left out sent → ∥ IsServed config h ∥₁ → Chain answers now h.calls new →
-        Consumes left middle h.received → Consumes middle rest passed → Appends sent between h.sent →
-        Appends between wrote told → Ends breaks config h passed told →
-        Converses breaks config answers old new input rest out wrote
-    ends_with breaks old now new input left middle rest out sent between wrote h passed told x served calls read
-        dropped written last ends =
-        record {
-          refused = x.refused;
-          each = x.each;
-          history = h;
-          served = served;
-          calls = Chain-append answers (flat_map calls_of x.refused) h.calls old now new x.calls calls;
-          passed = passed;
-          told = told;
-          ends = ends;
-          read = Consumes-then input left rest (flat_map read_of x.refused) (h.received ++ passed) x.read
-              (Consumes-then left middle rest h.received passed read dropped);
-          written = Appends-then out sent wrote (flat_map sent_of x.refused) (h.sent ++ told) x.written
-              (Appends-then sent between wrote h.sent told written last);
-        }
+  pub ends_with : (breaks : Type 0) (old now new : V)
+      (input left middle rest out sent between wrote : Option (List ℕ)) (h : History) (passed told : List ℕ) →
+      SoFar config answers old now input left out sent → ∥ IsServed config h ∥₁ → Chain answers now h.calls new →
+      Consumes left middle h.received → Consumes middle rest passed → Appends sent between h.sent →
+      Appends between wrote told → Ends breaks config h passed told →
+      Converses breaks config answers old new input rest out wrote
+  ends_with breaks old now new input left middle rest out sent between wrote h passed told x served calls read
+      dropped written last ends =
+      record {
+        refused = x.refused;
+        each = x.each;
+        history = h;
+        served = served;
+        calls = Chain-append answers (flat_map calls_of x.refused) h.calls old now new x.calls calls;
+        passed = passed;
+        told = told;
+        ends = ends;
+        read = Consumes-then input left rest (flat_map read_of x.refused) (h.received ++ passed) x.read
+            (Consumes-then left middle rest h.received passed read dropped);
+        written = Appends-then out sent wrote (flat_map sent_of x.refused) (h.sent ++ told) x.written
+            (Appends-then sent between wrote h.sent told written last);
+      }
 
-    -- where no body was refused in the last stretch
-    pub ends_plainly : (breaks : Type 0) (old now new : V) (input left rest out sent wrote : Option (List ℕ))
-        (h : History) → SoFar config answers old now input left out sent → ∥ IsServed config h ∥₁ →
-        Chain answers now h.calls new → Consumes left rest h.received → Appends sent wrote h.sent →
-        Converses breaks config answers old new input rest out wrote
-    ends_plainly breaks old now new input left rest out sent wrote h x served calls read written =
-        ends_with breaks old now new input left rest rest out sent wrote wrote h [] [] x served calls read
-        (Consumes-nil rest) written (Appends-nil wrote) (inl (refl, refl))
+  -- where no body was refused in the last stretch
+  pub ends_plainly : (breaks : Type 0) (old now new : V) (input left rest out sent wrote : Option (List ℕ))
+      (h : History) → SoFar config answers old now input left out sent → ∥ IsServed config h ∥₁ →
+      Chain answers now h.calls new → Consumes left rest h.received → Appends sent wrote h.sent →
+      Converses breaks config answers old new input rest out wrote
+  ends_plainly breaks old now new input left rest out sent wrote h x served calls read written =
+      ends_with breaks old now new input left rest rest out sent wrote wrote h [] [] x served calls read
+      (Consumes-nil rest) written (Appends-nil wrote) (inl (refl, refl))
 
 -- the request that a stretch came to, and the rest of it
 pub is_refused : (config : Config) (h : History) (f : Follower) (dropped : List ℕ) → ∥ IsServed config h ∥₁ →
@@ -228,8 +228,11 @@ is_held config h f rests none more limits follows =
           let whole = at.1.whole in (
             at.0,
             at.1,
-            omega (arith, whole.2,
-            quiet.1 whole.0 at.1.rest (subst (λ l. ReadsRequests l h.received whole.0 at.1.rest) limits whole.1)),
+            omega (
+              arith,
+              whole.2,
+              quiet.1 whole.0 at.1.rest (subst (λ l. ReadsRequests l h.received whole.0 at.1.rest) limits whole.1),
+            ),
           ),
     )
 
@@ -244,4 +247,3 @@ pub nothing_waits : (wants : Bool) (pending : List ℕ) → (0 < length pending 
     pending ≡ []
 nothing_waits wants [] forth is = refl
 nothing_waits wants (byte ∷ bytes) forth is = let wanted = forth (omega arith) in cc
-

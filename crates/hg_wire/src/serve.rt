@@ -76,7 +76,9 @@ pub fn serve_http<
     };
     let mut wire = Wire::new(host, terms, alloc, client, watch);
     let mut share = Share::new(terms.budget);
-    let ended = serve_stretches(rt, alloc, keys, config, &mut wire, &mut share, reader, writer);
+    let ended = serve_stretches(
+        rt, alloc, keys, config, &mut wire, &mut share, reader, writer,
+    );
     share.clear(rt);
     let (client, has_failed) = wire.into_client();
     (client, end_of(ended, has_failed))
@@ -97,8 +99,7 @@ fn end_of(ended: io::Result<()>, has_failed: bool) -> Finish
 }
 
 /// The answer that says that a body found no room: the reply to a push that is aborted for lack of memory.
-const NO_ROOM: &[u8] =
-    b"HTTP/1.1 200 OK\r\ncontent-type: application/mercurial-0.1\r\n\
+const NO_ROOM: &[u8] = b"HTTP/1.1 200 OK\r\ncontent-type: application/mercurial-0.1\r\n\
     content-length: 60\r\n\r\nHG20\0\0\0\0\0\0\0\x28\x0bERROR:ABORT\0\0\0\0\x01\0\x07\x0dmessage\
     out of memory\0\0\0\0\0\0\0\0";
 
@@ -136,7 +137,15 @@ fn serve_stretches<
     'stretches: for _ in 0..u64::MAX {
         let mut connection = Connection::new(alloc, keys, config);
         let mut follower = Follower::new(alloc, config.limits);
-        if converse(rt, &mut connection, &mut follower, wire, share, reader, writer)? {
+        if converse(
+            rt,
+            &mut connection,
+            &mut follower,
+            wire,
+            share,
+            reader,
+            writer,
+        )? {
             return Ok(());
         }
         share.clear(rt);

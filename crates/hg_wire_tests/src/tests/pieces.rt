@@ -145,8 +145,7 @@ fn what_stands_behind_a_bundle_is_dropped(rt: HostRuntime) {
 }
 
 /// The answer to a body that finds no room.
-const NO_ROOM: &[u8] =
-    b"HTTP/1.1 200 OK\r\ncontent-type: application/mercurial-0.1\r\n\
+const NO_ROOM: &[u8] = b"HTTP/1.1 200 OK\r\ncontent-type: application/mercurial-0.1\r\n\
     content-length: 60\r\n\r\nHG20\0\0\0\0\0\0\0\x28\x0bERROR:ABORT\0\0\0\0\x01\0\x07\x0dmessage\
     out of memory\0\0\0\0\0\0\0\0";
 
@@ -212,8 +211,16 @@ fn a_body_finds_no_room(rt: HostRuntime) {
     for asked in [long.as_slice(), chunked.as_slice()] {
         for step in [1, 7, 4_096, 1_000_000] {
             // the connection goes on, also with what came with the end of the body
-            let said = joined(&rt, alloc, &[HEADS, asked, HEADS, asked, asked, whole.as_slice()]);
-            let told = joined(&rt, alloc, &[NO_HEADS, NO_ROOM, NO_HEADS, NO_ROOM, NO_ROOM, DONE]);
+            let said = joined(
+                &rt,
+                alloc,
+                &[HEADS, asked, HEADS, asked, asked, whole.as_slice()],
+            );
+            let told = joined(
+                &rt,
+                alloc,
+                &[NO_HEADS, NO_ROOM, NO_HEADS, NO_ROOM, NO_ROOM, DONE],
+            );
             let left = served(&rt, alloc, &[said.as_slice()], narrow(step));
             assert!(rt; left.finish == Finish::Done);
             assert!(rt; left.told.as_slice() == told.as_slice());
@@ -248,7 +255,12 @@ fn a_body_without_room_ends_early(rt: HostRuntime) {
     assert_eq!(rt; left.told.len(), 0);
     // what it held was given back, and others go on
     let whole = push_with_length(&rt, alloc, 12, EMPTY);
-    let left = served(&rt, alloc, &[asked.as_slice(), whole.as_slice()], narrow(100));
+    let left = served(
+        &rt,
+        alloc,
+        &[asked.as_slice(), whole.as_slice()],
+        narrow(100),
+    );
     assert!(rt; left.finish == Finish::Done);
     assert!(rt; left.told.as_slice() == DONE);
 }

@@ -69,9 +69,11 @@ turns-preserved g c =
             (all.0, ap (λ (h : History). h.calls) went.0 ∙ all.1, all.2),
             w.write_to.ensures.config ∙ config,
             limits,
-            λ lost. let at = follows lost in
-                (at.0, subst (λ s. FollowsAt c.turns.follower s at.0)
-                (sym (ap (λ (h : History). h.received) went.0 ∙ quiet.0)) at.1),
+            λ lost. let at = follows lost in (
+              at.0,
+              subst (λ s. FollowsAt c.turns.follower s at.0)
+                  (sym (ap (λ (h : History). h.received) went.0 ∙ quiet.0)) at.1,
+            ),
           )
       | else-wants_write+in_ok-flush-2+else-not-has_room+in_ok-has_room w ↦
           let came = w.in_ok-has_room.ensures.ok in
@@ -93,8 +95,10 @@ turns-preserved g c =
             λ lost.
                 let on = came.3.1 lost in
                 let at = follows on.0 in
-                let now = on.1 (history c.turns.connection).received at.0 at.1 in
-                (now.0, subst (λ s. FollowsAt w.read_more.new.follower s now.0)
-                (sym (ap (λ (h : History). h.received) came.2 ∙ ap (λ (t : List ℕ). t ++ came.0) quiet.0)) now.1),
+                let now = on.1 (history c.turns.connection).received at.0 at.1 in (
+                  now.0,
+                  subst (λ s. FollowsAt w.read_more.new.follower s now.0)
+                      (sym (ap (λ (h : History). h.received) came.2 ∙ ap (λ (t : List ℕ). t ++ came.0) quiet.0)) now.1,
+                ),
           )
     ]

@@ -10,10 +10,10 @@ returns-clause-follows c = λ other stream count x.
     let f = c.args.self.now in
     let read = c.in-Ok.read in
     let step = λ (p : read.event ≢ Paused) (u : read.event ≢ Upgraded) (k : read.event ≢ Closed).
-        follows_read f.limits f.server c.read.new.self f.held.items c.read.new.headers read stream count
-        (rw c.as_slice.ensures at c.in-Ok.ensures.ok) p u k x in
+    follows_read f.limits f.server c.read.new.self f.held.items c.read.new.headers read stream count
+    (rw c.as_slice.ensures at c.in-Ok.ensures.ok) p u k x in
     let same = follows_same f.limits c.match-read-2.self.limits c.read.new.self c.match-read-2.self.server
-        (drop read.consumed f.held.items) c.advance.new.self.items stream count in
+    (drop read.consumed f.held.items) c.advance.new.self.items stream count in
     elim c.match-read-2.branch [
       | in-Head w ↦ same (ap (λ k. k.limits) w.self-is) (ap (λ k. k.server) w.self-is)
           (c.advance.ensures.items ∙ ap (λ k. drop read.consumed k.held.items) w.self-is)
