@@ -1,6 +1,7 @@
-use Rattle.std.proofs.Common.{◌≡◌, ℕ, List, [], true, false, Ok, Err, refl, rules, ap, subst, ◌∙◌}
+use Rattle.std.proofs.Common.{◌≡◌, ℕ, List, [], true, false, Ok, refl, ap, subst, ◌∙◌}
 use Rattle.std.specs.Io.KnownBytes.{Appends}
 use Rattle.std.proofs.KnownBytes.{Appends-nil, Consumes-nil}
+use Rattle.std.proofs.lemmas.Result.{err_from_is_err_and}
 use Rattle.http_server.specs.Connection.{config_of, history}
 use Rattle.http_server.specs.History.{IsServed, new_history}
 use Rattle.http_server.proofs.Theorems.{always_served}
@@ -42,11 +43,11 @@ returns-in_err-refuse g c =
     let held = subst (λ k. IsHeld k h f) same
     (c.converse.ensures.held (c.in_ok-converse.was ∙ ap Ok c.if-branch.false)) in
     let r = c.in_err-refuse.ensures in
-    let broke : c.from_residual-in_err-refuse.result ≡ Err c.in_err-refuse.field-0.0 = search rules in
+    let broke = err_from_is_err_and c.from_residual-in_err-refuse.result c.from_residual-in_err-refuse.ensures.1 in
     ends_with _ _ _ _ _ _ _ _ _ _ _ _ _ _ h r.0 r.1 c.stretches.invariant served
     (fresh_calls _ old h _ _ fresh c.converse.ensures.calls) (fresh_read old h _ _ fresh c.converse.ensures.read) r.2
     (fresh_written old h _ _ fresh c.converse.ensures.written) r.3
-    (ends_refused _ _ h f r.0 r.1 (is_broken _ _ _ broke) served held r.4)
+    (ends_refused _ _ h f r.0 r.1 (is_broken c.from_residual-in_err-refuse.result broke.0 tt broke.1) served held r.4)
 
 pub returns-then-branch-2 : goal.returns-then-branch-2
 returns-then-branch-2 g c =
