@@ -252,10 +252,18 @@ def a_silent_connection_ends(host):
 @case
 def bodies_beyond_the_memory(host):
     host.start("--memory", "1048576")
-    # the answer is there though the body was not read: no close resets the connection
-    replies = [host.push(bytes(4 << 20))[2] for _ in range(20)]
-    want("out of memory", all(b"out of memory" in it for it in replies), True)
-    want("a small one", host.push(EMPTY)[2], EMPTY_REPLY)
+    kind = ("content-type: application/mercurial-0.1", "x-hgarg-1: heads=666f726365")
+    long = request("/?cmd=unbundle", bytes(4 << 20), kind)
+    with host.connect() as line:
+        file = line.makefile("rb")
+        for _ in range(20):
+            # the connection goes on, also with a request that came with the end of the body
+            line.sendall(long + request("/?cmd=heads", None, ()))
+            want("out of memory", b"out of memory" in answer(file)[2], True)
+            want("the heads behind it", answer(file)[2], b"0" * 40 + b"\n")
+        line.sendall(request("/?cmd=unbundle", EMPTY, kind))
+        want("a small one", answer(file)[2], EMPTY_REPLY)
+    want("the connection is asked to close", host.ask("/?cmd=unbundle", bytes(4 << 20), (*kind, "connection: close"))[0], 200)
 
 
 @case

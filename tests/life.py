@@ -225,7 +225,7 @@ def is_refused(line):
 
 @case
 def bodies_hold_no_more_than_the_memory(host):
-    """Forty bodies of which 4 MiB came, where 16 MiB are allowed for all."""
+    """Forty bodies of which 4 MiB came, where 16 MiB are allowed for all, and then their rest."""
     host.start("--memory", str(16 << 20))
     lines = []
     for _ in range(40):
@@ -234,7 +234,12 @@ def bodies_hold_no_more_than_the_memory(host):
         with contextlib.suppress(ConnectionError):
             line.sendall(request("/?cmd=unbundle", bytes(6 << 20), PUSH)[:4 << 20])
     time.sleep(1)
-    refused, most = sum(is_refused(it) for it in lines), resident(host)
+    most = resident(host)
+    for line in lines:
+        with contextlib.suppress(ConnectionError):
+            line.sendall(bytes(2 << 20))
+    time.sleep(1)
+    refused = sum(is_refused(it) for it in lines)
     print(f"    {refused} of 40 bodies of 4 MiB are refused where 16 MiB are allowed; the process held {most:.0f} MiB at"
           " most")
     want("how many are refused", 36 <= refused < 40, True)

@@ -26,7 +26,7 @@ use hg_wire::{Budget, Finish, Shown, Terms, serve_http};
 use std::alloc::{AllocFailed, Global};
 use std::hash::RandomState;
 use std::io;
-use std::io::{Read, Write};
+use std::io::{BufRead, BufReader, Write};
 use std::marker::Model;
 use std::net::TcpStream;
 use std::random::RandomSource;
@@ -35,6 +35,9 @@ use std::time::{Clock, Duration};
 
 /// How many clients a ledger has.
 const WITNESSES: usize = 2;
+
+/// How many bytes of a connection are read at one time.
+const READ: usize = 16_384;
 
 /// A server over the ledger of a store, and what its connections share. Contracts see how many pushes the store
 /// had when it was opened, and where pulls go.
@@ -134,7 +137,7 @@ where
     }
 
     /// Serves a connection from that reader to that writer, by a client that may have served others before.
-    pub fn serve<I: Read, W: Write>(
+    pub fn serve<I: BufRead, W: Write>(
         &self,
         rt: &R,
         alloc: Global,
@@ -214,17 +217,18 @@ where
         self.slots.give_back(rt);
     }
 
-    /// Serves a connection over a socket. An error of the socket, of the clock or of the random bytes ends it
-    /// before it is served.
+    /// Serves a connection over a socket. An error of the socket, of the clock or of the random bytes, and memory
+    /// that is refused for what is read, ends it before it is served.
     fn attend(&self, rt: &R, alloc: Global, stream: &TcpStream) -> io::Result<Finish> {
         set_up(stream)?;
         let keys = RandomState::new(rt)?;
         let patience = Patience::new(rt, Duration::from_secs(self.terms.idle))?;
-        let mut reader = Line {
+        let line = Line {
             stream,
             patience: &patience,
             slots: &self.slots,
         };
+        let mut reader = BufReader::with_capacity(alloc, READ, line)?;
         let mut writer = Sent {
             line: Line {
                 stream,
@@ -234,7 +238,7 @@ where
         };
         let finish = self.serve(rt, alloc, keys, &mut reader, &mut writer);
         // where an answer was the last, the client may still send what nobody reads
-        if matches!(finish, Finish::Done | Finish::NoRoom) {
+        if finish == Finish::Done {
             drain(rt, stream);
         }
         Ok(finish)

@@ -1,4 +1,5 @@
 mod OneBundle
 mod Served
 mod Wires
+mod Following
 mod Looked

@@ -1,9 +1,14 @@
 -- A connection over HTTP: all of it.
-use Rattle.std.specs.Prelude.{ℕ, ◌≡◌, ◌≢◌, ⊤, List, [], ◌∷◌, ◌++◌, Option, codes}
+use Rattle.std.specs.Prelude.{ℕ, ◌≡◌, ◌≢◌, ◌+◌, ◌≤◌, ◌⊎◌, ⊤, Bool, true, false, List, [], ◌∷◌, ◌++◌, length, Option, codes}
+use Rattle.std.specs.List.{AllByRecursion, flat_map}
 use Rattle.std.specs.Io.KnownBytes.{Appends, Consumes}
 use mathlib.Core.List.{IsPrefix}
+use Rattle.http.specs.declared.request.Request.{Request as Asked}
+use Rattle.http1.specs.Message.{Request, ReadsRequests}
+use Rattle.http_server.specs.declared.response.Response.{Response}
 use Rattle.http_server.specs.declared.state.Config.{Config}
-use Rattle.http_server.specs.Exchange.{Chain}
+use Rattle.http_server.specs.declared.state.State.TheVariants.{Open}
+use Rattle.http_server.specs.Exchange.{Call, Chain}
 use Rattle.http_server.specs.History.{History, IsServed}
 use Rattle.hg_types.specs.declared.item.Taken.{Taken}
 use Rattle.hg_parts.specs.Repository.{Repository}
@@ -12,47 +17,96 @@ use Rattle.hg_push.specs.declared.outcome.Reason.TheVariants.{NoMemory}
 use Rattle.hg_push.specs.Reply.{reply_of}
 use Rattle.hg_push.specs.Run.{RepositoryOf}
 use Rattle.hg_wire.specs.declared.serve.Finish.{Finish}
-use Rattle.hg_wire.specs.declared.serve.Finish.TheVariants.{Done, Failed, NoRoom, NotStored}
+use Rattle.hg_wire.specs.declared.serve.Finish.TheVariants.{Done, NotStored}
 use Rattle.hg_wire.specs.declared.terms.Terms.{Terms}
 use Rattle.hg_wire.specs.Answering.{Responds, WireView}
 
 abbrev pub line : List ℕ → List ℕ
 line text = text ++ 13 ∷ 10 ∷ []
 
--- The answer to a push whose body found no room: the reply to one that is aborted for lack of memory.
-abbrev pub no_room_text : List ℕ
-no_room_text = line (codes "HTTP/1.1 200 OK") ++ line (codes "content-type: application/mercurial-0.1")
-    ++ line (codes "connection: close") ++ line (codes "content-length: 60") ++ line []
-    ++ reply_of {A = ⊤} (Aborted NoMemory)
+-- the field of the last answer
+abbrev pub closing : Bool → List ℕ
+closing true = line (codes "connection: close")
+closing false = []
 
--- What was written after the answers: where a body found no room a front of the answer that says so; else
--- nothing.
-abbrev pub WritesBehind : Finish → List ℕ → Type 0
-WritesBehind NoRoom behind = IsPrefix behind no_room_text
-WritesBehind Done behind = behind ≡ []
-WritesBehind (Failed kind) behind = behind ≡ []
-WritesBehind NotStored behind = behind ≡ []
+-- The answer to a push whose body found no room: the reply to one that is aborted for lack of memory. It may be
+-- the last one of the connection.
+abbrev pub no_room_text : Bool → List ℕ
+no_room_text is_last = line (codes "HTTP/1.1 200 OK") ++ line (codes "content-type: application/mercurial-0.1")
+    ++ closing is_last ++ line (codes "content-length: 60") ++ line [] ++ reply_of {A = ⊤} (Aborted NoMemory)
+
+-- A stretch of a connection: requests that were answered, and one whose body found no room. It has the bytes of
+-- that request that were read before, and those that were read after and dropped.
+pub record Refused : Type 0 where
+  pub history : History
+  pub dropped : List ℕ
+
+abbrev pub read_of : Refused → List ℕ
+read_of r = r.history.received ++ r.dropped
+
+abbrev pub calls_of : Refused → List Call
+calls_of r = r.history.calls
+
+-- what was sent for it: the answers, and the one that says that a body found no room
+abbrev pub sent_of : Refused → List ℕ
+sent_of r = r.history.sent ++ no_room_text false
+
+-- The requests of a stretch were served as HTTP has it, and what was sent answers those before the refused one.
+-- All bytes of the stretch are whole requests of HTTP's grammar, as it reads them before what was behind: those
+-- that were answered, and the refused one, which no call was made for.
+pub record IsRefused (config : Config) (r : Refused) : Type 0 where
+  pub served : ∥ IsServed config r.history ∥₁
+  pub open_still : r.history.state ≡ Open
+  pub all_sent : r.history.pending ≡ []
+  pub behind : List ℕ
+  pub requests : List Request
+  pub whole : ReadsRequests config.limits (r.history.received ++ r.dropped ++ behind) requests behind
+  pub one : length requests ≤ length r.history.calls + 1
+
+-- what was sent to the last request, where that was refused: all of the answer, or a front of it where the
+-- connection broke off
+abbrev pub IsTold : Type 0 → List ℕ → Type 0
+IsTold breaks told = (told ≡ no_room_text true) ⊎ (breaks × ((is_last : Bool) × IsPrefix told (no_room_text is_last)))
+
+-- How a connection ends, with the bytes that were dropped and those that were sent after the last stretch. There
+-- are none; or its body found no room, and the connection broke off within it; or that request was refused.
+abbrev pub Ends : Type 0 → Config → History → List ℕ → List ℕ → Type 0
+Ends breaks config history passed told =
+    ((passed ≡ []) × (told ≡ []))
+    ⊎ (breaks × (history.state ≡ Open) × (history.pending ≡ []) × (told ≡ []))
+    ⊎ (IsRefused config (record { history = history; dropped = passed }) × IsTold breaks told)
+
+-- A connection: stretches that end with a refused request, and a last one. What was read are the bytes of these,
+-- in order, and what was written is what was sent in them, in order, and each call goes on from the one before.
+pub record Converses {V : Type 0} (breaks : Type 0) (config : Config)
+    (answers : V → Asked (List ℕ) → Response → V → Type 0) (old new : V)
+    (input left out sent : Option (List ℕ)) : Type 0 where
+  pub refused : List Refused
+  pub each : AllByRecursion (IsRefused config) refused
+  pub history : History
+  pub served : ∥ IsServed config history ∥₁
+  pub calls : Chain answers old (flat_map calls_of refused ++ history.calls) new
+  pub passed : List ℕ
+  pub told : List ℕ
+  pub ends : Ends breaks config history passed told
+  pub read : Consumes input left (flat_map read_of refused ++ (history.received ++ passed))
+  pub written : Appends out sent (flat_map sent_of refused ++ (history.sent ++ told))
 
 -- What was received begins with requests of HTTP's grammar, and what was sent, or waits, is in order the
 -- responses to them: each tells the answer to its request, and each goes on from what the client had seen
--- before it. All bytes that were read are those that were received, and all that were written those that were
--- sent, and what is written where a body finds no room, after whole answers alone. The client has seen what the
--- last answer told of; it may have seen more only where the connection ended since the store failed.
+-- before it. Where a body finds no room, its rest is read and dropped, the answer says so, and the connection
+-- goes on. All bytes that were read are those that were received or dropped, and all that were written those that
+-- were sent. The client has seen what the last answer told of; it may have seen more only where the connection
+-- ended since the store failed.
 pub record ServesHttp {A S : Type 0} (capacity : ℕ) (first : RepositoryOf A)
     (kept : List (Taken A) → ℕ → Type 0) (page metrics : S → Repository A → List ℕ → Type 0)
     (terms : Terms S) (before : List (Taken A)) (input left out sent : Option (List ℕ)) (finish : Finish)
     (after : List (Taken A)) : Type 0 where
   pub config : Config
-  pub history : History
-  pub served : ∥ IsServed config history ∥₁
   pub room : config.max_body_len ≡ first.settings.limits.stream
   pub last : WireView A S
-  pub calls : Chain (λ old r response new. Responds capacity first kept page metrics old r response new)
-      (record { told = before; terms = terms }) history.calls last
+  pub converses : Converses (finish ≢ Done) config
+      (λ old r response new. Responds capacity first kept page metrics old r response new)
+      (record { told = before; terms = terms }) last input left out sent
   pub seen : IsPrefix last.told after
   pub all : finish ≢ NotStored → after ≡ last.told
-  pub read : Consumes input left history.received
-  pub behind : List ℕ
-  pub is_behind : WritesBehind finish behind
-  pub whole : finish ≡ NoRoom → history.pending ≡ []
-  pub written : Appends out sent (history.sent ++ behind)

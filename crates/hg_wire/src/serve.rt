@@ -1,18 +1,21 @@
 //! A connection over HTTP.
 
-ghost use Rattle.std.specs.Prelude.{◌≡◌, ◌++◌, ℕ, List, [], true, false, Ok, OnOk, OnErr};
+ghost use Rattle.std.specs.Prelude.{◌≡◌, ◌≢◌, ℕ, ◌⊎◌, Bool, true, false, Ok, List, [], ◌++◌, MatchResult, OnOk, OnErr};
+ghost use mathlib.Core.List.{IsPrefix};
 ghost use Rattle.std.specs.Io.KnownBytes.{Appends, Consumes, Keeps};
 ghost use Rattle.http_server.specs.Connection.{config_of, history};
 ghost use Rattle.http_server.specs.Exchange.{Calls};
-ghost use Rattle.http_server.specs.History.{after_read, IsQuiet};
+ghost use Rattle.http_server.specs.History.{after_read, IsQuiet, Rests, new_history};
 ghost use Rattle.hg_ledger.specs.Records.{AreKept};
 ghost use Rattle.hg_wire.specs.Answering.{Responds};
-ghost use Rattle.hg_wire.specs.Serving.{ServesHttp, WritesBehind};
+ghost use Rattle.hg_wire.specs.Serving.{Converses, IsTold, no_room_text, ServesHttp};
+ghost use Rattle.hg_wire.specs.code.Following.{FollowsAt, FollowsOn, IsHeld, Passes};
 
 use crate::budget::Share;
+use crate::follow::{Follower, Found};
 use crate::terms::{Host, Terms};
 use crate::wire::Wire;
-use hg_devices::send;
+use hg_devices::{Sending, send};
 use hg_ledger::{Ledger, Storing};
 use hg_reading::{Shown, Watch};
 use hg_serve::{Client, Server};
@@ -21,7 +24,7 @@ use http_server::{Config, Connection};
 use std::alloc::{Allocator, Global};
 use std::hash::RandomState;
 use std::io;
-use std::io::{ErrorKind, Read, Write};
+use std::io::{BufRead, ErrorKind, Write};
 use std::sync::Wait;
 
 /// How a connection ended.
@@ -31,23 +34,21 @@ pub enum Finish {
     Done,
     /// A read or a write failed, or memory was refused for one.
     Failed(ErrorKind),
-    /// A body found no room in the budget. After what was sent went the answer that says so, as far as the
-    /// writer took it.
-    NoRoom,
     /// The store failed, now or earlier: to the last request nothing was answered. Nothing more is stored.
     NotStored,
 }
 
 /// Serves a connection until it is done, or until a read or a write fails, and each answer that depends on the
 /// repository once all done pushes that it rests on are on the device. A body may be as long as the limit on a
-/// stream. The names of header fields come from strangers, so the keys are to be random.
+/// stream. Where it finds no room its rest is read and dropped, the answer says so, and the next request is
+/// served. The names of header fields come from strangers, so the keys are to be random.
 pub fn serve_http<
     J: Storing<Global>,
     D: Device,
     R: Wait,
     S: Shown<Global>,
     V: Watch<Global>,
-    I: Read,
+    I: BufRead,
     W: Write,
 >(
     server: &Server<J>,
@@ -67,7 +68,6 @@ pub fn serve_http<
 {
     let mut config = Config::default();
     config.max_body_len = server.limits().stream as usize;
-    let mut connection = Connection::new(alloc, keys, config);
     let host = Host {
         server,
         ledger,
@@ -76,37 +76,137 @@ pub fn serve_http<
     };
     let mut wire = Wire::new(host, terms, alloc, client, watch);
     let mut share = Share::new(terms.budget);
-    let ended = converse(rt, &mut connection, &mut wire, &mut share, reader, writer);
+    let ended = serve_stretches(
+        rt, alloc, keys, config, &mut wire, &mut share, reader, writer,
+    );
     share.clear(rt);
     let (client, has_failed) = wire.into_client();
-    (client, end_of(ended, has_failed, writer))
+    (client, end_of(ended, has_failed))
 }
 
-/// How the conversation ended. Where a body found no room, that is answered.
-fn end_of<W: Write>(ended: io::Result<bool>, has_failed: bool, writer: &mut W) -> Finish
+/// How the conversation ended.
+fn end_of(ended: io::Result<()>, has_failed: bool) -> Finish
     ensures failed { has_failed ≡ true → result ≡ Finish.NotStored }
-    ensures room { result ≡ Finish.NoRoom → ended ≡ Ok false }
-    ensures written { (behind : List ℕ) × WritesBehind result behind
-        × Appends (W.contents writer.old) (W.contents writer.new) behind }
+    ensures done { result ≡ Finish.Done → ended ≡ Ok tt }
 {
     if has_failed {
         return Finish::NotStored;
     }
     match ended {
-        Ok(true) => Finish::Done,
-        Ok(false) => {
-            let _sent = send(writer, NO_ROOM);
-            Finish::NoRoom
-        }
+        Ok(()) => Finish::Done,
         Err(error) => Finish::Failed(error.kind()),
     }
 }
 
 /// The answer that says that a body found no room: the reply to a push that is aborted for lack of memory.
-const NO_ROOM: &[u8] =
+const NO_ROOM: &[u8] = b"HTTP/1.1 200 OK\r\ncontent-type: application/mercurial-0.1\r\n\
+    content-length: 60\r\n\r\nHG20\0\0\0\0\0\0\0\x28\x0bERROR:ABORT\0\0\0\0\x01\0\x07\x0dmessage\
+    out of memory\0\0\0\0\0\0\0\0";
+
+/// The same, where it is the last answer.
+const NO_ROOM_LAST: &[u8] =
     b"HTTP/1.1 200 OK\r\ncontent-type: application/mercurial-0.1\r\nconnection: close\r\n\
     content-length: 60\r\n\r\nHG20\0\0\0\0\0\0\0\x28\x0bERROR:ABORT\0\0\0\0\x01\0\x07\x0dmessage\
     out of memory\0\0\0\0\0\0\0\0";
+
+/// Serves one stretch of requests after the other: each ends where a body finds no room.
+fn serve_stretches<
+    J: Storing<A>,
+    D: Device,
+    R: Wait,
+    S: Shown<A>,
+    V: Watch<A>,
+    A: Allocator + Copy,
+    I: BufRead,
+    W: Write,
+>(
+    rt: &R,
+    alloc: Global,
+    keys: RandomState,
+    config: Config,
+    wire: &mut Wire<'_, J, D, R, S, V, A>,
+    share: &mut Share<'_>,
+    reader: &mut I,
+    writer: &mut W,
+) -> io::Result<()>
+    ensures { Converses (result ≢ Ok tt) config (Responds J.capacity J.first
+        (AreKept D.seen D.may_leave J.head J.stored J.first) S.is_page S.are_metrics) wire.old wire.new
+        (I.remaining reader.old) (I.remaining reader.new) (W.contents writer.old) (W.contents writer.new) }
+{
+    // A loop is proved to end, so this one counts its turns.
+    'stretches: for _ in 0..u64::MAX {
+        let mut connection = Connection::new(alloc, keys, config);
+        let mut follower = Follower::new(alloc, config.limits);
+        if converse(
+            rt,
+            &mut connection,
+            &mut follower,
+            wire,
+            share,
+            reader,
+            writer,
+        )? {
+            return Ok(());
+        }
+        share.clear(rt);
+        if refuse(&mut follower, reader, writer)? {
+            return Ok(());
+        }
+    }
+    Err(ErrorKind::TimedOut.into())
+}
+
+/// Reads and drops the rest of a body that found no room, and answers that. Says whether it is the last answer.
+fn refuse<I: BufRead, W: Write>(
+    follower: &mut Follower,
+    reader: &mut I,
+    writer: &mut W,
+) -> io::Result<bool>
+    ensures { (dropped told : List ℕ) × Consumes (I.remaining reader.old) (I.remaining reader.new) dropped
+        × Appends (W.contents writer.old) (W.contents writer.new) told
+        × MatchResult result (λ is_last. Passes follower.old dropped × (told ≡ no_room_text is_last))
+        (λ _. (told ≡ []) ⊎ (Passes follower.old dropped × ((is_last : Bool) × IsPrefix told
+        (no_room_text is_last)))) }
+{
+    pass_over(follower, reader)?;
+    let is_last = follower.is_last();
+    let (sending, _) = send(writer, no_room(is_last));
+    if sending != Sending::Whole {
+        return Err(ErrorKind::WriteZero.into());
+    }
+    Ok(is_last)
+}
+
+/// The answer to a body that found no room.
+fn no_room(is_last: bool) -> &'static [u8]
+    ensures { result.now ≡ no_room_text is_last }
+{
+    match is_last {
+        true => NO_ROOM_LAST,
+        false => NO_ROOM,
+    }
+}
+
+/// Reads and drops the rest of the request that is being followed.
+fn pass_over<I: BufRead>(follower: &mut Follower, reader: &mut I) -> io::Result<()>
+    ensures { (dropped : List ℕ) × Consumes (I.remaining reader.old) (I.remaining reader.new) dropped
+        × OnOk result (Passes follower.old dropped) }
+{
+    'pieces: for _ in 0..u64::MAX {
+        let bytes = reader.fill_buf()?;
+        if bytes.is_empty() {
+            return Err(ErrorKind::UnexpectedEof.into());
+        }
+        let (found, count) = follower.pass(bytes);
+        reader.consume(count);
+        match found {
+            Found::More => {}
+            Found::End => return Ok(()),
+            Found::Nothing => return Err(ErrorKind::InvalidData.into()),
+        }
+    }
+    Err(ErrorKind::TimedOut.into())
+}
 
 /// Reads, answers and writes until the connection is done. It is false where a body found no room: then nothing
 /// waits to be sent.
@@ -117,16 +217,19 @@ fn converse<
     S: Shown<A>,
     V: Watch<A>,
     A: Allocator + Copy,
-    I: Read,
+    I: BufRead,
     W: Write,
 >(
     rt: &R,
     connection: &mut Connection,
+    follower: &mut Follower,
     wire: &mut Wire<'_, J, D, R, S, V, A>,
     share: &mut Share<'_>,
     reader: &mut I,
     writer: &mut W,
 ) -> io::Result<bool>
+    requires { (history connection.old ≡ new_history) × FollowsAt follower.old [] 0
+        × (follower.old.limits ≡ (config_of connection.old).limits) }
     ensures read { (more : List ℕ) × Consumes (I.remaining reader.old) (I.remaining reader.new) more
         × ((history connection.new).received ≡ (history connection.old).received ++ more) }
     ensures written { (more : List ℕ) × Appends (W.contents writer.old) (W.contents writer.new) more
@@ -135,11 +238,15 @@ fn converse<
         S.is_page S.are_metrics) wire.old wire.new (history connection.old).calls
         (history connection.new).calls }
     ensures config { config_of connection.new ≡ config_of connection.old }
-    ensures empty { result ≡ Ok false → (history connection.new).pending ≡ [] }
+    ensures held { result ≡ Ok false → IsHeld (config_of connection.new) (history connection.new)
+        follower.new }
 {
+    let mut has_room = true;
     // A loop is proved to end, so this one counts its turns.
     'turns: for _ in 0..u64::MAX {
-        advance(rt, connection, wire, share);
+        if advance(rt, connection, wire, share) {
+            has_room = true;
+        }
         if connection.is_done() {
             writer.flush()?;
             return Ok(true);
@@ -151,48 +258,58 @@ fn converse<
         } else {
             // The peer may be waiting for what a buffered writer holds.
             writer.flush()?;
-            if !read_more(rt, connection, share, reader)? {
+            if !has_room && follower.is_within() {
                 return Ok(false);
             }
+            has_room = read_more(rt, connection, follower, share, reader)?;
         }
     }
     Err(ErrorKind::TimedOut.into())
 }
 
-/// Answers what was received. What was held for it is given back.
+/// Answers what was received, and says whether anything was. What was held for it is given back.
 fn advance<J: Storing<A>, D: Device, R: Wait, S: Shown<A>, V: Watch<A>, A: Allocator + Copy>(
     rt: &R,
     connection: &mut Connection,
     wire: &mut Wire<'_, J, D, R, S, V, A>,
     share: &mut Share<'_>,
-)
+) -> bool
     ensures calls { Calls (Responds J.capacity J.first (AreKept D.seen D.may_leave J.head J.stored J.first)
         S.is_page S.are_metrics) wire.old wire.new (history connection.old).calls
         (history connection.new).calls }
     ensures quiet { IsQuiet (history connection.old) (history connection.new) }
     ensures config { config_of connection.new ≡ config_of connection.old }
+    ensures rests { Rests (config_of connection.new) (history connection.new) }
 {
     let before = wire.answered();
     connection.advance(wire);
-    if wire.answered() != before {
+    let has_answered = wire.answered() != before;
+    if has_answered {
         share.clear(rt);
     }
+    has_answered
 }
 
 /// Reads once, and says whether there was room for what came.
-fn read_more<R: Wait, I: Read>(
+fn read_more<R: Wait, I: BufRead>(
     rt: &R,
     connection: &mut Connection,
+    follower: &mut Follower,
     share: &mut Share<'_>,
     reader: &mut I,
 ) -> io::Result<bool>
     ensures ok { OnOk result ((more : List ℕ)
         × Consumes (I.remaining reader.old) (I.remaining reader.new) more
-        × (history connection.new ≡ after_read (history connection.old) more)) }
+        × (history connection.new ≡ after_read (history connection.old) more)
+        × FollowsOn follower.old follower.new more) }
     ensures err { OnErr result ((history connection.new ≡ history connection.old)
         × Keeps (I.remaining reader.old) (I.remaining reader.new)) }
     ensures config { config_of connection.new ≡ config_of connection.old }
 {
-    let count = connection.read_from(reader)?;
+    let bytes = reader.fill_buf()?;
+    let mut rest = bytes;
+    let count = connection.read_from(&mut rest)?;
+    follower.follow(&bytes[..count]);
+    reader.consume(count);
     Ok(share.grow(rt, count))
 }

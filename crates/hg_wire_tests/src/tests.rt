@@ -29,7 +29,7 @@ use hg_types::{Limits, NoMemory, Seq, Settings};
 use hg_wire::{Budget, Finish, Pushed, Shown, Terms, Watch, serve_http};
 use std::alloc::{AllocFailed, Allocator, Global};
 use std::hash::RandomState;
-use std::io::Read;
+use std::io::{BufReader, Read};
 use std::marker::Brand;
 use std::process::Abort;
 use std::random::RandomSource;
@@ -276,9 +276,13 @@ fn play<J: Storing<Global>, R: RandomSource + Wait + Abort>(
     let mut finish = Finish::Done;
     let mut told = Vec::new(alloc);
     for asked in said {
-        let mut reader = Source {
+        let source = Source {
             bytes: *asked,
             step: way.step,
+        };
+        let mut reader = match BufReader::new(alloc, source) {
+            Ok(reader) => reader,
+            Err(_) => panic!(rt; "no memory for a reader"),
         };
         told = Vec::new(alloc);
         let keys = state(rt);

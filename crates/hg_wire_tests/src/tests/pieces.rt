@@ -1,6 +1,7 @@
 //! Requests that come in pieces, in other forms, or not whole.
 
 use super::*;
+use std::io::ErrorKind;
 
 const EMPTY: &[u8] = b"HG20\0\0\0\0\0\0\0\0";
 
@@ -144,41 +145,95 @@ fn what_stands_behind_a_bundle_is_dropped(rt: HostRuntime) {
 }
 
 /// The answer to a body that finds no room.
-const NO_ROOM: &[u8] =
+const NO_ROOM: &[u8] = b"HTTP/1.1 200 OK\r\ncontent-type: application/mercurial-0.1\r\n\
+    content-length: 60\r\n\r\nHG20\0\0\0\0\0\0\0\x28\x0bERROR:ABORT\0\0\0\0\x01\0\x07\x0dmessage\
+    out of memory\0\0\0\0\0\0\0\0";
+
+/// The same, where the request asked to close.
+const NO_ROOM_LAST: &[u8] =
     b"HTTP/1.1 200 OK\r\ncontent-type: application/mercurial-0.1\r\nconnection: close\r\n\
     content-length: 60\r\n\r\nHG20\0\0\0\0\0\0\0\x28\x0bERROR:ABORT\0\0\0\0\x01\0\x07\x0dmessage\
     out of memory\0\0\0\0\0\0\0\0";
 
+/// A request for the heads, and its answer where nothing was pushed.
+const HEADS: &[u8] = b"GET /?cmd=heads HTTP/1.1\r\nhost: a\r\n\r\n";
+
+const NO_HEADS: &[u8] =
+    b"HTTP/1.1 200 OK\r\ncontent-type: application/mercurial-0.1\r\ncontent-length: 41\r\n\r\n\
+    0000000000000000000000000000000000000000\n";
+
+/// So many bytes that are no bundle.
+fn long_body<R: Abort>(rt: &R, alloc: Global, length: usize) -> Vec<u8> {
+    let mut body = Vec::new(alloc);
+    for _ in 0..length {
+        assert!(rt; body.push(7).is_ok());
+    }
+    body
+}
+
+/// The same, in chunks of 10,000 bytes.
+fn in_chunks<R: Abort>(rt: &R, alloc: Global, body: &[u8]) -> Vec<u8> {
+    let mut text = Vec::new(alloc);
+    for chunk in body.chunks(10_000) {
+        match format!(in alloc; "{:x}\r\n", chunk.len()) {
+            Ok(line) => assert!(rt; text.extend_from_slice(line.as_bytes()).is_ok()),
+            Err(_) => panic!(rt; "no memory"),
+        }
+        assert!(rt; text.extend_from_slice(chunk).is_ok());
+        assert!(rt; text.extend_from_slice(b"\r\n").is_ok());
+    }
+    assert!(rt; text.extend_from_slice(b"0\r\n\r\n").is_ok());
+    text
+}
+
+/// How the test below serves: with little room.
+fn narrow(step: usize) -> Way<'static> {
+    Way {
+        step,
+        budget: 20_000,
+        ..PLAIN
+    }
+}
+
 #[test]
 fn a_body_finds_no_room(rt: HostRuntime) {
     let alloc = rt.alloc();
-    let mut body = Vec::new(alloc);
-    for _ in 0..50_000 {
-        assert!(rt; body.push(7).is_ok());
-    }
-    let asked = push_with_length(&rt, alloc, 50_000, body.as_slice());
+    let body = long_body(&rt, alloc, 60_000);
     let whole = push_with_length(&rt, alloc, 12, EMPTY);
-    for step in [100, 4_096, 1_000_000] {
-        let way = Way {
-            step,
-            budget: 20_000,
-            ..PLAIN
-        };
-        let left = served(&rt, alloc, &[ASKED_0, asked.as_slice()], way);
-        assert!(rt; left.finish == Finish::NoRoom);
-        assert!(rt; left.told.as_slice() == NO_ROOM);
-        // what it held was given back, and others go on
-        let left = served(&rt, alloc, &[asked.as_slice(), whole.as_slice()], way);
-        assert!(rt; left.finish == Finish::Done);
-        assert!(rt; left.told.as_slice() == DONE);
+    let long = push_with_length(&rt, alloc, 60_000, body.as_slice());
+    let chunks = in_chunks(&rt, alloc, body.as_slice());
+    let chunked = push_of(
+        &rt,
+        alloc,
+        "transfer-encoding: chunked\r\n",
+        chunks.as_slice(),
+    );
+    for asked in [long.as_slice(), chunked.as_slice()] {
+        for step in [1, 7, 4_096, 1_000_000] {
+            // the connection goes on, also with what came with the end of the body
+            let said = joined(
+                &rt,
+                alloc,
+                &[HEADS, asked, HEADS, asked, asked, whole.as_slice()],
+            );
+            let told = joined(
+                &rt,
+                alloc,
+                &[NO_HEADS, NO_ROOM, NO_HEADS, NO_ROOM, NO_ROOM, DONE],
+            );
+            let left = served(&rt, alloc, &[said.as_slice()], narrow(step));
+            assert!(rt; left.finish == Finish::Done);
+            assert!(rt; left.told.as_slice() == told.as_slice());
+            assert_eq!(rt; left.kept, 1);
+        }
         // with more room it is read, and is no bundle
         let left = served(
             &rt,
             alloc,
-            &[asked.as_slice()],
+            &[asked],
             Way {
-                budget: 60_000,
-                ..way
+                budget: 80_000,
+                ..narrow(4_096)
             },
         );
         assert!(rt; left.finish == Finish::Done);
@@ -187,4 +242,38 @@ fn a_body_finds_no_room(rt: HostRuntime) {
                 .ends_with(b"messagestream fault 1\0\0\0\0\0\0\0\0")
         );
     }
+}
+
+/// A body that found no room and does not end: there is no answer.
+#[test]
+fn a_body_without_room_ends_early(rt: HostRuntime) {
+    let alloc = rt.alloc();
+    let body = long_body(&rt, alloc, 60_000);
+    let asked = push_with_length(&rt, alloc, 60_001, body.as_slice());
+    let left = served(&rt, alloc, &[asked.as_slice()], narrow(4_096));
+    assert!(rt; left.finish == Finish::Failed(ErrorKind::UnexpectedEof));
+    assert_eq!(rt; left.told.len(), 0);
+    // what it held was given back, and others go on
+    let whole = push_with_length(&rt, alloc, 12, EMPTY);
+    let left = served(
+        &rt,
+        alloc,
+        &[asked.as_slice(), whole.as_slice()],
+        narrow(100),
+    );
+    assert!(rt; left.finish == Finish::Done);
+    assert!(rt; left.told.as_slice() == DONE);
+}
+
+/// Where the request asks to close, its answer is the last, and what is behind it is not looked at.
+#[test]
+fn a_body_without_room_is_the_last(rt: HostRuntime) {
+    let alloc = rt.alloc();
+    let body = long_body(&rt, alloc, 60_000);
+    let fields = "connection: close\r\ncontent-length: 60000\r\n";
+    let asked = push_of(&rt, alloc, fields, body.as_slice());
+    let said = joined(&rt, alloc, &[asked.as_slice(), HEADS]);
+    let left = served(&rt, alloc, &[said.as_slice()], narrow(4_096));
+    assert!(rt; left.finish == Finish::Done);
+    assert!(rt; left.told.as_slice() == NO_ROOM_LAST);
 }

@@ -1,0 +1,35 @@
+use Rattle.std.proofs.Common.{ℕ, List, ◌++◌, subst}
+use Rattle.std.specs.Io.BufRead.{FillKeeps}
+use Rattle.std.specs.Io.KnownBytes.{Consumes}
+use Rattle.std.proofs.BufReadLemmas.{Consumes_shown}
+use Rattle.hg_wire.specs.code.Following.{FollowsAt}
+use Rattle.hg_wire.proofs.Following.{front_is, front_within}
+use Rattle.hg_wire.proofs.serve.read_more.Goals as goal
+
+pub returns-clause-ok : goal.returns-clause-ok
+returns-clause-ok g c =
+    let shown = c.in_ok-bytes.bytes.now in
+    let count = c.in_ok-count.count in
+    let came = c.in_ok-count.ensures.ok in
+    let rest = c.read_from.new.reader.now in
+    let same = front_is shown came.0 rest count came.1 came.2 in
+    let rested = c.fill_buf.follows.lender-at-none in
+    let filled = subst (FillKeeps _ (g.I.Read.remaining rested) (g.I.BufRead.consumable_len rested))
+    c.in_ok-bytes.was c.fill_buf.follows.holds-at-none in
+    let moved = Consumes_shown _ _ _ _ shown count (front_within shown came.0 rest count came.1 came.2)
+    c.in_ok-bytes.ensures.front c.in_ok-bytes.ensures.end filled.0 filled.1 c.consume.ensures.bytes in (
+      came.0,
+      subst (λ bytes. Consumes (g.I.Read.remaining c.args.reader.now) (g.I.Read.remaining c.consume.new.self) bytes)
+          same moved.0,
+      came.3,
+      (
+        c.follow.ensures.limits,
+        λ lost.
+            let on = c.follow.ensures.follows lost in (
+              on.0,
+              λ stream n x.
+                  let now = on.1 stream n x in
+                  (now.0, subst (λ bytes. FollowsAt c.follow.new.self (stream ++ bytes) now.0) same now.1),
+            ),
+      ),
+    )
