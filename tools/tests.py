@@ -2,7 +2,7 @@
 """Runs the tests, compiled with checks and not proved.
 
     tests.py                runs all of them
-    tests.py CRATE..        runs those of these crates (hg_log_tests, hg_server, ..)
+    tests.py CRATE..        runs those of these crates (hg_log_tests, hg_listener, ..)
     tests.py --list         prints the groups that the gate runs
 
 Several crates of tests are compiled as one, with what they stand on, in a stand of their own. A test that

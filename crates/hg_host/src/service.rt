@@ -18,7 +18,7 @@ use hg_ledger::{Ledger, Parts, Storing, Tally};
 use hg_opening::Recovered;
 use hg_queue::{PartQueue, Taker};
 use hg_serve::{Client, Server};
-use hg_server::drain;
+use hg_listener::drain;
 use hg_slots::{Line, Over, Patience, Sent, Slots, set_up};
 use hg_store::Device;
 use hg_types::NoMemory;

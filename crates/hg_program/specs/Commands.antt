@@ -3,8 +3,8 @@ use Rattle.std.specs.Prelude.{ℕ, ◌≡◌, ◌⊎◌, Bool, List, Option, is_
 use Rattle.hg_devices.specs.Devices.{Input, Output}
 use Rattle.hg_replay.specs.Answering.{Answered, NotOpened}
 use Rattle.hg_replay.specs.Replaying.{Replayed}
-use Rattle.hg_server.specs.declared.terms.Terms.{Terms}
-use Rattle.hg_server.specs.Doors.{DoorUse}
+use Rattle.hg_listener.specs.declared.terms.Terms.{Terms}
+use Rattle.hg_listener.specs.Doors.{DoorUse}
 use Rattle.hg_program.specs.Serving.{Serves}
 
 -- the status where a device failed, or memory was refused for one

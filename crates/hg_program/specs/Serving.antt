@@ -2,9 +2,9 @@
 use Rattle.std.specs.Prelude.{ℕ, ◌≡◌, List, Bool, Option, Some, None, Result, Ok, Err}
 use Rattle.hg_parts.specs.Repository.{Repository}
 use Rattle.hg_devices.specs.Devices.{Input, Output}
-use Rattle.hg_server.specs.declared.terms.Terms.{Terms}
-use Rattle.hg_server.specs.Doors.{DoorUse}
-use Rattle.hg_server.specs.Closing.{Ends}
+use Rattle.hg_listener.specs.declared.terms.Terms.{Terms}
+use Rattle.hg_listener.specs.Doors.{DoorUse}
+use Rattle.hg_listener.specs.Closing.{Ends}
 use Rattle.hg_replay.specs.declared.seed.SeedFault.{SeedFault}
 use Rattle.hg_replay.specs.declared.seed.SeedFault.TheVariants.{Aborted, ReadFailed, NoMemory}
 use Rattle.hg_replay.specs.Answering.{empty_repository}

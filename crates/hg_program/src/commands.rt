@@ -9,7 +9,7 @@ use crate::service::serve_on;
 use crate::standard::device_status;
 use hg_command::Serving;
 use hg_replay::{run_one, run_replay};
-use hg_server::Terms;
+use hg_listener::Terms;
 use std::alloc::Global;
 use std::fs::{File, Files};
 use std::hash::RandomState;

@@ -2,7 +2,7 @@
 
 ghost use Rattle.std.specs.Prelude.{◌≡◌, None};
 
-use hg_server::{Door, Terms};
+use hg_listener::{Door, Terms};
 use std::io;
 use std::net::{TcpListener, TcpStream};
 

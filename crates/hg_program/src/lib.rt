@@ -3,7 +3,7 @@
 //! [`one`] runs a bundle from standard input, [`replay`] the bundles of files, and [`serve`] the bundles of
 //! connections. [`hg_replay::run_one`] and [`hg_replay::run_replay`] are the first two from any readers to any
 //! writer, proved from the bytes read to the bytes written; [`serve_on`] is the third from its seed to its report,
-//! over `hg_server`. [`report`], [`log`], [`log_to`] and [`cut`] read a store and end it, over `hg_archive`.
+//! over `hg_listener`. [`report`], [`log`], [`log_to`] and [`cut`] read a store and end it, over `hg_archive`.
 //! [`take_closed`] is called before any file is opened, and [`device_status`] is the status of a device that failed.
 #![tactic(auto)]
 

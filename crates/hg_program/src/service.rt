@@ -8,7 +8,7 @@ ghost use Rattle.hg_program.specs.Serving.{Begins, Serves, fault_status};
 use hg_devices::{Reader, Writer};
 use hg_replay::{SeedFault, empty_repository, seeded};
 use hg_repo::Repo;
-use hg_server::{Door, Terms, serve_repository};
+use hg_listener::{Door, Terms, serve_repository};
 use std::alloc::Global;
 use std::hash::RandomState;
 use std::sync::Wait;

@@ -1,0 +1,80 @@
+-- A service that was closed.
+use Rattle.std.proofs.Common.{◌≡◌, ℕ, List, [], ◌∷◌, ◌++◌, Bool, ◌||◌, inr, subst, sym, refl, arith, length}
+use Rattle.std.proofs.Common.{Option}
+use Rattle.std.proofs.KnownBytes.{Appends-nil}
+use Rattle.std.specs.Prelude.{All, nat_lt}
+use mathlib.Core.List.{IsPrefix}
+use Rattle.atomic_table.specs.Seated.{TableId}
+use Rattle.hg_types.specs.declared.item.Taken.{Taken}
+use Rattle.hg_parts.specs.Repository.{Repository}
+use Rattle.hg_queue.specs.declared.seat.Taker.{Taker}
+use Rattle.hg_queue.specs.Words.{IsTakerIn, history}
+use Rattle.hg_serve.specs.Histories.{serial_run}
+use Rattle.hg_devices.specs.Devices.{Adds, Output}
+use Rattle.hg_devices.specs.Sent.{Sends}
+use Rattle.hg_devices.specs.declared.sending.Sending.{Sending}
+use Rattle.hg_devices.specs.declared.sending.Sending.TheVariants.{NoMemory}
+use Rattle.hg_devices.proofs.CallerLemmas.{Adds-nil, Adds-trans}
+use Rattle.hg_listener.specs.declared.terms.Terms.{Terms}
+use Rattle.hg_listener.specs.Doors.{AdmitsAll, DoorUse, Ended}
+use Rattle.hg_listener.specs.Closing.{EndsOn, closing_text, status_of}
+
+pub closes : {A : Type 0} (first named repo : Repository A) (terms : Terms) (capacity : ℕ)
+    (door mid shut : Option (List DoorUse)) (before after : Output) (status count : ℕ) (table : TableId)
+    (taker : Taker A) (at : Terms) (journal shown : List ℕ) (sending : Sending) (failed missed no_memory : Bool) (left : ℕ)
+    → first ≡ named → terms.capacity ≡ capacity
+    → serial_run named (history taker) ≡ record { repo = repo; journal = journal } → shown ≡ journal
+    → Sends sending count before after (closing_text repo shown) → status ≡ status_of failed no_memory sending
+    → IsTakerIn table capacity taker
+    → (clients : List (List (Taken A))) × (length clients ≡ left) × All (λ c. IsPrefix c (history taker)) clients
+    → no_memory ≡ (missed || nat_lt left terms.connections)
+    → at ≡ terms → AdmitsAll door mid at failed
+    → Adds mid shut (Ended missed ∷ [])
+    → EndsOn first terms door shut before after status
+closes {A} first named repo terms capacity door mid shut before after status count table taker at journal shown
+    sending failed missed no_memory left same room run all sent is of handed lacks on admits last =
+    let asks = subst (λ (t : Terms). AdmitsAll door mid t failed) on admits in
+    inr (record {
+      history = history taker;
+      repo = repo;
+      journal = journal;
+      serial = subst (λ f. serial_run f (history taker) ≡ record { repo = repo; journal = journal })
+          (sym same) run;
+      sending = sending;
+      count = count;
+      sent = subst (λ j. Sends sending count before after (closing_text repo j)) all sent;
+      failed = failed;
+      no_memory = no_memory;
+      status_is = is;
+      asked = asks.0;
+      asks = asks.2;
+      missed = missed;
+      uses = Adds-trans door mid shut asks.0 (Ended missed ∷ []) asks.1 last;
+      clients = handed.0;
+      earlier = handed.2;
+      memory = subst (λ (n : ℕ). no_memory ≡ (missed || nat_lt n terms.connections)) (sym handed.1) lacks;
+      table = table;
+      taker = taker;
+      queue = subst (λ (n : ℕ). IsTakerIn table n taker) (sym room) of;
+      taken = refl;
+    })
+
+-- where memory was refused for it, nothing of a text is sent
+pub nothing_sent : (out : Output) (text : List ℕ) → Sends NoMemory 0 out out text
+nothing_sent out text = record {
+  gone = [];
+  uses = [];
+  sent = record {
+    pieces = [];
+    rest = text;
+    last = [];
+    each = λ k d less. absurd (omega (arith, less));
+    gone_is = refl;
+    uses_are = refl;
+    reply_is = refl;
+    ends = (refl, refl);
+  };
+  count_is = refl;
+  bytes = Appends-nil out.taken;
+  told = Adds-nil out.uses;
+}

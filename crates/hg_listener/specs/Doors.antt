@@ -1,0 +1,56 @@
+-- What a door tells of how it was used, and on which terms.
+use Rattle.std.specs.Prelude.{ℕ, ◌≡◌, ◌<◌, ◌≤◌, ◌⊎◌, List, [], ◌∷◌, ◌++◌, Bool, true, false, zero}
+use Rattle.std.specs.Prelude.{suc, Option}
+use Rattle.hg_devices.specs.Devices.{Adds}
+use Rattle.hg_listener.specs.declared.terms.Terms.{Terms}
+
+-- How a door was used: whether it accepted a connection; whether it heard that one is served, on these terms;
+-- and whether it heard that memory was refused for one.
+pub data DoorUse : Type 0 where
+  Accepted : Bool → DoorUse
+  Started : Terms → Bool → DoorUse
+  Ended : Bool → DoorUse
+
+-- the nearest number to the one asked for, of 1 to the greatest
+pub record IsNearest (greatest asked used : ℕ) : Type 0 where
+  pub least : 1 ≤ used
+  pub most : used ≤ greatest
+  pub lowered : used < asked → used ≡ greatest
+  pub raised : asked < used → used ≡ 1
+
+-- the terms that were asked for, with a number out of its range put to its nearest end
+pub record IsBounded (asked used : Terms) : Type 0 where
+  pub connections : used.connections ≡ asked.connections
+  pub capacity : IsNearest 65536 asked.capacity used.capacity
+  pub bundles : IsNearest 10000 asked.bundles used.bundles
+
+-- so many connections, one after another, were each accepted and started
+abbrev pub served : ℕ → Terms → List DoorUse
+served zero terms = []
+served (suc count) terms = Accepted true ∷ Started terms true ∷ served count terms
+
+-- a connection that was not accepted, or one that was and was not started
+abbrev pub Fails : Terms → List DoorUse → Type 0
+Fails terms last = (last ≡ Accepted false ∷ []) ⊎ (last ≡ Accepted true ∷ Started terms false ∷ [])
+
+-- one connection was asked for
+abbrev pub Admits : Option (List DoorUse) → Option (List DoorUse) → Terms → Bool → Type 0
+Admits before after terms true = Adds before after (Accepted true ∷ Started terms true ∷ [])
+Admits before after terms false = (last : List DoorUse) × Adds before after last × Fails terms last
+
+-- Without a failure as many were served as were asked for. With one, fewer were, and one more failed.
+abbrev pub EndsAt : Terms → Bool → ℕ → List DoorUse → Type 0
+EndsAt terms false count last = (count ≡ terms.connections) × (last ≡ [])
+EndsAt terms true count last = (count < terms.connections) × Fails terms last
+
+-- A door was asked for the connections of a service of these terms, one after another, and after one that
+-- failed no more.
+pub record AsksFor (terms : Terms) (failed : Bool) (uses : List DoorUse) : Type 0 where
+  pub count : ℕ
+  pub last : List DoorUse
+  pub uses_are : uses ≡ served count terms ++ last
+  pub ends : EndsAt terms failed count last
+
+-- the same, as the door tells it
+abbrev pub AdmitsAll : Option (List DoorUse) → Option (List DoorUse) → Terms → Bool → Type 0
+AdmitsAll before after terms failed = (uses : List DoorUse) × Adds before after uses × AsksFor terms failed uses

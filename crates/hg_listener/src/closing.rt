@@ -1,0 +1,64 @@
+//! What is told of a closed server: its report, and the journal.
+
+ghost use Rattle.std.specs.Prelude.{◌≡◌, ◌++◌, IfOk, OnOk};
+ghost use Rattle.std.specs.List.{flat_map};
+ghost use Rattle.hg_devices.specs.Sent.{Sends};
+ghost use Rattle.hg_listener.specs.Closing.{closing_text, journal_line};
+
+use hg_devices::{Sending, Writer, send};
+use hg_repo::Repo;
+use hg_types::NoMemory;
+use std::alloc::Allocator;
+
+/// Writes the report of the repository, and after it a line `J n` for each push of the journal. Says what
+/// became of it, and how many bytes the writer took.
+pub fn tell_closing<A: Allocator + Copy, W: Writer>(
+    alloc: A,
+    repo: &Repo<A>,
+    journal: &[u32],
+    writer: &mut W,
+) -> (Sending, usize)
+    ensures { Sends result.0 result.1 (W.told writer.old) (W.told writer.new)
+        (closing_text repo.now journal.now) }
+{
+    match closing_text(alloc, repo, journal) {
+        Ok(text) => send(writer, &text),
+        Err(_) => (Sending::NoMemory, 0),
+    }
+}
+
+/// The report, and the lines of the journal.
+fn closing_text<A: Allocator + Copy>(
+    alloc: A,
+    repo: &Repo<A>,
+    journal: &[u32],
+) -> Result<Vec<u8, A>, NoMemory>
+    ensures { IfOk result (λ text. text.items ≡ closing_text repo.now journal.now) }
+{
+    let mut text = repo.report()?;
+    add_lines(alloc, &mut text, journal)?;
+    Ok(text)
+}
+
+/// Adds a line for each push.
+fn add_lines<A: Allocator + Copy>(
+    alloc: A,
+    text: &mut Vec<u8, A>,
+    journal: &[u32],
+) -> Result<(), NoMemory>
+    ensures { OnOk result (text.new.items ≡ text.old.items ++ flat_map journal_line journal.now) }
+{
+    for push in journal {
+        add_line(alloc, text, *push)?;
+    }
+    Ok(())
+}
+
+/// Adds the line of a push.
+fn add_line<A: Allocator + Copy>(alloc: A, text: &mut Vec<u8, A>, push: u32) -> Result<(), NoMemory>
+    ensures { OnOk result (text.new.items ≡ text.old.items ++ journal_line push) }
+{
+    let line = format!(in alloc; "J {push}\n")?;
+    text.extend_from_slice(line.as_bytes())?;
+    Ok(())
+}
