@@ -4,7 +4,7 @@ mod book;
 mod many;
 mod memory;
 mod prepared;
-mod reply;
+mod replies;
 
 ghost use Rattle.std.specs.Prelude.{◌≤◌};
 ghost use Rattle.hg_types.specs.Limits.{IsAllowed};
