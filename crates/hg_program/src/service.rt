@@ -6,9 +6,9 @@ ghost use Rattle.hg_types.specs.Limits.{IsAllowed};
 ghost use Rattle.hg_program.specs.Serving.{Begins, Serves, fault_status};
 
 use hg_devices::{Reader, Writer};
+use hg_listener::{Door, Terms, serve_repository};
 use hg_replay::{SeedFault, empty_repository, seeded};
 use hg_repo::Repo;
-use hg_listener::{Door, Terms, serve_repository};
 use std::alloc::Global;
 use std::hash::RandomState;
 use std::sync::Wait;
