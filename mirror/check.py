@@ -283,7 +283,7 @@ def try_killed(results, folder):
     results.same("killed: all of them", states[-1], wanted)
     write(f"{folder}/store", store(bundles))
     choose, killed, name = random.Random(4), 0, None
-    for start in range(4 * KILLS):
+    for start in range(12 * KILLS):
         if name is None:
             name = place.repository(f"killed{start}")
         before = settled(place, name)
