@@ -7,16 +7,28 @@ use Rattle.std.proofs.lemmas.Bool.{cases_eq, cases_lt, cases_order}
 use Rattle.std.proofs.lemmas.List.{get_or-set_same, get_or-set_other, length-set, map-set, set-get_or}
 use Rattle.hg_types.specs.declared.phase.Phase.{Phase}
 use Rattle.hg_types.specs.declared.phase.Phase.TheVariants.{Public}
+use Rattle.hg_types.specs.Phase.{number_of}
 use Rattle.hg_log.specs.Parents.{IsParentIn, AreOrdered}
 use Rattle.hg_log.specs.Children.{child_before}
 use Rattle.hg_log.proofs.CallerLemmas.{before_some, before_nobody}
 use Rattle.hg_phases.specs.declared.standing.Standing.{Standing}
-use Rattle.hg_phases.specs.declared.standing.Standing.TheVariants.{PublicOnPublic}
+use Rattle.hg_phases.specs.declared.standing.Standing.TheVariants.{PublicOnPublic, DraftOnPublic}
+use Rattle.hg_phases.specs.declared.standing.Standing.TheVariants.{DraftOnDraft, SecretOnPublic}
+use Rattle.hg_phases.specs.declared.standing.Standing.TheVariants.{SecretOnDraft, SecretOnSecret}
 use Rattle.hg_phases.specs.Order.{greater, phase_at, phase_of, phase_above}
 use Rattle.hg_phases.specs.Standing.{standing_of, standing_at, phase_told, phases_told}
 use Rattle.hg_phases.specs.code.Walk.{standing_in, AreStanding, AreRestood, IsTouched, IsListed}
 use Rattle.hg_phases.proofs.Told.{phase_of_standing}
 use Rattle.hg_phases.proofs.Standings.{phase_at_told}
+
+-- no other standing is of a public row
+only_public : (standing : Standing) → phase_told standing ≡ Public → standing ≡ PublicOnPublic
+only_public PublicOnPublic is = refl
+only_public DraftOnPublic is = absurd (omega (arith, ap number_of is))
+only_public DraftOnDraft is = absurd (omega (arith, ap number_of is))
+only_public SecretOnPublic is = absurd (omega (arith, ap number_of is))
+only_public SecretOnDraft is = absurd (omega (arith, ap number_of is))
+only_public SecretOnSecret is = absurd (omega (arith, ap number_of is))
 
 module _ (parents : ℕ → Option ℕ × Option ℕ) where
   -- the phases stay where a row gets its standing
@@ -27,6 +39,15 @@ module _ (parents : ℕ → Option ℕ × Option ℕ) where
       ∙ ap (set (phases_told now) row) (phase_of_standing (phase_at (phases_told now) row)
       (phase_above parents (phases_told now) row))
       ∙ set-get_or (phases_told now) row Public
+
+  -- a public row has its standing
+  pub public_stands : (now : List Standing) (row : ℕ) → row < length now
+      → phase_at (phases_told now) row ≡ Public
+      → now ≡ set now row (standing_in parents (phases_told now) row)
+  public_stands now row within public =
+      sym (ap (set now row) (ap (λ (x : Phase). standing_of x (phase_above parents (phases_told now) row)) public
+      ∙ sym (only_public (standing_at now row) (sym (phase_at_told now row within) ∙ public)))
+      ∙ set-get_or now row PublicOnPublic)
 
   pub restood_none : (Asked : ℕ → Type 0) (old : List Standing)
       → ((r : ℕ) → r < length old → ¬ (Asked r)) → AreRestood parents Asked old old

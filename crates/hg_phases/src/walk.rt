@@ -5,7 +5,7 @@ ghost use Rattle.std.specs.Prelude.{◌≡◌, ◌<◌, ◌≤◌, [], All, leng
 ghost use Rattle.hg_log.specs.Parents.{parents_of, IsParentIn};
 ghost use Rattle.hg_phases.specs.Phases.{AreLawful, advanced};
 ghost use Rattle.hg_phases.specs.Standing.{phases_told};
-ghost use Rattle.hg_phases.specs.code.Tape.{undone, Follows};
+ghost use Rattle.hg_phases.specs.code.Tape.{undone, rows_of, Follows};
 ghost use Rattle.hg_phases.specs.code.Walk.{IsLowered, AreLowered, AreRestood, AreStanding, IsTouched};
 ghost use Rattle.hg_phases.specs.code.Walk.{standing_in};
 
@@ -16,60 +16,58 @@ use hg_log::Changelog;
 use hg_types::Phase;
 use std::alloc::{AllocError, Allocator};
 
-/// Gives a row the target as its phase and adds it to those that are lowered, where there is a row and it is
-/// above the target.
+/// Gives a row the target as its phase, where there is a row and it is above the target.
 fn lower<A: Allocator>(
     rows: &mut Vec<Standing, A>,
     changes: &mut Vec<Replaced, A>,
-    lowered: &mut Vec<u32, A>,
     target: Phase,
     row: Option<u32>,
 ) -> Result<(), AllocError>
     requires { IfSome row (λ r. r < length rows.old.items) }
     ensures ok { OnOk result
-        (IsLowered target row rows.old.items lowered.old.items rows.new.items lowered.new.items) }
+        (IsLowered target row rows.old.items (rows_of changes.old.items) rows.new.items
+        (rows_of changes.new.items)) }
     ensures follows { Follows rows.old.items changes.old.items rows.new.items changes.new.items }
 {
     let Some(rev) = row else { return Ok(()) };
     if phase_at(rows.as_slice(), rev as usize).number() <= target.number() {
         return Ok(());
     }
-    lowered.push(rev)?;
     replace(rows, changes, rev, Standing::of(target, target))
 }
 
-/// Gives the target as its phase to each row that an advance lowers, and lists them.
+/// Gives the target as its phase to each row that an advance lowers. The changes list these rows, each once.
 fn lower_all<A: Allocator>(
     log: &Changelog<A>,
     rows: &mut Vec<Standing, A>,
     changes: &mut Vec<Replaced, A>,
-    lowered: &mut Vec<u32, A>,
     target: Phase,
     heads: &[u32],
 ) -> Result<(), AllocError>
     requires heads { All (λ head. head < length rows.old.items) heads.now }
     requires rows { length rows.old.items ≤ length log.now.rows }
     requires lawful { AreLawful (parents_of log.now.rows) (phases_told rows.old.items) }
-    requires none { lowered.old.items ≡ [] }
+    requires none { changes.old.items ≡ [] }
     ensures ok { OnOk result (AreLowered (parents_of log.now.rows) target heads.now rows.old.items
-        rows.new.items lowered.new.items) }
+        rows.new.items (rows_of changes.new.items)) }
     ensures follows { Follows rows.old.items changes.old.items rows.new.items changes.new.items }
 {
     let _few = log.len();
     for head in heads {
-        lower(rows, changes, lowered, target, Some(*head))?;
+        lower(rows, changes, target, Some(*head))?;
     }
     let mut place = 0;
-    'down: while place < lowered.len() {
-        let (p1, p2) = log.parent_revs(lowered[place]);
-        lower(rows, changes, lowered, target, p1)?;
-        lower(rows, changes, lowered, target, p2)?;
+    'down: while place < changes.len() {
+        let (p1, p2) = log.parent_revs(changes[place].row);
+        lower(rows, changes, target, p1)?;
+        lower(rows, changes, target, p2)?;
         place += 1;
     }
     Ok(())
 }
 
-/// Gives a row the standing that its phase and those of its parents make.
+/// Gives a row the standing that its phase and those of its parents make. A public row has it whatever its
+/// parents are, so they are not asked for.
 fn restand<A: Allocator>(
     log: &Changelog<A>,
     rows: &mut Vec<Standing, A>,
@@ -82,11 +80,15 @@ fn restand<A: Allocator>(
         (standing_in (parents_of log.now.rows) (phases_told rows.old.items) row)) }
     ensures follows { Follows rows.old.items changes.old.items rows.new.items changes.new.items }
 {
+    let all = rows.as_slice();
+    let phase = phase_at(all, row as usize);
+    if matches!(phase, Phase::Public) {
+        return Ok(());
+    }
     let _few = log.len();
     let (p1, p2) = log.parent_revs(row);
-    let all = rows.as_slice();
     let above = greater(phase_of(all, p1), phase_of(all, p2));
-    let standing = Standing::of(phase_at(all, row as usize), above);
+    let standing = Standing::of(phase, above);
     if standing.is_same(rows[row as usize]) {
         return Ok(());
     }
@@ -117,30 +119,32 @@ fn restand_children<A: Allocator>(
     Ok(())
 }
 
-/// Gives rows and their children the standing that their phases and those of their parents make.
+/// Gives the rows of the first changes, so many as are told, and their children the standing that their
+/// phases and those of their parents make.
 fn restand_all<A: Allocator>(
     log: &Changelog<A>,
     rows: &mut Vec<Standing, A>,
     changes: &mut Vec<Replaced, A>,
-    lowered: &[u32],
+    lowered: usize,
 ) -> Result<(), AllocError>
-    requires lowered { All (λ row. row < length rows.old.items) lowered.now }
+    requires lowered { lowered ≤ length changes.old.items }
+    requires within { All (λ row. row < length rows.old.items) (rows_of changes.old.items) }
     requires rows { length rows.old.items ≤ length log.now.rows }
     ensures ok { OnOk result (AreRestood (parents_of log.now.rows)
-        (λ r. IsTouched (parents_of log.now.rows) lowered.now (length lowered.now) r)
+        (λ r. IsTouched (parents_of log.now.rows) (rows_of changes.old.items) lowered r)
         rows.old.items rows.new.items) }
     ensures follows { Follows rows.old.items changes.old.items rows.new.items changes.new.items }
 {
-    for row in lowered {
-        restand(log, rows, changes, *row)?;
-        restand_children(log, rows, changes, *row)?;
+    for place in 0..lowered {
+        let row = changes[place].row;
+        restand(log, rows, changes, row)?;
+        restand_children(log, rows, changes, row)?;
     }
     Ok(())
 }
 
 /// Makes of rows what an advance makes of them, unless memory is refused on the way.
-fn change_rows<A: Allocator + Copy>(
-    alloc: A,
+fn change_rows<A: Allocator>(
     log: &Changelog<A>,
     rows: &mut Vec<Standing, A>,
     changes: &mut Vec<Replaced, A>,
@@ -151,15 +155,16 @@ fn change_rows<A: Allocator + Copy>(
     requires rows { length rows.old.items ≤ length log.now.rows }
     requires lawful { AreLawful (parents_of log.now.rows) (phases_told rows.old.items) }
     requires standing { AreStanding (parents_of log.now.rows) rows.old.items }
+    requires none { changes.old.items ≡ [] }
     ensures phases { OnOk result (phases_told rows.new.items
         ≡ advanced (parents_of log.now.rows) target heads.now (phases_told rows.old.items)) }
     ensures standing { OnOk result (AreStanding (parents_of log.now.rows) rows.new.items) }
     ensures follows { Follows rows.old.items changes.old.items rows.new.items changes.new.items }
 {
     let _lawful = log.len();
-    let mut lowered = Vec::new(alloc);
-    lower_all(log, rows, changes, &mut lowered, target, heads)?;
-    restand_all(log, rows, changes, lowered.as_slice())?;
+    lower_all(log, rows, changes, target, heads)?;
+    let lowered = changes.len();
+    restand_all(log, rows, changes, lowered)?;
     Ok(())
 }
 
@@ -183,7 +188,7 @@ pub fn advance_rows<A: Allocator + Copy>(
     ensures err { OnErr result (rows.new.items ≡ rows.old.items) }
 {
     let mut changes = Vec::new(alloc);
-    match change_rows(alloc, log, rows, &mut changes, target, heads) {
+    match change_rows(log, rows, &mut changes, target, heads) {
         Ok(()) => Ok(changes),
         Err(refused) => {
             undo(rows, changes);

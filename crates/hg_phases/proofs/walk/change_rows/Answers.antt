@@ -1,8 +1,10 @@
-use Rattle.std.proofs.Common.{◌≡◌, ℕ, List, length, subst}
+use Rattle.std.proofs.Common.{◌≡◌, ℕ, length, arith, subst}
 use Rattle.hg_log.specs.Parents.{parents_of}
 use Rattle.hg_log.proofs.CallerLemmas.{ordered}
+use Rattle.hg_phases.specs.code.Tape.{rows_of}
 use Rattle.hg_phases.specs.code.Walk.{AreRestood, IsTouched}
 use Rattle.hg_phases.proofs.Restood.{stands_again}
+use Rattle.hg_phases.proofs.Undoing.{rows_length}
 use Rattle.hg_phases.proofs.walk.change_rows.Goals as goal
 
 pub returns-clause-standing : goal.returns-clause-standing
@@ -11,8 +13,12 @@ returns-clause-standing g c =
     let parents = parents_of log in
     let now = c.lower_all.new.rows.items in
     let next = c.restand_all.new.rows.items in
+    let changes = c.lower_all.new.changes.items in
     let lowered = c.in_ok-lower_all.ensures.ok in
-    let are = subst (λ (xs : List ℕ). AreRestood parents (λ r. IsTouched parents xs (length xs) r) now next)
-    c.as_slice.ensures.value c.in_ok-restand_all.ensures.ok in
+    let held = c.lower_all.new.changes.ok in
+    let all : c.len-lowered.result ≡ length (rows_of changes) =
+    omega (arith, c.len-lowered.ensures, rows_length changes) in
+    let are = subst (λ (n : ℕ). AreRestood parents (λ r. IsTouched parents (rows_of changes) n r) now next)
+    all c.in_ok-restand_all.ensures.ok in
     stands_again parents (ordered log c.len-lawful.ensures.lawful) c.args.rows.now.items now next
-    c.lower_all.new.lowered.items c.requires.standing lowered.as_long lowered.each are
+    (rows_of changes) c.requires.standing lowered.as_long lowered.each are
