@@ -184,7 +184,7 @@ fn put<A: Allocator + Copy>(
     ensures err { OnErr result (names.new.pairs ≡ names.old.pairs) }
 {
     if is_marked {
-        return change(alloc, names, name, node);
+        return put_after_mark(alloc, names, name, node);
     }
     match node {
         Some(node) => {
@@ -196,7 +196,7 @@ fn put<A: Allocator + Copy>(
 }
 
 /// Sets a name or deletes it, and tells the change, if there is one.
-fn change<A: Allocator + Copy>(
+fn put_after_mark<A: Allocator + Copy>(
     alloc: A,
     names: &mut Names<A>,
     name: &[u8],
