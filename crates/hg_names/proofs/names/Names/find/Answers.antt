@@ -1,4 +1,4 @@
-use Rattle.std.proofs.Common.{◌≡◌, ℕ, ◌<◌, List, length, Some, None, sym, ap, subst, ◌∙◌}
+use Rattle.std.proofs.Common.{◌≡◌, ℕ, ◌<◌, List, length, Some, None, sym, ap, subst, ◌∙◌, rules}
 use Rattle.hg_types.specs.declared.node.Node.{Node}
 use Rattle.hg_names.specs.declared.blocks.Block.{Block}
 use Rattle.hg_names.specs.Names.{Held, AreInOrder, node_of}
@@ -30,4 +30,5 @@ returns-in_err-spot g c =
     let none : node_of (pairs_in c.self.inside.blocks.items) name ≡ None = subst
     (λ (bs : List (Block g.row.A.Denot)). node_of (pairs_in bs) name ≡ None)
     c.as_slice.ensures.value c.in_err-spot.ensures.none in
-    sym none ∙ ap (λ (h : Held). node_of h.pairs name) c.self.view_is
+    let told : c.from_residual.result ≡ None = search rules in
+    told ∙ sym none ∙ ap (λ (h : Held). node_of h.pairs name) c.self.view_is

@@ -18,11 +18,11 @@ returns-in-Some-clause-names g c =
     ∙ sym (without_place (pairs_in blocks) name (place_at blocks spot) named.at order)
     ∙ ap (λ (h : Held). without h.pairs name) c.self.view_is
 
-pub returns-in-None-clause-names : goal.returns-in-None-clause-names
-returns-in-None-clause-names g c =
+pub returns-in_default-clause-names : goal.returns-in_default-clause-names
+returns-in_default-clause-names g c =
     let blocks = c.self.inside.blocks.items in
     let name = c.args.name.now in
     let stays : without (pairs_in blocks) name ≡ pairs_in blocks = subst
     (λ (bs : List (Block g.row.A.Denot)). without (pairs_in bs) name ≡ pairs_in bs)
-    c.as_slice.ensures.value c.in-None.ensures.stays in
-    sym stays ∙ ap (λ (h : Held). without h.pairs name) c.self.view_is
+    c.as_slice.ensures.value c.in_default.ensures.stays in
+    ap (λ (h : Held). h.pairs) (sym c.self.view_is) ∙ sym stays ∙ ap (λ (h : Held). without h.pairs name) c.self.view_is

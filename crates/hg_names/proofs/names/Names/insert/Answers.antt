@@ -57,8 +57,8 @@ returns-in-Ok-clause-was g c =
     ∙ sym (found_at (pairs_in blocks) name (place_at blocks spot) no_pair order named.at)
     ∙ ap (λ (h : Held). node_of h.pairs name) c.self.view_is
 
-pub join-requires-free : goal.join-requires-free
-join-requires-free g c =
+pub join-requires-clause-free : goal.join-requires-clause-free
+join-requires-clause-free g c =
     let blocks = c.self.inside.blocks.items in
     let spot = c.in-Err.spot in
     subst (λ (n : List ℕ). IsFree blocks n spot) (sym c.in_ok-name-in-Err.ensures)

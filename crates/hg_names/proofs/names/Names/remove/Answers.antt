@@ -50,20 +50,20 @@ returns-clause-node g c =
     ∙ ap (λ (p : List ℕ × Node). Some p.1)
     (get_or_from_slice_get (pairs_in blocks) (place_at blocks spot) pair pair c.take_out-pair.ensures.pair)
 
-pub returns-in-None-clause-names : goal.returns-in-None-clause-names
-returns-in-None-clause-names g c =
+pub returns-in_default-clause-names : goal.returns-in_default-clause-names
+returns-in_default-clause-names g c =
     let blocks = c.self.inside.blocks.items in
     let name = c.args.name.now in
     let stays : without (pairs_in blocks) name ≡ pairs_in blocks = subst
     (λ (bs : List (Block g.row.A.Denot)). without (pairs_in bs) name ≡ pairs_in bs)
-    c.as_slice.ensures.value c.in-None.ensures.stays in
-    sym stays ∙ ap (λ (h : Held). without h.pairs name) c.self.view_is
+    c.as_slice.ensures.value c.in_default.ensures.stays in
+    ap (λ (h : Held). h.pairs) (sym c.self.view_is) ∙ sym stays ∙ ap (λ (h : Held). without h.pairs name) c.self.view_is
 
-pub returns-in-None-clause-none : goal.returns-in-None-clause-none
-returns-in-None-clause-none g c =
+pub returns-in_default-clause-none : goal.returns-in_default-clause-none
+returns-in_default-clause-none g c =
     let blocks = c.self.inside.blocks.items in
     let name = c.args.name.now in
     let none : node_of (pairs_in blocks) name ≡ None = subst
     (λ (bs : List (Block g.row.A.Denot)). node_of (pairs_in bs) name ≡ None)
-    c.as_slice.ensures.value c.in-None.ensures.none in
+    c.as_slice.ensures.value c.in_default.ensures.none in
     ap (λ (h : Held). node_of h.pairs name) (sym c.self.view_is) ∙ none
