@@ -227,17 +227,17 @@ def is_refused(line):
 def bodies_hold_no_more_than_the_memory(host):
     """Forty bodies of which 4 MiB came, where 16 MiB are allowed for all, and then their rest."""
     host.start("--memory", str(16 << 20))
-    lines = []
+    lines, push = [], request("/?cmd=unbundle", bytes(6 << 20), PUSH)
     for _ in range(40):
         line = host.connect()
         lines.append(line)
         with contextlib.suppress(ConnectionError):
-            line.sendall(request("/?cmd=unbundle", bytes(6 << 20), PUSH)[:4 << 20])
+            line.sendall(push[:4 << 20])
     time.sleep(1)
     most = resident(host)
     for line in lines:
         with contextlib.suppress(ConnectionError):
-            line.sendall(bytes(2 << 20))
+            line.sendall(push[4 << 20:])
     time.sleep(1)
     refused = sum(is_refused(it) for it in lines)
     print(f"    {refused} of 40 bodies of 4 MiB are refused where 16 MiB are allowed; the process held {most:.0f} MiB at"
