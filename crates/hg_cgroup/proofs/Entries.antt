@@ -12,7 +12,7 @@ use Rattle.hg_cgroup.specs.declared.fault.GroupFault.{GroupFault}
 use Rattle.hg_cgroup.specs.declared.fault.GroupFault.TheVariants.{NoMemory}
 use Rattle.hg_cgroup.specs.Chunk.{chunk_bytes, empty_chunk, IsContent, IsChunkFault}
 use Rattle.hg_cgroup.specs.Group.{delta_group, file_bytes, AreFrames, IsGroup}
-use Rattle.hg_cgroup.specs.Faults.{IsOf, BreaksInFrames, Breaks, in_changesets, in_frames}
+use Rattle.hg_cgroup.specs.Faults.{IsOf, BreaksInFrames, GroupBreaks, in_changesets, in_frames}
 use Rattle.hg_cgroup.specs.Changeset.{name_of, header_size, Changeset, IsChangeset, changeset_bytes}
 use Rattle.hg_cgroup.specs.Changeset.{entries_of, bases_behind, bases_in_order, HasBases, IsBase, IsSpelled}
 use Rattle.hg_cgroup.specs.Changeset.{AreChangesets}
@@ -149,16 +149,16 @@ pub told_changesets : {A : Type 0} (name payload : List ℕ) (version : Version)
     → name ≡ name_of version
     → (fault ≢ NoMemory → (changesets : List (Changeset A)) × (rest : List ℕ)
     × AreChangesets version payload changesets rest × IsChunkFault fault (header_size version) rest)
-    → fault ≡ wanted → wanted ≢ NoMemory → IsOf name (λ v. Breaks A v payload wanted)
+    → fault ≡ wanted → wanted ≢ NoMemory → IsOf name (λ v. GroupBreaks A v payload wanted)
 told_changesets {A} name payload version fault wanted named broken is other =
     let found = broken (λ e. other (sym is ∙ e)) in
-    (version, named, subst (Breaks A version payload) is (in_changesets found.0 found.1 found.2 found.3))
+    (version, named, subst (GroupBreaks A version payload) is (in_changesets found.0 found.1 found.2 found.3))
 
 -- a fault after them
 pub told_frames : {A : Type 0} (name payload behind : List ℕ) (version : Version) (fault wanted : GroupFault)
     (entries : List (Entry A)) → name ≡ name_of version
     → ((changesets : List (Changeset A)) × AreChangesets version payload changesets (empty_chunk ++ behind)
     × (entries ≡ entries_of changesets))
-    → BreaksInFrames behind fault → fault ≡ wanted → IsOf name (λ v. Breaks A v payload wanted)
+    → BreaksInFrames behind fault → fault ≡ wanted → IsOf name (λ v. GroupBreaks A v payload wanted)
 told_frames {A} name payload behind version fault wanted entries named took broken is =
-    (version, named, subst (Breaks A version payload) is (in_frames took.0 behind took.1 broken))
+    (version, named, subst (GroupBreaks A version payload) is (in_frames took.0 behind took.1 broken))

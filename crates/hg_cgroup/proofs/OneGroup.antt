@@ -12,7 +12,7 @@ use Rattle.hg_cgroup.specs.Chunk.{chunk_bytes, empty_chunk, IsChunkFault}
 use Rattle.hg_cgroup.specs.Changeset.{Changeset, IsChangeset, changeset_bytes, header_size, entries_of}
 use Rattle.hg_cgroup.specs.Changeset.{bases_behind, HasBases, AreChangesets, name_of}
 use Rattle.hg_cgroup.specs.Group.{file_bytes, delta_group, AreFrames, IsGroup}
-use Rattle.hg_cgroup.specs.Faults.{IsUnknown, IsOf, BreaksInFrames, Breaks, in_changesets, in_frames}
+use Rattle.hg_cgroup.specs.Faults.{IsUnknown, IsOf, BreaksInFrames, GroupBreaks, in_changesets, in_frames}
 use Rattle.hg_cgroup.specs.Faults.{HasLeftover, IsOutcome, gives, unknown, breaks, left_over}
 use Rattle.hg_cgroup.proofs.Lengths.{fronts}
 use Rattle.hg_cgroup.proofs.OneChunk.{empty_or_fault, fault_once, Stops, IsEnough, chunks_once}
@@ -263,7 +263,7 @@ groups_once version payload es fs x y p q =
     }
 
 group_or_fault : {A : Type 0} (version : Version) (payload : List ℕ) (es : List (Entry A)) (rest : List ℕ)
-    (fault : GroupFault) → IsGroup version payload es rest → Breaks A version payload fault → ⊥
+    (fault : GroupFault) → IsGroup version payload es rest → GroupBreaks A version payload fault → ⊥
 group_or_fault version payload es rest fault p (in_changesets cs x are wrong) =
     let a = parts_of version payload es rest p in
     changesets_broken fault version payload a.changesets cs a.behind x a.first are wrong
@@ -273,7 +273,7 @@ group_or_fault version payload es rest fault p (in_frames cs x are wrong) =
     frames_whole fault x rest (subst (λ (z : List ℕ). AreFrames z rest) same.rests a.frames) wrong
 
 faults_once : {A : Type 0} (version : Version) (payload : List ℕ) (f g : GroupFault)
-    → Breaks A version payload f → Breaks A version payload g → f ≡ g
+    → GroupBreaks A version payload f → GroupBreaks A version payload g → f ≡ g
 faults_once version payload f g (in_changesets cs x p wrong) (in_changesets ds y q wrong') =
     let both = changesets_once version payload cs ds x y p q (inr (f, wrong)) (inr (g, wrong')) in
     fault_once f g (header_size version) y (subst (IsChunkFault f (header_size version)) both.1 wrong) wrong'
@@ -307,16 +307,16 @@ abbrev refused : {A : Type 0} → GroupFault → Result (List (Entry A)) GroupFa
 refused fault = Err fault
 
 broken_or_left : {A : Type 0} (name payload : List ℕ) (fault : GroupFault)
-    → IsOf name (λ v. Breaks A v payload fault) → IsOf name (λ v. HasLeftover A v payload) → ⊥
+    → IsOf name (λ v. GroupBreaks A v payload fault) → IsOf name (λ v. HasLeftover A v payload) → ⊥
 broken_or_left {A} name payload fault p q =
-    let left = moved name (λ v. Breaks A v payload fault) (λ v. HasLeftover A v payload) p q in
+    let left = moved name (λ v. GroupBreaks A v payload fault) (λ v. HasLeftover A v payload) p q in
     group_or_fault p.0 payload left.entries left.rest fault left.whole p.2
 
 whole_or_broken : {A : Type 0} (name payload : List ℕ) (entries : List (Entry A)) (fault : GroupFault)
-    → IsOf name (λ v. IsGroup v payload entries []) → IsOf name (λ v. Breaks A v payload fault) → ⊥
+    → IsOf name (λ v. IsGroup v payload entries []) → IsOf name (λ v. GroupBreaks A v payload fault) → ⊥
 whole_or_broken {A} name payload entries fault p q =
     group_or_fault p.0 payload entries [] fault p.2
-    (moved name (λ v. IsGroup v payload entries []) (λ v. Breaks A v payload fault) p q)
+    (moved name (λ v. IsGroup v payload entries []) (λ v. GroupBreaks A v payload fault) p q)
 
 whole_or_left : {A : Type 0} (name payload : List ℕ) (entries : List (Entry A))
     → IsOf name (λ v. IsGroup v payload entries []) → IsOf name (λ v. HasLeftover A v payload) → ⊥
@@ -340,15 +340,15 @@ outcome_once {A} name payload a b (unknown p) (gives fs q) =
     absurd (known name (λ v. IsGroup v payload fs []) p q)
 outcome_once {A} name payload a b (unknown p) (unknown q) = refl
 outcome_once {A} name payload a b (unknown p) (breaks fault q) =
-    absurd (known name (λ v. Breaks A v payload fault) p q)
+    absurd (known name (λ v. GroupBreaks A v payload fault) p q)
 outcome_once {A} name payload a b (unknown p) (left_over q) =
     absurd (known name (λ v. HasLeftover A v payload) p q)
 outcome_once {A} name payload a b (breaks f p) (gives fs q) = absurd (whole_or_broken name payload fs f q p)
 outcome_once {A} name payload a b (breaks f p) (unknown q) =
-    absurd (known name (λ v. Breaks A v payload f) q p)
+    absurd (known name (λ v. GroupBreaks A v payload f) q p)
 outcome_once {A} name payload a b (breaks f p) (breaks g q) =
     ap refused (faults_once p.0 payload f g p.2
-    (moved name (λ v. Breaks A v payload f) (λ v. Breaks A v payload g) p q))
+    (moved name (λ v. GroupBreaks A v payload f) (λ v. GroupBreaks A v payload g) p q))
 outcome_once {A} name payload a b (breaks f p) (left_over q) = absurd (broken_or_left name payload f p q)
 outcome_once {A} name payload a b (left_over p) (gives fs q) = absurd (whole_or_left name payload fs q p)
 outcome_once {A} name payload a b (left_over p) (unknown q) =

@@ -17,7 +17,7 @@ use Rattle.hg_cgroup.specs.Chunk.{chunk_bytes, empty_chunk, IsContent, AreChunks
 use Rattle.hg_cgroup.specs.Changeset.{Changeset, IsChangeset, changeset_bytes, header_size, entries_of}
 use Rattle.hg_cgroup.specs.Changeset.{bases_behind, HasBases, AreChangesets, name_of}
 use Rattle.hg_cgroup.specs.Group.{AreFrames, IsGroup}
-use Rattle.hg_cgroup.specs.Faults.{IsUnknown, IsOf, BreaksInFrames, in_manifests, in_files, Breaks}
+use Rattle.hg_cgroup.specs.Faults.{IsUnknown, IsOf, BreaksInFrames, in_manifests, in_files, GroupBreaks}
 use Rattle.hg_cgroup.specs.Faults.{in_changesets, in_frames, HasLeftover, IsOutcome, gives, unknown, breaks}
 use Rattle.hg_cgroup.specs.Faults.{left_over}
 use Rattle.hg_cgroup.specs.Outcome.{◌>>=◌, ReadGroup, group_at, files_at, id_at, base_of, entry_of}
@@ -196,7 +196,7 @@ data EntriesRead {A : Type 0} (version : Version) (payload : List ℕ) : Result 
     → Type 0 where
   given : (entries : List (Entry A)) → IsGroup version payload entries []
       → EntriesRead version payload (Ok entries)
-  faulty : (fault : GroupFault) → Breaks A version payload fault → EntriesRead version payload (Err fault)
+  faulty : (fault : GroupFault) → GroupBreaks A version payload fault → EntriesRead version payload (Err fault)
   followed : HasLeftover A version payload → EntriesRead version payload (Err Leftover)
 
 ended_read : {A : Type 0} (version : Version) (payload : List ℕ) (entries : List (Entry A)) (rest : List ℕ)
@@ -304,7 +304,7 @@ failed fault = Err fault
 -- a fault that was handed on is that one, unless memory was refused
 pub fault_is_outcome : {A : Type 0} (name payload : List ℕ) (outcome : Result (List (Entry A)) GroupFault)
     (fault told : GroupFault) → IsBytes payload → outcome ≡ Err told → told ≡ fault
-    → (fault ≢ NoMemory → IsOf name (λ v. Breaks A v payload fault)) → outcome ≢ Err NoMemory
+    → (fault ≢ NoMemory → IsOf name (λ v. GroupBreaks A v payload fault)) → outcome ≢ Err NoMemory
     → outcome ≡ outcome_of name payload
 fault_is_outcome name payload outcome fault told fits is same wrong other =
     let failure : outcome ≡ failed fault = is ∙ ap failed same in

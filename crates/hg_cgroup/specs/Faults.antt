@@ -33,13 +33,13 @@ pub data BreaksInFrames (bytes : List ℕ) (fault : GroupFault) : Type 0 where
       BreaksInFrames bytes fault
 
 -- The same, or where a changeset is wanted. `A` is where entries lie in memory.
-pub data Breaks (A : Type 0) (version : Version) (payload : List ℕ) (fault : GroupFault) : Type 0 where
+pub data GroupBreaks (A : Type 0) (version : Version) (payload : List ℕ) (fault : GroupFault) : Type 0 where
   in_changesets : (changesets : List (Changeset A)) (rest : List ℕ) →
       AreChangesets version payload changesets rest → IsChunkFault fault (header_size version) rest →
-      Breaks A version payload fault
+      GroupBreaks A version payload fault
   in_frames : (changesets : List (Changeset A)) (rest : List ℕ) →
       AreChangesets version payload changesets (empty_chunk ++ rest) → BreaksInFrames rest fault →
-      Breaks A version payload fault
+      GroupBreaks A version payload fault
 
 -- a whole changegroup, and bytes after it
 pub record HasLeftover (A : Type 0) (version : Version) (payload : List ℕ) : Type 0 where
@@ -53,6 +53,6 @@ pub data IsOutcome (A : Type 0) (name payload : List ℕ) : Result (List (Entry 
   gives : (entries : List (Entry A)) → IsOf name (λ version. IsGroup version payload entries []) →
       IsOutcome A name payload (Ok entries)
   unknown : IsUnknown name → IsOutcome A name payload (Err UnknownVersion)
-  breaks : (fault : GroupFault) → IsOf name (λ version. Breaks A version payload fault) →
+  breaks : (fault : GroupFault) → IsOf name (λ version. GroupBreaks A version payload fault) →
       IsOutcome A name payload (Err fault)
   left_over : IsOf name (λ version. HasLeftover A version payload) → IsOutcome A name payload (Err Leftover)

@@ -3,7 +3,7 @@
 ghost use Rattle.std.specs.Prelude.{◌≡◌};
 ghost use Rattle.hg_cgroup.specs.declared.fault.GroupFault.TheVariants.{NoMemory};
 
-use std::alloc::{AllocError, AllocFailed};
+use hg_types::NoMemory;
 use thiserror::Error;
 
 /// Why a changegroup gives no entries. After `UnknownVersion` the first faulty chunk decides, and of several
@@ -31,26 +31,11 @@ pub enum GroupFault {
     NoMemory,
 }
 
-impl From<AllocError> for GroupFault {
-    ghost from_gives = { λ _ e. e ≡ NoMemory };
+/// Whatever says that memory was refused.
+impl<E: Into<NoMemory> + Drop> From<E> for GroupFault {
+    ghost from_gives = { λ _ fault. fault ≡ NoMemory };
 
-    fn from(_e: AllocError) -> Self {
-        GroupFault::NoMemory
-    }
-}
-
-impl<T: Drop> From<AllocFailed<T>> for GroupFault {
-    ghost from_gives = { λ _ e. e ≡ NoMemory };
-
-    fn from(_e: AllocFailed<T>) -> Self {
-        GroupFault::NoMemory
-    }
-}
-
-impl From<hg_types::NoMemory> for GroupFault {
-    ghost from_gives = { λ _ e. e ≡ NoMemory };
-
-    fn from(_e: hg_types::NoMemory) -> Self {
+    fn from(_refused: E) -> Self {
         GroupFault::NoMemory
     }
 }

@@ -5,7 +5,7 @@ ghost use Rattle.hg_types.specs.declared.entry.Entry.{Entry};
 ghost use Rattle.hg_types.specs.Bytes.{IsBytes};
 ghost use Rattle.hg_cgroup.specs.declared.fault.GroupFault.{GroupFault};
 ghost use Rattle.hg_cgroup.specs.Group.{IsGroup};
-ghost use Rattle.hg_cgroup.specs.Faults.{IsUnknown, IsOf, Breaks, HasLeftover, IsOutcome};
+ghost use Rattle.hg_cgroup.specs.Faults.{IsUnknown, IsOf, GroupBreaks, HasLeftover, IsOutcome};
 ghost use Rattle.hg_cgroup.specs.Outcome.{outcome_of};
 
 use crate::changeset::read_changesets;
@@ -29,11 +29,11 @@ pub fn decode<A: Allocator + Copy>(
     ensures entries { IfOk result (λ entries. IsOf version.now (λ v. IsGroup v payload.now entries [])) }
     ensures unknown_version { IsErrOf result GroupFault.UnknownVersion → IsUnknown version.now }
     ensures bad_length { IsErrOf result GroupFault.BadLength →
-        IsOf version.now (λ v. Breaks A v payload.now GroupFault.BadLength) }
+        IsOf version.now (λ v. GroupBreaks A v payload.now GroupFault.BadLength) }
     ensures short_header { IsErrOf result GroupFault.ShortHeader →
-        IsOf version.now (λ v. Breaks A v payload.now GroupFault.ShortHeader) }
+        IsOf version.now (λ v. GroupBreaks A v payload.now GroupFault.ShortHeader) }
     ensures truncated { IsErrOf result GroupFault.Truncated →
-        IsOf version.now (λ v. Breaks A v payload.now GroupFault.Truncated) }
+        IsOf version.now (λ v. GroupBreaks A v payload.now GroupFault.Truncated) }
     ensures leftover { IsErrOf result GroupFault.Leftover →
         IsOf version.now (λ v. HasLeftover A v payload.now) }
     // It is what reading from left to right gives, unless memory was refused.

@@ -12,14 +12,14 @@ use Rattle.std.proofs.lemmas.List.Elements.{All-get_or, All-drop}
 use Rattle.hg_chunks.specs.Size.{size_bytes}
 use Rattle.hg_chunks.specs.Payload.{Item, Chunk, Interruption, item_bytes, IsItem, chunk_bytes, closing}
 use Rattle.hg_chunks.specs.Payload.{interruption}
-use Rattle.hg_chunks.specs.Reading.{IsStopped, partial_size, partial_chunk, closes, bad_size, Reads}
+use Rattle.hg_chunks.specs.Reading.{IsStopped, partial_size, partial_chunk, closes, bad_size, ReadsItems}
 
 abbrev IsByte : ℕ → Type 0
 IsByte byte = byte < 256
 
 -- some reading
 abbrev Read : List ℕ → Type 0
-Read bytes = (items : List Item) × (rest : List ℕ) × Reads bytes items rest
+Read bytes = (items : List Item) × (rest : List ℕ) × ReadsItems bytes items rest
 
 stops : (bytes : List ℕ) → IsStopped bytes → Read bytes
 stops bytes stopped = ([], bytes, record { each = tt; stopped = stopped; spelled = refl })
@@ -116,5 +116,5 @@ reads (suc fuel) (a ∷ b ∷ c ∷ d ∷ more) le each =
 
 -- Any bytes are items and a rest that begins with no whole item.
 pub every_reading_lem : (bytes : List ℕ) → All (λ byte. byte < 256) bytes → (items : List Item)
-    × (rest : List ℕ) × Reads bytes items rest
+    × (rest : List ℕ) × ReadsItems bytes items rest
 every_reading_lem bytes each = reads (length bytes) bytes (omega arith) each

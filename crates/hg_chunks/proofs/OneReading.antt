@@ -10,7 +10,7 @@ use Rattle.hg_chunks.proofs.Sizes.{fronts, size_is}
 use Rattle.hg_chunks.specs.Size.{size_bytes}
 use Rattle.hg_chunks.specs.Payload.{Item, Chunk, Interruption, item_bytes, item_data, IsItem, IsChunk}
 use Rattle.hg_chunks.specs.Payload.{IsPayload, chunk_bytes, closing}
-use Rattle.hg_chunks.specs.Reading.{IsStopped, partial_size, partial_chunk, closes, bad_size, Reads}
+use Rattle.hg_chunks.specs.Reading.{IsStopped, partial_size, partial_chunk, closes, bad_size, ReadsItems}
 
 -- the chunks at the fronts are one
 chunk_is : (c d x y : List ℕ) → IsChunk c → IsChunk d → chunk_bytes c ++ x ≡ chunk_bytes d ++ y → (c ≡ d)
@@ -123,7 +123,7 @@ one (Interruption ∷ a) (Interruption ∷ b) x y ia ib sx sy same =
     (cc, others.1)
 
 -- Bytes are read in one way.
-pub one_reading_lem : (bytes : List ℕ) (a b : List Item) (x y : List ℕ) → Reads bytes a x → Reads bytes b y
+pub one_reading_lem : (bytes : List ℕ) (a b : List Item) (x y : List ℕ) → ReadsItems bytes a x → ReadsItems bytes b y
     → (a ≡ b) × (x ≡ y)
 one_reading_lem bytes a b x y p q = one a b x y p.each q.each p.stopped q.stopped (sym p.spelled ∙ q.spelled)
 

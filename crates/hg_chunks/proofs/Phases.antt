@@ -7,8 +7,8 @@ use Rattle.hg_chunks.specs.declared.payload.Stage.{Stage}
 use Rattle.hg_chunks.specs.declared.payload.Stage.TheVariants as stage
 use Rattle.hg_chunks.specs.declared.payload.PayloadIn.{PayloadIn}
 use Rattle.hg_chunks.specs.Payload.{closing, IsOpen}
-use Rattle.hg_chunks.specs.PayloadIn.{Reading, Ended, Broken, phase_of, phase_of_stage, limit_of, Holds, IsAt}
-use Rattle.hg_chunks.specs.PayloadIn.{IsFault, Stops}
+use Rattle.hg_chunks.specs.PayloadIn.{Reading, Ended, Broken, phase_of, phase_of_stage, limit_of, HasTakenItems, IsAt}
+use Rattle.hg_chunks.specs.PayloadIn.{IsFault, StopsWithin}
 use Rattle.hg_chunks.proofs.Steps.{waits, open_inside}
 
 open_at : (s : Stage) (limit : ℕ) (got size whole rest : List ℕ) → phase_of_stage s ≡ Reading
@@ -23,13 +23,13 @@ open_at (stage.Failed fault) limit got size whole rest e short at = absurd cc
 
 -- the payload may still go on
 pub open_while_reading : {A : Type 0} → (p : PayloadIn A) (whole rest : List ℕ) → phase_of p ≡ Reading
-    → Holds p whole rest → IsOpen (limit_of p) whole rest
+    → HasTakenItems p whole rest → IsOpen (limit_of p) whole rest
 open_while_reading p whole rest e holds =
     open_at p.stage p.limit p.«data».items p.size whole rest e holds.1 holds.2
 
 -- a reader that reads on stops where it is when it is given nothing
 pub starts : {A : Type 0} → (p : PayloadIn A) (whole rest : List ℕ) → phase_of p ≡ Reading
-    → Holds p whole rest → Stops More p whole rest []
+    → HasTakenItems p whole rest → StopsWithin More p whole rest []
 starts p whole rest e holds =
     waits p whole rest [] (rw append-nil holds) (rw append-nil (open_while_reading p whole rest e holds))
 
@@ -43,7 +43,7 @@ closing_at (stage.Failed fault) limit got size whole rest e at = absurd cc
 
 -- the closing size stands at its end
 pub closed_when_ended : {A : Type 0} → (p : PayloadIn A) (whole rest : List ℕ) → phase_of p ≡ Ended
-    → Holds p whole rest → rest ≡ closing
+    → HasTakenItems p whole rest → rest ≡ closing
 closed_when_ended p whole rest e holds = closing_at p.stage p.limit p.«data».items p.size whole rest e holds.2
 
 broken_is : (f : ChunkFault) (fault : ChunkFault) → Broken f ≡ Broken fault → f ≡ fault
@@ -59,6 +59,6 @@ fault_at (stage.Failed f) fault limit got size whole rest e at = rw (← broken_
 
 -- the fault stands at its end
 pub fault_when_broken : {A : Type 0} → (p : PayloadIn A) (fault : ChunkFault) (whole rest : List ℕ)
-    → phase_of p ≡ Broken fault → Holds p whole rest → IsFault fault (limit_of p) whole rest
+    → phase_of p ≡ Broken fault → HasTakenItems p whole rest → IsFault fault (limit_of p) whole rest
 fault_when_broken p fault whole rest e holds =
     fault_at p.stage fault p.limit p.«data».items p.size whole rest e holds.2

@@ -20,12 +20,12 @@ use Rattle.hg_chunks.specs.declared.payload.Left.{Left}
 use Rattle.hg_chunks.specs.declared.payload.PayloadIn.{PayloadIn}
 use Rattle.hg_chunks.specs.Size.{size_bytes}
 use Rattle.hg_chunks.specs.Payload.{chunk_bytes, IsChunk, IsOpen, IsPartialChunk, IsBadSize, IsTooLarge}
-use Rattle.hg_chunks.specs.PayloadIn.{Holds, IsInside, IsFault, Takes, Stops, Fails}
+use Rattle.hg_chunks.specs.PayloadIn.{HasTakenItems, IsInside, IsFault, TakesChunks, StopsWithin, FailsWithin}
 
 -- ---- nothing whole was taken
 
-pub waits : {A : Type 0} → (p : PayloadIn A) (whole rest bytes : List ℕ) → Holds p whole (rest ++ bytes)
-    → IsOpen p.limit whole (rest ++ bytes) → Stops More p whole rest bytes
+pub waits : {A : Type 0} → (p : PayloadIn A) (whole rest bytes : List ℕ) → HasTakenItems p whole (rest ++ bytes)
+    → IsOpen p.limit whole (rest ++ bytes) → StopsWithin More p whole rest bytes
 waits p whole rest bytes holds goes_on = (
   [],
   [],
@@ -35,8 +35,8 @@ waits p whole rest bytes holds goes_on = (
 )
 
 pub breaks : {A : Type 0} → (fault : ChunkFault) (p : PayloadIn A) (whole rest bytes : List ℕ)
-    → Holds p whole (rest ++ bytes) → IsFault fault p.limit whole (rest ++ bytes)
-    → Fails fault p whole rest bytes
+    → HasTakenItems p whole (rest ++ bytes) → IsFault fault p.limit whole (rest ++ bytes)
+    → FailsWithin fault p whole rest bytes
 breaks fault p whole rest bytes holds wrong = (
   [],
   rest ++ bytes,
@@ -46,7 +46,7 @@ breaks fault p whole rest bytes holds wrong = (
 
 -- a fault stays
 pub still_broken : {A : Type 0} → (p : PayloadIn A) (fault : ChunkFault) (whole rest : List ℕ)
-    → p.stage ≡ stage.Failed fault → Holds p whole rest → Fails fault p whole rest []
+    → p.stage ≡ stage.Failed fault → HasTakenItems p whole rest → FailsWithin fault p whole rest []
 still_broken p fault whole rest failed holds =
     let wrong : IsFault fault p.limit whole rest = rw failed at holds.2 in
     breaks fault p whole rest [] (rw append-nil holds) (rw append-nil wrong)
@@ -62,8 +62,8 @@ short_more old new b short other e = rw e (omega (arith, short, other, length-ap
 
 pub size_waits : {A : Type 0} → (p q : PayloadIn A) (byte : ℕ) (whole rest : List ℕ) → p.stage ≡ stage.Size
     → q.stage ≡ p.stage → q.limit ≡ p.limit → q.«data».items ≡ p.«data».items
-    → q.size ≡ p.size ++ byte ∷ [] → length q.size < 4 → Holds p whole rest
-    → Stops More q whole rest (byte ∷ [])
+    → q.size ≡ p.size ++ byte ∷ [] → length q.size < 4 → HasTakenItems p whole rest
+    → StopsWithin More q whole rest (byte ∷ [])
 size_waits p q byte whole rest at_size same_stage same_limit same_data size short holds =
     let at : (p.«data».items ≡ whole) × (rest ≡ p.size) = rw at_size at holds.2 in
     let now : rest ++ byte ∷ [] ≡ q.size = rw (at.1, size) refl in
@@ -90,7 +90,7 @@ abs_size (negsuc n) fits at = absurd (no_true (sym at))
 
 -- a size is whole now
 pub size_ends : {A : Type 0} → (p : PayloadIn A) (byte : ℕ) (z : ℤ) (whole rest : List ℕ)
-    → p.stage ≡ stage.Size → p.size ++ byte ∷ [] ≡ size_bytes z → Holds p whole rest
+    → p.stage ≡ stage.Size → p.size ++ byte ∷ [] ≡ size_bytes z → HasTakenItems p whole rest
     → (p.«data».items ≡ whole) × (rest ++ byte ∷ [] ≡ size_bytes z)
 size_ends p byte z whole rest at_size size holds =
     let at : (p.«data».items ≡ whole) × (rest ≡ p.size) = rw at_size at holds.2 in
@@ -99,7 +99,7 @@ size_ends p byte z whole rest at_size size holds =
 pub bad_size : {A : Type 0} → (p q : PayloadIn A) (byte : ℕ) (z : ℤ) (whole rest : List ℕ)
     → p.stage ≡ stage.Size → q.stage ≡ stage.Failed BadSize → q.limit ≡ p.limit → q.size ≡ []
     → p.size ++ byte ∷ [] ≡ size_bytes z → is_negative z ≡ true → (z ≡ negsuc 0 → ⊥) → FitsSigned w32 z
-    → Holds p whole rest → Fails BadSize q whole rest (byte ∷ [])
+    → HasTakenItems p whole rest → FailsWithin BadSize q whole rest (byte ∷ [])
 bad_size p q byte z whole rest at_size failed same_limit empty size negative other fits holds =
     let ended = size_ends p byte z whole rest at_size size holds in
     let n = neg_size z negative other fits in
@@ -116,7 +116,7 @@ pub too_large : {A : Type 0} → (p q : PayloadIn A) (byte : ℕ) (z : ℤ) (who
     → p.stage ≡ stage.Size → q.stage ≡ stage.Failed TooLarge → q.limit ≡ p.limit → q.size ≡ []
     → p.size ++ byte ∷ [] ≡ size_bytes z → is_negative z ≡ false → (z ≡ pos 0 → ⊥) → FitsSigned w32 z
     → ((n : ℕ) → z ≡ pos n → p.limit < length p.«data».items + n)
-    → Holds p whole rest → Fails TooLarge q whole rest (byte ∷ [])
+    → HasTakenItems p whole rest → FailsWithin TooLarge q whole rest (byte ∷ [])
 too_large p q byte z whole rest at_size failed same_limit empty size natural nonzero fits passes holds =
     let ended = size_ends p byte z whole rest at_size size holds in
     let n = pos_size z natural nonzero fits in
@@ -135,7 +135,7 @@ pub chunk_starts : {A : Type 0} → (p q : PayloadIn A) (byte : ℕ) (z : ℤ) (
     → p.stage ≡ stage.Size → q.stage ≡ stage.Chunk left → q.limit ≡ p.limit → q.size ≡ []
     → q.«data».items ≡ p.«data».items → p.size ++ byte ∷ [] ≡ size_bytes z → z ≡ pos left.bytes
     → left.bytes < 2 ^ 31 → length p.«data».items + left.bytes ≤ p.limit
-    → Holds p whole rest → Stops More q whole rest (byte ∷ [])
+    → HasTakenItems p whole rest → StopsWithin More q whole rest (byte ∷ [])
 chunk_starts p q byte z whole rest left at_size inside same_limit empty same_data size is small fits holds =
     let ended = size_ends p byte z whole rest at_size size holds in
     let spelled : rest ++ byte ∷ [] ≡ size_bytes (pos left.bytes) ++ [] = ended.1 ∙ ap size_bytes is
@@ -167,8 +167,8 @@ chunk_starts p q byte z whole rest left at_size inside same_limit empty same_dat
 
 pub data_waits : {A : Type 0} → (p q : PayloadIn A) (bytes whole rest : List ℕ) (left after : Left)
     → p.stage ≡ stage.Chunk left → q.stage ≡ stage.Chunk after → q.limit ≡ p.limit → q.size ≡ p.size
-    → q.«data».items ≡ p.«data».items ++ bytes → length bytes + after.bytes ≡ left.bytes → Holds p whole rest
-    → Stops More q whole rest bytes
+    → q.«data».items ≡ p.«data».items ++ bytes → length bytes + after.bytes ≡ left.bytes → HasTakenItems p whole rest
+    → StopsWithin More q whole rest bytes
 data_waits p q bytes whole rest left after at_chunk inside same_limit same_size got sum holds =
     let at : (p.size ≡ []) × IsInside p.limit p.«data».items whole rest left.bytes = rw at_chunk at holds.2 in
     let i = at.1 in
@@ -217,7 +217,7 @@ open_inside limit got whole rest left i =
 -- memory was refused
 pub data_refused : {A : Type 0} → (p q : PayloadIn A) (whole rest : List ℕ) (left : Left)
     → p.stage ≡ stage.Chunk left → q.stage ≡ stage.Failed NoMemory → q.limit ≡ p.limit → q.size ≡ p.size
-    → Holds p whole rest → Fails NoMemory q whole rest []
+    → HasTakenItems p whole rest → FailsWithin NoMemory q whole rest []
 data_refused p q whole rest left at_chunk failed same_limit same_size holds =
     let at : (p.size ≡ []) × IsInside p.limit p.«data».items whole rest left.bytes = rw at_chunk at holds.2 in
     let goes_on : IsOpen q.limit whole (rest ++ []) = rw (same_limit, append-nil)
@@ -227,8 +227,8 @@ data_refused p q whole rest left at_chunk failed same_limit same_size holds =
 -- the chunk is whole now
 pub data_ends : {A : Type 0} → (p q : PayloadIn A) (bytes whole rest : List ℕ) (left : Left)
     → p.stage ≡ stage.Chunk left → q.stage ≡ stage.Size → q.limit ≡ p.limit → q.size ≡ p.size
-    → q.«data».items ≡ p.«data».items ++ bytes → length bytes ≡ left.bytes → Holds p whole rest
-    → Stops More q whole rest bytes
+    → q.«data».items ≡ p.«data».items ++ bytes → length bytes ≡ left.bytes → HasTakenItems p whole rest
+    → StopsWithin More q whole rest bytes
 data_ends p q bytes whole rest left at_chunk at_size same_limit same_size got sum holds =
     let at : (p.size ≡ []) × IsInside p.limit p.«data».items whole rest left.bytes = rw at_chunk at holds.2 in
     let i = at.1 in
@@ -267,9 +267,9 @@ All-append (x ∷ xs) ys hx hy = (hx.0, All-append xs ys hx.1 hy)
 -- the chunks of two calls
 pub Takes-then : {A : Type 0}
     → (p q : PayloadIn A) (whole rest a b after tail end : List ℕ) (first second : List (List ℕ))
-    → Takes p whole rest a [] after first
-    → Takes q (whole ++ flat_map (λ chunk. chunk) first) after b tail end second
-    → Takes q whole rest (a ++ b) tail end (first ++ second)
+    → TakesChunks p whole rest a [] after first
+    → TakesChunks q (whole ++ flat_map (λ chunk. chunk) first) after b tail end second
+    → TakesChunks q whole rest (a ++ b) tail end (first ++ second)
 Takes-then p q whole rest a b after tail end first second s t =
     let joined : (whole ++ flat_map (λ (c : List ℕ). c) first) ++ flat_map (λ (c : List ℕ). c) second ≡ whole
     ++ flat_map (λ (c : List ℕ). c) (first ++ second) =
@@ -292,12 +292,12 @@ joins whole first second =
     ∙ ap (λ (x : List ℕ). whole ++ x) (sym (flat_map-append (λ (c : List ℕ). c) first second))
 
 pub Stops-then : {A : Type 0} → (step : Step) (p q : PayloadIn A) (whole rest a b : List ℕ)
-    → Stops More p whole rest a → ((w r : List ℕ) → Holds p w r → Stops step q w r b)
-    → Stops step q whole rest (a ++ b)
+    → StopsWithin More p whole rest a → ((w r : List ℕ) → HasTakenItems p w r → StopsWithin step q w r b)
+    → StopsWithin step q whole rest (a ++ b)
 Stops-then step p q whole rest a b s next =
     let t = next (whole ++ flat_map (λ (c : List ℕ). c) s.0) s.2 s.3.holds in
     let no_tail : s.1 ≡ [] = s.4.0 in
-    let first : Takes p whole rest a [] s.2 s.0 = rw no_tail at s.3 in (
+    let first : TakesChunks p whole rest a [] s.2 s.0 = rw no_tail at s.3 in (
       s.0 ++ t.0,
       t.1,
       t.2,
@@ -306,12 +306,12 @@ Stops-then step p q whole rest a b s next =
     )
 
 pub Fails-then : {A : Type 0} → (fault : ChunkFault) (p q : PayloadIn A) (whole rest a b : List ℕ)
-    → Stops More p whole rest a → ((w r : List ℕ) → Holds p w r → Fails fault q w r b)
-    → Fails fault q whole rest (a ++ b)
+    → StopsWithin More p whole rest a → ((w r : List ℕ) → HasTakenItems p w r → FailsWithin fault q w r b)
+    → FailsWithin fault q whole rest (a ++ b)
 Fails-then fault p q whole rest a b s next =
     let t = next (whole ++ flat_map (λ (c : List ℕ). c) s.0) s.2 s.3.holds in
     let no_tail : s.1 ≡ [] = s.4.0 in
-    let first : Takes p whole rest a [] s.2 s.0 = rw no_tail at s.3 in (
+    let first : TakesChunks p whole rest a [] s.2 s.0 = rw no_tail at s.3 in (
       s.0 ++ t.0,
       t.1,
       Takes-then p q whole rest a b s.2 [] t.1 s.0 t.0 first t.2,

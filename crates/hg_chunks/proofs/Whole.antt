@@ -8,7 +8,7 @@ use Rattle.hg_chunks.specs.declared.fault.Step.TheVariants.{More, Interrupt, Don
 use Rattle.hg_chunks.specs.declared.payload.PayloadIn.{PayloadIn}
 use Rattle.hg_chunks.specs.Payload.{Item, Chunk, Interruption, item_bytes, item_data, IsItem, IsChunk}
 use Rattle.hg_chunks.specs.Payload.{IsPayload, chunk_bytes}
-use Rattle.hg_chunks.specs.PayloadIn.{HasRead, Ended, phase_of, Holds, Stops, StopsAt}
+use Rattle.hg_chunks.specs.PayloadIn.{HasRead, Ended, phase_of, HasTakenItems, StopsWithin, StopsAt}
 use Rattle.hg_chunks.proofs.Phases.{closed_when_ended}
 
 abbrev as_items : List (List ℕ) → List Item
@@ -71,7 +71,7 @@ extended items more bytes piece rest after first second =
 
 -- What a reader has read in all grows by what a call takes.
 pub HasRead-then : {A : Type 0} → (step : Step) (p q : PayloadIn A) (bytes piece : List ℕ) → HasRead p bytes
-    → ((whole rest : List ℕ) → Holds p whole rest → Stops step q whole rest piece)
+    → ((whole rest : List ℕ) → HasTakenItems p whole rest → StopsWithin step q whole rest piece)
     → HasRead q (bytes ++ piece)
 HasRead-then step p q bytes piece read next =
     let whole : List ℕ = flat_map item_data read.items in
@@ -106,7 +106,7 @@ HasRead-then step p q bytes piece read next =
 -- At the end the bytes are a whole payload, with the data that the reader got.
 pub HasRead-payload : {A : Type 0} → (p : PayloadIn A) (bytes got : List ℕ) → phase_of p ≡ Ended
     → HasRead p bytes
-    → ((whole rest : List ℕ) → Holds p whole rest → got ≡ whole) → IsPayload bytes got
+    → ((whole rest : List ℕ) → HasTakenItems p whole rest → got ≡ whole) → IsPayload bytes got
 HasRead-payload p bytes got ended read gets =
     let closed = closed_when_ended p (flat_map item_data read.items) read.rest ended read.holds in
     record {

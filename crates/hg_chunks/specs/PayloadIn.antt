@@ -23,7 +23,7 @@ pub record IsInside (limit : ℕ) (got whole rest : List ℕ) (left : ℕ) : Typ
   pub spelled : rest ≡ size_bytes (pos size) ++ part
   pub got_is : got ≡ whole ++ part
 
--- what stands at the end of the bytes where that fault is told; where memory is refused, the payload might
+-- what stands at the end of the bytes where that fault is reported; where memory is refused, the payload might
 -- have gone on
 abbrev pub IsFault : ChunkFault → ℕ → List ℕ → List ℕ → Type 0
 IsFault BadSize limit whole rest = IsBadSize rest
@@ -43,8 +43,8 @@ abbrev pub limit_of : {A : Type 0} → PayloadIn A → ℕ
 limit_of p = p.limit
 
 -- the reader has taken items with the data `whole`, and then `rest`, which begins with no whole item
-abbrev pub Holds : {A : Type 0} → PayloadIn A → List ℕ → List ℕ → Type 0
-Holds p whole rest = (length whole ≤ limit_of p) × (length p.size < 4)
+abbrev pub HasTakenItems : {A : Type 0} → PayloadIn A → List ℕ → List ℕ → Type 0
+HasTakenItems p whole rest = (length whole ≤ limit_of p) × (length p.size < 4)
     × IsAt p.stage (limit_of p) p.«data».items p.size whole rest
 
 -- the bytes that the reader has taken in all: whole items, and then a rest that begins with no whole item
@@ -53,7 +53,7 @@ pub record HasRead {A : Type 0} (p : PayloadIn A) (bytes : List ℕ) : Type 0 wh
   pub rest : List ℕ
   pub each : AllByRecursion IsItem items
   pub spelled : bytes ≡ flat_map item_bytes items ++ rest
-  pub holds : Holds p (flat_map item_data items) rest
+  pub holds : HasTakenItems p (flat_map item_data items) rest
 
 -- how far a reader is
 pub data Phase : Type 0 where
@@ -88,20 +88,20 @@ StopsAt Done limit whole tail rest = (tail ≡ []) × (rest ≡ closing)
 
 -- From items with the data `whole` and then `rest` and `bytes`, the reader took these chunks and `tail`, and
 -- is left so.
-pub record Takes {A : Type 0} (p : PayloadIn A) (whole rest bytes tail after : List ℕ)
+pub record TakesChunks {A : Type 0} (p : PayloadIn A) (whole rest bytes tail after : List ℕ)
     (chunks : List (List ℕ)) : Type 0 where
   pub spelled : rest ++ bytes ≡ flat_map chunk_bytes chunks ++ (tail ++ after)
   pub each : AllByRecursion IsChunk chunks
-  pub holds : Holds p (whole ++ flat_map (λ chunk. chunk) chunks) after
+  pub holds : HasTakenItems p (whole ++ flat_map (λ chunk. chunk) chunks) after
 
 -- the same, and it stopped there
-abbrev pub Stops : {A : Type 0} → Step → PayloadIn A → List ℕ → List ℕ → List ℕ → Type 0
-Stops step p whole rest bytes = (chunks : List (List ℕ)) × (tail : List ℕ) × (after : List ℕ)
-    × Takes p whole rest bytes tail after chunks
+abbrev pub StopsWithin : {A : Type 0} → Step → PayloadIn A → List ℕ → List ℕ → List ℕ → Type 0
+StopsWithin step p whole rest bytes = (chunks : List (List ℕ)) × (tail : List ℕ) × (after : List ℕ)
+    × TakesChunks p whole rest bytes tail after chunks
     × StopsAt step (limit_of p) (whole ++ flat_map (λ chunk. chunk) chunks) tail after
 
 -- the same, and it met a fault there
-abbrev pub Fails : {A : Type 0} → ChunkFault → PayloadIn A → List ℕ → List ℕ → List ℕ → Type 0
-Fails fault p whole rest bytes = (chunks : List (List ℕ)) × (after : List ℕ)
-    × Takes p whole rest bytes [] after chunks
+abbrev pub FailsWithin : {A : Type 0} → ChunkFault → PayloadIn A → List ℕ → List ℕ → List ℕ → Type 0
+FailsWithin fault p whole rest bytes = (chunks : List (List ℕ)) × (after : List ℕ)
+    × TakesChunks p whole rest bytes [] after chunks
     × IsFault fault (limit_of p) (whole ++ flat_map (λ chunk. chunk) chunks) after

@@ -15,7 +15,7 @@ pub data IsStopped (rest : List ℕ) : Type 0 where
       IsStopped rest
 
 -- the bytes are these items and then `rest`, which begins with no whole item
-pub record Reads (bytes : List ℕ) (items : List Item) (rest : List ℕ) : Type 0 where
+pub record ReadsItems (bytes : List ℕ) (items : List Item) (rest : List ℕ) : Type 0 where
   pub each : AllByRecursion IsItem items
   pub stopped : IsStopped rest
   pub spelled : bytes ≡ flat_map item_bytes items ++ rest

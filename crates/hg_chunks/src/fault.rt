@@ -6,10 +6,10 @@ use thiserror::Error;
 /// interface.
 #[derive(Clone, Copy, Debug, PartialEq, Eq, Error)]
 pub enum ChunkFault {
-    /// A negative size that is not -1. It is told at the fourth byte of the size.
+    /// A negative size that is not -1. It is reported at the fourth byte of the size.
     #[error("a negative chunk size")]
     BadSize = 1,
-    /// The data so far and the new chunk together pass the limit. It is told at the fourth byte of the
+    /// The data so far and the new chunk together pass the limit. It is reported at the fourth byte of the
     /// chunk's size.
     #[error("a payload above its limit")]
     TooLarge = 2,

@@ -5,7 +5,7 @@ ghost use Rattle.std.specs.Int.{w32};
 ghost use Rattle.std.specs.Int.RustNames.{FitsSigned};
 ghost use Rattle.hg_chunks.specs.Size.{size_bytes};
 ghost use Rattle.hg_chunks.specs.Payload.{Item, IsPayload, payload_bytes};
-ghost use Rattle.hg_chunks.specs.Reading.{Reads};
+ghost use Rattle.hg_chunks.specs.Reading.{ReadsItems};
 
 /// No two sizes have the same four bytes.
 pub fn one_size()
@@ -14,7 +14,7 @@ pub fn one_size()
 
 /// Bytes are items and a rest in one way.
 pub fn one_reading()
-    ensures { (bytes : List ℕ) (a b : List Item) (x y : List ℕ) → Reads bytes a x → Reads bytes b y → (a ≡ b)
+    ensures { (bytes : List ℕ) (a b : List Item) (x y : List ℕ) → ReadsItems bytes a x → ReadsItems bytes b y → (a ≡ b)
         × (x ≡ y) }
 {}
 
@@ -32,5 +32,5 @@ pub fn what_is_written_is_a_payload()
 /// Any bytes are items and a rest that begins with no whole item.
 pub fn every_reading()
     ensures { (bytes : List ℕ) → All (λ byte. byte < 256) bytes → (items : List Item) × (rest : List ℕ)
-        × Reads bytes items rest }
+        × ReadsItems bytes items rest }
 {}

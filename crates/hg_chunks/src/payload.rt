@@ -26,7 +26,7 @@ enum Stage {
     Done,
     /// The same, and the data was handed out.
     Handed,
-    /// A fault was told, and stays.
+    /// A fault was reported, and stays.
     Failed(ChunkFault),
 }
 
@@ -44,13 +44,13 @@ pub struct PayloadIn<A: Allocator = Global> {
 
 impl<A: Allocator + Copy> PayloadIn<A> {
     ghost use Rattle.hg_chunks.specs.Payload.{IsPayload};
-    ghost use Rattle.hg_chunks.specs.PayloadIn.{HasRead, Holds, Stops, Fails, Reading, Ended, HandedOut};
+    ghost use Rattle.hg_chunks.specs.PayloadIn.{HasRead, HasTakenItems, StopsWithin, FailsWithin, Reading, Ended, HandedOut};
     ghost use Rattle.hg_chunks.specs.PayloadIn.{Broken, phase_of, phase_after, limit_of};
 
     /// A reader that has taken nothing, of a payload with at most `limit` bytes of data. It takes no memory.
     pub fn new(alloc: A, limit: u32) -> Self
         ensures limit { limit_of result ≡ limit }
-        ensures empty { Holds result [] [] }
+        ensures empty { HasTakenItems result [] [] }
         ensures read { HasRead result [] }
         ensures phase { phase_of result ≡ Reading }
     {
@@ -62,7 +62,7 @@ impl<A: Allocator + Copy> PayloadIn<A> {
         }
     }
 
-    /// Takes bytes up to the end of the piece, an interruption or the closing size, and tells how many it
+    /// Takes bytes up to the end of the piece, an interruption or the closing size, and says how many it
     /// took and where it stopped.
     ///
     /// After the closing size it takes nothing and answers `Done`. After a fault it takes nothing and
@@ -73,11 +73,11 @@ impl<A: Allocator + Copy> PayloadIn<A> {
         ensures some { IfOk result (λ r. phase_of self.old ≡ Reading → 0 < length piece.now → 0 < r.0) }
 
         // What was taken, and what the bytes hold where it stopped.
-        ensures ok { IfOk result (λ r. (whole rest : List ℕ) → Holds self.old whole rest →
-            Stops r.1 self.new whole rest (take r.0 piece.now)) }
+        ensures ok { IfOk result (λ r. (whole rest : List ℕ) → HasTakenItems self.old whole rest →
+            StopsWithin r.1 self.new whole rest (take r.0 piece.now)) }
         ensures err { IfErr result (λ fault. (place : ℕ) × (place ≤ length piece.now)
-            × ((whole rest : List ℕ) → Holds self.old whole rest →
-            Fails fault self.new whole rest (take place piece.now))) }
+            × ((whole rest : List ℕ) → HasTakenItems self.old whole rest →
+            FailsWithin fault self.new whole rest (take place piece.now))) }
         ensures read { IfOk result (λ r. (bytes : List ℕ) → HasRead self.old bytes →
             HasRead self.new (bytes ++ take r.0 piece.now)) }
 
@@ -119,10 +119,10 @@ impl<A: Allocator + Copy> PayloadIn<A> {
     /// Takes a byte of a size, where the reader is at one.
     fn take_size_byte(&mut self, byte: u8) -> Result<Step, ChunkFault>
         requires { self.old.stage ≡ Stage.Size }
-        ensures ok { IfOk result (λ step. (whole rest : List ℕ) → Holds self.old whole rest →
-            Stops step self.new whole rest (byte ∷ [])) }
-        ensures err { IfErr result (λ fault. (whole rest : List ℕ) → Holds self.old whole rest →
-            Fails fault self.new whole rest (byte ∷ [])) }
+        ensures ok { IfOk result (λ step. (whole rest : List ℕ) → HasTakenItems self.old whole rest →
+            StopsWithin step self.new whole rest (byte ∷ [])) }
+        ensures err { IfErr result (λ fault. (whole rest : List ℕ) → HasTakenItems self.old whole rest →
+            FailsWithin fault self.new whole rest (byte ∷ [])) }
         ensures phase { IfOk result (λ step. phase_of self.new ≡ phase_after step) }
         ensures broken { IfErr result (λ fault. phase_of self.new ≡ Broken fault) }
         ensures limit { limit_of self.new ≡ limit_of self.old }
@@ -154,10 +154,10 @@ impl<A: Allocator + Copy> PayloadIn<A> {
     fn take_data(&mut self, left: Left, bytes: &[u8]) -> Result<(), ChunkFault>
         requires stage { self.old.stage ≡ Stage.Chunk left }
         requires within { length bytes.now ≤ left.bytes }
-        ensures ok { IfOk result (λ _. (whole rest : List ℕ) → Holds self.old whole rest →
-            Stops Step.More self.new whole rest bytes.now) }
-        ensures err { IfErr result (λ fault. (whole rest : List ℕ) → Holds self.old whole rest →
-            Fails fault self.new whole rest []) }
+        ensures ok { IfOk result (λ _. (whole rest : List ℕ) → HasTakenItems self.old whole rest →
+            StopsWithin Step.More self.new whole rest bytes.now) }
+        ensures err { IfErr result (λ fault. (whole rest : List ℕ) → HasTakenItems self.old whole rest →
+            FailsWithin fault self.new whole rest []) }
         ensures phase { IfOk result (λ _. phase_of self.new ≡ Reading) }
         ensures broken { IfErr result (λ fault. phase_of self.new ≡ Broken fault) }
         ensures limit { limit_of self.new ≡ limit_of self.old }
@@ -178,8 +178,8 @@ impl<A: Allocator + Copy> PayloadIn<A> {
     /// Hands out the data of the chunks, joined. The payload has ended, and it was not handed out before.
     pub fn take_payload(&mut self) -> Seq<u8, A>
         requires { phase_of self.old ≡ Ended }
-        ensures data { (whole rest : List ℕ) → Holds self.old whole rest → (result ≡ whole)
-            × Holds self.new whole rest }
+        ensures data { (whole rest : List ℕ) → HasTakenItems self.old whole rest → (result ≡ whole)
+            × HasTakenItems self.new whole rest }
         ensures payload { (bytes : List ℕ) → HasRead self.old bytes → IsPayload bytes result }
         ensures phase { phase_of self.new ≡ HandedOut }
         ensures limit { limit_of self.new ≡ limit_of self.old }

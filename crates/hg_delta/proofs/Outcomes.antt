@@ -10,8 +10,8 @@ use Rattle.hg_delta.specs.declared.fault.DeltaFault.{DeltaFault}
 use Rattle.hg_delta.specs.declared.fault.DeltaFault.TheVariants.{Short, Backwards, PastEnd, TooLong, NoMemory}
 use Rattle.hg_delta.specs.Delta.{Hunk, number_bytes, header, hunk_bytes, IsPlaced, piece_of, Applies}
 use Rattle.hg_delta.specs.Faults.{HasHeader, IsHunkFault, BreaksAt, IsOutcome, gives, breaks, exceeds}
-use Rattle.hg_delta.specs.Outcome.{◌>>=◌, number_at, hunk_headed, hunk_at, text_within, outcome_of, Fails}
-use Rattle.hg_delta.specs.Outcome.{Gives}
+use Rattle.hg_delta.specs.Outcome.{◌>>=◌, number_at, hunk_headed, hunk_at, text_within, outcome_of, DeltaFails}
+use Rattle.hg_delta.specs.Outcome.{DeltaGives}
 use Rattle.hg_delta.proofs.Numbers.{length-header, taken_fits, number_is}
 use Rattle.hg_delta.proofs.Hunks.{Took, took_none, took_more, took_all, took_broken}
 use Rattle.hg_delta.proofs.Readings.{regrouped, outcome_once}
@@ -239,7 +239,7 @@ outcome_is base delta most outcome fits is =
     outcome_once base delta most (outcome_of base delta most) outcome (has_outcome base delta most fits) is
 
 pub breaks_is : (base delta : List ℕ) (most : ℕ) (fault : DeltaFault) → IsBytes delta
-    → (fault ≢ NoMemory → BreaksAt fault base delta) → Fails fault (outcome_of base delta most)
+    → (fault ≢ NoMemory → BreaksAt fault base delta) → DeltaFails fault (outcome_of base delta most)
 breaks_is base delta most Short fits broken =
     outcome_is base delta most (Err Short) fits (breaks Short (broken (λ e. cc)))
 breaks_is base delta most Backwards fits broken =
@@ -253,7 +253,7 @@ breaks_is base delta most NoMemory fits broken = tt
 -- the same of an answer that hands on a fault
 pub fault_is : {X : Type 0} (view : X → List ℕ) (r : Result X DeltaFault) (base delta : List ℕ) (most : ℕ)
     (fault told : DeltaFault) → r ≡ Err told → told ≡ fault → IsBytes delta
-    → (fault ≢ NoMemory → BreaksAt fault base delta) → Gives view r (outcome_of base delta most)
+    → (fault ≢ NoMemory → BreaksAt fault base delta) → DeltaGives view r (outcome_of base delta most)
 fault_is {X} view r base delta most fault told e same fits broken =
-    subst (λ (x : Result X DeltaFault). Gives view x (outcome_of base delta most))
+    subst (λ (x : Result X DeltaFault). DeltaGives view x (outcome_of base delta most))
     (sym (e ∙ ap (λ (f : DeltaFault). Err f) same)) (breaks_is base delta most fault fits broken)

@@ -48,14 +48,14 @@ outcome_of base delta most = do
   if nat_lt most (length text) then Err TooLong else Ok text
 
 -- what a function answered, unless memory was refused
-abbrev pub Fails : DeltaFault → Result (List ℕ) DeltaFault → Type 0
-Fails Short read = read ≡ Err Short
-Fails Backwards read = read ≡ Err Backwards
-Fails PastEnd read = read ≡ Err PastEnd
-Fails TooLong read = read ≡ Err TooLong
-Fails NoMemory read = Unit {0}
+abbrev pub DeltaFails : DeltaFault → Result (List ℕ) DeltaFault → Type 0
+DeltaFails Short read = read ≡ Err Short
+DeltaFails Backwards read = read ≡ Err Backwards
+DeltaFails PastEnd read = read ≡ Err PastEnd
+DeltaFails TooLong read = read ≡ Err TooLong
+DeltaFails NoMemory read = Unit {0}
 
 -- What a function returned, seen by view, is what reading gives, unless memory was refused.
-abbrev pub Gives : {X : Type 0} → (X → List ℕ) → Result X DeltaFault → Result (List ℕ) DeltaFault → Type 0
-Gives view (Ok x) read = read ≡ Ok (view x)
-Gives view (Err fault) read = Fails fault read
+abbrev pub DeltaGives : {X : Type 0} → (X → List ℕ) → Result X DeltaFault → Result (List ℕ) DeltaFault → Type 0
+DeltaGives view (Ok x) read = read ≡ Ok (view x)
+DeltaGives view (Err fault) read = DeltaFails fault read

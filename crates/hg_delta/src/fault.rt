@@ -3,7 +3,7 @@
 ghost use Rattle.std.specs.Prelude.{◌≡◌};
 ghost use Rattle.hg_delta.specs.declared.fault.DeltaFault.TheVariants.{NoMemory};
 
-use std::alloc::{AllocError, AllocFailed};
+use hg_types::NoMemory;
 use thiserror::Error;
 
 /// Why a delta gives no text: the fault of the first hunk that has one. Within a hunk the faults are looked
@@ -27,18 +27,11 @@ pub enum DeltaFault {
     NoMemory,
 }
 
-impl From<AllocError> for DeltaFault {
-    ghost from_gives = { λ _ e. e ≡ NoMemory };
+/// Whatever says that memory was refused.
+impl<E: Into<NoMemory> + Drop> From<E> for DeltaFault {
+    ghost from_gives = { λ _ fault. fault ≡ NoMemory };
 
-    fn from(_e: AllocError) -> Self {
-        DeltaFault::NoMemory
-    }
-}
-
-impl<T: Drop> From<AllocFailed<T>> for DeltaFault {
-    ghost from_gives = { λ _ e. e ≡ NoMemory };
-
-    fn from(_e: AllocFailed<T>) -> Self {
+    fn from(_refused: E) -> Self {
         DeltaFault::NoMemory
     }
 }

@@ -1,11 +1,11 @@
-//! Deltas: the text of a changeset, told as changes to a text that is known already.
+//! Deltas: the text of a changeset, as changes to a text that is known already.
 //!
 //! A delta is a series of hunks. A hunk is three unsigned numbers of 32 bits, the most significant byte
 //! first: `start`, `end` and the length of its content; then the content. The bytes `start` to `end` of the
 //! base, `end` excluded, are replaced by the content. Hunks ascend and do not overlap. This is the delta data
 //! of Mercurial's `internals.changegroups`, "Delta Groups".
 //!
-//! [`apply`] makes the text of a base and a delta, or tells the first fault.
+//! [`apply`] makes the text of a base and a delta, or reports the first fault.
 #![tactic(auto)]
 
 mod fault;

@@ -6,7 +6,7 @@ ghost use Rattle.hg_types.specs.Bytes.{IsBytes};
 ghost use Rattle.hg_delta.specs.declared.fault.DeltaFault.{DeltaFault};
 ghost use Rattle.hg_delta.specs.Delta.{Applies};
 ghost use Rattle.hg_delta.specs.Faults.{BreaksAt, GivesTooMuch, IsOutcome};
-ghost use Rattle.hg_delta.specs.Outcome.{Gives, outcome_of};
+ghost use Rattle.hg_delta.specs.Outcome.{DeltaGives, outcome_of};
 
 use crate::fault::DeltaFault;
 use crate::hunk::read_hunk;
@@ -73,7 +73,7 @@ pub fn apply<A: Allocator + Copy>(
     ensures past_end { IsErrOf result DeltaFault.PastEnd → BreaksAt DeltaFault.PastEnd base.now delta.now }
     ensures too_long { IsErrOf result DeltaFault.TooLong → GivesTooMuch base.now delta.now max }
     // So it is what reading from left to right gives, unless memory is refused.
-    ensures outcome { Gives (λ text. text.items) result (outcome_of base.now delta.now max) }
+    ensures outcome { DeltaGives (λ text. text.items) result (outcome_of base.now delta.now max) }
 {
     let length = text_length(base, delta)?;
     if length > max as usize {

@@ -15,7 +15,7 @@ use Rattle.hg_obs.specs.declared.fault.MarkerFault.TheVariants.{BadVersion, Shor
 use Rattle.hg_obs.specs.declared.fault.MarkerFault.TheVariants.{NoMemory}
 use Rattle.hg_obs.specs.Marker.{marker_bytes, IsMarker}
 use Rattle.hg_obs.specs.Grammar.{AreMarkers, IsMarkerFault, IsFaultBehind, IsFault}
-use Rattle.hg_obs.specs.Reading.{◌>>=◌, Fails, Gives, Fields, byte_at, checked, marker_at, with_front}
+use Rattle.hg_obs.specs.Reading.{◌>>=◌, MarkerFails, MarkerGives, Fields, byte_at, checked, marker_at, with_front}
 use Rattle.hg_obs.specs.Reading.{markers_within, markers_at, markers_of}
 use Rattle.hg_obs.proofs.ReadingLemmas.{bind_ok, ok_is, IsBytes-drop}
 use Rattle.hg_obs.proofs.PlaceLemmas.{same_node_equiv}
@@ -127,7 +127,7 @@ module _ {A : Type 0} where
 
   pub fails_on : (front : List (Marker A)) (bytes : List ℕ) (d : MarkerFault)
       (all : Result (List (Marker A)) MarkerFault) → 0 < length bytes
-      → with_front front (markers_at bytes) ≡ all → Fails d (marker_at {A = A} bytes) → Fails d all
+      → with_front front (markers_at bytes) ≡ all → MarkerFails d (marker_at {A = A} bytes) → MarkerFails d all
   fails_on front bytes BadVersion all some h e = stops front bytes BadVersion all some h e
   fails_on front bytes Short all some h e = stops front bytes Short all some h e
   fails_on front bytes BadMetadata all some h e = stops front bytes BadMetadata all some h e
@@ -169,10 +169,10 @@ module _ {A : Type 0} where
 
   -- what the exit of a `?` gives
   pub gives_fault : (r : Result (List (Marker A)) MarkerFault) (fault d : MarkerFault)
-      (read : Result (List (Marker A)) MarkerFault) → r ≡ Err fault → fault ≡ d → Fails d read
-      → Gives (λ ms. ms) r read
+      (read : Result (List (Marker A)) MarkerFault) → r ≡ Err fault → fault ≡ d → MarkerFails d read
+      → MarkerGives (λ ms. ms) r read
   gives_fault r fault d read e same told =
-      subst (λ (x : Result (List (Marker A)) MarkerFault). Gives (λ ms. ms) x read)
+      subst (λ (x : Result (List (Marker A)) MarkerFault). MarkerGives (λ ms. ms) x read)
       (sym (e ∙ ap (λ (x : MarkerFault). Err x) same)) told
 
   -- ---- what is read is in the grammar
@@ -308,12 +308,12 @@ module _ {A : Type 0} where
 
   -- the same of an answer
   pub found_from : (r : Result (List (Marker A)) MarkerFault) (bytes : List ℕ) → IsBytes bytes
-      → Gives (λ ms. ms) r (markers_of bytes) → IfOk r (AreMarkers bytes)
+      → MarkerGives (λ ms. ms) r (markers_of bytes) → IfOk r (AreMarkers bytes)
   found_from (Ok ms) bytes fits e = found bytes ms fits e
   found_from (Err d) bytes fits e = tt
 
   pub fault_from : (r : Result (List (Marker A)) MarkerFault) (bytes : List ℕ) → IsBytes bytes
-      → Gives (λ ms. ms) r (markers_of bytes) → IfErr r (λ d. IsFault A d bytes)
+      → MarkerGives (λ ms. ms) r (markers_of bytes) → IfErr r (λ d. IsFault A d bytes)
   fault_from (Ok ms) bytes fits e = tt
   fault_from (Err BadVersion) bytes fits e = first_fault bytes BadVersion fits e
   fault_from (Err Short) bytes fits e = first_fault bytes Short fits e
@@ -430,8 +430,8 @@ module _ {A : Type 0} where
   fault_told NullSuccessor bytes fits other behind = behind_again NullSuccessor bytes fits behind
   fault_told NoMemory bytes fits other behind = absurd (other refl)
 
-pub no_version_told : (A : Type 0) (bytes : List ℕ) (d : MarkerFault) → Fails d (byte_at bytes)
-    → Fails d (markers_of {A = A} bytes)
+pub no_version_told : (A : Type 0) (bytes : List ℕ) (d : MarkerFault) → MarkerFails d (byte_at bytes)
+    → MarkerFails d (markers_of {A = A} bytes)
 no_version_told A bytes BadVersion e = no_version {A = A} bytes BadVersion e
 no_version_told A bytes Short e = no_version {A = A} bytes Short e
 no_version_told A bytes BadMetadata e = no_version {A = A} bytes BadMetadata e

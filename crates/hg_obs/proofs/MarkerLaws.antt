@@ -11,9 +11,9 @@ use Rattle.hg_types.specs.NullId.{null_node}
 use Rattle.hg_obs.specs.declared.marker.Marker.{Marker}
 use Rattle.hg_obs.specs.declared.fault.MarkerFault.{MarkerFault}
 use Rattle.hg_obs.specs.declared.fault.MarkerFault.TheVariants.{Short, BadMetadata, NullSuccessor}
-use Rattle.hg_obs.specs.Marker.{marker_bytes, is_metadata, Fits, HasIds, IsMarker}
+use Rattle.hg_obs.specs.Marker.{marker_bytes, is_metadata, MarkerFits, HasIds, IsMarker}
 use Rattle.hg_obs.specs.Same.{same_node, same_node_decides}
-use Rattle.hg_obs.specs.Grammar.{BeginsWith, IsMarkerFault}
+use Rattle.hg_obs.specs.Grammar.{BeginsWithMarker, IsMarkerFault}
 use Rattle.hg_obs.specs.Reading.{◌>>=◌, Fields, node_of, kept_of, fields_at, checked, marker_at}
 use Rattle.hg_obs.proofs.ReadingLemmas.{TakesFields, FieldsFit, fields_take, fields_again, fields_err}
 use Rattle.hg_obs.proofs.ReadingLemmas.{bind_ok, ok_is}
@@ -74,7 +74,7 @@ module _ {A : Type 0} where
     meta = m.meta;
   }
 
-  fields_fit : (m : Marker A) → Fits m → HasIds m → FieldsFit (fields_of m)
+  fields_fit : (m : Marker A) → MarkerFits m → HasIds m → FieldsFit (fields_of m)
   fields_fit m fits ids = record {
     successors = fits.successors;
     meta = fits.meta;
@@ -82,14 +82,14 @@ module _ {A : Type 0} where
     each = ids.successors;
   }
 
-  pub reads_fields : (bytes : List ℕ) (m : Marker A) (begins : BeginsWith bytes m)
+  pub reads_fields : (bytes : List ℕ) (m : Marker A) (begins : BeginsWithMarker bytes m)
       → fields_at bytes ≡ Ok (fields_of m, begins.more)
   reads_fields bytes m begins =
       ap fields_at begins.spelled
       ∙ fields_again (fields_of m) begins.more (fields_fit m begins.fits begins.ids)
 
   abbrev pub begins : (bytes : List ℕ) (f : Fields) (rest : List ℕ) → TakesFields bytes f rest
-      → BeginsWith bytes (kept_of {A = A} f)
+      → BeginsWithMarker bytes (kept_of {A = A} f)
   begins bytes f rest took = record {
     more = rest;
     spelled = took.takes.parts;
@@ -199,7 +199,7 @@ module _ {A : Type 0} where
           ∙ reads_fields bytes m starts))
 
   -- markers with the same bytes are equal
-  pub same_from_bytes : (a b : Marker A) → Fits a → HasIds a → Fits b → HasIds b
+  pub same_from_bytes : (a b : Marker A) → MarkerFits a → HasIds a → MarkerFits b → HasIds b
       → marker_bytes a ≡ marker_bytes b → a ≡ b
   same_from_bytes a b a_fits a_ids b_fits b_ids e =
       let read : Ok (fields_of a, []) ≡ Ok (fields_of b, []) =

@@ -45,24 +45,24 @@ pub ok_is : {A : Type 0} (x y : A) → done x ≡ done y → x ≡ y
 ok_is x y e = cc
 
 -- what a reader took from the front
-pub record Takes (bytes text rest : List ℕ) : Type 0 where
+pub record TakesText (bytes text rest : List ℕ) : Type 0 where
   pub parts : bytes ≡ text ++ rest
   pub rest_fits : IsBytes rest
 
 byte_takes : (bytes : List ℕ) (byte : ℕ) (rest : List ℕ) → IsBytes bytes → byte_at bytes ≡ Ok (byte, rest)
-    → Takes bytes (byte ∷ []) rest × (byte < 256)
+    → TakesText bytes (byte ∷ []) rest × (byte < 256)
 unfolding byte_at
 byte_takes [] byte rest fits e = absurd cc
 byte_takes (b ∷ bytes) byte rest fits e =
     let both = ok_is (b, bytes) (byte, rest) e in
     let tail : IsBytes bytes = λ i. fits (suc i) in
     let first : b < 256 = fits 0 in
-    subst (λ (p : ℕ × List ℕ). Takes (b ∷ bytes) (p.0 ∷ []) p.1 × (p.0 < 256)) both
+    subst (λ (p : ℕ × List ℕ). TakesText (b ∷ bytes) (p.0 ∷ []) p.1 × (p.0 < 256)) both
     (record { parts = refl; rest_fits = tail }, first)
 
 -- so many bytes from the front
 split_takes : (n : ℕ) (bytes text rest : List ℕ) → IsBytes bytes → n ≤ length bytes → take n bytes ≡ text
-    → drop n bytes ≡ rest → Takes bytes text rest × (length text ≡ n)
+    → drop n bytes ≡ rest → TakesText bytes text rest × (length text ≡ n)
 split_takes n bytes text rest fits long text-is rest-is = (
   record {
     parts = sym (take-append-drop n bytes) ∙ ap (λ (t : List ℕ). t ++ drop n bytes) text-is
@@ -73,7 +73,7 @@ split_takes n bytes text rest fits long text-is rest-is = (
 )
 
 bytes_takes : (n : ℕ) (bytes text rest : List ℕ) → IsBytes bytes → bytes_at n bytes ≡ Ok (text, rest)
-    → Takes bytes text rest × (length text ≡ n)
+    → TakesText bytes text rest × (length text ≡ n)
 unfolding bytes_at
 bytes_takes n bytes text rest fits e =
     let g = guard_ok (ltb (length bytes) n) Short (take n bytes, drop n bytes) (text, rest) e in
@@ -81,7 +81,7 @@ bytes_takes n bytes text rest fits e =
     (ap (λ (p : List ℕ × List ℕ). p.1) g.1)
 
 node_takes : (bytes : List ℕ) (node : Node) (rest : List ℕ) → IsBytes bytes → node_at bytes ≡ Ok (node, rest)
-    → Takes bytes node.0 rest × (length node.0 ≡ 20)
+    → TakesText bytes node.0 rest × (length node.0 ≡ 20)
 unfolding node_at
 node_takes bytes node rest fits e =
     let g = guard_ok (ltb (length bytes) 20) Short (node_of (take 20 bytes), drop 20 bytes) (node, rest) e in
@@ -89,7 +89,7 @@ node_takes bytes node rest fits e =
     (ap (λ (p : Node × List ℕ). p.1) g.1)
 
 number_takes : (bytes : List ℕ) (n : ℕ) (rest : List ℕ) → IsBytes bytes → number_at bytes ≡ Ok (n, rest)
-    → Takes bytes (to_be_bytes w32 n) rest × (n < 2 ^ 32)
+    → TakesText bytes (to_be_bytes w32 n) rest × (n < 2 ^ 32)
 unfolding number_at
 number_takes bytes n rest fits e =
     let g = guard_ok (ltb (length bytes) 4) Short (from_be_bytes w32 (take 4 bytes), drop 4 bytes)
@@ -131,7 +131,7 @@ chunks_count zero bytes = refl
 chunks_count (suc n) bytes = ap suc (chunks_count n (drop 20 bytes))
 
 record TakesNodes (n : ℕ) (bytes : List ℕ) (nodes : List Node) (rest : List ℕ) : Type 0 where
-  takes : Takes bytes (ids_bytes nodes) rest
+  takes : TakesText bytes (ids_bytes nodes) rest
   each : AllByRecursion HasLength20 nodes
   count : length nodes ≡ n
 
@@ -274,7 +274,7 @@ abbrev with_count : ℕ × List ℕ → Result (Fields × List ℕ) MarkerFault
 with_count count = number_at count.1 >>= with_size count.0
 
 pub record TakesFields (bytes : List ℕ) (f : Fields) (rest : List ℕ) : Type 0 where
-  pub takes : Takes bytes (spelling f) rest
+  pub takes : TakesText bytes (spelling f) rest
   pub fits : FieldsFit f
 
 pub fields_take : (bytes : List ℕ) (f : Fields) (rest : List ℕ) → IsBytes bytes

@@ -6,7 +6,7 @@ use Rattle.hg_obs.specs.declared.marker.Marker.{Marker}
 use Rattle.hg_obs.specs.declared.fault.MarkerFault.{MarkerFault}
 use Rattle.hg_obs.specs.declared.fault.MarkerFault.TheVariants.{BadVersion, Short, BadMetadata, NullSuccessor}
 use Rattle.hg_obs.specs.declared.fault.MarkerFault.TheVariants.{NoMemory}
-use Rattle.hg_obs.specs.Marker.{marker_bytes, is_metadata, Fits, HasIds, IsMarker}
+use Rattle.hg_obs.specs.Marker.{marker_bytes, is_metadata, MarkerFits, HasIds, IsMarker}
 
 -- the data is the version byte 0 and these markers, joined
 pub record AreMarkers {A : Type 0} (bytes : List ℕ) (markers : List (Marker A)) : Type 0 where
@@ -14,18 +14,18 @@ pub record AreMarkers {A : Type 0} (bytes : List ℕ) (markers : List (Marker A)
   pub each : AllByRecursion IsMarker markers
 
 -- bytes of a marker stand at the front, whether it is a good one or not
-pub record BeginsWith {A : Type 0} (rest : List ℕ) (m : Marker A) : Type 0 where
+pub record BeginsWithMarker {A : Type 0} (rest : List ℕ) (m : Marker A) : Type 0 where
   pub more : List ℕ
   pub spelled : rest ≡ marker_bytes m ++ more
-  pub fits : Fits m
+  pub fits : MarkerFits m
   pub ids : HasIds m
 
 -- what can be wrong with the first marker of what is left
 abbrev pub IsMarkerFault : (A : Type 0) → MarkerFault → List ℕ → Type 0
 -- there are not the bytes of a whole one
-IsMarkerFault A Short rest = (m : Marker A) → BeginsWith rest m → ⊥
-IsMarkerFault A BadMetadata rest = (m : Marker A) × BeginsWith rest m × (is_metadata m.meta ≡ false)
-IsMarkerFault A NullSuccessor rest = (m : Marker A) × BeginsWith rest m × (is_metadata m.meta ≡ true)
+IsMarkerFault A Short rest = (m : Marker A) → BeginsWithMarker rest m → ⊥
+IsMarkerFault A BadMetadata rest = (m : Marker A) × BeginsWithMarker rest m × (is_metadata m.meta ≡ false)
+IsMarkerFault A NullSuccessor rest = (m : Marker A) × BeginsWithMarker rest m × (is_metadata m.meta ≡ true)
     × Contains m.successors null_node
 IsMarkerFault A BadVersion rest = ⊥
 IsMarkerFault A NoMemory rest = ⊥

@@ -27,7 +27,7 @@ abbrev pub is_metadata : List ℕ → Bool
 is_metadata meta = list_all is_piece (slice_split (λ b. b == 0) meta)
 
 -- the numbers that stand before the rest of a marker fit their places
-pub record Fits {A : Type 0} (m : Marker A) : Type 0 where
+pub record MarkerFits {A : Type 0} (m : Marker A) : Type 0 where
   pub successors : length m.successors < 2 ^ 8
   pub meta : length m.meta < 2 ^ 32
 
@@ -38,7 +38,7 @@ pub record HasIds {A : Type 0} (m : Marker A) : Type 0 where
 
 -- a marker that marker data may have
 pub record IsMarker {A : Type 0} (m : Marker A) : Type 0 where
-  pub fits : Fits m
+  pub fits : MarkerFits m
   pub ids : HasIds m
   pub metadata : is_metadata m.meta ≡ true
   pub successors : AllByRecursion (λ id. id ≢ null_node) m.successors

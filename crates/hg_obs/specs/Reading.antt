@@ -19,17 +19,17 @@ abbrev pub ◌>>=◌ : {X Y : Type 0} → Result X MarkerFault → (X → Result
 (Err fault) >>= f = Err fault
 
 -- what a function answered, unless memory was refused
-abbrev pub Fails : {Y : Type 0} → MarkerFault → Result Y MarkerFault → Type 0
-Fails BadVersion read = read ≡ Err BadVersion
-Fails Short read = read ≡ Err Short
-Fails BadMetadata read = read ≡ Err BadMetadata
-Fails NullSuccessor read = read ≡ Err NullSuccessor
-Fails NoMemory read = Unit {0}
+abbrev pub MarkerFails : {Y : Type 0} → MarkerFault → Result Y MarkerFault → Type 0
+MarkerFails BadVersion read = read ≡ Err BadVersion
+MarkerFails Short read = read ≡ Err Short
+MarkerFails BadMetadata read = read ≡ Err BadMetadata
+MarkerFails NullSuccessor read = read ≡ Err NullSuccessor
+MarkerFails NoMemory read = Unit {0}
 
 -- What a function returned, seen by view, is what reading gives, unless memory was refused.
-abbrev pub Gives : {X Y : Type 0} → (X → Y) → Result X MarkerFault → Result Y MarkerFault → Type 0
-Gives view (Ok x) read = read ≡ Ok (view x)
-Gives view (Err fault) read = Fails fault read
+abbrev pub MarkerGives : {X Y : Type 0} → (X → Y) → Result X MarkerFault → Result Y MarkerFault → Type 0
+MarkerGives view (Ok x) read = read ≡ Ok (view x)
+MarkerGives view (Err fault) read = MarkerFails fault read
 
 -- A field is a value, and the bytes after it.
 unfoldable pub byte_at : List ℕ → Result (ℕ × List ℕ) MarkerFault

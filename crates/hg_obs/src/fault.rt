@@ -1,7 +1,6 @@
 //! What can be wrong with marker data.
 
 use hg_types::NoMemory;
-use std::alloc::{AllocError, AllocFailed};
 use thiserror::Error;
 
 /// Why marker data was not read. The version is looked at first, then the markers in order, and of a
@@ -25,35 +24,14 @@ pub enum MarkerFault {
     NoMemory,
 }
 
-impl From<NoMemory> for MarkerFault {
+/// Whatever says that memory was refused.
+impl<E: Into<NoMemory> + Drop> From<E> for MarkerFault {
     ghost use Rattle.std.specs.Prelude.{◌≡◌};
     ghost use Rattle.hg_obs.specs.declared.fault.MarkerFault.TheVariants.{NoMemory as Refused};
 
     ghost from_gives = { λ _ fault. fault ≡ Refused };
 
-    fn from(_refused: NoMemory) -> Self {
-        MarkerFault::NoMemory
-    }
-}
-
-impl From<AllocError> for MarkerFault {
-    ghost use Rattle.std.specs.Prelude.{◌≡◌};
-    ghost use Rattle.hg_obs.specs.declared.fault.MarkerFault.TheVariants.{NoMemory as Refused};
-
-    ghost from_gives = { λ _ fault. fault ≡ Refused };
-
-    fn from(_refused: AllocError) -> Self {
-        MarkerFault::NoMemory
-    }
-}
-
-impl<T: Drop> From<AllocFailed<T>> for MarkerFault {
-    ghost use Rattle.std.specs.Prelude.{◌≡◌};
-    ghost use Rattle.hg_obs.specs.declared.fault.MarkerFault.TheVariants.{NoMemory as Refused};
-
-    ghost from_gives = { λ _ fault. fault ≡ Refused };
-
-    fn from(_refused: AllocFailed<T>) -> Self {
+    fn from(_refused: E) -> Self {
         MarkerFault::NoMemory
     }
 }

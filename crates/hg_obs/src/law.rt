@@ -7,7 +7,7 @@ ghost use Rattle.hg_obs.specs.declared.fault.MarkerFault.{MarkerFault as AFault}
 ghost use Rattle.hg_obs.specs.declared.fault.MarkerFault.TheVariants.{NoMemory as Refused};
 ghost use Rattle.hg_obs.specs.Grammar.{AreMarkers, IsFault};
 ghost use Rattle.std.specs.List.{AllByRecursion, flat_map};
-ghost use Rattle.hg_obs.specs.Marker.{Fits, HasIds, IsMarker, marker_bytes};
+ghost use Rattle.hg_obs.specs.Marker.{MarkerFits, HasIds, IsMarker, marker_bytes};
 ghost use Rattle.hg_obs.specs.Markers.{AreLawful, merged};
 ghost use Rattle.hg_obs.specs.Reading.{markers_of};
 
@@ -24,7 +24,7 @@ pub fn reading_is_the_grammar<A: Allocator>()
 
 /// Markers with the same bytes are equal.
 pub fn bytes_tell_markers<A: Allocator>()
-    ensures { (a b : AMarker A) → Fits a → HasIds a → Fits b → HasIds b → marker_bytes a ≡ marker_bytes b →
+    ensures { (a b : AMarker A) → MarkerFits a → HasIds a → MarkerFits b → HasIds b → marker_bytes a ≡ marker_bytes b →
         a ≡ b }
 {}
 

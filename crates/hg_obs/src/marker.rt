@@ -74,11 +74,11 @@ impl<A: Allocator + Copy> TryClone<A> for Marker<A> {
 }
 
 impl<A: Allocator> Marker<A> {
-    ghost use Rattle.hg_obs.specs.Marker.{Fits, marker_bytes};
+    ghost use Rattle.hg_obs.specs.Marker.{MarkerFits, marker_bytes};
 
     /// Appends the bytes of the marker, as marker data and the report of a repository have them.
     pub fn append_to<B: Allocator>(&self, out: &mut Vec<u8, B>) -> Result<(), NoMemory>
-        requires { Fits self.now }
+        requires { MarkerFits self.now }
         ensures ok { OnOk result (out.new.items ≡ out.old.items ++ marker_bytes self.now) }
         ensures err { OnErr result (out.new.items ≡ out.old.items) }
     {
@@ -92,7 +92,7 @@ impl<A: Allocator> Marker<A> {
 
     /// Appends fields until memory is refused.
     fn append_fields<B: Allocator>(&self, out: &mut Vec<u8, B>) -> Result<(), NoMemory>
-        requires { Fits self.now }
+        requires { MarkerFits self.now }
         ensures ok { OnOk result (out.new.items ≡ out.old.items ++ marker_bytes self.now) }
         ensures err { OnErr result ((more : List ℕ) × (out.new.items ≡ out.old.items ++ more)) }
     {

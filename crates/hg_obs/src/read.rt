@@ -3,7 +3,7 @@
 ghost use Rattle.std.specs.Prelude.{◌≡◌, IfOk, IfErr, map};
 ghost use Rattle.hg_obs.specs.Grammar.{AreMarkers, IsFault};
 ghost use Rattle.hg_obs.specs.Marker.{is_metadata as metadata_test};
-ghost use Rattle.hg_obs.specs.Reading.{Gives, kept_of, byte_at, number_at, bytes_at, node_at, nodes_at};
+ghost use Rattle.hg_obs.specs.Reading.{MarkerGives, kept_of, byte_at, number_at, bytes_at, node_at, nodes_at};
 ghost use Rattle.hg_obs.specs.Reading.{fields_at, marker_at, markers_of, node_of as to_node};
 ghost use Rattle.hg_obs.specs.code.Lent.{fields_of_lent};
 
@@ -38,13 +38,13 @@ pub fn read_markers<A: Allocator + Copy>(
     // A fault is the first one.
     ensures fault { IfErr result (λ fault. IsFault A fault bytes.now) }
     // What is spelled so is read, unless memory is refused.
-    ensures exact { Gives (λ markers. markers) result (markers_of bytes.now) }
+    ensures exact { MarkerGives (λ markers. markers) result (markers_of bytes.now) }
 {
     read_all(alloc, bytes)
 }
 
 fn read_all<A: Allocator + Copy>(alloc: A, bytes: &[u8]) -> Result<Seq<Marker<A>, A>, MarkerFault>
-    ensures { Gives (λ markers. markers) result (markers_of bytes.now) }
+    ensures { MarkerGives (λ markers. markers) result (markers_of bytes.now) }
 {
     let (version, mut rest) = byte_of(bytes)?;
     if version != 0 {
@@ -61,7 +61,7 @@ fn read_all<A: Allocator + Copy>(alloc: A, bytes: &[u8]) -> Result<Seq<Marker<A>
 
 #[tactic(auto, unfolding(crate::specs::Reading::marker_at, crate::specs::Reading::checked))]
 fn marker_of<A: Allocator + Copy>(alloc: A, bytes: &[u8]) -> Result<(Marker<A>, &[u8]), MarkerFault>
-    ensures { Gives (λ x. (x.0, x.1.now)) result (marker_at bytes.now) }
+    ensures { MarkerGives (λ x. (x.0, x.1.now)) result (marker_at bytes.now) }
 {
     let (lent, rest) = fields_of(bytes)?;
     if !is_metadata(lent.meta) {
@@ -138,7 +138,7 @@ fn is_metadata(meta: &[u8]) -> bool
 
 #[tactic(auto, unfolding(crate::specs::Reading::fields_at))]
 fn fields_of(bytes: &[u8]) -> Result<(Lent<'_>, &[u8]), MarkerFault>
-    ensures { Gives (λ x. (fields_of_lent x.0, x.1.now)) result (fields_at bytes.now) }
+    ensures { MarkerGives (λ x. (fields_of_lent x.0, x.1.now)) result (fields_at bytes.now) }
 {
     let (count, rest) = byte_of(bytes)?;
     let (size, rest) = number_of(rest)?;
@@ -157,7 +157,7 @@ fn fields_of(bytes: &[u8]) -> Result<(Lent<'_>, &[u8]), MarkerFault>
 
 #[tactic(auto, unfolding(crate::specs::Reading::byte_at))]
 fn byte_of(bytes: &[u8]) -> Result<(u8, &[u8]), MarkerFault>
-    ensures { Gives (λ x. (x.0, x.1.now)) result (byte_at bytes.now) }
+    ensures { MarkerGives (λ x. (x.0, x.1.now)) result (byte_at bytes.now) }
 {
     match bytes {
         [byte, rest @ ..] => Ok((*byte, rest)),
@@ -167,7 +167,7 @@ fn byte_of(bytes: &[u8]) -> Result<(u8, &[u8]), MarkerFault>
 
 #[tactic(auto, unfolding(crate::specs::Reading::number_at))]
 fn number_of(bytes: &[u8]) -> Result<(u32, &[u8]), MarkerFault>
-    ensures { Gives (λ x. (x.0, x.1.now)) result (number_at bytes.now) }
+    ensures { MarkerGives (λ x. (x.0, x.1.now)) result (number_at bytes.now) }
 {
     match bytes.split_first_chunk::<4>() {
         Some((number, rest)) => Ok((u32::from_be_bytes(*number), rest)),
@@ -177,7 +177,7 @@ fn number_of(bytes: &[u8]) -> Result<(u32, &[u8]), MarkerFault>
 
 #[tactic(auto, unfolding(crate::specs::Reading::bytes_at))]
 fn bytes_of(bytes: &[u8], count: usize) -> Result<(&[u8], &[u8]), MarkerFault>
-    ensures { Gives (λ x. (x.0.now, x.1.now)) result (bytes_at count bytes.now) }
+    ensures { MarkerGives (λ x. (x.0.now, x.1.now)) result (bytes_at count bytes.now) }
 {
     match bytes.split_at_checked(count) {
         Some(parts) => Ok(parts),
@@ -187,7 +187,7 @@ fn bytes_of(bytes: &[u8], count: usize) -> Result<(&[u8], &[u8]), MarkerFault>
 
 #[tactic(auto, unfolding(crate::specs::Reading::node_at))]
 fn node_of(bytes: &[u8]) -> Result<(Node, &[u8]), MarkerFault>
-    ensures { Gives (λ x. (x.0, x.1.now)) result (node_at bytes.now) }
+    ensures { MarkerGives (λ x. (x.0, x.1.now)) result (node_at bytes.now) }
 {
     match bytes.split_first_chunk::<ID>() {
         Some((id, rest)) => Ok((Node(*id), rest)),
@@ -197,7 +197,7 @@ fn node_of(bytes: &[u8]) -> Result<(Node, &[u8]), MarkerFault>
 
 #[tactic(auto, unfolding(crate::specs::Reading::nodes_at))]
 fn ids_of(bytes: &[u8], count: u8) -> Result<(&[[u8; ID]], &[u8]), MarkerFault>
-    ensures { Gives (λ x. (map to_node x.0.now, x.1.now)) result (nodes_at count bytes.now) }
+    ensures { MarkerGives (λ x. (map to_node x.0.now, x.1.now)) result (nodes_at count bytes.now) }
 {
     let (ids, rest) = bytes_of(bytes, usize::from(count) * ID)?;
     let (ids, _) = ids.as_chunks::<ID>();

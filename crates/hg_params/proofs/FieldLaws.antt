@@ -11,7 +11,7 @@ use Rattle.std.proofs.lemmas.List.Concat.{flat_map-append}
 use Rattle.std.proofs.lemmas.Nat.{be_bytes_4, from_be_bytes-to_be_bytes_4}
 use Rattle.hg_params.specs.declared.fault.ParamFault.{ParamFault}
 use Rattle.hg_params.specs.declared.fault.ParamFault.TheVariants.{Short}
-use Rattle.hg_params.specs.Header.{KeyValue, Fields, Fits, FitsSizes, all_params, spelling, param_sizes}
+use Rattle.hg_params.specs.Header.{KeyValue, Fields, HeaderFits, FitsSizes, all_params, spelling, param_sizes}
 use Rattle.hg_params.specs.Header.{param_data}
 use Rattle.hg_params.specs.code.Reading.{◌>>=◌, bytes_at, counted_at, number_at, pair_at}
 use Rattle.hg_params.specs.code.Reading.{blocks_at, front_at, params_in, Block, Front, fields_in}
@@ -41,11 +41,11 @@ ok_is : {A : Type 0} (x y : A) → (let r : Result A ParamFault = Ok x in r) ≡
 ok_is x y e = cc
 
 -- what a reader took from the front
-record Takes (bytes text rest : List ℕ) : Type 0 where
+record TakesField (bytes text rest : List ℕ) : Type 0 where
   parts : bytes ≡ text ++ rest
   rest_fits : IsBytes rest
 
-Takes-then : (a x b y c : List ℕ) → Takes a x b → Takes b y c → Takes a (x ++ y) c
+Takes-then : (a x b y c : List ℕ) → TakesField a x b → TakesField b y c → TakesField a (x ++ y) c
 Takes-then a x b y c p q =
     record {
       parts = p.parts ∙ ap (λ (t : List ℕ). x ++ t) q.parts
@@ -54,7 +54,7 @@ Takes-then a x b y c p q =
     }
 
 record TakesBytes (n : ℕ) (bytes text rest : List ℕ) : Type 0 where
-  takes : Takes bytes text rest
+  takes : TakesField bytes text rest
   size : length text ≡ n
   fits : IsBytes text
 
@@ -82,7 +82,7 @@ bytes_again n text rest size =
     rw (long, take_at text rest n size, drop_at text rest n size) refl
 
 counted_take : (bytes text rest : List ℕ) → IsBytes bytes → counted_at bytes ≡ Ok (text, rest)
-    → Takes bytes (length text ∷ text) rest × (length text < 256)
+    → TakesField bytes (length text ∷ text) rest × (length text < 256)
 unfolding counted_at
 counted_take [] text rest fits e = absurd cc
 counted_take (n ∷ bytes) text rest fits e =
@@ -97,7 +97,7 @@ unfolding counted_at
 counted_again text rest = bytes_again (length text) text rest refl
 
 number_take : (bytes : List ℕ) (n : ℕ) (rest : List ℕ) → IsBytes bytes → number_at bytes ≡ Ok (n, rest)
-    → Takes bytes (to_be_bytes w32 n) rest × (n < 2 ^ 32)
+    → TakesField bytes (to_be_bytes w32 n) rest × (n < 2 ^ 32)
 unfolding number_at
 number_take bytes n rest fits e =
     let a = bind_ok (bytes_at 4 bytes) (λ x. Ok (from_be_bytes w32 x.0, x.1)) (n, rest) e in
@@ -122,7 +122,7 @@ number_again n rest lt = number_front (to_be_bytes w32 n) rest refl
     ∙ ap (λ (k : ℕ). Ok (k, rest)) (from_be_bytes-to_be_bytes_4 n lt)
 
 pair_take : (bytes : List ℕ) (a b : ℕ) (rest : List ℕ) → IsBytes bytes → pair_at bytes ≡ Ok ((a, b), rest)
-    → Takes bytes (a ∷ b ∷ []) rest × (a < 256) × (b < 256)
+    → TakesField bytes (a ∷ b ∷ []) rest × (a < 256) × (b < 256)
 unfolding pair_at
 pair_take [] a b rest fits e = absurd cc
 pair_take (x ∷ []) a b rest fits e = absurd cc
@@ -131,7 +131,7 @@ pair_take (x ∷ y ∷ bytes) a b rest fits e =
     let first : x < 256 = fits 0 in
     let second : y < 256 = fits 1 in
     let tail : IsBytes bytes = λ i. fits (suc (suc i)) in
-    subst (λ (p : (ℕ × ℕ) × List ℕ). Takes (x ∷ y ∷ bytes) (p.0.0 ∷ p.0.1 ∷ []) p.1 × (p.0.0 < 256)
+    subst (λ (p : (ℕ × ℕ) × List ℕ). TakesField (x ∷ y ∷ bytes) (p.0.0 ∷ p.0.1 ∷ []) p.1 × (p.0.0 < 256)
     × (p.0.1 < 256)) same (record { parts = refl; rest_fits = tail }, first, second)
 
 -- the blocks as they lie in the bytes
@@ -152,7 +152,7 @@ block_read : (count : ℕ) (sizes texts : List ℕ) → length sizes ≡ 2 * cou
 block_read count sizes texts even full fits = record { even = even; full = sym full; fits = fits }
 
 record TakesBlocks (counts : ℕ × ℕ) (bytes : List ℕ) (b : Block × Block) (rest : List ℕ) : Type 0 where
-  takes : Takes bytes (block_sizes b ++ block_texts b) rest
+  takes : TakesField bytes (block_sizes b ++ block_texts b) rest
   first : IsBlock counts.0 b.0
   second : IsBlock counts.1 b.1
 
@@ -248,7 +248,7 @@ front_of f = record {
 
 -- the fields that were read fit, the parameters can be cut, and the bytes are their spelling and the rest
 pub record ReadsFields (bytes : List ℕ) (front : Front) (rest : List ℕ) : Type 0 where
-  pub fits : Fits (fields_in front)
+  pub fits : HeaderFits (fields_in front)
   pub spelled : bytes ≡ spelling (fields_in front) ++ rest
   pub mandatory_full : sum front.mandatory.sizes ≡ length front.mandatory.texts
   pub advisory_full : sum front.advisory.sizes ≡ length front.advisory.texts
@@ -365,7 +365,7 @@ regrouped a b c d rest =
     append_assoc a (b ++ (c ++ d)) rest ∙ ap (λ (x : List ℕ). a ++ x) (append_assoc b (c ++ d) rest)
     ∙ ap (λ (x : List ℕ). a ++ (b ++ x)) (append_assoc c d rest)
 
-pub front_again : (f : Fields) (rest : List ℕ) → Fits f
+pub front_again : (f : Fields) (rest : List ℕ) → HeaderFits f
     → front_at (spelling f ++ rest) ≡ Ok (front_of f, rest)
 unfolding front_at pair_at spelling
 front_again f rest fits =

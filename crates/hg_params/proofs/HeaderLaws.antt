@@ -8,7 +8,7 @@ use Rattle.hg_params.specs.declared.fault.ParamFault.{ParamFault}
 use Rattle.hg_params.specs.declared.fault.ParamFault.TheVariants.{Short, Leftover, BadType, RepeatedKey}
 use Rattle.hg_params.specs.declared.fault.ParamFault.TheVariants.{EmptyName, BadName, UnknownMandatory}
 use Rattle.hg_params.specs.declared.fault.ParamFault.TheVariants.{Compressed, NoMemory}
-use Rattle.hg_params.specs.Header.{KeyValue, Fields, Fits, spelling, is_kind, all_params, keys_of}
+use Rattle.hg_params.specs.Header.{KeyValue, Fields, HeaderFits, spelling, is_kind, all_params, keys_of}
 use Rattle.hg_params.specs.Header.{AreDistinct, HasFields, param, params_of, head_of, IsHeader, IsShort}
 use Rattle.hg_params.specs.Header.{HasRest, IsHeaderFault}
 use Rattle.hg_params.specs.code.Reading.{Front, front_at, fields_in}
@@ -22,7 +22,7 @@ record Same (f g : Fields) (r s : List ℕ) : Type 0 where
 ok_front : (a b : Front × List ℕ) → (let r : Result (Front × List ℕ) ParamFault = Ok a in r) ≡ Ok b → a ≡ b
 ok_front a b e = cc
 
-same_fields : (f g : Fields) (r s : List ℕ) → Fits f → Fits g → spelling f ++ r ≡ spelling g ++ s
+same_fields : (f g : Fields) (r s : List ℕ) → HeaderFits f → HeaderFits g → spelling f ++ r ≡ spelling g ++ s
     → Same f g r s
 same_fields f g r s fits_f fits_g e =
     let both = ok_front (front_of f, r) (front_of g, s) (sym (front_again f r fits_f) ∙ ap front_at e
@@ -37,7 +37,7 @@ one_spelling bytes f g a b =
     (same_fields f g [] [] a.fits b.fits (append-nil (spelling f) ∙ sym a.spelled ∙ b.spelled
     ∙ sym (append-nil (spelling g)))).fields
 
-no_rest : (bytes : List ℕ) (f g : Fields) (rest : List ℕ) → HasFields bytes f → Fits g → bytes ≡ spelling g
+no_rest : (bytes : List ℕ) (f g : Fields) (rest : List ℕ) → HasFields bytes f → HeaderFits g → bytes ≡ spelling g
     ++ rest → rest ≡ []
 no_rest bytes f g rest a fits e =
     sym (same_fields f g [] rest a.fits fits (append-nil (spelling f) ∙ sym a.spelled ∙ e)).rest

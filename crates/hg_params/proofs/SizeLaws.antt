@@ -4,7 +4,7 @@ use Rattle.std.proofs.Common.{◌∙◌, arith, length-append}
 use Rattle.std.specs.Int.{w32, to_be_bytes}
 use Rattle.std.specs.List.{AllByRecursion, flat_map}
 use Rattle.hg_params.specs.declared.head.Head.{Head}
-use Rattle.hg_params.specs.Header.{KeyValue, Fields, Fits, FitsSizes, all_params, spelling, param_sizes}
+use Rattle.hg_params.specs.Header.{KeyValue, Fields, HeaderFits, FitsSizes, all_params, spelling, param_sizes}
 use Rattle.hg_params.specs.Header.{param_data, IsHeader}
 use Rattle.hg_params.proofs.Cutting.{length_sizes}
 
@@ -39,7 +39,7 @@ record IsSmallSpelling (f : Fields) : Type 0 where
   some : 0 < length (spelling f)
   small : length (spelling f) ≤ 261382
 
-spelled_small : (f : Fields) → Fits f → IsSmallSpelling f
+spelled_small : (f : Fields) → HeaderFits f → IsSmallSpelling f
 spelled_small f fits =
     let size = spelled_size f in
     let data_fits = data_small (all_params f) fits.params in

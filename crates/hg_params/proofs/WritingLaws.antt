@@ -8,7 +8,7 @@ use Rattle.std.proofs.lemmas.List.{append-nil}
 use Rattle.std.proofs.lemmas.List.Elements.{All-from_recursion, recursion_from_All, filter-append}
 use Rattle.hg_types.specs.declared.part.Param.{Param}
 use Rattle.hg_params.specs.declared.head.Head.{Head}
-use Rattle.hg_params.specs.Header.{KeyValue, Fields, Fits, FitsByte, FitsSizes, IsHeader, is_kind}
+use Rattle.hg_params.specs.Header.{KeyValue, Fields, HeaderFits, FitsByte, FitsSizes, IsHeader, is_kind}
 use Rattle.hg_params.specs.Header.{is_kind_byte, AreDistinct, all_params, param, params_of}
 use Rattle.hg_params.specs.Writing.{cased, key_value, mandatory_of, advisory_of, fields_of, header_bytes}
 use Rattle.hg_params.specs.Writing.{written_head, AreInOrder, FitsParam, CanStand}
@@ -47,7 +47,7 @@ sizes_fit (p ∷ params) h = (record { key = h.0.key; value = h.0.value }, sizes
 
 -- the fields of what can be written fit
 pub fields_fit : {A : Type 0} (kind : List ℕ) (id : ℕ) (params : List (Param A)) → id < 2 ^ 32
-    → CanStand kind params → Fits (fields_of (cased kind) id params)
+    → CanStand kind params → HeaderFits (fields_of (cased kind) id params)
 fields_fit {A} kind id params small can =
     record {
       kind = rw (length_cased kind) can.kind_fits;

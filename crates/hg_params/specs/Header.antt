@@ -36,7 +36,7 @@ pub record FitsSizes (p : KeyValue) : Type 0 where
   pub value : FitsByte (length p.value)
 
 -- the fields fit their sizes and counts
-pub record Fits (f : Fields) : Type 0 where
+pub record HeaderFits (f : Fields) : Type 0 where
   pub kind : FitsByte (length f.kind)
   pub id : f.id < 2 ^ 32
   pub mandatory : FitsByte (length f.mandatory)
@@ -80,7 +80,7 @@ keys_of params = map (λ p. p.key) params
 
 -- the bytes are these fields joined
 pub record HasFields (bytes : List ℕ) (f : Fields) : Type 0 where
-  pub fits : Fits f
+  pub fits : HeaderFits f
   pub spelled : bytes ≡ spelling f
 
 -- and they make a header
@@ -109,13 +109,13 @@ pub record IsHeader {A : Type 0} (bytes : List ℕ) (head : Head A) : Type 0 whe
 
 -- no fields stand at the front of the bytes
 abbrev pub IsShort : List ℕ → Type 0
-IsShort bytes = (f : Fields) (rest : List ℕ) → Fits f → bytes ≡ spelling f ++ rest → ⊥
+IsShort bytes = (f : Fields) (rest : List ℕ) → HeaderFits f → bytes ≡ spelling f ++ rest → ⊥
 
 -- fields stand there, and more
 pub record HasRest (bytes : List ℕ) : Type 0 where
   pub fields : Fields
   pub rest : List ℕ
-  pub fits : Fits fields
+  pub fits : HeaderFits fields
   pub spelled : bytes ≡ spelling fields ++ rest
   pub some : 0 < length rest
 

@@ -4,11 +4,10 @@ ghost use Rattle.std.specs.Prelude.{◌≡◌};
 ghost use Rattle.hg_params.specs.declared.fault.ParamFault.TheVariants.{NoMemory};
 
 use hg_types::NoMemory;
-use std::alloc::AllocError;
 use thiserror::Error;
 
 /// What is wrong with a header (1 to 4) or with stream parameters (5 to 8). Of several the one that is
-/// decided first is told: in a header the lower number, in stream parameters that of the first faulty
+/// decided first is reported: in a header the lower number, in stream parameters that of the first faulty
 /// parameter.
 #[derive(Clone, Copy, Debug, PartialEq, Eq, Error)]
 pub enum ParamFault {
@@ -41,18 +40,11 @@ pub enum ParamFault {
     NoMemory,
 }
 
-impl From<NoMemory> for ParamFault {
-    ghost from_gives = { λ e fault. fault ≡ NoMemory };
+/// Whatever says that memory was refused.
+impl<E: Into<NoMemory> + Drop> From<E> for ParamFault {
+    ghost from_gives = { λ _ fault. fault ≡ NoMemory };
 
-    fn from(_e: NoMemory) -> Self {
-        ParamFault::NoMemory
-    }
-}
-
-impl From<AllocError> for ParamFault {
-    ghost from_gives = { λ e fault. fault ≡ NoMemory };
-
-    fn from(_e: AllocError) -> Self {
+    fn from(_refused: E) -> Self {
         ParamFault::NoMemory
     }
 }

@@ -2,7 +2,7 @@
 
 ghost use Rattle.std.specs.Prelude.{◌≡◌, ◌≤◌, IfOk, length};
 ghost use Rattle.std.specs.List.{sum};
-ghost use Rattle.hg_params.specs.code.Reading.{Gives, bytes_at, counted_at, number_at, pair_at, blocks_at};
+ghost use Rattle.hg_params.specs.code.Reading.{FieldGives, bytes_at, counted_at, number_at, pair_at, blocks_at};
 ghost use Rattle.hg_params.specs.code.Reading.{front_at};
 ghost use Rattle.hg_params.specs.code.View.{view_block, view_front};
 
@@ -26,7 +26,7 @@ pub struct Front<'a> {
 
 #[tactic(auto, unfolding(crate::specs::code::Reading::bytes_at))]
 fn bytes_of(bytes: &[u8], count: usize) -> Result<(&[u8], &[u8]), ParamFault>
-    ensures read { Gives (λ x. (x.0.now, x.1.now)) result (bytes_at count bytes.now) }
+    ensures read { FieldGives (λ x. (x.0.now, x.1.now)) result (bytes_at count bytes.now) }
     ensures size { IfOk result (λ x. length x.0.now ≡ count) }
 {
     if bytes.len() < count {
@@ -37,7 +37,7 @@ fn bytes_of(bytes: &[u8], count: usize) -> Result<(&[u8], &[u8]), ParamFault>
 
 #[tactic(auto, unfolding(crate::specs::code::Reading::counted_at))]
 fn counted(bytes: &[u8]) -> Result<(&[u8], &[u8]), ParamFault>
-    ensures { Gives (λ x. (x.0.now, x.1.now)) result (counted_at bytes.now) }
+    ensures { FieldGives (λ x. (x.0.now, x.1.now)) result (counted_at bytes.now) }
 {
     match bytes {
         [] => Err(ParamFault::Short),
@@ -47,7 +47,7 @@ fn counted(bytes: &[u8]) -> Result<(&[u8], &[u8]), ParamFault>
 
 #[tactic(auto, unfolding(crate::specs::code::Reading::number_at))]
 fn number(bytes: &[u8]) -> Result<(u32, &[u8]), ParamFault>
-    ensures { Gives (λ x. (x.0, x.1.now)) result (number_at bytes.now) }
+    ensures { FieldGives (λ x. (x.0, x.1.now)) result (number_at bytes.now) }
 {
     let (front, rest) = bytes_of(bytes, 4)?;
     Ok((
@@ -59,7 +59,7 @@ fn number(bytes: &[u8]) -> Result<(u32, &[u8]), ParamFault>
 /// The first two bytes, and what is left.
 #[tactic(auto, unfolding(crate::specs::code::Reading::pair_at))]
 pub fn pair(bytes: &[u8]) -> Result<((u8, u8), &[u8]), ParamFault>
-    ensures { Gives (λ x. (x.0, x.1.now)) result (pair_at bytes.now) }
+    ensures { FieldGives (λ x. (x.0, x.1.now)) result (pair_at bytes.now) }
 {
     match bytes {
         [first, second, rest @ ..] => Ok(((*first, *second), rest)),
@@ -77,7 +77,7 @@ fn total(sizes: &[u8]) -> usize
 
 #[tactic(auto, unfolding(crate::specs::code::Reading::blocks_at))]
 fn blocks(bytes: &[u8], counts: (u8, u8)) -> Result<((Block<'_>, Block<'_>), &[u8]), ParamFault>
-    ensures { Gives (λ x. ((view_block x.0.0, view_block x.0.1), x.1.now)) result
+    ensures { FieldGives (λ x. ((view_block x.0.0, view_block x.0.1), x.1.now)) result
         (blocks_at counts bytes.now) }
 {
     let (mandatory, rest) = bytes_of(bytes, 2 * counts.0 as usize)?;
@@ -98,7 +98,7 @@ fn blocks(bytes: &[u8], counts: (u8, u8)) -> Result<((Block<'_>, Block<'_>), &[u
 /// The fields at the front of the bytes, and what is left. The fault is Short.
 #[tactic(auto, unfolding(crate::specs::code::Reading::front_at))]
 pub fn read_front(bytes: &[u8]) -> Result<(Front<'_>, &[u8]), ParamFault>
-    ensures { Gives (λ x. (view_front x.0, x.1.now)) result (front_at bytes.now) }
+    ensures { FieldGives (λ x. (view_front x.0, x.1.now)) result (front_at bytes.now) }
 {
     let (kind, rest) = counted(bytes)?;
     let (id, rest) = number(rest)?;

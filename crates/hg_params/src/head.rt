@@ -21,7 +21,7 @@ pub struct Head<A: Allocator = Global> {
 
 /// Reads a header, which is all of the bytes.
 ///
-/// Short, Leftover, BadType and RepeatedKey are told in this order.
+/// Short, Leftover, BadType and RepeatedKey are reported in this order.
 pub fn read_header<A: Allocator + Copy>(alloc: A, bytes: &[u8]) -> Result<Head<A>, ParamFault>
     ensures ok { IfOk result (λ head. IsHeader bytes.now head) }
     ensures err { IfErr result (λ fault. (fault ≡ ParamFault.NoMemory) ⊎ IsHeaderFault bytes.now fault) }

@@ -147,7 +147,7 @@ fn unread(bytes: &[u8]) -> Option<&[u8]>
 
 /// Reads stream parameters, which are all of the bytes.
 ///
-/// Of several faulty ones the first is told, and of one the first of EmptyName, BadName, Compressed and
+/// Of several faulty ones the first is reported, and of one the first of EmptyName, BadName, Compressed and
 /// UnknownMandatory.
 pub fn read_stream_params<A: Allocator + Copy>(
     alloc: A,

@@ -10,7 +10,7 @@ use crate::params::are_distinct;
 use hg_types::{Param, Part};
 use std::alloc::Allocator;
 
-/// How many sizes a byte can tell.
+/// How many sizes a byte can report.
 const SIZES: usize = 256;
 
 /// How many parameters are mandatory.

@@ -19,7 +19,7 @@ use Rattle.hg_stream.specs.Frames.{IsPiece, IsInner, inner_bytes, Frame, frame_b
 use Rattle.hg_stream.specs.Frames.{AreFrames, HasParts}
 use Rattle.hg_stream.specs.Places.{IsInPayload, IsInterrupted, IsInInner, IsBeforeChunk, IsReading, at_chunk}
 use Rattle.hg_stream.specs.code.Told.{of_chunk}
-use Rattle.hg_stream.specs.Unbundler.{Breaks, Takes}
+use Rattle.hg_stream.specs.Unbundler.{BreaksBundle, TakesPayload}
 use Rattle.hg_stream.proofs.Steps.{further}
 
 -- ---- chunks as pieces
@@ -130,13 +130,13 @@ pub record Behind {A : Type 0} (P : List ℕ → List ℕ → Type 0) (q : Paylo
   pub front : List ℕ
   pub whole : List ℕ
   pub place : P front whole
-  pub holds : chunks.Holds q whole after
+  pub holds : chunks.HasTakenItems q whole after
   pub spelled : bytes ≡ front ++ (tail ++ after)
 
 -- the place and the bytes there
 goes_place : {A : Type 0} (limits : Limits) (P : List ℕ → List ℕ → Type 0) → CarriesOn limits P
     → (q : PayloadIn A) (front rest whole taken tail after : List ℕ) (more : List (List ℕ))
-    → P front whole → chunks.limit_of q ≡ limits.payload → chunks.Takes q whole rest taken tail after more
+    → P front whole → chunks.limit_of q ≡ limits.payload → chunks.TakesChunks q whole rest taken tail after more
     → P (front ++ flat_map chunk_bytes more) (whole ++ joined more)
 goes_place limits P carries q front rest whole taken tail after more place limit takes =
     carries front whole more place takes.each
@@ -144,7 +144,7 @@ goes_place limits P carries q front rest whole taken tail after more place limit
 
 goes_bytes : {A : Type 0} (q : PayloadIn A) (bytes front rest whole taken tail after : List ℕ)
     (more : List (List ℕ))
-    → bytes ≡ front ++ rest → chunks.Takes q whole rest taken tail after more → bytes
+    → bytes ≡ front ++ rest → chunks.TakesChunks q whole rest taken tail after more → bytes
     ++ taken ≡ (front ++ flat_map chunk_bytes more) ++ (tail ++ after)
 goes_bytes q bytes front rest whole taken tail after more spelled takes =
     further bytes front rest taken spelled ∙ ap (λ (x : List ℕ). front ++ x) takes.spelled
@@ -153,7 +153,7 @@ goes_bytes q bytes front rest whole taken tail after more spelled takes =
 pub behind : {A : Type 0} (limits : Limits) (P : List ℕ → List ℕ → Type 0) → CarriesOn limits P
     → (q : PayloadIn A) (bytes front rest whole taken tail after : List ℕ) (more : List (List ℕ))
     → P front whole → chunks.limit_of q ≡ limits.payload → bytes ≡ front ++ rest
-    → chunks.Takes q whole rest taken tail after more → Behind P q (bytes ++ taken) tail after
+    → chunks.TakesChunks q whole rest taken tail after more → Behind P q (bytes ++ taken) tail after
 behind limits P carries q bytes front rest whole taken tail after more place limit spelled takes = record {
   front = front ++ flat_map chunk_bytes more;
   whole = whole ++ joined more;
@@ -165,7 +165,7 @@ behind limits P carries q bytes front rest whole taken tail after more place lim
 -- a chunk that is refused, or memory for one
 pub chunk_breaks : {A : Type 0} (fault : ChunkFault) (limits : Limits) (front rest whole : List ℕ)
     (parts : List (Part A)) → IsBeforeChunk limits front parts whole
-    → chunks.IsFault fault limits.payload whole rest → Breaks (of_chunk fault) limits (front ++ rest) parts
+    → chunks.IsFault fault limits.payload whole rest → BreaksBundle (of_chunk fault) limits (front ++ rest) parts
 chunk_breaks BadSize limits front rest whole parts before h = (front, rest, whole, before, h, refl)
 chunk_breaks TooLarge limits front rest whole parts before h = (front, rest, whole, before, h, refl)
 chunk_breaks NoMemory limits front rest whole parts before h = at_chunk front rest whole before h refl
@@ -174,11 +174,11 @@ pub chunk_err : {A : Type 0} (limits : Limits) (parts : List (Part A)) (P : List
     → CarriesOn limits P → ((f w : List ℕ) → P f w → IsBeforeChunk limits f parts w)
     → (fault : ChunkFault) (q : PayloadIn A) (bytes front rest whole taken : List ℕ) → P front whole
     → chunks.limit_of q ≡ limits.payload → bytes ≡ front ++ rest
-    → chunks.Fails fault q whole rest taken → Breaks (of_chunk fault) limits (bytes ++ taken) parts
+    → chunks.FailsWithin fault q whole rest taken → BreaksBundle (of_chunk fault) limits (bytes ++ taken) parts
 chunk_err limits parts P carries before fault q bytes front rest whole taken place limit spelled
     (more, after, takes, wrong) =
     let there = goes_place limits P carries q front rest whole taken [] after more place limit takes in
-    subst (λ x. Breaks (of_chunk fault) limits x parts)
+    subst (λ x. BreaksBundle (of_chunk fault) limits x parts)
     (sym (goes_bytes q bytes front rest whole taken [] after more spelled takes))
     (chunk_breaks fault limits (front ++ flat_map chunk_bytes more) after (whole ++ joined more) parts
     (before (front ++ flat_map chunk_bytes more) (whole ++ joined more) there)
@@ -234,7 +234,7 @@ closes_part limits front parts head payload inside =
 -- where a payload's reader goes on, the stream is being read
 pub chunk_reading : {A : Type 0} (limits : Limits) (bytes front rest whole : List ℕ) (parts : List (Part A))
     (p : PayloadIn A) → IsBeforeChunk limits front parts whole
-    → Takes limits p whole rest → bytes ≡ front ++ rest → IsReading limits (bytes ++ []) parts
+    → TakesPayload limits p whole rest → bytes ≡ front ++ rest → IsReading limits (bytes ++ []) parts
 chunk_reading limits bytes front rest whole parts p before goes spelled =
     at_chunk front rest whole before
     (subst (λ m. IsOpen m whole rest) goes.limit

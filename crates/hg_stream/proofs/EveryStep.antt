@@ -13,7 +13,7 @@ use Rattle.hg_chunks.specs.declared.fault.ChunkFault.TheVariants as chunk_fault
 use Rattle.hg_chunks.specs.Size.{size_bytes}
 use Rattle.hg_chunks.specs.Payload.{Item, Chunk, Interruption, item_bytes, chunk_bytes, interruption, closing}
 use Rattle.hg_chunks.specs.Payload.{IsOpen}
-use Rattle.hg_chunks.specs.Reading.{IsStopped, partial_size, partial_chunk, closes, bad_size, Reads}
+use Rattle.hg_chunks.specs.Reading.{IsStopped, partial_size, partial_chunk, closes, bad_size, ReadsItems}
 use Rattle.hg_chunks.proofs.CallerLemmas.{every_reading_lem}
 use Rattle.hg_params.specs.declared.head.Head.{Head}
 use Rattle.hg_params.specs.Laws.{HasSomeReading, HasSomeParamsReading}
@@ -76,7 +76,7 @@ stopped_begins rest (closes more spelled) =
     whole_block [] more (omega arith) (spelled ∙ ap (λ (x : List ℕ). x ++ more) (sym (append-nil closing)))
 stopped_begins rest (bad_size size more some small spelled) = below_zero size more small spelled
 
-reading_begins : (rest : List ℕ) (items : List Item) (left : List ℕ) → Reads rest items left → Begins rest
+reading_begins : (rest : List ℕ) (items : List Item) (left : List ℕ) → ReadsItems rest items left → Begins rest
 reading_begins rest [] left reads =
     subst (λ (x : List ℕ). Begins x) (sym reads.spelled) (stopped_begins left reads.stopped)
 reading_begins rest (Chunk c ∷ items) left reads =

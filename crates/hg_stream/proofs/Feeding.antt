@@ -12,9 +12,9 @@ use Rattle.hg_stream.specs.declared.state.State.TheVariants.{Reading, Ended, Fai
 use Rattle.hg_stream.specs.declared.unbundler.Stage.{Stage}
 use Rattle.hg_stream.specs.declared.unbundler.Stage.TheVariants as stage
 use Rattle.hg_stream.specs.declared.unbundler.Unbundler.{Unbundler}
-use Rattle.hg_stream.specs.Faults.{Stops, Tells}
-use Rattle.hg_stream.specs.Unbundler.{Fields, fields_of, HasFinished, IsAt, IsAtStage, Fails, Halts, Meets}
-use Rattle.hg_stream.specs.Unbundler.{PassesBy, Feeds, Keeps, Holds, ready_of, limits_of, state_at, state_of}
+use Rattle.hg_stream.specs.Faults.{StopsReading, StateTells}
+use Rattle.hg_stream.specs.Unbundler.{Fields, fields_of, HasFinished, IsAt, IsAtStage, MeetsFault, Halts, Meets}
+use Rattle.hg_stream.specs.Unbundler.{PassesBy, FeedsBundle, KeepsFinished, HoldsBundle, ready_of, limits_of, state_at, state_of}
 use Rattle.hg_stream.proofs.Telling.{is_no_memory, met, met_stops, holds, reading_of}
 
 -- the same bytes of a front of a piece as of the piece
@@ -38,28 +38,28 @@ past_take piece within (suc (suc n)) some le = absurd (omega (arith, le))
 
 -- what a reader that goes on keeps
 pub going_keeps : {A : Type 0} (u : Unbundler A) (given : List (Part A)) (bytes : List ℕ)
-    → state_of u ≡ Reading → Holds u given bytes
+    → state_of u ≡ Reading → HoldsBundle u given bytes
     → IsAt u bytes (given ++ ready_of u) × (u.stream_left + length bytes ≡ u.limits.stream)
-going_keeps u given bytes going h = subst (λ s. Keeps s u bytes (given ++ ready_of u)) going h.keeps
+going_keeps u given bytes going h = subst (λ s. KeepsFinished s u bytes (given ++ ready_of u)) going h.keeps
 
 -- a reader that failed
 failed_holds : {A : Type 0} (fault : StreamFault) (v : Unbundler A) (limits : Limits)
     (given parts : List (Part A)) (bytes : List ℕ) → state_of v ≡ Failed fault → limits_of v ≡ limits
-    → parts ≡ given ++ ready_of v → HasFinished v parts → Stops fault limits bytes parts → Holds v given bytes
+    → parts ≡ given ++ ready_of v → HasFinished v parts → StopsReading fault limits bytes parts → HoldsBundle v given bytes
 failed_holds fault v limits given parts bytes failed same ready finished stops =
-    let one : Stops fault limits bytes (given ++ ready_of v) = subst
-    (λ p. Stops fault limits bytes p) ready stops in
-    let two : Stops fault (limits_of v) bytes (given ++ ready_of v) = subst
-    (λ l. Stops fault l bytes (given ++ ready_of v)) (sym same) one in
+    let one : StopsReading fault limits bytes (given ++ ready_of v) = subst
+    (λ p. StopsReading fault limits bytes p) ready stops in
+    let two : StopsReading fault (limits_of v) bytes (given ++ ready_of v) = subst
+    (λ l. StopsReading fault l bytes (given ++ ready_of v)) (sym same) one in
     record {
-      keeps = subst (λ s. Keeps s v bytes (given ++ ready_of v)) (sym failed)
+      keeps = subst (λ s. KeepsFinished s v bytes (given ++ ready_of v)) (sym failed)
           (subst (HasFinished v) ready finished);
-      tells = subst (λ s. Tells s (limits_of v) bytes (given ++ ready_of v)) (sym failed) two;
+      tells = subst (λ s. StateTells s (limits_of v) bytes (given ++ ready_of v)) (sym failed) two;
     }
 
 pub halted : {A : Type 0} (fault : StreamFault) (u v : Unbundler A) (taken : List ℕ)
     → state_of v ≡ Failed fault → limits_of v ≡ limits_of u → Halts fault u v taken
-    → length taken ≤ u.stream_left → Feeds u v taken
+    → length taken ≤ u.stream_left → FeedsBundle u v taken
 halted fault u v taken failed same halts within given bytes going h =
     let k = going_keeps u given bytes going h in
     let x = halts bytes (given ++ ready_of u) k.0 in
@@ -73,7 +73,7 @@ halted fault u v taken failed same halts within given bytes going h =
 -- The byte past the limit on the stream decides a fault; and where memory is refused there, that byte is not
 -- taken.
 pub refused_or_met : {A : Type 0} (fault : StreamFault) (u : Unbundler A) (place byte : ℕ) → place ≤ 1
-    → Fails fault u (take place (byte ∷ []))
+    → MeetsFault fault u (take place (byte ∷ []))
     → (n : ℕ) × (n ≤ 1) × ((bytes : List ℕ) (parts : List (Part A)) → IsAt u bytes parts
     → state_of u ≡ Reading → length bytes ≡ u.limits.stream
     → Meets fault u.limits (bytes ++ take n (byte ∷ [])) parts)
@@ -120,7 +120,7 @@ parts_are : {A : Type 0} (u w : Unbundler A) (given added : List (Part A)) → r
 parts_are u w given added ready = append_assoc given (ready_of u) added ∙ ap (λ r. given ++ r) (sym ready)
 
 pub fed : {A : Type 0} (u w : Unbundler A) (taken : List ℕ) → ReadsOn u w taken
-    → w.stream_left + length taken ≡ u.stream_left → limits_of w ≡ limits_of u → Feeds u w taken
+    → w.stream_left + length taken ≡ u.stream_left → limits_of w ≡ limits_of u → FeedsBundle u w taken
 fed u w taken reads left same given bytes going h =
     let k = going_keeps u given bytes going h in
     let x = reads bytes (given ++ ready_of u) k.0 in
@@ -142,7 +142,7 @@ going_at (stage.Failed fault) f bytes parts at other = absurd at
 pub passed : {A : Type 0} (fault : StreamFault) (u w v : Unbundler A) (taken past : List ℕ)
     → ReadsOn u w taken → (state_of w ≡ Ended → ⊥) → length taken ≡ u.stream_left → limits_of w ≡ limits_of u
     → limits_of v ≡ limits_of w → state_of v ≡ Failed fault → PassesBy fault w v past
-    → Feeds u v (taken ++ past)
+    → FeedsBundle u v (taken ++ past)
 passed fault u w v taken past reads not_ended full same same_past failed passes given bytes going h =
     let k = going_keeps u given bytes going h in
     let x = reads bytes (given ++ ready_of u) k.0 in
@@ -151,7 +151,7 @@ passed fault u w v taken past reads not_ended full same same_past failed passes 
     ++ x.0) x.1.at.place not_ended in
     let p = passes (bytes ++ taken) ((given ++ ready_of u) ++ x.0) x.1.at on
     (omega (arith, length-append bytes taken, k.1, full, stream)) in
-    subst (λ b. Holds v given b) (append_assoc bytes taken past)
+    subst (λ b. HoldsBundle v given b) (append_assoc bytes taken past)
     (failed_holds fault v (limits_of w) given ((given ++ ready_of u) ++ x.0) ((bytes ++ taken)
     ++ past) failed same_past (parts_are u w given x.0 x.1.ready ∙ ap (λ r. given ++ r) (sym p.0)) p.1
     (met_stops fault (limits_of w) ((bytes ++ taken) ++ past) ((given ++ ready_of u) ++ x.0) p.2))
@@ -159,17 +159,17 @@ passed fault u w v taken past reads not_ended full same same_past failed passes 
 -- ---- by cases of the answer
 
 pub fed_ok : {A : Type 0} (answer : Result ℕ StreamFault) (u v : Unbundler A) (piece : List ℕ)
-    → state_of u ≡ Reading → IfOk answer (λ n. Feeds u v (take n piece))
-    → IfOk answer (λ n. (given : List (Part A)) (bytes : List ℕ) → Holds u given bytes
-    → Holds v given (bytes ++ take n piece))
+    → state_of u ≡ Reading → IfOk answer (λ n. FeedsBundle u v (take n piece))
+    → IfOk answer (λ n. (given : List (Part A)) (bytes : List ℕ) → HoldsBundle u given bytes
+    → HoldsBundle v given (bytes ++ take n piece))
 fed_ok (Ok n) u v piece going feeds = λ given bytes h. feeds given bytes going h
 fed_ok (Err fault) u v piece going feeds = tt
 
 pub fed_err : {A : Type 0} (answer : Result ℕ StreamFault) (u v : Unbundler A) (piece : List ℕ)
     → state_of u ≡ Reading → IfErr answer (λ fault. (place : ℕ) × (place ≤ length piece)
-    × Feeds u v (take place piece))
+    × FeedsBundle u v (take place piece))
     → IfErr answer (λ fault. (place : ℕ) × (place ≤ length piece)
-    × ((given : List (Part A)) (bytes : List ℕ) → Holds u given bytes
-    → Holds v given (bytes ++ take place piece)))
+    × ((given : List (Part A)) (bytes : List ℕ) → HoldsBundle u given bytes
+    → HoldsBundle v given (bytes ++ take place piece)))
 fed_err (Ok n) u v piece going feeds = tt
 fed_err (Err fault) u v piece going feeds = (feeds.0, feeds.1, λ given bytes h. feeds.2 given bytes going h)

@@ -12,7 +12,7 @@ use Rattle.hg_stream.specs.Frames.{max_header, HasHead}
 use Rattle.hg_stream.specs.Places.{IsInterrupted, IsInInner, of_interrupting}
 use Rattle.hg_stream.specs.Faults.{EndsInnerHeader}
 use Rattle.hg_stream.specs.code.Told.{JudgesHeader, ReadsInterrupting, RefusesInterrupting}
-use Rattle.hg_stream.specs.Unbundler.{Breaks, Waits}
+use Rattle.hg_stream.specs.Unbundler.{BreaksBundle, Waits}
 use Rattle.hg_stream.proofs.Steps.{further, header_err, EndsBlock}
 
 has_head : {A : Type 0} (block : List ℕ) (verdict : Verdict) → IsBlock max_header block
@@ -48,7 +48,7 @@ pub interrupting_err : {A : Type 0} (fault : StreamFault) (limits : Limits) (b a
     → (place : ℕ) × (place ≤ length piece)
     × ((bytes front rest : List ℕ) (parts : List (Part A)) (head : Head A) (payload : List ℕ)
     → IsInterrupted limits front parts head payload → Waits b max_header rest
-    → bytes ≡ front ++ rest → Breaks fault limits (bytes ++ take place piece) parts)
+    → bytes ≡ front ++ rest → BreaksBundle fault limits (bytes ++ take place piece) parts)
 interrupting_err fault limits b after piece n within (inl refused) same ends =
     let failed = header_err fault limits b after piece n within refused same ends in (
       failed.0,
@@ -60,7 +60,7 @@ interrupting_err fault limits b after piece n within (inr (inl (e, j))) same end
   n,
   within,
   λ bytes front rest parts head payload is waits spelled.
-      subst (λ f. Breaks f limits (bytes ++ take n piece) parts) (sym e)
+      subst (λ f. BreaksBundle f limits (bytes ++ take n piece) parts) (sym e)
       (judged limits b after _ bytes front rest (take n piece) parts head payload j same ends is waits
       spelled),
 )
@@ -68,7 +68,7 @@ interrupting_err fault limits b after piece n within (inr (inr (e, j))) same end
   n,
   within,
   λ bytes front rest parts head payload is waits spelled.
-      subst (λ f. Breaks f limits (bytes ++ take n piece) parts) (sym e)
+      subst (λ f. BreaksBundle f limits (bytes ++ take n piece) parts) (sym e)
       (judged limits b after _ bytes front rest (take n piece) parts head payload j same ends is waits
       spelled),
 )

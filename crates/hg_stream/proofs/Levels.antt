@@ -21,11 +21,11 @@ use Rattle.hg_stream.specs.declared.payloads.Payloads.{Payloads}
 use Rattle.hg_stream.specs.Block.{sized, IsBlock}
 use Rattle.hg_stream.specs.Payloads.{reader_at, other}
 use Rattle.hg_stream.specs.Places.{IsBeforeHeader, IsBeforeChunk, of_part, of_interrupting}
-use Rattle.hg_stream.specs.code.Going.{GoesOn}
+use Rattle.hg_stream.specs.code.Going.{IsGoing}
 use Rattle.hg_stream.specs.code.Readers.{ReadsPayload}
 use Rattle.hg_stream.specs.code.Stages.{stage_after}
 use Rattle.hg_stream.specs.code.Told.{RefusesHeaderAt, ReadsHeaderAt}
-use Rattle.hg_stream.specs.Unbundler.{Breaks, Fields, IsAtStage, IsBeforeHeaderAt, IsInsideAt, Waits, room_at}
+use Rattle.hg_stream.specs.Unbundler.{BreaksBundle, Fields, IsAtStage, IsBeforeHeaderAt, IsInsideAt, Waits, room_at}
 use Rattle.hg_stream.proofs.Steps.{EndsBlock, header_err, opens}
 use Rattle.hg_stream.proofs.Chunks.{CarriesOn, more_chunks, more_inner, ends_pause}
 use Rattle.hg_stream.proofs.Interruptions.{interrupting_err, opens_inner}
@@ -110,7 +110,7 @@ pub header_at_err : {A : Type 0} (l : Level) (fault : StreamFault) (limits : Lim
     → (place : ℕ) × (place ≤ length piece)
     × ((bytes front rest : List ℕ) (parts : List (Part A))
     → IsBeforeHeaderAt l limits head payload front parts → Waits b (room_at l limits parts) rest
-    → bytes ≡ front ++ rest → Breaks fault limits (bytes ++ take place piece) parts)
+    → bytes ≡ front ++ rest → BreaksBundle fault limits (bytes ++ take place piece) parts)
 header_at_err level.Part fault limits head payload b after piece n within refused same ends =
     let failed = header_err fault limits b after piece n within refused same ends in (
       failed.0,
@@ -130,7 +130,7 @@ header_at_err level.Interrupting fault limits head payload b after piece n withi
 pub nested : {A : Type 0} (l : Level) (limits : Limits) (head : Head A) (payload : PayloadIn A)
     (front : List ℕ) (parts : List (Part A)) (whole : List ℕ) → l ≡ level.Interrupting
     → IsInsideAt l limits head payload front parts whole
-    → Breaks NestedInterrupt limits (front ++ interruption) parts
+    → BreaksBundle NestedInterrupt limits (front ++ interruption) parts
 nested level.Part limits head payload front parts whole e inside = absurd (cc)
 nested level.Interrupting limits head payload front parts whole e inside =
     (front, inside.whole, whole, head, inside.inside, refl)
@@ -138,14 +138,14 @@ nested level.Interrupting limits head payload front parts whole e inside =
 -- ---- readers of payloads
 
 -- a reader that goes on reads, or has failed
-going_is : (phase : Phase) → GoesOn phase → (phase ≡ chunks.Reading)
+going_is : (phase : Phase) → IsGoing phase → (phase ≡ chunks.Reading)
     ⊎ ((fault : ChunkFault) × (phase ≡ chunks.Broken fault))
 going_is chunks.Reading going = inl refl
 going_is chunks.Ended going = absurd (going.not_ended refl)
 going_is chunks.HandedOut going = absurd (going.not_handed_out refl)
 going_is (chunks.Broken fault) going = inr (fault, refl)
 
-broken_goes_on : (phase : Phase) (fault : ChunkFault) → phase ≡ chunks.Broken fault → GoesOn phase
+broken_goes_on : (phase : Phase) (fault : ChunkFault) → phase ≡ chunks.Broken fault → IsGoing phase
 broken_goes_on phase fault e = record {
   not_ended = λ f. (let both : chunks.Broken fault ≡ chunks.Ended = sym e ∙ f in cc);
   not_handed_out = λ f. (let both : chunks.Broken fault ≡ chunks.HandedOut = sym e ∙ f in cc);
@@ -155,7 +155,7 @@ broken_goes_on phase fault e = record {
 answers_reading : {A : Type 0} (p q : PayloadIn A) (answer : Result (ℕ × Step) ChunkFault) (r : ℕ × Step)
     → answer ≡ Ok r
     → ((fault : ChunkFault) → chunks.phase_of p ≡ chunks.Broken fault → (answer ≡ Err fault) × (q ≡ p))
-    → GoesOn (chunks.phase_of p) → chunks.phase_of p ≡ chunks.Reading
+    → IsGoing (chunks.phase_of p) → chunks.phase_of p ≡ chunks.Reading
 answers_reading p q answer r is still going = elim (going_is (chunks.phase_of p) going) [
   | inl reading ↦ reading
   | inr broken ↦ let wrong : Ok r ≡ Err broken.0 = sym is ∙ (still broken.0 broken.1).0 in cc
@@ -165,11 +165,11 @@ answers_reading p q answer r is still going = elim (going_is (chunks.phase_of p)
 pub reads_payload : {A : Type 0} (p q : PayloadIn A) (piece : List ℕ) (answer : Result (ℕ × Step) ChunkFault)
     → IfOk answer (λ r. r.0 ≤ length piece)
     → IfOk answer (λ r. chunks.phase_of p ≡ chunks.Reading → 0 < length piece → 0 < r.0)
-    → IfOk answer (λ r. (whole rest : List ℕ) → chunks.Holds p whole rest
-    → chunks.Stops r.1 q whole rest (take r.0 piece))
+    → IfOk answer (λ r. (whole rest : List ℕ) → chunks.HasTakenItems p whole rest
+    → chunks.StopsWithin r.1 q whole rest (take r.0 piece))
     → IfErr answer (λ fault. (place : ℕ) × (place ≤ length piece)
-    × ((whole rest : List ℕ) → chunks.Holds p whole rest
-    → chunks.Fails fault q whole rest (take place piece)))
+    × ((whole rest : List ℕ) → chunks.HasTakenItems p whole rest
+    → chunks.FailsWithin fault q whole rest (take place piece)))
     → IfOk answer (λ r. chunks.phase_of p ≡ chunks.Reading → chunks.phase_of q ≡ chunks.phase_after r.1)
     → IfErr answer (λ fault. chunks.phase_of q ≡ chunks.Broken fault)
     → ((fault : ChunkFault) → chunks.phase_of p ≡ chunks.Broken fault → (answer ≡ Err fault) × (q ≡ p))

@@ -6,7 +6,7 @@ use Rattle.std.proofs.lemmas.List.{append-nil, take_all, length-drop}
 use Rattle.hg_types.specs.declared.part.Part.{Part}
 use Rattle.hg_stream.specs.declared.fault.StreamFault.{StreamFault}
 use Rattle.hg_stream.specs.declared.unbundler.Unbundler.{Unbundler}
-use Rattle.hg_stream.specs.Unbundler.{IsAt, KeepsParts, Moves, Breaks, Fails, Halts, Steps, limits_of}
+use Rattle.hg_stream.specs.Unbundler.{IsAt, KeepsParts, Moves, BreaksBundle, MeetsFault, Halts, Steps, limits_of}
 use Rattle.hg_stream.specs.Unbundler.{ready_of}
 use Rattle.hg_stream.proofs.Steps.{finishes_none}
 
@@ -29,17 +29,17 @@ moves_then u v w a b first second bytes parts at =
     )
 
 pub halts_then : {A : Type 0} (fault : StreamFault) (u v w : Unbundler A) (a b : List ℕ)
-    → limits_of v ≡ limits_of u → limits_of w ≡ limits_of v → KeepsParts v w → Moves u v a → Fails fault v b
+    → limits_of v ≡ limits_of u → limits_of w ≡ limits_of v → KeepsParts v w → Moves u v a → MeetsFault fault v b
     → Halts fault u w (a ++ b)
 halts_then fault u v w a b limits same kept first fails bytes parts at =
     let x = first bytes parts at in
-    let wrong : Breaks fault (limits_of u) ((bytes ++ a) ++ b) (parts ++ x.0) = subst
-    (λ l. Breaks fault l ((bytes ++ a) ++ b) (parts ++ x.0)) limits
+    let wrong : BreaksBundle fault (limits_of u) ((bytes ++ a) ++ b) (parts ++ x.0) = subst
+    (λ l. BreaksBundle fault l ((bytes ++ a) ++ b) (parts ++ x.0)) limits
     (fails (bytes ++ a) (parts ++ x.0) x.1.at) in (
       x.0,
       kept.0 ∙ x.1.ready,
       ap (λ n. n + length (parts ++ x.0)) kept.1 ∙ x.1.at.left ∙ ap (λ l. l.parts) (sym same),
-      subst (λ t. Breaks fault (limits_of u) t (parts ++ x.0)) (append_assoc bytes a b) wrong,
+      subst (λ t. BreaksBundle fault (limits_of u) t (parts ++ x.0)) (append_assoc bytes a b) wrong,
     )
 
 -- what is left of a piece from a place on
@@ -74,6 +74,6 @@ took u v piece n within some limits left moves =
 
 pub stumbled : {A : Type 0} (u v : Unbundler A) (piece : List ℕ) (fault : StreamFault) → KeepsParts u v
     → limits_of v ≡ limits_of u → v.stream_left ≡ u.stream_left
-    → (place : ℕ) × (place ≤ length piece) × Fails fault u (take place piece) → Steps u v piece (Err fault)
+    → (place : ℕ) × (place ≤ length piece) × MeetsFault fault u (take place piece) → Steps u v piece (Err fault)
 stumbled u v piece fault kept limits left fails =
     record { count = tt; some = tt; ok = tt; err = fails; kept = kept; limits = limits; stream_left = left }

@@ -22,7 +22,7 @@ use Rattle.hg_stream.specs.Frames.{magic, max_header, HasParts}
 use Rattle.hg_stream.specs.Places.{IsBeforeBlock, params, header, IsBeforeHeader, IsInPayload, IsReading}
 use Rattle.hg_stream.specs.Places.{at_block, header_room}
 use Rattle.hg_stream.specs.code.Told.{of_block, room_left, ReadsParams, RefusesParams, RefusesHeader}
-use Rattle.hg_stream.specs.Unbundler.{Breaks, IsAt, Waits, Finishes, ready_of}
+use Rattle.hg_stream.specs.Unbundler.{BreaksBundle, IsAt, Waits, Finishes, ready_of}
 
 -- ---- blocks
 
@@ -50,7 +50,7 @@ partial_block b rest h = partial_at b.awaits b.most b.size b.block.items rest h
 pub block_breaks : {A : Type 0} (fault : BlockFault) (limits : Limits) (front rest : List ℕ)
     (parts : List (Part A)) (most : ℕ)
     → IsBeforeBlock limits front parts most → BlockFails fault most rest
-    → Breaks (of_block fault) limits (front ++ rest) parts
+    → BreaksBundle (of_block fault) limits (front ++ rest) parts
 block_breaks Negative limits front rest parts most before h = (front, rest, most, before, h, refl)
 block_breaks TooLarge limits front rest parts most before h = (front, rest, most, before, h, refl)
 block_breaks NoMemory limits front rest parts most before h = at_block front rest most before h refl
@@ -101,11 +101,11 @@ pub block_err : {A : Type 0} (fault : BlockFault) (limits : Limits) (bytes front
     (parts : List (Part A)) (most : ℕ) (b : BlockIn A)
     → IsBeforeBlock limits front parts most → Waits b most rest → bytes ≡ front ++ rest
     → ((r : List ℕ) → HoldsBlock b r → BlockFails fault b.most (r ++ taken))
-    → Breaks (of_block fault) limits (bytes ++ taken) parts
+    → BreaksBundle (of_block fault) limits (bytes ++ taken) parts
 block_err fault limits bytes front rest taken parts most b before waits spelled fails =
     let wrong : BlockFails fault most (rest ++ taken) = subst
     (λ m. BlockFails fault m (rest ++ taken)) waits.most_is (fails rest waits.holds) in
-    subst (λ x. Breaks (of_block fault) limits x parts) (sym (further bytes front rest taken spelled))
+    subst (λ x. BreaksBundle (of_block fault) limits x parts) (sym (further bytes front rest taken spelled))
     (block_breaks fault limits front (rest ++ taken) parts most before wrong)
 
 -- where a reader waits for a block, it reads
@@ -128,12 +128,12 @@ pub params_err : {A : Type 0} (fault : StreamFault) (limits : Limits) (b after :
     → after.most ≡ b.most → EndsBlock b after (take n piece)
     → (place : ℕ) × (place ≤ length piece)
     × ((bytes rest : List ℕ) (parts : List (Part A)) → Waits b limits.params rest → parts ≡ []
-    → bytes ≡ magic ++ rest → Breaks fault limits (bytes ++ take place piece) parts)
+    → bytes ≡ magic ++ rest → BreaksBundle fault limits (bytes ++ take place piece) parts)
 params_err fault limits b after piece n within (inl e) same ends = (
   0,
   omega arith,
   λ bytes rest parts waits none spelled.
-      subst (λ f. Breaks f limits (bytes ++ take 0 piece) parts) (sym e)
+      subst (λ f. BreaksBundle f limits (bytes ++ take 0 piece) parts) (sym e)
       (still_reading limits bytes magic rest parts limits.params b (params refl none refl) waits spelled),
 )
 params_err fault limits b after piece n within (inr (wrong, e, faulty)) same ends = (
@@ -143,7 +143,7 @@ params_err fault limits b after piece n within (inr (wrong, e, faulty)) same end
       let whole = ends rest waits.holds in
       let block : IsBlock limits.params after.block.items = subst (λ m. IsBlock m after.block.items) (same
       ∙ waits.most_is) whole.0 in
-      subst (λ f. Breaks f limits (bytes ++ take n piece) parts) (sym e) (
+      subst (λ f. BreaksBundle f limits (bytes ++ take n piece) parts) (sym e) (
         after.block.items,
         block,
         faulty,
@@ -179,12 +179,12 @@ pub header_err : {A : Type 0} (fault : StreamFault) (limits : Limits) (b after :
     → (place : ℕ) × (place ≤ length piece)
     × ((bytes front rest : List ℕ) (parts : List (Part A)) (most : ℕ)
     → IsBeforeHeader limits front parts most → Waits b most rest → bytes ≡ front ++ rest
-    → Breaks fault limits (bytes ++ take place piece) parts)
+    → BreaksBundle fault limits (bytes ++ take place piece) parts)
 header_err fault limits b after piece n within (inl e) same ends = (
   0,
   omega arith,
   λ bytes front rest parts most before waits spelled.
-      subst (λ f. Breaks f limits (bytes ++ take 0 piece) parts) (sym e)
+      subst (λ f. BreaksBundle f limits (bytes ++ take 0 piece) parts) (sym e)
       (still_reading limits bytes front rest parts most b (header before) waits spelled),
 )
 header_err fault limits b after piece n within (inr (wrong, e, faulty)) same ends = (
@@ -194,7 +194,7 @@ header_err fault limits b after piece n within (inr (wrong, e, faulty)) same end
       let whole = ends rest waits.holds in
       let block : IsBlock most after.block.items = subst (λ m. IsBlock m after.block.items) (same
       ∙ waits.most_is) whole.0 in
-      subst (λ f. Breaks f limits (bytes ++ take n piece) parts) (sym e) (
+      subst (λ f. BreaksBundle f limits (bytes ++ take n piece) parts) (sym e) (
         front,
         after.block.items,
         most,

@@ -7,7 +7,7 @@ use Rattle.hg_types.specs.declared.part.Part.{Part}
 use Rattle.hg_chunks.specs.PayloadIn.{Phase}
 use Rattle.hg_chunks.specs.PayloadIn.{Reading as chunks_reading, Ended as chunks_ended}
 use Rattle.hg_chunks.specs.PayloadIn.{HandedOut as chunks_handed_out}
-use Rattle.hg_stream.specs.code.Going.{GoesOn}
+use Rattle.hg_stream.specs.code.Going.{IsGoing}
 use Rattle.hg_stream.specs.declared.fault.StreamFault.{StreamFault}
 use Rattle.hg_stream.specs.declared.fault.StreamFault.TheVariants.{BadMagic, NegativeSize, Params, Header}
 use Rattle.hg_stream.specs.declared.fault.StreamFault.TheVariants.{Chunk, NestedInterrupt, ClientAbort}
@@ -19,8 +19,8 @@ use Rattle.hg_stream.specs.declared.unbundler.Unbundler.{Unbundler}
 use Rattle.hg_stream.specs.Frames.{magic, IsWhole}
 use Rattle.hg_stream.specs.Payloads.{reader_at}
 use Rattle.hg_stream.specs.Places.{IsReading, at_magic, params, header}
-use Rattle.hg_stream.specs.Faults.{by_grammar, by_length, Stops, Tells}
-use Rattle.hg_stream.specs.Unbundler.{Fields, fields_of, IsAt, IsAtStage, Breaks, Meets, Keeps, Holds}
+use Rattle.hg_stream.specs.Faults.{by_grammar, by_length, StopsReading, StateTells}
+use Rattle.hg_stream.specs.Unbundler.{Fields, fields_of, IsAt, IsAtStage, BreaksBundle, Meets, KeepsFinished, HoldsBundle}
 use Rattle.hg_stream.specs.Unbundler.{ready_of, state_at, state_of}
 use Rattle.hg_stream.proofs.Steps.{still_reading}
 use Rattle.hg_stream.proofs.Chunks.{chunk_reading}
@@ -43,7 +43,7 @@ is_no_memory NoMemory = inl refl
 -- a fault that is decided is one that is met; memory is refused within the limit on the stream
 pub met : {A : Type 0} (fault : StreamFault) (limits : Limits) (bytes : List ℕ) (parts : List (Part A))
     → length bytes ≤ limits.stream + 1 → (fault ≡ NoMemory → length bytes ≤ limits.stream)
-    → Breaks fault limits bytes parts → Meets fault limits bytes parts
+    → BreaksBundle fault limits bytes parts → Meets fault limits bytes parts
 met BadMagic limits bytes parts within room h = by_grammar h within
 met NegativeSize limits bytes parts within room h = by_grammar h within
 met (Params fault) limits bytes parts within room h = by_grammar h within
@@ -64,7 +64,7 @@ not_truncated limits bytes parts (by_length front last read before after spelled
 
 -- a reader that met a fault stops there
 pub met_stops : {A : Type 0} (fault : StreamFault) (limits : Limits) (bytes : List ℕ) (parts : List (Part A))
-    → Meets fault limits bytes parts → Stops fault limits bytes parts
+    → Meets fault limits bytes parts → StopsReading fault limits bytes parts
 met_stops BadMagic limits bytes parts h = h
 met_stops NegativeSize limits bytes parts h = h
 met_stops (Params fault) limits bytes parts h = h
@@ -132,7 +132,7 @@ ended_not_reading e = cc
 
 -- it tells of the bytes where it has not failed
 pub tells_at : {A : Type 0} (s : Stage) (u : Fields A) (bytes : List ℕ) (parts : List (Part A))
-    → IsAtStage s u bytes parts → length bytes ≤ u.limits.stream → Tells (state_at s) u.limits bytes parts
+    → IsAtStage s u bytes parts → length bytes ≤ u.limits.stream → StateTells (state_at s) u.limits bytes parts
 tells_at stage.Magic u bytes parts h within = (
   subst (λ x. IsReading u.limits x parts) (append-nil bytes) (reading_at stage.Magic u bytes parts h refl),
   within,
@@ -156,7 +156,7 @@ tells_at stage.Ended u bytes parts h within = (h, within)
 tells_at (stage.Failed fault) u bytes parts h within = absurd h
 
 keeps_at : {A : Type 0} (s : Stage) (u : Unbundler A) (bytes : List ℕ) (parts : List (Part A))
-    → IsAt u bytes parts → u.stream_left + length bytes ≡ u.limits.stream → Keeps (state_at s) u bytes parts
+    → IsAt u bytes parts → u.stream_left + length bytes ≡ u.limits.stream → KeepsFinished (state_at s) u bytes parts
 keeps_at stage.Magic u bytes parts at counted = (at, counted)
 keeps_at stage.Params u bytes parts at counted = (at, counted)
 keeps_at (stage.Header l) u bytes parts at counted = (at, counted)
@@ -167,7 +167,7 @@ keeps_at (stage.Failed fault) u bytes parts at counted = at.left
 -- a reader that knows where it is, and how many bytes may still come
 pub holds : {A : Type 0} (u : Unbundler A) (given : List (Part A)) (bytes : List ℕ)
     → IsAt u bytes (given ++ ready_of u) → u.stream_left + length bytes ≡ u.limits.stream
-    → Holds u given bytes
+    → HoldsBundle u given bytes
 holds u given bytes at counted = record {
   keeps = keeps_at u.stage u bytes (given ++ ready_of u) at counted;
   tells = tells_at u.stage (fields_of u) bytes (given ++ ready_of u) at.place (omega (arith, counted));
@@ -177,11 +177,11 @@ holds u given bytes at counted = record {
 pub keeps_same : {A : Type 0} (s : Stage) (u v : Unbundler A) (bytes : List ℕ) (parts parts' : List (Part A))
     → parts ≡ parts' → (IsAt u bytes parts → IsAt v bytes parts) → v.stream_left ≡ u.stream_left
     → v.parts_left ≡ u.parts_left → v.limits ≡ u.limits
-    → Keeps (state_at s) u bytes parts → Keeps (state_at s) v bytes parts'
+    → KeepsFinished (state_at s) u bytes parts → KeepsFinished (state_at s) v bytes parts'
 keeps_same s u v bytes parts parts' same at left parts_left limits keeps =
-    subst (λ p. Keeps (state_at s) v bytes p) same (kept s keeps)
+    subst (λ p. KeepsFinished (state_at s) v bytes p) same (kept s keeps)
   where
-    kept : (s : Stage) → Keeps (state_at s) u bytes parts → Keeps (state_at s) v bytes parts
+    kept : (s : Stage) → KeepsFinished (state_at s) u bytes parts → KeepsFinished (state_at s) v bytes parts
     kept stage.Magic k = (at k.0, ap (λ n. n + length bytes) left ∙ k.1 ∙ ap (λ l. l.stream) (sym limits))
     kept stage.Params k = (at k.0, ap (λ n. n + length bytes) left ∙ k.1 ∙ ap (λ l. l.stream) (sym limits))
     kept (stage.Header l) k =
@@ -219,7 +219,7 @@ goes_on (stage.Payload l) not_ended not_failed = refl
 goes_on stage.Ended not_ended not_failed = absurd (not_ended refl)
 goes_on (stage.Failed fault) not_ended not_failed = absurd (not_failed fault refl)
 
-pub reading_phase : (phase : Phase) → phase ≡ chunks_reading → GoesOn phase
+pub reading_phase : (phase : Phase) → phase ≡ chunks_reading → IsGoing phase
 reading_phase phase e = record {
   not_ended = λ f. (let both : chunks_reading ≡ chunks_ended = sym e ∙ f in
       cc);

@@ -79,13 +79,13 @@ pub data IsFault {A : Type 0} (limits : Limits) (bytes : List ℕ) (parts : List
 
 -- no fault of the bytes, which are still read within the limit on the stream: memory was refused, or the
 -- input ended
-abbrev pub Stops : {A : Type 0} → StreamFault → Limits → List ℕ → List (Part A) → Type 0
-Stops Truncated limits bytes parts = IsReading limits bytes parts × (length bytes ≤ limits.stream)
-Stops NoMemory limits bytes parts = IsReading limits bytes parts × (length bytes ≤ limits.stream)
-Stops fault limits bytes parts = IsFault limits bytes parts fault
+abbrev pub StopsReading : {A : Type 0} → StreamFault → Limits → List ℕ → List (Part A) → Type 0
+StopsReading Truncated limits bytes parts = IsReading limits bytes parts × (length bytes ≤ limits.stream)
+StopsReading NoMemory limits bytes parts = IsReading limits bytes parts × (length bytes ≤ limits.stream)
+StopsReading fault limits bytes parts = IsFault limits bytes parts fault
 
 -- what a state says of the bytes consumed, and of their parts
-abbrev pub Tells : {A : Type 0} → State → Limits → List ℕ → List (Part A) → Type 0
-Tells Reading limits bytes parts = IsReading limits bytes parts × (length bytes ≤ limits.stream)
-Tells Ended limits bytes parts = IsBundle limits bytes parts
-Tells (Failed fault) limits bytes parts = Stops fault limits bytes parts
+abbrev pub StateTells : {A : Type 0} → State → Limits → List ℕ → List (Part A) → Type 0
+StateTells Reading limits bytes parts = IsReading limits bytes parts × (length bytes ≤ limits.stream)
+StateTells Ended limits bytes parts = IsBundle limits bytes parts
+StateTells (Failed fault) limits bytes parts = StopsReading fault limits bytes parts

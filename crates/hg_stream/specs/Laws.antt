@@ -75,7 +75,7 @@ abbrev pub IsVerdict : {A : Type 0} → Option StreamFault → Limits → List �
 IsVerdict None limits bytes parts = IsBundle limits bytes parts
 IsVerdict (Some fault) limits bytes parts = IsFault limits bytes parts fault
 
--- A stream has a verdict at one place at most, which is what the reader tells. All bytes before that place
+-- A stream has a verdict at one place at most, which is what the reader reports. All bytes before that place
 -- are within the limit on the stream, and still read; there they are a bundle or show a fault, one alone and
 -- with one list of parts; and whatever follows, no longer ones have a verdict, or are still read within the
 -- limit.

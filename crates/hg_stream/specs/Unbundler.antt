@@ -22,7 +22,7 @@ use Rattle.hg_chunks.specs.Payload.{interruption, closing}
 use Rattle.hg_stream.specs.Frames.{magic, max_header, part_of, HasParts, IsWhole}
 use Rattle.hg_stream.specs.Payloads.{reader_at}
 use Rattle.hg_stream.specs.Places.{IsInPayload, IsInterrupted, IsInInner, header_room, IsReading}
-use Rattle.hg_stream.specs.Faults.{Decides, IsFault, Tells}
+use Rattle.hg_stream.specs.Faults.{Decides, IsFault, StateTells}
 
 -- the state of a reader that stands at this stage
 abbrev pub state_at : Stage → State
@@ -46,8 +46,8 @@ abbrev pub ready_of : {A : Type 0} → Unbundler A → List (Part A)
 ready_of u = u.ready.items
 
 -- a payload's reader that goes on, at the limit on payloads
-pub record Takes {A : Type 0} (limits : Limits) (p : PayloadIn A) (whole rest : List ℕ) : Type 0 where
-  pub holds : chunks.Holds p whole rest
+pub record TakesPayload {A : Type 0} (limits : Limits) (p : PayloadIn A) (whole rest : List ℕ) : Type 0 where
+  pub holds : chunks.HasTakenItems p whole rest
   pub limit : chunks.limit_of p ≡ limits.payload
   pub reading : chunks.phase_of p ≡ chunks.Reading
 
@@ -86,14 +86,14 @@ pub record IsPaused {A : Type 0} (limits : Limits) (head : Head A) (payload : Pa
     (front : List ℕ) (parts : List (Part A)) : Type 0 where
   pub whole : List ℕ
   pub interrupted : IsInterrupted limits front parts head whole
-  pub goes_on : Takes limits payload whole []
+  pub goes_on : TakesPayload limits payload whole []
 
 -- in the payload of the part that interrupts it, after whole chunks with that data
 pub record IsAside {A : Type 0} (limits : Limits) (head : Head A) (payload : PayloadIn A)
     (front : List ℕ) (parts : List (Part A)) (data_whole : List ℕ) : Type 0 where
   pub whole : List ℕ
   pub inside : IsInInner limits front parts head whole data_whole
-  pub goes_on : Takes limits payload whole []
+  pub goes_on : TakesPayload limits payload whole []
 
 -- a header comes next: that of a part, after whole frames, or that of a part that interrupts a payload
 abbrev pub IsBeforeHeaderAt : {A : Type 0} → Level → Limits → Head A → PayloadIn A → List ℕ → List (Part A)
@@ -130,7 +130,7 @@ pub record AtPayload {A : Type 0} (l : Level) (u : Fields A) (bytes : List ℕ) 
   pub rest : List ℕ
   pub whole : List ℕ
   pub inside : IsInsideAt l u.limits u.head u.payloads.part front parts whole
-  pub goes_on : Takes u.limits (reader_at l u.payloads) whole rest
+  pub goes_on : TakesPayload u.limits (reader_at l u.payloads) whole rest
   pub spelled : bytes ≡ front ++ rest
 
 -- in the magic
@@ -176,14 +176,14 @@ abbrev pub KeepsParts : {A : Type 0} → Unbundler A → Unbundler A → Type 0
 KeepsParts u v = (ready_of v ≡ ready_of u) × (v.parts_left ≡ u.parts_left)
 
 -- the last byte decides the fault by the grammar, or memory was refused
-abbrev pub Breaks : {A : Type 0} → StreamFault → Limits → List ℕ → List (Part A) → Type 0
-Breaks NoMemory limits bytes parts = IsReading limits bytes parts
-Breaks fault limits bytes parts = Decides fault limits bytes parts
+abbrev pub BreaksBundle : {A : Type 0} → StreamFault → Limits → List ℕ → List (Part A) → Type 0
+BreaksBundle NoMemory limits bytes parts = IsReading limits bytes parts
+BreaksBundle fault limits bytes parts = Decides fault limits bytes parts
 
 -- from u it met that fault by these bytes
-abbrev pub Fails : {A : Type 0} → StreamFault → Unbundler A → List ℕ → Type 0
-Fails {A} fault u taken = (bytes : List ℕ) (parts : List (Part A)) → IsAt u bytes parts →
-    Breaks fault u.limits (bytes ++ taken) parts
+abbrev pub MeetsFault : {A : Type 0} → StreamFault → Unbundler A → List ℕ → Type 0
+MeetsFault {A} fault u taken = (bytes : List ℕ) (parts : List (Part A)) → IsAt u bytes parts →
+    BreaksBundle fault u.limits (bytes ++ taken) parts
 
 -- One step, by its answer: how many bytes of a piece it took, some at least, and what it came to by them; or
 -- the fault that it met in the piece, with no part finished or lost.
@@ -192,7 +192,7 @@ pub record Steps {A : Type 0} (u v : Unbundler A) (piece : List ℕ)
   pub count : IfOk answer (λ n. n ≤ length piece)
   pub some : IfOk answer (λ n. 0 < n)
   pub ok : IfOk answer (λ n. Moves u v (take n piece))
-  pub err : IfErr answer (λ fault. (place : ℕ) × (place ≤ length piece) × Fails fault u (take place piece))
+  pub err : IfErr answer (λ fault. (place : ℕ) × (place ≤ length piece) × MeetsFault fault u (take place piece))
   pub kept : OnErr answer (KeepsParts u v)
   pub limits : limits_of v ≡ limits_of u
   pub stream_left : v.stream_left ≡ u.stream_left
@@ -201,7 +201,7 @@ pub record Steps {A : Type 0} (u v : Unbundler A) (piece : List ℕ)
 abbrev pub Halts : {A : Type 0} → StreamFault → Unbundler A → Unbundler A → List ℕ → Type 0
 Halts {A} fault u v taken = (bytes : List ℕ) (parts : List (Part A)) → IsAt u bytes parts
     → (added : List (Part A)) × (ready_of v ≡ ready_of u ++ added) × HasFinished v (parts ++ added)
-    × Breaks fault u.limits (bytes ++ taken) (parts ++ added)
+    × BreaksBundle fault u.limits (bytes ++ taken) (parts ++ added)
 
 -- what a reader that is fed can meet: the fault that the last byte decides, or out of memory within the
 -- limit on the stream
@@ -220,25 +220,25 @@ PassesBy {A} fault u v taken = (bytes : List ℕ) (parts : List (Part A)) → Is
 
 -- a reader that goes on knows where it is, and how many bytes may still come; one that has ended or failed
 -- has lost no part that it finished
-abbrev pub Keeps : {A : Type 0} → State → Unbundler A → List ℕ → List (Part A) → Type 0
-Keeps Reading u bytes parts = IsAt u bytes parts × (u.stream_left + length bytes ≡ u.limits.stream)
-Keeps Ended u bytes parts = HasFinished u parts
-Keeps (Failed fault) u bytes parts = HasFinished u parts
+abbrev pub KeepsFinished : {A : Type 0} → State → Unbundler A → List ℕ → List (Part A) → Type 0
+KeepsFinished Reading u bytes parts = IsAt u bytes parts × (u.stream_left + length bytes ≡ u.limits.stream)
+KeepsFinished Ended u bytes parts = HasFinished u parts
+KeepsFinished (Failed fault) u bytes parts = HasFinished u parts
 
 -- The reader took these bytes and gave these parts.
-pub record Holds {A : Type 0} (u : Unbundler A) (given : List (Part A)) (bytes : List ℕ) : Type 0 where
-  pub keeps : Keeps (state_of u) u bytes (given ++ ready_of u)
-  pub tells : Tells (state_of u) (limits_of u) bytes (given ++ ready_of u)
+pub record HoldsBundle {A : Type 0} (u : Unbundler A) (given : List (Part A)) (bytes : List ℕ) : Type 0 where
+  pub keeps : KeepsFinished (state_of u) u bytes (given ++ ready_of u)
+  pub tells : StateTells (state_of u) (limits_of u) bytes (given ++ ready_of u)
 
 -- a reader that took some bytes, gave some parts, and goes on
 abbrev pub IsStillReading : {A : Type 0} → Unbundler A → Type 0
-IsStillReading {A} u = (given : List (Part A)) × (bytes : List ℕ) × Holds u given bytes
+IsStillReading {A} u = (given : List (Part A)) × (bytes : List ℕ) × HoldsBundle u given bytes
     × (state_of u ≡ Reading)
 
 -- from u, which went on, it came to v by these bytes
-abbrev pub Feeds : {A : Type 0} → Unbundler A → Unbundler A → List ℕ → Type 0
-Feeds {A} u v taken = (given : List (Part A)) (bytes : List ℕ) → state_of u ≡ Reading → Holds u given bytes →
-    Holds v given (bytes ++ taken)
+abbrev pub FeedsBundle : {A : Type 0} → Unbundler A → Unbundler A → List ℕ → Type 0
+FeedsBundle {A} u v taken = (given : List (Part A)) (bytes : List ℕ) → state_of u ≡ Reading → HoldsBundle u given bytes →
+    HoldsBundle v given (bytes ++ taken)
 
 -- ---- parts of steps
 
@@ -259,7 +259,7 @@ Opened {A} l u v = (front : List ℕ) (parts : List (Part A)) →
 abbrev pub Interrupted : {A : Type 0} → Level → Unbundler A → Unbundler A → Type 0
 Interrupted {A} l u v = (front : List ℕ) (parts : List (Part A)) (whole : List ℕ) →
     IsInsideAt l u.limits u.head u.payloads.part front parts whole
-    → Takes u.limits (reader_at l u.payloads) whole [] → HasFinished u parts
+    → TakesPayload u.limits (reader_at l u.payloads) whole [] → HasFinished u parts
     → IsAt v (front ++ interruption) parts
 
 -- the payload with that data was closed

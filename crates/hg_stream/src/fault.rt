@@ -8,7 +8,7 @@ use hg_params::ParamFault;
 use thiserror::Error;
 
 /// The first fault of a stream. Each is decided at the earliest byte that shows it; of two at one byte the
-/// one with the lower number is told.
+/// one with the lower number is reported.
 #[derive(Clone, Copy, Debug, PartialEq, Eq, Error)]
 pub enum StreamFault {
     /// 1: the first four bytes are not `HG20`.

@@ -4,7 +4,7 @@ ghost use Rattle.std.specs.Prelude.{ℕ, ◌<◌, ◌≤◌, List, All, length};
 ghost use Rattle.hg_types.specs.declared.limits.Limits.{Limits as AnyLimits};
 ghost use Rattle.hg_types.specs.declared.part.Part.{Part as AnyPart};
 ghost use Rattle.hg_stream.specs.declared.state.State.{State};
-ghost use Rattle.hg_stream.specs.Faults.{Tells};
+ghost use Rattle.hg_stream.specs.Faults.{StateTells};
 ghost use Rattle.hg_stream.specs.Lengths.{AreShortIfBare};
 ghost use Rattle.hg_stream.specs.Laws.{IsReadBack, IsWithinAsPartsAre, AreReadInOneWay, AreSettledOnce};
 ghost use Rattle.hg_stream.specs.Laws.{IsReadOrSettled, HasOneVerdict, IsReadOrJudged};
@@ -46,7 +46,7 @@ pub fn every_stream_is_read_or_settled<A: Allocator>()
         IsReadOrSettled A limits bytes }
 {}
 
-/// A stream has one verdict at most, which is what the reader tells: within the limit on the stream its bytes
+/// A stream has one verdict at most, which is what the reader reports: within the limit on the stream its bytes
 /// are read on up to one place, and there they are a bundle or show a fault, one alone and with one list of
 /// parts.
 pub fn streams_have_one_verdict<A: Allocator>()
@@ -63,5 +63,5 @@ pub fn every_stream_is_read_or_judged<A: Allocator>()
 /// A stream has no more parts than the limit on parts, wherever it stands and whatever became of it.
 pub fn parts_are_few<A: Allocator>()
     ensures { (limits : AnyLimits) (state : State) (bytes : List ℕ) (parts : List (AnyPart A)) →
-        Tells state limits bytes parts → length parts ≤ limits.parts }
+        StateTells state limits bytes parts → length parts ≤ limits.parts }
 {}

@@ -15,6 +15,7 @@ mod fault;
 mod head;
 mod interrupting;
 pub mod laws;
+mod parts;
 mod payloads;
 mod state;
 mod told;
@@ -22,6 +23,7 @@ mod unbundler;
 mod write;
 
 pub use fault::StreamFault;
+pub use parts::all_parts;
 pub use state::State;
 pub use unbundler::Unbundler;
 pub use write::write_bundle;

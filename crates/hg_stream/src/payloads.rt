@@ -3,7 +3,7 @@
 ghost use Rattle.std.specs.Prelude.{◌≡◌};
 ghost use Rattle.hg_chunks.specs.PayloadIn.{Reading, phase_of};
 ghost use Rattle.hg_stream.specs.Payloads.{reader_at, other};
-ghost use Rattle.hg_stream.specs.code.Readers.{ReadsPayload, Begins};
+ghost use Rattle.hg_stream.specs.code.Readers.{ReadsPayload, HasTakenNothing};
 
 use hg_chunks::{ChunkFault, PayloadIn, Step};
 use std::alloc::{Allocator, Global};
@@ -48,10 +48,10 @@ impl<A: Allocator + Copy> Payloads<A> {
         }
     }
 
-    /// Begins the next payload at that level, and gives the reader of the one before.
+    /// HasTakenNothing the next payload at that level, and gives the reader of the one before.
     pub fn begin(&mut self, level: Level, alloc: A, limit: u32) -> PayloadIn<A>
         ensures before { result ≡ reader_at level self.old }
-        ensures begins { Begins limit (reader_at level self.new) }
+        ensures begins { HasTakenNothing limit (reader_at level self.new) }
         ensures other { reader_at (other level) self.new ≡ reader_at (other level) self.old }
     {
         let next = PayloadIn::new(alloc, limit);

@@ -8,7 +8,7 @@ use crate::fault::StreamFault;
 use hg_chunks::ChunkFault;
 use hg_params::ParamFault;
 
-/// What a fault of stream parameters is told as. Out of memory is the stream's own fault, here and below.
+/// What a fault of stream parameters is reported as. Out of memory is the stream's own fault, here and below.
 pub fn params_fault(fault: ParamFault) -> StreamFault
     ensures { result ≡ of_params fault }
 {
@@ -18,7 +18,7 @@ pub fn params_fault(fault: ParamFault) -> StreamFault
     }
 }
 
-/// What a fault of a part's header is told as.
+/// What a fault of a part's header is reported as.
 pub fn header_fault(fault: ParamFault) -> StreamFault
     ensures { result ≡ of_header fault }
 {
@@ -28,7 +28,7 @@ pub fn header_fault(fault: ParamFault) -> StreamFault
     }
 }
 
-/// What a fault of a payload's chunk is told as.
+/// What a fault of a payload's chunk is reported as.
 pub fn chunk_fault(fault: ChunkFault) -> StreamFault
     ensures { result ≡ of_chunk fault }
 {
@@ -38,7 +38,7 @@ pub fn chunk_fault(fault: ChunkFault) -> StreamFault
     }
 }
 
-/// What a fault of a block after its size is told as.
+/// What a fault of a block after its size is reported as.
 pub fn block_fault(fault: BlockFault) -> StreamFault
     ensures { result ≡ of_block fault }
 {

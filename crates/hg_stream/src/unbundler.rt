@@ -6,7 +6,7 @@ ghost use Rattle.std.specs.Prelude.{option_to_list};
 ghost use Rattle.hg_types.specs.Limits.{IsAllowed};
 ghost use Rattle.hg_types.specs.declared.part.Part.{Part};
 ghost use Rattle.hg_chunks.specs.PayloadIn.{phase_of};
-ghost use Rattle.hg_stream.specs.code.Going.{GoesOn};
+ghost use Rattle.hg_stream.specs.code.Going.{IsGoing};
 ghost use Rattle.hg_stream.specs.code.Stages.{stage_after};
 ghost use Rattle.hg_stream.specs.declared.state.State.{State};
 ghost use Rattle.hg_stream.specs.declared.state.State.TheVariants.{Reading, Ended, Failed};
@@ -72,20 +72,20 @@ pub struct Unbundler<A: Allocator = Global> {
     /// The parts that were finished and not yet given.
     ready: VecDeque<Part<A>, A>,
     ghost allowed: { IsAllowed limits },
-    ghost part_goes_on: { GoesOn (phase_of payloads.part) },
-    ghost interrupting_goes_on: { GoesOn (phase_of payloads.interrupting) },
+    ghost part_goes_on: { IsGoing (phase_of payloads.part) },
+    ghost interrupting_goes_on: { IsGoing (phase_of payloads.interrupting) },
 }
 
 impl<A: Allocator + Copy> Unbundler<A> {
-    ghost use Rattle.hg_stream.specs.Unbundler.{Holds, IsStillReading, Feeds, KeepsParts, Steps, Moves};
-    ghost use Rattle.hg_stream.specs.Unbundler.{Fails, Halts, PassesBy, Finished, state_of, limits_of};
+    ghost use Rattle.hg_stream.specs.Unbundler.{HoldsBundle, IsStillReading, FeedsBundle, KeepsParts, Steps, Moves};
+    ghost use Rattle.hg_stream.specs.Unbundler.{MeetsFault, Halts, PassesBy, Finished, state_of, limits_of};
     ghost use Rattle.hg_stream.specs.Unbundler.{ready_of, Opened, Interrupted, Closed};
     ghost use Rattle.hg_stream.specs.code.Told.{RefusesHeaderAt};
 
     /// A reader that was fed nothing.
     pub fn new(alloc: A, limits: Limits) -> Self
         requires { IsAllowed limits }
-        ensures empty { Holds result [] [] }
+        ensures empty { HoldsBundle result [] [] }
         ensures limits { limits_of result ≡ limits }
         ensures state { state_of result ≡ Reading }
     {
@@ -109,11 +109,11 @@ impl<A: Allocator + Copy> Unbundler<A> {
     pub fn feed(&mut self, piece: &[u8]) -> Result<usize, StreamFault>
         ensures count { IfOk result (λ n. n ≤ length piece.now) }
         ensures all { IfOk result (λ n. state_of self.new ≡ Reading → n ≡ length piece.now) }
-        ensures ok { IfOk result (λ n. (given : List (Part A)) (bytes : List ℕ) → Holds self.old given bytes →
-            Holds self.new given (bytes ++ take n piece.now)) }
+        ensures ok { IfOk result (λ n. (given : List (Part A)) (bytes : List ℕ) → HoldsBundle self.old given bytes →
+            HoldsBundle self.new given (bytes ++ take n piece.now)) }
         ensures err { IfErr result (λ fault. (place : ℕ) × (place ≤ length piece.now)
-            × ((given : List (Part A)) (bytes : List ℕ) → Holds self.old given bytes →
-            Holds self.new given (bytes ++ take place piece.now))) }
+            × ((given : List (Part A)) (bytes : List ℕ) → HoldsBundle self.old given bytes →
+            HoldsBundle self.new given (bytes ++ take place piece.now))) }
         ensures failed { IfErr result (λ fault. state_of self.new ≡ Failed fault) }
         ensures goes_on { IsStillReading self.old →
             IfOk result (λ n. (fault : StreamFault) → state_of self.new ≢ Failed fault) }
@@ -134,8 +134,8 @@ impl<A: Allocator + Copy> Unbundler<A> {
     pub fn next_part(&mut self) -> Option<Part<A>>
         ensures part { IfSome result (λ part. ready_of self.old ≡ part ∷ ready_of self.new) }
         ensures none { IfNone result ((ready_of self.old ≡ []) × (ready_of self.new ≡ [])) }
-        ensures holds { (given : List (Part A)) (bytes : List ℕ) → Holds self.old given bytes →
-            Holds self.new (given ++ option_to_list result) bytes }
+        ensures holds { (given : List (Part A)) (bytes : List ℕ) → HoldsBundle self.old given bytes →
+            HoldsBundle self.new (given ++ option_to_list result) bytes }
         ensures state { state_of self.new ≡ state_of self.old }
         ensures limits { limits_of self.new ≡ limits_of self.old }
     {
@@ -149,8 +149,8 @@ impl<A: Allocator + Copy> Unbundler<A> {
             × (state_of self.new ≡ Failed StreamFault.Truncated) }
         ensures failed { (fault : StreamFault) → state_of self.old ≡ Failed fault → (result ≡ Err fault)
             × (self.new ≡ self.old) }
-        ensures holds { (given : List (Part A)) (bytes : List ℕ) → Holds self.old given bytes →
-            Holds self.new given bytes }
+        ensures holds { (given : List (Part A)) (bytes : List ℕ) → HoldsBundle self.old given bytes →
+            HoldsBundle self.new given bytes }
         ensures ready { ready_of self.new ≡ ready_of self.old }
         ensures limits { limits_of self.new ≡ limits_of self.old }
     {
@@ -169,7 +169,7 @@ impl<A: Allocator + Copy> Unbundler<A> {
     pub fn restart(&mut self)
         requires ended { state_of self.old ≡ Ended }
         requires given { ready_of self.old ≡ [] }
-        ensures empty { Holds self.new [] [] }
+        ensures empty { HoldsBundle self.new [] [] }
         ensures limits { limits_of self.new ≡ limits_of self.old }
         ensures state { state_of self.new ≡ Reading }
         ensures ready { ready_of self.new ≡ [] }
@@ -192,9 +192,9 @@ impl<A: Allocator + Copy> Unbundler<A> {
     fn feed_on(&mut self, piece: &[u8]) -> Result<usize, StreamFault>
         ensures count { IfOk result (λ n. n ≤ length piece.now) }
         ensures all { IfOk result (λ n. state_of self.new ≡ Reading → n ≡ length piece.now) }
-        ensures ok { IfOk result (λ n. Feeds self.old self.new (take n piece.now)) }
+        ensures ok { IfOk result (λ n. FeedsBundle self.old self.new (take n piece.now)) }
         ensures err { IfErr result (λ fault. (place : ℕ) × (place ≤ length piece.now)
-            × Feeds self.old self.new (take place piece.now)) }
+            × FeedsBundle self.old self.new (take place piece.now)) }
         ensures failed { IfErr result (λ fault. state_of self.new ≡ Failed fault) }
         ensures goes_on { IsStillReading self.old →
             IfOk result (λ n. (fault : StreamFault) → state_of self.new ≢ Failed fault) }
@@ -272,7 +272,7 @@ impl<A: Allocator + Copy> Unbundler<A> {
         ensures some { IfOk result (λ n. (state_of self.old ≡ Ended → ⊥) → 0 < n) }
         ensures ok { IfOk result (λ n. Moves self.old self.new (take n piece.now)) }
         ensures err { IfErr result (λ fault. (place : ℕ) × (place ≤ length piece.now)
-            × Fails fault self.old (take place piece.now)) }
+            × MeetsFault fault self.old (take place piece.now)) }
         ensures kept { OnErr result (KeepsParts self.old self.new) }
         ensures limits { limits_of self.new ≡ limits_of self.old }
         ensures stream_left { self.new.stream_left ≡ self.old.stream_left }

@@ -13,9 +13,9 @@ abbrev pub ◌>>=◌ : {A B : Type 0} → Result A ParamFault → (A → Result 
 (Err e) >>= f = Err e
 
 -- what a function returned, seen by view, is what reading gives
-abbrev pub Gives : {X Y : Type 0} → (X → Y) → Result X ParamFault → Result Y ParamFault → Type 0
-Gives view (Ok x) read = read ≡ Ok (view x)
-Gives view (Err e) read = read ≡ Err e
+abbrev pub FieldGives : {X Y : Type 0} → (X → Y) → Result X ParamFault → Result Y ParamFault → Type 0
+FieldGives view (Ok x) read = read ≡ Ok (view x)
+FieldGives view (Err e) read = read ≡ Err e
 
 -- some bytes
 unfoldable pub bytes_at : ℕ → List ℕ → Result (List ℕ × List ℕ) ParamFault

@@ -1,4 +1,4 @@
--- What the stream tells of a block, of parameters or of a chunk. Out of memory is the stream's own.
+-- What the stream reports of a block, of parameters or of a chunk. Out of memory is the stream's own.
 use Rattle.std.specs.Prelude.{◌≡◌, ℕ, nat_lt, if◌then◌else◌, List, ◌⊎◌}
 use Rattle.hg_chunks.specs.declared.fault.ChunkFault.{ChunkFault}
 use Rattle.hg_chunks.specs.declared.fault.ChunkFault.TheVariants as chunk_fault
@@ -42,7 +42,7 @@ of_block block_fault.NoMemory = NoMemory
 abbrev pub room_left : ℕ → ℕ
 room_left parts_left = if nat_lt 0 parts_left then max_header else 0
 
--- a header's refusal, as the stream tells it
+-- a header's refusal, as the stream reports it
 abbrev pub RefusesHeader : List ℕ → StreamFault → Type 0
 RefusesHeader block fault = (fault ≡ NoMemory)
     ⊎ ((wrong : ParamFault) × (fault ≡ Header wrong) × IsHeaderFault block wrong)

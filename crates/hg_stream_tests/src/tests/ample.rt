@@ -1,7 +1,8 @@
 //! Memory that is ample: no call wants for it, and none takes more than what came asks for.
 
-use super::writing::{part_of, written};
+use super::writing::written;
 use super::*;
+use hg_help_tests::parts::part_of;
 use hg_types::Param;
 use linked_list_allocator::LocalHeap;
 

@@ -5,6 +5,7 @@ ghost use Rattle.std.specs.List.{All};
 ghost use Rattle.hg_stream.specs.Written.{CanBeWritten};
 
 use super::*;
+use hg_help_tests::parts::part_of;
 use hg_params::is_writable;
 use hg_types::Param;
 
@@ -43,20 +44,6 @@ fn add_param<A: Allocator + Copy>(
         mandatory,
         key: Seq::copy_of(alloc, key)?,
         value: Seq::copy_of(alloc, value)?,
-    })
-}
-
-pub fn part_of<A: Allocator + Copy>(
-    alloc: A,
-    kind: &[u8],
-    id: u32,
-    payload: &[u8],
-) -> Result<Part<A>, NoMemory> {
-    Ok(Part {
-        kind: Seq::copy_of(alloc, kind)?,
-        id,
-        params: Seq::new(alloc),
-        payload: Seq::copy_of(alloc, payload)?,
     })
 }
 

@@ -2,7 +2,7 @@ use Rattle.std.proofs.Common.{get_or, ◌∷◌, [], ◌+◌, take, refl, ap, su
 use Rattle.std.proofs.lemmas.Result.{err_from_is_err_and}
 use Rattle.std.proofs.lemmas.List.{take_more, append-nil}
 use Rattle.hg_chunks.specs.declared.fault.Step.TheVariants.{More}
-use Rattle.hg_chunks.specs.PayloadIn.{Stops, phase_of_stage, phase_after}
+use Rattle.hg_chunks.specs.PayloadIn.{StopsWithin, phase_of_stage, phase_after}
 use Rattle.hg_chunks.proofs.Steps.{Stops-then, Fails-then, take_range, still_broken}
 use Rattle.hg_chunks.proofs.Phases.{starts}
 use Rattle.hg_chunks.proofs.Whole.{HasRead-then}
@@ -71,7 +71,7 @@ loop-taken-preserved-in-More g c = record {
       let more = take_more c.args.piece.now c.loop-taken.taken 0 c.loop-taken-test.true in
       rw more (Stops-then More _ _ whole rest (take c.loop-taken.taken c.args.piece.now) _
       (c.loop-taken.invariant.took whole rest h)
-      (λ w r k. subst (λ step. Stops step c.take_size_byte.new.self w r
+      (λ w r k. subst (λ step. StopsWithin step c.take_size_byte.new.self w r
       (get_or c.args.piece.now c.loop-taken.taken 0 ∷ [])) c.in-More.is
       (c.in_ok-step-in-Size-stage.ensures.ok w r k)));
 }

@@ -1,7 +1,7 @@
 use Rattle.std.proofs.Common.{◌++◌, refl, subst}
 use Rattle.hg_stream.specs.declared.state.State.TheVariants.{Reading}
-use Rattle.hg_stream.specs.Faults.{Tells}
-use Rattle.hg_stream.specs.Unbundler.{Keeps, ready_of, limits_of}
+use Rattle.hg_stream.specs.Faults.{StateTells}
+use Rattle.hg_stream.specs.Unbundler.{KeepsFinished, ready_of, limits_of}
 use Rattle.hg_stream.proofs.Telling.{goes_on, stage_ended, stage_failed}
 use Rattle.hg_stream.proofs.unbundler.Unbundler.end_input.Goals as goal
 
@@ -12,11 +12,11 @@ returns-in_default g c = record {
   failed = λ fault e. absurd (c.in_default.not-Failed fault (stage_failed c.args.self.now.stage fault e));
   holds = λ given bytes h.
       let going = goes_on c.args.self.now.stage c.in_default.not-Ended c.in_default.not-Failed in
-      let told : Tells Reading (limits_of c.args.self.now) bytes (given ++ ready_of c.args.self.now) = subst
-      (λ s. Tells s (limits_of c.args.self.now) bytes (given ++ ready_of c.args.self.now)) going
+      let told : StateTells Reading (limits_of c.args.self.now) bytes (given ++ ready_of c.args.self.now) = subst
+      (λ s. StateTells s (limits_of c.args.self.now) bytes (given ++ ready_of c.args.self.now)) going
       h.tells in
-      let kept : Keeps Reading c.args.self.now bytes (given ++ ready_of c.args.self.now) = subst
-      (λ s. Keeps s c.args.self.now bytes (given ++ ready_of c.args.self.now)) going h.keeps in
+      let kept : KeepsFinished Reading c.args.self.now bytes (given ++ ready_of c.args.self.now) = subst
+      (λ s. KeepsFinished s c.args.self.now bytes (given ++ ready_of c.args.self.now)) going h.keeps in
       record { keeps = kept.0.left; tells = told };
   ready = refl;
   limits = refl;

@@ -2,7 +2,7 @@ use Rattle.std.proofs.Common.{◌≡◌, ℕ, ◌+◌, ◌<◌, List, length, ta
 use Rattle.std.proofs.lemmas.Result.{err_from_is_err_and}
 use Rattle.std.proofs.lemmas.List.{length-take, take_all}
 use Rattle.hg_stream.specs.declared.state.State.TheVariants.{Ended}
-use Rattle.hg_stream.specs.Unbundler.{Feeds, Halts, Moves, state_of}
+use Rattle.hg_stream.specs.Unbundler.{FeedsBundle, Halts, Moves, state_of}
 use Rattle.hg_stream.proofs.Feeding.{front_take, front_within, past_take, halted, fed, passed}
 use Rattle.hg_stream.proofs.unbundler.Unbundler.feed_on.Goals as goal
 
@@ -80,7 +80,7 @@ returns-clause-err g c =
     (take_all c.in_ok-count.count front (omega (arith, whole))) c.in_ok-count.ensures.ok in (
       c.min-within.result + past.0,
       omega (arith, some, past.1),
-      subst (λ t. Feeds c.args.self.now c.read_past.new.self t)
+      subst (λ t. FeedsBundle c.args.self.now c.read_past.new.self t)
           (past_take c.args.piece.now c.min-within.result past.0 some past.1)
           (passed c.read_past.result c.args.self.now _ c.read_past.new.self front _
           (λ bytes parts at. (let m = moves bytes parts at in (

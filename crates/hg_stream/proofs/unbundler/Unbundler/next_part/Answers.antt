@@ -1,5 +1,5 @@
 use Rattle.std.proofs.Common.{◌≡◌, ◌++◌, refl, sym, ap, ◌∙◌, append_assoc, subst, option_to_list}
-use Rattle.hg_stream.specs.Faults.{Tells}
+use Rattle.hg_stream.specs.Faults.{StateTells}
 use Rattle.hg_stream.specs.Unbundler.{state_of, limits_of}
 use Rattle.hg_stream.proofs.Telling.{keeps_same}
 use Rattle.hg_stream.proofs.unbundler.Unbundler.next_part.Goals as goal
@@ -13,5 +13,5 @@ returns-clause-holds g c = λ given bytes h.
     record {
       keeps = keeps_same c.args.self.now.stage c.args.self.now _ bytes _ _ same
           (λ at. record { left = at.left; place = at.place }) refl refl refl h.keeps;
-      tells = subst (λ p. Tells (state_of c.args.self.now) (limits_of c.args.self.now) bytes p) same h.tells;
+      tells = subst (λ p. StateTells (state_of c.args.self.now) (limits_of c.args.self.now) bytes p) same h.tells;
     }

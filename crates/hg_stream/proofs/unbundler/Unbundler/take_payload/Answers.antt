@@ -8,7 +8,7 @@ use Rattle.hg_types.specs.declared.part.Part.{Part}
 use Rattle.hg_stream.specs.declared.fault.StreamFault.TheVariants.{NestedInterrupt}
 use Rattle.hg_stream.specs.declared.payloads.Level.{Level}
 use Rattle.hg_stream.specs.declared.unbundler.Unbundler.{Unbundler}
-use Rattle.hg_stream.specs.Unbundler.{Breaks, IsAt, IsInsideAt}
+use Rattle.hg_stream.specs.Unbundler.{BreaksBundle, IsAt, IsInsideAt}
 use Rattle.hg_stream.proofs.Steps.{finishes_none}
 use Rattle.hg_stream.proofs.Chunks.{CarriesOn, behind, chunk_err, chunk_reading}
 use Rattle.hg_stream.proofs.Levels.{chunk_at, more_at, inside_still, nested}
@@ -47,7 +47,7 @@ pub returns-in-More : goal.returns-in-More
 returns-in-More g c = took _ _ _ _ (search rules) (search rules) (search rules) (search rules)
     (λ bytes parts h.
     let place = rw c.requires.stage at h.place in
-    let stops = subst (λ step. chunks.Stops step (reader_at c.args.level c.feed.new.self) place.whole
+    let stops = subst (λ step. chunks.StopsWithin step (reader_at c.args.level c.feed.new.self) place.whole
     place.rest (take c.in-Ok.taken.0 c.args.piece.now)) c.in-More.is
     (c.in-Ok.ensures.reads.ok place.whole place.rest place.goes_on.holds) in
     let limit = c.in-Ok.ensures.reads.limit ∙ place.goes_on.limit in
@@ -83,10 +83,10 @@ returns-in_err-interrupt-in-Interrupt g c =
       c.in-Ok.ensures.reads.count,
       λ bytes parts h.
           let place = rw c.requires.stage at h.place in
-          let stops = subst (λ step. chunks.Stops step (reader_at c.args.level c.feed.new.self) place.whole
+          let stops = subst (λ step. chunks.StopsWithin step (reader_at c.args.level c.feed.new.self) place.whole
           place.rest (take c.in-Ok.taken.0 c.args.piece.now)) c.in-Interrupt.is
           (c.in-Ok.ensures.reads.ok place.whole place.rest place.goes_on.holds) in
-          let takes : chunks.Takes (reader_at c.args.level c.feed.new.self) place.whole place.rest
+          let takes : chunks.TakesChunks (reader_at c.args.level c.feed.new.self) place.whole place.rest
           (take c.in-Ok.taken.0 c.args.piece.now) interruption [] stops.0 =
           rw (← stops.4.0, ← stops.4.1) stops.3 in
           let b = behind c.args.self.now.limits (Inside c.args.level c.args.self.now parts)
@@ -94,7 +94,7 @@ returns-in_err-interrupt-in-Interrupt g c =
           place.front place.rest place.whole _ interruption [] stops.0 place.inside
           (c.in-Ok.ensures.reads.limit ∙ place.goes_on.limit) place.spelled takes in
           rw c.in_err-interrupt-in-Interrupt.ensures.err.0
-          (subst (λ x. Breaks NestedInterrupt c.args.self.now.limits x parts)
+          (subst (λ x. BreaksBundle NestedInterrupt c.args.self.now.limits x parts)
           (sym (b.spelled ∙ ap (λ (x : List ℕ). b.front ++ x) (append-nil interruption)))
           (nested c.args.level c.args.self.now.limits c.args.self.now.head c.args.self.now.payloads.part
           b.front parts b.whole c.in_err-interrupt-in-Interrupt.ensures.err.1 b.place)),
@@ -104,11 +104,11 @@ pub returns-in_ok-interrupt-in-Interrupt : goal.returns-in_ok-interrupt-in-Inter
 returns-in_ok-interrupt-in-Interrupt g c =
     took _ _ _ _ (search rules) (search rules) (search rules) (search rules) (λ bytes parts h.
     let place = rw c.requires.stage at h.place in
-    let stops = subst (λ step. chunks.Stops step (reader_at c.args.level c.feed.new.self) place.whole
+    let stops = subst (λ step. chunks.StopsWithin step (reader_at c.args.level c.feed.new.self) place.whole
     place.rest (take c.in-Ok.taken.0 c.args.piece.now)) c.in-Interrupt.is
     (c.in-Ok.ensures.reads.ok place.whole place.rest place.goes_on.holds) in
     let limit = c.in-Ok.ensures.reads.limit ∙ place.goes_on.limit in
-    let takes : chunks.Takes (reader_at c.args.level c.feed.new.self) place.whole place.rest
+    let takes : chunks.TakesChunks (reader_at c.args.level c.feed.new.self) place.whole place.rest
     (take c.in-Ok.taken.0 c.args.piece.now) interruption [] stops.0 =
     rw (← stops.4.0, ← stops.4.1) stops.3 in
     let b = behind c.args.self.now.limits (Inside c.args.level c.args.self.now parts)
@@ -148,10 +148,10 @@ pub returns-in_ok-close-in-Done : goal.returns-in_ok-close-in-Done
 returns-in_ok-close-in-Done g c =
     took _ _ _ _ (search rules) (search rules) (search rules) (search rules) (λ bytes parts h.
     let place = rw c.requires.stage at h.place in
-    let stops = subst (λ step. chunks.Stops step (reader_at c.args.level c.feed.new.self) place.whole
+    let stops = subst (λ step. chunks.StopsWithin step (reader_at c.args.level c.feed.new.self) place.whole
     place.rest (take c.in-Ok.taken.0 c.args.piece.now)) c.in-Done.is
     (c.in-Ok.ensures.reads.ok place.whole place.rest place.goes_on.holds) in
-    let takes : chunks.Takes (reader_at c.args.level c.feed.new.self) place.whole place.rest
+    let takes : chunks.TakesChunks (reader_at c.args.level c.feed.new.self) place.whole place.rest
     (take c.in-Ok.taken.0 c.args.piece.now) [] closing stops.0 = (let first = rw stops.4.0 at stops.3 in
     rw stops.4.1 at first) in
     let b = behind c.args.self.now.limits (Inside c.args.level c.args.self.now parts)
@@ -161,8 +161,8 @@ returns-in_ok-close-in-Done g c =
     let still = inside_still c.args.level c.args.self.now.limits c.args.self.now.head
     c.args.self.now.payloads c.begin-ended.new.self parts b.front b.whole
     (c.begin-ended.ensures.other ∙ c.feed.ensures.other) b.place in
-    let holds : chunks.Holds c.begin-ended.result b.whole closing = subst
-    (λ p. chunks.Holds p b.whole closing) (sym c.begin-ended.ensures.before) b.holds in
+    let holds : chunks.HasTakenItems c.begin-ended.result b.whole closing = subst
+    (λ p. chunks.HasTakenItems p b.whole closing) (sym c.begin-ended.ensures.before) b.holds in
     let inside = subst (λ w. IsInsideAt c.args.level c.args.self.now.limits c.args.self.now.head
     c.begin-ended.new.self.part b.front parts w)
     (sym (c.take_payload.ensures.data b.whole closing holds).0) still in
