@@ -1,4 +1,4 @@
--- Faults of reading a payload, told as faults of a check; out of memory is reported as such.
+-- Faults of reading a payload, reported as faults of a check; out of memory is reported as such.
 use Rattle.hg_phases.specs.declared.fault.EntryFault.{EntryFault}
 use Rattle.hg_phases.specs.declared.fault.EntryFault.TheVariants as entries
 use Rattle.hg_keys.specs.declared.fault.BookmarkFault.{BookmarkFault}

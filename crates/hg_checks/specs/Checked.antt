@@ -8,8 +8,8 @@ abbrev pub Answer : Type 0
 Answer = Result (Unit {0}) CheckFault
 
 -- what a function returned is the answer, unless memory was refused
-abbrev pub Gives : Answer → Answer → Type 0
-Gives result answer = MatchResult result (λ content. answer ≡ Ok tt) (λ fault. (fault ≡ NoMemory)
+abbrev pub CheckGives : Answer → Answer → Type 0
+CheckGives result answer = MatchResult result (λ content. answer ≡ Ok tt) (λ fault. (fault ≡ NoMemory)
     ⊎ (answer ≡ Err fault))
 
 -- the first of two answers that is not content

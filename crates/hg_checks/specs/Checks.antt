@@ -89,7 +89,7 @@ checked Heads rows phases pairs payload = heads_checked rows payload
 checked Phases rows phases pairs payload = phases_checked rows phases payload
 checked Bookmarks rows phases pairs payload = bookmarks_checked rows pairs payload
 
--- The faults that a check of that kind can tell. An unknown changeset is one only where the payload tells
+-- The faults that a check of that kind can report. An unknown changeset is one only where the payload says
 -- something else of it, and out of memory is none: code alone answers it.
 abbrev pub CanTell : CheckKind → CheckFault → Type 0
 CanTell kind Raced = Unit {0}

@@ -1,7 +1,7 @@
 //! `check:bookmarks`: the bookmarks that the client saw.
 
 ghost use Rattle.std.specs.Prelude.{◌≡◌};
-ghost use Rattle.hg_checks.specs.Checked.{Gives, all_checked};
+ghost use Rattle.hg_checks.specs.Checked.{CheckGives, all_checked};
 ghost use Rattle.hg_checks.specs.Checks.{bookmark_checked, bookmarks_checked};
 
 use crate::fault::CheckFault;
@@ -23,7 +23,7 @@ pub fn check_bookmarks<A: Allocator + Copy>(
     bookmarks: &Bookmarks<A>,
     payload: &[u8],
 ) -> Result<(), CheckFault>
-    ensures { Gives result (bookmarks_checked log.now.rows bookmarks.now.current payload.now) }
+    ensures { CheckGives result (bookmarks_checked log.now.rows bookmarks.now.current payload.now) }
 {
     let entries = read_bookmarks(alloc, payload)?;
     check_each(log, bookmarks, entries.as_slice())

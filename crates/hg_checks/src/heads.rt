@@ -3,7 +3,7 @@
 ghost use Rattle.std.specs.Prelude.{◌≡◌, ◌≢◌, ◌↔◌, IsTrue, IfOk, AllPairs};
 ghost use Rattle.std.specs.List.{list_all};
 ghost use Rattle.hg_log.specs.HeadCount.{head_ids, is_head_id};
-ghost use Rattle.hg_checks.specs.Checked.{Gives};
+ghost use Rattle.hg_checks.specs.Checked.{CheckGives};
 ghost use Rattle.hg_checks.specs.Checks.{are_same_ids, heads_checked};
 
 use crate::fault::CheckFault;
@@ -24,7 +24,7 @@ pub fn check_heads<A: Allocator + Copy>(
     log: &Changelog<A>,
     payload: &[u8],
 ) -> Result<(), CheckFault>
-    ensures { Gives result (heads_checked log.now.rows payload.now) }
+    ensures { CheckGives result (heads_checked log.now.rows payload.now) }
 {
     let (ids, rest) = payload.as_chunks::<ID>();
     if !rest.is_empty() {

@@ -1,7 +1,7 @@
 //! The checks by their kind.
 
 ghost use Rattle.std.specs.Prelude.{◌≤◌, length};
-ghost use Rattle.hg_checks.specs.Checked.{Gives};
+ghost use Rattle.hg_checks.specs.Checked.{CheckGives};
 ghost use Rattle.hg_checks.specs.Checks.{checked};
 
 use crate::bookmarks::check_bookmarks;
@@ -26,7 +26,7 @@ pub enum CheckKind {
 }
 
 /// Whether the repository is still as a payload of that kind says: [`check_heads`], [`check_phases`] and
-/// [`check_bookmarks`] tell what each kind compares, and what it refuses.
+/// [`check_bookmarks`] say what each kind compares, and what it refuses.
 pub fn check<A: Allocator + Copy>(
     alloc: A,
     kind: CheckKind,
@@ -36,7 +36,7 @@ pub fn check<A: Allocator + Copy>(
     payload: &[u8],
 ) -> Result<(), CheckFault>
     requires { length log.now.rows ≤ length phases.now.current.phases }
-    ensures { Gives result
+    ensures { CheckGives result
         (checked kind log.now.rows phases.now.current.phases bookmarks.now.current payload.now) }
 {
     match kind {

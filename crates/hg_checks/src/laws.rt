@@ -9,7 +9,7 @@ ghost use Rattle.hg_checks.specs.declared.kind.CheckKind.{CheckKind};
 ghost use Rattle.hg_checks.specs.declared.fault.CheckFault.{CheckFault};
 ghost use Rattle.hg_checks.specs.Checks.{checked, CanTell};
 
-/// Which faults each kind of check can tell: by the definitions alone, so never that memory was refused.
+/// Which faults each kind of check can report: by the definitions alone, so never that memory was refused.
 pub fn checks_tell_their_faults()
     ensures { (kind : CheckKind) (rows : List Changeset) (phases : List Phase) (pairs : Pairs)
         (payload : List ℕ) (fault : CheckFault) → checked kind rows phases pairs payload ≡ Err fault

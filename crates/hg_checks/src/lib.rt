@@ -2,18 +2,15 @@
 //!
 //! [`check`] compares what its [`CheckKind`] says: the heads, the phases of changesets, or the changesets of
 //! bookmarks. It changes nothing, and nothing here starts a thread or waits. Each kind has a function of its
-//! own, and `checked` in `specs/Checks.antt` is what they answer.
+//! own, in a module by what it looks at, and `checked` in `specs/Checks.antt` is what they answer.
 #![tactic(auto)]
 
-mod bookmarks;
+pub mod bookmarks;
 mod fault;
-mod heads;
+pub mod heads;
 mod kind;
 pub mod laws;
-mod phases;
+pub mod phases;
 
-pub use bookmarks::check_bookmarks;
 pub use fault::CheckFault;
-pub use heads::check_heads;
 pub use kind::{CheckKind, check};
-pub use phases::check_phases;

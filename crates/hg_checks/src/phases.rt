@@ -1,7 +1,7 @@
 //! `check:phases`: the phases that the client saw.
 
 ghost use Rattle.std.specs.Prelude.{◌≡◌, ◌≤◌, length};
-ghost use Rattle.hg_checks.specs.Checked.{Gives, all_checked};
+ghost use Rattle.hg_checks.specs.Checked.{CheckGives, all_checked};
 ghost use Rattle.hg_checks.specs.Checks.{phase_checked, phases_checked};
 
 use crate::fault::CheckFault;
@@ -25,7 +25,7 @@ pub fn check_phases<A: Allocator + Copy>(
     payload: &[u8],
 ) -> Result<(), CheckFault>
     requires { length log.now.rows ≤ length phases.now.current.phases }
-    ensures { Gives result (phases_checked log.now.rows phases.now.current.phases payload.now) }
+    ensures { CheckGives result (phases_checked log.now.rows phases.now.current.phases payload.now) }
 {
     let entries = read_entries(alloc, payload)?;
     check_each(log, phases, entries.as_slice())

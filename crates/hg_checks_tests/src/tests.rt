@@ -3,11 +3,15 @@
 ghost use Rattle.std.specs.Prelude.{◌≡◌, ◌≤◌, IfSome, length};
 ghost use Rattle.hg_phases.specs.Phases.{AreFor};
 
-use hg_checks::*;
+use hg_checks::bookmarks::check_bookmarks;
+use hg_checks::heads::check_heads;
+use hg_checks::phases::check_phases;
+use hg_checks::{CheckFault, CheckKind, check};
+use hg_help_tests::changelog::{put, put_text};
 use hg_keys::Bookmarks;
-use hg_log::{Added, Changelog, node_id};
+use hg_log::{Changelog, node_id};
 use hg_phases::Phases;
-use hg_types::{Entry, Limits, Node, Phase, Seq};
+use hg_types::{Limits, Node, Phase};
 use linked_list_allocator::LocalHeap;
 use std::alloc::{AllocError, Allocator};
 use std::hash::RandomState;
@@ -24,37 +28,11 @@ const NONE: Node = Node([0xff; 20]);
 /// What a check answers.
 type Answer = Result<(), CheckFault>;
 
-/// Adds a changeset whose text is that byte, and gives its id.
-fn put<A: Allocator + Copy>(
-    alloc: A,
-    log: &mut Changelog<A>,
-    p1: Node,
-    p2: Node,
-    byte: u8,
-) -> Option<Node> {
-    let node = node_id(&p1, &p2, &[byte]);
-    let delta = [0, 0, 0, 0, 0, 0, 0, 0, 0, 0, 0, 1, byte];
-    let Ok(delta) = Seq::copy_of(alloc, &delta) else {
-        return None
-    };
-    let entry = Entry {
-        node,
-        p1,
-        p2,
-        base: NULL,
-        delta,
-    };
-    match log.add(&entry) {
-        Ok(Added::New(_)) => Some(node),
-        _ => None,
-    }
-}
-
 /// A root and two children of it; with the merge of these and a root of its own.
 fn put_root<A: Allocator + Copy>(alloc: A, log: &mut Changelog<A>) -> Option<[Node; 3]> {
-    let root = put(alloc, log, NULL, NULL, 0)?;
-    let first = put(alloc, log, root, NULL, 1)?;
-    let second = put(alloc, log, NULL, root, 2)?;
+    let root = put_text(alloc, log, NULL, NULL, &[0])?;
+    let first = put_text(alloc, log, root, NULL, &[1])?;
+    let second = put_text(alloc, log, NULL, root, &[2])?;
     Some([root, first, second])
 }
 
@@ -64,8 +42,8 @@ fn put_merge<A: Allocator + Copy>(
     first: Node,
     second: Node,
 ) -> Option<[Node; 2]> {
-    let merge = put(alloc, log, first, second, 3)?;
-    let alone = put(alloc, log, NULL, NULL, 4)?;
+    let merge = put_text(alloc, log, first, second, &[3])?;
+    let alone = put_text(alloc, log, NULL, NULL, &[4])?;
     Some([merge, alone])
 }
 
@@ -278,7 +256,7 @@ fn all_phases<A: Allocator + Copy>(
 fn phases_of_a_draft(rt: HostRuntime) -> Result<(), Fail> {
     let alloc = rt.alloc();
     let mut log = Changelog::new(alloc, RandomState::new(&rt)?, Limits::standard());
-    let draft = put(alloc, &mut log, NULL, NULL, 0).ok_or("a row")?;
+    let draft = put_text(alloc, &mut log, NULL, NULL, &[0]).ok_or("a row")?;
     let cases: [(&[(u8, Node)], usize, Answer); 12] = [
         (&[(1, draft)], 0, CONTENT),
         (&[(0, draft)], 0, RACED),
@@ -342,7 +320,7 @@ fn all_bookmarks<A: Allocator + Copy>(
 fn bookmarks_on_a_changeset(rt: HostRuntime) -> Result<(), Fail> {
     let alloc = rt.alloc();
     let mut log = Changelog::new(alloc, RandomState::new(&rt)?, Limits::standard());
-    let root = put(alloc, &mut log, NULL, NULL, 0).ok_or("a row")?;
+    let root = put_text(alloc, &mut log, NULL, NULL, &[0]).ok_or("a row")?;
     let mut bookmarks = Bookmarks::new(alloc);
     bookmarks.set(alloc, b"m", Some(root))?;
     let cases: [(&[(Node, &[u8])], usize, Answer); 12] = [
@@ -412,7 +390,7 @@ fn one_draft_over<'h>(
     payloads: &Payloads,
 ) -> [Outcome; 3] {
     let mut log = Changelog::new(ample, state, Limits::standard());
-    let node = put(ample, &mut log, NULL, NULL, 0);
+    let node = put_text(ample, &mut log, NULL, NULL, &[0]);
     let mut bookmarks = Bookmarks::new(ample);
     let is_set = bookmarks.set(ample, b"m", node).is_ok();
     match one_draft(ample, &log) {
@@ -488,33 +466,12 @@ fn many_heads<'h>(
 ) -> Option<Vec<u8, &'h LocalHeap>> {
     let mut payload = Vec::new(heap);
     for number in 0..MANY {
-        let node = put_number(heap, log, MANY - number)?;
+        let node = put(heap, log, NULL, NULL, MANY - number)?;
         if payload.extend_from_slice(&node.0).is_err() {
             return None;
         }
     }
     Some(payload)
-}
-
-/// Adds a changeset without parents whose text is that number, and gives its id.
-fn put_number<A: Allocator + Copy>(alloc: A, log: &mut Changelog<A>, number: u16) -> Option<Node> {
-    let text = number.to_be_bytes();
-    let node = node_id(&NULL, &NULL, &text);
-    let delta = [0, 0, 0, 0, 0, 0, 0, 0, 0, 0, 0, 2, text[0], text[1]];
-    let Ok(delta) = Seq::copy_of(alloc, &delta) else {
-        return None
-    };
-    let entry = Entry {
-        node,
-        p1: NULL,
-        p2: NULL,
-        base: NULL,
-        delta,
-    };
-    match log.add(&entry) {
-        Ok(Added::New(_)) => Some(node),
-        _ => None,
-    }
 }
 
 /// As many zeros: a payload of the null id, over and over.
@@ -640,7 +597,7 @@ fn without_memory<'h>(
 /// The same for a log of one draft.
 fn without_memory_over<'h>(none: &'h LocalHeap, ample: &'h LocalHeap, state: RandomState) -> bool {
     let mut log = Changelog::new(ample, state, Limits::standard());
-    let node = put(ample, &mut log, NULL, NULL, 0);
+    let node = put_text(ample, &mut log, NULL, NULL, &[0]);
     let bookmarks = Bookmarks::new(ample);
     match one_draft(ample, &log) {
         Some(phases) => node.is_some() && without_memory(none, &log, &phases, &bookmarks),

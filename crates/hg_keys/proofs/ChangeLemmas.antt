@@ -67,11 +67,12 @@ sound_same pairs new changes same room more is_marked pairs_stay changes_stay le
 pub sound_kept : {A : Type 0} (old new : Pairs) (changes : List (Change A)) (change : Option (Change A))
     (room more : ℕ) (is_marked : Bool) → IsSound old changes room is_marked → AreInOrder new
     → (is_marked ≡ true → length changes + 1 ≤ more)
-    → all_undone (option_to_list change) new ≡ old → can_undo_all (option_to_list change) new ≡ true
+    → (is_marked ≡ true → all_undone (option_to_list change) new ≡ old)
+    → (is_marked ≡ true → can_undo_all (option_to_list change) new ≡ true)
     → IsSound new (kept is_marked changes change) more is_marked
 sound_kept old new changes change room more true sound in_order le back can = record {
   in_order = in_order;
-  back = λ marked. back_kept changes change new old back can (sound.back marked);
+  back = λ marked. back_kept changes change new old (back marked) (can marked) (sound.back marked);
   room = λ marked. omega (arith, one_more changes change, le marked);
 }
 sound_kept old new changes change room more false sound in_order le back can = record {
@@ -82,10 +83,10 @@ sound_kept old new changes change room more false sound in_order le back can = r
 
 -- the pairs at the mark stay
 pub mark_kept : {A : Type 0} (old new : Pairs) (changes : List (Change A)) (change : Option (Change A))
-    (is_marked : Bool) → all_undone (option_to_list change) new ≡ old
+    (is_marked : Bool) → (is_marked ≡ true → all_undone (option_to_list change) new ≡ old)
     → cond is_marked (Some (base_of (kept is_marked changes change) new)) None ≡ cond is_marked
     (Some (base_of changes old)) None
-mark_kept old new changes change true back = ap (λ ps. Some ps) (base_kept changes change new old back)
+mark_kept old new changes change true back = ap (λ ps. Some ps) (base_kept changes change new old (back refl))
 mark_kept old new changes change false back = refl
 
 -- the last change taken back

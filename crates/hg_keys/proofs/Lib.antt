@@ -1,6 +1,3 @@
-pub mod Tables
-pub mod GroupLemmas
-pub mod RoundTrip
 pub mod PayloadLemmas
 pub mod CallerLemmas
 pub mod GrammarLemmas

@@ -17,8 +17,8 @@ use Rattle.hg_types.specs.declared.node.Node.{Node}
 use Rattle.hg_types.specs.declared.phase.Phase.{Phase}
 use Rattle.hg_keys.specs.Bookmarks.{Pairs, name_cmp, is_before, AreInOrder, pair_of, with_bookmark}
 use Rattle.hg_keys.proofs.GrammarLemmas.{bytes_before}
-use Rattle.hg_keys.specs.Base85.{group_bytes, filled_value, fives, fits, is_digit, decoded}
-use Rattle.hg_keys.specs.declared.fault.Base85Fault.{Base85Fault}
+use Rattle.hg_base85.specs.Base85.{group_bytes, filled_value, fives, fits, is_digit, decoded}
+use Rattle.hg_base85.specs.declared.fault.Base85Fault.{Base85Fault}
 use Rattle.hg_keys.specs.declared.fault.KeyFault.{KeyFault}
 use Rattle.hg_keys.specs.declared.keys.KeyCall.{KeyCall}
 use Rattle.hg_keys.specs.Known.{phase_of_node, AreOnKnown}

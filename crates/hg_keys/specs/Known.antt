@@ -1,4 +1,4 @@
--- What a log and its phases tell of an id. The null id is known everywhere, and public.
+-- What a log and its phases report of an id. The null id is known everywhere, and public.
 use Rattle.std.specs.Prelude.{◌≡◌, Bool, true, ◌||◌, List, All, Option, Some, option_map, is_some, bytes_eq}
 use Rattle.std.specs.Prelude.{if◌then◌else◌}
 use Rattle.hg_types.specs.NullId.{null_id}

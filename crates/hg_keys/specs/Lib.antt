@@ -1,4 +1,3 @@
-pub mod Base85
 pub mod Bookmarks
 pub mod Payload
 pub mod Known

@@ -85,7 +85,7 @@ ReadingIsGrammar =
     (AreEntries bytes entries × AllByRecursion IsEntry entries)
 
 -- what a function returned is what reading gives, unless memory was refused
-abbrev pub Gives : Result (List Entry) BookmarkFault → Option (List Entry) → Type 0
-Gives (Ok entries) read = read ≡ Some entries
-Gives (Err Short) read = read ≡ None
-Gives (Err NoMemory) read = Unit {0}
+abbrev pub PayloadGives : Result (List Entry) BookmarkFault → Option (List Entry) → Type 0
+PayloadGives (Ok entries) read = read ≡ Some entries
+PayloadGives (Err Short) read = read ≡ None
+PayloadGives (Err NoMemory) read = Unit {0}

@@ -87,7 +87,7 @@ impl<A: Allocator + Copy> Bookmarks<A> {
         ensures err { OnErr result (self.new ≡ self.old) }
     {
         make_room(&mut self.names, &mut self.changes, self.is_marked)?;
-        let change = put(alloc, &mut self.names, name, node)?;
+        let change = put(alloc, &mut self.names, name, node, self.is_marked)?;
         keep(&mut self.changes, change, self.is_marked);
         Ok(())
     }
@@ -166,8 +166,37 @@ fn make_room<A: Allocator>(
     Ok(())
 }
 
-/// Sets a name or deletes it, and tells the change, if there is one.
+/// Sets a name or deletes it. Where there is a mark, it reports the change, if there is one.
 fn put<A: Allocator + Copy>(
+    alloc: A,
+    names: &mut Names<A>,
+    name: &[u8],
+    node: Option<Node>,
+    is_marked: bool,
+) -> Result<Option<Change<A>>, NoMemory>
+    requires { AreInOrder names.old.pairs }
+    ensures set { OnOk result (names.new.pairs ≡ with_bookmark names.old.pairs name.now node) }
+    ensures back { IfOk result (λ change. is_marked ≡ true
+        → all_undone (option_to_list change) names.new.pairs ≡ names.old.pairs) }
+    ensures can { IfOk result (λ change. is_marked ≡ true
+        → can_undo_all (option_to_list change) names.new.pairs ≡ true) }
+    ensures room { names.old.room ≤ names.new.room + 1 }
+    ensures err { OnErr result (names.new.pairs ≡ names.old.pairs) }
+{
+    if is_marked {
+        return put_after_mark(alloc, names, name, node);
+    }
+    match node {
+        Some(node) => {
+            names.insert(alloc, name, node)?;
+        }
+        None => names.forget(name),
+    }
+    Ok(None)
+}
+
+/// Sets a name or deletes it, and reports the change, if there is one.
+fn put_after_mark<A: Allocator + Copy>(
     alloc: A,
     names: &mut Names<A>,
     name: &[u8],
@@ -181,22 +210,18 @@ fn put<A: Allocator + Copy>(
     ensures room { names.old.room ≤ names.new.room + 1 }
     ensures err { OnErr result (names.new.pairs ≡ names.old.pairs) }
 {
-    match (names.find(name), node) {
-        (Some(was), Some(node)) => {
+    match node {
+        Some(node) => {
             let kept = Seq::copy_of(alloc, name)?;
-            names.move_to(name, node);
-            Ok(Some(Change::Moved(kept, was)))
+            match names.insert(alloc, name, node)? {
+                Some(was) => Ok(Some(Change::Moved(kept, was))),
+                None => Ok(Some(Change::Added(kept))),
+            }
         }
-        (Some(_), None) => {
-            let gone = names.remove(alloc, name)?;
-            Ok(Some(Change::Removed(gone)))
-        }
-        (None, Some(node)) => {
-            let kept = Seq::copy_of(alloc, name)?;
-            names.insert(alloc, name, node)?;
-            Ok(Some(Change::Added(kept)))
-        }
-        (None, None) => Ok(None),
+        None => match names.remove(alloc, name)? {
+            Some(gone) => Ok(Some(Change::Removed(gone))),
+            None => Ok(None),
+        },
     }
 }
 

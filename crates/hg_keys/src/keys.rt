@@ -9,13 +9,13 @@ ghost use Rattle.hg_keys.specs.Known.{AreOnKnown};
 ghost use Rattle.hg_keys.specs.PushKey.{bookmark_pushed, is_settable as settable_test, key_pushed};
 ghost use Rattle.hg_keys.specs.PushKey.{markers_pushed, moved_from, phase_pushed};
 
-use crate::base85::base85_decode;
 use crate::bookmarks::Bookmarks;
 use crate::fault::KeyFault;
 use crate::key_text::{
     are_same, is_divergent, is_known_target, is_value, node_in_hex, phase_in_text, target_in_text,
 };
 use crate::known::phase_of_node;
+use hg_base85::base85_decode;
 use hg_log::Changelog;
 use hg_obs::{Markers, markers_stay_lawful, read_markers};
 use hg_phases::Phases;
@@ -32,8 +32,8 @@ pub struct KeyCall<A: Allocator = Global> {
     pub new: Seq<u8, A>,
 }
 
-/// Sets a key of a namespace to a new value, and tells whether it took effect, as the head of this crate
-/// tells it.
+/// Sets a key of a namespace to a new value, and says whether it took effect, as the head of this crate
+/// reports it.
 ///
 /// In the namespace `obsolete`, text that is not base-85 (`BadBase85`) and bytes that are no marker data
 /// (`BadMarkers`) are refused. Nothing is changed after a fault, nor where the answer is false.

@@ -1,4 +1,4 @@
-//! What a log and its phases tell of an id.
+//! What a log and its phases report of an id.
 
 ghost use Rattle.std.specs.Prelude.{◌≡◌, ◌≤◌, length};
 ghost use Rattle.hg_keys.specs.Known.{is_known as known_test, phase_of_node as node_phase};

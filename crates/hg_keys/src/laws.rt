@@ -2,12 +2,10 @@
 //!
 //! Each function does nothing; its contract is the law, and a caller that calls it may rest on it.
 
-ghost use Rattle.std.specs.Prelude.{◌≡◌, true, ℕ, IfOk, List, Ok, Option};
+ghost use Rattle.std.specs.Prelude.{◌≡◌, true, ℕ, IfOk, List, Option};
 ghost use Rattle.hg_types.specs.declared.node.Node.{Node};
 ghost use Rattle.hg_log.specs.Changeset.{Changeset};
 ghost use Rattle.hg_log.specs.Rows.{AreLawful as AreLawfulRows};
-ghost use Rattle.hg_types.specs.Bytes.{IsBytes};
-ghost use Rattle.hg_keys.specs.Base85.{decoded, encoded};
 ghost use Rattle.hg_keys.specs.declared.keys.KeyCall.{KeyCall};
 ghost use Rattle.hg_keys.specs.Bookmarks.{AreInOrder, OthersStay, Pairs, SetIsFound, with_bookmark};
 ghost use Rattle.hg_keys.specs.Known.{AreOnKnown};
@@ -17,11 +15,6 @@ ghost use Rattle.hg_keys.specs.PushKey.{AreLawful, Keys, is_known_target, key_pu
 use hg_obs::{markers_stay_lawful, reading_is_the_grammar as markers_are_read};
 use hg_phases::phases_stay_lawful;
 use std::alloc::Allocator;
-
-/// Decoding gives back what was encoded.
-pub fn decoding_gives_back()
-    ensures { (bytes : List ℕ) → IsBytes bytes → decoded (encoded bytes) ≡ Ok bytes }
-{}
 
 /// The entries that are read of a payload of bookmarks are those whose bytes, joined, it is.
 pub fn reading_is_the_grammar()

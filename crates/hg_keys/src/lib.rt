@@ -1,7 +1,5 @@
-//! Base-85, bookmarks and pushkey.
+//! Bookmarks and pushkey.
 //!
-//! [`base85_encode`] and [`base85_decode`] are the two directions of Mercurial's base-85, in which a pushkey
-//! carries marker data: its digits are those of RFC 1924, section 4.2, and five of them give four bytes.
 //! [`Bookmarks`] is a map from names to changesets, with a mark to go back to. Nothing here starts a thread
 //! or waits.
 //!
@@ -29,7 +27,6 @@
 //! Any other call is answered false. The null id is known, and public.
 #![tactic(auto)]
 
-mod base85;
 mod bookmarks;
 mod fault;
 mod key_text;
@@ -38,14 +35,13 @@ mod known;
 mod laws;
 mod payload;
 
-pub use base85::{base85_decode, base85_encode};
 pub use bookmarks::{BookmarkMark, Bookmarks};
-pub use fault::{Base85Fault, BookmarkFault, KeyFault};
+pub use fault::{BookmarkFault, KeyFault};
+pub use hg_base85::Base85Fault;
 pub use key_text::{are_same, is_known_target};
 pub use keys::{KeyCall, push_key};
 pub use known::{is_known, phase_of_node};
 pub use laws::{
-    a_set_name_is_found, bookmarks_stay_lawful, decoding_gives_back, keys_stay_lawful,
-    reading_is_the_grammar,
+    a_set_name_is_found, bookmarks_stay_lawful, keys_stay_lawful, reading_is_the_grammar,
 };
 pub use payload::read_bookmarks;

@@ -3,7 +3,7 @@
 ghost use Rattle.std.specs.Prelude.{◌≡◌, IfOk, IfSome, IfNone, Some, None};
 ghost use Rattle.std.specs.Option.{option_map};
 ghost use Rattle.hg_keys.specs.code.LentEntry.{Finds};
-ghost use Rattle.hg_keys.specs.Payload.{Gives, entries_of, entry_at, name_at, sized_at, target_in};
+ghost use Rattle.hg_keys.specs.Payload.{PayloadGives, entries_of, entry_at, name_at, sized_at, target_in};
 
 use crate::fault::BookmarkFault;
 use hg_types::{Node, Seq};
@@ -32,7 +32,7 @@ pub fn read_bookmarks<A: Allocator + Copy>(
     alloc: A,
     bytes: &[u8],
 ) -> Result<Seq<(Option<Node>, Seq<u8, A>), A>, BookmarkFault>
-    ensures { Gives result (entries_of bytes.now) }
+    ensures { PayloadGives result (entries_of bytes.now) }
 {
     let mut entries = Seq::new(alloc);
     let mut rest = bytes;

@@ -1,7 +1,5 @@
 //! The tests of `hg_keys`, over its contracts.
 //!
-//! The texts are those that Python's `base64.b85encode` writes.
-//!
 //! A log of the changeset of the empty text, in draft. Ids are told by their digits.
 //!
 //! Rows of the tables, and what else the tests try:
@@ -18,5 +16,3 @@ mod many_tests;
 mod payload_tests;
 #[cfg(test)]
 mod push_tests;
-#[cfg(test)]
-mod tests;

@@ -3,6 +3,7 @@
 ghost use Rattle.std.specs.Prelude.{◌≡◌, IfSome, length};
 ghost use Rattle.hg_phases.specs.Phases.{AreFor};
 
+use hg_base85::base85_encode;
 use hg_keys::*;
 use hg_log::{Added, Changelog};
 use hg_obs::{MarkerFault, Markers};

@@ -20,8 +20,8 @@ use hg_phases::Phases;
 use hg_types::{Node as NodeId, Phase as PhaseName};
 use std::alloc::Allocator;
 
-/// An id is known where it is null or that of a row: to the changelog, which tells it by the id's text, and to
-/// keys, which tell it by the row's number. So each bookmark is on the null id or on a changeset. The number of
+/// An id is known where it is null or that of a row: to the changelog, which knows it by the id's text, and to
+/// keys, which know it by the row's number. So each bookmark is on the null id or on a changeset. The number of
 /// an id is that of its row.
 pub fn ids_are_known_by_their_rows()
     ensures log { (rows : List Changeset) (node : List ℕ) →

@@ -5,7 +5,7 @@ use Rattle.hg_delta.specs.declared.fault.DeltaFault.{DeltaFault}
 use Rattle.hg_delta.specs.declared.fault.DeltaFault.TheVariants as fault
 use Rattle.hg_delta.specs.Faults.{BreaksAt, GivesTooMuch}
 use Rattle.hg_delta.specs.Faults.IsOutcome.{breaks, exceeds}
-use Rattle.hg_delta.specs.Outcome.{Fails}
+use Rattle.hg_delta.specs.Outcome.{DeltaFails}
 use Rattle.hg_log.specs.declared.add.AddFault.TheVariants.{NoMemory}
 use Rattle.hg_log.specs.Changeset.{Log}
 use Rattle.hg_log.specs.Add.{HasParentsIn, IsBase, IsAnswer, told_as}
@@ -51,7 +51,7 @@ told {A} log entry base fault.TooLong parents base_is short backwards past long 
 told {A} log entry base fault.NoMemory parents base_is short backwards past long ne = absurd (ne refl)
 
 -- the same as a value
-pub told_value : (f : DeltaFault) (read : Result (List ℕ) DeltaFault) → Fails f read → told_as f ≢ NoMemory
+pub told_value : (f : DeltaFault) (read : Result (List ℕ) DeltaFault) → DeltaFails f read → told_as f ≢ NoMemory
     → Err (told_as f) ≡ told_text read
 told_value fault.Short read is ne = sym (ap told_text is)
 told_value fault.Backwards read is ne = sym (ap told_text is)

@@ -11,7 +11,7 @@ use Rattle.hg_log.specs.declared.add.AddFault.TheVariants.{UnknownParent, HashMi
 use Rattle.hg_log.specs.NodeId.{node_id_of}
 use Rattle.hg_log.specs.Changeset.{Changeset, Log}
 use Rattle.hg_log.specs.Rows.{IsKnown, IsEarlier, AreLawful}
-use Rattle.hg_log.specs.Add.{HasParentsIn, Agrees, row_of, Leaves}
+use Rattle.hg_log.specs.Add.{HasParentsIn, Agrees, row_of, AddLeaves}
 use Rattle.hg_log.specs.Answer.{◌>>=◌, is_known, text_of, checked_row, new_row, answered, answer_of}
 use Rattle.hg_log.proofs.Answering.{is_known-Decides}
 use Rattle.hg_log.proofs.RowLemmas.{has_within, lawful_pushed, lacks_unknown}
@@ -19,7 +19,7 @@ use Rattle.hg_log.proofs.RowLemmas.{has_within, lawful_pushed, lacks_unknown}
 -- what an answer keeps, and what it leaves
 abbrev pub Stays : {A : Type 0} → Log → Entry A → Result Added AddFault × Log → Type 0
 Stays log entry answer = (AreLawful log.rows → AreLawful answer.1.rows)
-    × IfOk answer.0 (λ added. Leaves log entry added answer.1)
+    × IfOk answer.0 (λ added. AddLeaves log entry added answer.1)
 
 -- a known id is null, or that of a row before the next one
 earlier : (rows : List Changeset) (node : List ℕ) → IsKnown rows node → IsEarlier rows (length rows) node
@@ -90,5 +90,5 @@ pub stay_lawful : {A : Type 0} (log : Log) (entry : Entry A) → AreLawful log.r
 stay_lawful log entry = (stays log entry).0
 
 pub leaves_told : {A : Type 0} (log : Log) (entry : Entry A) →
-    IfOk (answer_of log entry).0 (λ added. Leaves log entry added (answer_of log entry).1)
+    IfOk (answer_of log entry).0 (λ added. AddLeaves log entry added (answer_of log entry).1)
 leaves_told log entry = (stays log entry).1

@@ -33,7 +33,7 @@ pub record HasOutcome {A : Type 0} (log : Log) (entry : Entry A)
   pub base_is : IsBase log.rows entry.base.0 base
   pub outcome_is : IsOutcome base entry.delta log.limits.text outcome
 
--- a delta's fault, told as the fault of its entry; out of memory is reported as such
+-- a delta's fault, reported as the fault of its entry; out of memory is reported as such
 abbrev pub told_as : DeltaFault → AddFault
 told_as fault.Short = Delta fault.Short
 told_as fault.Backwards = Delta fault.Backwards
@@ -71,13 +71,13 @@ pub data IsAnswer {A : Type 0} (log : Log) (entry : Entry A) : Result Added AddF
       length log.rows < log.limits.revisions →
       IsAnswer log entry (Ok (New (length log.rows))) (with_row log (row_of entry text))
 
--- the row of a new entry stands after the old ones, under the number that the answer tells
+-- the row of a new entry stands after the old ones, under the number that the answer reports
 pub record IsAppended {A : Type 0} (old : Log) (entry : Entry A) (rev : ℕ) (new : Log) : Type 0 where
   pub next : rev ≡ length old.rows
   pub text : List ℕ
   pub appended : new ≡ with_row old (row_of entry text)
 
 -- what each good answer leaves
-abbrev pub Leaves : {A : Type 0} → Log → Entry A → Added → Log → Type 0
-Leaves old entry (New rev) new = IsAppended old entry rev new
-Leaves old entry Known new = IsKnown old.rows entry.node.0 × (new ≡ old)
+abbrev pub AddLeaves : {A : Type 0} → Log → Entry A → Added → Log → Type 0
+AddLeaves old entry (New rev) new = IsAppended old entry rev new
+AddLeaves old entry Known new = IsKnown old.rows entry.node.0 × (new ≡ old)

@@ -32,7 +32,7 @@ text_by_id rows node = if bytes_eq node null_id then Some []
 abbrev pub is_known : List Changeset → List ℕ → Bool
 is_known rows node = is_some (text_by_id rows node)
 
--- what a delta gives, its fault told as that of its entry
+-- what a delta gives, its fault reported as that of its entry
 abbrev pub told_text : Result (List ℕ) DeltaFault → Result (List ℕ) AddFault
 told_text (Ok text) = Ok text
 told_text (Err fault) = Err (Delta fault)

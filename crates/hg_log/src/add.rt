@@ -9,7 +9,7 @@ ghost use Rattle.hg_log.specs.declared.add.AddFault.{AddFault};
 ghost use Rattle.hg_log.specs.Changeset.{Log};
 ghost use Rattle.hg_log.specs.Rows.{IsKnown, AreLawful};
 ghost use Rattle.hg_log.specs.code.Inside.{IsAt};
-ghost use Rattle.hg_log.specs.Add.{IsAnswer, IsBase, HasParentsIn, HasOutcome, Leaves, Agrees, told_as};
+ghost use Rattle.hg_log.specs.Add.{IsAnswer, IsBase, HasParentsIn, HasOutcome, AddLeaves, Agrees, told_as};
 ghost use Rattle.hg_log.specs.Answer.{text_of, answer_of};
 
 use crate::changelog::{Changelog, Row};
@@ -29,7 +29,7 @@ pub enum Added {
     Known,
 }
 
-/// Why an entry was not added. The first fault in this order is told.
+/// Why an entry was not added. The first fault in this order is reported.
 #[derive(Clone, Copy, Debug, PartialEq, Eq, Error)]
 pub enum AddFault {
     /// 1: a parent is neither null nor in the log.
@@ -72,7 +72,7 @@ impl<A: Allocator + Copy> Changelog<A> {
         ensures answer { result ≢ Err AddFault.NoMemory → IsAnswer self.old entry.now result self.new }
         // So the result and the new log are the one answer as a value, unless memory was refused.
         ensures value { result ≢ Err AddFault.NoMemory → (result, self.new) ≡ answer_of self.old entry.now }
-        ensures leaves { IfOk result (λ added. Leaves self.old entry.now added self.new) }
+        ensures leaves { IfOk result (λ added. AddLeaves self.old entry.now added self.new) }
         ensures err { OnErr result (self.new ≡ self.old) }
     {
         if self.knows(&entry.node) {
@@ -195,5 +195,5 @@ pub fn answers_keep_rows_lawful<A: Allocator>()
     ensures lawful { (log : Log) (entry : Entry A) → AreLawful log.rows →
         AreLawful (answer_of log entry).1.rows }
     ensures leaves { (log : Log) (entry : Entry A)
-        → IfOk (answer_of log entry).0 (λ added. Leaves log entry added (answer_of log entry).1) }
+        → IfOk (answer_of log entry).0 (λ added. AddLeaves log entry added (answer_of log entry).1) }
 {}

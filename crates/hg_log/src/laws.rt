@@ -29,7 +29,7 @@ pub fn other_rows_keep_their_ancestors()
         → IsAncestor (take n rows) a r ↔ IsAncestor rows a r }
 {}
 
-/// One list is that of the heads: the ids that `head_ids` tells, in ascending order; and `head_count` is its
+/// One list is that of the heads: the ids that `head_ids` reports, in ascending order; and `head_count` is its
 /// length.
 pub fn one_list_of_heads()
     ensures value { (rows : List Changeset) (heads : List (List ℕ)) → AreLawful rows

@@ -1,12 +1,12 @@
 -- What an edit at a name's place makes of pairs in order.
 use Rattle.std.proofs.Common.{◌≡◌, ℕ, zero, suc, ◌+◌, ◌<◌, false, List, [], ◌∷◌, ◌++◌, length, get_or, take, drop, sym, ap}
 use Rattle.std.proofs.Common.{◌∙◌, refl, subst, arith, inl, inr}
-use Rattle.std.specs.List.{insert, remove, AllWithin}
+use Rattle.std.specs.List.{insert, remove, filter, AllWithin}
 use Rattle.std.specs.Ordering.{is_lt}
 use Rattle.std.specs.declared.cmp.Ordering.TheVariants.{Less, Equal, Greater}
 use Rattle.std.proofs.lemmas.Bool.{cases_lt}
 use Rattle.std.proofs.lemmas.Cmp.{nat_list_cmp_total, tied_itself}
-use Rattle.std.proofs.lemmas.List.{set_split}
+use Rattle.std.proofs.lemmas.List.{set_split, take-append-drop}
 use Rattle.hg_types.specs.declared.node.Node.{Node}
 use Rattle.hg_names.specs.Names.{Pairs, name_cmp, is_before, AreInOrder, with_name, without}
 use Rattle.hg_names.specs.code.Places.{IsAt, IsGap, moved}
@@ -22,18 +22,44 @@ length_removed [] i lt = absurd (omega (arith, lt))
 length_removed (x ∷ xs) zero lt = omega arith
 length_removed (x ∷ xs) (suc i) lt = omega (arith, length_removed xs i (omega (arith, lt)))
 
+-- the pairs before a gap
+gap_front : (pairs : Pairs) (name : List ℕ) (place : ℕ) → IsGap pairs name place
+    → filter (λ pair. is_before pair.0 name) pairs ≡ take place pairs
+gap_front pairs name place gap =
+    filter_front (λ pair. is_before pair.0 name) pairs place
+    (λ k d low high. ap is_lt (gap.lesser k d low high))
+    (λ k d low high. ap is_lt (gap.greater k d low high))
+
+-- and those from it on
+gap_rest : (pairs : Pairs) (name : List ℕ) (place : ℕ) → IsGap pairs name place
+    → filter (λ pair. is_before name pair.0) pairs ≡ drop place pairs
+gap_rest pairs name place gap =
+    filter_rest (λ pair. is_before name pair.0) pairs place
+    (λ k d low high. ap is_lt (turned _ name Less (gap.lesser k d low high)))
+    (λ k d low high. ap is_lt (turned _ name Greater (gap.greater k d low high)))
+
 -- a name goes into its gap
 pub with_gap : (pairs : Pairs) (name : List ℕ) (place : ℕ) (node : Node) → IsGap pairs name place
     → with_name pairs name node ≡ insert pairs place (name, node)
 unfolding with_name
 with_gap pairs name place node gap =
-    let front = filter_front (λ pair. is_before pair.0 name) pairs place
-    (λ k d low high. ap is_lt (gap.lesser k d low high))
-    (λ k d low high. ap is_lt (gap.greater k d low high)) in
-    let rest = filter_rest (λ pair. is_before name pair.0) pairs place
-    (λ k d low high. ap is_lt (turned _ name Less (gap.lesser k d low high)))
-    (λ k d low high. ap is_lt (turned _ name Greater (gap.greater k d low high))) in
+    let front = gap_front pairs name place gap in
+    let rest = gap_rest pairs name place gap in
     λ i. front i ++ (name, node) ∷ rest i
+
+-- a name with a gap is not there to be taken out
+pub without_gap : (pairs : Pairs) (name : List ℕ) (place : ℕ) → IsGap pairs name place
+    → without pairs name ≡ pairs
+unfolding without
+without_gap pairs name place gap =
+    let front = gap_front pairs name place gap in
+    let rest = gap_rest pairs name place gap in
+    (λ i. front i ++ rest i) ∙ take-append-drop place pairs
+
+-- nor is any among none
+pub without_none : (name : List ℕ) → without [] name ≡ []
+unfolding without
+without_none name = refl
 
 -- the first name
 pub with_first : (pair : List ℕ × Node) → with_name [] pair.0 pair.1 ≡ pair ∷ []

@@ -61,7 +61,7 @@ found_at pairs name place d in_order is_at =
     ∙ rest_of name (take place pairs) (get_or pairs place d ∷ drop (place + 1) pairs) before
     ∙ ap (λ b. cond b (Some (get_or pairs place d).1) (node_of (drop (place + 1) pairs) name)) here
 
-no_pair : List ℕ × Node
+pub no_pair : List ℕ × Node
 no_pair = ([], record { 0 = [] })
 
 clash : (node : Node) → Some node ≡ None → ⊥

@@ -2,8 +2,9 @@
 
 ghost use Rattle.std.specs.Prelude.{◌≡◌, ◌<◌, ◌≤◌, ◌+◌, ◌^◌, true, false, length, All, IfOk, IfErr, OnOk, OnErr};
 ghost use Rattle.std.specs.Prelude.{[], ◌∷◌, ◌++◌, insert, remove, vec_len, vec_capacity, slice_get, Some, None, is_some};
+ghost use Rattle.std.specs.Prelude.{IfSome, IfNone};
 ghost use Rattle.std.specs.List.{HoldsAt, AllWithin};
-ghost use Rattle.hg_names.specs.Names.{AreInOrder, node_of, with_name};
+ghost use Rattle.hg_names.specs.Names.{AreInOrder, node_of, with_name, without};
 ghost use Rattle.hg_names.specs.code.Blocks.{pairs_in, start_of, place_at, IsFilled, IsNotGreater, IsGreater};
 ghost use Rattle.hg_names.specs.code.Blocks.{IsLess, IsSpot, IsOpen, IsNamed, IsFree};
 ghost use Rattle.hg_names.specs.code.Places.{IsAt, IsGap, moved};
@@ -82,6 +83,26 @@ pub(crate) fn spot_of<A: Allocator>(
     match place_in(blocks[number].pairs.as_slice(), name) {
         Ok(place) => Ok((number, place)),
         Err(place) => Err((number, place)),
+    }
+}
+
+/// The spot of a name, if it is there.
+pub(crate) fn spot_if_there<A: Allocator>(
+    blocks: &[Block<A>],
+    name: &[u8],
+) -> Option<(usize, usize)>
+    requires filled { All IsFilled blocks.now }
+    requires in_order { AreInOrder (pairs_in blocks.now) }
+    ensures found { IfSome result (IsNamed blocks.now name.now) }
+    ensures none { IfNone result (node_of (pairs_in blocks.now) name.now ≡ None) }
+    ensures stays { IfNone result (without (pairs_in blocks.now) name.now ≡ pairs_in blocks.now) }
+{
+    if blocks.is_empty() {
+        return None;
+    }
+    match spot_of(blocks, name) {
+        Ok(spot) => Some(spot),
+        Err(_) => None,
     }
 }
 
@@ -186,7 +207,7 @@ pub(crate) fn take_out<A: Allocator>(blocks: &mut Vec<Block<A>, A>, spot: (usize
     pair
 }
 
-/// Puts the name at a spot on another changeset, and tells on which it was.
+/// Puts the name at a spot on another changeset, and gives the one that it was on.
 pub(crate) fn move_in<A: Allocator>(
     blocks: &mut Vec<Block<A>, A>,
     spot: (usize, usize),
@@ -205,16 +226,16 @@ pub(crate) fn move_in<A: Allocator>(
     mem::replace(&mut pair.1, node)
 }
 
-/// Puts a name in that is not there, and cuts a full block in two before. Where memory is refused, the names
-/// are unchanged.
+/// Puts a name in at a spot at which it goes, and cuts a full block in two before. Where memory is refused, the
+/// names are unchanged.
 pub(crate) fn join<A: Allocator + Copy>(
-    alloc: A,
     blocks: &mut Vec<Block<A>, A>,
+    spot: (usize, usize),
     pair: Pair<A>,
 ) -> Result<(), NoMemory>
     requires filled { All IsFilled blocks.old.items }
     requires in_order { AreInOrder (pairs_in blocks.old.items) }
-    requires absent { node_of (pairs_in blocks.old.items) pair.0 ≡ None }
+    requires free { IsFree blocks.old.items pair.0 spot }
     ensures ok { OnOk result (pairs_in blocks.new.items
         ≡ with_name (pairs_in blocks.old.items) pair.0 pair.1) }
     ensures more { OnOk result (length (pairs_in blocks.new.items) ≡ length (pairs_in blocks.old.items) + 1) }
@@ -223,10 +244,6 @@ pub(crate) fn join<A: Allocator + Copy>(
     ensures len { vec_len blocks.new ≤ vec_len blocks.old + 1 }
     ensures capacity { vec_capacity blocks.old ≤ vec_capacity blocks.new }
 {
-    if blocks.is_empty() {
-        return begin(alloc, blocks, pair);
-    }
-    let spot = spot_free(blocks.as_slice(), pair.0.as_slice());
     if blocks[spot.0].pairs.len() >= FULL {
         split(blocks, spot.0)?;
         let spot = spot_free(blocks.as_slice(), pair.0.as_slice());
@@ -236,7 +253,7 @@ pub(crate) fn join<A: Allocator + Copy>(
 }
 
 /// Puts the first pair in. Where memory is refused, there is none.
-fn begin<A: Allocator + Copy>(
+pub(crate) fn begin<A: Allocator + Copy>(
     alloc: A,
     blocks: &mut Vec<Block<A>, A>,
     pair: Pair<A>,

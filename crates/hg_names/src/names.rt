@@ -6,7 +6,8 @@ ghost use Rattle.hg_names.specs.Names.{AreInOrder, node_of, with_name, without};
 ghost use Rattle.hg_names.specs.code.Blocks.{IsFilled};
 
 use crate::blocks::{
-    Block, Pair, come_back, copies, join, move_in, spot_at, spot_named, spot_of, take_out,
+    Block, Pair, begin, come_back, copies, join, move_in, spot_at, spot_if_there, spot_named,
+    spot_of, take_out,
 };
 use hg_types::{NoMemory, Node, Seq};
 use std::alloc::{Allocator, Global};
@@ -94,13 +95,8 @@ impl<A: Allocator> Names<A> {
         requires { AreInOrder self.now.pairs }
         ensures { result ≡ node_of self.now.pairs name.now }
     {
-        if self.blocks.is_empty() {
-            return None;
-        }
-        match spot_of(self.blocks.as_slice(), name) {
-            Ok(spot) => Some(self.blocks[spot.0].pairs[spot.1].1),
-            Err(_) => None,
-        }
+        let spot = spot_if_there(self.blocks.as_slice(), name)?;
+        Some(self.blocks[spot.0].pairs[spot.1].1)
     }
 
     /// Puts a name that is there on another changeset. It takes no memory.
@@ -114,16 +110,16 @@ impl<A: Allocator> Names<A> {
         move_in(&mut self.blocks, spot, node);
     }
 
-    /// Drops a name that is there. It takes no memory.
+    /// Drops a name, if it is there. It takes no memory.
     pub fn forget(&mut self, name: &[u8])
-        requires in_order { AreInOrder self.old.pairs }
-        requires there { is_some (node_of self.old.pairs name.now) ≡ true }
+        requires { AreInOrder self.old.pairs }
         ensures names { self.new.pairs ≡ without self.old.pairs name.now }
         ensures room { self.old.room ≤ self.new.room }
     {
-        let spot = spot_named(self.blocks.as_slice(), name);
-        drop(take_out(&mut self.blocks, spot));
-        self.len -= 1;
+        if let Some(spot) = spot_if_there(self.blocks.as_slice(), name) {
+            drop(take_out(&mut self.blocks, spot));
+            self.len -= 1;
+        }
     }
 
     /// Makes room for so many names to come back. Where memory is refused, nothing is changed.
@@ -152,43 +148,58 @@ impl<A: Allocator> Names<A> {
 }
 
 impl<A: Allocator + Copy> Names<A> {
-    /// Puts a name in that is not there. Where memory is refused, the names are unchanged.
-    pub fn insert(&mut self, alloc: A, name: &[u8], node: Node) -> Result<(), NoMemory>
-        requires in_order { AreInOrder self.old.pairs }
-        requires absent { node_of self.old.pairs name.now ≡ None }
+    /// Puts a name on a changeset, and reports on which it was. A name that is there moves, which takes no memory;
+    /// one that is not there joins. Where memory is refused, the names are unchanged.
+    pub fn insert(&mut self, alloc: A, name: &[u8], node: Node) -> Result<Option<Node>, NoMemory>
+        requires { AreInOrder self.old.pairs }
         ensures ok { OnOk result (self.new.pairs ≡ with_name self.old.pairs name.now node) }
+        ensures was { IfOk result (λ was. was ≡ node_of self.old.pairs name.now) }
         ensures err { OnErr result (self.new.pairs ≡ self.old.pairs) }
         ensures room { self.old.room ≤ self.new.room + 1 }
     {
-        if self.len == usize::MAX {
-            return Err(NoMemory);
+        if self.blocks.is_empty() {
+            let name = Seq::copy_of(alloc, name)?;
+            begin(alloc, &mut self.blocks, (name, node))?;
+            self.len = 1;
+            return Ok(None);
         }
-        let name = Seq::copy_of(alloc, name)?;
-        join(alloc, &mut self.blocks, (name, node))?;
-        self.len += 1;
-        Ok(())
+        match spot_of(self.blocks.as_slice(), name) {
+            Ok(spot) => Ok(Some(move_in(&mut self.blocks, spot, node))),
+            Err(spot) => {
+                if self.len == usize::MAX {
+                    return Err(NoMemory);
+                }
+                let name = Seq::copy_of(alloc, name)?;
+                join(&mut self.blocks, spot, (name, node))?;
+                self.len += 1;
+                Ok(None)
+            }
+        }
     }
 
-    /// Takes out a name that is there, with memory in which it can come back. Where memory is refused, the
+    /// Takes a name out, if it is there, with memory in which it can come back. Where memory is refused, the
     /// names are unchanged.
-    pub fn remove(&mut self, alloc: A, name: &[u8]) -> Result<Named<A>, NoMemory>
-        requires in_order { AreInOrder self.old.pairs }
-        requires there { is_some (node_of self.old.pairs name.now) ≡ true }
+    pub fn remove(&mut self, alloc: A, name: &[u8]) -> Result<Option<Named<A>>, NoMemory>
+        requires { AreInOrder self.old.pairs }
         ensures names { OnOk result (self.new.pairs ≡ without self.old.pairs name.now) }
-        ensures name { IfOk result (λ named. named.0 ≡ name.now) }
-        ensures node { IfOk result (λ named. node_of self.old.pairs name.now ≡ Some named.1) }
-        ensures fits { OnOk result (length self.new.pairs < 2 ^ 64 - 1) }
+        ensures name { IfOk result (λ gone. IfSome gone (λ named. named.0 ≡ name.now)) }
+        ensures node { IfOk result (λ gone. IfSome gone
+            (λ named. node_of self.old.pairs name.now ≡ Some named.1)) }
+        ensures none { IfOk result (λ gone. IfNone gone (node_of self.old.pairs name.now ≡ None)) }
+        ensures fits { IfOk result (λ gone. IfSome gone (λ named. length self.new.pairs < 2 ^ 64 - 1)) }
         ensures err { OnErr result (self.new.pairs ≡ self.old.pairs) }
         ensures room { self.old.room ≤ self.new.room }
     {
+        let Some(spot) = spot_if_there(self.blocks.as_slice(), name) else {
+            return Ok(None);
+        };
         let pairs = Vec::with_capacity(alloc, 1)?;
-        let spot = spot_named(self.blocks.as_slice(), name);
         let pair = take_out(&mut self.blocks, spot);
         self.len -= 1;
-        Ok(Named {
+        Ok(Some(Named {
             pair,
             own: Block { pairs },
-        })
+        }))
     }
 
     /// A copy of all names, in their order.

@@ -56,8 +56,12 @@ fn names_at_their_places(rt: HostRuntime) -> Result<(), Fail> {
     );
     assert!(rt; names.find(b"a").is_none() && names.find(&[255, 0]).is_none());
     names.move_to(b"b", node(9));
+    assert!(rt; names.insert(alloc, b"ab", node(5))? == Some(node(4)));
+    assert!(rt; names.insert(alloc, b"ab", node(4))? == Some(node(5)));
+    names.forget(b"c");
+    assert!(rt; names.remove(alloc, b"c")?.is_none() && names.len() == 4);
     let copy = names.try_clone(alloc)?;
-    let gone = names.remove(alloc, b"ab")?;
+    let gone = names.remove(alloc, b"ab")?.ok_or("a name")?;
     assert!(rt;
         are(
             &names,
@@ -172,14 +176,20 @@ fn names_like_a_sorted_list(rt: HostRuntime) -> Result<(), Fail> {
                 } else if turn % 3 == 1 {
                     names.forget(&bytes);
                     model.remove(place);
-                } else {
+                } else if turn % 2 == 0 {
                     names.move_to(&bytes, node(byte));
+                    model[place].1 = byte;
+                } else {
+                    let was = names.insert(alloc, &bytes, node(byte))?;
+                    assert!(rt; was == Some(node(model[place].1)));
                     model[place].1 = byte;
                 }
             }
             Err(place) => {
                 assert!(rt; names.find(&bytes).is_none());
-                names.insert(alloc, &bytes, node(byte))?;
+                names.forget(&bytes);
+                assert!(rt; names.remove(alloc, &bytes)?.is_none());
+                assert!(rt; names.insert(alloc, &bytes, node(byte))?.is_none());
                 model.insert(place, (name, byte))?;
             }
         }
@@ -203,7 +213,7 @@ fn names_come_back(rt: HostRuntime) -> Result<(), Fail> {
     put_many(alloc, &mut names, 1_200)?;
     let mut gone: Vec<Named> = Vec::new(alloc);
     for number in 800..1_200u16 {
-        gone.push(names.remove(alloc, &number.to_be_bytes())?)?;
+        gone.extend(names.remove(alloc, &number.to_be_bytes())?)?;
     }
     let between = 799u16.to_be_bytes();
     for number in 0..2_000u16 {
@@ -264,7 +274,7 @@ fn each_growth_refused(rt: HostRuntime) -> Result<(), Fail> {
         let first = 0u16.to_be_bytes();
         if count > 0 {
             match names.remove(&heap, &first) {
-                Ok(named) => {
+                Ok(Some(named)) => {
                     assert!(rt; names.len().saturating_add(1) == count);
                     if names.reserve(1).is_ok() {
                         names.put_back(named);
@@ -272,6 +282,7 @@ fn each_growth_refused(rt: HostRuntime) -> Result<(), Fail> {
                         assert!(rt; names.find(&first) == Some(node(1)));
                     }
                 }
+                Ok(None) => assert!(rt; false),
                 Err(_) => assert!(rt; names.len() == count),
             }
         }

@@ -22,7 +22,7 @@ use Rattle.hg_phases.specs.declared.fault.EntryFault.{EntryFault}
 use Rattle.hg_phases.specs.declared.fault.EntryFault.TheVariants.{Short, BadPhase}
 use Rattle.hg_phases.specs.Order.{phase_from}
 use Rattle.hg_phases.specs.Entries.{entry_bytes, AreEntries, phase_in, node_in, entry_in, is_entry}
-use Rattle.hg_phases.specs.Entries.{entries_in, entries_of, Gives}
+use Rattle.hg_phases.specs.Entries.{entries_in, entries_of, EntriesGive}
 
 -- ---- one entry
 
@@ -169,13 +169,13 @@ entries_whole bytes pieces rest are len none =
     ∙ ap entries_in (sym are)
 
 pub given_where : (bytes : List ℕ) (pieces : List (List ℕ)) (result : Result (List (Phase × Node)) EntryFault)
-    → entries_of bytes ≡ entries_in pieces → Gives result (entries_in pieces)
-    → Gives result (entries_of bytes)
+    → entries_of bytes ≡ entries_in pieces → EntriesGive result (entries_in pieces)
+    → EntriesGive result (entries_of bytes)
 given_where bytes pieces (Ok entries) same given = same ∙ given
 given_where bytes pieces (Err fault) same (inl refused) = inl refused
 given_where bytes pieces (Err fault) same (inr given) = inr (same ∙ given)
 
 pub found_where : (bytes : List ℕ) (result : Result (List (Phase × Node)) EntryFault) → IsBytes bytes
-    → Gives result (entries_of bytes) → IfOk result (λ entries. AreEntries bytes entries)
+    → EntriesGive result (entries_of bytes) → IfOk result (λ entries. AreEntries bytes entries)
 found_where bytes (Ok entries) fits given = found_are bytes entries fits given
 found_where bytes (Err fault) fits given = tt

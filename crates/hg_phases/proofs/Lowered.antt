@@ -166,6 +166,7 @@ module _ (parents : ℕ → Option ℕ × Option ℕ) (t : Phase) (heads : List 
     pub as_long : length now ≡ length old
     pub within : All (λ (r : ℕ). r < length old) listed
     pub reached : (k : ℕ) → k < length listed → is_reached parents heads (get_or listed k 0) ≡ true
+    pub above : (k : ℕ) → k < length listed → number_of t < height (standing_at old (get_or listed k 0))
     pub each : (r : ℕ) → r < length old → (standing_at now r ≡ standing_at old r) ⊎ IsDown now listed r
     pub begun : (k : ℕ) → k < i → height (standing_at now (get_or heads k 0)) ≤ number_of t
     pub low : place ≤ length listed
@@ -177,6 +178,7 @@ module _ (parents : ℕ → Option ℕ × Option ℕ) (t : Phase) (heads : List 
     as_long = refl;
     within = λ k d low. absurd (omega (arith, low, ap (λ (ks : List ℕ). length ks) none));
     reached = λ k low. absurd (omega (arith, low, ap (λ (ks : List ℕ). length ks) none));
+    above = λ k low. absurd (omega (arith, low, ap (λ (ks : List ℕ). length ks) none));
     each = λ r within. inl refl;
     begun = λ k low. absurd (omega (arith, low));
     low = omega arith;
@@ -249,6 +251,33 @@ module _ (parents : ℕ → Option ℕ × Option ℕ) (t : Phase) (heads : List 
               })
             ]
 
+    -- a row that is listed was above the target
+    above_more : (k : ℕ) → length listed ≤ k → k < length more
+        → number_of t < height (standing_at old (get_or more k 0))
+    above_more k from low = by lowered
+      where
+        by : IsLowered t row now listed next more → number_of t < height (standing_at old (get_or more k 0))
+        by (inl moved) =
+            let last : length listed ≡ k = omega (
+              arith,
+              from,
+              low,
+              ap length moved.list,
+              length_push listed moved.rev,
+            ) in
+            let e : get_or more k 0 ≡ moved.rev = ap (λ (ks : List ℕ). get_or ks k 0) moved.list
+            ∙ get_or_push listed moved.rev 0 k last in
+            let was : number_of t < height (standing_at now moved.rev) =
+            omega (arith, moved.above, ap number_of (phase_at_told now moved.rev moved.within)) in
+            let r_in : moved.rev < length old = omega (arith, moved.within, walked.as_long) in
+            let before : number_of t < height (standing_at old moved.rev) =
+            elim (walked.each moved.rev r_in) [
+              | inl same ↦ omega (arith, was, ap height same)
+              | inr down ↦ down.above
+            ] in
+            subst (λ (r : ℕ). number_of t < height (standing_at old r)) (sym e) before
+        by (inr left) = absurd (omega (arith, from, low, ap length left.list))
+
     -- one row more that is reached
     pub walked_more : (j : ℕ) → ((r : ℕ) → row ≡ Some r → is_reached parents heads r ≡ true)
         → ((k : ℕ) → k < j → (k < i) ⊎ ((row ≡ Some (get_or heads k 0)) × (get_or heads k 0 < length now)))
@@ -261,6 +290,11 @@ module _ (parents : ℕ → Option ℕ × Option ℕ) (t : Phase) (heads : List 
         | inl before ↦ ap (is_reached parents heads) (stays.1 k before) ∙ walked.reached k before
         | inr behind ↦ reached (get_or more k 0)
             (list_ends t row now next listed more lowered k behind low)
+      ];
+      above = λ k low. elim (cases_lt k (length listed)) [
+        | inl before ↦ subst (λ (r : ℕ). number_of t < height (standing_at old r)) (sym (stays.1 k before))
+            (walked.above k before)
+        | inr behind ↦ above_more k behind low
       ];
       each = each_more reached;
       begun = λ k low. elim (which k low) [
@@ -311,6 +345,7 @@ module _ (parents : ℕ → Option ℕ × Option ℕ) (t : Phase) (heads : List 
       as_long = last.as_long;
       within = last.within;
       reached = last.reached;
+      above = last.above;
       each = last.each;
       begun = last.begun;
       low = omega (arith, here, one_stays.0, two_stays.0);
@@ -444,5 +479,12 @@ module _ (parents : ℕ → Option ℕ × Option ℕ) (t : Phase) (heads : List 
             ) in
             phase_is r in_old
             ∙ sym (advanced_is parents early t heads (phases_told old) lawful r (omega (arith, in_old, size))));
+        above = λ k low.
+            let over : number_of t < number_of (phase_at (phases_told old) (get_or listed k 0)) = omega (
+              arith,
+              walked.above k low,
+              ap number_of (phase_at_told old (get_or listed k 0) (walked.within k 0 low)),
+            ) in
+            over;
         each = λ r r_in. elim (walked.each r r_in) [ inl same ↦ inl same | inr down ↦ inr down.place ];
       }

@@ -4,19 +4,35 @@ use Rattle.std.proofs.Common.{Option, Some, None, refl, sym, ap, ◌∙◌, subs
 use Rattle.std.specs.Prelude.{⊤}
 use Rattle.std.specs.List.{All}
 use Rattle.std.proofs.lemmas.Bool.{cases_eq, cases_lt, cases_order}
-use Rattle.std.proofs.lemmas.List.{get_or-set_same, get_or-set_other, length-set, map-set, set-get_or}
+use Rattle.std.proofs.lemmas.List.{get_or-set_same, get_or-set_other, length-set, length-map, map-set}
+use Rattle.std.proofs.lemmas.List.{set-get_or}
 use Rattle.hg_types.specs.declared.phase.Phase.{Phase}
 use Rattle.hg_types.specs.declared.phase.Phase.TheVariants.{Public}
+use Rattle.hg_types.specs.Phase.{number_of}
 use Rattle.hg_log.specs.Parents.{IsParentIn, AreOrdered}
 use Rattle.hg_log.specs.Children.{child_before}
 use Rattle.hg_log.proofs.CallerLemmas.{before_some, before_nobody}
 use Rattle.hg_phases.specs.declared.standing.Standing.{Standing}
-use Rattle.hg_phases.specs.declared.standing.Standing.TheVariants.{PublicOnPublic}
+use Rattle.hg_phases.specs.declared.standing.Standing.TheVariants.{PublicOnPublic, DraftOnPublic}
+use Rattle.hg_phases.specs.declared.standing.Standing.TheVariants.{DraftOnDraft, SecretOnPublic}
+use Rattle.hg_phases.specs.declared.standing.Standing.TheVariants.{SecretOnDraft, SecretOnSecret}
 use Rattle.hg_phases.specs.Order.{greater, phase_at, phase_of, phase_above}
+use Rattle.hg_phases.specs.Phases.{AreLawful}
 use Rattle.hg_phases.specs.Standing.{standing_of, standing_at, phase_told, phases_told}
 use Rattle.hg_phases.specs.code.Walk.{standing_in, AreStanding, AreRestood, IsTouched, IsListed}
+use Rattle.hg_phases.specs.code.Walk.{IsHigher, IsHigherChild}
+use Rattle.hg_phases.proofs.Rising.{parent_below}
 use Rattle.hg_phases.proofs.Told.{phase_of_standing}
 use Rattle.hg_phases.proofs.Standings.{phase_at_told}
+
+-- no other standing is of a public row
+only_public : (standing : Standing) → phase_told standing ≡ Public → standing ≡ PublicOnPublic
+only_public PublicOnPublic is = refl
+only_public DraftOnPublic is = absurd (omega (arith, ap number_of is))
+only_public DraftOnDraft is = absurd (omega (arith, ap number_of is))
+only_public SecretOnPublic is = absurd (omega (arith, ap number_of is))
+only_public SecretOnDraft is = absurd (omega (arith, ap number_of is))
+only_public SecretOnSecret is = absurd (omega (arith, ap number_of is))
 
 module _ (parents : ℕ → Option ℕ × Option ℕ) where
   -- the phases stay where a row gets its standing
@@ -27,6 +43,15 @@ module _ (parents : ℕ → Option ℕ × Option ℕ) where
       ∙ ap (set (phases_told now) row) (phase_of_standing (phase_at (phases_told now) row)
       (phase_above parents (phases_told now) row))
       ∙ set-get_or (phases_told now) row Public
+
+  -- a public row has its standing
+  pub public_stands : (now : List Standing) (row : ℕ) → row < length now
+      → phase_at (phases_told now) row ≡ Public
+      → now ≡ set now row (standing_in parents (phases_told now) row)
+  public_stands now row within public =
+      sym (ap (set now row) (ap (λ (x : Phase). standing_of x (phase_above parents (phases_told now) row)) public
+      ∙ sym (only_public (standing_at now row) (sym (phase_at_told now row within) ∙ public)))
+      ∙ set-get_or now row PublicOnPublic)
 
   pub restood_none : (Asked : ℕ → Type 0) (old : List Standing)
       → ((r : ℕ) → r < length old → ¬ (Asked r)) → AreRestood parents Asked old old
@@ -152,12 +177,14 @@ module _ (parents : ℕ → Option ℕ × Option ℕ) where
   -- ---- all rows
 
   -- one listed row and its children more
-  pub touched_more : (listed : List ℕ) (n r : ℕ) → IsTouched parents listed (n + 1) r
-      → (IsTouched parents listed n r ⊎ (r ≡ get_or listed n 0)) ⊎ IsParentIn parents (get_or listed n 0) r
-  touched_more listed n r touched = elim (cases_eq touched.place n) [
+  pub touched_more : (target : Phase) (phases : List Phase) (listed : List ℕ) (n r : ℕ)
+      → IsTouched parents target phases listed (n + 1) r
+      → (IsTouched parents target phases listed n r ⊎ (r ≡ get_or listed n 0))
+      ⊎ IsHigherChild parents target phases (get_or listed n 0) r
+  touched_more target phases listed n r touched = elim (cases_eq touched.place n) [
     | inl e ↦ elim touched.is [
       | inl same ↦ inl (inr (sym (ap (λ (k : ℕ). get_or listed k 0) (sym e) ∙ same)))
-      | inr child ↦ inr (subst (λ (k : ℕ). IsParentIn parents (get_or listed k 0) r) e child)
+      | inr child ↦ inr (subst (λ (k : ℕ). IsHigherChild parents target phases (get_or listed k 0) r) e child)
     ]
     | inr other ↦ inl (inl (record {
       place = touched.place;
@@ -166,17 +193,19 @@ module _ (parents : ℕ → Option ℕ × Option ℕ) where
     }))
   ]
 
-  pub none_touched : (listed : List ℕ) (r : ℕ) → ¬ (IsTouched parents listed 0 r)
-  none_touched listed r touched = absurd (omega (arith, touched.within))
+  pub none_touched : (target : Phase) (phases : List Phase) (listed : List ℕ) (r : ℕ)
+      → ¬ (IsTouched parents target phases listed 0 r)
+  none_touched target phases listed r touched = absurd (omega (arith, touched.within))
 
   -- rows that stand as their phases make it stand so again, once those that are lowered are looked at with
-  -- their children
-  pub stands_again : AreOrdered parents → (old now next : List Standing) (listed : List ℕ)
-      → AreStanding parents old → length now ≡ length old
+  -- those of their children that are above the target
+  pub stands_again : AreOrdered parents → (target : Phase) (old now next : List Standing) (listed : List ℕ)
+      → AreLawful parents (phases_told old) → AreStanding parents old → length now ≡ length old
+      → ((k : ℕ) → k < length listed → IsHigher target (phases_told old) (get_or listed k 0))
       → ((r : ℕ) → r < length old → (standing_at now r ≡ standing_at old r) ⊎ IsListed listed r)
-      → AreRestood parents (λ r. IsTouched parents listed (length listed) r) now next
+      → AreRestood parents (λ r. IsTouched parents target (phases_told now) listed (length listed) r) now next
       → AreStanding parents next
-  stands_again early old now next listed standing as_long each are r r_in =
+  stands_again early target old now next listed lawful standing as_long above each are r r_in =
       elim (are.each r (omega (arith, r_in, are.as_long))) [
         | inl right ↦ right ∙ ap (λ (ps : List Phase). standing_in parents ps r) (sym are.phases)
         | inr same ↦
@@ -190,7 +219,10 @@ module _ (parents : ℕ → Option ℕ × Option ℕ) where
       in_old : r < length old
       in_old = omega (arith, r_in, are.as_long, as_long)
 
-      unlisted : ¬ (IsTouched parents listed (length listed) r) → standing_at now r ≡ standing_at old r
+      Apart : Type 0
+      Apart = ¬ (IsTouched parents target (phases_told now) listed (length listed) r)
+
+      unlisted : Apart → standing_at now r ≡ standing_at old r
       unlisted apart = elim (each r in_old) [
         | inl yet ↦ yet
         | inr at ↦ absurd (apart (record { place = at.0; within = at.1; is = inl at.2 }))
@@ -201,7 +233,21 @@ module _ (parents : ℕ → Option ℕ × Option ℕ) where
       phase_alike q q_in yet = phase_at_told old q q_in ∙ ap phase_told (sym yet)
           ∙ sym (phase_at_told now q (omega (arith, q_in, as_long)))
 
-      of_alike : ¬ (IsTouched parents listed (length listed) r) → (o : Option ℕ)
+      -- a child of a row that was lowered is above the target yet, where it was not lowered itself
+      child_higher : Apart → (p : ℕ) → IsParentIn parents p r → IsListed listed p
+          → IsHigher target (phases_told now) r
+      child_higher apart p is at =
+          let over : IsHigher target (phases_told old) p =
+          subst (λ (q : ℕ). IsHigher target (phases_told old) q) at.2 (above at.0 at.1) in
+          omega (
+            arith,
+            over,
+            parent_below parents (phases_told old) p r is,
+            lawful r (omega (arith, in_old, length-map old phase_told)),
+            ap number_of (phase_alike r in_old (unlisted apart)),
+          )
+
+      of_alike : Apart → (o : Option ℕ)
           → ((p : ℕ) → o ≡ Some p → IsParentIn parents p r)
           → phase_of (phases_told old) o ≡ phase_of (phases_told now) o
       of_alike apart None is = refl
@@ -212,12 +258,14 @@ module _ (parents : ℕ → Option ℕ × Option ℕ) where
             | inr at ↦ absurd (apart (record {
               place = at.0;
               within = at.1;
-              is = inr (subst (λ (k : ℕ). IsParentIn parents k r) (sym at.2) (is p refl));
+              is = inr (
+                subst (λ (k : ℕ). IsParentIn parents k r) (sym at.2) (is p refl),
+                child_higher apart p (is p refl) at,
+              );
             }))
           ]
 
-      alike : ¬ (IsTouched parents listed (length listed) r)
-          → standing_in parents (phases_told old) r ≡ standing_in parents (phases_told now) r
+      alike : Apart → standing_in parents (phases_told old) r ≡ standing_in parents (phases_told now) r
       alike apart =
           ap (λ (x : Phase). standing_of x (phase_above parents (phases_told old) r))
           (phase_alike r in_old (unlisted apart))

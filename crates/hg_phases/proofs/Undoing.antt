@@ -8,12 +8,13 @@ use Rattle.std.proofs.lemmas.List.Elements.{All-append, All-push, filter_passes}
 use Rattle.std.proofs.lemmas.List.{set-set, set-get_or, get_or-set_other, get_or-set_same, take-set-le}
 use Rattle.std.proofs.lemmas.List.{take-append-le, length-set, length-take-le, get_or_append_left}
 use Rattle.std.proofs.lemmas.List.{get_or-append_right, get_or-take, ext_get_or}
+use Rattle.std.proofs.lemmas.List.{length-map, length_push, map_push, get_or-map}
 use Rattle.std.proofs.Math.Seq.{take-set-lt}
 use Rattle.hg_phases.specs.declared.standing.Standing.{Standing}
 use Rattle.hg_phases.specs.declared.standing.Standing.TheVariants.{PublicOnPublic}
 use Rattle.hg_phases.specs.declared.tape.Replaced.{Replaced}
 use Rattle.hg_phases.specs.Standing.{standing_at}
-use Rattle.hg_phases.specs.code.Tape.{undone, base_of, of_marked, Follows}
+use Rattle.hg_phases.specs.code.Tape.{undone, base_of, of_marked, rows_of, TapeFollows}
 
 -- the last change comes back first
 pub undone_push : (changes : List Replaced) (change : Replaced) (rows : List Standing)
@@ -91,24 +92,46 @@ all_marked marked kept changes all =
     (λ k d k_in. ltb-true (get_or (of_marked marked changes) k d).row marked
     (filter_passes (λ (r : Replaced). ltb r.row marked) changes k d k_in))
 
+-- the rows of changes
+pub rows_push : (changes : List Replaced) (change : Replaced)
+    → rows_of (changes ++ change ∷ []) ≡ rows_of changes ++ change.row ∷ []
+rows_push changes change = map_push (λ (r : Replaced). r.row) changes change
+
+pub rows_length : (changes : List Replaced) → length (rows_of changes) ≡ length changes
+rows_length changes = length-map changes (λ (r : Replaced). r.row)
+
+pub rows_read : (changes : List Replaced) (place : ℕ) (change : Replaced) → place < length changes
+    → change ≡ get_or changes place change → change.row ≡ get_or (rows_of changes) place 0
+rows_read changes place change low is =
+    ap (λ (r : Replaced). r.row) is
+    ∙ sym (get_or-map (λ (r : Replaced). r.row) changes place change 0 low)
+
 -- nothing changed
-pub follows_same : (rows : List Standing) (changes : List Replaced) → Follows rows changes rows changes
-follows_same rows changes = record { as_long = refl; back = refl; within = λ all. all }
+pub follows_same : (rows : List Standing) (changes : List Replaced) → TapeFollows rows changes rows changes
+follows_same rows changes = record {
+  as_long = refl;
+  back = refl;
+  within = λ all. all;
+  longer = omega arith;
+  first = λ k low. refl;
+}
 
 -- changes after changes
 pub follows_on : (one two three : List Standing) (first second third : List Replaced)
-    → Follows one first two second → Follows two second three third → Follows one first three third
+    → TapeFollows one first two second → TapeFollows two second three third → TapeFollows one first three third
 follows_on one two three first second third f g = record {
   as_long = g.as_long ∙ f.as_long;
   back = g.back ∙ f.back;
   within = λ all. subst (λ (n : ℕ). All (λ (r : Replaced). r.row < n) third) f.as_long
       (g.within (subst (λ (n : ℕ). All (λ (r : Replaced). r.row < n) second) (sym f.as_long) (f.within all)));
+  longer = omega (arith, f.longer, g.longer);
+  first = λ k low. g.first k (omega (arith, low, f.longer)) ∙ f.first k low;
 }
 
 -- a row that is replaced
 pub follows_set : (rows : List Standing) (changes : List Replaced) (row : ℕ) (was standing : Standing)
     → row < length rows → was ≡ standing_at rows row
-    → Follows rows changes (set rows row standing) (changes ++ record { row = row; standing = was } ∷ [])
+    → TapeFollows rows changes (set rows row standing) (changes ++ record { row = row; standing = was } ∷ [])
 follows_set rows changes row was standing within is = record {
   as_long = length-set rows row standing;
   back = undone_push changes (record { row = row; standing = was }) (set rows row standing)
@@ -116,4 +139,7 @@ follows_set rows changes row was standing within is = record {
       ∙ ap (set rows row) is ∙ set-get_or rows row PublicOnPublic);
   within = λ all. All-push (λ (r : Replaced). r.row < length rows) changes
       (record { row = row; standing = was }) all within;
+  longer = omega (arith, length_push changes (record { row = row; standing = was }));
+  first = λ k low. ap (λ (ks : List ℕ). get_or ks k 0) (rows_push changes (record { row = row; standing = was }))
+      ∙ get_or_append_left (rows_of changes) (row ∷ []) 0 k (omega (arith, low, rows_length changes));
 }

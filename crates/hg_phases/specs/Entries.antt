@@ -45,6 +45,6 @@ entries_of bytes =
     if length bytes % 24 == 0 then entries_in (first_chunks 24 (length bytes / 24) bytes) else Err Short
 
 -- what a function returned is what reading gives, unless memory was refused
-abbrev pub Gives : Result (List (Phase × Node)) EntryFault → Result (List (Phase × Node)) EntryFault → Type 0
-Gives result read =
+abbrev pub EntriesGive : Result (List (Phase × Node)) EntryFault → Result (List (Phase × Node)) EntryFault → Type 0
+EntriesGive result read =
     MatchResult result (λ entries. read ≡ Ok entries) (λ fault. (fault ≡ NoMemory) ⊎ (read ≡ Err fault))

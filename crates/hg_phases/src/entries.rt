@@ -1,7 +1,7 @@
 //! The payload of the parts `phase-heads` and `check:phases`.
 
 ghost use Rattle.std.specs.Prelude.{◌≡◌, IfOk};
-ghost use Rattle.hg_phases.specs.Entries.{AreEntries, Gives, entry_in, entries_in, entries_of};
+ghost use Rattle.hg_phases.specs.Entries.{AreEntries, EntriesGive, entry_in, entries_in, entries_of};
 
 use crate::fault::EntryFault;
 use crate::order::phase_from;
@@ -29,7 +29,7 @@ pub fn read_entries<A: Allocator + Copy>(
     ensures found { IfOk result (λ entries. AreEntries bytes.now entries) }
 
     // What is spelled so is read, and a fault is the one that decides, unless memory is refused.
-    ensures exact { Gives result (entries_of bytes.now) }
+    ensures exact { EntriesGive result (entries_of bytes.now) }
 {
     let (pieces, rest) = bytes.as_chunks::<ENTRY>();
     if !rest.is_empty() {
@@ -43,7 +43,7 @@ fn read_each<A: Allocator + Copy>(
     alloc: A,
     pieces: &[[u8; ENTRY]],
 ) -> Result<Seq<(Phase, Node), A>, EntryFault>
-    ensures { Gives result (entries_in pieces.now) }
+    ensures { EntriesGive result (entries_in pieces.now) }
 {
     let mut entries = Vec::with_capacity(alloc, pieces.len())?;
     for piece in pieces {

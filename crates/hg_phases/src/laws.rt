@@ -19,7 +19,7 @@ pub fn no_row_is_below_an_ancestor()
         → number_of (phase_at kept.phases a) ≤ number_of (phase_at kept.phases r) }
 {}
 
-/// The roots tell the phases: a changeset is draft or secret exactly where a root of draft is among its
+/// The roots decide the phases: a changeset is draft or secret exactly where a root of draft is among its
 /// ancestors and itself, and secret exactly where a root of secret is.
 pub fn roots_tell_phases()
     ensures { (rows : List Changeset) (kept : Phasing) (target : Phase) (r : ℕ)

@@ -22,7 +22,7 @@ pub struct Mark {
 
 /// The phase of each row, and the roots of draft and of secret: one byte for each row.
 ///
-/// The byte of a row tells its phase, and of which phases it is a root. What is kept for the way back is a
+/// The byte of a row holds its phase, and of which phases it is a root. What is kept for the way back is a
 /// number and a byte for each row that changed.
 #[derive(Drop)]
 pub struct Phases<A: Allocator = Global> {

@@ -6,7 +6,7 @@ ghost use Rattle.hg_phases.specs.Standing.{phase_told, phases_told, is_told, sta
 
 use hg_types::Phase;
 
-/// The phase of a row, and the greatest phase of its parents, which is not above it. So it tells of which
+/// The phase of a row, and the greatest phase of its parents, which is not above it. So it says of which
 /// phases the row is a root: of those above its parents' and not above its own.
 #[derive(Clone, Copy, PartialEq, Eq, Drop)]
 pub enum Standing {

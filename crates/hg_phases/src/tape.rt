@@ -1,8 +1,8 @@
 //! The rows that have a phase, which can go back to what they were at a mark, without memory.
 
-ghost use Rattle.std.specs.Prelude.{◌≡◌, ◌<◌, ◌≤◌, [], ◌++◌, All, length, vec_len, slice_set, IfOk, OnOk};
-ghost use Rattle.std.specs.Prelude.{OnErr};
-ghost use Rattle.hg_phases.specs.code.Tape.{base_of, undone, of_marked, Follows};
+ghost use Rattle.std.specs.Prelude.{◌≡◌, ◌<◌, ◌≤◌, [], ◌∷◌, ◌++◌, All, length, vec_len, slice_set};
+ghost use Rattle.std.specs.Prelude.{IfOk, OnOk, OnErr};
+ghost use Rattle.hg_phases.specs.code.Tape.{base_of, undone, of_marked, rows_of, TapeFollows};
 
 use crate::standing::Standing;
 use std::alloc::{AllocError, Allocator, Global};
@@ -62,7 +62,8 @@ pub fn replace<A: Allocator>(
 ) -> Result<(), AllocError>
     requires { row < length rows.old.items }
     ensures ok { OnOk result (rows.new.items ≡ slice_set rows.old.items row standing) }
-    ensures follows { Follows rows.old.items changes.old.items rows.new.items changes.new.items }
+    ensures listed { OnOk result (rows_of changes.new.items ≡ rows_of changes.old.items ++ row ∷ []) }
+    ensures follows { TapeFollows rows.old.items changes.old.items rows.new.items changes.new.items }
 {
     let was = rows[row as usize];
     changes.push(Replaced { row, standing: was })?;

@@ -2,12 +2,12 @@
 //! lowered, and the look at those rows and their children for what they are roots of.
 
 ghost use Rattle.std.specs.Prelude.{◌≡◌, ◌<◌, ◌≤◌, [], All, length, slice_set, IfSome, IfOk, OnOk, OnErr};
-ghost use Rattle.hg_log.specs.Parents.{parents_of, IsParentIn};
+ghost use Rattle.hg_log.specs.Parents.{parents_of};
 ghost use Rattle.hg_phases.specs.Phases.{AreLawful, advanced};
 ghost use Rattle.hg_phases.specs.Standing.{phases_told};
-ghost use Rattle.hg_phases.specs.code.Tape.{undone, Follows};
+ghost use Rattle.hg_phases.specs.code.Tape.{undone, rows_of, TapeFollows};
 ghost use Rattle.hg_phases.specs.code.Walk.{IsLowered, AreLowered, AreRestood, AreStanding, IsTouched};
-ghost use Rattle.hg_phases.specs.code.Walk.{standing_in};
+ghost use Rattle.hg_phases.specs.code.Walk.{IsHigherChild, IsHigherRow, standing_in};
 
 use crate::order::greater;
 use crate::standing::{Standing, phase_at, phase_of};
@@ -16,151 +16,192 @@ use hg_log::Changelog;
 use hg_types::Phase;
 use std::alloc::{AllocError, Allocator};
 
-/// Gives a row the target as its phase and adds it to those that are lowered, where there is a row and it is
-/// above the target.
-fn lower<A: Allocator>(
-    rows: &mut Vec<Standing, A>,
-    changes: &mut Vec<Replaced, A>,
-    lowered: &mut Vec<u32, A>,
+/// An advance: the changelog, and the phase that rows are to have at most.
+#[derive(Drop)]
+struct Advance<'a, A: Allocator> {
+    log: &'a Changelog<A>,
     target: Phase,
-    row: Option<u32>,
-) -> Result<(), AllocError>
-    requires { IfSome row (λ r. r < length rows.old.items) }
-    ensures ok { OnOk result
-        (IsLowered target row rows.old.items lowered.old.items rows.new.items lowered.new.items) }
-    ensures follows { Follows rows.old.items changes.old.items rows.new.items changes.new.items }
-{
-    let Some(rev) = row else { return Ok(()) };
-    if phase_at(rows.as_slice(), rev as usize).number() <= target.number() {
-        return Ok(());
-    }
-    lowered.push(rev)?;
-    replace(rows, changes, rev, Standing::of(target, target))
 }
 
-/// Gives the target as its phase to each row that an advance lowers, and lists them.
-fn lower_all<A: Allocator>(
-    log: &Changelog<A>,
-    rows: &mut Vec<Standing, A>,
-    changes: &mut Vec<Replaced, A>,
-    lowered: &mut Vec<u32, A>,
-    target: Phase,
-    heads: &[u32],
-) -> Result<(), AllocError>
-    requires heads { All (λ head. head < length rows.old.items) heads.now }
-    requires rows { length rows.old.items ≤ length log.now.rows }
-    requires lawful { AreLawful (parents_of log.now.rows) (phases_told rows.old.items) }
-    requires none { lowered.old.items ≡ [] }
-    ensures ok { OnOk result (AreLowered (parents_of log.now.rows) target heads.now rows.old.items
-        rows.new.items lowered.new.items) }
-    ensures follows { Follows rows.old.items changes.old.items rows.new.items changes.new.items }
-{
-    let _few = log.len();
-    for head in heads {
-        lower(rows, changes, lowered, target, Some(*head))?;
-    }
-    let mut place = 0;
-    'down: while place < lowered.len() {
-        let (p1, p2) = log.parent_revs(lowered[place]);
-        lower(rows, changes, lowered, target, p1)?;
-        lower(rows, changes, lowered, target, p2)?;
-        place += 1;
-    }
-    Ok(())
-}
-
-/// Gives a row the standing that its phase and those of its parents make.
-fn restand<A: Allocator>(
-    log: &Changelog<A>,
-    rows: &mut Vec<Standing, A>,
-    changes: &mut Vec<Replaced, A>,
-    row: u32,
-) -> Result<(), AllocError>
-    requires row { row < length rows.old.items }
-    requires rows { length rows.old.items ≤ length log.now.rows }
-    ensures ok { OnOk result (rows.new.items ≡ slice_set rows.old.items row
-        (standing_in (parents_of log.now.rows) (phases_told rows.old.items) row)) }
-    ensures follows { Follows rows.old.items changes.old.items rows.new.items changes.new.items }
-{
-    let _few = log.len();
-    let (p1, p2) = log.parent_revs(row);
-    let all = rows.as_slice();
-    let above = greater(phase_of(all, p1), phase_of(all, p2));
-    let standing = Standing::of(phase_at(all, row as usize), above);
-    if standing.is_same(rows[row as usize]) {
-        return Ok(());
-    }
-    replace(rows, changes, row, standing)
-}
-
-/// Gives the children of a row the standing that their phases and those of their parents make.
-fn restand_children<A: Allocator>(
-    log: &Changelog<A>,
-    rows: &mut Vec<Standing, A>,
-    changes: &mut Vec<Replaced, A>,
-    row: u32,
-) -> Result<(), AllocError>
-    requires row { row < length rows.old.items }
-    requires rows { length rows.old.items ≤ length log.now.rows }
-    ensures ok { OnOk result (AreRestood (parents_of log.now.rows)
-        (λ r. IsParentIn (parents_of log.now.rows) row r) rows.old.items rows.new.items) }
-    ensures follows { Follows rows.old.items changes.old.items rows.new.items changes.new.items }
-{
-    let _few = log.len();
-    let mut next = log.last_child(row);
-    'children: while let Some(child) = next {
-        if (child as usize) < rows.len() {
-            restand(log, rows, changes, child)?;
+impl<A: Allocator> Advance<'_, A> {
+    /// Gives a row the target as its phase, where there is a row and it is above the target.
+    fn lower(
+        &self,
+        rows: &mut Vec<Standing, A>,
+        changes: &mut Vec<Replaced, A>,
+        row: Option<u32>,
+    ) -> Result<(), AllocError>
+        requires { IfSome row (λ r. r < length rows.old.items) }
+        ensures ok { OnOk result
+            (IsLowered self.now.target row rows.old.items (rows_of changes.old.items) rows.new.items
+            (rows_of changes.new.items)) }
+        ensures follows { TapeFollows rows.old.items changes.old.items rows.new.items changes.new.items }
+    {
+        let Some(rev) = row else { return Ok(()) };
+        if phase_at(rows.as_slice(), rev as usize).number() <= self.target.number() {
+            return Ok(());
         }
-        next = log.child_before(row, child);
+        replace(rows, changes, rev, Standing::of(self.target, self.target))
     }
-    Ok(())
-}
 
-/// Gives rows and their children the standing that their phases and those of their parents make.
-fn restand_all<A: Allocator>(
-    log: &Changelog<A>,
-    rows: &mut Vec<Standing, A>,
-    changes: &mut Vec<Replaced, A>,
-    lowered: &[u32],
-) -> Result<(), AllocError>
-    requires lowered { All (λ row. row < length rows.old.items) lowered.now }
-    requires rows { length rows.old.items ≤ length log.now.rows }
-    ensures ok { OnOk result (AreRestood (parents_of log.now.rows)
-        (λ r. IsTouched (parents_of log.now.rows) lowered.now (length lowered.now) r)
-        rows.old.items rows.new.items) }
-    ensures follows { Follows rows.old.items changes.old.items rows.new.items changes.new.items }
-{
-    for row in lowered {
-        restand(log, rows, changes, *row)?;
-        restand_children(log, rows, changes, *row)?;
+    /// Gives the target as its phase to each row that an advance lowers. The changes list these rows, each
+    /// once.
+    fn lower_all(
+        &self,
+        rows: &mut Vec<Standing, A>,
+        changes: &mut Vec<Replaced, A>,
+        heads: &[u32],
+    ) -> Result<(), AllocError>
+        requires heads { All (λ head. head < length rows.old.items) heads.now }
+        requires rows { length rows.old.items ≤ length self.now.log.now.rows }
+        requires lawful { AreLawful (parents_of self.now.log.now.rows) (phases_told rows.old.items) }
+        requires none { changes.old.items ≡ [] }
+        ensures ok { OnOk result (AreLowered (parents_of self.now.log.now.rows) self.now.target heads.now
+            rows.old.items rows.new.items (rows_of changes.new.items)) }
+        ensures follows { TapeFollows rows.old.items changes.old.items rows.new.items changes.new.items }
+    {
+        let _few = self.log.len();
+        for head in heads {
+            self.lower(rows, changes, Some(*head))?;
+        }
+        let mut place = 0;
+        'down: while place < changes.len() {
+            let (p1, p2) = self.log.parent_revs(changes[place].row);
+            self.lower(rows, changes, p1)?;
+            self.lower(rows, changes, p2)?;
+            place += 1;
+        }
+        Ok(())
     }
-    Ok(())
-}
 
-/// Makes of rows what an advance makes of them, unless memory is refused on the way.
-fn change_rows<A: Allocator + Copy>(
-    alloc: A,
-    log: &Changelog<A>,
-    rows: &mut Vec<Standing, A>,
-    changes: &mut Vec<Replaced, A>,
-    target: Phase,
-    heads: &[u32],
-) -> Result<(), AllocError>
-    requires heads { All (λ head. head < length rows.old.items) heads.now }
-    requires rows { length rows.old.items ≤ length log.now.rows }
-    requires lawful { AreLawful (parents_of log.now.rows) (phases_told rows.old.items) }
-    requires standing { AreStanding (parents_of log.now.rows) rows.old.items }
-    ensures phases { OnOk result (phases_told rows.new.items
-        ≡ advanced (parents_of log.now.rows) target heads.now (phases_told rows.old.items)) }
-    ensures standing { OnOk result (AreStanding (parents_of log.now.rows) rows.new.items) }
-    ensures follows { Follows rows.old.items changes.old.items rows.new.items changes.new.items }
-{
-    let _lawful = log.len();
-    let mut lowered = Vec::new(alloc);
-    lower_all(log, rows, changes, &mut lowered, target, heads)?;
-    restand_all(log, rows, changes, lowered.as_slice())?;
-    Ok(())
+    /// Gives a row the standing that its phase and those of its parents make. A public row has it whatever
+    /// its parents are, so they are not asked for.
+    fn restand(
+        &self,
+        rows: &mut Vec<Standing, A>,
+        changes: &mut Vec<Replaced, A>,
+        row: u32,
+    ) -> Result<(), AllocError>
+        requires row { row < length rows.old.items }
+        requires rows { length rows.old.items ≤ length self.now.log.now.rows }
+        ensures ok { OnOk result (rows.new.items ≡ slice_set rows.old.items row
+            (standing_in (parents_of self.now.log.now.rows) (phases_told rows.old.items) row)) }
+        ensures follows { TapeFollows rows.old.items changes.old.items rows.new.items changes.new.items }
+    {
+        let all = rows.as_slice();
+        let phase = phase_at(all, row as usize);
+        if matches!(phase, Phase::Public) {
+            return Ok(());
+        }
+        let _few = self.log.len();
+        let (p1, p2) = self.log.parent_revs(row);
+        let above = greater(phase_of(all, p1), phase_of(all, p2));
+        let standing = Standing::of(phase, above);
+        if standing.is_same(rows[row as usize]) {
+            return Ok(());
+        }
+        replace(rows, changes, row, standing)
+    }
+
+    /// Gives a row that is there and above the target the standing that its phase and those of its parents
+    /// make.
+    fn restand_higher(
+        &self,
+        rows: &mut Vec<Standing, A>,
+        changes: &mut Vec<Replaced, A>,
+        row: u32,
+    ) -> Result<(), AllocError>
+        requires { length rows.old.items ≤ length self.now.log.now.rows }
+        ensures ok { OnOk result (AreRestood (parents_of self.now.log.now.rows)
+            (λ r. IsHigherRow self.now.target (phases_told rows.old.items) row r)
+            rows.old.items rows.new.items) }
+        ensures follows { TapeFollows rows.old.items changes.old.items rows.new.items changes.new.items }
+    {
+        if row as usize >= rows.len() {
+            return Ok(());
+        }
+        if phase_at(rows.as_slice(), row as usize).number() <= self.target.number() {
+            return Ok(());
+        }
+        self.restand(rows, changes, row)
+    }
+
+    /// Gives those children of a row that are above the target the standing that their phases and those of
+    /// their parents make.
+    fn restand_children(
+        &self,
+        rows: &mut Vec<Standing, A>,
+        changes: &mut Vec<Replaced, A>,
+        row: u32,
+    ) -> Result<(), AllocError>
+        requires row { row < length rows.old.items }
+        requires rows { length rows.old.items ≤ length self.now.log.now.rows }
+        ensures ok { OnOk result (AreRestood (parents_of self.now.log.now.rows)
+            (λ r. IsHigherChild (parents_of self.now.log.now.rows) self.now.target
+            (phases_told rows.old.items) row r)
+            rows.old.items rows.new.items) }
+        ensures follows { TapeFollows rows.old.items changes.old.items rows.new.items changes.new.items }
+    {
+        let _few = self.log.len();
+        let mut next = self.log.last_child(row);
+        'children: while let Some(child) = next {
+            self.restand_higher(rows, changes, child)?;
+            next = self.log.child_before(row, child);
+        }
+        Ok(())
+    }
+
+    /// Gives the rows of the first changes, so many as are reported, and those of their children that are
+    /// above the target the standing that their phases and those of their parents make.
+    ///
+    /// A child that is not above the target was lowered too, and is one of these rows itself.
+    fn restand_all(
+        &self,
+        rows: &mut Vec<Standing, A>,
+        changes: &mut Vec<Replaced, A>,
+        lowered: usize,
+    ) -> Result<(), AllocError>
+        requires lowered { lowered ≤ length changes.old.items }
+        requires within { All (λ row. row < length rows.old.items) (rows_of changes.old.items) }
+        requires rows { length rows.old.items ≤ length self.now.log.now.rows }
+        ensures ok { OnOk result (AreRestood (parents_of self.now.log.now.rows)
+            (λ r. IsTouched (parents_of self.now.log.now.rows) self.now.target (phases_told rows.old.items)
+            (rows_of changes.old.items) lowered r)
+            rows.old.items rows.new.items) }
+        ensures follows { TapeFollows rows.old.items changes.old.items rows.new.items changes.new.items }
+    {
+        for place in 0..lowered {
+            let row = changes[place].row;
+            self.restand(rows, changes, row)?;
+            self.restand_children(rows, changes, row)?;
+        }
+        Ok(())
+    }
+
+    /// Makes of rows what an advance makes of them, unless memory is refused on the way.
+    fn change_rows(
+        &self,
+        rows: &mut Vec<Standing, A>,
+        changes: &mut Vec<Replaced, A>,
+        heads: &[u32],
+    ) -> Result<(), AllocError>
+        requires heads { All (λ head. head < length rows.old.items) heads.now }
+        requires rows { length rows.old.items ≤ length self.now.log.now.rows }
+        requires lawful { AreLawful (parents_of self.now.log.now.rows) (phases_told rows.old.items) }
+        requires standing { AreStanding (parents_of self.now.log.now.rows) rows.old.items }
+        requires none { changes.old.items ≡ [] }
+        ensures phases { OnOk result (phases_told rows.new.items
+            ≡ advanced (parents_of self.now.log.now.rows) self.now.target heads.now
+            (phases_told rows.old.items)) }
+        ensures standing { OnOk result (AreStanding (parents_of self.now.log.now.rows) rows.new.items) }
+        ensures follows { TapeFollows rows.old.items changes.old.items rows.new.items changes.new.items }
+    {
+        let _lawful = self.log.len();
+        self.lower_all(rows, changes, heads)?;
+        let lowered = changes.len();
+        self.restand_all(rows, changes, lowered)?;
+        Ok(())
+    }
 }
 
 /// Makes of rows what an advance makes of them, and gives what was changed. Where memory is refused, the rows
@@ -179,11 +220,12 @@ pub fn advance_rows<A: Allocator + Copy>(
     ensures phases { OnOk result (phases_told rows.new.items
         ≡ advanced (parents_of log.now.rows) target heads.now (phases_told rows.old.items)) }
     ensures standing { OnOk result (AreStanding (parents_of log.now.rows) rows.new.items) }
-    ensures changes { IfOk result (λ changes. Follows rows.old.items [] rows.new.items changes.items) }
+    ensures changes { IfOk result (λ changes. TapeFollows rows.old.items [] rows.new.items changes.items) }
     ensures err { OnErr result (rows.new.items ≡ rows.old.items) }
 {
-    let mut changes = Vec::new(alloc);
-    match change_rows(alloc, log, rows, &mut changes, target, heads) {
+    let mut changes = Vec::with_capacity(alloc, heads.len())?;
+    let advance = Advance { log, target };
+    match advance.change_rows(rows, &mut changes, heads) {
         Ok(()) => Ok(changes),
         Err(refused) => {
             undo(rows, changes);

@@ -3,9 +3,10 @@
 ghost use Rattle.std.specs.Prelude.{◌≡◌, Some};
 ghost use Rattle.hg_phases.specs.Phases.{AreFor};
 
-use hg_log::{Added, Changelog, node_id};
+use hg_help_tests::changelog::put;
+use hg_log::Changelog;
 use hg_phases::*;
-use hg_types::{Entry, Limits, Node, Phase, Seq};
+use hg_types::{Limits, Node, Phase};
 use linked_list_allocator::LocalHeap;
 use std::alloc::{AllocError, Allocator, Global};
 use std::hash::RandomState;
@@ -18,33 +19,6 @@ const D: Phase = Phase::Draft;
 const S: Phase = Phase::Secret;
 
 const NULL: Node = Node::NULL;
-
-/// Adds a changeset whose text is that number, and gives its id.
-fn put<A: Allocator + Copy>(
-    alloc: A,
-    log: &mut Changelog<A>,
-    p1: Node,
-    p2: Node,
-    number: u16,
-) -> Option<Node> {
-    let text = number.to_be_bytes();
-    let node = node_id(&p1, &p2, &text);
-    let delta = [0, 0, 0, 0, 0, 0, 0, 0, 0, 0, 0, 2, text[0], text[1]];
-    let Ok(delta) = Vec::from_slice(alloc, &delta) else {
-        return None
-    };
-    let entry = Entry {
-        node,
-        p1,
-        p2,
-        base: NULL,
-        delta: Seq::from_vec(delta),
-    };
-    match log.add(&entry) {
-        Ok(Added::New(_)) => Some(node),
-        _ => None,
-    }
-}
 
 /// A root and its child.
 fn put_child<A: Allocator + Copy>(alloc: A, log: &mut Changelog<A>) -> Option<()> {

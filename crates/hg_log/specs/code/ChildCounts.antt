@@ -3,7 +3,7 @@
 use Rattle.std.specs.Prelude.{◌≡◌, ◌≢◌, ◌↔◌, ℕ, ◌+◌, ◌-◌, ◌<◌, ◌≤◌, ◌^◌, List, Option, None, Some, length}
 use Rattle.std.specs.Prelude.{slice_index, slice_set}
 
--- `order` has each row once, and `places` tells where
+-- `order` has each row once, and `places` says where
 pub record AreInverse (order places : List ℕ) : Type 0 where
   pub as_long : length places ≡ length order
   pub at_row : (row : ℕ) → row < length order → (slice_index places row < length order)

@@ -1,6 +1,6 @@
 -- The way back: what was replaced since the mark.
 use Rattle.std.specs.Prelude.{◌≡◌, ℕ, zero, suc, ◌+◌, ◌<◌, ◌≤◌, ◌^◌, List, [], ◌∷◌, All, length, take}
-use Rattle.std.specs.Prelude.{slice_set, filter, nat_lt}
+use Rattle.std.specs.Prelude.{slice_index, slice_set, map, filter, nat_lt}
 use Rattle.hg_phases.specs.declared.standing.Standing.{Standing}
 use Rattle.hg_phases.specs.declared.tape.Replaced.{Replaced}
 
@@ -17,12 +17,19 @@ base_of marked rows kept = take marked (undone kept rows)
 abbrev pub of_marked : ℕ → List Replaced → List Replaced
 of_marked marked changes = filter (λ change. nat_lt change.row marked) changes
 
--- Rows and the changes that led to them, and the same some changes later: both lead back to the same rows.
-pub record Follows (rows : List Standing) (changes : List Replaced) (new : List Standing)
+-- the rows of changes, in order
+abbrev pub rows_of : List Replaced → List ℕ
+rows_of changes = map (λ change. change.row) changes
+
+-- Rows and the changes that led to them, and the same some changes later: both lead back to the same rows, and
+-- the changes that were there are the first.
+pub record TapeFollows (rows : List Standing) (changes : List Replaced) (new : List Standing)
     (more : List Replaced) : Type 0 where
   pub as_long : length new ≡ length rows
   pub back : undone more new ≡ undone changes rows
   pub within : All (λ change. change.row < length rows) changes → All (λ change. change.row < length rows) more
+  pub longer : length changes ≤ length more
+  pub first : (k : ℕ) → k < length changes → slice_index (rows_of more) k ≡ slice_index (rows_of changes) k
 
 -- The rows of the mark are there, and what is kept is of them.
 pub record IsSound (rows : List Standing) (kept : List Replaced) (marked : ℕ) : Type 0 where

@@ -44,12 +44,17 @@ IsLowered target row old listed new more =
 abbrev pub IsListed : List ℕ → ℕ → Type 0
 IsListed listed r = (k : ℕ) × (k < length listed) × (slice_index listed k ≡ r)
 
--- the phases are those after an advance, and each row is as before or listed
+-- the row is above the target
+abbrev pub IsHigher : Phase → List Phase → ℕ → Type 0
+IsHigher target phases r = number_of target < number_of (phase_at phases r)
+
+-- the phases are those after an advance; the listed rows were above the target, and each other one is as before
 pub record AreLowered (parents : ℕ → Option ℕ × Option ℕ) (target : Phase) (heads : List ℕ)
     (old new : List Standing) (listed : List ℕ) : Type 0 where
   pub as_long : length new ≡ length old
   pub within : All (λ row. row < length old) listed
   pub phases : phases_told new ≡ advanced parents target heads (phases_told old)
+  pub above : (k : ℕ) → k < length listed → IsHigher target (phases_told old) (slice_index listed k)
   pub each : (r : ℕ) → r < length old → (standing_at new r ≡ standing_at old r) ⊎ IsListed listed r
 
 -- the phases are the same, and each row is what they make it, or as before and not one of those that are asked
@@ -61,8 +66,17 @@ pub record AreRestood (parents : ℕ → Option ℕ × Option ℕ) (Asked : ℕ 
   pub each : (r : ℕ) → r < length old → (standing_at new r ≡ standing_in parents (phases_told old) r)
       ⊎ ((standing_at new r ≡ standing_at old r) × (¬ (Asked r)))
 
--- one of the first n listed rows is the row, or a parent of it
-pub record IsTouched (parents : ℕ → Option ℕ × Option ℕ) (listed : List ℕ) (n r : ℕ) : Type 0 where
+-- it is that row, and is above the target
+abbrev pub IsHigherRow : Phase → List Phase → ℕ → ℕ → Type 0
+IsHigherRow target phases row r = (r ≡ row) × IsHigher target phases r
+
+-- the row is above the target, and the other one is a parent of it
+abbrev pub IsHigherChild : (ℕ → Option ℕ × Option ℕ) → Phase → List Phase → ℕ → ℕ → Type 0
+IsHigherChild parents target phases row r = IsParentIn parents row r × IsHigher target phases r
+
+-- one of the first n listed rows is the row, or is a parent of it while it is above the target
+pub record IsTouched (parents : ℕ → Option ℕ × Option ℕ) (target : Phase) (phases : List Phase)
+    (listed : List ℕ) (n r : ℕ) : Type 0 where
   pub place : ℕ
   pub within : place < n
-  pub is : (slice_index listed place ≡ r) ⊎ IsParentIn parents (slice_index listed place) r
+  pub is : (slice_index listed place ≡ r) ⊎ IsHigherChild parents target phases (slice_index listed place) r

@@ -1,95 +1,16 @@
-use Rattle.std.proofs.Common.{◌≡◌, ◌&&◌, ◌-◌, ◌^◌, true, length, Option, Some, None, is_some, is_none, refl, sym, ap}
-use Rattle.std.proofs.Common.{◌∙◌}
-use Rattle.std.proofs.lemmas.Bool.{lt-ltb}
-use Rattle.hg_types.specs.declared.node.Node.{Node}
-use Rattle.hg_keys.specs.Bookmarks.{node_of, with_bookmark}
-use Rattle.hg_keys.proofs.BackLemmas.{set_is, unset_is, set_back_to, stays_away}
-use Rattle.hg_keys.proofs.ChangeLemmas.{both}
-use Rattle.hg_keys.proofs.SetLemmas.{set_found}
+use Rattle.std.proofs.Common.{sym, ap, ◌∙◌}
+use Rattle.hg_keys.specs.Bookmarks.{with_bookmark}
+use Rattle.hg_keys.proofs.BackLemmas.{set_is, unset_is}
 use Rattle.hg_keys.proofs.bookmarks.put.Goals as goal
+use Rattle.hg_keys.proofs.bookmarks.put.Goals.{in-Some+in_ok-insert-in-Some, in-None}
 
-pub returns-in_ok-kept-in-Some-Some-clause-set : goal.returns-in_ok-kept-in-Some-Some-clause-set
-returns-in_ok-kept-in-Some-Some-clause-set g c =
+pub returns-clause-set : goal.returns-clause-set
+returns-clause-set g c =
     let pairs = c.args.names.now.pairs in
     let name = c.args.name.now in
-    c.move_to.ensures.moved ∙ set_is pairs name c.in-Some-Some.node
-    ∙ ap (with_bookmark pairs name) (sym c.in-Some-Some.is-1)
-
-pub returns-in_ok-kept-in-Some-Some-clause-back : goal.returns-in_ok-kept-in-Some-Some-clause-back
-returns-in_ok-kept-in-Some-Some-clause-back g c =
-    let pairs = c.args.names.now.pairs in
-    let name = c.args.name.now in
-    let new = c.move_to.ensures.moved ∙ set_is pairs name c.in-Some-Some.node in
-    let named = c.in_ok-kept-in-Some-Some.ensures in
-    (λ i. with_bookmark (new i) (named i) (Some c.in-Some-Some.was))
-    ∙ set_back_to name pairs (Some c.in-Some-Some.node) (Some c.in-Some-Some.was) c.requires
-    (sym c.find.ensures ∙ c.in-Some-Some.is-0)
-
-pub returns-in_ok-kept-in-Some-Some-clause-can : goal.returns-in_ok-kept-in-Some-Some-clause-can
-returns-in_ok-kept-in-Some-Some-clause-can g c =
-    let pairs = c.args.names.now.pairs in
-    let name = c.args.name.now in
-    let new = c.move_to.ensures.moved ∙ set_is pairs name c.in-Some-Some.node in
-    let named = c.in_ok-kept-in-Some-Some.ensures in
-    ap (λ (o : Option Node). is_some o && true)
-    ((λ i. node_of (new i) (named i)) ∙ set_found pairs name (Some c.in-Some-Some.node))
-
-pub returns-in_ok-gone-in-Some-None-clause-set : goal.returns-in_ok-gone-in-Some-None-clause-set
-returns-in_ok-gone-in-Some-None-clause-set g c =
-    let pairs = c.args.names.now.pairs in
-    let name = c.args.name.now in
-    c.in_ok-gone-in-Some-None.ensures.names ∙ unset_is pairs name
-    ∙ ap (with_bookmark pairs name) (sym c.in-Some-None.is-1)
-
-pub returns-in_ok-gone-in-Some-None-clause-back : goal.returns-in_ok-gone-in-Some-None-clause-back
-returns-in_ok-gone-in-Some-None-clause-back g c =
-    let pairs = c.args.names.now.pairs in
-    let name = c.args.name.now in
-    let new = c.in_ok-gone-in-Some-None.ensures.names ∙ unset_is pairs name in
-    let gone = c.in_ok-gone-in-Some-None.gone in
-    let named = c.in_ok-gone-in-Some-None.ensures.name in
-    (λ i. with_bookmark (new i) (named i) (Some gone.1))
-    ∙ set_back_to name pairs None (Some gone.1) c.requires c.in_ok-gone-in-Some-None.ensures.node
-
-pub returns-in_ok-gone-in-Some-None-clause-can : goal.returns-in_ok-gone-in-Some-None-clause-can
-returns-in_ok-gone-in-Some-None-clause-can g c =
-    let pairs = c.args.names.now.pairs in
-    let name = c.args.name.now in
-    let new = c.in_ok-gone-in-Some-None.ensures.names ∙ unset_is pairs name in
-    let named = c.in_ok-gone-in-Some-None.ensures.name in
-    let away : is_none (node_of c.remove.new.self.pairs c.in_ok-gone-in-Some-None.gone.0) ≡ true = ap is_none
-    ((λ i. node_of (new i) (named i)) ∙ set_found pairs name None) in
-    both _ _ (both _ _ away (lt-ltb (length c.remove.new.self.pairs) (2 ^ 64 - 1)
-    c.in_ok-gone-in-Some-None.ensures.fits)) refl
-
-pub returns-in_ok-insert-in-None-Some-clause-set : goal.returns-in_ok-insert-in-None-Some-clause-set
-returns-in_ok-insert-in-None-Some-clause-set g c =
-    let pairs = c.args.names.now.pairs in
-    let name = c.args.name.now in
-    c.in_ok-insert-in-None-Some.ensures.ok ∙ set_is pairs name c.in-None-Some.node
-    ∙ ap (with_bookmark pairs name) (sym c.in-None-Some.is-1)
-
-pub returns-in_ok-insert-in-None-Some-clause-back : goal.returns-in_ok-insert-in-None-Some-clause-back
-returns-in_ok-insert-in-None-Some-clause-back g c =
-    let pairs = c.args.names.now.pairs in
-    let name = c.args.name.now in
-    let new = c.in_ok-insert-in-None-Some.ensures.ok ∙ set_is pairs name c.in-None-Some.node in
-    let named = c.in_ok-kept-in-None-Some.ensures in
-    (λ i. with_bookmark (new i) (named i) None)
-    ∙ set_back_to name pairs (Some c.in-None-Some.node) None c.requires (sym c.find.ensures ∙ c.in-None-Some.is-0)
-
-pub returns-in_ok-insert-in-None-Some-clause-can : goal.returns-in_ok-insert-in-None-Some-clause-can
-returns-in_ok-insert-in-None-Some-clause-can g c =
-    let pairs = c.args.names.now.pairs in
-    let name = c.args.name.now in
-    let new = c.in_ok-insert-in-None-Some.ensures.ok ∙ set_is pairs name c.in-None-Some.node in
-    let named = c.in_ok-kept-in-None-Some.ensures in
-    ap (λ (o : Option Node). is_some o && true)
-    ((λ i. node_of (new i) (named i)) ∙ set_found pairs name (Some c.in-None-Some.node))
-
-pub returns-in-None-None-clause-set : goal.returns-in-None-None-clause-set
-returns-in-None-None-clause-set g c =
-    let pairs = c.args.names.now.pairs in
-    let name = c.args.name.now in
-    sym (stays_away name pairs c.requires (sym c.find.ensures ∙ c.in-None-None.is-0))
-    ∙ ap (with_bookmark pairs name) (sym c.in-None-None.is-1)
+    elim c.match-node.branch [
+      | in-Some+in_ok-insert-in-Some w ↦ rw w.names-is (w.in_ok-insert-in-Some.ensures.ok
+          ∙ set_is pairs name w.in-Some.node ∙ ap (with_bookmark pairs name) (sym w.in-Some.is))
+      | in-None w ↦ rw w.names-is (w.forget.ensures.names ∙ unset_is pairs name
+          ∙ ap (with_bookmark pairs name) (sym w.in-None.is))
+    ]

@@ -22,7 +22,7 @@ invariant_of-self-2 g c =
     (arith, c.in_ok-make_room.ensures.room marked, c.in_ok-change.ensures.room) in
     subst (λ (cs : List (Change g.row.A.Denot)). IsSound new.pairs cs new.room old.is_marked) (sym changes)
     (sound_kept old.names.pairs new.pairs old.changes.items change old.names.room new.room old.is_marked
-    c.self.invariant in_order room (c.in_ok-change.ensures.back ∙ same) c.in_ok-change.ensures.can)
+    c.self.invariant in_order room (λ marked. c.in_ok-change.ensures.back marked ∙ same) c.in_ok-change.ensures.can)
 
 pub returns-clause-ok : goal.returns-clause-ok
 returns-clause-ok g c =
@@ -36,7 +36,7 @@ returns-clause-ok g c =
     let marked : cond old.is_marked (Some (base_of c.keep.new.changes.items new)) None ≡ cond old.is_marked
     (Some (base_of old.changes.items old.names.pairs)) None =
     ap (λ (cs : List (Change g.row.A.Denot)). cond old.is_marked (Some (base_of cs new)) None) changes
-    ∙ mark_kept old.names.pairs new old.changes.items change old.is_marked (c.in_ok-change.ensures.back ∙ same) in
+    ∙ mark_kept old.names.pairs new old.changes.items change old.is_marked (λ marked. c.in_ok-change.ensures.back marked ∙ same) in
     let set : new ≡ with_bookmark old.names.pairs name c.args.node = c.in_ok-change.ensures.set
     ∙ ap (λ (ps : Pairs). with_bookmark ps name c.args.node) same in
     (λ i. record { current = set i; marked = marked i })

@@ -3,7 +3,7 @@ use Rattle.hg_delta.specs.declared.fault.DeltaFault.TheVariants as fault
 use Rattle.hg_delta.specs.Delta.{Applies}
 use Rattle.hg_delta.specs.Faults.{BreaksAt, GivesTooMuch}
 use Rattle.hg_delta.specs.Faults.IsOutcome.{gives}
-use Rattle.hg_delta.specs.Outcome.{Fails, outcome_of}
+use Rattle.hg_delta.specs.Outcome.{DeltaFails, outcome_of}
 use Rattle.hg_log.specs.declared.add.AddFault.{AddFault}
 use Rattle.hg_log.specs.declared.add.AddFault.TheVariants.{NoMemory}
 use Rattle.hg_log.specs.Rows.{AreLawful}
@@ -59,7 +59,7 @@ returns-in-Err g c =
     → GivesTooMuch base delta c.args.self.now.limits.text = λ is.
     rw (← c.as_slice.ensures, ← c.self.view_is) (e.too_long (cc)) in
     let lawful : AreLawful c.args.self.now.rows = rw (← c.self.view_is) c.self.invariant.lawful in
-    let read : Fails f (outcome_of base delta c.args.self.now.limits.text) =
+    let read : DeltaFails f (outcome_of base delta c.args.self.now.limits.text) =
     rw (← c.as_slice.ensures, ← c.self.view_is) e.outcome in
     let value : told_as f ≢ NoMemory → Err (told_as f) ≡ text_of c.args.self.now c.args.entry.now = λ other.
     told_value f (outcome_of base delta c.args.self.now.limits.text) read other

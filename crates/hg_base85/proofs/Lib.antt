@@ -1,0 +1,3 @@
+mod Tables
+mod GroupLemmas
+mod RoundTrip

@@ -1,0 +1,111 @@
+use Rattle.std.proofs.Common.{◌≡◌, ℕ, ◌+◌, ◌<◌, ◌⊎◌, List, length, refl, inl, inr, ap, sym, ◌∙◌, arith, get_or, subst}
+use Rattle.hg_types.specs.declared.phase.Phase.{Phase}
+use Rattle.hg_log.specs.Parents.{parents_of}
+use Rattle.hg_phases.specs.Standing.{phases_told}
+use Rattle.hg_phases.specs.code.Tape.{rows_of}
+use Rattle.hg_phases.specs.code.Walk.{IsTouched, IsHigher, IsHigherChild, AreRestood}
+use Rattle.hg_phases.proofs.Undoing.{follows_same, follows_on, rows_length, rows_read}
+use Rattle.hg_phases.proofs.Restood.{restood_none, restood_fewer, restood_set, restood_on, touched_more}
+use Rattle.hg_phases.proofs.Restood.{none_touched}
+use Rattle.hg_phases.proofs.walk.Advance.restand_all.Goals as goal
+
+pub loop-place-init : goal.loop-place-init
+loop-place-init g c =
+    let parents = parents_of c.args.self.now.log.now.rows in
+    let listed = rows_of c.args.changes.now.items in
+    let rows = c.args.rows.now.items in
+    let target = c.args.self.now.target in
+    record {
+      follows = follows_same rows c.args.changes.now.items;
+      restood = restood_none parents (λ r. IsTouched parents target (phases_told rows) listed 0 r) rows
+          (λ r low. none_touched parents target (phases_told rows) listed r);
+    }
+
+pub restand-requires-clause-row : goal.restand-requires-clause-row
+restand-requires-clause-row g c =
+    let changes = c.args.changes.now.items in
+    let i = c.loop-place.place in
+    let follows = c.loop-place.invariant.follows in
+    let low : i < length changes = omega (arith, c.loop-place-test.true, c.requires.lowered) in
+    let here : c.index.result.now.row ≡ get_or (rows_of changes) i 0 =
+    rows_read c.loop-place.changes.items i c.index.result.now (omega (arith, low, follows.longer))
+    c.index.ensures ∙ follows.first i low in
+    omega (arith, here, c.requires.within i 0 (omega (arith, low, rows_length changes)), follows.as_long)
+
+pub restand_children-requires-clause-row : goal.restand_children-requires-clause-row
+restand_children-requires-clause-row g c =
+    let changes = c.args.changes.now.items in
+    let i = c.loop-place.place in
+    let follows = c.loop-place.invariant.follows in
+    let low : i < length changes = omega (arith, c.loop-place-test.true, c.requires.lowered) in
+    let here : c.index.result.now.row ≡ get_or (rows_of changes) i 0 =
+    rows_read c.loop-place.changes.items i c.index.result.now (omega (arith, low, follows.longer))
+    c.index.ensures ∙ follows.first i low in
+    omega (
+      arith,
+      here,
+      c.requires.within i 0 (omega (arith, low, rows_length changes)),
+      follows.as_long,
+      c.in_ok-restand.ensures.follows.as_long,
+    )
+
+pub returns-in_err-restand-clause-follows : goal.returns-in_err-restand-clause-follows
+returns-in_err-restand-clause-follows g c =
+    follows_on _ _ _ _ _ _ c.loop-place.invariant.follows c.restand.ensures.follows
+
+pub returns-in_err-restand_children-clause-follows : goal.returns-in_err-restand_children-clause-follows
+returns-in_err-restand_children-clause-follows g c =
+    follows_on _ _ _ _ _ _ (follows_on _ _ _ _ _ _ c.loop-place.invariant.follows
+    c.in_ok-restand.ensures.follows) c.restand_children.ensures.follows
+
+pub loop-place-preserved : goal.loop-place-preserved
+loop-place-preserved g c =
+    let parents = parents_of c.args.self.now.log.now.rows in
+    let changes = c.args.changes.now.items in
+    let listed = rows_of changes in
+    let i = c.loop-place.place in
+    let old = c.args.rows.now.items in
+    let follows = c.loop-place.invariant.follows in
+    let low : i < length changes = omega (arith, c.loop-place-test.true, c.requires.lowered) in
+    let here : c.index.result.now.row ≡ get_or listed i 0 =
+    rows_read c.loop-place.changes.items i c.index.result.now (omega (arith, low, follows.longer))
+    c.index.ensures ∙ follows.first i low in
+    let within : get_or listed i 0 < length old =
+    c.requires.within i 0 (omega (arith, low, rows_length changes)) in
+    let target = c.args.self.now.target in
+    let phases = phases_told old in
+    let middle = restood_set parents (λ r. IsTouched parents target phases listed i r)
+    (λ r. IsTouched parents target phases listed i r ⊎ (r ≡ get_or listed i 0)) old c.loop-place.rows.items
+    c.restand.new.rows.items (get_or listed i 0) within (rw here at c.in_ok-restand.ensures.ok)
+    (λ r r_in either. either) c.loop-place.invariant.restood in
+    record {
+      follows = follows_on _ _ _ _ _ _ (follows_on _ _ _ _ _ _ follows
+          c.in_ok-restand.ensures.follows) c.in_ok-restand_children.ensures.follows;
+      restood = restood_on parents
+          (λ r. IsTouched parents target phases listed i r ⊎ (r ≡ get_or listed i 0))
+          (λ r. IsHigherChild parents target (phases_told c.restand.new.rows.items) (get_or listed i 0) r)
+          (λ r. IsTouched parents target phases listed (i + 1) r) old
+          c.restand.new.rows.items c.restand_children.new.rows.items
+          (λ r r_in touched. elim (touched_more parents target phases listed i r touched) [
+            | inl one ↦ inl one
+            | inr child ↦ inr (
+              child.0,
+              subst (λ (ps : List Phase). IsHigher target ps r) (sym middle.phases) child.1,
+            )
+          ])
+          middle (rw here at c.in_ok-restand_children.ensures.ok);
+    }
+
+pub returns-clause-ok : goal.returns-clause-ok
+returns-clause-ok g c =
+    let parents = parents_of c.args.self.now.log.now.rows in
+    let listed = rows_of c.args.changes.now.items in
+    let phases = phases_told c.args.rows.now.items in
+    restood_fewer parents (λ r. IsTouched parents c.args.self.now.target phases listed c.loop-place.place r)
+    (λ r. IsTouched parents c.args.self.now.target phases listed c.args.lowered r) c.args.rows.now.items c.loop-place.rows.items
+    (λ r r_in touched. record {
+      place = touched.place;
+      within = omega (arith, touched.within, c.loop-place-test.false);
+      is = touched.is;
+    })
+    c.loop-place.invariant.restood
