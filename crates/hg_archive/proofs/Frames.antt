@@ -1,6 +1,6 @@
 -- Records, one after the other, and one more.
-use Rattle.std.proofs.Common.{◌≡◌, ℕ, ◌+◌, ◌<◌, List, [], ◌∷◌, ◌++◌, length, take, refl, sym, ap, ◌∙◌, append_assoc, get_or, length-append, arith}
-use Rattle.std.proofs.lemmas.List.{append-nil, take_more}
+use Rattle.std.proofs.Common.{◌≡◌, ℕ, ◌+◌, List, [], ◌∷◌, ◌++◌, refl, sym, ap, ◌∙◌, append_assoc}
+use Rattle.std.proofs.lemmas.List.{append-nil}
 use Rattle.std.specs.List.{AllByRecursion}
 use Rattle.hg_store.specs.Records.{digest_of, IsRecord, frame, frames, last_digest}
 
@@ -21,20 +21,3 @@ pub each-push : (rs : List (List ℕ)) (r : List ℕ) → AllByRecursion IsRecor
     → AllByRecursion IsRecord (rs ++ r ∷ [])
 each-push [] r each is = (is, tt)
 each-push (q ∷ rs) r each is = (each.0, each-push rs r each.1 is)
-
--- the records so far, with one more
-pub one_framed : (begun before : List ℕ) (batch : List (List ℕ)) (i : ℕ) (bytes grown digest next r : List ℕ)
-    → i < length batch → r ≡ get_or batch i r → bytes ≡ begun ++ frames before (take i batch)
-    → digest ≡ last_digest before (take i batch) → next ≡ digest_of digest r → grown ≡ bytes ++ frame digest r
-    → (grown ≡ begun ++ frames before (take (i + 1) batch)) × (next ≡ last_digest before (take (i + 1) batch))
-one_framed begun before batch i bytes grown digest next r lt is bytes_are digest_is next_is grown_is =
-    let e : take (i + 1) batch ≡ take i batch ++ r ∷ [] = take_more batch i r lt
-    ∙ ap (λ (x : List ℕ). take i batch ++ x ∷ []) (sym is) in (
-      grown_is ∙ ap (λ (l : List ℕ). l ++ frame digest r) bytes_are
-          ∙ append_assoc begun (frames before (take i batch)) (frame digest r)
-          ∙ ap (λ (d : List ℕ). begun ++ (frames before (take i batch) ++ frame d r)) digest_is
-          ∙ ap (λ (l : List ℕ). begun ++ l) (sym (frames-push before (take i batch) r)
-          ∙ sym (ap (frames before) e)),
-      next_is ∙ ap (λ (d : List ℕ). digest_of d r) digest_is ∙ sym (last_digest-push before (take i batch) r)
-          ∙ ap (last_digest before) (sym e),
-    )

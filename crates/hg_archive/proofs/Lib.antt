@@ -1,5 +1,3 @@
-mod Ranges
-mod Lines
 mod Frames
 mod Fronts
 mod Written

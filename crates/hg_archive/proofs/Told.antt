@@ -7,7 +7,7 @@ use Rattle.hg_store.specs.declared.head.Head.{Head}
 use Rattle.hg_devices.specs.declared.sending.Sending.{Sending}
 use Rattle.hg_devices.specs.Devices.{Output}
 use Rattle.hg_devices.specs.Sent.{Sends}
-use Rattle.hg_archive.specs.declared.fault.Ending.{Ending}
+use Rattle.hg_archive.specs.declared.fault.StoreEnd.{StoreEnd}
 use Rattle.hg_archive.specs.declared.fault.Fault.{Fault}
 use Rattle.hg_archive.specs.Reading.{IsRead}
 use Rattle.hg_archive.specs.Reporting.{IsUnreported, Reports, empty_repository, report_text, sending_fault}
@@ -16,7 +16,7 @@ use Rattle.hg_archive.specs.Logging.{IsUnlogged, TakesFront}
 use Rattle.hg_archive.specs.Logging.{unsent as log_unsent}
 
 -- the report of the records, as they were shown
-reports_is : {A : Type 0} (file : List ℕ) (head : Head) (records shown : List (List ℕ)) (ending : Ending)
+reports_is : {A : Type 0} (file : List ℕ) (head : Head) (records shown : List (List ℕ)) (ending : StoreEnd)
     (text : List ℕ) → shown ≡ records → IsRead file head records ending → (repo : RepositoryOf A)
     → Replays head.limits (empty_repository head) shown repo → text ≡ report_text repo (length shown)
     → Reports A file ending text
@@ -30,7 +30,7 @@ reports_is {A} file head records shown ending text same read repo ran text_is = 
 }
 
 -- the writer did not take the report
-pub unsent_report : {A : Type 0} (file : List ℕ) (head : Head) (records shown : List (List ℕ)) (ending : Ending)
+pub unsent_report : {A : Type 0} (file : List ℕ) (head : Head) (records shown : List (List ℕ)) (ending : StoreEnd)
     (text bytes : List ℕ) (before after : Output) (fault : Fault) → shown ≡ records
     → IsRead file head records ending → (repo : RepositoryOf A)
     → Replays head.limits (empty_repository head) shown repo → text ≡ report_text repo (length shown)
@@ -42,7 +42,7 @@ unsent_report {A} file head records shown ending text bytes before after fault s
     (subst (λ (l : List ℕ). Sends sending count before after l) is sends) fault_is
 
 -- the writer took a front of the bundles
-pub unsent_log : (file : List ℕ) (from : ℕ) (head : Head) (records shown part : List (List ℕ)) (ending : Ending)
+pub unsent_log : (file : List ℕ) (from : ℕ) (head : Head) (records shown part : List (List ℕ)) (ending : StoreEnd)
     (before after : Option (List ℕ)) (fault : Fault) → shown ≡ records → part ≡ drop from shown
     → IsRead file head records ending → TakesFront (concat part) before after fault
     → IsUnlogged file from before after fault

@@ -6,7 +6,7 @@ use Rattle.std.specs.List.{concat}
 use Rattle.std.specs.Io.KnownBytes.{Appends}
 use Rattle.hg_devices.specs.declared.sending.Sending.{Sending}
 use Rattle.hg_devices.specs.declared.sending.Sending.TheVariants.{Whole, Broken, NoMemory}
-use Rattle.hg_devices.specs.Devices.{Adds, Output}
+use Rattle.hg_devices.specs.Devices.{TellsMore, Output}
 use Rattle.hg_devices.specs.Sent.{Sends}
 use Rattle.hg_devices.proofs.CallerLemmas.{Adds-trans}
 use Rattle.hg_archive.specs.declared.fault.Fault.{Fault}
@@ -84,15 +84,15 @@ placed-push place (q ∷ rs) r =
 -- one bundle more was put
 pub one_put : (a b c : Option (List (ℕ × List ℕ))) (rs : List (List ℕ)) (first i place : ℕ) (r shown : List ℕ)
     → i < length rs → r ≡ get_or rs i r → shown ≡ r → place ≡ first + i
-    → Adds a b (placed first (take i rs)) → Adds b c ((place, shown) ∷ [])
-    → Adds a c (placed first (take (i + 1) rs))
+    → TellsMore a b (placed first (take i rs)) → TellsMore b c ((place, shown) ∷ [])
+    → TellsMore a c (placed first (take (i + 1) rs))
 one_put a b c rs first i place r shown lt is same place_is so_far more =
     let len : length (take i rs) ≡ i = omega (arith, length-take i rs, lt) in
     let e : placed first (take (i + 1) rs) ≡ placed first (take i rs) ++ (place, shown) ∷ [] =
     ap (placed first) (take_next rs i r lt is) ∙ placed-push first (take i rs) r
     ∙ ap (λ (n : ℕ). placed first (take i rs) ++ (n, r) ∷ []) (ap (λ (n : ℕ). first + n) len ∙ sym place_is)
     ∙ ap (λ (x : List ℕ). placed first (take i rs) ++ (place, x) ∷ []) (sym same) in
-    subst (λ (l : List (ℕ × List ℕ)). Adds a c l) (sym e)
+    subst (λ (l : List (ℕ × List ℕ)). TellsMore a c l) (sym e)
     (Adds-trans a b c (placed first (take i rs)) ((place, shown) ∷ []) so_far more)
 
 -- one record more was joined

@@ -4,7 +4,7 @@ use Rattle.std.specs.List.{AllByRecursion, concat}
 use Rattle.hg_store.specs.declared.head.Head.{Head}
 use Rattle.hg_store.specs.declared.record.NoRecord.{NoRecord}
 use Rattle.hg_store.specs.declared.record.NoRecord.TheVariants.{Damaged, End, Torn}
-use Rattle.hg_store.specs.Head.{BeginsWith, first_digest}
+use Rattle.hg_store.specs.Head.{BeginsWithHead, first_digest}
 use Rattle.hg_store.specs.Log.{at_rest}
 use Rattle.hg_store.specs.Records.{IsDamaged, IsEnd, IsRecord, IsTorn, frames, last_digest}
 
@@ -24,7 +24,7 @@ pub record AreFront (start bytes : List ℕ) (records : List (List ℕ)) (stop :
 -- The file begins with this head and these records, and then comes something that is no record.
 pub record IsFront (file : List ℕ) (head : Head) (records : List (List ℕ)) (stop : NoRecord) : Type 0 where
   pub behind : List ℕ
-  pub begins : BeginsWith file head behind
+  pub begins : BeginsWithHead file head behind
   pub front : AreFront (first_digest head) behind records stop
 
 -- a record stands at the place, or a torn or damaged one

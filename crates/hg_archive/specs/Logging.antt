@@ -3,8 +3,8 @@ use Rattle.std.specs.Prelude.{ℕ, ◌≡◌, ◌⊎◌, ◌+◌, List, [], ◌�
 use Rattle.std.specs.List.{concat}
 use Rattle.std.specs.Io.KnownBytes.{Appends}
 use Rattle.hg_store.specs.declared.head.Head.{Head}
-use Rattle.hg_devices.specs.Devices.{Adds}
-use Rattle.hg_archive.specs.declared.fault.Ending.{Ending}
+use Rattle.hg_devices.specs.Devices.{TellsMore}
+use Rattle.hg_archive.specs.declared.fault.StoreEnd.{StoreEnd}
 use Rattle.hg_archive.specs.declared.fault.Fault.{Fault}
 use Rattle.hg_archive.specs.declared.fault.Fault.TheVariants.{NoMemory, Unsent}
 use Rattle.hg_archive.specs.Reading.{IsRead, IsUnread}
@@ -15,7 +15,7 @@ placed place [] = []
 placed place (first ∷ others) = (place, first) ∷ placed (place + 1) others
 
 -- The file is a store, whose bundles from a place on were written, one after the other.
-pub record IsLogged (file : List ℕ) (from : ℕ) (ending : Ending) (before after : Option (List ℕ)) : Type 0
+pub record IsLogged (file : List ℕ) (from : ℕ) (ending : StoreEnd) (before after : Option (List ℕ)) : Type 0
   where
     pub head : Head
     pub records : List (List ℕ)
@@ -34,13 +34,13 @@ pub record TakesFront (all : List ℕ) (before after : Option (List ℕ)) (fault
 -- a front of them.
 pub data IsUnlogged (file : List ℕ) (from : ℕ) (before after : Option (List ℕ)) (fault : Fault) : Type 0 where
   unread : IsUnread fault file → after ≡ before → IsUnlogged file from before after fault
-  unsent : (head : Head) (records : List (List ℕ)) (ending : Ending) → IsRead file head records ending →
+  unsent : (head : Head) (records : List (List ℕ)) (ending : StoreEnd) → IsRead file head records ending →
       TakesFront (concat (drop from records)) before after fault → IsUnlogged file from before after fault
 
 -- The file is a store, whose bundles from a place on were put on a shelf, each at its place.
-pub record IsShelved (file : List ℕ) (from : ℕ) (ending : Ending)
+pub record IsShelved (file : List ℕ) (from : ℕ) (ending : StoreEnd)
     (before after : Option (List (ℕ × List ℕ))) : Type 0 where
   pub head : Head
   pub records : List (List ℕ)
   pub read : IsRead file head records ending
-  pub put : Adds before after (placed from (drop from records))
+  pub put : TellsMore before after (placed from (drop from records))

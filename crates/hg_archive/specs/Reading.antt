@@ -4,22 +4,22 @@ use Rattle.hg_store.specs.declared.head.Head.{Head}
 use Rattle.hg_store.specs.Files.{IsDamagedStore, IsStore}
 use Rattle.hg_store.specs.Head.{IsRefusedFor}
 use Rattle.hg_store.specs.Records.{IsEnd, IsTorn}
-use Rattle.hg_archive.specs.declared.fault.Ending.{Ending}
-use Rattle.hg_archive.specs.declared.fault.Ending.TheVariants.{Whole, Torn}
+use Rattle.hg_archive.specs.declared.fault.StoreEnd.{StoreEnd}
+use Rattle.hg_archive.specs.declared.fault.StoreEnd.TheVariants.{Whole, Torn}
 use Rattle.hg_archive.specs.declared.fault.Fault.{Fault}
 use Rattle.hg_archive.specs.declared.fault.Fault.TheVariants.{Head as HasNoHead, Damaged, NoMemory}
 
-abbrev pub ending_of : Bool → ℕ → Ending
+abbrev pub ending_of : Bool → ℕ → StoreEnd
 ending_of true whole = Torn whole
 ending_of false whole = Whole
 
 -- how so many whole records end, after which this stands
-abbrev pub EndsSo : Ending → ℕ → List ℕ → Type 0
+abbrev pub EndsSo : StoreEnd → ℕ → List ℕ → Type 0
 EndsSo Whole count tail = IsEnd tail
 EndsSo (Torn whole) count tail = (whole ≡ count) × IsTorn tail
 
 -- The file is a store of these records, which end so.
-pub record IsRead (file : List ℕ) (head : Head) (records : List (List ℕ)) (ending : Ending) : Type 0 where
+pub record IsRead (file : List ℕ) (head : Head) (records : List (List ℕ)) (ending : StoreEnd) : Type 0 where
   pub tail : List ℕ
   pub store : IsStore file head records tail
   pub ends : EndsSo ending (length records) tail

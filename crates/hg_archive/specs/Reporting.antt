@@ -1,9 +1,8 @@
 -- The report of what a store holds.
-use Rattle.std.specs.Prelude.{ℕ, ◌≡◌, ◌++◌, List, codes, decimal, length}
-use Rattle.std.specs.List.{flat_map, range_with_len}
+use Rattle.std.specs.Prelude.{ℕ, ◌≡◌, ◌++◌, List, length}
 use Rattle.hg_parts.specs.Repository.{empty_with}
 use Rattle.hg_push.specs.Run.{RepositoryOf}
-use Rattle.hg_repo.specs.Report.{report_of}
+use Rattle.hg_repo.specs.Report.{journal_lines, report_of}
 use Rattle.hg_restore.specs.declared.restore.RestoreFault.{RestoreFault}
 use Rattle.hg_restore.specs.declared.restore.RestoreFault.TheVariants.{NoBundle as no_bundle, Refused as refused, NoMemory as no_memory}
 use Rattle.hg_restore.specs.Replays.{Replays, StopsAt}
@@ -12,7 +11,7 @@ use Rattle.hg_devices.specs.declared.sending.Sending.{Sending}
 use Rattle.hg_devices.specs.declared.sending.Sending.TheVariants.{Whole as sent_whole, Broken, NoMemory as sent_no_memory}
 use Rattle.hg_devices.specs.Devices.{Output}
 use Rattle.hg_devices.specs.Sent.{Sends}
-use Rattle.hg_archive.specs.declared.fault.Ending.{Ending}
+use Rattle.hg_archive.specs.declared.fault.StoreEnd.{StoreEnd}
 use Rattle.hg_archive.specs.declared.fault.Fault.{Fault}
 use Rattle.hg_archive.specs.declared.fault.Fault.TheVariants.{NoBundle, Refused, NoMemory, Unsent}
 use Rattle.hg_archive.specs.Reading.{IsRead, IsUnread}
@@ -22,17 +21,13 @@ abbrev pub empty_repository : {A : Type 0} → Head → RepositoryOf A
 empty_repository head =
     empty_with (record { publishing = head.publishing; limits = head.limits; first_push = 0 })
 
--- the line of the push at a place
-abbrev pub journal_line : ℕ → List ℕ
-journal_line place = codes "J " ++ decimal place ++ codes "\n"
-
 -- the report of the repository, and after it a line for each of so many pushes
 abbrev pub report_text : {A : Type 0} → RepositoryOf A → ℕ → List ℕ
-report_text repo count = report_of repo ++ flat_map journal_line (range_with_len 0 count)
+report_text repo count = report_of repo ++ journal_lines count
 
 -- The file is a store whose records, run one by one from the empty repository, lead to a repository, and this
 -- is its report with the lines of its pushes.
-pub record Reports (A : Type 0) (file : List ℕ) (ending : Ending) (text : List ℕ) : Type 0 where
+pub record Reports (A : Type 0) (file : List ℕ) (ending : StoreEnd) (text : List ℕ) : Type 0 where
   pub head : Head
   pub records : List (List ℕ)
   pub read : IsRead file head records ending
@@ -62,8 +57,8 @@ pub data IsUntold (A : Type 0) (head : Head) (records : List (List ℕ)) (fault 
 -- was written; or the writer did not take it.
 pub data IsUnreported (A : Type 0) (file : List ℕ) (before after : Output) (fault : Fault) : Type 0 where
   unread : IsUnread fault file → after ≡ before → IsUnreported A file before after fault
-  untold : (head : Head) (records : List (List ℕ)) (ending : Ending) → IsRead file head records ending →
+  untold : (head : Head) (records : List (List ℕ)) (ending : StoreEnd) → IsRead file head records ending →
       IsUntold A head records fault → after ≡ before → IsUnreported A file before after fault
-  unsent : (ending : Ending) (text : List ℕ) (sending : Sending) (count : ℕ) →
+  unsent : (ending : StoreEnd) (text : List ℕ) (sending : Sending) (count : ℕ) →
       Reports A file ending text → Sends sending count before after text → fault ≡ sending_fault sending →
       IsUnreported A file before after fault

@@ -4,10 +4,10 @@ ghost use Rattle.std.specs.Prelude.{◌≡◌, ◌<◌, ◌+◌, ◌^◌, ◌∷
 ghost use Rattle.std.specs.Prelude.{drop, length};
 ghost use Rattle.std.specs.List.{concat};
 ghost use Rattle.std.specs.Io.KnownBytes.{Appends};
-ghost use Rattle.hg_devices.specs.Devices.{Adds};
+ghost use Rattle.hg_devices.specs.Devices.{TellsMore};
 ghost use Rattle.hg_archive.specs.Logging.{IsLogged, IsShelved, IsUnlogged, TakesFront, placed};
 
-use crate::fault::{Ending, Fault};
+use crate::fault::{Fault, StoreEnd};
 use crate::read::read_whole;
 use crate::report::sent;
 use hg_devices::Writer;
@@ -16,13 +16,13 @@ use std::alloc::Allocator;
 
 /// A place for the bundles of pushes.
 pub trait Shelf {
-    /// The places so far with their bundles, in order. It may tell none.
+    /// The places so far with their bundles, in order. It may report none.
     ghost has: { Self → Option (List (ℕ × List ℕ)) };
 
     /// Puts the bundle of the push at a place. One that is there already is not written over: that is
     /// refused.
     fn put(&mut self, place: usize, bundle: &[u8]) -> Result<(), Fault>
-        ensures put { OnOk result (Adds (has self.old) (has self.new) ((place, bundle.now) ∷ [])) }
+        ensures put { OnOk result (TellsMore (has self.old) (has self.new) ((place, bundle.now) ∷ [])) }
         ensures refused { OnErr result (has self.new ≡ has self.old) };
 }
 
@@ -34,7 +34,7 @@ pub fn send_log<A: Allocator + Copy, W: Writer>(
     file: Vec<u8, A>,
     from: usize,
     writer: &mut W,
-) -> Result<Ending, Fault>
+) -> Result<StoreEnd, Fault>
     ensures ok { IfOk result (λ ending.
         IsLogged file.items from ending (W.told writer.old).taken (W.told writer.new).taken) }
     ensures err { IfErr result (λ fault.
@@ -87,7 +87,7 @@ pub fn put_log<A: Allocator + Copy, S: Shelf>(
     file: Vec<u8, A>,
     from: usize,
     shelf: &mut S,
-) -> Result<Ending, Fault>
+) -> Result<StoreEnd, Fault>
     ensures ok { IfOk result (λ ending.
         IsShelved file.items from ending (S.has shelf.old) (S.has shelf.new)) }
 {
@@ -108,7 +108,7 @@ fn put_each<A: Allocator + Copy, S: Shelf>(
     first: usize,
 ) -> Result<(), Fault>
     requires { first + length records.now < 2 ^ 64 }
-    ensures { OnOk result (Adds (S.has shelf.old) (S.has shelf.new) (placed first records.now)) }
+    ensures { OnOk result (TellsMore (S.has shelf.old) (S.has shelf.new) (placed first records.now)) }
 {
     for (count, record) in records.iter().enumerate() {
         match shelf.put(first + count, record.as_slice()) {

@@ -1,20 +1,19 @@
 //! A store that is ended before one of its records, and what is kept of those that it loses.
 
-ghost use Rattle.std.specs.Prelude.{◌≡◌, ◌≢◌, ◌⊎◌, ◌<◌, ◌≤◌, [], ℕ, List, IfOk, IsErrOf, OnOk, ◌++◌, false, true};
+ghost use Rattle.std.specs.Prelude.{◌≡◌, ◌≢◌, ◌⊎◌, ◌<◌, ◌≤◌, [], ℕ, IfOk, IsErrOf, OnOk, false, true};
 ghost use Rattle.std.specs.Prelude.{drop, length, take};
 ghost use Rattle.std.specs.List.{AllByRecursion, concat};
 ghost use Rattle.hg_store.specs.Calls.{IsPlaced, IsPlacedWhole};
 ghost use Rattle.hg_store.specs.Log.{at_rest};
-ghost use Rattle.hg_store.specs.Records.{IsRecord, frames};
+ghost use Rattle.hg_store.specs.Records.{IsRecord};
 ghost use Rattle.hg_store.specs.declared.record.NoRecord.TheVariants.{End};
 ghost use Rattle.hg_archive.specs.Cutting.{HasNoPlace, HasPlace, IsCutOf};
 ghost use Rattle.hg_archive.specs.declared.fault.Fault.TheVariants.{NoPlace as no_place};
 
 use crate::fault::Fault;
 use crate::front::{Front, read_front};
-use hg_store::{Head, NewFile, NoRecord, put_record, put_whole};
+use hg_store::{NewFile, NoRecord, bytes_at_rest, put_whole};
 use hg_types::{NoMemory, Seq};
-use sha1::Sha1;
 use std::alloc::{Allocator, Global};
 
 /// What a cut makes of the bytes of a store.
@@ -84,39 +83,6 @@ fn joined<A: Allocator + Copy>(alloc: A, records: &[Seq<u8, A>]) -> Result<Vec<u
         bytes.extend_from_slice(record.as_slice())?;
     }
     Ok(bytes)
-}
-
-/// The bytes of a store with these records and a shut gate after them.
-fn bytes_at_rest<A: Allocator + Copy>(
-    alloc: A,
-    head: &Head,
-    records: &[Seq<u8, A>],
-) -> Result<Vec<u8, A>, NoMemory>
-    requires { AllByRecursion IsRecord records.now }
-    ensures { IfOk result (λ bytes. bytes.items ≡ at_rest head.now records.now) }
-{
-    let mut bytes = Vec::new(alloc);
-    head.put(&mut bytes)?;
-    let digest = Sha1::digest(&bytes);
-    put_frames(&mut bytes, &digest, records)?;
-    bytes.push(0)?;
-    Ok(bytes)
-}
-
-/// Appends the records, the first after one with that digest.
-fn put_frames<A: Allocator + Copy>(
-    bytes: &mut Vec<u8, A>,
-    before: &[u8; 20],
-    records: &[Seq<u8, A>],
-) -> Result<(), NoMemory>
-    requires { AllByRecursion IsRecord records.now }
-    ensures { OnOk result (bytes.new.items ≡ bytes.old.items ++ frames before.now records.now) }
-{
-    let mut digest = *before;
-    for record in records {
-        digest = put_record(bytes, &digest, record.as_slice())?;
-    }
-    Ok(())
 }
 
 /// Writes what is kept to one new file, and then the new store to another, each of which gets its name once

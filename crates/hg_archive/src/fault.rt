@@ -8,7 +8,7 @@ use thiserror::Error;
 
 /// How the records of a store end that is not damaged.
 #[derive(Clone, Copy, Debug, PartialEq, Eq)]
-pub enum Ending {
+pub enum StoreEnd {
     /// At a shut gate, or with the file.
     Whole,
     /// After so many whole ones stands a torn one.
@@ -124,7 +124,7 @@ impl ArchiveFault<'_> {
     }
 }
 
-/// What is told of a torn store, as one line without its end: how many pushes are whole, and the way out.
+/// What is reported of a torn store, as one line without its end: how many pushes are whole, and the way out.
 #[derive(Clone, Copy, Debug, PartialEq, Eq)]
 pub struct TornNote<'a> {
     pub folder: &'a str,

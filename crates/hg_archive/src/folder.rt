@@ -8,12 +8,11 @@ ghost use Rattle.hg_archive.specs.Reporting.{Reports};
 
 use crate::bundles::{put_log, send_log};
 use crate::cut::{Cut, CutFault, cut_of, put_cut};
-use crate::fault::{ArchiveFault, Ending, Fault, Named};
-use crate::host::{
-    FolderShelf, PlacedFile, fault_of, hold, opening_fault, path_in, read_all, sync_folder,
-};
+use crate::fault::{ArchiveFault, Fault, Named, StoreEnd};
+use crate::host::{FolderShelf, fault_of, opening_fault};
 use crate::report::send_report;
 use hg_devices::Writer;
+use hg_store::{Calls, PlacedFile, hold, path_in, read_all};
 use std::alloc::Allocator;
 use std::fs;
 use std::fs::{File, Files, OpenOptions};
@@ -34,7 +33,7 @@ pub fn report_store<'a, R: Files<File = File>, A: Allocator + Copy, W: Writer>(
     state: RandomState,
     folder: &'a str,
     writer: &mut W,
-) -> Result<Ending, ArchiveFault<'a>>
+) -> Result<StoreEnd, ArchiveFault<'a>>
     ensures { IfOk result (λ ending. (file : List ℕ) × (text : List ℕ) × (count : ℕ)
         × Reports A file ending text
         × Sends sent_whole count (W.told writer.old) (W.told writer.new) text) }
@@ -57,7 +56,7 @@ pub fn log_store<'a, R: Files<File = File>, A: Allocator + Copy, W: Writer>(
     folder: &'a str,
     from: usize,
     writer: &mut W,
-) -> Result<Ending, ArchiveFault<'a>>
+) -> Result<StoreEnd, ArchiveFault<'a>>
     ensures { IfOk result (λ ending. (file : List ℕ)
         × IsLogged file from ending (W.told writer.old).taken (W.told writer.new).taken) }
 {
@@ -80,7 +79,7 @@ pub fn file_log<'a, R: Files<File = File>, A: Allocator + Copy>(
     folder: &'a str,
     from: usize,
     to: &'a str,
-) -> Result<Ending, ArchiveFault<'a>> {
+) -> Result<StoreEnd, ArchiveFault<'a>> {
     let file = store_bytes(files, alloc, folder)?;
     about(make_folder(files, to), Named::Folder(to))?;
     let mut shelf = FolderShelf::of(files, alloc, to);
@@ -179,10 +178,11 @@ fn open_held<R: Files<File = File>, A: Allocator + Copy>(
         .write(true)
         .open(files, name.as_str());
     match opened {
-        Ok(file) => {
-            hold(files, &file, name.as_str())?;
-            Ok(file)
-        }
+        Ok(file) => match hold(files, &file, name.as_str()) {
+            Ok(true) => Ok(file),
+            Ok(false) => Err(Fault::Held),
+            Err(error) => Err(fault_of(error)),
+        },
         Err(error) => Err(opening_fault(error)),
     }
 }
@@ -246,7 +246,7 @@ fn kept_file<'a, R: Files<File = File>, A: Allocator + Copy>(
     folder: &'a str,
     at: usize,
 ) -> Result<PlacedFile<'a, R, A>, Fault>
-    ensures { IfOk result (λ made. made.history.events ≡ []) }
+    ensures { IfOk result (λ made. ⟦<PlacedFile<'a, R, A> as Calls>⟧.history made ≡ []) }
 {
     let name = format!(in alloc; "{folder}/pushes.cut-{at}")?;
     match fs::exists(files, name.as_str()) {
@@ -255,7 +255,7 @@ fn kept_file<'a, R: Files<File = File>, A: Allocator + Copy>(
         Err(error) => return Err(fault_of(error)),
     }
     let beside = format!(in alloc; "{folder}/pushes.cut-{at}.new")?;
-    PlacedFile::make(files, alloc, folder, beside, name, false)
+    placed_file(files, folder, beside, name, false)
 }
 
 /// The file of the new store.
@@ -264,9 +264,26 @@ fn new_file<'a, R: Files<File = File>, A: Allocator + Copy>(
     alloc: A,
     folder: &'a str,
 ) -> Result<PlacedFile<'a, R, A>, Fault>
-    ensures { IfOk result (λ made. made.history.events ≡ []) }
+    ensures { IfOk result (λ made. ⟦<PlacedFile<'a, R, A> as Calls>⟧.history made ≡ []) }
 {
     let beside = path_in(alloc, folder, NEW_NAME)?;
     let name = path_in(alloc, folder, NAME)?;
-    PlacedFile::make(files, alloc, folder, beside, name, true)
+    placed_file(files, folder, beside, name, true)
+}
+
+/// A file beside its place, which is held.
+fn placed_file<'a, R: Files<File = File>, A: Allocator + Copy>(
+    files: &'a R,
+    folder: &'a str,
+    beside: String<A>,
+    name: String<A>,
+    replaces: bool,
+) -> Result<PlacedFile<'a, R, A>, Fault>
+    ensures { IfOk result (λ made. ⟦<PlacedFile<'a, R, A> as Calls>⟧.history made ≡ []) }
+{
+    match PlacedFile::make(files, folder, beside, name, replaces) {
+        Ok(Some(file)) => Ok(file),
+        Ok(None) => Err(Fault::Held),
+        Err(error) => Err(opening_fault(error)),
+    }
 }

@@ -3,7 +3,7 @@
 ghost use Rattle.std.specs.Prelude.{◌≡◌, IfErr, IfOk, length};
 ghost use Rattle.hg_archive.specs.Reading.{IsRead, IsUnread, ending_of};
 
-use crate::fault::{Ending, Fault};
+use crate::fault::{Fault, StoreEnd};
 use hg_store::{Found, Head, ReadFault, read_records};
 use hg_types::Seq;
 use std::alloc::{Allocator, Global};
@@ -13,7 +13,7 @@ use std::alloc::{Allocator, Global};
 pub struct Whole<A: Allocator = Global> {
     pub head: Head,
     pub records: Seq<Seq<u8, A>, A>,
-    pub ending: Ending,
+    pub ending: StoreEnd,
 }
 
 /// Reads the bytes of a store, which are dropped. Of one that is damaged nothing is given.
@@ -50,12 +50,12 @@ fn whole_of<A: Allocator + Copy>(found: Found<A>) -> Whole<A>
 }
 
 /// How so many whole records end.
-fn ending_of(is_torn: bool, whole: usize) -> Ending
+fn ending_of(is_torn: bool, whole: usize) -> StoreEnd
     ensures { result ≡ ending_of is_torn whole }
 {
     if is_torn {
-        Ending::Torn(whole)
+        StoreEnd::Torn(whole)
     } else {
-        Ending::Whole
+        StoreEnd::Whole
     }
 }

@@ -1,20 +1,19 @@
 //! The report of what a store holds, to any writer.
 
-ghost use Rattle.std.specs.Prelude.{◌≡◌, ◌++◌, ℕ, List, IfErr, IfOk, OnOk, length};
-ghost use Rattle.std.specs.List.{flat_map, range_with_len};
+ghost use Rattle.std.specs.Prelude.{◌≡◌, ℕ, List, IfErr, IfOk, OnOk, length};
 ghost use Rattle.hg_types.specs.Limits.{IsAllowed};
 ghost use Rattle.hg_push.specs.Run.{RepositoryOf};
 ghost use Rattle.hg_restore.specs.Replays.{Replays};
 ghost use Rattle.hg_devices.specs.declared.sending.Sending.{Sending as AnySending};
 ghost use Rattle.hg_devices.specs.declared.sending.Sending.TheVariants.{Whole as sent_whole};
 ghost use Rattle.hg_devices.specs.Sent.{Sends};
-ghost use Rattle.hg_archive.specs.Reporting.{IsUnreported, IsUntold, Reports, empty_repository, journal_line};
+ghost use Rattle.hg_archive.specs.Reporting.{IsUnreported, IsUntold, Reports, empty_repository};
 ghost use Rattle.hg_archive.specs.Reporting.{report_text, sending_fault, unrun_fault};
 
-use crate::fault::{Ending, Fault};
+use crate::fault::{Fault, StoreEnd};
 use crate::read::read_whole;
 use hg_devices::{Sending, Writer, send};
-use hg_repo::Repo;
+use hg_repo::{Repo, add_journal_lines};
 use hg_restore::{RestoreFault, replay_records};
 use hg_store::Head;
 use hg_types::{NoMemory, Seq, Settings};
@@ -30,7 +29,7 @@ pub fn send_report<A: Allocator + Copy, W: Writer>(
     state: RandomState,
     file: Vec<u8, A>,
     writer: &mut W,
-) -> Result<Ending, Fault>
+) -> Result<StoreEnd, Fault>
     ensures ok { IfOk result (λ ending. (text : List ℕ) × (count : ℕ) × Reports A file.items ending text
         × Sends sent_whole count (W.told writer.old) (W.told writer.new) text) }
     ensures err { IfErr result (λ fault.
@@ -111,36 +110,8 @@ fn told_text<A: Allocator + Copy>(
     ensures { IfOk result (λ text. text.items ≡ report_text repo.now count) }
 {
     let mut text = repo.report()?;
-    add_lines(alloc, &mut text, count)?;
+    add_journal_lines(alloc, &mut text, count)?;
     Ok(text)
-}
-
-/// Adds a line for each of so many pushes.
-fn add_lines<A: Allocator + Copy>(
-    alloc: A,
-    text: &mut Vec<u8, A>,
-    count: usize,
-) -> Result<(), NoMemory>
-    ensures { OnOk result (text.new.items ≡ text.old.items
-        ++ flat_map journal_line (range_with_len 0 count)) }
-{
-    for place in 0..count {
-        add_line(alloc, text, place)?;
-    }
-    Ok(())
-}
-
-/// Adds the line of a push.
-fn add_line<A: Allocator + Copy>(
-    alloc: A,
-    text: &mut Vec<u8, A>,
-    place: usize,
-) -> Result<(), NoMemory>
-    ensures { OnOk result (text.new.items ≡ text.old.items ++ journal_line place) }
-{
-    let line = format!(in alloc; "J {place}\n")?;
-    text.extend_from_slice(line.as_bytes())?;
-    Ok(())
 }
 
 /// Writes the bytes and flushes.

@@ -64,10 +64,10 @@ fn beside_a_server(rt: HostRuntime) -> Result<(), Fail> {
     fill(&rt, folder)?;
     let opened = open_store(&rt, alloc, folder, &head(false))?;
     let mut text = Vec::new(alloc);
-    assert!(rt; report_store(&rt, alloc, state, folder, &mut text) == Ok(Ending::Whole));
+    assert!(rt; report_store(&rt, alloc, state, folder, &mut text) == Ok(StoreEnd::Whole));
     assert!(rt; text.as_slice() == MARKERS.as_bytes());
     let mut log = Vec::new(alloc);
-    assert!(rt; log_store(&rt, alloc, folder, 1, &mut log) == Ok(Ending::Whole));
+    assert!(rt; log_store(&rt, alloc, folder, 1, &mut log) == Ok(StoreEnd::Whole));
     assert!(rt; log.len() == 80 && &log.as_slice()[12..] == TWO.as_slice());
     let held = ArchiveFault {
         file: Named::Store(folder),
@@ -82,7 +82,7 @@ fn beside_a_server(rt: HostRuntime) -> Result<(), Fail> {
     torn.push(1)?;
     fs::write(&rt, name, torn.as_slice())?;
     let mut text = Vec::new(alloc);
-    assert!(rt; report_store(&rt, alloc, state, folder, &mut text) == Ok(Ending::Torn(3)));
+    assert!(rt; report_store(&rt, alloc, state, folder, &mut text) == Ok(StoreEnd::Torn(3)));
     assert!(rt; text.as_slice() == MARKERS.as_bytes());
     let note = TornNote { folder, whole: 3 };
     let told = format!(in alloc; "{note}")?;
@@ -106,7 +106,7 @@ fn a_log_in_a_folder(rt: HostRuntime) -> Result<(), Fail> {
     let to = "hg_archive_logged/log";
     let alloc = rt.alloc();
     fill(&rt, folder)?;
-    assert!(rt; file_log(&rt, alloc, folder, 1, to) == Ok(Ending::Whole));
+    assert!(rt; file_log(&rt, alloc, folder, 1, to) == Ok(StoreEnd::Whole));
     assert_eq!(rt; fs::exists(&rt, "hg_archive_logged/log/0000000000")?, false);
     assert!(rt; fs::read(&rt, "hg_archive_logged/log/0000000001")?.as_slice() == EMPTY.as_slice());
     assert!(rt; fs::read(&rt, "hg_archive_logged/log/0000000002")?.as_slice() == TWO.as_slice());

@@ -1,8 +1,9 @@
 //! Stores in memory: reports, logs and cuts.
 
 use crate::made::*;
-use crate::paper::{Board, Narrow, Paper};
+use crate::paper::{Board, Narrow};
 use hg_archive::*;
+use hg_help_tests::paper::Paper;
 use hg_store::HeadFault;
 use linked_list_allocator::LocalHeap;
 use std::alloc::{Allocator, Global};
@@ -11,7 +12,7 @@ use std::process::Abort;
 use std::test::*;
 
 /// What came of a report, and its text.
-type Told = (Result<Ending, Fault>, Vec<u8>);
+type Told = (Result<StoreEnd, Fault>, Vec<u8>);
 
 fn report_of(rt: &HostRuntime, state: RandomState, file: &[u8]) -> Result<Told, Fail> {
     let mut text = Vec::new(rt.alloc());
@@ -43,15 +44,15 @@ fn reports(rt: HostRuntime) -> Result<(), Fail> {
     let alloc = rt.alloc();
     let markers = shut_store(alloc, false, &[&ONE, &EMPTY, &TWO])?;
     let (told, text) = report_of(&rt, state, &markers)?;
-    assert!(rt; told == Ok(Ending::Whole) && text.as_slice() == MARKERS.as_bytes());
+    assert!(rt; told == Ok(StoreEnd::Whole) && text.as_slice() == MARKERS.as_bytes());
     let (told, text) = report_of(&rt, state, &shut_store(alloc, false, &[])?)?;
-    assert!(rt; told == Ok(Ending::Whole) && text.is_empty());
+    assert!(rt; told == Ok(StoreEnd::Whole) && text.is_empty());
     let public = "C 0 b80de5d138758541c5f05265ad144ab9fa86d1db 0 0\nJ 0\n";
     let (told, text) = report_of(&rt, state, &shut_store(alloc, true, &[&CHANGESET])?)?;
-    assert!(rt; told == Ok(Ending::Whole) && text.as_slice() == public.as_bytes());
+    assert!(rt; told == Ok(StoreEnd::Whole) && text.as_slice() == public.as_bytes());
     let draft = "C 0 b80de5d138758541c5f05265ad144ab9fa86d1db 1 0\nJ 0\n";
     let (told, text) = report_of(&rt, state, &store_of(alloc, false, &[&CHANGESET])?)?;
-    assert!(rt; told == Ok(Ending::Whole) && text.as_slice() == draft.as_bytes());
+    assert!(rt; told == Ok(StoreEnd::Whole) && text.as_slice() == draft.as_bytes());
     Ok(())
 }
 
@@ -72,16 +73,16 @@ fn cut_at_each_length(rt: HostRuntime) -> Result<(), Fail> {
             assert!(rt; told == Err(Fault::Head(HeadFault::TooShort)) && text.is_empty());
         } else if len < 256 {
             let ending = if len == 38 {
-                Ending::Whole
+                StoreEnd::Whole
             } else {
-                Ending::Torn(0)
+                StoreEnd::Torn(0)
             };
             assert!(rt;
                 told == Ok(ending) && text.is_empty() && log.is_empty(),
                 "{len} bytes"
             );
         } else {
-            assert!(rt; told == Ok(Ending::Whole) && text.as_slice() == draft.as_bytes());
+            assert!(rt; told == Ok(StoreEnd::Whole) && text.as_slice() == draft.as_bytes());
             assert!(rt; log.as_slice() == CHANGESET.as_slice(), "{len} bytes");
         }
     }
@@ -104,8 +105,8 @@ fn one_byte_turned(rt: HostRuntime) -> Result<(), Fail> {
             "at {at}"
         );
         match at {
-            38 => assert!(rt; told == Ok(Ending::Whole)),
-            39..42 => assert!(rt; told == Ok(Ending::Torn(0)), "at {at}"),
+            38 => assert!(rt; told == Ok(StoreEnd::Whole)),
+            39..42 => assert!(rt; told == Ok(StoreEnd::Torn(0)), "at {at}"),
             _ => assert!(rt; told == Err(Fault::Damaged(0)), "at {at}"),
         }
         file[at] ^= 1;
@@ -125,7 +126,7 @@ fn records_that_do_not_run(rt: HostRuntime) -> Result<(), Fail> {
     let (told, text) = report_of(&rt, state, &file)?;
     assert!(rt; told == Err(Fault::Refused(1)) && text.is_empty());
     let (told, log) = log_of(&rt, &file, 1)?;
-    assert!(rt; told == Ok(Ending::Whole) && log.as_slice() == UNKNOWN.as_slice());
+    assert!(rt; told == Ok(StoreEnd::Whole) && log.as_slice() == UNKNOWN.as_slice());
     let file = shut_store(rt.alloc(), false, &[&ONE, &EMPTY, &EMPTY[..11]])?;
     let (told, text) = report_of(&rt, state, &file)?;
     assert!(rt; told == Err(Fault::NoBundle(2)) && text.is_empty());
@@ -142,7 +143,7 @@ fn logs(rt: HostRuntime) -> Result<(), Fail> {
     for from in 0..5usize {
         let wanted = joined(alloc, &bundles[from.min(3)..])?;
         let (told, log) = log_of(&rt, &file, from)?;
-        assert!(rt; told == Ok(Ending::Whole) && log.as_slice() == wanted.as_slice());
+        assert!(rt; told == Ok(StoreEnd::Whole) && log.as_slice() == wanted.as_slice());
         let mut board = Board {
             alloc,
             places: Vec::new(alloc),
@@ -150,7 +151,7 @@ fn logs(rt: HostRuntime) -> Result<(), Fail> {
             taken: 3,
         };
         let told = put_log(alloc, file.to_vec(alloc)?, from, &mut board);
-        assert!(rt; told == Ok(Ending::Whole) && board.bytes.as_slice() == wanted.as_slice());
+        assert!(rt; told == Ok(StoreEnd::Whole) && board.bytes.as_slice() == wanted.as_slice());
         let places: [usize; 3] = [0, 1, 2];
         assert!(rt; board.places.as_slice() == &places[from.min(3)..]);
     }
@@ -210,10 +211,10 @@ fn a_writer_that_fails(rt: HostRuntime) -> Result<(), Fail> {
 }
 
 /// Whether memory was refused, and then nothing was written; else all was done.
-fn was_refused(told: Result<Ending, Fault>, text: &[u8], wanted: &[u8]) -> Option<bool> {
+fn was_refused(told: Result<StoreEnd, Fault>, text: &[u8], wanted: &[u8]) -> Option<bool> {
     match told {
         Err(Fault::NoMemory) if text.is_empty() => Some(true),
-        Ok(Ending::Whole) if text == wanted => Some(false),
+        Ok(StoreEnd::Whole) if text == wanted => Some(false),
         _ => None,
     }
 }
@@ -321,8 +322,8 @@ fn new_files_that_fail(rt: HostRuntime) -> Result<(), Fail> {
     let file = shut_store(alloc, false, &[&ONE, &EMPTY, &TWO])?;
     let cut = cut_of(alloc, &file, 1)?;
     for calls in 0..9usize {
-        let mut kept = Paper::new(alloc, calls.min(4));
-        let mut new = Paper::new(alloc, calls.saturating_sub(4));
+        let mut kept = Paper::new(alloc, &[], calls.min(4))?;
+        let mut new = Paper::new(alloc, &[], calls.saturating_sub(4))?;
         let told = put_cut(&cut, &mut kept, &mut new);
         let wanted = match calls {
             0..4 => Err(CutFault::Kept),
@@ -331,10 +332,8 @@ fn new_files_that_fail(rt: HostRuntime) -> Result<(), Fail> {
         };
         assert!(rt; told == wanted, "{calls} calls");
         assert!(rt; kept.is_named == (calls >= 3) && new.is_named == (calls >= 7));
-        assert!(rt;
-            !kept.is_named || kept.is_synced && kept.bytes.as_slice() == cut.kept.as_slice()
-        );
-        assert!(rt; !new.is_named || new.is_synced && new.bytes.as_slice() == cut.left.as_slice());
+        assert!(rt; !kept.is_named || kept.synced.as_slice() == cut.kept.as_slice());
+        assert!(rt; !new.is_named || new.synced.as_slice() == cut.left.as_slice());
     }
     Ok(())
 }

@@ -1,4 +1,4 @@
--- What is told of a store that is not opened.
+-- What is reported of a store that is not opened.
 use Rattle.std.specs.Prelude.{ℕ, Option, Some, None}
 use Rattle.hg_store.specs.declared.device.DeviceError.TheVariants as device
 use Rattle.hg_store.specs.declared.read.ReadFault.TheVariants as read

@@ -3,9 +3,11 @@ use Rattle.std.specs.Prelude.{ℕ, ◌≡◌, Bool, List, [], ◌∷◌, length}
 use Rattle.hg_types.specs.Limits.{standard_limits}
 use Rattle.hg_store.specs.declared.head.Head.{Head}
 use Rattle.hg_store.specs.Log.{IsSettled}
-use Rattle.hg_restore.specs.Replays.{Replays}
+use Rattle.hg_restore.specs.Replays.{Replays, StopsAt}
+use Rattle.hg_restore.specs.declared.restore.RestoreFault.{RestoreFault}
 use Rattle.hg_replay.specs.Answering.{empty_repository}
 use Rattle.hg_push.specs.Run.{RepositoryOf}
+use Rattle.hg_store.specs.declared.log.Log.{Log}
 use Rattle.hg_opening.specs.declared.opening.Recovered.{Recovered}
 
 -- the head of a store of a server that publishes, or does not
@@ -29,3 +31,13 @@ pub record IsOpened {D : Type 0} (seen : D → List ℕ) (may_leave : D → List
   pub settled : IsSettled seen may_leave (head_of opened.publishing) (records_of opened.records.items) opened.log
   pub recovered : IsRecovered opened.publishing (head_of opened.publishing) (records_of opened.records.items) opened.repo
   pub count : opened.stored ≡ length (records_of opened.records.items)
+
+-- the records, run one by one on the empty repository, stop at one of them, for that reason
+abbrev pub StopsOpening : Type 0 → Bool → List (List ℕ) → RestoreFault → Type 0
+StopsOpening A publishing records fault =
+    (last : RepositoryOf A) × StopsAt standard_limits (empty_repository publishing) records fault last
+
+-- the same of a store of such a server that was opened: all of its records are on the device
+abbrev pub StopsStored : {D : Type 0} → Type 0 → (D → List ℕ) → (D → List ℕ → Type 0) → Bool → RestoreFault → Type 0
+StopsStored {D} A seen may_leave publishing fault = (records : List (List ℕ)) × (log : Log D)
+    × IsSettled seen may_leave (head_of publishing) records log × StopsOpening A publishing records fault

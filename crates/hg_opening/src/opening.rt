@@ -1,15 +1,19 @@
 //! A store that is opened, and the repository that its records lead to.
 
-ghost use Rattle.std.specs.Prelude.{◌≡◌, IfOk};
+ghost use Rattle.std.specs.Prelude.{◌≡◌, ◌⊎◌, [], IfErr, IfOk, IsErrOf};
+ghost use Rattle.hg_restore.specs.declared.restore.RestoreFault.{RestoreFault as AnyRestoreFault};
 ghost use Rattle.hg_store.specs.Log.{IsSettled};
+ghost use Rattle.hg_store.specs.Openings.{IsOfFolder, IsUnopened};
+ghost use Rattle.hg_store.specs.declared.start.StoreFault.{StoreFault as AnyStoreFault};
 ghost use Rattle.hg_opening.specs.Faults.{status_of, whole_before_torn};
-ghost use Rattle.hg_opening.specs.Opening.{head_of, IsOpened};
+ghost use Rattle.hg_opening.specs.Opening.{head_of, IsOpened, StopsOpening, StopsStored};
+ghost use Rattle.hg_opening.specs.declared.opening.OpeningFault.TheVariants.{Restore as unrestored, Store as no_store};
 
 use hg_replay::empty_repository;
 use hg_repo::Repo;
 use hg_restore::{RestoreFault, replay_records};
 use hg_store::{
-    Device, DeviceError, Head, HostFile, Log, Opened, ReadFault, RecoverFault, StoreFault,
+    Calls, Device, DeviceError, Head, HostFile, Log, Opened, ReadFault, RecoverFault, StoreFault,
     StoreFile, create_store, open_store,
 };
 use hg_types::{Limits, Seq};
@@ -56,12 +60,16 @@ impl OpeningFault {
 }
 
 impl From<StoreFault> for OpeningFault {
+    ghost from_gives = { λ fault told. told ≡ no_store fault };
+
     fn from(fault: StoreFault) -> Self {
         OpeningFault::Store(fault)
     }
 }
 
 impl From<RestoreFault> for OpeningFault {
+    ghost from_gives = { λ fault told. told ≡ unrestored fault };
+
     fn from(fault: RestoreFault) -> Self {
         OpeningFault::Restore(fault)
     }
@@ -91,8 +99,13 @@ pub fn recover_store<R: Files<File = File>>(
     folder: &str,
     publishing: bool,
 ) -> Result<Recovered<StoreFile<HostFile>>, OpeningFault>
-    ensures { IfOk result (λ recovered. IsOpened ⟦<StoreFile<HostFile> as Device>⟧.seen
+    ensures ok { IfOk result (λ recovered. IsOpened ⟦<StoreFile<HostFile> as Device>⟧.seen
         ⟦<StoreFile<HostFile> as Device>⟧.may_leave recovered × (recovered.publishing ≡ publishing)) }
+    ensures stops { (fault : AnyRestoreFault) → IsErrOf result (unrestored fault) →
+        StopsStored Global ⟦<StoreFile<HostFile> as Device>⟧.seen ⟦<StoreFile<HostFile> as Device>⟧.may_leave
+        publishing fault }
+    ensures unopened { (fault : AnyStoreFault) → IsErrOf result (no_store fault) → IsOfFolder fault
+        ⊎ ((read : HostFile) × IsUnopened fault (head_of publishing) [] (⟦<HostFile as Calls>⟧.history read)) }
 {
     let head = head_of(publishing);
     let opened = open_or_create(files, alloc, folder, &head)?;
@@ -117,8 +130,10 @@ fn open_or_create<R: Files<File = File>>(
     folder: &str,
     head: &Head,
 ) -> Result<Opened<HostFile>, StoreFault>
-    ensures { IfOk result (λ opened. IsSettled ⟦<StoreFile<HostFile> as Device>⟧.seen
+    ensures ok { IfOk result (λ opened. IsSettled ⟦<StoreFile<HostFile> as Device>⟧.seen
         ⟦<StoreFile<HostFile> as Device>⟧.may_leave head.now opened.records opened.log) }
+    ensures err { IfErr result (λ fault. IsOfFolder fault ⊎ ((read : HostFile)
+        × IsUnopened fault head.now [] (⟦<HostFile as Calls>⟧.history read))) }
 {
     match open_store(files, alloc, folder, head) {
         Err(StoreFault::Missing) => {
@@ -129,7 +144,8 @@ fn open_or_create<R: Files<File = File>>(
     }
 }
 
-/// Runs the records of a log that is open on the empty repository.
+/// Runs the records of a log that is open on the empty repository. An `Err` says why one of them is not run, as
+/// [`replay_records`] does.
 pub fn recover_records<D: Device + Drop>(
     alloc: Global,
     state: RandomState,
@@ -138,8 +154,9 @@ pub fn recover_records<D: Device + Drop>(
     records: &Seq<Seq<u8>>,
 ) -> Result<Recovered<D>, RestoreFault>
     requires { IsSettled D.seen D.may_leave (head_of publishing) records.now log }
-    ensures { IfOk result (λ recovered. IsOpened D.seen D.may_leave recovered
+    ensures ok { IfOk result (λ recovered. IsOpened D.seen D.may_leave recovered
         × (recovered.publishing ≡ publishing)) }
+    ensures err { IfErr result (λ fault. StopsOpening Global publishing records.now fault) }
 {
     let mut repo = empty_repository(alloc, state, publishing);
     replay_records(alloc, &mut repo, records.as_slice())?;

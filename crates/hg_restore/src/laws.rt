@@ -36,7 +36,7 @@ pub fn a_front_of_records_runs<A: Allocator>()
         Replays limits first (front ++ back) last }
 {}
 
-/// Records that run are told as damaged by nothing: where they do not run to their end, memory was refused.
+/// Nothing reports records that run as damaged: where they do not run to their end, memory was refused.
 pub fn records_that_run_are_not_damaged<A: Allocator>()
     ensures { (limits : AnyLimits) (first last mid : RepositoryOf A) (records : List (List ℕ))
         (fault : AnyFault) → Replays limits first records last →

@@ -5,7 +5,7 @@ ghost use Rattle.hg_types.specs.declared.limits.Limits.{Limits as AnyLimits};
 ghost use Rattle.hg_types.specs.Limits.{IsAllowed};
 ghost use Rattle.hg_stream.specs.declared.state.State.TheVariants.{Reading};
 ghost use Rattle.hg_stream.specs.Frames.{IsBundle};
-ghost use Rattle.hg_stream.specs.Unbundler.{Holds, limits_of, ready_of, state_of};
+ghost use Rattle.hg_stream.specs.Unbundler.{HoldsBundle, limits_of, ready_of, state_of};
 ghost use Rattle.hg_parts.specs.declared.refusal.Refusal.{Refusal as AnyRefusal};
 ghost use Rattle.hg_push.specs.Run.{RepositoryOf};
 ghost use Rattle.hg_restore.specs.declared.restore.RestoreFault.TheVariants.{NoMemory as OutOfMemory};
@@ -14,7 +14,7 @@ ghost use Rattle.hg_restore.specs.Replays.{IsUnrun, Replays, ReplaysOne, StopsAt
 use hg_push::laws::memory_refuses_no_part;
 use hg_repo::{Refusal, Repo, Source};
 use hg_stream::laws::{parts_are_few, streams_have_one_verdict};
-use hg_stream::{State, StreamFault, Unbundler};
+use hg_stream::{State, StreamFault, Unbundler, all_parts};
 use hg_types::{NoMemory, Part, Seq};
 use std::alloc::Allocator;
 use thiserror::Error;
@@ -41,7 +41,7 @@ impl From<NoMemory> for RestoreFault {
     }
 }
 
-/// Runs the records as pushes, one after the other. An `Err` tells why one is not run: its place, where it is
+/// Runs the records as pushes, one after the other. An `Err` says why one is not run: its place, where it is
 /// damaged, as it is no bundle or its push is not done; or that memory was refused. The repository is then the
 /// one that the records before it lead to.
 pub fn replay_records<A: Allocator + Copy>(
@@ -108,7 +108,7 @@ fn run_parts<A: Allocator + Copy>(
     }
 }
 
-/// What the refusal of a record's push is told as.
+/// What the refusal of a record's push is reported as.
 fn refused_fault<A: Allocator>(place: usize, refusal: &Refusal<A>) -> RestoreFault
     ensures memory { refusal.now ≡ AnyRefusal.NoMemory → result ≡ RestoreFault.NoMemory }
     ensures other { refusal.now ≢ AnyRefusal.NoMemory → result ≡ RestoreFault.Refused place }
@@ -125,7 +125,7 @@ fn feed_whole<A: Allocator + Copy>(
     place: usize,
     bytes: &[u8],
 ) -> Result<(), RestoreFault>
-    requires empty { Holds bundle.old [] [] }
+    requires empty { HoldsBundle bundle.old [] [] }
     requires reading { state_of bundle.old ≡ Reading }
     ensures ok { OnOk result (IsBundle (limits_of bundle.old) bytes.now (ready_of bundle.new)) }
     ensures err { (repo : RepositoryOf A) →
@@ -146,7 +146,7 @@ fn feed_whole<A: Allocator + Copy>(
     }
 }
 
-/// What a fault of a record's bytes is told as.
+/// What a fault of a record's bytes is reported as.
 fn stream_fault(place: usize, fault: StreamFault) -> RestoreFault
     ensures memory { fault ≡ StreamFault.NoMemory → result ≡ RestoreFault.NoMemory }
     ensures other { fault ≢ StreamFault.NoMemory → result ≡ RestoreFault.NoBundle place }
@@ -155,18 +155,4 @@ fn stream_fault(place: usize, fault: StreamFault) -> RestoreFault
         StreamFault::NoMemory => RestoreFault::NoMemory,
         _ => RestoreFault::NoBundle(place),
     }
-}
-
-/// The parts that the bundle has finished.
-fn all_parts<A: Allocator + Copy>(
-    alloc: A,
-    bundle: &mut Unbundler<A>,
-) -> Result<Vec<Part<A>, A>, NoMemory>
-    ensures { IfOk result (λ parts. parts.items ≡ ready_of bundle.old) }
-{
-    let mut parts = Vec::new(alloc);
-    while let Some(part) = bundle.next_part() {
-        parts.push(part)?;
-    }
-    Ok(parts)
 }

@@ -6,7 +6,7 @@ use Rattle.std.specs.List.{AllByRecursion}
 use Rattle.hg_types.specs.Limits.{IsAllowed}
 use Rattle.hg_store.specs.declared.head.Head.{Head}
 use Rattle.hg_store.specs.code.Fronts.{Begins}
-use Rattle.hg_store.specs.Device.{Holds, Torn, MayBeTorn, Only}
+use Rattle.hg_store.specs.Device.{Overwrites, Torn, MayBeTorn, Only}
 use Rattle.hg_store.specs.Files.{IsStore, StandsFor, digest_behind, stored}
 use Rattle.hg_store.specs.Head.{first_digest, head_bytes}
 use Rattle.hg_store.specs.Log.{at_rest, ungated, IsBeforeOrAfter}
@@ -93,7 +93,7 @@ module _ (head : Head) (records batch : List (List ℕ)) (allowed : IsAllowed he
   pub all_each : AllByRecursion IsRecord (records ++ batch)
   all_each = each-append records batch each others
 
-  pub written_gate : (c : List ℕ) → Holds staged (length (stored head records)) (1 ∷ []) c
+  pub written_gate : (c : List ℕ) → Overwrites staged (length (stored head records)) (1 ∷ []) c
       → c ≡ at_rest head (records ++ batch)
   written_gate c holds =
       holds
@@ -122,6 +122,6 @@ module _ (head : Head) (records batch : List (List ℕ)) (allowed : IsAllowed he
 
 -- the same write, told of equal values
 pub holds_same : (old other : List ℕ) (at there : ℕ) (bytes more new : List ℕ) → old ≡ other → at ≡ there
-    → bytes ≡ more → Holds old at bytes new → Holds other there more new
+    → bytes ≡ more → Overwrites old at bytes new → Overwrites other there more new
 holds_same old other at there bytes more new a b c held =
     held ∙ (λ i. take (b i) (a i) ++ c i ++ drop (b i + length (c i)) (a i))

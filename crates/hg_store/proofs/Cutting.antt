@@ -1,12 +1,14 @@
 -- A store that is ended before one of its records.
 use Rattle.std.proofs.Common.{◌≡◌, ◌⊎◌, inl, inr, ◌∙◌, sym, ap, subst, ℕ, ◌<◌, List, [], ◌∷◌, ◌++◌, length, take, drop, Bool, true, false, arith}
-use Rattle.std.specs.Prelude.{Err, Result}
 use Rattle.sha1.specs.Sha1.{sha1}
 use Rattle.hg_store.specs.declared.head.Head.{Head}
 use Rattle.hg_store.specs.declared.start.StoreFault.{StoreFault}
-use Rattle.hg_store.specs.declared.start.StoreFault.TheVariants.{NoPlace}
-use Rattle.hg_store.specs.Calls.{Event, IsPlaced, IsPlacedWhole}
-use Rattle.hg_store.specs.Cuts.{HasPlace, IsCutAt, IsNoPlaceOf}
+use Rattle.hg_store.specs.declared.start.StoreFault.TheVariants.{Recover}
+use Rattle.hg_store.specs.declared.opening.RecoverFault.TheVariants.{Device}
+use Rattle.hg_store.specs.declared.device.DeviceError.{DeviceError}
+use Rattle.hg_store.specs.declared.device.DeviceError.TheVariants.{Failed}
+use Rattle.hg_store.specs.Calls.{Event, HasFailed, IsPlaced, IsPlacedWhole, began}
+use Rattle.hg_store.specs.Cuts.{HasPlace, IsCutAt, IsHalfCutAt, IsNoPlaceOf, IsUncut}
 use Rattle.hg_store.specs.Files.{IsStore}
 use Rattle.hg_store.specs.Head.{first_digest, head_bytes}
 use Rattle.hg_store.specs.Log.{at_rest}
@@ -51,21 +53,48 @@ behind : (tail : List ℕ) (at count : ℕ) (is_torn : Bool) → (count < at) �
 behind tail at count is_torn (inl less) whole = inl less
 behind tail at count is_torn (inr end) whole = inr (end.0, whole end.1)
 
-pub no_place_is : (bytes shown : List ℕ) (at count told end : ℕ) (head : Head) (records : List (List ℕ))
+pub no_place_is : (bytes shown : List ℕ) (at count end : ℕ) (head : Head) (records : List (List ℕ))
     (is_torn : Bool) → shown ≡ bytes → IsStore shown head records (drop end shown) → count ≡ length records
-    → told ≡ count → (count < at) ⊎ ((at ≡ count) × (is_torn ≡ false))
-    → (is_torn ≡ false → IsEnd (drop end shown)) → IsNoPlaceOf bytes at told
-no_place_is bytes shown at count told end head records is_torn shown_is store count_is told_is place whole = record {
+    → (count < at) ⊎ ((at ≡ count) × (is_torn ≡ false)) → (is_torn ≡ false → IsEnd (drop end shown))
+    → IsNoPlaceOf bytes at count
+no_place_is bytes shown at count end head records is_torn shown_is store count_is place whole = record {
   head = head;
   records = records;
   tail = drop end shown;
   store = subst (λ f. IsStore f head records (drop end shown)) shown_is store;
-  count_is = told_is ∙ count_is;
-  behind = subst (λ n. (n < at) ⊎ ((at ≡ n) × IsEnd (drop end shown))) (sym told_is)
-      (behind (drop end shown) at count is_torn place whole);
+  count_is = count_is;
+  behind = behind (drop end shown) at count is_torn place whole;
 }
 
--- which place was told
-pub told_is : {T : Type 0} (result : Result T StoreFault) (count told : ℕ) → result ≡ Err (NoPlace count)
-    → result ≡ Err (NoPlace told) → told ≡ count
-told_is result count told made is = cc
+half_cut_is : (bytes shown : List ℕ) (at count end : ℕ) (kept : List (List ℕ)) (whole : List ℕ) (head : Head)
+    (records : List (List ℕ)) (is_torn : Bool) (calls : List Event) → shown ≡ bytes
+    → IsStore shown head records (drop end shown) → count ≡ length records
+    → (at < count) ⊎ ((at ≡ count) × (is_torn ≡ true)) → (is_torn ≡ true → IsTorn (drop end shown))
+    → kept ≡ take at records → whole ≡ at_rest head kept → IsPlacedWhole whole calls → HasFailed calls
+    → IsHalfCutAt bytes at calls
+half_cut_is bytes shown at count end kept whole head records is_torn calls shown_is store count_is place torn kept_is whole_is is_whole failed = record {
+  head = head;
+  records = records;
+  tail = drop end shown;
+  store = subst (λ f. IsStore f head records (drop end shown)) shown_is store;
+  place = has_place records (drop end shown) at count is_torn count_is place torn;
+  whole = subst (λ f. IsPlacedWhole f calls) (whole_is ∙ ap (at_rest head) kept_is) is_whole;
+  failed = failed;
+}
+
+-- and where the new file failed
+pub uncut_is : (bytes shown : List ℕ) (at count end : ℕ) (kept : List (List ℕ)) (whole : List ℕ) (head : Head)
+    (records : List (List ℕ)) (is_torn : Bool) (calls before after : List Event) (fault : DeviceError)
+    (told : StoreFault) → shown ≡ bytes → IsStore shown head records (drop end shown) → count ≡ length records
+    → (at < count) ⊎ ((at ≡ count) × (is_torn ≡ true)) → (is_torn ≡ true → IsTorn (drop end shown))
+    → kept ≡ take at records → whole ≡ at_rest head kept → IsPlacedWhole whole calls
+    → (fault ≡ Failed) × HasFailed calls → told ≡ Recover (Device fault) → after ≡ began bytes ∷ before
+    → IsUncut told at before after calls
+uncut_is bytes shown at count end kept whole head records is_torn calls before after fault told shown_is store count_is place torn kept_is whole_is is_whole failed told_is read =
+    subst (λ f. IsUncut f at before after calls) (sym (told_is ∙ ap (λ f. Recover (Device f)) failed.0))
+    (inr (
+      bytes,
+      read,
+      half_cut_is bytes shown at count end kept whole head records is_torn calls shown_is store count_is place torn
+          kept_is whole_is is_whole failed.1,
+    ))

@@ -4,7 +4,7 @@ use Rattle.std.proofs.Common.{refl, sym, ap, ◌∙◌, subst, arith, append_ass
 use Rattle.std.proofs.Math.Nat.{le-max_left, le-max_right}
 use Rattle.std.proofs.lemmas.List.{take_at, drop_at, take_all, length-take-le}
 use Rattle.hg_store.specs.Calls.{Event, MayLeave, shortened, state_of, wrote}
-use Rattle.hg_store.specs.Device.{Cut, Holds, Torn}
+use Rattle.hg_store.specs.Device.{Cut, Overwrites, Torn}
 
 cut_same : (len : ℕ) (file : List ℕ) → Cut len file file
 cut_same len file = record { no_shorter = inr refl; front = take_all (length file) file (omega arith) }

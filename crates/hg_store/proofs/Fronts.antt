@@ -8,7 +8,7 @@ use Rattle.hg_types.specs.Limits.{IsAllowed}
 use Rattle.hg_store.specs.declared.head.Head.{Head}
 use Rattle.hg_store.specs.Files.{FrontIsStore, stored}
 use Rattle.hg_store.specs.Head.{first_digest, head_bytes}
-use Rattle.hg_store.specs.Records.{size_bytes, digest_of, IsRecord, frame, frames, IsEnd, over, shut, IsTorn, short, cut_off, Reads}
+use Rattle.hg_store.specs.Records.{size_bytes, digest_of, IsRecord, frame, frames, IsEnd, over, shut, IsTorn, short, cut_off, ReadsRecords}
 use Rattle.hg_store.proofs.Frames.{length-frame, length-digest}
 use Rattle.hg_store.proofs.Heads.{length-head}
 
@@ -16,7 +16,7 @@ use Rattle.hg_store.proofs.Heads.{length-head}
 record FrontReads (start : List ℕ) (records : List (List ℕ)) (n : ℕ) (front : List ℕ) : Type 0 where
   pub count : ℕ
   pub tail : List ℕ
-  pub reads : Reads start front (take count records) tail
+  pub reads : ReadsRecords start front (take count records) tail
   pub few : count ≤ length records
   pub whole : length (frames start (take count records)) ≤ n
   pub most : (count ≡ length records) ⊎ (n < length (frames start (take (count + 1) records)))

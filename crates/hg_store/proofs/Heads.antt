@@ -7,13 +7,13 @@ use Rattle.hg_types.specs.Limits.{IsAllowed}
 use Rattle.hg_store.specs.declared.head.Head.{Head}
 use Rattle.hg_store.specs.declared.head.HeadFault.{HeadFault}
 use Rattle.hg_store.specs.declared.head.HeadFault.TheVariants.{TooShort, Magic, Version, Publishing, BadLimits}
-use Rattle.hg_store.specs.Head.{Fits, HasBadLimits, magic, publishing_byte, limit_bytes, limits_bytes, head_bytes, BeginsWith, HasHead, IsRefusedFor, HasOneHead}
+use Rattle.hg_store.specs.Head.{LimitsFit, HasBadLimits, magic, publishing_byte, limit_bytes, limits_bytes, head_bytes, BeginsWithHead, HasHead, IsRefusedFor, HasOneHead}
 use Rattle.hg_store.proofs.Frames.{size_is}
 
 pub length-head : (head : Head) → length (head_bytes head) ≡ 38
 length-head head = refl
 
-pub allowed_fits : (limits : Limits) → IsAllowed limits → Fits limits
+pub allowed_fits : (limits : Limits) → IsAllowed limits → LimitsFit limits
 allowed_fits limits is = record {
   params = omega (arith, is.params.1);
   payload = omega (arith, is.payload.1);
@@ -25,7 +25,7 @@ allowed_fits limits is = record {
 }
 
 -- the same bytes are the same limits
-pub limits_are : (a b : Limits) (x y : List ℕ) → Fits a → Fits b → limits_bytes a ++ x ≡ limits_bytes b ++ y
+pub limits_are : (a b : Limits) (x y : List ℕ) → LimitsFit a → LimitsFit b → limits_bytes a ++ x ≡ limits_bytes b ++ y
     → a ≡ b
 limits_are a b x y fa fb same =
     let params = size_is a.params b.params _ _ fa.params fb.params same in
@@ -136,7 +136,7 @@ bit (suc (suc n)) small = absurd (omega (arith, small))
 pub bad_limits : (file first behind second third more : List ℕ) (version publishing : ℕ) (limits : Limits)
     → 38 ≤ length file → first ≡ take 8 file → behind ≡ drop 8 file → first ≡ magic → behind ≡ version ∷ second
     → version ≡ 1 → second ≡ publishing ∷ third → publishing ≤ 1 → third ≡ limits_bytes limits ++ more
-    → Fits limits → (IsAllowed limits → ⊥) → HasBadLimits file
+    → LimitsFit limits → (IsAllowed limits → ⊥) → HasBadLimits file
 bad_limits file first behind second third more version publishing limits long front back magic_is behind_is version_is second_is small third_is fits bad =
     let told = bit publishing small in
     record {

@@ -6,7 +6,7 @@ use Rattle.hg_store.specs.declared.head.Head.{Head}
 use Rattle.hg_store.specs.Files.{IsStore}
 use Rattle.hg_store.specs.Head.{first_digest, head_bytes}
 use Rattle.hg_store.proofs.Heads.{heads_are}
-use Rattle.hg_store.specs.Records.{size_bytes, digest_of, IsRecord, frame, frames, last_digest, IsEnd, over, shut, IsTorn, short, cut_off, IsDamaged, no_gate, other_digest, IsNext, Reads}
+use Rattle.hg_store.specs.Records.{size_bytes, digest_of, IsRecord, frame, frames, last_digest, IsEnd, over, shut, IsTorn, short, cut_off, IsDamaged, no_gate, other_digest, IsNext, ReadsRecords}
 use Rattle.hg_store.proofs.Frames.{frame_is, frame_fields, fronts, length-frame, length-digest, size_is}
 
 gates : (a b : ℕ) (x y bytes : List ℕ) → bytes ≡ a ∷ x → bytes ≡ b ∷ y → a ≡ b

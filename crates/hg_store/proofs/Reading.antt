@@ -3,7 +3,7 @@ use Rattle.std.proofs.Common.{◌≡◌, ◌⊎◌, inl, inr, Bool, true, false,
 use Rattle.std.proofs.Common.{append_assoc, length-append}
 use Rattle.std.proofs.lemmas.List.{drop_at}
 use Rattle.std.specs.List.{AllByRecursion}
-use Rattle.hg_store.specs.Records.{digest_of, IsRecord, frame, frames, last_digest, IsEnd, IsTorn, IsNext, IsDamaged, Reads}
+use Rattle.hg_store.specs.Records.{digest_of, IsRecord, frame, frames, last_digest, IsEnd, IsTorn, IsNext, IsDamaged, ReadsRecords}
 use Rattle.sha1.specs.Sha1.{sha1}
 use Rattle.hg_store.specs.declared.head.Head.{Head}
 use Rattle.hg_store.specs.Files.{IsDamagedStore, IsStore}
@@ -58,7 +58,7 @@ module _ (start file : List ℕ) (records : List (List ℕ)) (digest rest : List
   rest_is end is = ap (drop end) has.spelled ∙ drop_at (frames start records) rest end (sym (end_is end is))
 
   pub all_read : (end : ℕ) → end ≡ length file - length rest → IsEnd rest ⊎ IsTorn rest
-      → Reads start file records (drop end file)
+      → ReadsRecords start file records (drop end file)
   all_read end is ends = record {
     each = has.each;
     ends = subst (λ (l : List ℕ). IsEnd l ⊎ IsTorn l) (sym (rest_is end is)) ends;
@@ -100,18 +100,18 @@ module _ (file : List ℕ) (head : Head) (has : HasHead file head) where
       ∙ ap (drop end) (sym behind_head ∙ sym is)
 
   pub store_is : (first start behind : List ℕ) (records : List (List ℕ)) (end : ℕ) → first ≡ take 38 file
-      → behind ≡ drop 38 file → start ≡ sha1 first → Reads start behind records (drop end behind)
+      → behind ≡ drop 38 file → start ≡ sha1 first → ReadsRecords start behind records (drop end behind)
       → IsStore file head records (drop (38 + end) file)
   store_is first start behind records end front back digest reads =
-      let from : Reads (first_digest head) behind records (drop end behind) =
-      subst (λ (d : List ℕ). Reads d behind records (drop end behind)) (start_is first start front digest) reads in
-      let is : Reads (first_digest head) behind records (drop (38 + end) file) =
-      subst (Reads (first_digest head) behind records) (sym (tail_is end behind back)) from in
+      let from : ReadsRecords (first_digest head) behind records (drop end behind) =
+      subst (λ (d : List ℕ). ReadsRecords d behind records (drop end behind)) (start_is first start front digest) reads in
+      let is : ReadsRecords (first_digest head) behind records (drop (38 + end) file) =
+      subst (ReadsRecords (first_digest head) behind records) (sym (tail_is end behind back)) from in
       let at : behind ≡ has.0 = back ∙ behind_head in
       record {
         behind = has.0;
         begins = has.1;
-        reads = subst (λ (l : List ℕ). Reads (first_digest head) l records (drop (38 + end) file)) at is;
+        reads = subst (λ (l : List ℕ). ReadsRecords (first_digest head) l records (drop (38 + end) file)) at is;
       }
 
   pub damage_is : (first start behind : List ℕ) (whole : ℕ) (records : List (List ℕ)) (tail : List ℕ)

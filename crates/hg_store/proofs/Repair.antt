@@ -5,7 +5,7 @@ use Rattle.std.specs.Prelude.{OnOk}
 use Rattle.std.proofs.lemmas.List.{take_at, take_all, drop_all, append-nil}
 use Rattle.std.specs.List.{AllByRecursion}
 use Rattle.hg_store.specs.declared.head.Head.{Head}
-use Rattle.hg_store.specs.Device.{Cut, Holds, MayBeCut, MayBeTorn, Only, Torn}
+use Rattle.hg_store.specs.Device.{Cut, Overwrites, MayBeCut, MayBeTorn, Only, Torn}
 use Rattle.hg_store.specs.Files.{EndsAt, IsStore, IsTornStore, StandsFor, stored}
 use Rattle.hg_store.specs.Head.{first_digest, head_bytes}
 use Rattle.hg_store.specs.Log.{at_rest}
@@ -77,7 +77,7 @@ module _ (head : Head) (records : List (List ℕ)) (end : ℕ) (file : List ℕ)
     bare = is ∙ ap (λ (l : List ℕ). stored head records ++ l)
         (has_none tail rest.stands.2 (omega (arith, no_more, size))) ∙ append-nil (stored head records)
 
-    pub gate_done : (c : List ℕ) → Holds file end (0 ∷ []) c → c ≡ at_rest head records
+    pub gate_done : (c : List ℕ) → Overwrites file end (0 ∷ []) c → c ≡ at_rest head records
     gate_done c holds =
         holds
         ∙ ap (λ (l : List ℕ). l ++ (0 ∷ []) ++ drop (end + 1) file) (take_all end file no_more ∙ bare)

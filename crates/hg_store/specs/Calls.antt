@@ -1,5 +1,5 @@
 -- The calls on a file with their answers, and what they make of it where each did what it answered.
-use Rattle.std.specs.Prelude.{ℕ, zero, suc, ◌≡◌, ◌⊎◌, ◌+◌, ◌≤◌, Bool, true, false, List, [], ◌∷◌, ◌++◌, length, take, drop, ⊤}
+use Rattle.std.specs.Prelude.{ℕ, zero, suc, ◌≡◌, ◌⊎◌, ◌+◌, ◌<◌, ◌≤◌, Bool, true, false, List, [], ◌∷◌, ◌++◌, length, take, drop, ⊤}
 use Rattle.hg_store.specs.Device.{Cut, Only, Torn}
 
 -- A call: which one, a place or a length, bytes, and whether it answered Ok.
@@ -43,7 +43,7 @@ pub record FileState : Type 0 where
   -- how many did
   pub faults : ℕ
 
--- a sync after a call that failed tells nothing
+-- a sync after a call that failed reports nothing
 abbrev pub after_sync : Bool → FileState → FileState
 after_sync false file = record file { kept = file.seen; since = [] }
 after_sync true file = file
@@ -75,20 +75,24 @@ state_from held (call ∷ earlier) = after_call call.0 call.1 call.2 call.3 (sta
 abbrev pub state_of : List Event → FileState
 state_of calls = state_from [] calls
 
+-- a call of these failed
+abbrev pub HasFailed : List Event → Type 0
+HasFailed calls = 0 < (state_of calls).faults
+
 -- what a crash may make of a write or a cut that was not synced
-abbrev pub Leaves : ℕ → ℕ → List ℕ → List ℕ → List ℕ → Type 0
-Leaves (suc zero) at bytes old new = Torn at bytes old new
-Leaves which len bytes old new = Cut len old new
+abbrev pub CrashLeaves : ℕ → ℕ → List ℕ → List ℕ → List ℕ → Type 0
+CrashLeaves (suc zero) at bytes old new = Torn at bytes old new
+CrashLeaves which len bytes old new = Cut len old new
 
 -- the file of the last sync, after what a crash made of each write and cut since
-abbrev pub Reaches : List ℕ → List Event → List ℕ → Type 0
-Reaches kept [] left = left ≡ kept
-Reaches kept (call ∷ earlier) left =
-    (before : List ℕ) × Reaches kept earlier before × Leaves call.0 call.1 call.2 before left
+abbrev pub CrashReaches : List ℕ → List Event → List ℕ → Type 0
+CrashReaches kept [] left = left ≡ kept
+CrashReaches kept (call ∷ earlier) left =
+    (before : List ℕ) × CrashReaches kept earlier before × CrashLeaves call.0 call.1 call.2 before left
 
 -- what a crash may leave: all that was written, or what it made of it
 abbrev pub MayLeave : FileState → List ℕ → Type 0
-MayLeave file left = (left ≡ file.seen) ⊎ Reaches file.kept file.since left
+MayLeave file left = (left ≡ file.seen) ⊎ CrashReaches file.kept file.since left
 
 -- the same at some moment before the newest call and not before the t-th
 abbrev pub LeftBefore : List Event → ℕ → List ℕ → Type 0

@@ -4,8 +4,8 @@ use Rattle.hg_store.specs.declared.device.DeviceError.{DeviceError}
 use Rattle.hg_store.specs.declared.device.DeviceError.TheVariants.{Failed, Full}
 
 -- new is old with these bytes at this offset
-abbrev pub Holds : List ℕ → ℕ → List ℕ → List ℕ → Type 0
-Holds old at bytes new = new ≡ take at old ++ bytes ++ drop (at + length bytes) old
+abbrev pub Overwrites : List ℕ → ℕ → List ℕ → List ℕ → Type 0
+Overwrites old at bytes new = new ≡ take at old ++ bytes ++ drop (at + length bytes) old
 
 -- After a write of these bytes that a crash cuts short: any bytes in the range and past the old end, the
 -- same elsewhere. A write of one byte is not cut short: it is made, or it is not.
@@ -14,7 +14,7 @@ pub record Torn (at : ℕ) (bytes old new : List ℕ) : Type 0 where
   pub after : drop (at + length bytes) new ≡ drop (at + length bytes) old
   pub no_shorter : length old ≤ length new
   pub no_longer : length new ≤ max (length old) (at + length bytes)
-  pub one_byte : length bytes ≡ 1 → (new ≡ old) ⊎ Holds old at bytes new
+  pub one_byte : length bytes ≡ 1 → (new ≡ old) ⊎ Overwrites old at bytes new
 
 -- after a cut: some length between
 pub record Cut (n : ℕ) (old new : List ℕ) : Type 0 where
@@ -22,8 +22,8 @@ pub record Cut (n : ℕ) (old new : List ℕ) : Type 0 where
   pub front : take (length new) old ≡ new
 
 -- each new outcome of a crash is an old outcome after a step
-abbrev pub Follows : (List ℕ → List ℕ → Type 0) → (List ℕ → Type 0) → (List ℕ → Type 0) → Type 0
-Follows step old new = (c : List ℕ) → new c → (d : List ℕ) × old d × step d c
+abbrev pub CrashesFollow : (List ℕ → List ℕ → Type 0) → (List ℕ → Type 0) → (List ℕ → Type 0) → Type 0
+CrashesFollow step old new = (c : List ℕ) → new c → (d : List ℕ) × old d × step d c
 
 -- a crash leaves this and nothing else
 abbrev pub Only : List ℕ → (List ℕ → Type 0) → Type 0
@@ -58,7 +58,7 @@ pub record IsUnchanged {D : Type 0} (seen : D → List ℕ) (may_leave : D → L
     pub same : seen new ≡ seen old
     pub outcomes : (c : List ℕ) → may_leave new c → may_leave old c
 
--- `Failed` is told only where the disk has failed since, and `Full` is not told
+-- `Failed` is reported only where the disk has failed since, and `Full` is not reported
 pub record HasCause {T : Type 0} (before now : ℕ) (result : Result T DeviceError) : Type 0 where
   pub later : before ≤ now
   pub failed : IsErrOf result Failed → before < now

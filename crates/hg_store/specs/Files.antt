@@ -4,8 +4,8 @@ use Rattle.std.specs.List.{AllByRecursion}
 use Rattle.hg_store.specs.declared.head.Head.{Head}
 use Rattle.hg_store.specs.declared.read.ReadFault.{ReadFault}
 use Rattle.hg_store.specs.declared.read.ReadFault.TheVariants.{Head as HasNoHead, Damaged, NoMemory}
-use Rattle.hg_store.specs.Head.{BeginsWith, IsRefusedFor, first_digest, head_bytes}
-use Rattle.hg_store.specs.Records.{IsDamaged, IsEnd, IsRecord, IsTorn, Reads, frames, last_digest}
+use Rattle.hg_store.specs.Head.{BeginsWithHead, IsRefusedFor, first_digest, head_bytes}
+use Rattle.hg_store.specs.Records.{IsDamaged, IsEnd, IsRecord, IsTorn, ReadsRecords, frames, last_digest}
 
 -- a head, and records after it
 abbrev pub stored : Head → List (List ℕ) → List ℕ
@@ -18,8 +18,8 @@ digest_behind head records = last_digest (first_digest head) records
 -- The file is this head, these records, and a tail that begins with no whole one.
 pub record IsStore (file : List ℕ) (head : Head) (records : List (List ℕ)) (tail : List ℕ) : Type 0 where
   pub behind : List ℕ
-  pub begins : BeginsWith file head behind
-  pub reads : Reads (first_digest head) behind records tail
+  pub begins : BeginsWithHead file head behind
+  pub reads : ReadsRecords (first_digest head) behind records tail
 
 -- the file stands for these records: it is not torn after them
 abbrev pub StandsFor : Head → List (List ℕ) → List ℕ → Type 0
@@ -43,7 +43,7 @@ pub record IsTornStore (file : List ℕ) (whole : ℕ) : Type 0 where
 pub record IsDamagedStore (file : List ℕ) (whole : ℕ) : Type 0 where
   pub head : Head
   pub behind : List ℕ
-  pub begins : BeginsWith file head behind
+  pub begins : BeginsWithHead file head behind
   pub records : List (List ℕ)
   pub tail : List ℕ
   pub each : AllByRecursion IsRecord records

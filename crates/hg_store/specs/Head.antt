@@ -29,7 +29,7 @@ limits_bytes limits =
     ++ limit_bytes limits.revisions)))))
 
 -- each limit has four bytes
-pub record Fits (limits : Limits) : Type 0 where
+pub record LimitsFit (limits : Limits) : Type 0 where
   pub params : limits.params < 2 ^ 32
   pub payload : limits.payload < 2 ^ 32
   pub stream : limits.stream < 2 ^ 32
@@ -47,20 +47,20 @@ abbrev pub first_digest : Head → List ℕ
 first_digest head = sha1 (head_bytes head)
 
 -- The file begins with this head, and then this follows.
-pub record BeginsWith (file : List ℕ) (head : Head) (behind : List ℕ) : Type 0 where
+pub record BeginsWithHead (file : List ℕ) (head : Head) (behind : List ℕ) : Type 0 where
   pub spelled : file ≡ head_bytes head ++ behind
   pub allowed : IsAllowed head.limits
 
 -- the head stands at the front of the file
 abbrev pub HasHead : List ℕ → Head → Type 0
-HasHead file head = (behind : List ℕ) × BeginsWith file head behind
+HasHead file head = (behind : List ℕ) × BeginsWithHead file head behind
 
 -- The first eight of at least 38 bytes are no magic.
 pub record HasOtherMagic (file : List ℕ) : Type 0 where
   pub long : 37 < length file
   pub other : take 8 file ≢ magic
 
--- After the magic another version is told than 1.
+-- After the magic stands another version than 1.
 pub record HasOtherVersion (file : List ℕ) : Type 0 where
   pub long : 37 < length file
   pub version : ℕ

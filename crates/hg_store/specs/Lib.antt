@@ -7,4 +7,5 @@ pub mod Calls
 pub mod History
 pub mod FileLaws
 pub mod Cuts
+pub mod Openings
 pub mod code

@@ -44,7 +44,7 @@ pub data IsTorn (tail : List ℕ) : Type 0 where
       length part < 20 + size → IsTorn tail
 
 -- The bytes are these records, the first after that digest, and a tail that begins with no whole one.
-pub record Reads (start bytes : List ℕ) (records : List (List ℕ)) (tail : List ℕ) : Type 0 where
+pub record ReadsRecords (start bytes : List ℕ) (records : List (List ℕ)) (tail : List ℕ) : Type 0 where
   pub each : AllByRecursion IsRecord records
   pub ends : IsEnd tail ⊎ IsTorn tail
   pub spelled : bytes ≡ frames start records ++ tail

@@ -2,7 +2,7 @@
 
 ghost use Rattle.std.specs.Prelude.{◌≡◌, ◌≤◌, List, ℕ, length, take, IfOk, OnOk};
 ghost use Rattle.hg_store.specs.declared.device.DeviceError.TheVariants.{Memory};
-ghost use Rattle.hg_store.specs.Device.{Only, Follows, Torn, Cut, Holds, Elapses, HasCause};
+ghost use Rattle.hg_store.specs.Device.{Only, CrashesFollow, Torn, Cut, Overwrites, Elapses, HasCause};
 
 use hg_types::NoMemory;
 use std::alloc::{AllocError, AllocFailed, Allocator};
@@ -76,8 +76,8 @@ pub trait Device {
     /// but a write of one byte it leaves made or not made.
     fn write_at(&mut self, at: usize, bytes: &[u8]) -> Result<(), DeviceError>
         requires { at ≤ length (seen self.old) }
-        ensures written { OnOk result (Holds (seen self.old) at bytes.now (seen self.new)) }
-        ensures crash { Follows (Torn at bytes.now) (may_leave self.old) (may_leave self.new) }
+        ensures written { OnOk result (Overwrites (seen self.old) at bytes.now (seen self.new)) }
+        ensures crash { CrashesFollow (Torn at bytes.now) (may_leave self.old) (may_leave self.new) }
         ensures time { Elapses (moment self.old) (moment self.new) (left_since self.old) (left_since self.new)
             (may_leave self.new) }
         ensures cause { HasCause (faults self.old) (faults self.new) result };
@@ -86,7 +86,7 @@ pub trait Device {
     fn cut(&mut self, len: usize) -> Result<(), DeviceError>
         requires { len ≤ length (seen self.old) }
         ensures cut { OnOk result (seen self.new ≡ take len (seen self.old)) }
-        ensures crash { Follows (Cut len) (may_leave self.old) (may_leave self.new) }
+        ensures crash { CrashesFollow (Cut len) (may_leave self.old) (may_leave self.new) }
         ensures time { Elapses (moment self.old) (moment self.new) (left_since self.old) (left_since self.new)
             (may_leave self.new) }
         ensures cause { HasCause (faults self.old) (faults self.new) result };

@@ -2,7 +2,7 @@
 
 ghost use Rattle.std.specs.Prelude.{◌≡◌, ◌<◌, ◌≤◌, ◌+◌, ◌^◌, ◌++◌, ◌∷◌, ◌↔◌, List, ℕ, IfErr, IfOk, IsTrue, OnOk};
 ghost use Rattle.std.specs.Prelude.{length};
-ghost use Rattle.hg_store.specs.Head.{Fits, HasHead, IsRefusedFor, head_bytes, limit_bytes, limits_bytes};
+ghost use Rattle.hg_store.specs.Head.{LimitsFit, HasHead, IsRefusedFor, head_bytes, limit_bytes, limits_bytes};
 
 use hg_types::{Limits, NoMemory};
 use std::alloc::Allocator;
@@ -25,7 +25,7 @@ pub struct Head {
     pub limits: Limits,
 }
 
-/// Why a file has no head. Of several reasons the first of these is told.
+/// Why a file has no head. Of several reasons the first of these is reported.
 #[derive(Clone, Copy, Debug, PartialEq, Eq, Error)]
 pub enum HeadFault {
     /// There are fewer than 38 bytes.
@@ -114,7 +114,7 @@ fn put_u32<A: Allocator>(number: u32, out: &mut Vec<u8, A>) -> Result<(), NoMemo
 fn read_limits(bytes: &[u8]) -> Limits
     requires { 28 ≤ length bytes.now }
     ensures spelled { (behind : List ℕ) × (bytes.now ≡ limits_bytes result ++ behind) }
-    ensures fits { Fits result }
+    ensures fits { LimitsFit result }
 {
     let (params, bytes) = read_u32(bytes);
     let (payload, bytes) = read_u32(bytes);

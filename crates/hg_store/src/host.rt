@@ -41,6 +41,14 @@ impl HostFile {
     }
 }
 
+/// All bytes of a file that was not read yet.
+pub fn read_all<A: Allocator + Copy>(alloc: A, file: &mut File) -> io::Result<Vec<u8, A>> {
+    let mut bytes = Vec::new(alloc);
+    bytes.reserve(file.metadata()?.len() as usize)?;
+    file.read_to_end(&mut bytes)?;
+    Ok(bytes)
+}
+
 /// All bytes of a file, read from the disk: what the system keeps of it is brought there and dropped first,
 /// since after a sync that failed it may be other than what the disk has.
 fn read_anew<A: Allocator + Copy>(alloc: A, file: &mut File) -> io::Result<Vec<u8, A>> {
@@ -50,10 +58,7 @@ fn read_anew<A: Allocator + Copy>(alloc: A, file: &mut File) -> io::Result<Vec<u
         return Err(io::Error::from_raw_os_error(advised));
     }
     file.seek(SeekFrom::Start(0))?;
-    let mut bytes = Vec::new(alloc);
-    bytes.reserve(file.metadata()?.len() as usize)?;
-    file.read_to_end(&mut bytes)?;
-    Ok(bytes)
+    read_all(alloc, file)
 }
 
 /// The error of the system as a device reports it.

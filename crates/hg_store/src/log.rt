@@ -5,7 +5,7 @@
 
 ghost use Rattle.std.specs.Prelude.{◌≡◌, ◌<◌, ◌≤◌, ◌+◌, ◌^◌, ◌++◌, ℕ, List, drop, length, OnOk, IfOk, IsErrOf};
 ghost use Rattle.std.specs.List.{AllByRecursion};
-ghost use Rattle.hg_store.specs.Device.{Holds, LeavesOnly, MayBeTorn, Only};
+ghost use Rattle.hg_store.specs.Device.{Overwrites, LeavesOnly, MayBeTorn, Only};
 ghost use Rattle.hg_store.specs.Records.{IsRecord, frames, last_digest};
 ghost use Rattle.hg_store.specs.declared.head.Head.{Head};
 ghost use Rattle.hg_store.specs.Log.{IsBeforeOrAfter, IsSettled, ungated};
@@ -126,7 +126,7 @@ pub(crate) fn put_synced<D: Device>(
     bytes: &[u8],
 ) -> Result<(), DeviceError>
     requires { at ≤ length (D.seen device.old) }
-    ensures written { OnOk result (Holds (D.seen device.old) at bytes.now (D.seen device.new)) }
+    ensures written { OnOk result (Overwrites (D.seen device.old) at bytes.now (D.seen device.new)) }
     ensures durable { OnOk result (Only (D.seen device.new) (D.may_leave device.new)) }
     ensures any_moment { LeavesOnly D.moment D.left_since device.old device.new
         (MayBeTorn at bytes.now (D.may_leave device.old)) }

@@ -1,12 +1,13 @@
 //! A new file that gets the name of a store once it is whole.
 
-ghost use Rattle.std.specs.Prelude.{◌≡◌, ◌≤◌, ◌<◌, ◌∷◌, ◌⊎◌, [], List, ℕ, IfOk, IsErrOf, OnOk, is_ok, true, false};
+ghost use Rattle.std.specs.Prelude.{◌≡◌, ◌≤◌, ◌<◌, ◌∷◌, ◌⊎◌, [], List, ℕ, IfErr, IfOk, OnOk, is_ok, true, false};
 ghost use Rattle.std.specs.List.{AllByRecursion};
-ghost use Rattle.hg_store.specs.Calls.{IsPlaced, IsPlacedWhole, began, placed};
-ghost use Rattle.hg_store.specs.Cuts.{IsCutAt, IsNoPlaceOf};
+ghost use Rattle.hg_store.specs.Calls.{HasFailed, IsPlaced, IsPlacedWhole, began, placed};
+ghost use Rattle.hg_store.specs.Cuts.{IsCutAt, IsUncut};
 ghost use Rattle.hg_store.specs.Log.{at_rest};
 ghost use Rattle.hg_store.specs.Records.{IsRecord};
-ghost use Rattle.hg_store.specs.declared.start.StoreFault.TheVariants.{NoPlace};
+ghost use Rattle.hg_store.specs.declared.opening.RecoverFault.TheVariants.{Device as device_fault};
+ghost use Rattle.hg_store.specs.declared.start.StoreFault.TheVariants.{Recover};
 
 use crate::calls::Calls;
 use crate::device::DeviceError;
@@ -32,6 +33,8 @@ pub fn put_whole<N: NewFile>(file: &mut N, bytes: &[u8]) -> Result<(), DeviceErr
     requires { N.Calls.history file.old ≡ [] }
     ensures whole { IsPlacedWhole bytes.now (N.Calls.history file.new) }
     ensures placed { OnOk result (IsPlaced (N.Calls.history file.new)) }
+    ensures failed { IfErr result (λ fault. (fault ≡ DeviceError.Failed)
+        × HasFailed (N.Calls.history file.new)) }
 {
     told(file.shorten(0))?;
     told(file.write(0, bytes))?;
@@ -49,6 +52,8 @@ pub fn create_file<N: NewFile, A: Allocator + Copy>(
     requires { N.Calls.history new.old ≡ [] }
     ensures whole { IsPlacedWhole (at_rest head.now []) (N.Calls.history new.new) }
     ensures placed { OnOk result (IsPlaced (N.Calls.history new.new)) }
+    ensures failed { IfErr result (λ fault. (fault ≡ Recover (device_fault DeviceError.Memory))
+        ⊎ ((fault ≡ Recover (device_fault DeviceError.Failed)) × HasFailed (N.Calls.history new.new))) }
 {
     let none: Vec<Seq<u8, A>, A> = Vec::new(alloc);
     let bytes = bytes_at_rest(alloc, head, &none)?;
@@ -69,9 +74,8 @@ pub fn cut_file<C: Calls, N: NewFile, A: Allocator + Copy>(
     ensures cut { IfOk result (λ left_out. (bytes : List ℕ)
         × (C.Calls.history old.new ≡ began bytes ∷ C.Calls.history old.old)
         × IsCutAt bytes at left_out (N.Calls.history new.new)) }
-    ensures no_place { (count : ℕ) → IsErrOf result (NoPlace count) → (bytes : List ℕ)
-        × (C.Calls.history old.new ≡ began bytes ∷ C.Calls.history old.old)
-        × IsNoPlaceOf bytes at count × (N.Calls.history new.new ≡ []) }
+    ensures err { IfErr result (λ fault. IsUncut fault at (C.Calls.history old.old) (C.Calls.history old.new)
+        (N.Calls.history new.new)) }
 {
     let bytes = old.begin(alloc)?;
     let found = read_records(alloc, bytes.as_slice())?;
@@ -100,7 +104,7 @@ fn has_place(at: usize, count: usize, is_torn: bool) -> bool
 }
 
 /// The bytes of a store with these records and a shut gate after them.
-fn bytes_at_rest<A: Allocator + Copy>(
+pub fn bytes_at_rest<A: Allocator + Copy>(
     alloc: A,
     head: &Head,
     records: &[Seq<u8, A>],

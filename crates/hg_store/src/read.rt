@@ -6,7 +6,7 @@ ghost use Rattle.hg_store.specs.declared.head.HeadFault.{HeadFault};
 ghost use Rattle.hg_store.specs.declared.read.ReadFault.TheVariants.{Head as no_head, Damaged as damaged};
 ghost use Rattle.hg_store.specs.Files.{IsDamagedStore, IsStore, digest_behind, stored};
 ghost use Rattle.hg_store.specs.Head.{IsRefusedFor};
-ghost use Rattle.hg_store.specs.Records.{IsDamaged, IsEnd, IsRecord, IsTorn, Reads, frames, last_digest};
+ghost use Rattle.hg_store.specs.Records.{IsDamaged, IsEnd, IsRecord, IsTorn, ReadsRecords, frames, last_digest};
 ghost use Rattle.hg_store.specs.declared.record.NoRecord.TheVariants.{Damaged, End, Torn};
 ghost use Rattle.std.specs.List.{AllByRecursion};
 
@@ -68,7 +68,7 @@ pub struct Found<A: Allocator = Global> {
     pub is_torn: bool,
 }
 
-/// Reads a store: its head, and its records up to its end or up to a torn record. A file with no head is
+/// ReadsRecords a store: its head, and its records up to its end or up to a torn record. A file with no head is
 /// refused, and so is one with damage.
 pub fn read_records<A: Allocator + Copy>(alloc: A, file: &[u8]) -> Result<Found<A>, ReadFault>
     ensures store { IfOk result (λ found. IsStore file.now found.head found.records (drop found.end file.now)) }
@@ -104,13 +104,13 @@ struct Frames<A: Allocator> {
     is_torn: bool,
 }
 
-/// Reads the records after a head, the first of which stands after that digest.
+/// ReadsRecords the records after a head, the first of which stands after that digest.
 fn read_frames<A: Allocator + Copy>(
     alloc: A,
     start: &[u8; 20],
     bytes: &[u8],
 ) -> Result<Frames<A>, ReadFault>
-    ensures read { IfOk result (λ found. Reads start.now bytes.now found.records (drop found.end bytes.now)) }
+    ensures read { IfOk result (λ found. ReadsRecords start.now bytes.now found.records (drop found.end bytes.now)) }
     ensures digest { IfOk result (λ found. found.digest ≡ last_digest start.now found.records) }
     ensures end { IfOk result (λ found. found.end ≡ length (frames start.now found.records)) }
     ensures torn { IfOk result (λ found. found.is_torn ≡ true → IsTorn (drop found.end bytes.now)) }

@@ -1,10 +1,10 @@
 //! A store in a file that is opened for more records, or cut.
 
-ghost use Rattle.std.specs.Prelude.{◌≡◌, ◌≢◌, IfOk, IsErrOf, OnOk};
+ghost use Rattle.std.specs.Prelude.{◌≡◌, IfErr, IfOk, OnOk};
 ghost use Rattle.hg_store.specs.Head.{HasHead};
 ghost use Rattle.hg_store.specs.Log.{IsSettled};
+ghost use Rattle.hg_store.specs.Openings.{IsRefusedAs, IsUnopened};
 ghost use Rattle.hg_store.specs.declared.head.Head.{Head as AnyHead};
-ghost use Rattle.hg_store.specs.declared.start.StoreFault.TheVariants.{OtherLimits, OtherPublishing};
 
 use crate::calls::Calls;
 use crate::device::{Device, DeviceError};
@@ -112,8 +112,8 @@ pub struct Opened<C: Calls, A: Allocator + Copy = Global> {
 }
 
 /// Opens the store of a server that is set up in this way: reads it, and brings its end in order as
-/// [`recover`] does. A store with another head is refused, and so is one that [`recover`] refuses; then
-/// nothing in it is changed.
+/// [`recover`] does. A store with another head is refused, and so is one that [`recover`] refuses, each for what
+/// was read; then nothing in it is changed.
 pub fn open_file<C: Calls, A: Allocator + Copy>(
     alloc: A,
     calls: C,
@@ -121,6 +121,8 @@ pub fn open_file<C: Calls, A: Allocator + Copy>(
 ) -> Result<Opened<C, A>, StoreFault>
     ensures settled { IfOk result (λ opened. IsSettled ⟦<StoreFile<C, A> as Device>⟧.seen
         ⟦<StoreFile<C, A> as Device>⟧.may_leave head.now opened.records opened.log) }
+    ensures err { IfErr result (λ fault. (read : C)
+        × IsUnopened fault head.now (C.Calls.history calls) (C.Calls.history read)) }
 {
     let mut calls = calls;
     let bytes = calls.begin(alloc)?;
@@ -142,10 +144,7 @@ pub fn open_file<C: Calls, A: Allocator + Copy>(
 #[tactic(auto, using(crate::proofs::Opens::no_other, crate::proofs::Opens::none_is_refused))]
 fn has_no_other_head(file: &[u8], head: &Head) -> Result<(), StoreFault>
     ensures one { OnOk result ((other : AnyHead) → HasHead file.now other → other ≡ head.now) }
-    ensures publishing { IsErrOf result OtherPublishing → (other : AnyHead) × HasHead file.now other
-        × (other.publishing ≢ head.now.publishing) }
-    ensures limits { IsErrOf result OtherLimits → (other : AnyHead) × HasHead file.now other
-        × (other.limits ≢ head.now.limits) }
+    ensures other { IfErr result (λ fault. IsRefusedAs fault head.now file.now) }
 {
     let found = match Head::read(file) {
         Ok(found) => found,

@@ -1,7 +1,8 @@
 //! A store on a file that fails at each of its calls in turn, and what a crash leaves there: writes that
 //! are lost, made in part, or torn.
 
-use crate::paper::{Paper, outcomes};
+use crate::paper::outcomes;
+use hg_help_tests::paper::Paper;
 use hg_store::*;
 use hg_types::{Limits, NoMemory, Seq};
 use linked_list_allocator::LocalHeap;

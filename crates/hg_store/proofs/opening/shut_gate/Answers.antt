@@ -1,5 +1,5 @@
 use Rattle.std.proofs.Common.{◌≡◌, ◌∙◌, ℕ, List, ◌∷◌, [], ◌+◌, take, arith}
-use Rattle.hg_store.specs.Device.{Holds}
+use Rattle.hg_store.specs.Device.{Overwrites}
 use Rattle.hg_store.specs.Log.{at_rest}
 use Rattle.hg_store.proofs.Moments.{weakly}
 use Rattle.hg_store.proofs.Repair.{on_ok, cut_done, cut_crash, gate_done, gate_left}
@@ -23,7 +23,7 @@ returns-then-end-len-clause-any_moment g c = λ head records ends only.
 pub returns-clause-at_rest : goal.returns-clause-at_rest
 returns-clause-at_rest g c = λ head records ends.
     on_ok c.put_synced.result
-    (Holds (g.D.Device.seen c.args.device.now) c.args.end (0 ∷ []) (g.D.Device.seen c.put_synced.new.device))
+    (Overwrites (g.D.Device.seen c.args.device.now) c.args.end (0 ∷ []) (g.D.Device.seen c.put_synced.new.device))
     (g.D.Device.seen c.put_synced.new.device ≡ at_rest head records)
     (gate_done head records c.args.end (g.D.Device.seen c.args.device.now) ends
     (omega (arith, c.if-end-len.false, c.requires.len)) (g.D.Device.seen c.put_synced.new.device))
