@@ -16,11 +16,11 @@ use Rattle.hg_push.specs.Reply.{reply_of}
 use Rattle.hg_push.specs.Run.{RepositoryOf}
 use Rattle.hg_queue.specs.Words.{next_item}
 use Rattle.hg_serve.specs.Answers.{Answers}
-use Rattle.hg_serve.specs.Clients.{SenderView, EndedView, Ends, GoesOn}
+use Rattle.hg_serve.specs.Clients.{SenderView, AwaitingView, PutsItsMark, GoesOn}
 use Rattle.hg_serve.specs.Histories.{newest_first}
 use Rattle.hg_devices.specs.Devices.{ReadAnswer, Gave}
-use Rattle.hg_receiving.specs.declared.ending.Ending.{Ending}
-use Rattle.hg_receiving.specs.declared.ending.Ending.TheVariants.{Whole}
+use Rattle.hg_receiving.specs.declared.ending.BundleEnd.{BundleEnd}
+use Rattle.hg_receiving.specs.declared.ending.BundleEnd.TheVariants.{Whole}
 use Rattle.hg_receiving.specs.Receiving.{IsPiece, IsReceived, mark_of, part_items, push_items}
 use Rattle.hg_receiving.proofs.CallerLemmas.{AbortedAreShort, DoneAreShort, PartsAreFew, end_whole}
 use Rattle.hg_receiving.proofs.CallerLemmas.{items_length, mark_empty, put_parts}
@@ -29,9 +29,9 @@ use Rattle.hg_connection.proofs.Shortness.{reply_short}
 
 -- the push that was answered put the bundle's parts and the mark that the ending asks for
 pub answers_bundle : {A : Type 0} (capacity : ℕ) (first : RepositoryOf A) (s new : SenderView A)
-    (parts : List (Part A)) (ending : Ending) (e : EndedView A) (how : Outcome (Done A) (Refusal A))
+    (parts : List (Part A)) (ending : BundleEnd) (e : AwaitingView A) (how : Outcome (Done A) (Refusal A))
     (takes : ℕ) (after : List (Taken A)) → GoesOn s new (part_items s.putter.push 0 parts)
-    → Ends new (mark_of ending) e → Answers capacity first e.push e.put e.history how takes after
+    → PutsItsMark new (mark_of ending) e → Answers capacity first e.push e.put e.history how takes after
     → Answers capacity first s.putter.push (push_items s.putter.push parts (mark_of ending)) s.history how
     takes after
 answers_bundle {A} capacity first s new parts ending e how takes after put m a =
@@ -60,7 +60,7 @@ last_same (w ∷ xs) (z ∷ ys) x y e = let r : xs ++ x ∷ [] ≡ ys ++ y ∷ [
 
 -- where the push is done, the bundle was read to its end mark, and its parts were run
 pub done_whole : {A : Type 0} (capacity : ℕ) (first : RepositoryOf A) (push : ℕ) (parts : List (Part A))
-    (ending : Ending) (before : List (Taken A)) (done : Done A) (takes : ℕ) (after : List (Taken A))
+    (ending : BundleEnd) (before : List (Taken A)) (done : Done A) (takes : ℕ) (after : List (Taken A))
     → Answers capacity first push (push_items push parts (mark_of ending)) before (done_with done) takes after
     → (ending ≡ Whole) × (ran_parts push (newest_first after) ≡ parts)
 done_whole {A} capacity first push parts ending before done takes after a =
@@ -74,7 +74,7 @@ done_whole {A} capacity first push parts ending before done takes after a =
 
 pub bundle_reply_short : {A : Type 0} → DoneAreShort A → AbortedAreShort A → PartsAreFew A
     → (limits : Limits) (capacity : ℕ) (first : RepositoryOf A) (waited : List ℕ) (reads : List ReadAnswer)
-    (ending : Ending) (parts : List (Part A)) (consumed rest : List ℕ) (push : ℕ) (before : List (Taken A))
+    (ending : BundleEnd) (parts : List (Part A)) (consumed rest : List ℕ) (push : ℕ) (before : List (Taken A))
     (how : Outcome (Done A) (Refusal A)) (takes : ℕ) (after : List (Taken A))
     → IsAllowed limits → IsReceived limits waited reads ending parts consumed rest
     → Answers capacity first push (push_items push parts (mark_of ending)) before how takes after
@@ -85,7 +85,7 @@ bundle_reply_short done_short aborted_short few limits capacity first waited rea
     before how takes after allowed received answers
 
 -- a bundle that was received after a piece was received by the read that gave the piece, and by those after it
-pub received_with : {A : Type 0} (limits : Limits) (piece : List ℕ) (reads : List ReadAnswer) (ending : Ending)
+pub received_with : {A : Type 0} (limits : Limits) (piece : List ℕ) (reads : List ReadAnswer) (ending : BundleEnd)
     (parts : List (Part A)) (consumed rest : List ℕ) → IsPiece piece
     → IsReceived limits piece reads ending parts consumed rest
     → IsReceived limits [] (Gave piece ∷ reads) ending parts consumed rest

@@ -17,20 +17,20 @@ use Rattle.hg_push.specs.Reply.{reply_of}
 use Rattle.hg_push.specs.Run.{RepositoryOf}
 use Rattle.hg_push.specs.declared.book.OpenFault.{OpenFault}
 use Rattle.hg_stream.specs.declared.state.State.TheVariants.{Ended}
-use Rattle.hg_stream.specs.Faults.{Tells}
+use Rattle.hg_stream.specs.Faults.{StateTells}
 use Rattle.hg_serve.specs.declared.desk.Answer.{Answer}
-use Rattle.hg_devices.specs.Devices.{Input, Output, ReadAnswer, WriteAnswer, Gave, Failed, Adds}
+use Rattle.hg_devices.specs.Devices.{Input, Output, ReadAnswer, WriteAnswer, Gave, Failed, TellsMore}
 use Rattle.hg_devices.proofs.CallerLemmas.{Adds-nil, Adds-trans}
 use Rattle.hg_devices.specs.declared.sending.Sending.{Sending}
 use Rattle.hg_devices.specs.declared.sending.Sending.TheVariants.{Whole as sent_whole, Broken, NoMemory}
 use Rattle.hg_devices.specs.Sent.{IsSent}
-use Rattle.hg_receiving.specs.declared.ending.Ending.{Ending}
-use Rattle.hg_receiving.specs.declared.ending.Ending.TheVariants.{Whole, Fault, InputEnded, ReadFailed}
+use Rattle.hg_receiving.specs.declared.ending.BundleEnd.{BundleEnd}
+use Rattle.hg_receiving.specs.declared.ending.BundleEnd.TheVariants.{Whole, Fault, InputEnded, ReadFailed}
 use Rattle.hg_connection.specs.declared.coming.Next.TheVariants.{Comes, Ends as comes_no_more, Fails}
 use Rattle.hg_connection.specs.declared.served.ConnFault.{ConnFault}
 use Rattle.hg_connection.specs.declared.served.ConnFault.TheVariants.{Open, ReadFailed as read_failed}
 use Rattle.hg_connection.specs.declared.served.Served.{Served}
-use Rattle.hg_receiving.specs.Receiving.{IsPiece, Keeps, Ran, state_at}
+use Rattle.hg_receiving.specs.Receiving.{IsPiece, KeepsWaiting, Ran, state_at}
 use Rattle.hg_connection.specs.Receiving.{IsNext}
 use Rattle.hg_connection.specs.Connections.{Exchange, IsExchange, AreExchanges, AreWhole, Connects, EndsBy}
 use Rattle.hg_connection.specs.Connections.{Serves, TellsLast, TellsOf, bytes_of, reads_of, uses_of}
@@ -53,8 +53,8 @@ pub record Goes {A : Type 0} (limits : Limits) (capacity : ℕ) (first : Reposit
   pub counted : served.bundles ≡ number
   pub tells : TellsLast served.last whole
   pub read : Consumes input.left left.left (bytes_of whole ++ waiting)
-  pub reads : Adds input.reads left.reads (reads_of whole)
-  pub uses : Adds out.uses sent.uses (uses_of whole)
+  pub reads : TellsMore input.reads left.reads (reads_of whole)
+  pub uses : TellsMore out.uses sent.uses (uses_of whole)
   pub bytes : length (bytes_of whole) ≤ number * limits.stream
   pub none : number ≡ 0 → waiting ≡ []
   pub went : Appends out.taken sent.taken (replies_of whole)
@@ -102,7 +102,7 @@ replies_more : {A : Type 0} (xs : List (Exchange A)) (x : Exchange A) → replie
     ++ reply_of x.how ≡ replies_of (xs ++ x ∷ [])
 replies_more {A} xs x = flat_map_more (λ (y : Exchange A). reply_of y.how) [] xs x
 
-no_fault : (ending : Ending) (sending : Sending) → fault_of ending sending ≡ None → (ending ≡ Whole)
+no_fault : (ending : BundleEnd) (sending : Sending) → fault_of ending sending ≡ None → (ending ≡ Whole)
     × (sending ≡ sent_whole)
 no_fault ReadFailed sending e = absurd cc
 no_fault (Fault fault) sending e = absurd cc
@@ -120,7 +120,7 @@ within n m s le = mul-le-mul_right s le
 -- what went out of one reply more can be added: the replies to so few bundles are short together
 pub can_add : {A : Type 0} (limits : Limits) (capacity : ℕ) (first : RepositoryOf A)
     (input mid begun left : Input) (out way sent : Output) (before now history after : List (Taken A))
-    (waiting waited waits : List ℕ) (served : Served A) (number : ℕ) (x : Exchange A) (ending : Ending)
+    (waiting waited waits : List ℕ) (served : Served A) (number : ℕ) (x : Exchange A) (ending : BundleEnd)
     (how : Outcome (Done A) (Refusal A)) (takes : ℕ) (sending : Sending) (written : ℕ)
     → Goes limits capacity first input mid out way before now waiting served number
     → Serves limits capacity first waited waits begun left way sent history x
@@ -132,7 +132,7 @@ can_add limits capacity first input mid begun left out way sent before now histo
     let bound = g.short in
     let most = within number 10000 greatest_reply (omega (arith, less)) in
     let went = t.written_is in
-    let reply = v.short in
+    let reply = v.flows.short in
     let parted = ap (λ (l : List ℕ). length l) v.is.sent.reply_is in
     let both = length-append x.gone v.is.sent.rest in
     omega (arith, so_far, bound, most, went, reply, parted, both)
@@ -149,7 +149,7 @@ starts {A} limits capacity first input out before waiting served none s = record
   ends = tt;
   count = refl;
   counted = s.0;
-  tells = subst (λ (o : Option (Answer A)). TellsLast {A = A} o []) (sym s.1) refl;
+  tells = subst (λ (o : Option (Answer A)). TellsLast {A = A} {S = Sending} o []) (sym s.1) refl;
   read = subst (λ (l : List ℕ). Consumes input.left input.left l) (sym none) (Consumes-nil input.left);
   reads = Adds-nil input.reads;
   uses = Adds-nil out.uses;
@@ -175,7 +175,7 @@ module _ {A : Type 0} (limits : Limits) (capacity : ℕ) (first : RepositoryOf A
     (less : number ≤ most) where
   closes : (now' : List (Taken A)) (dropped : List ℕ) (final : List ReadAnswer) (fault : Option ConnFault)
       → now' ≡ now → Consumes input.left left.left (bytes_of g.whole ++ dropped)
-      → Adds input.reads left.reads (reads_of g.whole ++ final) → length dropped ≤ 4096
+      → TellsMore input.reads left.reads (reads_of g.whole ++ final) → length dropped ≤ 4096
       → SameBut served told fault → EndsBy most g.whole None final dropped left fault
       → Connects limits capacity first most input left out sent before now' told
   closes now' dropped final fault same read reads small is end =
@@ -192,25 +192,27 @@ module _ {A : Type 0} (limits : Limits) (capacity : ℕ) (first : RepositoryOf A
         chain = subst (λ (y : List (Exchange A) × List (Taken A)).
             AreExchanges limits capacity first before [] y.0 y.1) (λ i. (sym e i, sym same i)) g.chain;
         ends = g.ends;
-        count = count' ∙ ap (λ (l : List (Exchange A)). length l) (sym e);
-        few = subst (λ (l : List (Exchange A)). length l ≤ most) (sym e) few';
-        tells = subst (λ (y : Option (Answer A) × List (Exchange A)). TellsLast y.0 y.1)
-            (λ i. (sym is.1 i, sym e i)) g.tells;
-        final = final;
-        reads = subst (λ (l : List (Exchange A)). Adds input.reads left.reads (reads_of l ++ final))
-            (sym e) reads;
-        uses = subst (λ (l : List (Exchange A)). Adds out.uses sent.uses (uses_of l)) (sym e) g.uses;
-        dropped = dropped;
-        read = subst (λ (l : List (Exchange A)). Consumes input.left left.left (bytes_of l ++ dropped))
-            (sym e) read;
-        bound = subst (λ (l : List (Exchange A)). length (bytes_of l
-            ++ dropped) ≤ most * limits.stream + 4096) (sym e) size;
-        gone = replies_of g.whole;
-        gone_is = g.sent_all ∙ ap (λ (l : List (Exchange A)). gone_of l) (sym e);
-        kept = [];
-        replies = ap (λ (l : List (Exchange A)). replies_of l) e ∙ sym (append-nil (replies_of g.whole));
-        went = g.went;
-        written = is.2 ∙ g.written;
+        joined = record {
+          count = count' ∙ ap (λ (l : List (Exchange A)). length l) (sym e);
+          few = subst (λ (l : List (Exchange A)). length l ≤ most) (sym e) few';
+          tells = subst (λ (y : Option (Answer A) × List (Exchange A)). TellsLast y.0 y.1)
+              (λ i. (sym is.1 i, sym e i)) g.tells;
+          final = final;
+          reads = subst (λ (l : List (Exchange A)). TellsMore input.reads left.reads (reads_of l ++ final))
+              (sym e) reads;
+          uses = subst (λ (l : List (Exchange A)). TellsMore out.uses sent.uses (uses_of l)) (sym e) g.uses;
+          dropped = dropped;
+          read = subst (λ (l : List (Exchange A)). Consumes input.left left.left (bytes_of l ++ dropped))
+              (sym e) read;
+          bound = subst (λ (l : List (Exchange A)). length (bytes_of l
+              ++ dropped) ≤ most * limits.stream + 4096) (sym e) size;
+          gone = replies_of g.whole;
+          gone_is = g.sent_all ∙ ap (λ (l : List (Exchange A)). gone_of l) (sym e);
+          kept = [];
+          replies = ap (λ (l : List (Exchange A)). replies_of l) e ∙ sym (append-nil (replies_of g.whole));
+          went = g.went;
+          wrote = is.2 ∙ g.written;
+        };
         all = λ _. refl;
         end = subst (λ (f : Option ConnFault). EndsBy most g.whole None final dropped left f) (sym is.3) end;
       }
@@ -254,8 +256,8 @@ module _ {A : Type 0} (limits : Limits) (capacity : ℕ) (first : RepositoryOf A
     | inl there ↦ closes now' after [] (Some (Open fault)) same
         (subst (λ (y : List ℕ × Input). Consumes input.left y.1.left (bytes_of g.whole ++ y.0))
         (λ i. (sym there.0 i, sym there.1 i)) g.read)
-        (subst (λ (i : Input). Adds input.reads i.reads (reads_of g.whole ++ [])) (sym there.1)
-        (subst (λ (l : List ReadAnswer). Adds input.reads mid.reads l)
+        (subst (λ (i : Input). TellsMore input.reads i.reads (reads_of g.whole ++ [])) (sym there.1)
+        (subst (λ (l : List ReadAnswer). TellsMore input.reads mid.reads l)
         (sym (append-nil (reads_of g.whole))) g.reads)) n.3 is (inl refl, none_waits n)
     | inr read ↦ closes now' after (Gave after ∷ []) (Some (Open fault)) same
         (subst (λ (l : List ℕ). Consumes input.left left.left l)
@@ -273,8 +275,8 @@ module _ {A : Type 0} (limits : Limits) (capacity : ℕ) (first : RepositoryOf A
   at_most still all small is =
       closes now waiting [] None refl
       (subst (λ (i : Input). Consumes input.left i.left (bytes_of g.whole ++ waiting)) (sym still) g.read)
-      (subst (λ (i : Input). Adds input.reads i.reads (reads_of g.whole ++ [])) (sym still)
-      (subst (λ (l : List ReadAnswer). Adds input.reads mid.reads l)
+      (subst (λ (i : Input). TellsMore input.reads i.reads (reads_of g.whole ++ [])) (sym still)
+      (subst (λ (l : List ReadAnswer). TellsMore input.reads mid.reads l)
       (sym (append-nil (reads_of g.whole))) g.reads)) small (is.0, is.1, is.2, is.3 ∙ g.fault)
       (inl (sym g.count ∙ all, refl))
 
@@ -289,7 +291,7 @@ none_of None e = refl
 none_of (Some x) e = absurd (true≢false e)
 
 -- after a bundle without a fault its end mark was read
-pub ended_whole : (ending : Ending) (sending : Sending) (fault : Option ConnFault)
+pub ended_whole : (ending : BundleEnd) (sending : Sending) (fault : Option ConnFault)
     → fault_of ending sending ≡ fault → is_some fault ≡ false → ending ≡ Whole
 ended_whole ending sending fault is none = (no_fault ending sending (is ∙ none_of fault none)).0
 
@@ -301,7 +303,7 @@ gone_whole sent_whole gone uses reply is s =
 gone_whole Broken gone uses reply is s = absurd cc
 gone_whole NoMemory gone uses reply is s = absurd cc
 
-rest_waits : (ending : Ending) (rest waiting : List ℕ) → ending ≡ Whole → Keeps ending rest waiting
+rest_waits : (ending : BundleEnd) (rest waiting : List ℕ) → ending ≡ Whole → KeepsWaiting ending rest waiting
     → waiting ≡ rest
 rest_waits Whole rest waiting is keeps = keeps
 rest_waits (Fault fault) rest waiting is keeps = absurd cc
@@ -309,7 +311,7 @@ rest_waits InputEnded rest waiting is keeps = absurd cc
 rest_waits ReadFailed rest waiting is keeps = absurd cc
 
 -- what is told of a bundle is told of it with other reads as well
-pub tells_own : {A : Type 0} (x own : Exchange A) (ending : Ending) (how : Outcome (Done A) (Refusal A))
+pub tells_own : {A : Type 0} (x own : Exchange A) (ending : BundleEnd) (how : Outcome (Done A) (Refusal A))
     (takes : ℕ) (sending : Sending) (written : ℕ) (after : List (Taken A))
     → own ≡ record x { reads = own.reads }
     → TellsOf x ending how takes sending written after → TellsOf own ending how takes sending written after
@@ -324,7 +326,7 @@ tells_own {A} x own ending how takes sending written after same t = record {
 
 module _ {A : Type 0} (limits : Limits) (capacity : ℕ) (first : RepositoryOf A) (input mid left : Input)
     (out way sent : Output) (before now history now' : List (Taken A)) (waiting waits : List ℕ)
-    (served told : Served A) (number : ℕ) (answer : Answer A) (ending : Ending) (sending : Sending)
+    (served told : Served A) (number : ℕ) (answer : Answer A) (ending : BundleEnd) (sending : Sending)
     (written : ℕ)
     (g : Goes limits capacity first input mid out way before now waiting served number) (same : history ≡ now)
     (x : Exchange A)
@@ -343,20 +345,20 @@ module _ {A : Type 0} (limits : Limits) (capacity : ℕ) (first : RepositoryOf A
   was_read : Consumes input.left left.left (bytes_of (g.whole ++ x ∷ []) ++ x.rest)
   was_read =
       let b = bytes_of g.whole in
-      let spell : (b ++ waiting) ++ v.more ≡ bytes_of (g.whole ++ x ∷ []) ++ x.rest =
-      append_assoc b waiting v.more ∙ ap (λ (l : List ℕ). b ++ l) v.spelled
+      let spell : (b ++ waiting) ++ v.flows.more ≡ bytes_of (g.whole ++ x ∷ []) ++ x.rest =
+      append_assoc b waiting v.flows.more ∙ ap (λ (l : List ℕ). b ++ l) v.flows.spelled
       ∙ sym (append_assoc b x.consumed x.rest)
       ∙ ap (λ (l : List ℕ). l ++ x.rest) (bytes_more g.whole x) in
       subst (λ (l : List ℕ). Consumes input.left left.left l) spell
-      (Consumes-trans input.left mid.left left.left (b ++ waiting) v.more g.read v.bytes)
+      (Consumes-trans input.left mid.left left.left (b ++ waiting) v.flows.more g.read v.flows.bytes)
 
-  was_asked : Adds input.reads left.reads (reads_of (g.whole ++ x ∷ []))
-  was_asked = subst (λ (l : List ReadAnswer). Adds input.reads left.reads l) (reads_more g.whole x)
-      (Adds-trans input.reads mid.reads left.reads (reads_of g.whole) x.reads g.reads v.told)
+  was_asked : TellsMore input.reads left.reads (reads_of (g.whole ++ x ∷ []))
+  was_asked = subst (λ (l : List ReadAnswer). TellsMore input.reads left.reads l) (reads_more g.whole x)
+      (Adds-trans input.reads mid.reads left.reads (reads_of g.whole) x.reads g.reads v.flows.told)
 
-  was_used : Adds out.uses sent.uses (uses_of (g.whole ++ x ∷ []))
-  was_used = subst (λ (l : List WriteAnswer). Adds out.uses sent.uses l) (uses_more g.whole x)
-      (Adds-trans out.uses way.uses sent.uses (uses_of g.whole) x.uses g.uses v.used)
+  was_used : TellsMore out.uses sent.uses (uses_of (g.whole ++ x ∷ []))
+  was_used = subst (λ (l : List WriteAnswer). TellsMore out.uses sent.uses l) (uses_more g.whole x)
+      (Adds-trans out.uses way.uses sent.uses (uses_of g.whole) x.uses g.uses v.flows.used)
 
   few_bytes : length (bytes_of (g.whole ++ x ∷ []) ++ x.rest) ≤ (number + 1) * limits.stream + 4096
   few_bytes =
@@ -368,7 +370,7 @@ module _ {A : Type 0} (limits : Limits) (capacity : ℕ) (first : RepositoryOf A
       omega (arith, long, sum, sum', b, c, mul_more number limits.stream)
 
   went_out : Appends out.taken sent.taken (replies_of g.whole ++ x.gone)
-  went_out = Appends-trans out.taken way.taken sent.taken (replies_of g.whole) x.gone g.went v.went
+  went_out = Appends-trans out.taken way.taken sent.taken (replies_of g.whole) x.gone g.went v.flows.went
 
   was_written : told.written ≡ length (replies_of g.whole ++ x.gone)
   was_written =
@@ -380,7 +382,7 @@ module _ {A : Type 0} (limits : Limits) (capacity : ℕ) (first : RepositoryOf A
   short_on : length (replies_of (g.whole ++ x ∷ [])) ≤ (number + 1) * greatest_reply
   short_on =
       let before = g.short in
-      let more = v.short in
+      let more = v.flows.short in
       let long = ap (λ (l : List ℕ). length l) (sym (replies_more g.whole x)) in
       omega (arith, before, more, long, length-append (replies_of g.whole) (reply_of x.how))
 
@@ -405,26 +407,28 @@ module _ {A : Type 0} (limits : Limits) (capacity : ℕ) (first : RepositoryOf A
         last = Some x;
         chain = chained;
         ends = g.ends;
-        count = counted_one;
-        few = let c = g.count in omega (arith, c, less, length-append g.whole (x ∷ []));
-        tells = tells_it;
-        final = [];
-        reads = subst (λ (l : List ReadAnswer). Adds input.reads left.reads l)
-            (sym (append-nil (reads_of (g.whole ++ x ∷ [])))) was_asked;
-        uses = was_used;
-        dropped = x.rest;
-        read = was_read;
-        bound = omega (arith, b, le);
-        gone = replies_of g.whole ++ x.gone;
-        gone_is = ap (λ (l : List ℕ). l ++ x.gone) g.sent_all ∙ gone_more g.whole x;
-        kept = v.is.sent.rest;
-        replies = sym (replies_more g.whole x)
-            ∙ (ap (λ (l : List ℕ). replies_of g.whole ++ l) v.is.sent.reply_is
-            ∙ sym (append_assoc (replies_of g.whole) x.gone v.is.sent.rest));
-        went = went_out;
-        written = was_written;
+        joined = record {
+          count = counted_one;
+          few = let c = g.count in omega (arith, c, less, length-append g.whole (x ∷ []));
+          tells = tells_it;
+          final = [];
+          reads = subst (λ (l : List ReadAnswer). TellsMore input.reads left.reads l)
+              (sym (append-nil (reads_of (g.whole ++ x ∷ [])))) was_asked;
+          uses = was_used;
+          dropped = x.rest;
+          read = was_read;
+          bound = omega (arith, b, le);
+          gone = replies_of g.whole ++ x.gone;
+          gone_is = ap (λ (l : List ℕ). l ++ x.gone) g.sent_all ∙ gone_more g.whole x;
+          kept = v.is.sent.rest;
+          replies = sym (replies_more g.whole x)
+              ∙ (ap (λ (l : List ℕ). replies_of g.whole ++ l) v.is.sent.reply_is
+              ∙ sym (append_assoc (replies_of g.whole) x.gone v.is.sent.rest));
+          went = went_out;
+          wrote = was_written;
+        };
         all = λ none. absurd (true≢false (sym some ∙ ap (λ (o : Option ConnFault). is_some o) none));
-        end = ends_with most g.whole x left told.fault its_fault some v.ran;
+        end = ends_with most g.whole x left told.fault its_fault some v.flows.ran;
       }
 
   pub goes_on : is_some told.fault ≡ false
@@ -434,9 +438,9 @@ module _ {A : Type 0} (limits : Limits) (capacity : ℕ) (first : RepositoryOf A
       let gone : replies_of g.whole
       ++ x.gone ≡ replies_of (g.whole ++ x ∷ []) = ap (λ (l : List ℕ). replies_of g.whole ++ l)
       (gone_whole x.sending x.gone x.uses (reply_of x.how) both.1 v.is.sent) ∙ replies_more g.whole x in
-      let told_ended : Tells Ended limits x.consumed x.parts = subst
-      (λ (e : Ending). Tells (state_at e) limits x.consumed x.parts) both.0 v.is.received.tells in
-      let rest : waits ≡ x.rest = rest_waits x.ending x.rest waits both.0 v.keeps in
+      let told_ended : StateTells Ended limits x.consumed x.parts = subst
+      (λ (e : BundleEnd). StateTells (state_at e) limits x.consumed x.parts) both.0 v.is.received.tells in
+      let rest : waits ≡ x.rest = rest_waits x.ending x.rest waits both.0 v.flows.keeps in
       let long = ap (λ (l : List ℕ). length l) (sym (bytes_more g.whole x)) in
       let sum = length-append (bytes_of g.whole) x.consumed in
       let b = g.bytes in

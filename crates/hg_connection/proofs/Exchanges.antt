@@ -15,14 +15,14 @@ use Rattle.hg_push.specs.Run.{RepositoryOf}
 use Rattle.hg_queue.specs.History.{of, items_of}
 use Rattle.hg_queue.specs.Words.{next_item}
 use Rattle.hg_serve.specs.Answers.{Answers}
-use Rattle.hg_serve.specs.Clients.{SenderView, EndedView, Ends}
+use Rattle.hg_serve.specs.Clients.{SenderView, AwaitingView, PutsItsMark}
 use Rattle.hg_devices.specs.Devices.{Input, Output, ReadAnswer, Gave}
 use Rattle.hg_devices.proofs.CallerLemmas.{Adds-trans}
 use Rattle.hg_devices.specs.declared.sending.Sending.{Sending}
 use Rattle.hg_devices.specs.Sent.{Sends}
-use Rattle.hg_receiving.specs.declared.ending.Ending.{Ending}
-use Rattle.hg_receiving.specs.declared.ending.Ending.TheVariants.{Whole, Fault, InputEnded, ReadFailed}
-use Rattle.hg_receiving.specs.Receiving.{IsPiece, IsReceived, Stops, StopsIn, mark_of}
+use Rattle.hg_receiving.specs.declared.ending.BundleEnd.{BundleEnd}
+use Rattle.hg_receiving.specs.declared.ending.BundleEnd.TheVariants.{Whole, Fault, InputEnded, ReadFailed}
+use Rattle.hg_receiving.specs.Receiving.{IsPiece, IsReceived, StopsBundle, StopsIn, mark_of}
 use Rattle.hg_connection.specs.Receiving.{Arrives, Receives}
 use Rattle.hg_receiving.specs.Receiving.{push_items}
 use Rattle.hg_connection.specs.Connections.{Exchange, Serves}
@@ -30,10 +30,10 @@ use Rattle.hg_receiving.proofs.CallerLemmas.{AbortedAreShort, DoneAreShort, Part
 use Rattle.hg_connection.proofs.Shortness.{reply_short}
 
 module _ {A : Type 0} (limits : Limits) (capacity : ℕ) (first : RepositoryOf A) (waited waiting : List ℕ)
-    (input left : Input) (out sent : Output) (s new : SenderView A) (ending : Ending) (e : EndedView A)
+    (input left : Input) (out sent : Output) (s new : SenderView A) (ending : BundleEnd) (e : AwaitingView A)
     (how : Outcome (Done A) (Refusal A)) (takes : ℕ) (after : List (Taken A)) (sending : Sending)
     (written : ℕ) (r : Receives limits waited waiting input left s new ending)
-    (m : Ends new (mark_of ending) e)
+    (m : PutsItsMark new (mark_of ending) e)
     (a : Answers capacity first e.push e.put e.history how takes after)
     (w : Sends sending written out sent (reply_of how)) where
   answered : Answers capacity first s.putter.push (push_items s.putter.push r.parts (mark_of ending))
@@ -73,17 +73,19 @@ module _ {A : Type 0} (limits : Limits) (capacity : ℕ) (first : RepositoryOf A
       })
   serves fresh done_short aborted_short few allowed = record {
     is = record { received = r.bundle.received; fresh = fresh; answers = answered; sent = w.sent };
-    more = r.bundle.more;
-    spelled = r.bundle.spelled;
-    bytes = r.bundle.bytes;
-    told = r.bundle.told;
-    keeps = r.bundle.keeps;
-    ran = r.bundle.ran;
-    went = w.bytes;
-    used = w.told;
-    short = reply_short done_short aborted_short few limits capacity first waited r.bundle.reads ending r.parts
-        r.bundle.consumed
-        r.bundle.rest s.putter.push s.history how takes after allowed r.bundle.received answered;
+    flows = record {
+      more = r.bundle.more;
+      spelled = r.bundle.spelled;
+      bytes = r.bundle.bytes;
+      told = r.bundle.told;
+      keeps = r.bundle.keeps;
+      ran = r.bundle.ran;
+      went = w.bytes;
+      used = w.told;
+      short = reply_short done_short aborted_short few limits capacity first waited r.bundle.reads ending r.parts
+          r.bundle.consumed
+          r.bundle.rest s.putter.push s.history how takes after allowed r.bundle.received answered;
+    };
   }
 
 -- the bytes that were fed last were read, if not before the others then as the first
@@ -104,16 +106,16 @@ stops_read {A} limits piece pieces consumed rest s = record {
   ]);
 }
 
-stops_as_read : (A : Type 0) (ending : Ending) (limits : Limits) (piece : List ℕ) (pieces : List (List ℕ))
-    (consumed rest : List ℕ) → Stops A ending limits piece pieces consumed rest
-    → Stops A ending limits [] (piece ∷ pieces) consumed rest
+stops_as_read : (A : Type 0) (ending : BundleEnd) (limits : Limits) (piece : List ℕ) (pieces : List (List ℕ))
+    (consumed rest : List ℕ) → StopsBundle A ending limits piece pieces consumed rest
+    → StopsBundle A ending limits [] (piece ∷ pieces) consumed rest
 stops_as_read A Whole limits piece pieces consumed rest s = stops_read limits piece pieces consumed rest s
 stops_as_read A (Fault fault) limits piece pieces consumed rest s =
     (s.0, stops_read limits piece pieces consumed rest s.1)
 stops_as_read A InputEnded limits piece pieces consumed rest s = s
 stops_as_read A ReadFailed limits piece pieces consumed rest s = s
 
-pub received_read : {A : Type 0} (limits : Limits) (piece : List ℕ) (reads : List ReadAnswer) (ending : Ending)
+pub received_read : {A : Type 0} (limits : Limits) (piece : List ℕ) (reads : List ReadAnswer) (ending : BundleEnd)
     (parts : List (Part A)) (consumed rest : List ℕ) → IsPiece piece
     → IsReceived limits piece reads ending parts consumed rest
     → IsReceived limits [] (Gave piece ∷ reads) ending parts consumed rest
@@ -159,15 +161,17 @@ comes {A} limits capacity first waited piece waiting input mid left out sent bef
                 answers = v.is.answers;
                 sent = v.is.sent;
               };
-              more = piece ++ v.more;
-              spelled = v.spelled;
-              bytes = Consumes-trans input.left mid.left left.left piece v.more read.1.bytes v.bytes;
-              told = Adds-trans input.reads mid.reads left.reads (Gave piece ∷ []) x.reads read.1.told v.told;
-              keeps = v.keeps;
-              ran = v.ran;
-              went = v.went;
-              used = v.used;
-              short = v.short;
+              flows = record {
+                more = piece ++ v.flows.more;
+                spelled = v.flows.spelled;
+                bytes = Consumes-trans input.left mid.left left.left piece v.flows.more read.1.bytes v.flows.bytes;
+                told = Adds-trans input.reads mid.reads left.reads (Gave piece ∷ []) x.reads read.1.told v.flows.told;
+                keeps = v.flows.keeps;
+                ran = v.flows.ran;
+                went = v.flows.went;
+                used = v.flows.used;
+                short = v.flows.short;
+              };
             });
         same = refl;
       }

@@ -7,8 +7,8 @@ use Rattle.hg_types.specs.declared.item.Item.{Item}
 use Rattle.hg_types.specs.declared.item.What.TheVariants.{Part as a_part}
 use Rattle.hg_queue.specs.Words.{next_item}
 use Rattle.hg_stream.specs.declared.unbundler.Unbundler.{Unbundler}
-use Rattle.hg_stream.specs.Unbundler.{Holds}
-use Rattle.hg_serve.specs.Clients.{SenderView, GoesOn, Adds}
+use Rattle.hg_stream.specs.Unbundler.{HoldsBundle}
+use Rattle.hg_serve.specs.Clients.{SenderView, GoesOn, PutsNext}
 use Rattle.hg_receiving.specs.Receiving.{part_items}
 use Rattle.hg_receiving.proofs.CallerLemmas.{items_append, items_length, items_more}
 use Rattle.hg_connection.specs.Receiving.{Puts}
@@ -22,14 +22,14 @@ puts_none s = record {
   history = refl;
 }
 
-pub holds_none : {A : Type 0} (u : Unbundler A) (given : List (Part A)) (bytes : List ℕ) → Holds u given bytes
-    → Holds u (given ++ []) bytes
-holds_none {A} u given bytes holds = subst (λ (l : List (Part A)). Holds u l bytes) (sym (append-nil given)) holds
+pub holds_none : {A : Type 0} (u : Unbundler A) (given : List (Part A)) (bytes : List ℕ) → HoldsBundle u given bytes
+    → HoldsBundle u (given ++ []) bytes
+holds_none {A} u given bytes holds = subst (λ (l : List (Part A)). HoldsBundle u l bytes) (sym (append-nil given)) holds
 
 pub holds_more : {A : Type 0} (u : Unbundler A) (given taken more : List (Part A)) (bytes : List ℕ)
-    → Holds u ((given ++ taken) ++ more) bytes → Holds u (given ++ (taken ++ more)) bytes
+    → HoldsBundle u ((given ++ taken) ++ more) bytes → HoldsBundle u (given ++ (taken ++ more)) bytes
 holds_more {A} u given taken more bytes holds =
-    subst (λ (l : List (Part A)). Holds u l bytes) (append_assoc given taken more) holds
+    subst (λ (l : List (Part A)). HoldsBundle u l bytes) (append_assoc given taken more) holds
 
 -- so many were put
 pub puts_count : {A : Type 0} (old s : SenderView A) (taken : List (Part A)) → Puts old s taken
@@ -43,7 +43,7 @@ puts_count {A} old s taken p =
 
 -- one part more was put
 pub puts_more : {A : Type 0} (old s new : SenderView A) (taken : List (Part A)) (part : Part A)
-    → Puts old s taken → Adds s (a_part part) new → Puts old new (taken ++ part ∷ [])
+    → Puts old s taken → PutsNext s (a_part part) new → Puts old new (taken ++ part ∷ [])
 puts_more {A} old s new taken part p adds =
     let before = length old.putter.put in
     let f = p.fulls in

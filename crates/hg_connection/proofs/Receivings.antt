@@ -7,16 +7,16 @@ use Rattle.hg_types.specs.declared.limits.Limits.{Limits}
 use Rattle.hg_stream.specs.declared.state.State.{State}
 use Rattle.hg_stream.specs.declared.state.State.TheVariants.{Reading as going}
 use Rattle.hg_stream.specs.declared.unbundler.Unbundler.{Unbundler}
-use Rattle.hg_stream.specs.Unbundler.{Holds, limits_of, ready_of, state_of}
-use Rattle.hg_stream.specs.Faults.{Tells}
+use Rattle.hg_stream.specs.Unbundler.{HoldsBundle, limits_of, ready_of, state_of}
+use Rattle.hg_stream.specs.Faults.{StateTells}
 use Rattle.hg_stream.specs.Laws.{AreSettledOnce}
 use Rattle.hg_stream.specs.Places.{IsReading}
 use Rattle.hg_serve.specs.Clients.{SenderView, GoesOn}
 use Rattle.hg_devices.specs.Devices.{Input}
-use Rattle.hg_receiving.specs.declared.ending.Ending.{Ending}
-use Rattle.hg_receiving.specs.declared.ending.Ending.TheVariants.{Whole, Fault, InputEnded, ReadFailed}
-use Rattle.hg_receiving.specs.Receiving.{Keeps, part_items}
-use Rattle.hg_receiving.specs.Turns.{Feeds, Fills, IsReceiving, ended_at}
+use Rattle.hg_receiving.specs.declared.ending.BundleEnd.{BundleEnd}
+use Rattle.hg_receiving.specs.declared.ending.BundleEnd.TheVariants.{Whole, Fault, InputEnded, ReadFailed}
+use Rattle.hg_receiving.specs.Receiving.{KeepsWaiting, part_items}
+use Rattle.hg_receiving.specs.Turns.{FeedsFront, Fills, IsReceiving, ended_at}
 use Rattle.hg_receiving.proofs.CallerLemmas.{ends, nothing_waits}
 use Rattle.hg_connection.specs.declared.coming.Next.TheVariants.{Comes, Ends as comes_no_more, Fails}
 use Rattle.hg_connection.specs.Receiving.{IsFresh, IsNext}
@@ -27,11 +27,11 @@ abbrev pub SettledOnce : Type 0 → Type 0
 SettledOnce A = (limits : Limits) → AreSettledOnce A limits
 
 -- a new reader of bundles has finished no part
-pub fresh : {A : Type 0} → SettledOnce A → (limits : Limits) (u : Unbundler A) → Holds u [] []
+pub fresh : {A : Type 0} → SettledOnce A → (limits : Limits) (u : Unbundler A) → HoldsBundle u [] []
     → state_of u ≡ going → limits_of u ≡ limits → IsFresh limits u
 fresh {A} law limits u holds state is =
-    let tells : Tells going (limits_of u) [] ([] ++ ready_of u) = subst
-    (λ (st : State). Tells st (limits_of u) [] ([] ++ ready_of u)) state holds.tells in
+    let tells : StateTells going (limits_of u) [] ([] ++ ready_of u) = subst
+    (λ (st : State). StateTells st (limits_of u) [] ([] ++ ready_of u)) state holds.tells in
     record {
       empty = holds;
       state = state;
@@ -70,7 +70,7 @@ pub next_ends : (before after : List ℕ) (input left : Input) (number : ℕ)
 next_ends before after input left number f =
     let n = nothing_waits before after input left InputEnded f in (n.0, n.1.1, n.1.2)
 
-pub next_fails : (before after : List ℕ) (input left : Input) (number : ℕ) (ending : Ending)
+pub next_fails : (before after : List ℕ) (input left : Input) (number : ℕ) (ending : BundleEnd)
     → Fills before after input left (Some ending) → ending ≢ InputEnded
     → IsNext number before after input left Fails
 next_fails before after input left number Whole f other = absurd (nothing_waits before after input left Whole f).1
@@ -108,8 +108,8 @@ cut_back all front back is =
 -- A bundle was received whose bytes were kept: those of a whole one are all but those that wait.
 pub kept_ends : {A : Type 0} (limits : Limits) (waited : List ℕ) (input : Input)
     (fed before after kept : List ℕ) (left : Input) (old new : SenderView A) (u v : Unbundler A)
-    (given : List (Part A)) (ending : Ending) → IsReceiving limits waited input fed before left u given
-    → 1 ≤ length before → Feeds u v before after → Some ending ≡ ended_at (state_of v)
+    (given : List (Part A)) (ending : BundleEnd) → IsReceiving limits waited input fed before left u given
+    → 1 ≤ length before → FeedsFront u v before after → Some ending ≡ ended_at (state_of v)
     → GoesOn old new (part_items old.putter.push 0 (given ++ ready_of v))
     → kept ≡ take (length (fed ++ before) - length after) (fed ++ before)
     → ReceivesKept limits waited after input left old new ending kept
@@ -118,7 +118,7 @@ kept_ends {A} limits waited input fed before after kept left old new u v given e
     record {
       is = record { parts = given ++ ready_of v; bundle = q.0; put = put };
       kept_is = λ whole.
-          let rest : after ≡ q.0.rest = subst (λ (e : Ending). Keeps e q.0.rest after) whole q.0.keeps in
+          let rest : after ≡ q.0.rest = subst (λ (e : BundleEnd). KeepsWaiting e q.0.rest after) whole q.0.keeps in
           cut ∙ cut_back (fed ++ before) q.0.consumed after
           (q.1 ∙ ap (λ (l : List ℕ). q.0.consumed ++ l) (sym rest));
     }

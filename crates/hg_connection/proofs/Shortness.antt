@@ -16,7 +16,7 @@ use Rattle.hg_push.specs.Run.{RepositoryOf}
 use Rattle.hg_push.specs.World.{all_parts}
 use Rattle.hg_serve.specs.Answers.{Answers}
 use Rattle.hg_serve.specs.Histories.{newest_first}
-use Rattle.hg_receiving.specs.declared.ending.Ending.{Ending}
+use Rattle.hg_receiving.specs.declared.ending.BundleEnd.{BundleEnd}
 use Rattle.hg_receiving.specs.Receiving.{IsReceived, mark_of, push_items, state_at}
 use Rattle.hg_devices.specs.Devices.{ReadAnswer}
 use Rattle.hg_receiving.proofs.CallerLemmas.{AbortedAreShort, DoneAreShort, PartsAreFew, mark_empty, put_parts}
@@ -36,7 +36,7 @@ answer_short done_short aborted_short capacity first push put before (Aborted re
 
 pub reply_short : {A : Type 0} → DoneAreShort A → AbortedAreShort A → PartsAreFew A
     → (limits : Limits) (capacity : ℕ) (first : RepositoryOf A) (waited : List ℕ) (reads : List ReadAnswer)
-    (ending : Ending) (parts : List (Part A)) (consumed rest : List ℕ) (push : ℕ) (before : List (Taken A))
+    (ending : BundleEnd) (parts : List (Part A)) (consumed rest : List ℕ) (push : ℕ) (before : List (Taken A))
     (how : Outcome (Done A) (Refusal A)) (takes : ℕ) (after : List (Taken A))
     → IsAllowed limits → IsReceived limits waited reads ending parts consumed rest
     → Answers capacity first push (push_items push parts (mark_of ending)) before how takes after

@@ -5,17 +5,17 @@ use Rattle.hg_types.specs.declared.part.Part.{Part}
 use Rattle.hg_types.specs.declared.limits.Limits.{Limits}
 use Rattle.hg_stream.specs.declared.state.State.TheVariants.{Reading}
 use Rattle.hg_stream.specs.declared.unbundler.Unbundler.{Unbundler}
-use Rattle.hg_stream.specs.Unbundler.{Holds, limits_of, ready_of, state_of}
+use Rattle.hg_stream.specs.Unbundler.{HoldsBundle, limits_of, ready_of, state_of}
 use Rattle.hg_serve.specs.Clients.{SenderView, GoesOn}
-use Rattle.hg_devices.specs.Devices.{Input, Gave, Failed, Reads}
-use Rattle.hg_receiving.specs.declared.ending.Ending.{Ending}
+use Rattle.hg_devices.specs.Devices.{Input, Gave, Failed, ReadsOnce}
+use Rattle.hg_receiving.specs.declared.ending.BundleEnd.{BundleEnd}
 use Rattle.hg_receiving.specs.Receiving.{IsPiece, IsReceivedFrom, greatest_piece, part_items}
 use Rattle.hg_connection.specs.declared.coming.Next.{Next}
 use Rattle.hg_connection.specs.declared.coming.Next.TheVariants.{Comes, Ends as at_end, Fails}
 
 -- a reader of bundles that was fed nothing
 pub record IsFresh {A : Type 0} (limits : Limits) (u : Unbundler A) : Type 0 where
-  pub empty : Holds u [] []
+  pub empty : HoldsBundle u [] []
   pub state : state_of u ≡ Reading
   pub limits_are : limits_of u ≡ limits
   pub ready : ready_of u ≡ []
@@ -28,7 +28,7 @@ Puts old new parts = GoesOn old new (old.putter.put
 -- what was read to see whether a next bundle comes
 abbrev pub Arrives : List ℕ → List ℕ → Input → Input → Type 0
 Arrives before after input left = ((after ≡ before) × (left ≡ input))
-    ⊎ ((before ≡ []) × Reads input left (Gave after) × IsPiece after)
+    ⊎ ((before ≡ []) × ReadsOnce input left (Gave after) × IsPiece after)
 
 -- A byte of the next bundle waits, or the input ended, or a read failed. For the first bundle nothing is
 -- read.
@@ -36,12 +36,12 @@ abbrev pub IsNext : ℕ → List ℕ → List ℕ → Input → Input → Next �
 IsNext number before after input left Comes =
     Arrives before after input left × (number ≡ 0 → (after ≡ before) × (left ≡ input))
     × (1 ≤ number → after ≢ []) × (length after ≤ greatest_piece)
-IsNext number before after input left at_end = (before ≡ []) × Reads input left (Gave []) × IsAtEnd left.left
-IsNext number before after input left Fails = (before ≡ []) × Reads input left Failed
+IsNext number before after input left at_end = (before ≡ []) × ReadsOnce input left (Gave []) × IsAtEnd left.left
+IsNext number before after input left Fails = (before ≡ []) × ReadsOnce input left Failed
 
 -- A bundle was received from that reader, and its parts were put.
 pub record Receives {A : Type 0} (limits : Limits) (waited waiting : List ℕ) (input left : Input)
-    (old new : SenderView A) (ending : Ending) : Type 0 where
+    (old new : SenderView A) (ending : BundleEnd) : Type 0 where
   pub parts : List (Part A)
   pub bundle : IsReceivedFrom limits waited waiting input left ending parts
   pub put : GoesOn old new (part_items old.putter.push 0 parts)

@@ -3,7 +3,7 @@
 ghost use Rattle.hg_connection.specs.Receiving.{IsNext};
 
 use hg_devices::Reader;
-use hg_receiving::{Ending, Inbox};
+use hg_receiving::{BundleEnd, Inbox};
 
 /// What comes after a bundle.
 #[derive(Clone, Copy, Debug, PartialEq, Eq)]
@@ -29,7 +29,7 @@ pub fn next_bundle<I: Reader>(number: u32, inbox: &mut Inbox, reader: &mut I) ->
             let _waiting = inbox.pending();
             Next::Comes
         }
-        Some(Ending::InputEnded) => Next::Ends,
+        Some(BundleEnd::InputEnded) => Next::Ends,
         Some(_) => Next::Fails,
     }
 }

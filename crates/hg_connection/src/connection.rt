@@ -2,10 +2,10 @@
 
 ghost use Rattle.std.specs.Prelude.{◌≡◌, ◌≤◌, ◌+◌, ◌++◌, [], ℕ, List, length};
 ghost use Rattle.hg_types.specs.declared.part.Part.{Part as AnyPart};
-ghost use Rattle.hg_stream.specs.Unbundler.{Holds, limits_of, ready_of, state_of};
+ghost use Rattle.hg_stream.specs.Unbundler.{HoldsBundle, limits_of, ready_of, state_of};
 ghost use Rattle.hg_stream.specs.declared.state.State.TheVariants.{Ended as at_end_mark};
 ghost use Rattle.hg_queue.specs.History.{of, items_of};
-ghost use Rattle.hg_receiving.specs.declared.ending.Ending.TheVariants.{Whole};
+ghost use Rattle.hg_receiving.specs.declared.ending.BundleEnd.TheVariants.{Whole};
 ghost use Rattle.hg_connection.specs.Receiving.{IsFresh, Puts, Receives};
 ghost use Rattle.hg_connection.specs.Connections.{Connects, Exchange, Serves, TellsOf};
 
@@ -14,7 +14,7 @@ use crate::ending::mark;
 use crate::served::{ConnFault, Round, Served};
 use hg_devices::{Reader, Writer};
 use hg_push::laws::replies_are_short;
-use hg_receiving::{Ending, Inbox, send_reply, turn};
+use hg_receiving::{BundleEnd, Inbox, send_reply, turn};
 use hg_serve::{Client, Gate, Naming, Point, Sender, Server};
 use hg_stream::Unbundler;
 use hg_stream::laws::{parts_are_few, streams_are_settled_once};
@@ -31,8 +31,8 @@ pub(crate) fn put_ready<J: Naming<A>, A: Allocator + Copy, R: Wait, G: Gate>(
 )
     requires { length sender.old.putter.put + length (ready_of bundle.old) ≤ 10000 }
     ensures put { Puts sender.old sender.new (ready_of bundle.old) }
-    ensures holds { (given : List (AnyPart A)) (bytes : List ℕ) → Holds bundle.old given bytes →
-        Holds bundle.new (given ++ ready_of bundle.old) bytes }
+    ensures holds { (given : List (AnyPart A)) (bytes : List ℕ) → HoldsBundle bundle.old given bytes →
+        HoldsBundle bundle.new (given ++ ready_of bundle.old) bytes }
     ensures bundle { (state_of bundle.new ≡ state_of bundle.old) × (ready_of bundle.new ≡ []) }
     ensures limits { limits_of bundle.new ≡ limits_of bundle.old }
 {
@@ -55,7 +55,7 @@ fn receive<J: Naming<A>, A: Allocator + Copy, R: Wait, I: Reader, G: Gate>(
     inbox: &mut Inbox,
     reader: &mut I,
     gate: &mut G,
-) -> Ending
+) -> BundleEnd
     requires bundle { IsFresh server.now bundle.old }
     requires sender { sender.old.putter.put ≡ [] }
     ensures received { Receives server.now inbox.old inbox.new (I.told reader.old) (I.told reader.new)

@@ -1,10 +1,10 @@
 //! How a push is marked whose bundle ended.
 
-ghost use Rattle.hg_serve.specs.Clients.{Ends};
+ghost use Rattle.hg_serve.specs.Clients.{PutsItsMark};
 ghost use Rattle.hg_receiving.specs.Receiving.{mark_of};
 
-use hg_receiving::{Ending, cut_of};
-use hg_serve::{Ended, Gate, Naming, Sender, Server};
+use hg_receiving::{BundleEnd, cut_of};
+use hg_serve::{Awaiting, Gate, Naming, Sender, Server};
 use std::alloc::Allocator;
 use std::sync::Wait;
 
@@ -13,10 +13,10 @@ pub fn mark<J: Naming<A>, A: Allocator + Copy, R: Wait, G: Gate>(
     server: &Server<J, A>,
     rt: &R,
     sender: Sender<J, A>,
-    ending: Ending,
+    ending: BundleEnd,
     gate: &mut G,
-) -> Ended<J, A>
-    ensures { Ends sender (mark_of ending) result }
+) -> Awaiting<J, A>
+    ensures { PutsItsMark sender (mark_of ending) result }
 {
     match cut_of(ending) {
         None => server.end(rt, sender, gate),

@@ -3,13 +3,13 @@
 ghost use Rattle.std.specs.Prelude.{◌≡◌, []};
 ghost use Rattle.hg_stream.specs.Unbundler.{limits_of, ready_of, state_of};
 ghost use Rattle.hg_stream.specs.declared.state.State.TheVariants.{Ended as at_end_mark};
-ghost use Rattle.hg_receiving.specs.declared.ending.Ending.TheVariants.{Whole};
+ghost use Rattle.hg_receiving.specs.declared.ending.BundleEnd.TheVariants.{Whole};
 ghost use Rattle.hg_connection.specs.Receiving.{IsFresh};
 ghost use Rattle.hg_connection.specs.Keeping.{ReceivesKept};
 
 use crate::connection::put_ready;
 use hg_devices::Reader;
-use hg_receiving::{Ending, Inbox};
+use hg_receiving::{BundleEnd, Inbox};
 use hg_serve::{Gate, Naming, Sender, Server};
 use hg_stream::laws::parts_are_few;
 use hg_stream::{StreamFault, Unbundler};
@@ -28,7 +28,7 @@ pub fn receive_kept<J: Naming<A>, A: Allocator + Copy, R: Wait, I: Reader, G: Ga
     reader: &mut I,
     kept: &mut Vec<u8, A>,
     gate: &mut G,
-) -> Ending
+) -> BundleEnd
     requires bundle { IsFresh server.now bundle.old }
     requires sender { sender.old.putter.put ≡ [] }
     requires kept { kept.old.items ≡ [] }
@@ -45,7 +45,7 @@ pub fn receive_kept<J: Naming<A>, A: Allocator + Copy, R: Wait, I: Reader, G: Ga
             Some(ending) => return ending,
         }
         if kept.extend_from_slice(inbox.pending()).is_err() {
-            return Ending::Fault(StreamFault::NoMemory);
+            return BundleEnd::Fault(StreamFault::NoMemory);
         }
         let ended = inbox.feed(bundle);
         put_ready(server, rt, sender, bundle, gate);

@@ -3,7 +3,7 @@
 //!
 //! [`serve_connection`] opens a push, reads its bundle, puts its parts and its mark, waits for the answer,
 //! and writes and flushes the reply; then the next bundle begins. Bytes that were read after an end mark
-//! begin it. [`Served`] tells what became of the connection. The lock of the server is not held while a
+//! begin it. [`Served`] says what became of the connection. The lock of the server is not held while a
 //! reader or a writer is used.
 //!
 //! For a server that has to keep what it answers, the steps of one bundle stand alone: [`receive_kept`] keeps

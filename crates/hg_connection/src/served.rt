@@ -5,7 +5,7 @@ ghost use Rattle.hg_connection.specs.Connections.{fault_of};
 
 use hg_devices::Sending;
 use hg_push::OpenFault;
-use hg_receiving::Ending;
+use hg_receiving::BundleEnd;
 use hg_serve::Answer;
 use hg_stream::StreamFault;
 use std::alloc::{Allocator, Global};
@@ -49,7 +49,7 @@ pub struct Served<A: Allocator = Global> {
 #[derive(Drop)]
 pub struct Round<A: Allocator = Global> {
     pub answer: Answer<A>,
-    pub ending: Ending,
+    pub ending: BundleEnd,
     pub sending: Sending,
     pub written: usize,
 }
@@ -111,15 +111,15 @@ impl<A: Allocator> Served<A> {
 }
 
 /// The fault of a connection whose bundle ended so, and whose reply went out so.
-pub fn fault_of(ending: Ending, sending: Sending) -> Option<ConnFault>
+pub fn fault_of(ending: BundleEnd, sending: Sending) -> Option<ConnFault>
     ensures { result ≡ fault_of ending sending }
 {
     match (ending, sending) {
-        (Ending::ReadFailed, _) => Some(ConnFault::ReadFailed),
-        (Ending::Fault(fault), _) => Some(ConnFault::Stream(fault)),
-        (Ending::InputEnded, _) => Some(ConnFault::Stream(StreamFault::Truncated)),
-        (Ending::Whole, Sending::Whole) => None,
-        (Ending::Whole, Sending::Broken) => Some(ConnFault::WriteFailed),
-        (Ending::Whole, Sending::NoMemory) => Some(ConnFault::NoMemory),
+        (BundleEnd::ReadFailed, _) => Some(ConnFault::ReadFailed),
+        (BundleEnd::Fault(fault), _) => Some(ConnFault::Stream(fault)),
+        (BundleEnd::InputEnded, _) => Some(ConnFault::Stream(StreamFault::Truncated)),
+        (BundleEnd::Whole, Sending::Whole) => None,
+        (BundleEnd::Whole, Sending::Broken) => Some(ConnFault::WriteFailed),
+        (BundleEnd::Whole, Sending::NoMemory) => Some(ConnFault::NoMemory),
     }
 }

@@ -3,7 +3,7 @@
 
 ghost use Rattle.std.specs.Prelude.{◌≤◌};
 ghost use Rattle.hg_types.specs.Limits.{IsAllowed};
-ghost use Rattle.hg_serve.specs.Desks.{Begins};
+ghost use Rattle.hg_serve.specs.Desks.{OpensWith};
 
 mod bundles;
 mod cut;
@@ -17,9 +17,11 @@ mod pieces;
 mod steps;
 mod writers;
 
-use crate::tests::devices::{Asker, Counter, Endless, Sink, Source};
+use crate::tests::devices::{Asker, Counter, Endless};
 use hg_connection::{ConnFault, serve_connection};
 use hg_devices::{Reader, Writer};
+use hg_help_tests::bundles::{EMPTY, INTERRUPTED_ROOT, ROOT, ROOT_REPLY};
+use hg_help_tests::devices::{Sink, Source};
 use hg_queue::{PartQueue, Taker};
 use hg_repo::Repo;
 use hg_serve::{Naming, NoGate, Server};
@@ -32,36 +34,6 @@ use std::process::Abort;
 use std::random::RandomSource;
 use std::sync::Wait;
 use std::test::*;
-
-/// The bundle without parts, and the reply to a push that is done.
-const EMPTY: &[u8] = b"HG20\0\0\0\0\0\0\0\0";
-
-/// `check:heads` without an id.
-const RACE: &[u8] = b"HG20\0\0\0\0\0\0\0\x12\x0bCHECK:HEADS\0\0\0\0\0\0\0\0\0\0\0\0\0\0";
-
-const RACE_REPLY: &[u8] =
-    b"HG20\0\0\0\0\0\0\0\x2c\x0fERROR:PUSHRACED\0\0\0\0\x01\0\x07\x0dmessageheads changed\0\0\0\0\0\0\0\0";
-
-/// `replycaps`, and a changegroup with the changeset of the empty text.
-const ROOT: &[u8] =
-    b"HG20\0\0\0\0\0\0\0\x10\x09REPLYCAPS\0\0\0\0\0\0\0\0\0\0\0\0\0\x1d\x0bCHANGEGROUP\0\0\0\x01\x01\0\x07\
-    \x02version02\0\0\0t\0\0\0h\xb8\x0d\xe5\xd18u\x85A\xc5\xf0Re\xad\x14J\xb9\xfa\x86\xd1\xdb\0\0\0\0\0\
-    \0\0\0\0\0\0\0\0\0\0\0\0\0\0\0\0\0\0\0\0\0\0\0\0\0\0\0\0\0\0\0\0\0\0\0\0\0\0\0\0\0\0\0\0\0\0\0\0\0\0\
-    \0\0\0\0\0\xb8\x0d\xe5\xd18u\x85A\xc5\xf0Re\xad\x14J\xb9\xfa\x86\xd1\xdb\0\0\0\0\0\0\0\0\0\0\0\0\0\0\
-    \0\0\0\0\0\0";
-
-/// The same, the changegroup in chunks of 40 and 76 bytes and a part `output` between them.
-const INTERRUPTED_ROOT: &[u8] =
-    b"HG20\0\0\0\0\0\0\0\x10\x09REPLYCAPS\0\0\0\0\0\0\0\0\0\0\0\0\0\x1d\x0bCHANGEGROUP\0\0\0\x01\x01\0\x07\
-    \x02version02\0\0\0(\0\0\0h\xb8\x0d\xe5\xd18u\x85A\xc5\xf0Re\xad\x14J\xb9\xfa\x86\xd1\xdb\0\0\0\0\0\
-    \0\0\0\0\0\0\0\0\0\0\0\xff\xff\xff\xff\0\0\0\x0d\x06output\0\0\0\0\0\0\0\0\0\0\0\0\0L\0\0\0\0\0\0\0\
-    \0\0\0\0\0\0\0\0\0\0\0\0\0\0\0\0\0\0\0\0\0\0\0\0\0\0\0\0\0\0\0\0\0\0\0\0\0\xb8\x0d\xe5\xd18u\x85A\
-    \xc5\xf0Re\xad\x14J\xb9\xfa\x86\xd1\xdb\0\0\0\0\0\0\0\0\0\0\0\0\0\0\0\0\0\0\0\0";
-
-/// The reply to a push of a changeset.
-const ROOT_REPLY: &[u8] =
-    b"HG20\0\0\0\0\0\0\0\x2f\x11reply:changegroup\0\0\0\0\0\x02\x0b\x01\x06\x01in-reply-to1return1\0\0\0\0\
-    \0\0\0\0";
 
 /// The length of the report of a repository with that changeset alone.
 const ROOT_REPORT: usize = 49;
@@ -113,7 +85,7 @@ fn connect<J: Naming<A>, A: Allocator + Copy, R: RandomSource + Wait + Abort, I:
     writer: &mut W,
     most: u32,
 ) -> Option<Told>
-    requires server { Begins J.table J.capacity J.first queue taker repo }
+    requires server { OpensWith J.table J.capacity J.first queue taker repo }
     requires most { (1 ≤ most) × (most ≤ 10000) }
 {
     let mut clients = Vec::with_capacity(alloc, 1).ok()?;

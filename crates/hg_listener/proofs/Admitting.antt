@@ -2,7 +2,7 @@
 use Rattle.std.proofs.Common.{◌≡◌, ℕ, ◌<◌, ◌+◌, List, [], ◌∷◌, ◌++◌, true, false, Bool, Option, refl, sym}
 use Rattle.std.proofs.Common.{◌∙◌, ap, subst, inl, inr, append_assoc, zero, suc, arith}
 use Rattle.std.proofs.lemmas.List.{append-nil}
-use Rattle.hg_devices.specs.Devices.{Adds}
+use Rattle.hg_devices.specs.Devices.{TellsMore}
 use Rattle.hg_devices.proofs.CallerLemmas.{Adds-nil, Adds-trans}
 use Rattle.hg_listener.specs.declared.terms.Terms.{Terms}
 use Rattle.hg_listener.specs.Doors.{Accepted, Admits, AdmitsAll, DoorUse, Started, served}
@@ -19,18 +19,18 @@ served_more (suc n) terms = append_assoc (each terms) (served n terms) (each ter
 next : (n : ℕ) → suc n ≡ n + 1
 next n = omega arith
 
-pub starts : (door : Option (List DoorUse)) (terms : Terms) → Adds door door (served 0 terms)
+pub starts : (door : Option (List DoorUse)) (terms : Terms) → TellsMore door door (served 0 terms)
 starts door terms = Adds-nil door
 
 pub goes_on : (before now after : Option (List DoorUse)) (terms : Terms) (n : ℕ)
-    → Adds before now (served n terms) → Admits now after terms true → Adds before after (served (n + 1) terms)
+    → TellsMore before now (served n terms) → Admits now after terms true → TellsMore before after (served (n + 1) terms)
 goes_on before now after terms n so_far more =
-    subst (λ (l : List DoorUse). Adds before after l)
+    subst (λ (l : List DoorUse). TellsMore before after l)
     (served_more n terms ∙ ap (λ (k : ℕ). served k terms) (next n))
     (Adds-trans before now after (served n terms) (each terms) so_far more)
 
 pub stops : (before now after : Option (List DoorUse)) (terms : Terms) (n : ℕ)
-    → Adds before now (served n terms) → n < terms.connections → Admits now after terms false
+    → TellsMore before now (served n terms) → n < terms.connections → Admits now after terms false
     → AdmitsAll before after terms true
 stops before now after terms n so_far less failure = (
   served n terms ++ failure.0,
@@ -39,7 +39,7 @@ stops before now after terms n so_far less failure = (
 )
 
 pub all_served : (before now : Option (List DoorUse)) (terms : Terms) (n : ℕ)
-    → Adds before now (served n terms) → n ≡ terms.connections → AdmitsAll before now terms false
+    → TellsMore before now (served n terms) → n ≡ terms.connections → AdmitsAll before now terms false
 all_served before now terms n so_far all = (
   served n terms,
   so_far,
@@ -47,12 +47,12 @@ all_served before now terms n so_far all = (
 )
 
 -- a connection that was not accepted, or not started
-pub not_accepted : (before after : Option (List DoorUse)) (terms : Terms) → Adds before after (Accepted false ∷ [])
+pub not_accepted : (before after : Option (List DoorUse)) (terms : Terms) → TellsMore before after (Accepted false ∷ [])
     → Admits before after terms false
 not_accepted before after terms told = (Accepted false ∷ [], told, inl refl)
 
 pub accepted : (before way after : Option (List DoorUse)) (terms : Terms) (started : Bool)
-    → Adds before way (Accepted true ∷ []) → Adds way after (Started terms started ∷ [])
+    → TellsMore before way (Accepted true ∷ []) → TellsMore way after (Started terms started ∷ [])
     → Admits before after terms started
 accepted before way after terms true first next =
     Adds-trans before way after (Accepted true ∷ []) (Started terms true ∷ []) first next

@@ -10,7 +10,7 @@ use Rattle.hg_parts.specs.Repository.{Repository}
 use Rattle.hg_queue.specs.declared.seat.Taker.{Taker}
 use Rattle.hg_queue.specs.Words.{IsTakerIn, history}
 use Rattle.hg_serve.specs.Histories.{serial_run}
-use Rattle.hg_devices.specs.Devices.{Adds, Output}
+use Rattle.hg_devices.specs.Devices.{TellsMore, Output}
 use Rattle.hg_devices.specs.Sent.{Sends}
 use Rattle.hg_devices.specs.declared.sending.Sending.{Sending}
 use Rattle.hg_devices.specs.declared.sending.Sending.TheVariants.{NoMemory}
@@ -29,7 +29,7 @@ pub closes : {A : Type 0} (first named repo : Repository A) (terms : Terms) (cap
     → (clients : List (List (Taken A))) × (length clients ≡ left) × All (λ c. IsPrefix c (history taker)) clients
     → no_memory ≡ (missed || nat_lt left terms.connections)
     → at ≡ terms → AdmitsAll door mid at failed
-    → Adds mid shut (Ended missed ∷ [])
+    → TellsMore mid shut (Ended missed ∷ [])
     → EndsOn first terms door shut before after status
 closes {A} first named repo terms capacity door mid shut before after status count table taker at journal shown
     sending failed missed no_memory left same room run all sent is of handed lacks on admits last =

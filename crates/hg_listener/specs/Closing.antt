@@ -1,5 +1,5 @@
--- What is told of a closed server, and by which status.
-use Rattle.std.specs.Prelude.{ℕ, ◌≡◌, ◌⊎◌, List, [], ◌∷◌, ◌++◌, codes, decimal, Bool, true, false, ◌||◌}
+-- What is reported of a closed server, and by which status.
+use Rattle.std.specs.Prelude.{ℕ, ◌≡◌, ◌⊎◌, List, [], ◌∷◌, ◌++◌, Bool, true, false, ◌||◌}
 use Rattle.std.specs.Prelude.{All, Option, length, nat_lt}
 use Rattle.std.specs.List.{flat_map}
 use mathlib.Core.List.{IsPrefix}
@@ -9,17 +9,13 @@ use Rattle.hg_parts.specs.Repository.{Repository}
 use Rattle.hg_queue.specs.declared.seat.Taker.{Taker}
 use Rattle.hg_queue.specs.Words.{IsTakerIn, history as taken_by}
 use Rattle.hg_serve.specs.Histories.{serial_run}
-use Rattle.hg_devices.specs.Devices.{Adds, Output}
+use Rattle.hg_devices.specs.Devices.{TellsMore, Output}
 use Rattle.hg_devices.specs.Sent.{Sends}
 use Rattle.hg_devices.specs.declared.sending.Sending.{Sending}
 use Rattle.hg_devices.specs.declared.sending.Sending.TheVariants.{Whole, Broken, NoMemory}
-use Rattle.hg_repo.specs.Report.{report_of}
+use Rattle.hg_repo.specs.Report.{journal_line, report_of}
 use Rattle.hg_listener.specs.declared.terms.Terms.{Terms}
 use Rattle.hg_listener.specs.Doors.{AsksFor, DoorUse, Ended, IsBounded}
-
--- the line of a push that is done
-abbrev pub journal_line : ℕ → List ℕ
-journal_line push = codes "J " ++ decimal push ++ codes "\n"
 
 -- The report of the repository, and after it a line for each push of the journal, in its order.
 abbrev pub closing_text : {A : Type 0} → Repository A → List ℕ → List ℕ
@@ -38,7 +34,7 @@ status_of false false Whole = 0
 -- terms have, or up to one that failed, and heard then whether memory was refused for one. The queue has the
 -- capacity of the terms, and what its Taker took gives this repository and this journal, run one by one from
 -- the first repository. It begins with what each client that was handed in has seen. So much of their text
--- was written. The status tells whether a device failed, or memory was refused: for a connection, as the door
+-- was written. The status says whether a device failed, or memory was refused: for a connection, as the door
 -- heard or where one has no client, or for the text.
 pub record Closes {A : Type 0} (first : Repository A) (terms : Terms) (door shut : Option (List DoorUse))
     (before after : Output) (status : ℕ) : Type 0 where
@@ -55,7 +51,7 @@ pub record Closes {A : Type 0} (first : Repository A) (terms : Terms) (door shut
   pub asked : List DoorUse
   pub asks : AsksFor terms failed asked
   pub missed : Bool
-  pub uses : Adds door shut (asked ++ Ended missed ∷ [])
+  pub uses : TellsMore door shut (asked ++ Ended missed ∷ [])
   pub clients : List (List (Taken A))
   pub earlier : All (λ c. IsPrefix c history) clients
   pub memory : no_memory ≡ (missed || nat_lt (length clients) terms.connections)
@@ -71,7 +67,7 @@ EndsOn first terms door shut before after status = ((status ≡ 4) × (shut ≡ 
     ⊎ Closes first terms door shut before after status
 
 -- A service ended that was asked for on these terms.
-abbrev pub Ends : {A : Type 0} → Repository A → Terms → Option (List DoorUse) → Option (List DoorUse) →
+abbrev pub EndsService : {A : Type 0} → Repository A → Terms → Option (List DoorUse) → Option (List DoorUse) →
     Output → Output → ℕ → Type 0
-Ends first terms door shut before after status = (used : Terms) × IsBounded terms used
+EndsService first terms door shut before after status = (used : Terms) × IsBounded terms used
     × EndsOn first used door shut before after status

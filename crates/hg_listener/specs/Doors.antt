@@ -1,7 +1,7 @@
--- What a door tells of how it was used, and on which terms.
+-- What a door reports of how it was used, and on which terms.
 use Rattle.std.specs.Prelude.{ℕ, ◌≡◌, ◌<◌, ◌≤◌, ◌⊎◌, List, [], ◌∷◌, ◌++◌, Bool, true, false, zero}
 use Rattle.std.specs.Prelude.{suc, Option}
-use Rattle.hg_devices.specs.Devices.{Adds}
+use Rattle.hg_devices.specs.Devices.{TellsMore}
 use Rattle.hg_listener.specs.declared.terms.Terms.{Terms}
 
 -- How a door was used: whether it accepted a connection; whether it heard that one is served, on these terms;
@@ -30,18 +30,18 @@ served zero terms = []
 served (suc count) terms = Accepted true ∷ Started terms true ∷ served count terms
 
 -- a connection that was not accepted, or one that was and was not started
-abbrev pub Fails : Terms → List DoorUse → Type 0
-Fails terms last = (last ≡ Accepted false ∷ []) ⊎ (last ≡ Accepted true ∷ Started terms false ∷ [])
+abbrev pub ConnectionFails : Terms → List DoorUse → Type 0
+ConnectionFails terms last = (last ≡ Accepted false ∷ []) ⊎ (last ≡ Accepted true ∷ Started terms false ∷ [])
 
 -- one connection was asked for
 abbrev pub Admits : Option (List DoorUse) → Option (List DoorUse) → Terms → Bool → Type 0
-Admits before after terms true = Adds before after (Accepted true ∷ Started terms true ∷ [])
-Admits before after terms false = (last : List DoorUse) × Adds before after last × Fails terms last
+Admits before after terms true = TellsMore before after (Accepted true ∷ Started terms true ∷ [])
+Admits before after terms false = (last : List DoorUse) × TellsMore before after last × ConnectionFails terms last
 
 -- Without a failure as many were served as were asked for. With one, fewer were, and one more failed.
 abbrev pub EndsAt : Terms → Bool → ℕ → List DoorUse → Type 0
 EndsAt terms false count last = (count ≡ terms.connections) × (last ≡ [])
-EndsAt terms true count last = (count < terms.connections) × Fails terms last
+EndsAt terms true count last = (count < terms.connections) × ConnectionFails terms last
 
 -- A door was asked for the connections of a service of these terms, one after another, and after one that
 -- failed no more.
@@ -51,6 +51,6 @@ pub record AsksFor (terms : Terms) (failed : Bool) (uses : List DoorUse) : Type 
   pub uses_are : uses ≡ served count terms ++ last
   pub ends : EndsAt terms failed count last
 
--- the same, as the door tells it
+-- the same, as the door reports it
 abbrev pub AdmitsAll : Option (List DoorUse) → Option (List DoorUse) → Terms → Bool → Type 0
-AdmitsAll before after terms failed = (uses : List DoorUse) × Adds before after uses × AsksFor terms failed uses
+AdmitsAll before after terms failed = (uses : List DoorUse) × TellsMore before after uses × AsksFor terms failed uses

@@ -1,12 +1,13 @@
-//! What is told of a closed server: its report, and the journal.
+//! What is reported of a closed server: its report, and the journal.
 
 ghost use Rattle.std.specs.Prelude.{◌≡◌, ◌++◌, IfOk, OnOk};
 ghost use Rattle.std.specs.List.{flat_map};
 ghost use Rattle.hg_devices.specs.Sent.{Sends};
-ghost use Rattle.hg_listener.specs.Closing.{closing_text, journal_line};
+ghost use Rattle.hg_repo.specs.Report.{journal_line};
+ghost use Rattle.hg_listener.specs.Closing.{closing_text};
 
 use hg_devices::{Sending, Writer, send};
-use hg_repo::Repo;
+use hg_repo::{Repo, add_journal_line};
 use hg_types::NoMemory;
 use std::alloc::Allocator;
 
@@ -49,16 +50,7 @@ fn add_lines<A: Allocator + Copy>(
     ensures { OnOk result (text.new.items ≡ text.old.items ++ flat_map journal_line journal.now) }
 {
     for push in journal {
-        add_line(alloc, text, *push)?;
+        add_journal_line(alloc, text, *push as usize)?;
     }
-    Ok(())
-}
-
-/// Adds the line of a push.
-fn add_line<A: Allocator + Copy>(alloc: A, text: &mut Vec<u8, A>, push: u32) -> Result<(), NoMemory>
-    ensures { OnOk result (text.new.items ≡ text.old.items ++ journal_line push) }
-{
-    let line = format!(in alloc; "J {push}\n")?;
-    text.extend_from_slice(line.as_bytes())?;
     Ok(())
 }

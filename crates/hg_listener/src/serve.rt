@@ -2,9 +2,9 @@
 
 ghost use Rattle.std.specs.Prelude.{◌≡◌, ◌≤◌, ◌||◌, ◌∷◌, [], nat_lt};
 ghost use Rattle.hg_types.specs.Limits.{IsAllowed};
-ghost use Rattle.hg_devices.specs.Devices.{Adds};
-ghost use Rattle.hg_serve.specs.Desks.{Begins};
-ghost use Rattle.hg_listener.specs.Closing.{Ends, EndsOn, status_of};
+ghost use Rattle.hg_devices.specs.Devices.{TellsMore};
+ghost use Rattle.hg_serve.specs.Desks.{OpensWith};
+ghost use Rattle.hg_listener.specs.Closing.{EndsService, EndsOn, status_of};
 ghost use Rattle.hg_listener.specs.Doors.{Started, Admits, AdmitsAll};
 
 use crate::closing::tell_closing;
@@ -35,7 +35,7 @@ fn start<'s, E, J: Naming<Global> + Send + Sync, R: Threads + Wait + Clock + Syn
     stream: TcpStream,
     door: &mut D,
 ) -> bool
-    ensures { Adds (D.told door.old) (D.told door.new) (Started service.now result ∷ []) }
+    ensures { TellsMore (D.told door.old) (D.told door.new) (Started service.now result ∷ []) }
 {
     let started = Builder::new()
         .stack_size(STACK)
@@ -112,7 +112,7 @@ where
     R: Threads + Wait + Clock + Sync,
     D: Door + Drop,
     W: Writer,
-    requires begins { Begins J.table J.capacity J.first queue taker repo }
+    requires begins { OpensWith J.table J.capacity J.first queue taker repo }
     requires terms { (terms.capacity ≡ J.capacity) × (1 ≤ terms.bundles) × (terms.bundles ≤ 10000) }
     ensures { EndsOn repo terms (D.told door) (D.told result.1)
         (W.told report.old) (W.told report.new) result.0 }
@@ -161,7 +161,7 @@ pub fn serve_repository<R: Threads + Wait + Clock + Sync, D: Door + Drop, W: Wri
     report: &mut W,
 ) -> (u8, D)
     requires { IsAllowed repo.settings.limits }
-    ensures { Ends repo terms (D.told door) (D.told result.1)
+    ensures { EndsService repo terms (D.told door) (D.told result.1)
         (W.told report.old) (W.told report.new) result.0 }
 {
     let terms = terms.bounded();

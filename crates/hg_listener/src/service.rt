@@ -1,10 +1,10 @@
-//! A server, and what its threads leave behind.
+//! A server, and what its threads leave.
 
 ghost use Rattle.std.specs.Prelude.{◌≡◌, ◌≤◌, [], List, All, length, MatchOption};
 ghost use mathlib.Core.List.{IsPrefix};
 ghost use Rattle.hg_types.specs.declared.item.Taken.{Taken};
 ghost use Rattle.hg_queue.specs.Words.{history, IsTakerIn};
-ghost use Rattle.hg_serve.specs.Desks.{Begins};
+ghost use Rattle.hg_serve.specs.Desks.{OpensWith};
 ghost use Rattle.hg_serve.specs.Histories.{serial_run};
 ghost use Rattle.hg_connection.specs.Connections.{Connects};
 
@@ -56,7 +56,7 @@ impl<J: Naming<A>, A: Allocator + Copy> Service<J, A> {
         clients: Vec<Client<J, A>, A>,
         terms: Terms,
     ) -> Service<J, A>
-        requires begins { Begins J.table J.capacity J.first queue taker repo }
+        requires begins { OpensWith J.table J.capacity J.first queue taker repo }
         requires terms { (terms.capacity ≡ J.capacity) × (1 ≤ terms.bundles) × (terms.bundles ≤ 10000) }
         ensures { result ≡ terms }
     {

@@ -14,7 +14,7 @@ use Rattle.hg_queue.specs.declared.view.TakerView.{TakerView}
 use Rattle.hg_queue.specs.declared.view.View.{View}
 use Rattle.hg_queue.specs.declared.view.View.TheVariants.{AsTaker, AsPutter, AsMarked, AsVisitor, Spent}
 use Rattle.hg_queue.specs.History.{of, has}
-use Rattle.hg_queue.specs.Rules.{World, whole, IsClaim, Kind, Fits, IsSound, AllFit, Rule}
+use Rattle.hg_queue.specs.Rules.{World, whole, IsClaim, Kind, SeatFits, IsSound, AllFit, Rule}
 use Rattle.hg_queue.specs.Steps.{noted, opened}
 use Rattle.hg_queue.specs.Steps.{settled, joined}
 use Rattle.hg_queue.specs.Steps.{heard}
@@ -73,7 +73,7 @@ module _ {A : Type 0} where
 
   note_fits : (w : World A) (n new : ℕ) (items : List (Item A)) (seats : ℕ) (j : ℕ) (u : View A)
       → has n w.noted ≡ false → IsSound w items seats → Kind (with_number w n new) (whole w items) j u
-      → Fits w (whole w items) j u → Fits (with_number w n new) (whole w items) j u
+      → SeatFits w (whole w items) j u → SeatFits (with_number w n new) (whole w items) j u
   note_fits w n new items seats j u free so kind f =
       record {
         kind = kind;
@@ -165,8 +165,8 @@ module _ {A : Type 0} where
   -- two seats become one: the first takes in the other's view
 
   merged : (w : World A) (all : List (Item A)) (views : List (View A)) (port : ℕ) (v both : View A)
-      (other : ℕ) → AllFit w all views → ((j : ℕ) (u : View A) → get_elem? views j ≡ some u → Fits w all j u)
-      → Fits w all port both → AllFit w all (set (set views port both) other Spent)
+      (other : ℕ) → AllFit w all views → ((j : ℕ) (u : View A) → get_elem? views j ≡ some u → SeatFits w all j u)
+      → SeatFits w all port both → AllFit w all (set (set views port both) other Spent)
   merged w all views port v both other fit old mine =
       stepped w all (set views port both) other Spent (record { kind = tt; spent = λ p is e. refl })
       (λ j u apart e. stepped w all views port both mine (λ i y n e'. old i y e') j u e)
@@ -310,11 +310,11 @@ module _ {A : Type 0} where
       -- away from the other seat
       stepped' : (w : World A) (all : List (Item A)) (views : List (View A)) (port : ℕ) (v : View A)
           (other : ℕ) → Kind w all port v → ((p : ℕ) → has p w.joined ≡ true → w.seat p ≡ port → v ≡ Spent)
-          → ((j : ℕ) (u : View A) → j ≢ port → j ≢ other → get_elem? views j ≡ some u → Fits w all j u)
-          → (j : ℕ) (u : View A) → j ≢ other → get_elem? (set views port v) j ≡ some u → Fits w all j u
+          → ((j : ℕ) (u : View A) → j ≢ port → j ≢ other → get_elem? views j ≡ some u → SeatFits w all j u)
+          → (j : ℕ) (u : View A) → j ≢ other → get_elem? (set views port v) j ≡ some u → SeatFits w all j u
       stepped' w all views port v other kind spent others j u away e =
           ⊎_elim
-          (λ (x : (j ≡ port) × (v ≡ u)). subst (λ (y : ℕ × View A). Fits w all y.0 y.1)
+          (λ (x : (j ≡ port) × (v ≡ u)). subst (λ (y : ℕ × View A). SeatFits w all y.0 y.1)
           (λ i. (sym x.0 i, x.1 i)) (record { kind = kind; spent = spent }))
           (λ (x : (j ≢ port) × (get_elem? views j ≡ some u)). others j u x.0 away x.1)
           (at_set views port j v u e)

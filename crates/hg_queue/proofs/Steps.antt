@@ -17,7 +17,7 @@ use Rattle.hg_queue.specs.declared.view.PutterView.{PutterView}
 use Rattle.hg_queue.specs.declared.view.View.{View}
 use Rattle.hg_queue.specs.declared.view.View.TheVariants.{AsTaker, AsPutter, AsMarked, AsVisitor, Spent}
 use Rattle.hg_queue.specs.History.{is_part, of, has, AllParts, IsOrderly, IsDistinct}
-use Rattle.hg_queue.specs.Rules.{World, log_of, whole, IsClaim, Kind, Fits, IsSound, AllFit, Rule, Stands}
+use Rattle.hg_queue.specs.Rules.{World, log_of, whole, IsClaim, Kind, SeatFits, IsSound, AllFit, Rule, Stands}
 use Rattle.hg_queue.specs.Steps.{unsized, sized, settle, noted, put_by, claim, Marks, counted_full}
 use Rattle.hg_queue.specs.Steps.{settled_view, took, TakesOne, counted_empty, settled, history_note, joined}
 use Rattle.hg_queue.specs.Steps.{heard}
@@ -38,22 +38,22 @@ seated_old seat n new q e = ap (λ (b : Bool). cond b new (seat q)) (ne_eqb q n 
 module _ {A : Type 0} where
   -- the views after one seat's view changed
   pub stepped : (w : World A) (all : List (Item A)) (views : List (View A)) (port : ℕ) (v : View A)
-      → Fits w all port v → ((j : ℕ) (u : View A) → j ≢ port → get_elem? views j ≡ some u → Fits w all j u)
+      → SeatFits w all port v → ((j : ℕ) (u : View A) → j ≢ port → get_elem? views j ≡ some u → SeatFits w all j u)
       → AllFit w all (set views port v)
   stepped w all views port v mine others j u e =
       ⊎_elim
-      (λ (x : (j ≡ port) × (v ≡ u)). subst (λ (y : ℕ × View A). Fits w all y.0 y.1)
+      (λ (x : (j ≡ port) × (v ≡ u)). subst (λ (y : ℕ × View A). SeatFits w all y.0 y.1)
       (λ i. (sym x.0 i, x.1 i)) mine)
       (λ (x : (j ≢ port) × (get_elem? views j ≡ some u)). others j u x.0 x.1)
       (at_set views port j v u e)
 
   -- the views with a new seat
   pub grown : (w : World A) (all : List (Item A)) (views : List (View A)) (r : View A) → AllFit w all views
-      → Fits w all (length views) r → AllFit w all (views ++ r ∷ [])
+      → SeatFits w all (length views) r → AllFit w all (views ++ r ∷ [])
   grown w all views r old new j u e =
       ⊎_elim
       (λ (x : get_elem? views j ≡ some u). old j u x)
-      (λ (x : (j ≡ length views) × (r ≡ u)). subst (λ (y : ℕ × View A). Fits w all y.0 y.1)
+      (λ (x : (j ≡ length views) × (r ≡ u)). subst (λ (y : ℕ × View A). SeatFits w all y.0 y.1)
       (λ i. (sym x.0 i, x.1 i)) new)
       (at_new views r u j e)
 
@@ -94,7 +94,7 @@ module _ {A : Type 0} where
   )
     where
       one : AllFit start [] (unsized ∷ [])
-      one zero v e = subst (Fits start [] 0) (some-injective _ _ e)
+      one zero v e = subst (SeatFits start [] 0) (some-injective _ _ e)
           (record {
             kind = record {
               here = refl;
@@ -124,7 +124,7 @@ module _ {A : Type 0} where
       }
 
   pub spent_not : (w : World A) (all : List (Item A)) (port : ℕ) (v : View A) → (v ≡ Spent → ⊥)
-      → Fits w all port v → (u : View A) → (p : ℕ) → has p w.joined ≡ true → w.seat p ≡ port → u ≡ Spent
+      → SeatFits w all port v → (u : View A) → (p : ℕ) → has p w.joined ≡ true → w.seat p ≡ port → u ≡ Spent
   spent_not w all port v not f u p is at = absurd (not (f.spent p is at))
 
   pub looks : (port : ℕ) (v : View A) → Learns Rule port v (Stands v)
@@ -296,7 +296,7 @@ module _ {A : Type 0} where
       (v' : View A) → length items < w.capacity → port ≡ w.seat x.push → has x.push w.noted ≡ true
       → AllParts (of x.push (whole w items)) → x.index ≡ length (of x.push (whole w items))
       → IsSound w items (length views) → AllFit w (whole w items) views
-      → Fits w (whole w items ++ x ∷ []) port v' → Rule (items ++ x ∷ []) (set views port v')
+      → SeatFits w (whole w items ++ x ∷ []) port v' → Rule (items ++ x ∷ []) (set views port v')
   put_step w items views port x v' room seat is parts index so fit mine =
       let same : whole w items ++ x
       ∷ [] ≡ whole w (items ++ x ∷ []) = append_assoc (log_of w) items (x ∷ []) in

@@ -46,7 +46,7 @@ pub record IsClaim {A : Type 0} (w : World A) (all : List (Item A)) (c : Claim A
   pub ends : AllParts c.put → ⊥
   pub near : c.place < length (log_of w) + w.capacity
 
--- The Taker's view is the Taker's side of the world. What it was told of others is true.
+-- The Taker's view is the Taker's side of the world. What it heard of others is true.
 pub record FitsTaker {A : Type 0} (w : World A) (all : List (Item A)) (port : ℕ)
     (t : TakerView A) : Type 0 where
   pub here : port ≡ w.taker
@@ -84,7 +84,7 @@ module _ {A : Type 0} where
 
 -- What the rule says of one seat: its view fits the world, and where a push noted for it was joined it is
 -- spent.
-pub record Fits {A : Type 0} (w : World A) (all : List (Item A)) (port : ℕ) (v : View A) : Type 0 where
+pub record SeatFits {A : Type 0} (w : World A) (all : List (Item A)) (port : ℕ) (v : View A) : Type 0 where
   pub kind : Kind w all port v
   pub spent : (p : ℕ) → has p w.joined ≡ true → w.seat p ≡ port → v ≡ Spent
 
@@ -105,7 +105,7 @@ pub record IsSound {A : Type 0} (w : World A) (items : List (Item A)) (seats : �
 module _ {A : Type 0} where
   -- each view fits the world
   abbrev pub AllFit : World A → List (Item A) → List (View A) → Type 0
-  AllFit w all views = (port : ℕ) (v : View A) → get_elem? views port ≡ some v → Fits w all port v
+  AllFit w all views = (port : ℕ) (v : View A) → get_elem? views port ≡ some v → SeatFits w all port v
 
   -- The rule: of what the queue holds, the oldest first, and of the view of each seat, by its number.
   abbrev pub Rule : List (Item A) → List (View A) → Type 0

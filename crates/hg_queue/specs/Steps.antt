@@ -69,7 +69,7 @@ module _ {A : Type 0} where
   settle None refused = []
   settle (Some x) refused = record { item = x; refused = refused } ∷ []
 
-  -- the same, after what was told of the last item
+  -- the same, after what was reported of the last item
   abbrev pub settled_view : Bool → TakerView A → TakerView A
   settled_view refused t = record t { settled = t.settled ++ settle t.last refused; last = None }
 

@@ -57,7 +57,7 @@ module _ {A : Type 0} where
   abbrev pub seen : Visitor A → List (Taken A)
   seen v = seen_of (view v.seat)
 
-  -- the history of the Taker: all that it took, what was told of the last item included
+  -- the history of the Taker: all that it took, what was reported of the last item included
   abbrev pub history : Taker A → List (Taken A)
   history t = (taker_view t).settled ++ settle (taker_view t).last t.refused
 

@@ -174,7 +174,7 @@ impl<A: Allocator> PartQueue<A> {
     /// Takes the oldest item. It answers `None`, and the Taker counts it, only where the queue was empty at
     /// one moment of the call.
     ///
-    /// What was told of the item before is settled with it. The item's push is one that has a Putter or had
+    /// What was reported of the item before is settled with it. The item's push is one that has a Putter or had
     /// one, and the rule held beside the Taker's new view when the item had left the queue.
     pub fn take<R: Wait>(&self, rt: &R, taker: &mut Taker<A>) -> Option<Item<A>>
         requires { IsTakerOf self.now taker.old }
@@ -212,7 +212,7 @@ impl<A: Allocator> PartQueue<A> {
         self.ring.absorb::<Joins>(&mut taker.seat, seat);
     }
 
-    /// Gives a Visitor the history of all that this Taker took. What was told of the item taken last is
+    /// Gives a Visitor the history of all that this Taker took. What was reported of the item taken last is
     /// settled first.
     ///
     /// Nothing is looked at: a caller that wants to know that the Visitor has seen no less than before lets
@@ -230,7 +230,7 @@ impl<A: Allocator> PartQueue<A> {
         self.ring.absorb::<Copies>(&mut visitor.seat, note);
     }
 
-    /// Shows a Visitor all that this Taker took. What was told of the item taken last is settled first.
+    /// Shows a Visitor all that this Taker took. What was reported of the item taken last is settled first.
     pub fn show(&self, taker: &mut Taker<A>, visitor: &mut Visitor<A>)
         requires { IsTakerOf self.now taker.old × IsVisitorOf self.now visitor.old }
         ensures taker { IsTakerOf self.now taker.new × (history taker.new ≡ history taker.old) }

@@ -43,7 +43,7 @@ impl<A: Allocator> Protocol<Item<A>, View<A>> for Law {
     ghost first = { unsized };
 }
 
-/// What every look at the queue tells: that the rule holds there, beside this seat's view.
+/// What every look at the queue reports: that the rule holds there, beside this seat's view.
 pub struct Looks;
 
 impl<A: Allocator> Lesson<Item<A>, View<A>> for Looks {

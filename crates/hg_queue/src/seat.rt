@@ -20,7 +20,7 @@ pub type Seat<A> = Pass<Item<A>, View<A>>;
 #[derive(Drop)]
 pub struct Taker<A: Allocator = Global> {
     pub(crate) seat: Seat<A>,
-    /// What was told of the item taken last.
+    /// What was reported of the item taken last.
     pub(crate) refused: bool,
 }
 

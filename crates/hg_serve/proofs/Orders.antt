@@ -19,7 +19,7 @@ use Rattle.hg_queue.proofs.CallerLemmas.{items_settle, has_here}
 use Rattle.hg_push.specs.declared.outcome.Outcome.{Outcome}
 use Rattle.hg_push.specs.declared.row.Row.{Row}
 use Rattle.hg_push.specs.declared.row.State.TheVariants.{Open}
-use Rattle.hg_push.specs.Book.{Holds, IsSameOpenings, Opens, is_opened, is_between, stepped}
+use Rattle.hg_push.specs.Book.{HoldsHistory, IsSameOpenings, Opens, is_opened, is_between, stepped}
 use Rattle.hg_push.specs.History.{History}
 use Rattle.hg_push.specs.Rows.{row_of, rows_without}
 use Rattle.hg_push.specs.Run.{RepositoryOf, run_push}
@@ -60,11 +60,11 @@ same_again a b c one two = record {
 pub in_order_new : {A : Type 0} (id : TableId) (capacity : ℕ) (first repo : RepositoryOf A) (b : BookOf A)
     (t : Taker A)
     → IsTakerIn id capacity t → taker_view t ≡ fresh capacity → history t ≡ [] → repo ≡ first
-    → Holds run_push repo [] b → IsInOrder id capacity first b t None
+    → HoldsHistory run_push repo [] b → IsInOrder id capacity first b t None
 in_order_new {A} id capacity first repo b t taker view empty named holds = record {
   taker = taker;
-  held = subst (λ (r : RepositoryOf A). Holds run_push r (newest_first (history t)) b) named
-      (subst (λ (h : List (Taken A)). Holds run_push repo (newest_first h) b) (sym empty) holds);
+  held = subst (λ (r : RepositoryOf A). HoldsHistory run_push r (newest_first (history t)) b) named
+      (subst (λ (h : List (Taken A)). HoldsHistory run_push repo (newest_first h) b) (sym empty) holds);
   opened = λ p noted. absurd (true≢false (sym noted ∙ ap (λ (v : TakerView A). has p v.noted) view));
   row = λ p noted joined. absurd (true≢false (sym noted ∙ ap (λ (v : TakerView A). has p v.noted) view));
   spare = λ n none. absurd cc;
@@ -78,7 +78,7 @@ same_opened b new p s = λ i. is_between (s.first_push i) (s.next i) p
 pub stays : {A : Type 0} (id : TableId) (capacity : ℕ) (first : RepositoryOf A) (b new : BookOf A)
     (t u : Taker A) (kept : Option ℕ)
     → IsSameOpenings b new → IsTakerIn id capacity u → (taker_view u).noted ≡ (taker_view t).noted
-    → (taker_view u).joined ≡ (taker_view t).joined → Holds run_push first (newest_first (history u)) new
+    → (taker_view u).joined ≡ (taker_view t).joined → HoldsHistory run_push first (newest_first (history u)) new
     → IsInOrder id capacity first b t kept → IsInOrder id capacity first new u kept
 stays id capacity first b new t u kept s taker noted joined held o = record {
   taker = taker;
@@ -97,8 +97,8 @@ its_step b x refused h own = rw own refl
 -- the order after one item more
 pub turned : {A : Type 0} (id : TableId) (capacity : ℕ) (first : RepositoryOf A) (b new : BookOf A)
     (t u : Taker A) (kept : Option ℕ) (x : Item A) (refused : Bool)
-    → IsSameOpenings b new → ((h : History A) → Holds run_push first h b
-    → Holds run_push first (stepped b x refused h) new) → has x.push (taker_view t).noted ≡ true
+    → IsSameOpenings b new → ((h : History A) → HoldsHistory run_push first h b
+    → HoldsHistory run_push first (stepped b x refused h) new) → has x.push (taker_view t).noted ≡ true
     → IsTakerIn id capacity u → (taker_view u).noted ≡ (taker_view t).noted
     → (taker_view u).joined ≡ (taker_view t).joined → history u ≡ history t ++ taken x refused ∷ []
     → IsInOrder id capacity first b t kept → IsInOrder id capacity first new u kept
@@ -107,7 +107,7 @@ turned {A} id capacity first b new t u kept x refused s holds of_noted taker not
     (newest_first (history t)) (o.opened x.push of_noted)
     ∙ sym (ap (λ (h : List (Taken A)). newest_first h) more ∙ one_more (history t) (taken x refused)) in
     stays id capacity first b new t u kept s taker noted joined
-    (subst (λ (h : History A). Holds run_push first h new) now (holds (newest_first (history t)) o.held))
+    (subst (λ (h : History A). HoldsHistory run_push first h new) now (holds (newest_first (history t)) o.held))
     o
 
 -- ---- openings
@@ -146,7 +146,7 @@ between_not first next = grind (arith, nat_tests)
 -- the order after an opening, whose number is kept
 pub keeps : {A : Type 0} (id : TableId) (capacity : ℕ) (first : RepositoryOf A) (b new : BookOf A)
     (t : Taker A) (kept : Option ℕ) (n : ℕ)
-    → Opens b n new → is_opened new n ≡ true → Holds run_push first (newest_first (history t)) new
+    → Opens b n new → is_opened new n ≡ true → HoldsHistory run_push first (newest_first (history t)) new
     → IsInOrder id capacity first b t kept → IsInOrder id capacity first new t (Some n)
 keeps {A} id capacity first b new t kept n opens opened' held o =
     let from : new.first_push ≡ b.first_push = ap (λ (c : BookOf A). c.first_push) opens.1 in
@@ -229,7 +229,7 @@ replies {A} push b new (Some how) none some = record {
 -- the order after the reply of a push that was joined
 pub replied : {A : Type 0} (id : TableId) (capacity : ℕ) (first : RepositoryOf A) (push : ℕ)
     (b new : BookOf A) (t : Taker A) (kept : Option ℕ)
-    → Replies push b new → Holds run_push first (newest_first (history t)) new
+    → Replies push b new → HoldsHistory run_push first (newest_first (history t)) new
     → has push (taker_view t).joined ≡ true → has push (taker_view t).noted ≡ true
     → IsInOrder id capacity first b t kept → IsInOrder id capacity first new t kept
 replied id capacity first push b new t kept r held joined noted o =

@@ -41,7 +41,7 @@ pub record Answers {A : Type 0} (capacity : ℕ) (first : RepositoryOf A) (push 
   pub bound : takes ≤ capacity
   pub last : 0 < takes → ClosesLast first push after
 
--- A client that had seen one history has seen another one now, which goes on from it, and was told of this
+-- A client that had seen one history has seen another one now, which goes on from it, and heard of this
 -- repository: the one that the done pushes of that history give, run one by one.
 pub record Looks {A : Type 0} (first : RepositoryOf A) (before after : List (Taken A))
     (repo : RepositoryOf A) : Type 0 where

@@ -19,7 +19,7 @@ pub record SenderView (A : Type 0) : Type 0 where
   pub history : List (Taken A)
 
 -- a push that has its mark: all that it put, and the history that its client had seen
-pub record EndedView (A : Type 0) : Type 0 where
+pub record AwaitingView (A : Type 0) : Type 0 where
   pub push : ℕ
   pub put : List (Item A)
   pub history : List (Taken A)
@@ -32,11 +32,11 @@ pub record GoesOn {A : Type 0} (old new : SenderView A) (put : List (Item A)) : 
   pub history : new.history ≡ old.history
 
 -- it put this next, and nothing else
-abbrev pub Adds : {A : Type 0} → SenderView A → What A → SenderView A → Type 0
-Adds old what new = GoesOn old new (old.putter.put ++ next_item old.putter what ∷ [])
+abbrev pub PutsNext : {A : Type 0} → SenderView A → What A → SenderView A → Type 0
+PutsNext old what new = GoesOn old new (old.putter.put ++ next_item old.putter what ∷ [])
 
 -- it put its mark next, and nothing else
-pub record Ends {A : Type 0} (old : SenderView A) (what : What A) (new : EndedView A) : Type 0 where
+pub record PutsItsMark {A : Type 0} (old : SenderView A) (what : What A) (new : AwaitingView A) : Type 0 where
   pub push : new.push ≡ old.putter.push
   pub put : new.put ≡ old.putter.put ++ next_item old.putter what ∷ []
   pub history : new.history ≡ old.history

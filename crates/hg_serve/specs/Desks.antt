@@ -16,7 +16,7 @@ use Rattle.hg_queue.specs.History.{has, items_of}
 use Rattle.hg_queue.specs.Rules.{Stands}
 use Rattle.hg_queue.specs.Steps.{fresh}
 use Rattle.hg_queue.specs.Words.{taker_view, history, id_of, capacity_of, IsTakerIn}
-use Rattle.hg_push.specs.Book.{Book, Holds, is_opened}
+use Rattle.hg_push.specs.Book.{Book, HoldsHistory, is_opened}
 use Rattle.hg_push.specs.Run.{RepositoryOf, run_push}
 use Rattle.hg_serve.specs.Histories.{newest_first}
 
@@ -25,7 +25,7 @@ abbrev pub IsQueueIn : {A : Type 0} → TableId → ℕ → PartQueue A → Type
 IsQueueIn id capacity q = (id_of q ≡ id) × (capacity_of q ≡ capacity)
 
 -- What a server begins with: a queue and its Taker, both new, and the first repository.
-pub record Begins {A : Type 0} (id : TableId) (capacity : ℕ) (first : RepositoryOf A) (q : PartQueue A)
+pub record OpensWith {A : Type 0} (id : TableId) (capacity : ℕ) (first : RepositoryOf A) (q : PartQueue A)
     (t : Taker A) (repo : RepositoryOf A) : Type 0 where
   pub queue : IsQueueIn id capacity q
   pub bounded : capacity ≤ 65536
@@ -65,12 +65,12 @@ desk_view b t kept = record {
   kept = kept;
 }
 
--- The book holds the Taker's history, what was told for the last place included. Each noted number is opened,
+-- The book holds the Taker's history, what was reported for the last place included. Each noted number is opened,
 -- and has a row unless it was joined. A kept number is opened and not noted, and has a row.
 pub record IsInOrder {A : Type 0} (id : TableId) (capacity : ℕ) (first : RepositoryOf A) (b : BookOf A)
     (t : Taker A) (kept : Option ℕ) : Type 0 where
   pub taker : IsTakerIn id capacity t
-  pub held : Holds run_push first (newest_first (history t)) b
+  pub held : HoldsHistory run_push first (newest_first (history t)) b
   pub opened : (p : ℕ) → has p (taker_view t).noted ≡ true → is_opened b p ≡ true
   pub row : (p : ℕ) → has p (taker_view t).noted ≡ true → has p (taker_view t).joined ≡ false →
       has p (rows_of b) ≡ true

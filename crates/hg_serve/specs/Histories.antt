@@ -1,4 +1,4 @@
--- What became of a push in a history. The queue and a client tell a history with the oldest place first, the
+-- What became of a push in a history. The queue and a client show a history with the oldest place first, the
 -- book with the newest first.
 use Rattle.std.specs.Prelude.{◌≡◌, ℕ, List, [], ◌∷◌, ◌++◌, reverse, Option, None}
 use Rattle.hg_types.specs.declared.item.Taken.{Taken}
@@ -9,7 +9,7 @@ use Rattle.hg_push.specs.History.{History, Serial, serial, outcome}
 use Rattle.hg_push.specs.Run.{RepositoryOf, run_push}
 
 module _ {A : Type 0} where
-  -- the same history as the book tells it
+  -- the same history as the book shows it
   abbrev pub newest_first : List (Taken A) → History A
   newest_first h = reverse h
 

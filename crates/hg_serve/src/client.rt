@@ -45,19 +45,19 @@ impl<J: Naming<A>, A: Allocator> Model for Sender<J, A> {
 
 /// A connection whose push has its mark. Contracts see all that its push put, and the history that its
 /// client had seen. Its answer spends it.
-pub struct Ended<J: Naming<A>, A: Allocator = Global> {
+pub struct Awaiting<J: Naming<A>, A: Allocator = Global> {
     pub(crate) marked: Marked<A>,
     pub(crate) visitor: Visitor<A>,
     pub(crate) push: u32,
     pub(crate) of: PhantomData<J>,
 }
 
-impl<J: Naming<A>, A: Allocator> Model for Ended<J, A> {
+impl<J: Naming<A>, A: Allocator> Model for Awaiting<J, A> {
     ghost use Rattle.std.specs.Prelude.{◌≡◌};
     ghost use Rattle.hg_queue.specs.Words.{claim_at, seen, IsMarkedIn, IsVisitorIn};
-    ghost use Rattle.hg_serve.specs.Clients.{EndedView};
+    ghost use Rattle.hg_serve.specs.Clients.{AwaitingView};
 
-    ghost Value = { EndedView A };
+    ghost Value = { AwaitingView A };
 
     ghost view = { λ e. record { push = e.push; put = (claim_at e.marked).put; history = seen e.visitor } };
 

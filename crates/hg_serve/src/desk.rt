@@ -22,7 +22,7 @@ ghost use Rattle.hg_serve.specs.Desks.{next_of, keeping, seating};
 mod looking;
 mod meeting;
 
-use crate::client::{Client, Ended};
+use crate::client::{Awaiting, Client};
 use crate::gate::{Gate, Point};
 use crate::naming::Naming;
 use crate::question::Question;
@@ -275,7 +275,7 @@ impl<J: Naming<A>, A: Allocator + Copy> Desk<J, A> {
         &mut self,
         rt: &R,
         queue: &PartQueue<A>,
-        ended: Ended<J, A>,
+        ended: Awaiting<J, A>,
         gate: &mut G,
     ) -> (Answer<A>, Client<J, A>)
         requires queue { IsQueueIn J.table J.capacity queue.now × (J.capacity ≤ 65536) }
@@ -283,7 +283,7 @@ impl<J: Naming<A>, A: Allocator + Copy> Desk<J, A> {
             result.0.outcome result.0.takes result.1 }
         ensures shown { self.new.history ≡ result.1 }
     {
-        let Ended {
+        let Awaiting {
             marked,
             mut visitor,
             push,

@@ -15,7 +15,7 @@ pub enum Point {
     Answered,
 }
 
-/// Is told of each place that a thread reaches.
+/// Hears of each place that a thread reaches.
 pub trait Gate {
     fn at(&mut self, point: Point);
 }

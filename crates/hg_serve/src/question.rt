@@ -3,7 +3,7 @@
 use hg_repo::Repo;
 use std::alloc::Allocator;
 
-/// A question, and what its answer tells of a repository. It may not wait: the lock is held meanwhile.
+/// A question, and what its answer says of a repository. It may not wait: the lock is held meanwhile.
 pub trait Question<A: Allocator, T> {
     ghost use Rattle.hg_parts.specs.Repository.{Repository};
 

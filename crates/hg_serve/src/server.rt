@@ -9,14 +9,14 @@ ghost use Rattle.hg_queue.specs.Steps.{putter};
 ghost use Rattle.hg_queue.specs.Words.{history, what_of, IsTakerIn};
 ghost use Rattle.hg_push.specs.Run.{RepositoryOf};
 ghost use Rattle.hg_serve.specs.Answers.{Answers, Looks};
-ghost use Rattle.hg_serve.specs.Clients.{GoesOn, Adds, Ends, TriesPut};
-ghost use Rattle.hg_serve.specs.Desks.{Begins};
+ghost use Rattle.hg_serve.specs.Clients.{GoesOn, PutsNext, PutsItsMark, TriesPut};
+ghost use Rattle.hg_serve.specs.Desks.{OpensWith};
 ghost use Rattle.hg_serve.specs.Histories.{serial_run};
 
 mod looking;
 mod meeting;
 
-use crate::client::{Client, Ended, Sender};
+use crate::client::{Awaiting, Client, Sender};
 use crate::desk::{Answer, Closed, Desk};
 use crate::gate::{Gate, Point};
 use crate::naming::Naming;
@@ -88,7 +88,7 @@ impl<J: Naming<A>, A: Allocator> Model for Server<J, A> {
 impl<J: Naming<A>, A: Allocator + Copy> Server<J, A> {
     /// A server of that repository and queue, which are those of its name. The queue and its taker are new.
     pub fn new(alloc: A, repo: Repo<A>, queue: PartQueue<A>, taker: Taker<A>) -> Server<J, A>
-        requires { Begins J.table J.capacity J.first queue taker repo }
+        requires { OpensWith J.table J.capacity J.first queue taker repo }
         ensures { result ≡ repo.settings.limits }
     {
         let limits = repo.settings().limits;
@@ -183,7 +183,7 @@ impl<J: Naming<A>, A: Allocator + Copy> Server<J, A> {
         gate: &mut G,
     ) -> Result<(), Part<A>>
         ensures { MatchResult result
-            (λ _. Adds sender.old (a_part part) sender.new)
+            (λ _. PutsNext sender.old (a_part part) sender.new)
             (λ back. (back ≡ part) × GoesOn sender.old sender.new sender.old.putter.put
             × (10000 ≤ length sender.old.putter.put)) }
     {
@@ -205,8 +205,13 @@ impl<J: Naming<A>, A: Allocator + Copy> Server<J, A> {
     }
 
     /// Puts the end mark, as [`Server::put`] puts a part.
-    pub fn end<R: Wait, G: Gate>(&self, rt: &R, sender: Sender<J, A>, gate: &mut G) -> Ended<J, A>
-        ensures { Ends sender End result }
+    pub fn end<R: Wait, G: Gate>(
+        &self,
+        rt: &R,
+        sender: Sender<J, A>,
+        gate: &mut G,
+    ) -> Awaiting<J, A>
+        ensures { PutsItsMark sender End result }
     {
         self.mark(rt, sender, Mark::End, gate)
     }
@@ -218,8 +223,8 @@ impl<J: Naming<A>, A: Allocator + Copy> Server<J, A> {
         sender: Sender<J, A>,
         reason: CutReason,
         gate: &mut G,
-    ) -> Ended<J, A>
-        ensures { Ends sender (Cut reason) result }
+    ) -> Awaiting<J, A>
+        ensures { PutsItsMark sender (Cut reason) result }
     {
         self.mark(rt, sender, Mark::Cut(reason), gate)
     }
@@ -230,8 +235,8 @@ impl<J: Naming<A>, A: Allocator + Copy> Server<J, A> {
         sender: Sender<J, A>,
         mark: Mark,
         gate: &mut G,
-    ) -> Ended<J, A>
-        ensures { Ends sender (what_of mark) result }
+    ) -> Awaiting<J, A>
+        ensures { PutsItsMark sender (what_of mark) result }
     {
         let Sender {
             mut putter,
@@ -243,7 +248,7 @@ impl<J: Naming<A>, A: Allocator + Copy> Server<J, A> {
             match self.queue.try_mark(rt, putter, mark) {
                 Ok(marked) => {
                     gate.at(Point::Marked);
-                    return Ended {
+                    return Awaiting {
                         marked,
                         visitor,
                         push,
@@ -259,12 +264,12 @@ impl<J: Naming<A>, A: Allocator + Copy> Server<J, A> {
         unreachable!()
     }
 
-    /// Takes until the push is closed, and tells how it ended. Its client has then seen the whole history,
+    /// Takes until the push is closed, and says how it ended. Its client has then seen the whole history,
     /// by which the push ended so. The lock is held for the takes, and for nothing else.
     pub fn answer<R: Wait, G: Gate>(
         &self,
         rt: &R,
-        ended: Ended<J, A>,
+        ended: Awaiting<J, A>,
         gate: &mut G,
     ) -> (Answer<A>, Client<J, A>)
         ensures { Answers J.capacity J.first ended.push ended.put ended.history

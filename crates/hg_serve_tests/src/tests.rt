@@ -3,7 +3,7 @@
 
 ghost use Rattle.std.specs.Prelude.{◌≡◌, ◌≤◌};
 ghost use Rattle.hg_types.specs.Limits.{IsAllowed};
-ghost use Rattle.hg_serve.specs.Desks.{Begins};
+ghost use Rattle.hg_serve.specs.Desks.{OpensWith};
 
 mod bound;
 mod limits;
@@ -15,11 +15,12 @@ mod order;
 mod race;
 mod threads;
 
+use hg_help_tests::parts::{part_of, settings};
 use hg_push::{OpenFault, Outcome, Reason};
 use hg_queue::{PartQueue, Taker};
 use hg_repo::{Refusal, Repo, Source};
 use hg_serve::{Answer, Client, Closed, Gate, Naming, NoGate, Point, PutFault, Sender, Server};
-use hg_types::{CutReason, Limits, NoMemory, Part, Seq, Settings};
+use hg_types::{CutReason, NoMemory, Part, Seq, Settings};
 use std::alloc::{AllocFailed, Allocator, Global};
 use std::hash::RandomState;
 use std::marker::Brand;
@@ -32,34 +33,8 @@ use std::thread::Threads;
 /// The null id.
 const NULL: [u8; 20] = [0; 20];
 
-fn settings(first_push: u32, rows: u32) -> Settings
-    requires { (1 ≤ rows) × (rows ≤ 1024) }
-    ensures { IsAllowed result.limits }
-{
-    let mut limits = Limits::standard();
-    limits.rows = rows;
-    Settings {
-        publishing: false,
-        limits,
-        first_push,
-    }
-}
-
-fn try_part<A: Allocator + Copy>(
-    alloc: A,
-    kind: &[u8],
-    payload: &[u8],
-) -> Result<Part<A>, NoMemory> {
-    Ok(Part {
-        kind: Seq::copy_of(alloc, kind)?,
-        id: 0,
-        params: Seq::new(alloc),
-        payload: Seq::copy_of(alloc, payload)?,
-    })
-}
-
 fn part<A: Allocator + Copy, R: Abort>(rt: &R, alloc: A, kind: &[u8], payload: &[u8]) -> Part<A> {
-    match try_part(alloc, kind, payload) {
+    match part_of(alloc, kind, 0, payload) {
         Ok(part) => part,
         Err(_) => panic!(rt; "no memory for a part"),
     }
@@ -158,7 +133,7 @@ fn play<J: Naming<Global> + Send + Sync, R: Threads + Wait + Abort + Sync>(
     repo: Repo,
     scene: Scene,
 ) -> Closed
-    requires { Begins J.table J.capacity J.first queue taker repo }
+    requires { OpensWith J.table J.capacity J.first queue taker repo }
 {
     let server = Server::<J>::new(alloc, repo, queue, taker);
     let clients = match scene {

@@ -1,7 +1,7 @@
 //! One connection is held while another is served.
 
 ghost use Rattle.std.specs.Prelude.{◌≤◌};
-ghost use Rattle.hg_serve.specs.Desks.{Begins};
+ghost use Rattle.hg_serve.specs.Desks.{OpensWith};
 
 use super::cut::TRUNCATED_REPLY;
 use super::*;
@@ -249,7 +249,7 @@ fn hold<J: Naming<Global> + Send + Sync, R: Threads + Wait + Abort + Sync>(
     scene: Scene,
     journal: &[u32],
 ) -> bool
-    requires { Begins J.table J.capacity J.first queue taker repo }
+    requires { OpensWith J.table J.capacity J.first queue taker repo }
 {
     let server = Server::<J>::new(alloc, repo, queue, taker);
     let clients = Mutex::new(Vec::new(alloc));

@@ -1,7 +1,7 @@
 //! Memory that is refused while a connection is served.
 
 ghost use Rattle.std.specs.Prelude.{◌≤◌};
-ghost use Rattle.hg_serve.specs.Desks.{Begins};
+ghost use Rattle.hg_serve.specs.Desks.{OpensWith};
 
 use super::*;
 use hg_push::OpenFault;
@@ -283,7 +283,7 @@ fn three_connections<J: Naming<A>, A: Allocator + Copy, R: Wait + Abort, G: Gate
     repo: Repo<A>,
     gate: &mut G,
 ) -> Option<(usize, usize)>
-    requires { Begins J.table J.capacity J.first queue taker repo }
+    requires { OpensWith J.table J.capacity J.first queue taker repo }
 {
     let mut clients = Vec::with_capacity(alloc, 2).ok()?;
     let server = Server::<J, A>::new(alloc, repo, queue, taker);

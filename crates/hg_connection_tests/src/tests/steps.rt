@@ -4,7 +4,7 @@ use super::*;
 use hg_connection::{Next, Served, fault_of, mark, next_bundle, receive_kept};
 use hg_devices::Sending;
 use hg_push::{OpenFault, Outcome, Reason};
-use hg_receiving::{Ending, Inbox};
+use hg_receiving::{BundleEnd, Inbox};
 use hg_serve::Answer;
 use hg_stream::Unbundler;
 use hg_types::CutReason;
@@ -20,16 +20,16 @@ fn faults_of_a_bundle_and_its_reply(rt: HostRuntime) {
         Some(ConnFault::NoMemory),
     ];
     for (sending, fault) in sendings.into_iter().zip(of_whole) {
-        assert_eq!(rt; fault_of(Ending::Whole, sending), fault);
+        assert_eq!(rt; fault_of(BundleEnd::Whole, sending), fault);
         let magic = ConnFault::Stream(StreamFault::BadMagic);
         assert_eq!(rt;
-            fault_of(Ending::Fault(StreamFault::BadMagic), sending),
+            fault_of(BundleEnd::Fault(StreamFault::BadMagic), sending),
             Some(magic)
         );
         let truncated = ConnFault::Stream(StreamFault::Truncated);
-        assert_eq!(rt; fault_of(Ending::InputEnded, sending), Some(truncated));
+        assert_eq!(rt; fault_of(BundleEnd::InputEnded, sending), Some(truncated));
         assert_eq!(rt;
-            fault_of(Ending::ReadFailed, sending),
+            fault_of(BundleEnd::ReadFailed, sending),
             Some(ConnFault::ReadFailed)
         );
     }
@@ -107,7 +107,7 @@ fn ends<J: Naming<Global>, R: Wait + Abort>(
     queue: PartQueue,
     taker: Taker,
     repo: Repo,
-    ending: Ending,
+    ending: BundleEnd,
 ) -> Outcome
     requires { Begins J.table J.capacity J.first queue taker repo }
 {
@@ -133,7 +133,7 @@ fn ends<J: Naming<Global>, R: Wait + Abort>(
 }
 
 /// The same, on a server of an empty repository.
-fn marked<R: RandomSource + Wait + Abort>(rt: &R, alloc: Global, ending: Ending) -> Outcome {
+fn marked<R: RandomSource + Wait + Abort>(rt: &R, alloc: Global, ending: BundleEnd) -> Outcome {
     match PartQueue::new(alloc, 1) {
         Ok((queue, taker)) => {
             let repo = Repo::new(alloc, settings(0), state(rt));
@@ -148,12 +148,18 @@ fn marked<R: RandomSource + Wait + Abort>(rt: &R, alloc: Global, ending: Ending)
 #[test]
 fn marks_of_bundles(rt: HostRuntime) {
     let alloc = rt.alloc();
-    assert!(rt; matches!(marked(&rt, alloc, Ending::Whole), Outcome::Done(_)));
+    assert!(rt; matches!(marked(&rt, alloc, BundleEnd::Whole), Outcome::Done(_)));
     let cuts = [
-        (Ending::Fault(StreamFault::BadMagic), CutReason::Stream(1)),
-        (Ending::Fault(StreamFault::NoMemory), CutReason::Stream(11)),
-        (Ending::InputEnded, CutReason::Stream(10)),
-        (Ending::ReadFailed, CutReason::ReadFailed),
+        (
+            BundleEnd::Fault(StreamFault::BadMagic),
+            CutReason::Stream(1),
+        ),
+        (
+            BundleEnd::Fault(StreamFault::NoMemory),
+            CutReason::Stream(11),
+        ),
+        (BundleEnd::InputEnded, CutReason::Stream(10)),
+        (BundleEnd::ReadFailed, CutReason::ReadFailed),
     ];
     for (ending, reason) in cuts {
         match marked(&rt, alloc, ending) {
@@ -166,7 +172,7 @@ fn marks_of_bundles(rt: HostRuntime) {
 /// A bundle that was received: how it ended, what was kept, what waits, and whether its push is done.
 #[derive(Drop)]
 struct Received {
-    ending: Ending,
+    ending: BundleEnd,
     kept: Vec<u8>,
     waiting: Vec<u8>,
     is_done: bool,
@@ -258,7 +264,7 @@ fn bytes_of_a_whole_bundle_are_kept(rt: HostRuntime) -> Result<(), Fail> {
         for (step, wait) in [1, 7, 4_096, usize::MAX].into_iter().zip(waits) {
             let mut reader = Source::in_pieces(&bytes, step);
             let received = received_alone(&rt, alloc, &mut reader);
-            assert_eq!(rt; received.ending, Ending::Whole);
+            assert_eq!(rt; received.ending, BundleEnd::Whole);
             assert!(rt; received.is_done);
             assert_eq!(rt; received.kept.as_slice(), bundle);
             assert_eq!(rt; received.waiting.as_slice(), &b"HG20 more"[..wait]);
@@ -274,17 +280,17 @@ fn bundles_that_are_not_whole(rt: HostRuntime) {
     let alloc = rt.alloc();
     let mut cut = Source::in_pieces(&ROOT[..192], 50);
     let received_cut = received_alone(&rt, alloc, &mut cut);
-    assert_eq!(rt; received_cut.ending, Ending::InputEnded);
+    assert_eq!(rt; received_cut.ending, BundleEnd::InputEnded);
     assert_eq!(rt; received_cut.kept.as_slice(), &ROOT[..192]);
     let mut failing = Source::failing(ROOT, 50, 2, true);
     let received_failing = received_alone(&rt, alloc, &mut failing);
-    assert_eq!(rt; received_failing.ending, Ending::ReadFailed);
+    assert_eq!(rt; received_failing.ending, BundleEnd::ReadFailed);
     assert_eq!(rt; received_failing.kept.as_slice(), &ROOT[..100]);
     let mut foreign = Source::new(b"HG10");
     let received_foreign = received_alone(&rt, alloc, &mut foreign);
     assert_eq!(rt;
         received_foreign.ending,
-        Ending::Fault(StreamFault::BadMagic)
+        BundleEnd::Fault(StreamFault::BadMagic)
     );
     assert!(rt; !received_cut.is_done && !received_failing.is_done && !received_foreign.is_done);
 }

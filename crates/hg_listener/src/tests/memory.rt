@@ -1,7 +1,7 @@
 //! Memory that is refused for a connection, and for the report, over heaps of rising size.
 
 ghost use Rattle.std.specs.Prelude.{◌≡◌, ◌≤◌};
-ghost use Rattle.hg_serve.specs.Desks.{Begins};
+ghost use Rattle.hg_serve.specs.Desks.{OpensWith};
 
 use super::*;
 use crate::closing::tell_closing;
@@ -61,7 +61,7 @@ fn served<J: Naming<A>, A: Allocator + Copy, R: Wait + Clock>(
     repo: Repo<A>,
     terms: Terms,
 ) -> Option<(bool, usize)>
-    requires begins { Begins J.table J.capacity J.first queue taker repo }
+    requires begins { OpensWith J.table J.capacity J.first queue taker repo }
     requires terms { (terms.capacity ≡ J.capacity) × (1 ≤ terms.bundles) × (terms.bundles ≤ 10000) }
 {
     let Ok(clients) = Vec::with_capacity(alloc, 1) else {

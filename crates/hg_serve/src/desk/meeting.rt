@@ -10,7 +10,7 @@ ghost use Rattle.hg_push.specs.Run.{run_push, RepositoryOf};
 ghost use Rattle.hg_serve.specs.Histories.{ending, newest_first, serial_run};
 
 use super::{Answer, Desk};
-use crate::client::{Client, Ended};
+use crate::client::{Awaiting, Client};
 use crate::gate::Gate;
 use crate::naming::Naming;
 use crate::question::Question;
@@ -42,7 +42,7 @@ impl<J: Naming<A>, A: Allocator + Copy> Desk<J, A> {
         &mut self,
         rt: &R,
         queue: &PartQueue<A>,
-        ended: Ended<J, A>,
+        ended: Awaiting<J, A>,
         gate: &mut G,
     ) -> (Answer<A>, usize, Client<J, A>)
         requires queue { IsQueueIn J.table J.capacity queue.now × (J.capacity ≤ 65536) }

@@ -8,7 +8,7 @@ ghost use Rattle.hg_push.specs.Run.{run_push, RepositoryOf};
 ghost use Rattle.hg_serve.specs.Histories.{newest_first, serial_run};
 
 use super::Server;
-use crate::client::{Client, Ended};
+use crate::client::{Awaiting, Client};
 use crate::desk::Answer;
 use crate::gate::{Gate, Point};
 use crate::naming::Naming;
@@ -22,7 +22,7 @@ impl<J: Naming<A>, A: Allocator + Copy> Server<J, A> {
     pub fn answer_resting<R: Wait, G: Gate>(
         &self,
         rt: &R,
-        ended: Ended<J, A>,
+        ended: Awaiting<J, A>,
         gate: &mut G,
     ) -> (Answer<A>, usize, Client<J, A>)
         ensures answers { Answers J.capacity J.first ended.push ended.put ended.history

@@ -1,9 +1,9 @@
 //! Memory that is refused, over a heap without any left.
 
-ghost use Rattle.hg_serve.specs.Desks.{Begins};
+ghost use Rattle.hg_serve.specs.Desks.{OpensWith};
 
 use super::*;
-use hg_serve::Ended;
+use hg_serve::Awaiting;
 use hg_types::{Node, Param};
 use linked_list_allocator::LocalHeap;
 
@@ -145,7 +145,7 @@ fn refused_at_a_take<J: Naming<A>, A: Allocator + Copy, H: Hoard, R: Wait + Abor
     alloc: A,
     hoard: &mut H,
     server: &Server<J, A>,
-) -> (bool, Ended<J, A>) {
+) -> (bool, Awaiting<J, A>) {
     let mut a = open(rt, server, client(rt, server));
     put(rt, server, &mut a, part(rt, alloc, b"REPLYCAPS", b""));
     put(rt, server, &mut a, changegroup(rt, alloc, ROOT, NULL));
@@ -314,7 +314,7 @@ fn play_without<J: Naming<A>, A: Allocator + Copy, H: Hoard, R: Wait + Abort>(
     repo: Repo<A>,
     want: Want,
 ) -> Closed<A>
-    requires { Begins J.table J.capacity J.first queue taker repo }
+    requires { OpensWith J.table J.capacity J.first queue taker repo }
 {
     let server = Server::<J, A>::new(alloc, repo, queue, taker);
     let clients = match want {

@@ -1,7 +1,7 @@
 use Rattle.std.proofs.Common.{[], ◌++◌, ◌∙◌, ap, refl, subst, arith, Option, Some}
 use Rattle.std.proofs.lemmas.List.{length-append}
 use Rattle.hg_stream.specs.Unbundler.{ready_of}
-use Rattle.hg_receiving.specs.declared.ending.Ending.{Ending}
+use Rattle.hg_receiving.specs.declared.ending.BundleEnd.{BundleEnd}
 use Rattle.hg_receiving.specs.Turns.{Turned}
 use Rattle.hg_receiving.proofs.CallerLemmas.{begins, parts_few, parts_taken, within_limit}
 use Rattle.hg_connection.proofs.Putting.{put_more, room_for}
@@ -35,7 +35,7 @@ pub turns-preserved : goal.turns-preserved
 turns-preserved g c =
     let i = c.turns.invariant in
     let p = c.put_ready.ensures in
-    let t = subst (λ (r : Option Ending). Turned c.args.server.now c.args.inbox.now
+    let t = subst (λ (r : Option BundleEnd). Turned c.args.server.now c.args.inbox.now
     (g.I.Reader.told c.args.reader.now) i.fed c.turn-ended.new.inbox
     (g.I.Reader.told c.turn-ended.new.reader) c.turn-ended.new.bundle i.given r) c.in-None.is
     (c.turn-ended.ensures.turns c.args.server.now c.args.inbox.now _ i.fed i.given i.reads) in
@@ -59,7 +59,7 @@ returns-in-Some-clause-received g c =
     let p = c.put_ready.ensures in
     record {
       parts = i.given ++ ready_of c.turn-ended.new.bundle;
-      bundle = subst (λ (r : Option Ending). Turned c.args.server.now c.args.inbox.now
+      bundle = subst (λ (r : Option BundleEnd). Turned c.args.server.now c.args.inbox.now
           (g.I.Reader.told c.args.reader.now) i.fed c.turn-ended.new.inbox
           (g.I.Reader.told c.turn-ended.new.reader) c.turn-ended.new.bundle i.given r) c.in-Some.is
           (c.turn-ended.ensures.turns c.args.server.now c.args.inbox.now _ i.fed i.given i.reads);
@@ -86,7 +86,7 @@ unreachable-requires g c =
     elim c.turns-test.branch [
       | else-turns-test w ↦ omega (arith, end, w.turns-test.false)
       | then-turns-test+in-None+else-turn-most w ↦ (
-          let t = subst (λ (r : Option Ending). Turned c.args.server.now c.args.inbox.now
+          let t = subst (λ (r : Option BundleEnd). Turned c.args.server.now c.args.inbox.now
           (g.I.Reader.told c.args.reader.now) i.fed w.turn-ended.new.inbox
           (g.I.Reader.told w.turn-ended.new.reader) w.turn-ended.new.bundle i.given r) w.in-None.is
           (w.turn-ended.ensures.turns c.args.server.now c.args.inbox.now _ i.fed i.given i.reads) in

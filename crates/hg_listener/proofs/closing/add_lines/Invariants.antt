@@ -1,6 +1,6 @@
 use Rattle.std.proofs.Common.{◌≡◌, ◌++◌, take}
 use Rattle.std.specs.List.{flat_map}
-use Rattle.hg_listener.specs.Closing.{journal_line}
+use Rattle.hg_repo.specs.Report.{journal_line}
 use Rattle.hg_listener.proofs.closing.add_lines.Given as goal
 
 -- the lines so far are written

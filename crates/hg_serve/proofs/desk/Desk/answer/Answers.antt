@@ -7,7 +7,7 @@ use Rattle.hg_push.specs.declared.outcome.Outcome.TheVariants.{Aborted}
 use Rattle.hg_push.specs.declared.outcome.Reason.TheVariants.{NoMemory}
 use Rattle.hg_push.specs.History.{IsHistory}
 use Rattle.hg_serve.specs.Answers.{Answers}
-use Rattle.hg_serve.specs.Clients.{EndedView}
+use Rattle.hg_serve.specs.Clients.{AwaitingView}
 use Rattle.hg_serve.specs.Histories.{newest_first, ending, ClosesLast}
 use Rattle.hg_serve.proofs.Dones.{ran_all, handled_all}
 use Rattle.hg_serve.proofs.Orders.{prefix_again}
@@ -51,5 +51,5 @@ returns-clause-answers g c =
       bound = f.takes;
       last = λ some. subst (λ (h : List (Taken g.row.A.Denot)). ClosesLast first push h) same (f.last some);
     } in
-    subst (λ (v : EndedView g.row.A.Denot). Answers g.J.Naming.capacity first v.push v.put v.history how
+    subst (λ (v : AwaitingView g.row.A.Denot). Answers g.J.Naming.capacity first v.push v.put v.history how
     c.finish-takes.result after) c.ended.view_is inner
