@@ -133,7 +133,7 @@ fn not_text(alloc: Global) -> Result<Error, AllocError> {
     )
 }
 
-/// 4 where memory is wanting, 0 for help or the version that was asked for, and else 2.
+/// 4 where memory is refused, 0 for help or the version that was asked for, and else 2.
 pub fn status_of(error: &Error) -> u8 {
     match error.kind() {
         ErrorKind::OutOfMemory => 4,

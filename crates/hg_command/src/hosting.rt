@@ -22,7 +22,7 @@ pub struct Hosting<'a> {
     pub memory: u64,
     /// Where who pulls is sent on to.
     pub pull: Option<&'a str>,
-    /// Whether each push is told on standard error.
+    /// Whether each push is printed on standard error.
     pub log: bool,
 }
 

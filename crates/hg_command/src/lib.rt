@@ -1,4 +1,4 @@
-//! The command line of `hg_pushd`: what its words ask for, and what is told to the one who typed them.
+//! The command line of `hg_pushd`: what its words ask for, and what is printed for the one who typed them.
 //!
 //! [`words`] are those that the program was started with, and [`asked_for`] says which [`Job`] they ask for.
 //! Where they ask for none, as help and a bad word do, the text that goes to the user is printed, and the

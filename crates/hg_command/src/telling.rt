@@ -1,10 +1,10 @@
-//! What is told on standard output and standard error.
+//! What is printed on standard output and standard error.
 
 use crate::command::{Job, job_of, status_of, unreadable};
 use clap::Error;
 use std::env::Env;
 
-/// The line that tells a status.
+/// The line that names a status.
 pub fn line_of(status: u8) -> Option<&'static str> {
     match status {
         1 => Some("hg_pushd: push aborted"),
@@ -14,14 +14,14 @@ pub fn line_of(status: u8) -> Option<&'static str> {
     }
 }
 
-/// Tells the status on standard error, where it is not 0.
+/// Prints the status on standard error, where it is not 0.
 pub fn tell<R: Eprint>(rt: &R, status: u8) {
     if let Some(line) = line_of(status) {
         let _ = eprintln!(rt; "{line}");
     }
 }
 
-/// The words of the command line. Where they cannot be had, why is told, and the error is the status.
+/// The words of the command line. Where they cannot be had, why is printed, and the error is the status.
 pub fn words<R: Env + Print + Eprint + AllocGlobal>(rt: &R) -> Result<Vec<String>, u8> {
     match read_words(rt) {
         Ok(words) => Ok(words),
@@ -36,7 +36,7 @@ fn read_words<R: Env + AllocGlobal>(rt: &R) -> Result<Vec<String>, Error> {
     }
 }
 
-/// What the words ask for. Where they ask for nothing, help, the version or what is wrong with them is told,
+/// What the words ask for. Where they ask for nothing, help, the version or what is wrong with them is printed,
 /// and the error is the status.
 pub fn asked_for<'a, R>(rt: &R, words: &'a [String]) -> Result<Job<'a>, u8>
 where
@@ -49,7 +49,7 @@ where
 }
 
 /// Prints the help or the version that was asked for, or what is wrong with the words, and gives the status.
-/// That of wrong words is the same where they cannot be told.
+/// That of wrong words is the same where they cannot be printed.
 fn explain<R: Print + Eprint>(rt: &R, error: &Error) -> u8 {
     let status = status_of(error);
     if status == 4 {

@@ -1,9 +1,9 @@
 -- A connection to a store that is served.
 use Rattle.std.specs.Prelude.{ℕ, ◌≡◌, Bool, List, Option}
-use Rattle.hg_types.specs.declared.item.Taken.{Taken}
 use Rattle.hg_parts.specs.Repository.{Repository}
 use Rattle.hg_push.specs.Run.{RepositoryOf}
 use Rattle.hg_store.specs.declared.head.Head.{Head}
+use Rattle.hg_ledger.specs.Clients.{KeptSeen}
 use Rattle.hg_wire.specs.declared.serve.Finish.{Finish}
 use Rattle.hg_wire.specs.declared.terms.Terms.{Terms}
 use Rattle.hg_wire.specs.Serving.{ServesHttp}
@@ -14,15 +14,13 @@ pub record HostView : Type 0 where
   pub stored : ℕ
   pub publishing : Bool
 
--- The records of the store led to the repository that the server began with. A client that had seen some history
--- of it was served over HTTP, on terms that count the records, with answers that rest on what is on the device.
+-- The records of the store led to the repository that the server began with. A client was served over HTTP, on
+-- terms that count the records, with answers that rest on what is on the device, by its receipt.
 pub record HostsHttp {A S : Type 0} (capacity : ℕ) (first : RepositoryOf A) (head : Head)
-    (stored : List (List ℕ)) (kept : List (Taken A) → ℕ → Type 0)
-    (page metrics : S → Repository A → List ℕ → Type 0)
-    (view : HostView) (input left out sent : Option (List ℕ)) (finish : Finish) : Type 0 where
+    (stored : List (List ℕ)) (kept : KeptSeen A → ℕ → Type 0)
+    (page metrics : S → Repository A → List ℕ → Type 0) (view : HostView) (before : KeptSeen A)
+    (input left out sent : Option (List ℕ)) (finish : Finish) (after : KeptSeen A) : Type 0 where
   pub recovered : IsRecovered view.publishing head stored first
-  pub before : List (Taken A)
-  pub after : List (Taken A)
   pub terms : Terms S
   pub count : terms.stored ≡ view.stored
   pub serves : ServesHttp capacity first kept page metrics terms before input left out sent finish after

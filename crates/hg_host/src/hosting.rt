@@ -2,7 +2,7 @@
 
 ghost use Rattle.std.specs.Prelude.{◌≡◌, length};
 ghost use Rattle.hg_store.specs.Log.{IsSettled};
-ghost use Rattle.hg_serve.specs.Desks.{Begins};
+ghost use Rattle.hg_serve.specs.Desks.{OpensWith};
 ghost use Rattle.hg_ledger.specs.Receipts.{IsTallyOf};
 ghost use Rattle.hg_opening.specs.Opening.{IsOpened, IsRecovered};
 
@@ -47,7 +47,7 @@ where
     }
 }
 
-/// Starts a thread that serves the connection. Where there is none, the connection is closed, and that is told.
+/// Starts a thread that serves the connection. Where there is none, the connection is closed, and that is printed.
 fn start<'s, E, J, D, R>(
     rt: &'s R,
     alloc: Global,
@@ -78,7 +78,7 @@ where
 }
 
 /// Accepts connections, as many at one time as there are places, until serving is over. Where one is not
-/// accepted, that is told once, and it is tried again each while.
+/// accepted, that is printed once, and it is tried again each while.
 fn admit_all<'s, E, J, D, R>(
     rt: &'s R,
     alloc: Global,
@@ -167,7 +167,7 @@ where
         + RandomSource
         + Net<Listener = TcpListener, Stream = TcpStream>
         + Sync,
-    requires begins { Begins J.table J.capacity J.first queue taker recovered.repo }
+    requires begins { OpensWith J.table J.capacity J.first queue taker recovered.repo }
     requires settled { IsSettled D.seen D.may_leave J.head J.stored recovered.log }
     requires opened { J.opened ≡ D.moment recovered.log.device }
     requires tally { IsTallyOf J.tally J.name J.parts tally × (tally.count ≡ 0) }
@@ -180,7 +180,8 @@ where
     };
     serve_all(rt, alloc, &service, listener, address);
     let over = service.slots().over(rt);
-    service.close(rt);
+    let clients = Vec::new(alloc);
+    let _closed = service.close(rt, alloc, clients);
     over.unwrap_or(Over::StoreFailed)
 }
 

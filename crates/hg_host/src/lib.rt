@@ -9,7 +9,6 @@
 //! the same store goes on.
 #![tactic(auto)]
 
-mod board;
 mod hosting;
 mod service;
 mod terms;

@@ -1,20 +1,25 @@
 //! A server and the ledger of its store, with what its connections share.
 
-ghost use Rattle.std.specs.Prelude.{◌≡◌, [], length};
+ghost use Rattle.std.specs.Prelude.{◌≡◌, ◌++◌, ◌∷◌, [], length};
+ghost use mathlib.Core.List.{IsPrefix};
 ghost use Rattle.std.specs.Option.{option_map};
 ghost use Rattle.hg_types.specs.declared.item.Taken.{Taken};
 ghost use Rattle.hg_types.specs.Limits.{IsAllowed};
 ghost use Rattle.hg_store.specs.Log.{IsSettled};
-ghost use Rattle.hg_serve.specs.Desks.{Begins};
+ghost use Rattle.hg_serve.specs.Desks.{OpensWith};
 ghost use Rattle.hg_ledger.specs.Receipts.{IsTallyOf};
-ghost use Rattle.hg_ledger.specs.Records.{AreKept};
+ghost use Rattle.hg_ledger.specs.Clients.{IsCovered};
+ghost use Rattle.hg_kept.specs.Closing.{ClosesKept};
+ghost use Rattle.hg_queue.specs.Words.{history};
+ghost use Rattle.hg_serve.specs.Histories.{serial_run};
 ghost use Rattle.hg_opening.specs.Opening.{IsRecovered};
 ghost use Rattle.hg_host.specs.Serving.{HostsHttp};
 
-use crate::board::Board;
 use crate::terms::HostTerms;
 use crate::watch::Watcher;
-use hg_ledger::{Ledger, Parts, Storing, Tally};
+use hg_board::Board;
+use hg_kept::{ClosedKept, close_kept};
+use hg_ledger::{KeptClient, Ledger, Parts, Storing, Tally};
 use hg_listener::drain;
 use hg_opening::Recovered;
 use hg_queue::{PartQueue, Taker};
@@ -44,7 +49,8 @@ const READ: usize = 16_384;
 pub struct Service<'a, J: Storing<Global>, D: Device, R: Wait + Clock> {
     server: Server<J>,
     ledger: Ledger<J, D>,
-    clients: Mutex<Vec<Client<J>>>,
+    /// The clients that no connection has.
+    free: Mutex<Vec<KeptClient<J>>>,
     budget: Budget,
     board: Board<'a, R>,
     slots: Slots,
@@ -83,7 +89,7 @@ where
         recovered: Recovered<D>,
         tally: Tally,
     ) -> Result<Self, NoMemory>
-        requires begins { Begins J.table J.capacity J.first queue taker recovered.repo }
+        requires begins { OpensWith J.table J.capacity J.first queue taker recovered.repo }
         requires settled { IsSettled D.seen D.may_leave J.head J.stored recovered.log }
         requires opened { J.opened ≡ D.moment recovered.log.device }
         requires tally { IsTallyOf J.tally J.name J.parts tally × (tally.count ≡ 0) }
@@ -99,20 +105,21 @@ where
         } = recovered;
         let places = (terms.connections as usize).saturating_add(WITNESSES);
         let board = Board::new(rt, alloc, log.end as u64)?;
-        let clients = Vec::with_capacity(alloc, places)?;
+        let free = Vec::with_capacity(alloc, places)?;
         let server = Server::new(alloc, repo, queue, taker);
         let witnesses = (new_client(rt, &server), new_client(rt, &server));
         let ledger = match Ledger::new(alloc, log, witnesses, tally) {
             Ok(ledger) => ledger,
             Err(parts) => {
-                close_server(rt, server, parts, clients);
+                free.destroy_empty();
+                end_unused(rt, alloc, server, parts);
                 return Err(NoMemory);
             }
         };
         Ok(Service {
             server,
             ledger,
-            clients: Mutex::new(clients),
+            free: Mutex::new(free),
             budget: Budget::new(terms.memory),
             board,
             slots: Slots::new(terms.connections),
@@ -121,34 +128,44 @@ where
         })
     }
 
-    /// Ends all.
-    pub(crate) fn close(self, rt: &R) {
+    /// Ends all, with these clients of its connections and those that no connection has. **Whatever an end leaves from
+    /// now on has the records of all that these were answered rests on.**
+    pub fn close(self, rt: &R, alloc: Global, clients: Vec<KeptClient<J>>) -> ClosedKept<D>
+        ensures serial { serial_run J.first (history result.closed.taker)
+            ≡ record { repo = result.closed.repo; journal = result.closed.journal.items } }
+        ensures left { ClosesKept D.moment D.left_since D.may_leave J.head J.stored J.first J.opened clients.items
+            (history result.closed.taker) result.kept result.log.device }
+    {
         let Service {
             server,
             ledger,
-            clients,
+            free,
             budget: _,
             board: _,
             slots: _,
             terms: _,
             stored: _,
         } = self;
-        close_server(rt, server, ledger.into_parts(), clients.into_inner());
+        let mut clients = clients;
+        join(rt, &mut clients, free.into_inner());
+        close_kept(rt, alloc, server, ledger, clients)
     }
 
-    /// Serves a connection from that reader to that writer, by a client that may have served others before.
+    /// Serves a connection from that reader to that writer, by a client that may have served others before. It comes
+    /// back with a receipt for all that it was answered rests on.
     pub fn serve<I: BufRead, W: Write>(
         &self,
         rt: &R,
         alloc: Global,
         keys: RandomState,
+        client: KeptClient<J>,
         reader: &mut I,
         writer: &mut W,
-    ) -> Finish
-        ensures { HostsHttp J.capacity J.first J.head J.stored (AreKept D.seen D.may_leave J.head J.stored J.first)
+    ) -> (KeptClient<J>, Finish)
+        ensures { HostsHttp J.capacity J.first J.head J.stored (IsCovered D.seen D.may_leave J.head J.stored J.first)
             ⟦<Board<'a, R> as Shown<Global>>⟧.is_page ⟦<Board<'a, R> as Shown<Global>>⟧.are_metrics
-            self.now (I.remaining reader.old) (I.remaining reader.new)
-            (W.contents writer.old) (W.contents writer.new) result }
+            self.now client (I.remaining reader.old) (I.remaining reader.new)
+            (W.contents writer.old) (W.contents writer.new) result.1 result.0 }
     {
         let terms = Terms {
             shown: &self.board,
@@ -164,8 +181,7 @@ where
             self.stored,
             self.terms.logs,
         );
-        let client = self.client(rt);
-        let (client, finish) = serve_http(
+        serve_http(
             &self.server,
             &self.ledger,
             rt,
@@ -176,9 +192,7 @@ where
             &mut watch,
             reader,
             writer,
-        );
-        self.leave(rt, client);
-        finish
+        )
     }
 
     fn pull(&self) -> Option<&[u8]> {
@@ -188,18 +202,25 @@ where
         }
     }
 
-    /// A client that is free, or a new one.
-    fn client(&self, rt: &R) -> Client<J> {
-        if let Some(client) = self.clients.lock(rt).pop() {
+    /// A client that was answered nothing yet.
+    pub fn client(&self, rt: &R) -> KeptClient<J>
+        ensures { result ≡ record { history = []; receipt = 0 } }
+    {
+        KeptClient::new(new_client(rt, &self.server))
+    }
+
+    /// A client that no connection has, or a new one.
+    fn free_client(&self, rt: &R) -> KeptClient<J> {
+        if let Some(client) = self.free.lock(rt).pop() {
             return client;
         }
-        new_client(rt, &self.server)
+        self.client(rt)
     }
 
     /// Keeps a client for the next connection. The list has room for all that are served at one time: one that
     /// had none would be asked again.
-    fn leave(&self, rt: &R, client: Client<J>) {
-        put(rt, &mut *self.clients.lock(rt), client);
+    fn leave(&self, rt: &R, client: KeptClient<J>) {
+        put(rt, &mut *self.free.lock(rt), client);
     }
 
     /// The places for connections.
@@ -236,7 +257,9 @@ where
                 slots: &self.slots,
             },
         };
-        let finish = self.serve(rt, alloc, keys, &mut reader, &mut writer);
+        let client = self.free_client(rt);
+        let (client, finish) = self.serve(rt, alloc, keys, client, &mut reader, &mut writer);
+        self.leave(rt, client);
         // where an answer was the last, the client may still send what nobody reads
         if finish == Finish::Done {
             drain(rt, stream);
@@ -255,26 +278,37 @@ fn new_client<J: Storing<Global>, R: Wait>(rt: &R, server: &Server<J>) -> Client
     }
 }
 
-/// Adds a client to those that are kept. Where memory is refused it is tried again.
-fn put<J: Storing<Global>, R: Wait>(rt: &R, clients: &mut Vec<Client<J>>, client: Client<J>) {
-    let mut client = client;
+/// Adds an item to others. Where memory is refused, it is tried again.
+fn put<T, R: Wait>(rt: &R, items: &mut Vec<T>, item: T)
+    ensures { items.new.items ≡ items.old.items ++ item ∷ [] }
+{
+    let mut item = item;
     'putting: for _ in rt.forever() {
-        match clients.push(client) {
+        match items.push(item) {
             Ok(()) => return,
-            Err(AllocFailed { value, .. }) => client = value,
+            Err(AllocFailed { value, .. }) => item = value,
         }
     }
     unreachable!()
 }
 
-/// Closes a server with all of its clients.
-fn close_server<J: Storing<Global>, D: Device + Drop, R: Wait>(
+/// Adds more items to others.
+fn join<T, R: Wait>(rt: &R, items: &mut Vec<T>, mut more: Vec<T>)
+    ensures { IsPrefix items.old.items items.new.items }
+{
+    'joining: while let Some(item) = more.pop() {
+        put(rt, items, item);
+    }
+    more.destroy_empty();
+}
+
+/// Ends a server that has no ledger yet.
+fn end_unused<J: Storing<Global>, D: Device + Drop, R: Wait>(
     rt: &R,
+    alloc: Global,
     server: Server<J>,
     parts: Parts<J, D>,
-    clients: Vec<Client<J>>,
 ) {
-    let mut clients = clients;
     let Parts {
         log: _log,
         kept: _,
@@ -282,6 +316,7 @@ fn close_server<J: Storing<Global>, D: Device + Drop, R: Wait>(
         witnesses: (first, second),
         tally: _,
     } = parts;
+    let mut clients = Vec::new(alloc);
     put(rt, &mut clients, first);
     put(rt, &mut clients, second);
     let _closed = server.close(clients);

@@ -1,6 +1,6 @@
 //! Who watches a connection: how long each push took, and a line for it.
 
-use crate::board::{Board, seconds_now};
+use hg_board::{Board, seconds_now};
 use hg_ended::{brought_by, ending_of};
 use hg_page::{Ending, Push, log_line};
 use hg_serve::{Gate, Point};

@@ -1,4 +1,4 @@
--- The reader of a body: what it tells.
+-- The reader of a body: what it reports.
 use Rattle.std.specs.Prelude.{ℕ, List, map, take, drop, Some}
 use Rattle.hg_devices.specs.Devices.{Input, ReadAnswer, Gave}
 

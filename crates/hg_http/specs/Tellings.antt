@@ -1,4 +1,4 @@
--- How a response tells an answer.
+-- How a response reports an answer.
 use Rattle.std.specs.Prelude.{ℕ, ◌⊎◌, List, [], ◌∷◌, ◌++◌, codes}
 use Rattle.http1.specs.Fields.{Header}
 use Rattle.http_server.specs.declared.response.Response.{Response}
@@ -40,7 +40,7 @@ view_fields Metrics = of_type (codes "text/plain; version=0.0.4; charset=utf-8")
 abbrev pub location_of : List ℕ → List Header
 location_of address = (codes "location", address) ∷ []
 
--- the status, the fields and the body that tell an answer
+-- the status, the fields and the body that report an answer
 abbrev pub Says : {A : Type 0} → Answer A → Response → Type 0
 Says (Told text) response = IsResponse 200 (of_type (codes "application/mercurial-0.1")) text response
 Says (Refused why) response =

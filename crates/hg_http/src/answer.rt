@@ -1,4 +1,4 @@
-//! The answers, and how a response tells them.
+//! The answers, and how a response reports them.
 
 ghost use Rattle.std.specs.Prelude.{◌≡◌, OnOk, codes, []};
 ghost use Rattle.http_server.specs.Response.{IsBlank, IsResponse};

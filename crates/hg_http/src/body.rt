@@ -7,7 +7,7 @@ use http_server::Log;
 use std::io::Result;
 use std::marker::Model;
 
-/// Gives the bytes of a request's body, or of a bundle that was made for one. No read of it fails, and it tells
+/// Gives the bytes of a request's body, or of a bundle that was made for one. No read of it fails, and it reports
 /// what each gave.
 #[derive(Drop)]
 pub struct Body<'a> {

@@ -9,7 +9,7 @@ ghost use Rattle.hg_http.specs.Requests.{argument_in};
 use hg_told::{Field, value_of};
 use std::alloc::Allocator;
 
-/// What a client asks to be told of the repository.
+/// What a client asks of the repository.
 #[derive(Clone, Copy, Debug, PartialEq, Eq)]
 pub enum Read {
     Heads,
@@ -56,7 +56,7 @@ fn is_name(name: &[u8], other: &[u8]) -> bool
     name == other
 }
 
-/// What a command of that name asks to be told, if it is one that only reads.
+/// What a command of that name asks for, if it is one that only reads.
 #[tactic(auto, unfolding(crate::specs::Commands::read_of))]
 pub fn read_of(name: &[u8]) -> Option<Read>
     ensures { result ≡ read_named name.now }

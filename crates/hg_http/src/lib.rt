@@ -1,4 +1,4 @@
-//! What a request of a Mercurial client asks over HTTP, and how a response tells the answer.
+//! What a request of a Mercurial client asks over HTTP, and how a response reports the answer.
 //!
 //! [`read_name`] and [`read_arguments`] read the command of a request and its arguments, and [`command_of`]
 //! says which command it is. [`is_from_client`] refuses what a page in a browser could send. [`Answer`] is

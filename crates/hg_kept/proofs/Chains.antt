@@ -17,24 +17,25 @@ use Rattle.hg_push.specs.Reply.{reply_of}
 use Rattle.hg_push.specs.Run.{RepositoryOf}
 use Rattle.hg_push.specs.declared.book.OpenFault.{OpenFault}
 use Rattle.hg_store.specs.declared.head.Head.{Head}
+use Rattle.hg_ledger.specs.Clients.{KeptSeen}
 use Rattle.hg_stream.specs.declared.state.State.{State}
 use Rattle.hg_stream.specs.declared.state.State.TheVariants.{Ended, Reading as going}
 use Rattle.hg_stream.specs.declared.unbundler.Unbundler.{Unbundler}
-use Rattle.hg_stream.specs.Unbundler.{Holds, limits_of, ready_of, state_of}
-use Rattle.hg_stream.specs.Faults.{Tells}
+use Rattle.hg_stream.specs.Unbundler.{HoldsBundle, limits_of, ready_of, state_of}
+use Rattle.hg_stream.specs.Faults.{StateTells}
 use Rattle.hg_stream.specs.Laws.{AreSettledOnce}
 use Rattle.hg_stream.specs.Places.{IsReading}
 use Rattle.hg_serve.specs.declared.desk.Answer.{Answer}
-use Rattle.hg_devices.specs.Devices.{Input, Output, ReadAnswer, WriteAnswer, Gave, Failed, Adds}
+use Rattle.hg_devices.specs.Devices.{Input, Output, ReadAnswer, WriteAnswer, Gave, Failed, TellsMore}
 use Rattle.hg_devices.proofs.CallerLemmas.{Adds-nil, Adds-trans}
 use Rattle.hg_devices.specs.declared.sending.Sending.{Sending}
 use Rattle.hg_devices.specs.declared.sending.Sending.TheVariants.{Whole as sent_whole, Broken, NoMemory}
 use Rattle.hg_devices.specs.Sent.{IsSent}
-use Rattle.hg_receiving.specs.declared.ending.Ending.{Ending}
-use Rattle.hg_receiving.specs.declared.ending.Ending.TheVariants.{Whole, Fault, InputEnded, ReadFailed}
+use Rattle.hg_receiving.specs.declared.ending.BundleEnd.{BundleEnd}
+use Rattle.hg_receiving.specs.declared.ending.BundleEnd.TheVariants.{Whole, Fault, InputEnded, ReadFailed}
 use Rattle.hg_connection.specs.declared.coming.Next.TheVariants.{Comes, Ends as comes_no_more, Fails}
 use Rattle.hg_connection.specs.declared.served.ConnFault.TheVariants.{Open, ReadFailed as read_failed}
-use Rattle.hg_receiving.specs.Receiving.{IsPiece, Keeps, Ran, state_at}
+use Rattle.hg_receiving.specs.Receiving.{IsPiece, KeepsWaiting, Ran, state_at}
 use Rattle.hg_connection.specs.Receiving.{IsFresh, IsNext}
 use Rattle.hg_kept.specs.declared.served.Replied.{Replied}
 use Rattle.hg_kept.specs.declared.served.Replied.TheVariants.{Sent, NotStored}
@@ -42,15 +43,15 @@ use Rattle.hg_kept.specs.declared.served.KeptFault.{KeptFault}
 use Rattle.hg_kept.specs.declared.served.KeptFault.TheVariants.{Connection}
 use Rattle.hg_kept.specs.declared.served.KeptServed.{KeptServed}
 use Rattle.hg_kept.specs.Kept.{KeptExchange, IsKeptExchange, Replies, ServesKept, TellsOfKept, kept_fault_of}
-use Rattle.hg_kept.specs.Connections.{AreKeptExchanges, AreWhole, ConnectsKept, EndsBy, TellsLast, bytes_of}
+use Rattle.hg_kept.specs.Connections.{AreKeptExchanges, AreWholeKept, ConnectsKept, EndsKeptBy, TellsLastKept, bytes_of}
 use Rattle.hg_kept.specs.Connections.{reads_of, uses_of, replies_of, gone_of}
 
 -- a reader of a stream that was begun anew has given no part
 pub fresh : {A : Type 0} → ((limits : Limits) → AreSettledOnce A limits) → (limits : Limits) (u : Unbundler A)
-    → Holds u [] [] → state_of u ≡ going → limits_of u ≡ limits → IsFresh limits u
+    → HoldsBundle u [] [] → state_of u ≡ going → limits_of u ≡ limits → IsFresh limits u
 fresh {A} law limits u holds state is =
-    let tells : Tells going (limits_of u) [] ([] ++ ready_of u) = subst
-    (λ (st : State). Tells st (limits_of u) [] ([] ++ ready_of u)) state holds.tells in
+    let tells : StateTells going (limits_of u) [] ([] ++ ready_of u) = subst
+    (λ (st : State). StateTells st (limits_of u) [] ([] ++ ready_of u)) state holds.tells in
     record {
       empty = holds;
       state = state;
@@ -58,6 +59,12 @@ fresh {A} law limits u holds state is =
       ready = (law (limits_of u)).one_reading [] (ready_of u) [] tells.0
           (IsReading.at_magic (omega arith) refl);
     }
+
+-- what a client had that was taken apart is what it was
+pub as_was : {A : Type 0} (history : List (Taken A)) (receipt : ℕ) (now : KeptSeen A) → history ≡ now.history
+    → receipt ≡ now.receipt
+    → (let had : KeptSeen A = record { history = history; receipt = receipt } in had ≡ now)
+as_was history receipt now seen same = λ i. record { history = seen i; receipt = same i }
 
 -- the bytes that were read after the last end mark
 abbrev pub last_rest : {A : Type 0} → List ℕ → List (KeptExchange A) → List ℕ
@@ -67,18 +74,18 @@ last_rest waited (x ∷ xs) = last_rest x.rest xs
 -- all bundles so far were whole, and all their replies went out
 pub record Goes {A D : Type 0} (seen : D → List ℕ) (may_leave : D → List ℕ → Type 0) (head : Head)
     (stored : List (List ℕ)) (limits : Limits) (capacity : ℕ) (first : RepositoryOf A) (input left : Input)
-    (out sent : Output) (before now : List (Taken A)) (waiting : List ℕ) (served : KeptServed A)
+    (out sent : Output) (before now : KeptSeen A) (waiting : List ℕ) (served : KeptServed A)
     (number : ℕ) : Type 0 where
   pub whole : List (KeptExchange A)
   pub chain : AreKeptExchanges seen may_leave head stored limits capacity first before [] whole now
   pub rest_is : last_rest [] whole ≡ waiting
-  pub ends : AreWhole whole
+  pub ends : AreWholeKept whole
   pub count : number ≡ length whole
   pub counted : served.bundles ≡ number
-  pub tells : TellsLast served.last whole
+  pub tells : TellsLastKept served.last whole
   pub read : Consumes input.left left.left (bytes_of whole ++ waiting)
-  pub reads : Adds input.reads left.reads (reads_of whole)
-  pub uses : Adds out.uses sent.uses (uses_of whole)
+  pub reads : TellsMore input.reads left.reads (reads_of whole)
+  pub uses : TellsMore out.uses sent.uses (uses_of whole)
   pub bytes : length (bytes_of whole) ≤ number * limits.stream
   pub none : number ≡ 0 → waiting ≡ []
   pub went : Appends out.taken sent.taken (replies_of whole)
@@ -89,12 +96,12 @@ pub record Goes {A D : Type 0} (seen : D → List ℕ) (may_leave : D → List �
 
 module _ {A D : Type 0} {seen : D → List ℕ} {may_leave : D → List ℕ → Type 0} {head : Head}
     {stored : List (List ℕ)} (limits : Limits) (capacity : ℕ) (first : RepositoryOf A) where
-  chain_more : (before : List (Taken A)) (waited : List ℕ) (xs : List (KeptExchange A)) (now : List (Taken A))
+  chain_more : (before : KeptSeen A) (waited : List ℕ) (xs : List (KeptExchange A)) (now : KeptSeen A)
       (x : KeptExchange A) → AreKeptExchanges seen may_leave head stored limits capacity first before waited xs now
       → IsKeptExchange seen may_leave head stored limits capacity first now (last_rest waited xs) x
       → AreKeptExchanges seen may_leave head stored limits capacity first before waited (xs ++ x ∷ []) x.after
   chain_more before waited [] now x c is = (
-    subst (λ (h : List (Taken A)). IsKeptExchange seen may_leave head stored limits capacity first h waited x) c
+    subst (λ (h : KeptSeen A). IsKeptExchange seen may_leave head stored limits capacity first h waited x) c
         is,
     refl,
   )
@@ -105,8 +112,8 @@ last_more : {A : Type 0} (waited : List ℕ) (xs : List (KeptExchange A)) (x : K
 last_more waited [] x = refl
 last_more waited (y ∷ ys) x = last_more y.rest ys x
 
-whole_more : {A : Type 0} (xs : List (KeptExchange A)) (x : KeptExchange A) → AreWhole xs → x.ending ≡ Whole
-    → x.replied ≡ Sent sent_whole → AreWhole (xs ++ x ∷ [])
+whole_more : {A : Type 0} (xs : List (KeptExchange A)) (x : KeptExchange A) → AreWholeKept xs → x.ending ≡ Whole
+    → x.replied ≡ Sent sent_whole → AreWholeKept (xs ++ x ∷ [])
 whole_more [] x all is went = (is, went, tt)
 whole_more (y ∷ ys) x all is went = (all.0, all.1, whole_more ys x all.2 is went)
 
@@ -130,7 +137,7 @@ replies_more : {A : Type 0} (xs : List (KeptExchange A)) (x : KeptExchange A) �
     ++ reply_of x.how ≡ replies_of (xs ++ x ∷ [])
 replies_more {A} xs x = flat_map_more (λ (y : KeptExchange A). reply_of y.how) [] xs x
 
-no_fault : (ending : Ending) (replied : Replied) → kept_fault_of ending replied ≡ None → (ending ≡ Whole)
+no_fault : (ending : BundleEnd) (replied : Replied) → kept_fault_of ending replied ≡ None → (ending ≡ Whole)
     × (replied ≡ Sent sent_whole)
 no_fault ReadFailed (Sent sending) e = absurd cc
 no_fault (Fault fault) (Sent sending) e = absurd cc
@@ -142,7 +149,7 @@ no_fault ending NotStored e = absurd cc
 
 -- what did not go out of a reply
 rest_of : {A D : Type 0} (seen : D → List ℕ) (may_leave : D → List ℕ → Type 0) (head : Head)
-    (stored : List (List ℕ)) (first : RepositoryOf A) (after : List (Taken A)) (rests : ℕ)
+    (stored : List (List ℕ)) (first : RepositoryOf A) (after : KeptSeen A) (rests : ℕ)
     (reply gone : List ℕ) (uses : List WriteAnswer) (replied : Replied)
     → Replies seen may_leave head stored first after rests reply gone uses replied
     → (rest : List ℕ) × (reply ≡ gone ++ rest)
@@ -161,15 +168,15 @@ within n m s le = mul-le-mul_right s le
 pub can_add : {A D : Type 0} {seen : D → List ℕ} {may_leave : D → List ℕ → Type 0} {head : Head}
     {stored : List (List ℕ)}
     (limits : Limits) (capacity : ℕ) (first : RepositoryOf A) (input mid begun left : Input)
-    (out way sent : Output) (before now history after : List (Taken A)) (waiting waited waits : List ℕ)
-    (served : KeptServed A) (number : ℕ) (x : KeptExchange A) (ending : Ending)
+    (out way sent : Output) (before now had after : KeptSeen A) (waiting waited waits : List ℕ)
+    (served : KeptServed A) (number : ℕ) (x : KeptExchange A) (ending : BundleEnd)
     (how : Outcome (Done A) (Refusal A)) (takes rests : ℕ) (replied : Replied) (written : ℕ)
     → Goes seen may_leave head stored limits capacity first input mid out way before now waiting served number
-    → ServesKept seen may_leave head stored limits capacity first waited waits begun left way sent history x
+    → ServesKept seen may_leave head stored limits capacity first waited waits begun left way sent had x
     → TellsOfKept x ending how takes rests replied written after → number < 10000
     → served.written + written < 2 ^ 64
 can_add {seen = seen} {may_leave = may_leave} {head = head} {stored = stored} limits capacity first input mid
-    begun left out way sent before now history after waiting waited waits served number x ending how takes rests replied written g v t less =
+    begun left out way sent before now had after waiting waited waits served number x ending how takes rests replied written g v t less =
     let so_far = g.written in
     let bound = g.short in
     let most = within number 10000 greatest_reply (omega (arith, less)) in
@@ -185,7 +192,7 @@ can_add {seen = seen} {may_leave = may_leave} {head = head} {stored = stored} li
 pub starts : {A D : Type 0} {seen : D → List ℕ} {may_leave : D → List ℕ → Type 0} {head : Head}
     {stored : List (List ℕ)}
     (limits : Limits) (capacity : ℕ) (first : RepositoryOf A) (input : Input) (out : Output)
-    (before : List (Taken A)) (waiting : List ℕ) (served : KeptServed A) → waiting ≡ []
+    (before : KeptSeen A) (waiting : List ℕ) (served : KeptServed A) → waiting ≡ []
     → (served.bundles ≡ 0) × (served.last ≡ None) × (served.written ≡ 0) × (served.fault ≡ None)
     → Goes seen may_leave head stored limits capacity first input input out out before before waiting served 0
 starts {A = A} limits capacity first input out before waiting served none s = record {
@@ -195,7 +202,7 @@ starts {A = A} limits capacity first input out before waiting served none s = re
   ends = tt;
   count = refl;
   counted = s.0;
-  tells = subst (λ (o : Option (Answer A)). TellsLast {A = A} o []) (sym s.1) refl;
+  tells = subst (λ (o : Option (Answer A)). TellsLastKept {A = A} o []) (sym s.1) refl;
   read = subst (λ (l : List ℕ). Consumes input.left input.left l) (sym none) (Consumes-nil input.left);
   reads = Adds-nil input.reads;
   uses = Adds-nil out.uses;
@@ -216,14 +223,14 @@ SameBut old new fault = (new.bundles ≡ old.bundles) × (new.last ≡ old.last)
 -- the connection ends between two bundles
 module _ {A D : Type 0} {seen : D → List ℕ} {may_leave : D → List ℕ → Type 0} {head : Head}
     {stored : List (List ℕ)} (limits : Limits) (capacity : ℕ) (first : RepositoryOf A) (most : ℕ)
-    (input mid left : Input) (out sent : Output) (before now : List (Taken A)) (waiting after : List ℕ)
+    (input mid left : Input) (out sent : Output) (before now : KeptSeen A) (waiting after : List ℕ)
     (served told : KeptServed A) (number : ℕ)
     (g : Goes seen may_leave head stored limits capacity first input mid out sent before now waiting served number)
     (less : number ≤ most) where
-  closes : (now' : List (Taken A)) (dropped : List ℕ) (final : List ReadAnswer) (fault : Option KeptFault)
+  closes : (now' : KeptSeen A) (dropped : List ℕ) (final : List ReadAnswer) (fault : Option KeptFault)
       → now' ≡ now → Consumes input.left left.left (bytes_of g.whole ++ dropped)
-      → Adds input.reads left.reads (reads_of g.whole ++ final) → length dropped ≤ 4096
-      → SameBut served told fault → EndsBy most g.whole None final dropped left fault
+      → TellsMore input.reads left.reads (reads_of g.whole ++ final) → length dropped ≤ 4096
+      → SameBut served told fault → EndsKeptBy most g.whole None final dropped left fault
       → ConnectsKept seen may_leave head stored limits capacity first most input left out sent before now' told
   closes now' dropped final fault same read reads small is end =
       let e : g.whole ++ [] ≡ g.whole = append-nil g.whole in
@@ -236,18 +243,18 @@ module _ {A D : Type 0} {seen : D → List ℕ} {may_leave : D → List ℕ → 
       record {
         whole = g.whole;
         last = None;
-        chain = subst (λ (y : List (KeptExchange A) × List (Taken A)).
+        chain = subst (λ (y : List (KeptExchange A) × KeptSeen A).
             AreKeptExchanges seen may_leave head stored limits capacity first before [] y.0 y.1)
             (λ i. (sym e i, sym same i)) g.chain;
         ends = g.ends;
         count = count' ∙ ap (λ (l : List (KeptExchange A)). length l) (sym e);
         few = subst (λ (l : List (KeptExchange A)). length l ≤ most) (sym e) few';
-        tells = subst (λ (y : Option (Answer A) × List (KeptExchange A)). TellsLast y.0 y.1)
+        tells = subst (λ (y : Option (Answer A) × List (KeptExchange A)). TellsLastKept y.0 y.1)
             (λ i. (sym is.1 i, sym e i)) g.tells;
         final = final;
-        reads = subst (λ (l : List (KeptExchange A)). Adds input.reads left.reads (reads_of l ++ final))
+        reads = subst (λ (l : List (KeptExchange A)). TellsMore input.reads left.reads (reads_of l ++ final))
             (sym e) reads;
-        uses = subst (λ (l : List (KeptExchange A)). Adds out.uses sent.uses (uses_of l)) (sym e) g.uses;
+        uses = subst (λ (l : List (KeptExchange A)). TellsMore out.uses sent.uses (uses_of l)) (sym e) g.uses;
         dropped = dropped;
         read = subst (λ (l : List (KeptExchange A)). Consumes input.left left.left (bytes_of l ++ dropped))
             (sym e) read;
@@ -260,7 +267,7 @@ module _ {A D : Type 0} {seen : D → List ℕ} {may_leave : D → List ℕ → 
         went = g.went;
         written = is.2 ∙ g.written;
         all = λ _. refl;
-        end = subst (λ (f : Option KeptFault). EndsBy most g.whole None final dropped left f) (sym is.3) end;
+        end = subst (λ (f : Option KeptFault). EndsKeptBy most g.whole None final dropped left f) (sym is.3) end;
       }
 
   -- one read gave no byte
@@ -296,15 +303,15 @@ module _ {A D : Type 0} {seen : D → List ℕ} {may_leave : D → List ℕ → 
       absurd (omega (arith, z, piece.0)))
 
   -- a push was not opened
-  pub at_opening : (now' : List (Taken A)) (fault : OpenFault) → IsNext number waiting after mid left Comes
+  pub at_opening : (now' : KeptSeen A) (fault : OpenFault) → IsNext number waiting after mid left Comes
       → now' ≡ now → SameBut served told (Some (Connection (Open fault)))
       → ConnectsKept seen may_leave head stored limits capacity first most input left out sent before now' told
   at_opening now' fault n same is = elim n.0 [
     | inl there ↦ closes now' after [] (Some (Connection (Open fault))) same
         (subst (λ (y : List ℕ × Input). Consumes input.left y.1.left (bytes_of g.whole ++ y.0))
         (λ i. (sym there.0 i, sym there.1 i)) g.read)
-        (subst (λ (i : Input). Adds input.reads i.reads (reads_of g.whole ++ [])) (sym there.1)
-        (subst (λ (l : List ReadAnswer). Adds input.reads mid.reads l)
+        (subst (λ (i : Input). TellsMore input.reads i.reads (reads_of g.whole ++ [])) (sym there.1)
+        (subst (λ (l : List ReadAnswer). TellsMore input.reads mid.reads l)
         (sym (append-nil (reads_of g.whole))) g.reads)) n.3 is (inl refl, none_waits n)
     | inr read ↦ closes now' after (Gave after ∷ []) (Some (Connection (Open fault))) same
         (subst (λ (l : List ℕ). Consumes input.left left.left l)
@@ -322,14 +329,14 @@ module _ {A D : Type 0} {seen : D → List ℕ} {may_leave : D → List ℕ → 
   at_most still all small is =
       closes now waiting [] None refl
       (subst (λ (i : Input). Consumes input.left i.left (bytes_of g.whole ++ waiting)) (sym still) g.read)
-      (subst (λ (i : Input). Adds input.reads i.reads (reads_of g.whole ++ [])) (sym still)
-      (subst (λ (l : List ReadAnswer). Adds input.reads mid.reads l)
+      (subst (λ (i : Input). TellsMore input.reads i.reads (reads_of g.whole ++ [])) (sym still)
+      (subst (λ (l : List ReadAnswer). TellsMore input.reads mid.reads l)
       (sym (append-nil (reads_of g.whole))) g.reads)) small (is.0, is.1, is.2, is.3 ∙ g.fault)
       (inl (sym g.count ∙ all, refl))
 
 ends_with : {A : Type 0} (most : ℕ) (whole : List (KeptExchange A)) (x : KeptExchange A) (left : Input)
     (fault : Option KeptFault) → kept_fault_of x.ending x.replied ≡ fault → is_some fault ≡ true
-    → Ran x.ending left → EndsBy most whole (Some x) [] x.rest left fault
+    → Ran x.ending left → EndsKeptBy most whole (Some x) [] x.rest left fault
 ends_with most whole x left None e some ran = absurd (true≢false (sym some))
 ends_with most whole x left (Some fault) e some ran = (refl, refl, e, ran)
 
@@ -338,7 +345,7 @@ none_of None e = refl
 none_of (Some x) e = absurd (true≢false e)
 
 -- after a bundle without a fault its end mark was read
-pub ended_whole : (ending : Ending) (replied : Replied) (fault : Option KeptFault)
+pub ended_whole : (ending : BundleEnd) (replied : Replied) (fault : Option KeptFault)
     → kept_fault_of ending replied ≡ fault → is_some fault ≡ false → ending ≡ Whole
 ended_whole ending replied fault is none = (no_fault ending replied (is ∙ none_of fault none)).0
 
@@ -351,14 +358,14 @@ sent_gone NoMemory gone uses reply is s = absurd cc
 
 -- what went out of a reply that was sent whole
 gone_whole : {A D : Type 0} (seen : D → List ℕ) (may_leave : D → List ℕ → Type 0) (head : Head)
-    (stored : List (List ℕ)) (first : RepositoryOf A) (after : List (Taken A)) (rests : ℕ)
+    (stored : List (List ℕ)) (first : RepositoryOf A) (after : KeptSeen A) (rests : ℕ)
     (reply gone : List ℕ) (uses : List WriteAnswer) (replied : Replied) → replied ≡ Sent sent_whole
     → Replies seen may_leave head stored first after rests reply gone uses replied → gone ≡ reply
 gone_whole seen may_leave head stored first after rests reply gone uses (Sent sending) is r =
     let whole : sending ≡ sent_whole = cc in sent_gone sending gone uses reply whole r.1
 gone_whole seen may_leave head stored first after rests reply gone uses NotStored is r = absurd cc
 
-rest_waits : (ending : Ending) (rest waiting : List ℕ) → ending ≡ Whole → Keeps ending rest waiting
+rest_waits : (ending : BundleEnd) (rest waiting : List ℕ) → ending ≡ Whole → KeepsWaiting ending rest waiting
     → waiting ≡ rest
 rest_waits Whole rest waiting is keeps = keeps
 rest_waits (Fault fault) rest waiting is keeps = absurd cc
@@ -366,8 +373,8 @@ rest_waits InputEnded rest waiting is keeps = absurd cc
 rest_waits ReadFailed rest waiting is keeps = absurd cc
 
 -- what is told of a bundle is told of it with other reads as well
-pub tells_own : {A : Type 0} (x own : KeptExchange A) (ending : Ending) (how : Outcome (Done A) (Refusal A))
-    (takes rests : ℕ) (replied : Replied) (written : ℕ) (after : List (Taken A))
+pub tells_own : {A : Type 0} (x own : KeptExchange A) (ending : BundleEnd) (how : Outcome (Done A) (Refusal A))
+    (takes rests : ℕ) (replied : Replied) (written : ℕ) (after : KeptSeen A)
     → own ≡ record x { reads = own.reads } → TellsOfKept x ending how takes rests replied written after
     → TellsOfKept own ending how takes rests replied written after
 tells_own {A} x own ending how takes rests replied written after same t = record {
@@ -382,24 +389,24 @@ tells_own {A} x own ending how takes rests replied written after same t = record
 
 module _ {A D : Type 0} {seen : D → List ℕ} {may_leave : D → List ℕ → Type 0} {head : Head}
     {stored : List (List ℕ)} (limits : Limits) (capacity : ℕ) (first : RepositoryOf A)
-    (input mid left : Input) (out way sent : Output) (before now history now' : List (Taken A))
+    (input mid left : Input) (out way sent : Output) (before now had now' : KeptSeen A)
     (waiting waits : List ℕ)
-    (served told : KeptServed A) (number : ℕ) (answer : Answer A) (ending : Ending) (rests : ℕ)
+    (served told : KeptServed A) (number : ℕ) (answer : Answer A) (ending : BundleEnd) (rests : ℕ)
     (replied : Replied) (written : ℕ)
     (g : Goes seen may_leave head stored limits capacity first input mid out way before now waiting served number)
-    (same : history ≡ now)
+    (same : had ≡ now)
     (x : KeptExchange A)
-    (v : ServesKept seen may_leave head stored limits capacity first waiting waits mid left way sent history x)
+    (v : ServesKept seen may_leave head stored limits capacity first waiting waits mid left way sent had x)
     (t : TellsOfKept x ending answer.outcome answer.takes rests replied written now')
     (s : (told.bundles ≡ number + 1) × (told.last ≡ Some answer) × (told.written ≡ served.written + written)
     × (told.fault ≡ kept_fault_of ending replied)) where
   chained : AreKeptExchanges seen may_leave head stored limits capacity first before [] (g.whole ++ x ∷ []) now'
   chained =
-      subst (λ (h : List (Taken A)). AreKeptExchanges seen may_leave head stored limits capacity first before []
+      subst (λ (h : KeptSeen A). AreKeptExchanges seen may_leave head stored limits capacity first before []
       (g.whole ++ x ∷ []) h)
       t.after_is
       (chain_more limits capacity first before [] g.whole now x g.chain
-      (subst (λ (y : List (Taken A) × List ℕ). IsKeptExchange seen may_leave head stored limits capacity first y.0
+      (subst (λ (y : KeptSeen A × List ℕ). IsKeptExchange seen may_leave head stored limits capacity first y.0
       y.1 x)
       (λ i. (same i, sym g.rest_is i)) v.is))
 
@@ -413,12 +420,12 @@ module _ {A D : Type 0} {seen : D → List ℕ} {may_leave : D → List ℕ → 
       subst (λ (l : List ℕ). Consumes input.left left.left l) spell
       (Consumes-trans input.left mid.left left.left (b ++ waiting) v.more g.read v.bytes)
 
-  was_asked : Adds input.reads left.reads (reads_of (g.whole ++ x ∷ []))
-  was_asked = subst (λ (l : List ReadAnswer). Adds input.reads left.reads l) (reads_more g.whole x)
+  was_asked : TellsMore input.reads left.reads (reads_of (g.whole ++ x ∷ []))
+  was_asked = subst (λ (l : List ReadAnswer). TellsMore input.reads left.reads l) (reads_more g.whole x)
       (Adds-trans input.reads mid.reads left.reads (reads_of g.whole) x.reads g.reads v.told)
 
-  was_used : Adds out.uses sent.uses (uses_of (g.whole ++ x ∷ []))
-  was_used = subst (λ (l : List WriteAnswer). Adds out.uses sent.uses l) (uses_more g.whole x)
+  was_used : TellsMore out.uses sent.uses (uses_of (g.whole ++ x ∷ []))
+  was_used = subst (λ (l : List WriteAnswer). TellsMore out.uses sent.uses l) (uses_more g.whole x)
       (Adds-trans out.uses way.uses sent.uses (uses_of g.whole) x.uses g.uses v.used)
 
   few_bytes : length (bytes_of (g.whole ++ x ∷ []) ++ x.rest) ≤ (number + 1) * limits.stream + 4096
@@ -450,8 +457,8 @@ module _ {A D : Type 0} {seen : D → List ℕ} {may_leave : D → List ℕ → 
   counted_one : told.bundles ≡ length (g.whole ++ x ∷ [])
   counted_one = let a = s.0 in let c = g.count in omega (arith, a, c, length-append g.whole (x ∷ []))
 
-  tells_it : TellsLast told.last (g.whole ++ x ∷ [])
-  tells_it = subst (λ (o : Option (Answer A)). TellsLast o (g.whole ++ x ∷ [])) (sym s.1)
+  tells_it : TellsLastKept told.last (g.whole ++ x ∷ [])
+  tells_it = subst (λ (o : Option (Answer A)). TellsLastKept o (g.whole ++ x ∷ [])) (sym s.1)
       (g.whole, x, refl, sym t.how_is, sym t.takes_are)
 
   its_fault : kept_fault_of x.ending x.replied ≡ told.fault
@@ -476,7 +483,7 @@ module _ {A D : Type 0} {seen : D → List ℕ} {may_leave : D → List ℕ → 
         few = let c = g.count in omega (arith, c, less, length-append g.whole (x ∷ []));
         tells = tells_it;
         final = [];
-        reads = subst (λ (l : List ReadAnswer). Adds input.reads left.reads l)
+        reads = subst (λ (l : List ReadAnswer). TellsMore input.reads left.reads l)
             (sym (append-nil (reads_of (g.whole ++ x ∷ [])))) was_asked;
         uses = was_used;
         dropped = x.rest;
@@ -502,8 +509,8 @@ module _ {A D : Type 0} {seen : D → List ℕ} {may_leave : D → List ℕ → 
       ++ x.gone ≡ replies_of (g.whole ++ x ∷ []) = ap (λ (l : List ℕ). replies_of g.whole ++ l)
       (gone_whole seen may_leave head stored first x.after x.rests (reply_of x.how) x.gone x.uses x.replied both.1
       v.is.replies) ∙ replies_more g.whole x in
-      let told_ended : Tells Ended limits x.consumed x.parts = subst
-      (λ (e : Ending). Tells (state_at e) limits x.consumed x.parts) both.0 v.is.received.tells in
+      let told_ended : StateTells Ended limits x.consumed x.parts = subst
+      (λ (e : BundleEnd). StateTells (state_at e) limits x.consumed x.parts) both.0 v.is.received.tells in
       let rest : waits ≡ x.rest = rest_waits x.ending x.rest waits both.0 v.keeps in
       let long = ap (λ (l : List ℕ). length l) (sym (bytes_more g.whole x)) in
       let sum = length-append (bytes_of g.whole) x.consumed in

@@ -15,25 +15,26 @@ use Rattle.hg_push.specs.History.{parts as ran_parts}
 use Rattle.hg_push.specs.Places.{IsPlace, RestsOn}
 use Rattle.hg_push.specs.Run.{RepositoryOf, run_push}
 use Rattle.hg_serve.specs.Answers.{Answers}
-use Rattle.hg_serve.specs.Clients.{SenderView, EndedView, Ends}
+use Rattle.hg_serve.specs.Clients.{SenderView, AwaitingView, PutsItsMark}
 use Rattle.hg_serve.specs.Histories.{newest_first}
 use Rattle.hg_store.specs.declared.head.Head.{Head}
 use Rattle.hg_devices.specs.Devices.{Input, Output, ReadAnswer, Gave}
 use Rattle.hg_devices.proofs.CallerLemmas.{Adds-trans}
+use Rattle.hg_ledger.specs.Clients.{KeptSeen}
 use Rattle.hg_ledger.specs.Records.{IsRecordOf}
-use Rattle.hg_receiving.specs.declared.ending.Ending.{Ending}
+use Rattle.hg_receiving.specs.declared.ending.BundleEnd.{BundleEnd}
 use Rattle.hg_receiving.specs.Receiving.{mark_of, push_items, state_at}
 use Rattle.hg_connection.specs.Receiving.{Arrives}
 use Rattle.hg_connection.specs.Keeping.{ReceivesKept}
-use Rattle.hg_stream.specs.Faults.{Tells}
+use Rattle.hg_stream.specs.Faults.{StateTells}
 use Rattle.hg_connection.proofs.CallerLemmas.{answers_bundle, done_whole, received_with}
 use Rattle.hg_kept.specs.Kept.{IsRecorded, KeptExchange, ServesKept, record_of}
 
 module _ {A : Type 0} (limits : Limits) (capacity : ℕ) (first : RepositoryOf A) (waited waiting : List ℕ)
-    (input left : Input) (s new : SenderView A) (ending : Ending) (kept : List ℕ) (e : EndedView A)
+    (input left : Input) (s new : SenderView A) (ending : BundleEnd) (kept : List ℕ) (e : AwaitingView A)
     (takes : ℕ) (after : List (Taken A)) (rests : ℕ)
     (r : ReceivesKept limits waited waiting input left s new ending kept)
-    (m : Ends new (mark_of ending) e) (same : limits ≡ first.settings.limits)
+    (m : PutsItsMark new (mark_of ending) e) (same : limits ≡ first.settings.limits)
   where
     pub answered : (how : Outcome (Done A) (Refusal A))
         → Answers capacity first e.push e.put e.history how takes after
@@ -57,7 +58,7 @@ module _ {A : Type 0} (limits : Limits) (capacity : ℕ) (first : RepositoryOf A
         let is : rests ≡ (rested (done_with done) on).0 + 1 = (rested (done_with done) on).2 in
         let back : (rested (done_with done) on).0 ≡ rests - 1 = omega (arith, is) in
         let tells : IsBundle limits r.is.bundle.consumed r.is.parts = subst
-        (λ (x : Ending). Tells (state_at x) limits r.is.bundle.consumed r.is.parts) w.0 r.is.bundle.received.tells in (
+        (λ (x : BundleEnd). StateTells (state_at x) limits r.is.bundle.consumed r.is.parts) w.0 r.is.bundle.received.tells in (
           omega (arith, is),
           record {
             push = s.putter.push;
@@ -89,7 +90,7 @@ module _ {A : Type 0} (limits : Limits) (capacity : ℕ) (first : RepositoryOf A
 -- The same bundle, with the read that saw it come.
 pub record Comes {A D : Type 0} (seen : D → List ℕ) (may_leave : D → List ℕ → Type 0) (head : Head)
     (stored : List (List ℕ)) (limits : Limits) (capacity : ℕ) (first : RepositoryOf A)
-    (waited waiting : List ℕ) (input left : Input) (out sent : Output) (before : List (Taken A))
+    (waited waiting : List ℕ) (input left : Input) (out sent : Output) (before : KeptSeen A)
     (x : KeptExchange A) : Type 0 where
   pub own : KeptExchange A
   pub served : ServesKept seen may_leave head stored limits capacity first waited waiting input left out sent
@@ -98,7 +99,7 @@ pub record Comes {A D : Type 0} (seen : D → List ℕ) (may_leave : D → List 
 
 pub comes : {A D : Type 0} {seen : D → List ℕ} {may_leave : D → List ℕ → Type 0} {head : Head}
     {stored : List (List ℕ)} (limits : Limits) (capacity : ℕ) (first : RepositoryOf A)
-    (waited piece waiting : List ℕ) (input mid left : Input) (out sent : Output) (before : List (Taken A))
+    (waited piece waiting : List ℕ) (input mid left : Input) (out sent : Output) (before : KeptSeen A)
     (x : KeptExchange A) → Arrives waited piece input mid
     → ServesKept seen may_leave head stored limits capacity first piece waiting mid left out sent before x
     → Comes seen may_leave head stored limits capacity first waited waiting input left out sent before x
@@ -122,6 +123,7 @@ comes {seen = seen} {may_leave = may_leave} {head = head} {stored = stored} limi
                 answers = v.is.answers;
                 rests_on = v.is.rests_on;
                 recorded = v.is.recorded;
+                grows = v.is.grows;
                 replies = v.is.replies;
               };
               more = piece ++ v.more;

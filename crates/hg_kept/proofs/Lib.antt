@@ -1,2 +1,3 @@
 mod Exchanges
 mod Chains
+mod Ends

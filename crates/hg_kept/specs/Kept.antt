@@ -16,12 +16,13 @@ use Rattle.hg_push.specs.Run.{RepositoryOf, run_push}
 use Rattle.hg_serve.specs.Answers.{Answers}
 use Rattle.hg_serve.specs.Histories.{newest_first}
 use Rattle.hg_store.specs.declared.head.Head.{Head}
-use Rattle.hg_ledger.specs.Records.{AreKept, IsRecordOf}
-use Rattle.hg_devices.specs.Devices.{Input, Output, ReadAnswer, WriteAnswer, Adds}
+use Rattle.hg_ledger.specs.Clients.{IsCovered, KeptSeen}
+use Rattle.hg_ledger.specs.Records.{IsRecordOf}
+use Rattle.hg_devices.specs.Devices.{Input, Output, ReadAnswer, WriteAnswer, TellsMore}
 use Rattle.hg_devices.specs.Sent.{IsSent}
-use Rattle.hg_receiving.specs.declared.ending.Ending.{Ending}
+use Rattle.hg_receiving.specs.declared.ending.BundleEnd.{BundleEnd}
 use Rattle.hg_connection.specs.Connections.{fault_of}
-use Rattle.hg_receiving.specs.Receiving.{IsReceived, Keeps, Ran, mark_of, push_items}
+use Rattle.hg_receiving.specs.Receiving.{IsReceived, KeepsWaiting, Ran, mark_of, push_items}
 use Rattle.hg_connection.specs.declared.served.ConnFault.{ConnFault}
 use Rattle.hg_kept.specs.declared.served.Replied.{Replied}
 use Rattle.hg_kept.specs.declared.served.Replied.TheVariants.{Sent, NotStored}
@@ -38,7 +39,7 @@ connection_fault None = None
 connection_fault (Some fault) = Some (Connection fault)
 
 -- the fault of a connection whose bundle ended so, and whose reply went out so
-abbrev pub kept_fault_of : Ending → Replied → Option KeptFault
+abbrev pub kept_fault_of : BundleEnd → Replied → Option KeptFault
 kept_fault_of ending (Sent sending) = connection_fault (fault_of ending sending)
 kept_fault_of ending NotStored = Some store_failed
 
@@ -48,7 +49,7 @@ pub record KeptExchange (A : Type 0) : Type 0 where
   pub reads : List ReadAnswer
   pub consumed : List ℕ
   pub rest : List ℕ
-  pub ending : Ending
+  pub ending : BundleEnd
   pub parts : List (Part A)
   pub push : ℕ
   pub how : Outcome (Done A) (Refusal A)
@@ -57,26 +58,26 @@ pub record KeptExchange (A : Type 0) : Type 0 where
   pub replied : Replied
   pub uses : List WriteAnswer
   pub gone : List ℕ
-  pub after : List (Taken A)
+  pub after : KeptSeen A
 
--- A reply that was sent is true: all that it rests on was on the device, so many done pushes. Where the store
--- failed, the writer was not used.
+-- A reply that was sent is true: all that it rests on was on the device, so many done pushes, and the client's receipt
+-- counts them. Where the store failed, the writer was not used.
 abbrev pub Replies : {A D : Type 0} → (D → List ℕ) → (D → List ℕ → Type 0) → Head → List (List ℕ) →
-    RepositoryOf A → List (Taken A) → ℕ → List ℕ → List ℕ → List WriteAnswer → Replied → Type 0
+    RepositoryOf A → KeptSeen A → ℕ → List ℕ → List ℕ → List WriteAnswer → Replied → Type 0
 Replies seen may_leave head stored first after rests reply gone uses (Sent sending) =
-    AreKept seen may_leave head stored first after rests × IsSent sending gone uses reply
+    IsCovered seen may_leave head stored first after rests × IsSent sending gone uses reply
 Replies seen may_leave head stored first after rests reply gone uses NotStored = (gone ≡ []) × (uses ≡ [])
 
 -- this became of a reply at a writer, which took so many bytes of it
 pub record RepliesBy {A D : Type 0} (seen : D → List ℕ) (may_leave : D → List ℕ → Type 0) (head : Head)
-    (stored : List (List ℕ)) (first : RepositoryOf A) (after : List (Taken A)) (rests : ℕ) (reply : List ℕ)
+    (stored : List (List ℕ)) (first : RepositoryOf A) (after : KeptSeen A) (rests : ℕ) (reply : List ℕ)
     (out sent : Output) (replied : Replied) (written : ℕ) : Type 0 where
   pub gone : List ℕ
   pub uses : List WriteAnswer
   pub is : Replies seen may_leave head stored first after rests reply gone uses replied
   pub written_is : written ≡ length gone
   pub went : Appends out.taken sent.taken gone
-  pub used : Adds out.uses sent.uses uses
+  pub used : TellsMore out.uses sent.uses uses
 
 -- the record of a done push is its bundle, as it was read; it is the last push that the answer rests on
 abbrev pub IsRecorded : {A : Type 0} → RepositoryOf A → List (Taken A) → ℕ → List ℕ →
@@ -87,38 +88,40 @@ IsRecorded first after rests bytes (Aborted reason) = ⊤
 -- The bundle was received by these reads, after the bytes that waited. The client had seen no item of the
 -- push. Of the push the bundle's parts were put and the mark that the ending asks for, and it was answered so.
 -- The answer rests on so many done pushes, the last of which is this one, where it is done, and its record is
--- the bundle. The reply was sent only where all of that was on the device.
+-- the bundle. The reply was sent only where all of that was on the device, and the client has a receipt for it. What
+-- its receipt counts does not fall.
 pub record IsKeptExchange {A D : Type 0} (seen : D → List ℕ) (may_leave : D → List ℕ → Type 0) (head : Head)
     (stored : List (List ℕ)) (limits : Limits) (capacity : ℕ) (first : RepositoryOf A)
-    (before : List (Taken A)) (waited : List ℕ) (x : KeptExchange A) : Type 0 where
+    (before : KeptSeen A) (waited : List ℕ) (x : KeptExchange A) : Type 0 where
   pub received : IsReceived limits waited x.reads x.ending x.parts x.consumed x.rest
-  pub fresh : of x.push (items_of before) ≡ []
+  pub fresh : of x.push (items_of before.history) ≡ []
   pub answers : Answers capacity first x.push
-      (push_items x.push x.parts (mark_of x.ending)) before x.how x.takes x.after
-  pub rests_on : RestsOn run_push first (newest_first x.after) x.push x.how x.rests
-  pub recorded : IsRecorded first x.after x.rests x.consumed x.how
+      (push_items x.push x.parts (mark_of x.ending)) before.history x.how x.takes x.after.history
+  pub rests_on : RestsOn run_push first (newest_first x.after.history) x.push x.how x.rests
+  pub recorded : IsRecorded first x.after.history x.rests x.consumed x.how
+  pub grows : before.receipt ≤ x.after.receipt
   pub replies : Replies seen may_leave head stored first x.after x.rests (reply_of x.how) x.gone x.uses
       x.replied
 
 -- one bundle was served by that reader and that writer, and its reply is no longer than a reply can be
 pub record ServesKept {A D : Type 0} (seen : D → List ℕ) (may_leave : D → List ℕ → Type 0) (head : Head)
     (stored : List (List ℕ)) (limits : Limits) (capacity : ℕ) (first : RepositoryOf A)
-    (waited waiting : List ℕ) (input left : Input) (out sent : Output) (before : List (Taken A))
+    (waited waiting : List ℕ) (input left : Input) (out sent : Output) (before : KeptSeen A)
     (x : KeptExchange A) : Type 0 where
   pub is : IsKeptExchange seen may_leave head stored limits capacity first before waited x
   pub more : List ℕ
   pub spelled : waited ++ more ≡ x.consumed ++ x.rest
   pub bytes : Consumes input.left left.left more
-  pub told : Adds input.reads left.reads x.reads
-  pub keeps : Keeps x.ending x.rest waiting
+  pub told : TellsMore input.reads left.reads x.reads
+  pub keeps : KeepsWaiting x.ending x.rest waiting
   pub ran : Ran x.ending left
   pub went : Appends out.taken sent.taken x.gone
-  pub used : Adds out.uses sent.uses x.uses
+  pub used : TellsMore out.uses sent.uses x.uses
   pub short : length (reply_of x.how) ≤ greatest_reply
 
--- what the call tells of the bundle
-pub record TellsOfKept {A : Type 0} (x : KeptExchange A) (ending : Ending) (how : Outcome (Done A) (Refusal A))
-    (takes rests : ℕ) (replied : Replied) (written : ℕ) (after : List (Taken A)) : Type 0 where
+-- what the call reports of the bundle
+pub record TellsOfKept {A : Type 0} (x : KeptExchange A) (ending : BundleEnd) (how : Outcome (Done A) (Refusal A))
+    (takes rests : ℕ) (replied : Replied) (written : ℕ) (after : KeptSeen A) : Type 0 where
   pub ending_is : x.ending ≡ ending
   pub how_is : x.how ≡ how
   pub takes_are : x.takes ≡ takes

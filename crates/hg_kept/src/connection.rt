@@ -4,9 +4,10 @@ ghost use Rattle.std.specs.Prelude.{◌≡◌, ◌≤◌, ◌-◌, [], IfSome, I
 ghost use Rattle.hg_stream.specs.Unbundler.{limits_of, ready_of, state_of};
 ghost use Rattle.hg_stream.specs.declared.state.State.TheVariants.{Ended as at_end_mark};
 ghost use Rattle.hg_queue.specs.History.{of, items_of};
-ghost use Rattle.hg_receiving.specs.declared.ending.Ending.TheVariants.{Whole};
+ghost use Rattle.hg_receiving.specs.declared.ending.BundleEnd.TheVariants.{Whole};
 ghost use Rattle.hg_connection.specs.Receiving.{IsFresh};
 ghost use Rattle.hg_push.specs.Reply.{CanBeTold, reply_of};
+ghost use Rattle.hg_ledger.specs.Clients.{counted};
 ghost use Rattle.hg_ledger.specs.Records.{IsRecordOf, done_in};
 ghost use Rattle.hg_kept.specs.Kept.{KeptExchange, RepliesBy, ServesKept, TellsOfKept, record_of};
 ghost use Rattle.hg_kept.specs.Connections.{ConnectsKept};
@@ -14,18 +15,25 @@ ghost use Rattle.hg_kept.specs.Connections.{ConnectsKept};
 use crate::served::{KeptRound, KeptServed, Replied};
 use hg_connection::{ConnFault, Next, mark, next_bundle, receive_kept};
 use hg_devices::{Reader, Writer};
-use hg_ledger::{Ledger, Room, Storing};
+use hg_ledger::{KeptClient, Ledger, Receipt, Room, Storing};
 use hg_push::laws::{journals_grow, replies_are_short};
 use hg_push::{OpenFault, Outcome};
 use hg_receiving::{Inbox, send_reply};
 use hg_repo::{Done, Refusal};
-use hg_serve::{Client, Gate, Point, Sender, Server};
+use hg_serve::{Gate, Point, Sender, Server};
 use hg_store::Device;
 use hg_stream::Unbundler;
 use hg_stream::laws::{parts_are_few, streams_are_settled_once};
 use hg_types::Seq;
-use std::alloc::Allocator;
+use std::alloc::{Allocator, Global};
 use std::sync::Wait;
+
+/// A push that was opened, with room for its record, and the receipt that its client had.
+pub struct OpenedKept<J: Storing<A>, A: Allocator = Global> {
+    pub room: Room<J, A>,
+    pub sender: Sender<J, A>,
+    pub receipt: Option<Receipt<J, A>>,
+}
 
 /// The record of a push that ended so: its bytes where it is done, and else none. It asks for no memory.
 fn record_of<A: Allocator>(
@@ -46,48 +54,57 @@ pub fn open_kept<J: Storing<A>, D: Device, A: Allocator + Copy, R: Wait>(
     server: &Server<J, A>,
     ledger: &Ledger<J, D, A>,
     rt: &R,
-    client: Client<J, A>,
-) -> Result<(Room<J, A>, Sender<J, A>), (Client<J, A>, OpenFault)>
-    ensures ok { IfOk result (λ opened. (opened.1.putter.put ≡ []) × (opened.1.history ≡ client)
-        × (of opened.1.putter.push (items_of client) ≡ [])) }
+    client: KeptClient<J, A>,
+) -> Result<OpenedKept<J, A>, (KeptClient<J, A>, OpenFault)>
+    ensures ok { IfOk result (λ opened. (opened.sender.putter.put ≡ [])
+        × (opened.sender.history ≡ client.history)
+        × (of opened.sender.putter.push (items_of client.history) ≡ [])
+        × (counted opened.receipt ≡ client.receipt)) }
     ensures err { IfErr result (λ back. back.0 ≡ client) }
 {
     let room = match ledger.room(rt) {
         Ok(room) => room,
         Err(_) => return Err((client, OpenFault::NoMemory)),
     };
+    let (client, receipt) = client.into_parts();
     match server.open(rt, client) {
-        Ok(sender) => Ok((room, sender)),
-        Err(refused) => {
+        Ok(sender) => Ok(OpenedKept {
+            room,
+            sender,
+            receipt,
+        }),
+        Err((client, fault)) => {
             ledger.give_back(rt, room);
-            Err(refused)
+            Err((KeptClient::of(client, receipt), fault))
         }
     }
 }
 
 /// Hands in the record of a push that is done, waits until so many done pushes are on the device, and sends
-/// the reply. Where the store failed, the writer is not used.
+/// the reply. The client has a receipt for them then. Where the store failed, the writer is not used.
 fn reply_kept<J: Storing<A>, D: Device, A: Allocator + Copy, R: Wait, W: Writer>(
     server: &Server<J, A>,
     ledger: &Ledger<J, D, A>,
     rt: &R,
     alloc: A,
-    client: &mut Client<J, A>,
+    client: &mut KeptClient<J, A>,
     room: Room<J, A>,
     rests: usize,
     bundle: Option<Seq<u8, A>>,
     writer: &mut W,
     outcome: &Outcome<Done<A>, Refusal<A>>,
 ) -> (Replied, usize)
-    requires rests { rests ≤ done_in J.first client.old }
-    requires bundle { IfSome bundle (λ bytes. (1 ≤ rests) × IsRecordOf J.first client.old (rests - 1) bytes) }
+    requires rests { rests ≤ done_in J.first client.old.history }
+    requires bundle { IfSome bundle (λ bytes. (1 ≤ rests)
+        × IsRecordOf J.first client.old.history (rests - 1) bytes) }
     requires told { CanBeTold outcome.now }
-    ensures same { client.new ≡ client.old }
-    ensures replied { RepliesBy D.seen D.may_leave J.head J.stored J.first client.old rests
+    ensures same { client.new.history ≡ client.old.history }
+    ensures grows { client.old.receipt ≤ client.new.receipt }
+    ensures replied { RepliesBy D.seen D.may_leave J.head J.stored J.first client.new rests
         (reply_of outcome.now) (W.told writer.old) (W.told writer.new) result.0 result.1 }
 {
     match ledger.keep(rt, server, client, room, rests, bundle) {
-        Ok(_receipt) => {
+        Ok(()) => {
             let (sending, written) = send_reply(alloc, writer, outcome);
             (Replied::Sent(sending), written)
         }
@@ -98,7 +115,8 @@ fn reply_kept<J: Storing<A>, D: Device, A: Allocator + Copy, R: Wait, W: Writer>
 /// Serves one bundle on a push that was opened with room for its record: receives it and keeps its bytes, puts
 /// its mark, waits for its answer, hands in the record of a done push, waits until all that the reply rests
 /// on is on the device, and only then sends the reply. A reply that a push was aborted waits as well. Where
-/// the store failed, the writer is not used.
+/// the store failed, the writer is not used. The client has the receipt that it had, or one that counts as much and
+/// all that the reply rests on.
 pub fn serve_bundle_kept<
     J: Storing<A>,
     D: Device,
@@ -112,19 +130,20 @@ pub fn serve_bundle_kept<
     ledger: &Ledger<J, D, A>,
     rt: &R,
     alloc: A,
-    opened: (Room<J, A>, Sender<J, A>),
+    opened: OpenedKept<J, A>,
     bundle: &mut Unbundler<A>,
     inbox: &mut Inbox,
     reader: &mut I,
     writer: &mut W,
     gate: &mut G,
-) -> (Client<J, A>, KeptRound<A>)
+) -> (KeptClient<J, A>, KeptRound<A>)
     requires bundle { IsFresh server.now bundle.old }
-    requires sender { (opened.1.putter.put ≡ [])
-        × (of opened.1.putter.push (items_of opened.1.history) ≡ []) }
+    requires sender { (opened.sender.putter.put ≡ [])
+        × (of opened.sender.putter.push (items_of opened.sender.history) ≡ []) }
     ensures served { (x : KeptExchange A)
         × ServesKept D.seen D.may_leave J.head J.stored server.now J.capacity J.first inbox.old inbox.new
-        (I.told reader.old) (I.told reader.new) (W.told writer.old) (W.told writer.new) opened.1.history x
+        (I.told reader.old) (I.told reader.new) (W.told writer.old) (W.told writer.new)
+        (record { history = opened.sender.history; receipt = counted opened.receipt }) x
         × TellsOfKept x result.1.ending result.1.answer.outcome result.1.answer.takes result.1.rests
         result.1.replied result.1.written result.0 }
     ensures whole { result.1.ending ≡ Whole
@@ -135,7 +154,11 @@ pub fn serve_bundle_kept<
     replies_are_short::<A>();
     journals_grow::<A>();
     let _limits = server.limits();
-    let (room, mut sender) = opened;
+    let OpenedKept {
+        room,
+        mut sender,
+        receipt,
+    } = opened;
     let mut kept = Vec::new(alloc);
     let ending = receive_kept(
         server,
@@ -148,7 +171,8 @@ pub fn serve_bundle_kept<
         gate,
     );
     let ended = mark(server, rt, sender, ending, gate);
-    let (answer, rests, mut client) = server.answer_resting(rt, ended, gate);
+    let (answer, rests, client) = server.answer_resting(rt, ended, gate);
+    let mut client = KeptClient::of(client, receipt);
     let record = record_of(&answer.outcome, kept);
     let (replied, written) = reply_kept(
         server,
@@ -191,12 +215,12 @@ pub fn serve_connection_kept<
     ledger: &Ledger<J, D, A>,
     rt: &R,
     alloc: A,
-    client: Client<J, A>,
+    client: KeptClient<J, A>,
     reader: &mut I,
     writer: &mut W,
     most: u32,
     gate: &mut G,
-) -> (Client<J, A>, KeptServed<A>)
+) -> (KeptClient<J, A>, KeptServed<A>)
     requires { (1 ≤ most) × (most ≤ 10000) }
     ensures { ConnectsKept D.seen D.may_leave J.head J.stored server.now J.capacity J.first most
         (I.told reader.old) (I.told reader.new) (W.told writer.old) (W.told writer.new) client result.0 result.1 }

@@ -5,7 +5,7 @@ ghost use Rattle.hg_kept.specs.Kept.{kept_fault_of};
 
 use hg_connection::{ConnFault, fault_of};
 use hg_devices::Sending;
-use hg_receiving::Ending;
+use hg_receiving::BundleEnd;
 use hg_serve::Answer;
 use std::alloc::{Allocator, Global};
 use thiserror::Error;
@@ -52,7 +52,7 @@ pub struct KeptRound<A: Allocator = Global> {
     /// How many done pushes the answer rests on.
     pub rests: usize,
     /// Why no more of it was read.
-    pub ending: Ending,
+    pub ending: BundleEnd,
     /// What became of the reply.
     pub replied: Replied,
     /// How many bytes of it the writer took.
@@ -116,9 +116,9 @@ impl<A: Allocator> KeptServed<A> {
     }
 }
 
-/// The fault of a connection whose bundle ended so, and whose reply went out so. A store that failed is told
+/// The fault of a connection whose bundle ended so, and whose reply went out so. A store that failed is reported
 /// before anything else.
-fn kept_fault_of(ending: Ending, replied: Replied) -> Option<KeptFault>
+fn kept_fault_of(ending: BundleEnd, replied: Replied) -> Option<KeptFault>
     ensures { result ≡ kept_fault_of ending replied }
 {
     match replied {

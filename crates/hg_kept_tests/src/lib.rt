@@ -2,8 +2,6 @@
 #![tactic(auto)]
 
 #[cfg(test)]
-mod device;
-#[cfg(test)]
 mod memory;
 #[cfg(test)]
 mod tests;

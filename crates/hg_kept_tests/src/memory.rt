@@ -2,11 +2,11 @@
 
 ghost use Rattle.std.specs.Prelude.{◌≤◌};
 
-use crate::device::Memory;
 use crate::tests::{Source, add_bundle, client_of, marker, new_log, settings, state};
 use hg_connection::ConnFault;
+use hg_help_tests::device::Memory;
 use hg_kept::{KeptFault, serve_connection_kept};
-use hg_ledger::{Ledger, Parts, Storing, Tally};
+use hg_ledger::{KeptClient, Ledger, Parts, Storing, Tally};
 use hg_push::OpenFault;
 use hg_queue::{PartQueue, Taker};
 use hg_repo::Repo;
@@ -91,12 +91,13 @@ fn connected<'h, J: Storing<&'h LocalHeap>, R: Wait + Abort, G: Gate>(
                 &ledger,
                 rt,
                 heap,
-                client_of(rt, &server),
+                KeptClient::new(client_of(rt, &server)),
                 &mut reader,
                 &mut writer,
                 9,
                 gate,
             );
+            let (client, _receipt) = client.into_parts();
             add(rt, &mut clients, client);
             told = Some((served.bundles, served.fault));
             ledger.into_parts()

@@ -1,11 +1,12 @@
 //! What no contract says: that many connections over one server and one ledger are all kept, and that after a stop
 //! at any call of the device what was answered is there again.
 
-ghost use Rattle.std.specs.Prelude.{◌≤◌};
+ghost use Rattle.std.specs.Prelude.{◌≡◌, ◌≤◌};
+ghost use Rattle.hg_ledger.specs.Clients.{counted};
 
-use crate::device::Memory;
+use hg_help_tests::device::Memory;
 use hg_kept::{KeptFault, serve_connection_kept};
-use hg_ledger::{Ledger, Parts, Storing, Tally};
+use hg_ledger::{KeptClient, Ledger, Parts, Receipt, Storing, Tally};
 use hg_queue::{PartQueue, Taker};
 use hg_repo::Repo;
 use hg_restore::replay_records;
@@ -120,11 +121,12 @@ fn connect<J: Storing<Global>, R: Wait + Abort>(
     server: &Server<J>,
     ledger: &Ledger<J, Memory>,
     clients: &Mutex<Vec<Client<J>>>,
+    receipts: &Mutex<Vec<Receipt<J>>>,
     told: &Told,
     thread: u8,
     pushes: u8,
 ) {
-    let client = client_of(rt, server);
+    let client = KeptClient::new(client_of(rt, server));
     let mut input = Vec::new(alloc);
     for turn in 0..pushes {
         // every third push is malformed, and so aborted
@@ -167,13 +169,134 @@ fn connect<J: Storing<Global>, R: Wait + Abort>(
         }
         Some(KeptFault::Connection(_)) => panic!(rt; "the connection failed"),
     }
+    let (client, receipt) = client.into_parts();
     add(rt, &mut *clients.lock(rt), client);
+    if let Some(receipt) = receipt {
+        assert!(rt; receipts.lock(rt).push(receipt).is_ok());
+    }
 }
 
 fn add<J: Naming<Global>, R: Abort>(rt: &R, clients: &mut Vec<Client<J>>, client: Client<J>) {
     match clients.push(client) {
         Ok(()) => {}
         Err(AllocFailed { value: _client, .. }) => panic!(rt; "no memory for a client"),
+    }
+}
+
+/// Compares a receipt with the tally of its ledger.
+fn compare<J: Storing<A>, A: Allocator>(tally: &mut Tally<A>, receipt: Receipt<J, A>)
+    requires { tally.old.id ≡ J.tally }
+    ensures same { tally.new ≡ tally.old }
+    ensures counted { receipt ≤ tally.old.count }
+{
+    let mut receipt = receipt;
+    tally.compare(&mut receipt);
+}
+
+/// Compares the receipt of a client, where it has one. Says whether it has.
+fn has_receipt<J: Storing<A>, A: Allocator>(
+    tally: &mut Tally<A>,
+    receipt: Option<Receipt<J, A>>,
+) -> bool
+    requires { tally.old.id ≡ J.tally }
+    ensures same { tally.new ≡ tally.old }
+    ensures counted { counted receipt ≤ tally.old.count }
+{
+    match receipt {
+        Some(receipt) => {
+            compare(tally, receipt);
+            true
+        }
+        None => false,
+    }
+}
+
+/// What came of connections of two clients in turn: whether each has a receipt, how many replies of each said that a
+/// push is done, and how many records were kept.
+#[derive(Clone, Copy, Debug, PartialEq, Eq)]
+struct Turns {
+    has_first: bool,
+    has_second: bool,
+    done: (usize, usize),
+    kept: usize,
+}
+
+/// Serves a connection of two pushes by a client, with the receipt that it has. Says how many of them are done.
+fn push_twice<J: Storing<Global>, R: Wait + Abort>(
+    rt: &R,
+    alloc: Global,
+    server: &Server<J>,
+    ledger: &Ledger<J, Memory>,
+    client: KeptClient<J>,
+    thread: u8,
+    turn: u8,
+) -> (KeptClient<J>, usize) {
+    let mut input = Vec::new(alloc);
+    add_bundle(rt, &mut input, &marker(rt, alloc, thread, turn));
+    add_bundle(rt, &mut input, &marker(rt, alloc, thread, 100 + turn));
+    let mut reader = Source {
+        bytes: &input,
+        step: 40,
+    };
+    let mut writer: Vec<u8> = Vec::new(alloc);
+    let (client, _served) = serve_connection_kept(
+        server,
+        ledger,
+        rt,
+        alloc,
+        client,
+        &mut reader,
+        &mut writer,
+        9,
+        &mut NoGate,
+    );
+    (client, done_replies(&writer))
+}
+
+/// Two clients have two connections each, in turn, each of two pushes.
+fn push_in_turn<J: Storing<Global>, R: Wait + Abort>(
+    rt: &R,
+    alloc: Global,
+    queue: PartQueue,
+    taker: Taker,
+    repo: Repo,
+    log: Log<Memory>,
+) -> Turns {
+    let server = Server::<J>::new(alloc, repo, queue, taker);
+    let ledger = ledger_over(rt, alloc, &server, log);
+    let mut first = KeptClient::new(client_of(rt, &server));
+    let mut second = KeptClient::new(client_of(rt, &server));
+    let mut done = (0usize, 0usize);
+    for turn in 0..2u8 {
+        let (seen, count) = push_twice(rt, alloc, &server, &ledger, first, 1, turn);
+        first = seen;
+        done.0 = done.0.saturating_add(count);
+        let (seen, count) = push_twice(rt, alloc, &server, &ledger, second, 2, turn);
+        second = seen;
+        done.1 = done.1.saturating_add(count);
+    }
+    let Parts {
+        log: _,
+        kept,
+        is_broken: _,
+        witnesses: (before, after),
+        mut tally,
+    } = ledger.into_parts();
+    let (first, receipt) = first.into_parts();
+    let has_first = has_receipt(&mut tally, receipt);
+    let (second, receipt) = second.into_parts();
+    let has_second = has_receipt(&mut tally, receipt);
+    let mut clients = Vec::new(alloc);
+    add(rt, &mut clients, before);
+    add(rt, &mut clients, after);
+    add(rt, &mut clients, first);
+    add(rt, &mut clients, second);
+    let _closed = server.close(clients);
+    Turns {
+        has_first,
+        has_second,
+        done,
+        kept,
     }
 }
 
@@ -197,22 +320,16 @@ fn play<J: Storing<Global> + Send + Sync, R: Threads + Wait + Abort + Sync>(
     pushes: u8,
 ) -> Left {
     let server = Server::<J>::new(alloc, repo, queue, taker);
-    let witnesses = (client_of(rt, &server), client_of(rt, &server));
-    let tally = match Tally::new(alloc) {
-        Ok(tally) => tally,
-        Err(_) => panic!(rt; "no memory for a tally"),
-    };
-    let ledger = match Ledger::new(alloc, log, witnesses, tally) {
-        Ok(ledger) => ledger,
-        Err(_parts) => panic!(rt; "no memory for a ledger"),
-    };
+    let ledger = ledger_over(rt, alloc, &server, log);
     let clients = Mutex::new(Vec::new(alloc));
+    let receipts = Mutex::new(Vec::new(alloc));
     let told = Told {
         done: Mutex::new(0),
         replies: Mutex::new(0),
         refused: Mutex::new(0),
     };
-    let (list, lent, server_lent, told_lent) = (&clients, &ledger, &server, &told);
+    let (list, its_receipts, lent) = (&clients, &receipts, &ledger);
+    let (server_lent, told_lent) = (&server, &told);
     thread::scope(thread::scope_env(), rt, |scope| {
         for thread in 0..THREADS {
             let started = scope.spawn(move || connect(
@@ -221,6 +338,7 @@ fn play<J: Storing<Global> + Send + Sync, R: Threads + Wait + Abort + Sync>(
                 server_lent,
                 lent,
                 list,
+                its_receipts,
                 told_lent,
                 thread,
                 pushes,
@@ -234,8 +352,11 @@ fn play<J: Storing<Global> + Send + Sync, R: Threads + Wait + Abort + Sync>(
         kept: _,
         is_broken: _,
         witnesses: (first, second),
-        tally: _,
+        mut tally,
     } = ledger.into_parts();
+    for receipt in receipts.into_inner() {
+        compare(&mut tally, receipt);
+    }
     add(rt, &mut clients, first);
     add(rt, &mut clients, second);
     let Log { device, .. } = log;
@@ -250,6 +371,24 @@ fn play<J: Storing<Global> + Send + Sync, R: Threads + Wait + Abort + Sync>(
         done: done.into_inner(),
         replies: replies.into_inner(),
         refused: refused.into_inner(),
+    }
+}
+
+/// A ledger of that server, over that log, with a tally of its own.
+fn ledger_over<J: Storing<Global>, R: Wait + Abort>(
+    rt: &R,
+    alloc: Global,
+    server: &Server<J>,
+    log: Log<Memory>,
+) -> Ledger<J, Memory> {
+    let witnesses = (client_of(rt, server), client_of(rt, server));
+    let tally = match Tally::new(alloc) {
+        Ok(tally) => tally,
+        Err(_) => panic!(rt; "no memory for a tally"),
+    };
+    match Ledger::new(alloc, log, witnesses, tally) {
+        Ok(ledger) => ledger,
+        Err(_parts) => panic!(rt; "no memory for a ledger"),
     }
 }
 
@@ -394,4 +533,41 @@ fn many_pushes_on_a_device_that_stops_anywhere(rt: HostRuntime) -> Result<(), Fa
     assert!(rt; left.done == done_of(MANY));
     assert!(rt; starts_again(&rt, alloc, &left, 0) == done_of(MANY));
     Ok(())
+}
+
+// Two clients have two connections each, in turn, of two pushes, each with the receipt that it has. The device takes
+// three calls to open the store and six for a record. Result: after the ledger's end the receipt of each is compared
+// with its tally. Where the device stops, a client that was answered still has its receipt, and one that was not has
+// none.
+#[test]
+fn receipts_of_two_clients_grow(rt: HostRuntime) {
+    let alloc = rt.alloc();
+    for (calls, has_first, has_second, done, kept) in [
+        (8usize, false, false, (0usize, 0usize), 0usize),
+        (9, true, false, (1, 0), 1),
+        (15, true, false, (2, 0), 2),
+        (21, true, true, (2, 1), 3),
+        (33, true, true, (3, 2), 5),
+        (51, true, true, (4, 4), 8),
+        (1_000, true, true, (4, 4), 8),
+    ] {
+        let turns = Turns {
+            has_first,
+            has_second,
+            done,
+            kept,
+        };
+        match PartQueue::new(alloc, 8) {
+            Ok((queue, taker)) => {
+                let repo = Repo::new(alloc, settings(), state(&rt));
+                let log = new_log(&rt, alloc, calls);
+                assert_eq!(rt;
+                    push_in_turn::<Brand, _>(&rt, alloc, queue, taker, repo, log),
+                    turns,
+                    "{calls} calls"
+                );
+            }
+            Err(_) => assert!(rt; false, "no memory for a queue"),
+        }
+    }
 }

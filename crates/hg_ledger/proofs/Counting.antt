@@ -6,7 +6,7 @@ use lib.ListN.{get_elem?}
 use Rattle.atomic_table.specs.Table.{Me, step, keeps, opening, Allows, Splits, Joins}
 use Rattle.atomic_table.proofs.Lists.{at_set, at_snoc, set_again}
 use Rattle.hg_ledger.specs.declared.tally.Known.{Known}
-use Rattle.hg_ledger.specs.code.Tallies.{keeper, told, Fits, IsTallied, raised, heard_from, compared}
+use Rattle.hg_ledger.specs.code.Tallies.{keeper, told, KnownFits, IsTallied, raised, heard_from, united, compared}
 
 off : false ≡ true → ⊥
 off e = true≢false (sym e)
@@ -14,17 +14,17 @@ off e = true≢false (sym e)
 pub begins : (words : List ℕ) → IsTallied (opening words [] (keeper 0))
 begins words = (0, 0, one)
   where
-    one : (at : ℕ) (v : Known) → get_elem? (keeper 0 ∷ []) at ≡ some v → Fits 0 0 at v
-    one zero v e = subst (Fits 0 0 0) (some-injective _ _ e)
+    one : (at : ℕ) (v : Known) → get_elem? (keeper 0 ∷ []) at ≡ some v → KnownFits 0 0 at v
+    one zero v e = subst (KnownFits 0 0 0) (some-injective _ _ e)
         (record { kept = λ _. (refl, refl); low = omega arith; heard = omega arith })
     one (suc at) v e = absurd (some-ne-none v (sym e))
 
 fits_set : (seat count now : ℕ) (views : List Known) (id : ℕ) (w : Known)
-    → ((j : ℕ) (u : Known) → j ≢ id → get_elem? views j ≡ some u → Fits seat now j u) → Fits seat now id w
-    → (j : ℕ) (u : Known) → get_elem? (set views id w) j ≡ some u → Fits seat now j u
+    → ((j : ℕ) (u : Known) → j ≢ id → get_elem? views j ≡ some u → KnownFits seat now j u) → KnownFits seat now id w
+    → (j : ℕ) (u : Known) → get_elem? (set views id w) j ≡ some u → KnownFits seat now j u
 fits_set seat count now views id w others mine j u e =
     ⊎_elim
-    (λ (x : (j ≡ id) × (w ≡ u)). subst (λ (y : ℕ × Known). Fits seat now y.0 y.1) (λ i. (sym x.0 i, x.1 i)) mine)
+    (λ (x : (j ≡ id) × (w ≡ u)). subst (λ (y : ℕ × Known). KnownFits seat now y.0 y.1) (λ i. (sym x.0 i, x.1 i)) mine)
     (λ (x : (j ≢ id) × (get_elem? views j ≡ some u)). others j u x.0 x.1)
     (at_set views id j w u e)
 
@@ -60,7 +60,7 @@ copies id v s r at =
       r.1,
       λ j u e. ⊎_elim
           (λ was. r.2 j u (subst (λ l. get_elem? l j ≡ some u) (set_again s.views id v at) was))
-          (λ (same : told v.least ≡ u). subst (Fits r.0 r.1 j) same
+          (λ (same : told v.least ≡ u). subst (KnownFits r.0 r.1 j) same
           (record { kept = λ k. absurd (off k); low = mine.low; heard = omega arith }))
           (at_snoc (set s.views id v) (told v.least) u j e),
     )
@@ -69,7 +69,7 @@ pub hears : (id : ℕ) (v : Known) (other : ℕ) (w : Known) → Joins IsTallied
 hears id v other w s r at apart there =
     let mine = r.2 id v at in
     let both : Known = heard_from v w in
-    let theirs : Fits r.0 r.1 other w = ⊎_elim
+    let theirs : KnownFits r.0 r.1 other w = ⊎_elim
     (λ (t : (other ≡ id) × (both ≡ w)). absurd (apart t.0))
     (λ (t : (other ≢ id) × (get_elem? s.views other ≡ some w)). r.2 other w t.1)
     (at_set s.views id other both w there) in (
@@ -78,6 +78,26 @@ hears id v other w s r at apart there =
       fits_set r.0 r.1 r.1 (set s.views id both) other (told 0)
           (λ j u _ e. fits_set r.0 r.1 r.1 s.views id both (λ i y _ e'. r.2 i y e')
           (record { kept = mine.kept; low = mine.low; heard = theirs.low }) j u e)
+          (record { kept = λ k. absurd (off k); low = omega arith; heard = omega arith }),
+    )
+
+pub unites : (id : ℕ) (v : Known) (other : ℕ) (w : Known) → Joins IsTallied id v other w (united v w) (told 0)
+unites id v other w s r at apart there =
+    let mine = r.2 id v at in
+    let both : Known = united v w in
+    let theirs : KnownFits r.0 r.1 other w = ⊎_elim
+    (λ (t : (other ≡ id) × (both ≡ w)). absurd (apart t.0))
+    (λ (t : (other ≢ id) × (get_elem? s.views other ≡ some w)). r.2 other w t.1)
+    (at_set s.views id other both w there) in (
+      r.0,
+      r.1,
+      fits_set r.0 r.1 r.1 (set s.views id both) other (told 0)
+          (λ j u _ e. fits_set r.0 r.1 r.1 s.views id both (λ i y _ e'. r.2 i y e')
+          (record {
+            kept = λ k. ((mine.kept k).0, omega (arith, (mine.kept k).1, theirs.low));
+            low = omega (arith, mine.low, theirs.low);
+            heard = mine.heard;
+          }) j u e)
           (record { kept = λ k. absurd (off k); low = omega arith; heard = omega arith }),
     )
 

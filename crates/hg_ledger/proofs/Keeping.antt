@@ -7,7 +7,7 @@ use Rattle.hg_store.specs.declared.head.Head.{Head}
 use Rattle.hg_store.specs.declared.log.Log.{Log}
 use Rattle.hg_store.specs.Log.{IsSettled}
 use Rattle.hg_push.specs.Run.{RepositoryOf}
-use Rattle.hg_ledger.specs.Records.{AreKept, AreRecordsFrom, IsRecordOf, Keeps}
+use Rattle.hg_ledger.specs.Records.{AreKept, AreRecordsFrom, IsRecordOf, KeepsRecords}
 use Rattle.hg_ledger.proofs.Lists.{each_moves, each_moves_below, fewer, front, joined, length-front}
 
 from_nothing : (n count : ℕ) → n ≡ count → count ≡ 0 + n
@@ -17,7 +17,7 @@ module _ {A D : Type 0} (seen : D → List ℕ) (may_leave : D → List ℕ → 
     (stored : List (List ℕ)) (first : RepositoryOf A)
   where
     pub nothing : (h : List (Taken A)) (log : Log D) → IsSettled seen may_leave head stored log
-        → Keeps seen may_leave head stored first h 0 log
+        → KeepsRecords seen may_leave head stored first h 0 log
     nothing h log settled = record {
       records = [];
       settled = subst (λ (rs : List (List ℕ)). IsSettled seen may_leave head rs log) (sym (append-nil stored))
@@ -28,7 +28,7 @@ module _ {A D : Type 0} (seen : D → List ℕ) (may_leave : D → List ℕ → 
 
     pub keeps_on : (h h' : List (Taken A)) (count : ℕ) (log : Log D)
         → ((k : ℕ) (bytes : List ℕ) → IsRecordOf first h k bytes → IsRecordOf first h' k bytes)
-        → Keeps seen may_leave head stored first h count log → Keeps seen may_leave head stored first h' count log
+        → KeepsRecords seen may_leave head stored first h count log → KeepsRecords seen may_leave head stored first h' count log
     keeps_on h h' count log moves k = record {
       records = k.records;
       settled = k.settled;
@@ -37,10 +37,10 @@ module _ {A D : Type 0} (seen : D → List ℕ) (may_leave : D → List ℕ → 
     }
 
     pub keeps_more : (h : List (Taken A)) (count : ℕ) (batch : List (List ℕ)) (log log' : Log D)
-        → (k : Keeps seen may_leave head stored first h count log)
+        → (k : KeepsRecords seen may_leave head stored first h count log)
         → IsSettled seen may_leave head ((stored ++ k.records) ++ batch) log'
         → AreRecordsFrom first h count batch
-        → Keeps seen may_leave head stored first h (count + length batch) log'
+        → KeepsRecords seen may_leave head stored first h (count + length batch) log'
     keeps_more h count batch log log' k settled each = record {
       records = k.records ++ batch;
       settled = subst (λ (rs : List (List ℕ)). IsSettled seen may_leave head rs log')
@@ -52,7 +52,7 @@ module _ {A D : Type 0} (seen : D → List ℕ) (may_leave : D → List ℕ → 
     }
 
     pub are_kept : (h : List (Taken A)) (count : ℕ) (log : Log D)
-        → Keeps seen may_leave head stored first h count log → AreKept seen may_leave head stored first h count
+        → KeepsRecords seen may_leave head stored first h count log → AreKept seen may_leave head stored first h count
     are_kept h count log k = record {
       log = log;
       records = k.records;

@@ -13,7 +13,7 @@ use Rattle.hg_store.specs.Records.{IsRecord, shut}
 use Rattle.hg_push.specs.Run.{RepositoryOf}
 use mathlib.Core.List.{IsPrefix}
 use Rattle.hg_ledger.specs.Lives.{AreWrites, Before, IsFront, Lives, StillHas}
-use Rattle.hg_ledger.specs.Records.{AreRecordsFrom, IsRecordOf, Keeps, done_in}
+use Rattle.hg_ledger.specs.Records.{AreRecordsFrom, IsRecordOf, KeepsRecords, done_in}
 use Rattle.hg_ledger.proofs.Lists.{each_moves, each_moves_below, front, joined, length-front}
 
 from_nothing : (n count : ℕ) → n ≡ count → count ≡ 0 + n
@@ -68,7 +68,7 @@ module _ {A D : Type 0} (seen : D → List ℕ) (may_leave : D → List ℕ → 
     pub kept_front : ((head : Head) (records : List (List ℕ)) (behind : List ℕ) → IsAllowed head.limits →
         AllByRecursion IsRecord records → IsStore (file_of head records ++ 0 ∷ behind) head records (0 ∷ behind))
         → (h : List (Taken A)) (count : ℕ) (log : Log D)
-        → Keeps seen may_leave head stored first h count log → (file : List ℕ) → may_leave log.device file
+        → KeepsRecords seen may_leave head stored first h count log → (file : List ℕ) → may_leave log.device file
         → IsFront head stored first h count file
     kept_front read h count log k file left =
         let all : List (List ℕ) = stored ++ k.records in
@@ -83,7 +83,7 @@ module _ {A D : Type 0} (seen : D → List ℕ) (may_leave : D → List ℕ → 
 
     -- a batch is added whole, or not at all
     pub batch_front : (h : List (Taken A)) (count : ℕ) (batch : List (List ℕ)) (log : Log D)
-        → (k : Keeps seen may_leave head stored first h count log) → AreRecordsFrom first h count batch
+        → (k : KeepsRecords seen may_leave head stored first h count log) → AreRecordsFrom first h count batch
         → (file : List ℕ) → IsBeforeOrAfter head (stored ++ k.records) batch file
         → IsFront head stored first h count file
     batch_front h count batch log k each file (inl stands) =
@@ -99,7 +99,7 @@ module _ {A D : Type 0} (seen : D → List ℕ) (may_leave : D → List ℕ → 
 
     -- and so at each moment of an append
     pub written_front : (moment : D → ℕ) (left_since : D → ℕ → List ℕ → Type 0) (h : List (Taken A)) (count : ℕ)
-        (batch : List (List ℕ)) (log : Log D) → (k : Keeps seen may_leave head stored first h count log)
+        (batch : List (List ℕ)) (log : Log D) → (k : KeepsRecords seen may_leave head stored first h count log)
         → AreRecordsFrom first h count batch → (old new : D)
         → LeavesOnly moment left_since old new (IsBeforeOrAfter head (stored ++ k.records) batch)
         → LeavesOnly moment left_since old new (IsFront head stored first h count)

@@ -29,7 +29,7 @@ AreRecordsFrom first h place (bytes ∷ others) =
 
 -- After the records that it was opened with, the log has those of the first pushes of the journal, one for
 -- each and so many, and no more. All of it is on the device.
-pub record Keeps {A D : Type 0} (seen : D → List ℕ) (may_leave : D → List ℕ → Type 0) (head : Head)
+pub record KeepsRecords {A D : Type 0} (seen : D → List ℕ) (may_leave : D → List ℕ → Type 0) (head : Head)
     (stored : List (List ℕ)) (first : RepositoryOf A) (h : List (Taken A)) (count : ℕ) (log : Log D) : Type 0
   where
     pub records : List (List ℕ)

@@ -6,7 +6,7 @@ ghost use Rattle.hg_types.specs.Limits.{IsAllowed};
 ghost use Rattle.hg_store.specs.Device.{LeavesOnly};
 ghost use Rattle.hg_store.specs.Log.{IsSettled};
 ghost use Rattle.hg_ledger.specs.Lives.{IsFront, Lives};
-ghost use Rattle.hg_ledger.specs.Records.{AreKept, IsRecordOf, Keeps};
+ghost use Rattle.hg_ledger.specs.Records.{AreKept, IsRecordOf, KeepsRecords};
 
 use crate::laws::records_stay;
 use crate::storing::Storing;
@@ -41,7 +41,7 @@ impl<J: Storing<A>, D: Device, A: Allocator> Model for Disk<J, D, A> {
     ghost use Rattle.std.specs.Prelude.{◌≡◌, ◌-◌, false, vec_len, vec_capacity};
     ghost use Rattle.hg_ledger.specs.Lives.{Lives};
     ghost use Rattle.hg_ledger.specs.Locks.{DiskView};
-    ghost use Rattle.hg_ledger.specs.Records.{AreRecordsFrom, Keeps};
+    ghost use Rattle.hg_ledger.specs.Records.{AreRecordsFrom, KeepsRecords};
     ghost use Rattle.hg_types.specs.Limits.{IsAllowed};
 
     ghost Value = { DiskView A D };
@@ -56,7 +56,7 @@ impl<J: Storing<A>, D: Device, A: Allocator> Model for Disk<J, D, A> {
     } };
 
     ghost invariant = { λ d. IsAllowed J.first.settings.limits
-        × (d.is_broken ≡ false → Keeps D.seen D.may_leave J.head J.stored J.first d.witness d.count d.log)
+        × (d.is_broken ≡ false → KeepsRecords D.seen D.may_leave J.head J.stored J.first d.witness d.count d.log)
         × AreRecordsFrom J.first d.witness d.count d.batch.items
         × Lives D.moment D.left_since D.may_leave J.head J.stored J.first J.opened d.witness d.count
         d.log.device
@@ -200,7 +200,7 @@ impl<J: Storing<A>, D: Device, A: Allocator + Copy> Disk<J, D, A> {
     /// that has seen the history of its records, and the keeper that has counted them.
     pub fn into_parts(self) -> (Log<D>, usize, bool, Client<J, A>, Keeper<J, A>)
         ensures kept { result.2 ≡ false →
-            Keeps D.seen D.may_leave J.head J.stored J.first result.3 result.1 result.0 }
+            KeepsRecords D.seen D.may_leave J.head J.stored J.first result.3 result.1 result.0 }
         ensures life { Lives D.moment D.left_since D.may_leave J.head J.stored J.first J.opened result.3 result.1
             result.0.device }
         ensures count { result.1 ≡ self.count }

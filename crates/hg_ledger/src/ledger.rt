@@ -3,10 +3,12 @@
 ghost use Rattle.std.specs.Prelude.{◌≡◌, ◌≤◌, ◌<◌, ◌-◌, ℕ, [], false, IfOk, IfSome};
 ghost use Rattle.hg_types.specs.Limits.{IsAllowed};
 ghost use Rattle.hg_store.specs.Log.{IsSettled};
+ghost use Rattle.hg_ledger.specs.Clients.{IsCovered};
 ghost use Rattle.hg_ledger.specs.Lives.{Lives};
 ghost use Rattle.hg_ledger.specs.Receipts.{IsTallyOf};
-ghost use Rattle.hg_ledger.specs.Records.{AreKept, IsRecordOf, Keeps, done_in};
+ghost use Rattle.hg_ledger.specs.Records.{AreKept, IsRecordOf, KeepsRecords, done_in};
 
+use crate::client::KeptClient;
 use crate::disk::Disk;
 use crate::rooms::{Room, Rooms};
 use crate::storing::Storing;
@@ -91,22 +93,23 @@ impl<J: Storing<A>, D: Device, A: Allocator + Copy> Ledger<J, D, A> {
         self.waiting.lock(rt).give_back(room);
     }
 
-    /// Keeps what a reply rests on: so many done pushes, of which the last is this record's, if there is one.
-    /// Waits until they are on the device; where no other thread writes, it writes.
+    /// Keeps what a reply rests on: so many done pushes, of which the last is this record's, if there is one. Waits
+    /// until they are on the device; where no other thread writes, it writes. The client has a receipt for them then.
     pub fn keep<R: Wait>(
         &self,
         rt: &R,
         server: &Server<J, A>,
-        client: &mut Client<J, A>,
+        client: &mut KeptClient<J, A>,
         room: Room<J, A>,
         rests: usize,
         bundle: Option<Seq<u8, A>>,
-    ) -> Result<Receipt<J, A>, NotStored>
-        requires rests { rests ≤ done_in J.first client.old }
-        requires bundle { IfSome bundle (λ bytes. (1 ≤ rests) × IsRecordOf J.first client.old (rests - 1) bytes) }
-        ensures same { client.new ≡ client.old }
-        ensures kept { IfOk result (λ _. AreKept D.seen D.may_leave J.head J.stored J.first client.old rests) }
-        ensures counted { IfOk result (λ receipt. rests ≤ receipt) }
+    ) -> Result<(), NotStored>
+        requires rests { rests ≤ done_in J.first client.old.history }
+        requires bundle { IfSome bundle (λ bytes. (1 ≤ rests)
+            × IsRecordOf J.first client.old.history (rests - 1) bytes) }
+        ensures same { client.new.history ≡ client.old.history }
+        ensures grows { client.old.receipt ≤ client.new.receipt }
+        ensures covered { IfOk result (λ _. IsCovered D.seen D.may_leave J.head J.stored J.first client.new rests) }
     {
         match bundle {
             None => self.give_back(rt, room),
@@ -116,14 +119,36 @@ impl<J: Storing<A>, D: Device, A: Allocator + Copy> Ledger<J, D, A> {
                 let record = Record { place, bytes };
                 self.waiting
                     .lock(rt)
-                    .hand_in(rt, server, client, room, record);
+                    .hand_in(rt, server, &mut client.client, room, record);
             }
         }
         self.receipt(rt, server, client, rests)
     }
 
-    /// Waits until so many done pushes are on the device.
+    /// Waits until so many done pushes are on the device. The client has a receipt for them then.
     pub fn receipt<R: Wait>(
+        &self,
+        rt: &R,
+        server: &Server<J, A>,
+        client: &mut KeptClient<J, A>,
+        rests: usize,
+    ) -> Result<(), NotStored>
+        requires { rests ≤ done_in J.first client.old.history }
+        ensures same { client.new.history ≡ client.old.history }
+        ensures grows { client.old.receipt ≤ client.new.receipt }
+        ensures covered { IfOk result (λ _. IsCovered D.seen D.may_leave J.head J.stored J.first client.new rests) }
+    {
+        match self.await_records(rt, server, &mut client.client, rests) {
+            Ok(receipt) => {
+                client.take_in(&self.tally, receipt);
+                Ok(())
+            }
+            Err(fault) => Err(fault),
+        }
+    }
+
+    /// A receipt for so many done pushes, once they are on the device.
+    fn await_records<R: Wait>(
         &self,
         rt: &R,
         server: &Server<J, A>,
@@ -172,7 +197,7 @@ impl<J: Storing<A>, D: Device, A: Allocator + Copy> Ledger<J, D, A> {
     /// that was brought to the device.
     pub fn into_parts(self) -> Parts<J, D, A>
         ensures kept { result.is_broken ≡ false →
-            Keeps D.seen D.may_leave J.head J.stored J.first result.witnesses.0 result.kept result.log }
+            KeepsRecords D.seen D.may_leave J.head J.stored J.first result.witnesses.0 result.kept result.log }
         ensures life { Lives D.moment D.left_since D.may_leave J.head J.stored J.first J.opened
             result.witnesses.0 result.kept result.log.device }
         ensures tally { (result.tally.id ≡ J.tally) × (result.tally.count ≡ result.kept) }

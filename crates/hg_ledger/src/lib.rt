@@ -2,11 +2,13 @@
 //! the journal, before a reply that rests on it is sent.
 //!
 //! A [`Ledger`] is shared by reference. Before a push is opened, [`Ledger::room`] takes the room for its record.
-//! [`Ledger::keep`] hands in the record, waits until all that the reply rests on is on the device, and gives
-//! a [`Receipt`]. Whoever comes first writes the records that wait, as one batch, while others hand in more or
-//! wait. After a write or a sync that failed nothing is kept any more, and each call says so.
+//! [`Ledger::keep`] hands in the record and waits until all that the reply rests on is on the device. Its client, a
+//! [`KeptClient`], has a [`Receipt`] for it then, which is compared with the ledger's [`Tally`] at the end. Whoever
+//! comes first writes the records that wait, as one batch, while others hand in more or wait. After a write or a sync
+//! that failed nothing is kept any more, and each call says so.
 #![tactic(auto)]
 
+mod client;
 mod disk;
 pub mod laws;
 mod ledger;
@@ -15,6 +17,7 @@ mod storing;
 mod tally;
 mod waiting;
 
+pub use client::KeptClient;
 pub use ledger::{Ledger, NotStored, Parts};
 pub use rooms::Room;
 pub use storing::Storing;

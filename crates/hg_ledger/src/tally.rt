@@ -4,7 +4,7 @@
 //! a seat that knows a number which was reached. None of this is there when the program runs, except one word of
 //! memory: the contracts know the rest.
 
-ghost use Rattle.std.specs.Prelude.{◌≡◌, ◌≤◌, ◌^◌, IfOk};
+ghost use Rattle.std.specs.Prelude.{◌≡◌, ◌≤◌, ◌^◌, max, IfOk};
 ghost use Rattle.hg_ledger.specs.Receipts.{IsTallyOf};
 
 use crate::rooms::MOST_ROOMS;
@@ -63,6 +63,17 @@ impl Join<Known> for Hears {
     ghost use Rattle.hg_ledger.specs.code.Tallies.{heard_from, told};
 
     ghost both = { heard_from };
+
+    ghost spent = { told 0 };
+}
+
+/// A seat knows the greater of what it knew and what another does, which is used no more.
+struct Unites;
+
+impl Join<Known> for Unites {
+    ghost use Rattle.hg_ledger.specs.code.Tallies.{told, united};
+
+    ghost both = { united };
 
     ghost spent = { told 0 };
 }
@@ -240,6 +251,15 @@ impl<J: Storing<A>, A: Allocator> OpenTally<J, A> {
             seat,
             of: PhantomData,
         }
+    }
+
+    /// Joins a receipt to another, which then counts as many as both.
+    pub fn join(&self, held: &mut Receipt<J, A>, other: Receipt<J, A>)
+        ensures { held.new ≡ max held.old other }
+    {
+        self.table
+            .shared
+            .join_seat::<Unites>(&mut held.seat, other.seat);
     }
 
     /// The same receipt once more.

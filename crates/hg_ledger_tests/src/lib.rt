@@ -2,6 +2,4 @@
 #![tactic(auto)]
 
 #[cfg(test)]
-mod device;
-#[cfg(test)]
 mod tests;

@@ -1,10 +1,11 @@
 //! What no contract says: that many threads push at one server and one ledger, and that after a stop at any
 //! call of the device what was answered is there again.
 
-ghost use Rattle.std.specs.Prelude.{◌≤◌};
+ghost use Rattle.std.specs.Prelude.{◌≡◌, ◌≤◌};
+ghost use Rattle.hg_ledger.specs.Clients.{counted};
 
-use crate::device::Memory;
-use hg_ledger::{Ledger, Parts, Storing, Tally};
+use hg_help_tests::device::Memory;
+use hg_ledger::{KeptClient, Ledger, NotStored, Parts, Receipt, Storing, Tally};
 use hg_push::Outcome;
 use hg_queue::{PartQueue, Taker};
 use hg_repo::Repo;
@@ -94,15 +95,18 @@ struct Told {
     refused: Mutex<usize>,
 }
 
-fn push_once<J: Storing<Global>, R: Wait + Abort>(
+/// Pushes a part, and says whether it is kept. What the client's receipt counts does not fall by it.
+fn push_part<J: Storing<Global>, R: Wait + Abort>(
     rt: &R,
     alloc: Global,
     server: &Server<J>,
     ledger: &Ledger<J, Memory>,
-    client: Client<J>,
-    told: &Told,
+    client: KeptClient<J>,
     payload: &[u8],
-) -> Client<J> {
+) -> (KeptClient<J>, usize, Result<(), NotStored>)
+    ensures { client.receipt ≤ result.0.receipt }
+{
+    let (client, receipt) = client.into_parts();
     let room = match ledger.room(rt) {
         Ok(room) => room,
         Err(_) => panic!(rt; "no room"),
@@ -117,13 +121,31 @@ fn push_once<J: Storing<Global>, R: Wait + Abort>(
             .is_ok()
     );
     let ended = server.end(rt, sender, &mut NoGate);
-    let (answer, rests, mut client) = server.answer_resting(rt, ended, &mut NoGate);
+    let (answer, rests, client) = server.answer_resting(rt, ended, &mut NoGate);
+    let mut client = KeptClient::of(client, receipt);
     let record = match &answer.outcome {
         Outcome::Done(_) => Some(bundle(rt, alloc, payload)),
         Outcome::Aborted(_) => None,
     };
-    match ledger.keep(rt, server, &mut client, room, rests, record) {
-        Ok(_receipt) => {
+    let stored = ledger.keep(rt, server, &mut client, room, rests, record);
+    (client, rests, stored)
+}
+
+/// The same, and notes what came of it.
+fn push_once<J: Storing<Global>, R: Wait + Abort>(
+    rt: &R,
+    alloc: Global,
+    server: &Server<J>,
+    ledger: &Ledger<J, Memory>,
+    client: KeptClient<J>,
+    told: &Told,
+    payload: &[u8],
+) -> KeptClient<J>
+    ensures { client.receipt ≤ result.receipt }
+{
+    let (client, rests, stored) = push_part(rt, alloc, server, ledger, client, payload);
+    match stored {
+        Ok(()) => {
             let mut kept = told.kept.lock(rt);
             if *kept < rests {
                 *kept = rests;
@@ -143,13 +165,11 @@ fn push_all<J: Storing<Global>, R: Wait + Abort>(
     server: &Server<J>,
     ledger: &Ledger<J, Memory>,
     clients: &Mutex<Vec<Client<J>>>,
+    receipts: &Mutex<Vec<Receipt<J>>>,
     told: &Told,
     thread: u8,
 ) {
-    let mut mine = match server.client(rt) {
-        Ok(client) => client,
-        Err(_) => panic!(rt; "no client"),
-    };
+    let mut mine = KeptClient::new(client(rt, server));
     for turn in 0..PUSHES {
         // every third push is malformed, and so aborted
         let payload = marker(rt, alloc, thread, turn);
@@ -160,7 +180,21 @@ fn push_all<J: Storing<Global>, R: Wait + Abort>(
         };
         mine = push_once(rt, alloc, server, ledger, mine, told, payload);
     }
+    let (mine, receipt) = mine.into_parts();
     add(rt, &mut *clients.lock(rt), mine);
+    if let Some(receipt) = receipt {
+        assert!(rt; receipts.lock(rt).push(receipt).is_ok());
+    }
+}
+
+/// Compares a receipt with the tally of its ledger.
+fn compare<J: Storing<A>, A: Allocator>(tally: &mut Tally<A>, receipt: Receipt<J, A>)
+    requires { tally.old.id ≡ J.tally }
+    ensures same { tally.new ≡ tally.old }
+    ensures counted { receipt ≤ tally.old.count }
+{
+    let mut receipt = receipt;
+    tally.compare(&mut receipt);
 }
 
 fn add<J: Naming<A>, A: Allocator + Copy, R: Abort>(
@@ -192,24 +226,19 @@ fn play<J: Storing<Global> + Send + Sync, R: Threads + Wait + Abort + Sync>(
     log: Log<Memory>,
 ) -> Left {
     let server = Server::<J>::new(alloc, repo, queue, taker);
-    let first = match server.client(rt) {
-        Ok(client) => client,
-        Err(_) => panic!(rt; "no client"),
-    };
-    let second = match server.client(rt) {
-        Ok(client) => client,
-        Err(_) => panic!(rt; "no client"),
-    };
+    let (first, second) = (client(rt, &server), client(rt, &server));
     let ledger = match Ledger::new(alloc, log, (first, second), tally_over(rt, alloc)) {
         Ok(ledger) => ledger,
         Err(_parts) => panic!(rt; "no memory for a ledger"),
     };
     let clients = Mutex::new(Vec::new(alloc));
+    let receipts = Mutex::new(Vec::new(alloc));
     let told = Told {
         kept: Mutex::new(0),
         refused: Mutex::new(0),
     };
-    let (list, lent, server_lent, told_lent) = (&clients, &ledger, &server, &told);
+    let (list, its_receipts, lent) = (&clients, &receipts, &ledger);
+    let (server_lent, told_lent) = (&server, &told);
     thread::scope(thread::scope_env(), rt, |scope| {
         for thread in 0..THREADS {
             let started = scope.spawn(move || push_all(
@@ -218,6 +247,7 @@ fn play<J: Storing<Global> + Send + Sync, R: Threads + Wait + Abort + Sync>(
                 server_lent,
                 lent,
                 list,
+                its_receipts,
                 told_lent,
                 thread,
             ));
@@ -230,8 +260,11 @@ fn play<J: Storing<Global> + Send + Sync, R: Threads + Wait + Abort + Sync>(
         kept: _,
         is_broken: _,
         witnesses: (first, second),
-        tally: _,
+        mut tally,
     } = ledger.into_parts();
+    for receipt in receipts.into_inner() {
+        compare(&mut tally, receipt);
+    }
     add(rt, &mut clients, first);
     add(rt, &mut clients, second);
     let Log { device, .. } = log;
@@ -365,7 +398,7 @@ fn ask<J: Storing<Global>, R: Wait + Abort>(
 ) -> Receipts {
     let server = Server::<J>::new(alloc, repo, queue, taker);
     let (first, second) = (client(rt, &server), client(rt, &server));
-    let mut mine = client(rt, &server);
+    let mut mine = KeptClient::new(client(rt, &server));
     let ledger = match Ledger::new(alloc, log, (first, second), tally_over(rt, alloc)) {
         Ok(ledger) => ledger,
         Err(_parts) => panic!(rt; "no memory for a ledger"),
@@ -395,11 +428,8 @@ fn ask<J: Storing<Global>, R: Wait + Abort>(
         of_none: of_none.is_ok(),
         syncs,
     };
-    for receipt in [before, of_one, of_none] {
-        if let Ok(mut receipt) = receipt {
-            tally.compare(&mut receipt);
-        }
-    }
+    let (mine, receipt) = mine.into_parts();
+    assert!(rt; has_receipt(&mut tally, receipt));
     let mut clients = Vec::new(alloc);
     add(rt, &mut clients, first);
     add(rt, &mut clients, second);
@@ -460,6 +490,129 @@ fn receipts_before_a_push_and_after_it(rt: HostRuntime) {
             syncs,
         };
         assert_eq!(rt; asked(&rt, alloc, calls), receipts, "{calls} calls");
+    }
+}
+
+/// What came of pushes of two clients in turn: whether each has a receipt, and how many records were kept.
+#[derive(Clone, Copy, Debug, PartialEq, Eq)]
+struct Turns {
+    has_first: bool,
+    has_second: bool,
+    kept: usize,
+}
+
+/// Compares the receipt of a client, where it has one. Says whether it has.
+fn has_receipt<J: Storing<A>, A: Allocator>(
+    tally: &mut Tally<A>,
+    receipt: Option<Receipt<J, A>>,
+) -> bool
+    requires { tally.old.id ≡ J.tally }
+    ensures same { tally.new ≡ tally.old }
+    ensures counted { counted receipt ≤ tally.old.count }
+{
+    match receipt {
+        Some(receipt) => {
+            compare(tally, receipt);
+            true
+        }
+        None => false,
+    }
+}
+
+/// Two clients push three times each, in turn.
+fn push_in_turn<J: Storing<Global>, R: Wait + Abort>(
+    rt: &R,
+    alloc: Global,
+    queue: PartQueue,
+    taker: Taker,
+    repo: Repo,
+    log: Log<Memory>,
+) -> Turns {
+    let server = Server::<J>::new(alloc, repo, queue, taker);
+    let witnesses = (client(rt, &server), client(rt, &server));
+    let mut first = KeptClient::new(client(rt, &server));
+    let mut second = KeptClient::new(client(rt, &server));
+    let ledger = match Ledger::new(alloc, log, witnesses, tally_over(rt, alloc)) {
+        Ok(ledger) => ledger,
+        Err(_parts) => panic!(rt; "no memory for a ledger"),
+    };
+    for turn in 0..3u8 {
+        let (seen, _, _) = push_part(
+            rt,
+            alloc,
+            &server,
+            &ledger,
+            first,
+            &marker(rt, alloc, 1, turn),
+        );
+        first = seen;
+        let (seen, _, _) = push_part(
+            rt,
+            alloc,
+            &server,
+            &ledger,
+            second,
+            &marker(rt, alloc, 2, turn),
+        );
+        second = seen;
+    }
+    let Parts {
+        log: _,
+        kept,
+        is_broken: _,
+        witnesses: (before, after),
+        mut tally,
+    } = ledger.into_parts();
+    let (first, receipt) = first.into_parts();
+    let has_first = has_receipt(&mut tally, receipt);
+    let (second, receipt) = second.into_parts();
+    let has_second = has_receipt(&mut tally, receipt);
+    let mut clients = Vec::new(alloc);
+    add(rt, &mut clients, before);
+    add(rt, &mut clients, after);
+    add(rt, &mut clients, first);
+    add(rt, &mut clients, second);
+    let closed = server.close(clients);
+    assert!(rt; closed.journal.len() == 6);
+    Turns {
+        has_first,
+        has_second,
+        kept,
+    }
+}
+
+// Two clients push three times each, in turn, each with the receipt that it has. The device takes three calls to
+// open the store and six for a record. Result: after the ledger's end the receipt of each is compared with its
+// tally. Where the device stops, a client whose first push was kept still has its receipt, and one that had none
+// of its own kept has none.
+#[test]
+fn receipts_of_two_clients_grow(rt: HostRuntime) {
+    let alloc = rt.alloc();
+    for (calls, has_first, has_second, kept) in [
+        (8usize, false, false, 0usize),
+        (9, true, false, 1),
+        (15, true, true, 2),
+        (21, true, true, 3),
+        (39, true, true, 6),
+        (1_000, true, true, 6),
+    ] {
+        let turns = Turns {
+            has_first,
+            has_second,
+            kept,
+        };
+        match PartQueue::new(alloc, 8) {
+            Ok((queue, taker)) => {
+                let repo = Repo::new(alloc, settings(), state(&rt));
+                let log = new_log(&rt, alloc, calls);
+                assert_eq!(rt;
+                    push_in_turn::<Brand, _>(&rt, alloc, queue, taker, repo, log),
+                    turns,
+                    "{calls} calls"
+                );
+            }
+            Err(_) => assert!(rt; false, "no memory for a queue"),
+        }
     }
 }
 

@@ -17,7 +17,8 @@ count_lines text = count_by (λ byte. byte == 10) text
 abbrev pub front_of : List ℕ → List ℕ
 front_of text = take (min (length text) 4096) text
 
--- the branch that a text tells, by its first 4,096 bytes; none where there are more and its three lines do not end in them
+-- the branch that a text names, by its first 4,096 bytes; none where there are more and its three lines do not
+-- end in them
 unfoldable pub shown_branch : {A : Type 0} → List ℕ → Option (Name A)
 shown_branch text =
     if nat_lt 4096 (length text) then

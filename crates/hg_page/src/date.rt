@@ -24,7 +24,7 @@ const LAST_YEAR: u32 = 9999;
 /// The last second that has a date here: the last of the year 9999.
 const LAST: u64 = 253_402_300_799;
 
-/// The date of a moment, which is told as seconds since the beginning of 1970 without leap seconds. What is
+/// The date of a moment, which is given in seconds since the beginning of 1970 without leap seconds. What is
 /// later than the year 9999 has the date of its last second.
 pub fn date_of(seconds: u64) -> Date {
     let seconds = seconds.min(LAST);

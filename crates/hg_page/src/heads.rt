@@ -24,7 +24,7 @@ const LINES: usize = 4096;
 pub struct Head<A: Allocator = Global> {
     pub node: Node,
     pub phase: Phase,
-    /// Its branch; none where its text is longer than 4,096 bytes and these do not hold the three lines that tell it.
+    /// Its branch; none where its text is longer than 4,096 bytes and these do not hold the three lines that name it.
     pub branch: Option<Name<A>>,
     /// The first of its bookmarks in the order of their names, at most eight.
     pub bookmarks: Seq<Name<A>, A>,
@@ -52,7 +52,8 @@ pub fn last_heads<A: Allocator + Copy>(
     Ok(last)
 }
 
-/// The branch that a text tells, by its first bytes. None where there are more, and its three lines do not end in these.
+/// The branch that a text names, by its first bytes. None where there are more, and its three lines do not end
+/// in these.
 #[tactic(auto, unfolding(crate::specs::Heads::shown_branch))]
 pub fn shown_branch<A: Allocator + Copy>(alloc: A, text: &[u8]) -> Result<Option<Name<A>>, NoMemory>
     ensures { IfOk result (λ branch. branch ≡ told_branch text.now) }

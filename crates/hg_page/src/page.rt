@@ -85,7 +85,7 @@ const TABLE_END: &str = "</table></div>\n";
 
 /// The page of a summary: one document with its style inside, without scripts, and with nothing from
 /// elsewhere. Names of bookmarks and branches are escaped. It has at most 65,535 bytes: what does not fit is
-/// told by its number.
+/// named by its number.
 pub fn page_text<A: Allocator + Copy>(
     alloc: A,
     summary: &Summary<A>,
@@ -196,7 +196,7 @@ fn put_heads<A: Allocator + Copy>(
     put_left_out(alloc, page, unseen, "bookmarks were not looked at")
 }
 
-/// Puts the rows of heads while there is room, and tells how many there were.
+/// Puts the rows of heads while there is room, and says how many there were.
 fn put_head_rows<A: Allocator + Copy>(
     alloc: A,
     page: &mut Page<A>,

@@ -25,7 +25,7 @@ impl<A: Allocator> Page<A> {
         }
     }
 
-    /// Adds a piece where the page then has at most so many bytes, and tells whether it did.
+    /// Adds a piece where the page then has at most so many bytes, and says whether it did.
     pub fn add(&mut self, piece: &str, most: usize) -> Result<bool, NoMemory>
         ensures { IfOk result (λ added. string_bytes self.new.text
             ≡ (if added then string_bytes self.old.text ++ piece.now else string_bytes self.old.text)) }

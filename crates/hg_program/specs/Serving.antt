@@ -4,7 +4,7 @@ use Rattle.hg_parts.specs.Repository.{Repository}
 use Rattle.hg_devices.specs.Devices.{Input, Output}
 use Rattle.hg_listener.specs.declared.terms.Terms.{Terms}
 use Rattle.hg_listener.specs.Doors.{DoorUse}
-use Rattle.hg_listener.specs.Closing.{Ends}
+use Rattle.hg_listener.specs.Closing.{EndsService}
 use Rattle.hg_replay.specs.declared.seed.SeedFault.{SeedFault}
 use Rattle.hg_replay.specs.declared.seed.SeedFault.TheVariants.{Aborted, ReadFailed, NoMemory}
 use Rattle.hg_replay.specs.Answering.{empty_repository}
@@ -25,7 +25,7 @@ fault_status NoMemory = 4
 -- it is served.
 abbrev pub EndsFrom : {A : Type 0} → Result (Repository A) SeedFault → Terms → Option (List DoorUse) →
     Option (List DoorUse) → Output → Output → ℕ → Type 0
-EndsFrom (Ok first) terms door shut before after status = Ends first terms door shut before after status
+EndsFrom (Ok first) terms door shut before after status = EndsService first terms door shut before after status
 EndsFrom (Err fault) terms door shut before after status = (shut ≡ door) × (after ≡ before)
     × (status ≡ fault_status fault)
 

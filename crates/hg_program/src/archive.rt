@@ -1,12 +1,12 @@
 //! A store that is read, and ended, beside the server that fills it.
 //!
-//! Each call gives the status, and tells on standard error what is to be told of it.
+//! Each call gives the status, and prints on standard error what is to be said of it.
 
 ghost use Rattle.std.specs.Prelude.{◌≡◌, ◌≢◌};
 ghost use Rattle.hg_program.specs.Archive.{LogsStore, ReportsStore};
 ghost use Rattle.hg_program.specs.Commands.{IsDeviceStatus, IsStoreStatus};
 
-use hg_archive::{ArchiveFault, Ending, TornNote, cut_store, file_log, log_store, report_store};
+use hg_archive::{ArchiveFault, StoreEnd, TornNote, cut_store, file_log, log_store, report_store};
 use hg_command::tell;
 use hg_devices::Writer;
 use std::alloc::Global;
@@ -72,11 +72,11 @@ pub fn cut<R: Files<File = File> + Eprint>(rt: &R, alloc: Global, store: &str, a
     }
 }
 
-/// The status of a store that was read. Of a torn one it is told that it is torn.
-fn read<R: Eprint>(rt: &R, store: &str, ending: Ending) -> u8
+/// The status of a store that was read. Of a torn one it is printed that it is torn.
+fn read<R: Eprint>(rt: &R, store: &str, ending: StoreEnd) -> u8
     ensures { result ≡ 0 }
 {
-    if let Ending::Torn(whole) = ending {
+    if let StoreEnd::Torn(whole) = ending {
         let note = TornNote {
             folder: store,
             whole,
@@ -86,7 +86,7 @@ fn read<R: Eprint>(rt: &R, store: &str, ending: Ending) -> u8
     0
 }
 
-/// The status of a fault, which is told: refused memory by its own line, and any other by one that names the
+/// The status of a fault, which is printed: refused memory by its own line, and any other by one that names the
 /// file.
 fn refused<R: Eprint>(rt: &R, fault: &ArchiveFault<'_>) -> u8
     ensures fails { result ≢ 0 }

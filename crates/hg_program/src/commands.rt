@@ -70,7 +70,7 @@ pub fn replay<R: Files<File = File> + AllocGlobal + Print>(
 }
 
 /// Opens the seed, binds, and makes the file of the report, in this order; then serves. Where the system is
-/// to pick the port, the address is told on standard output before the first accept. What fails before the
+/// to pick the port, the address is printed on standard output before the first accept. What fails before the
 /// seed is run is the error, and so is a whole report that cannot be put in its place.
 fn serve_files<R>(rt: &R, state: RandomState, serving: &Serving<'_>) -> io::Result<u8>
 where

@@ -1,4 +1,4 @@
-//! The door of the program: a listener that tells where it listens, and that is closed with its last use.
+//! The door of the program: a listener that says where it listens, and that is closed with its last use.
 
 ghost use Rattle.std.specs.Prelude.{◌≡◌, None};
 
@@ -17,7 +17,7 @@ pub struct Listening<'a, R: Print> {
 }
 
 impl<'a, R: Print> Listening<'a, R> {
-    /// The door of so many connections to that listener. Where it is to tell its address, it does so when it
+    /// The door of so many connections to that listener. Where it is to print its address, it does so when it
     /// is first asked for a connection: the seed was run then, and memory for the queue was there.
     pub fn new(rt: &'a R, listener: TcpListener, connections: u32, tells: bool) -> Listening<'a, R>
         ensures left { result.left ≡ connections }
@@ -42,7 +42,7 @@ impl<'a, R: Print> Listening<'a, R> {
         Ok(())
     }
 
-    /// A connection, where the address was told and the listener is open.
+    /// A connection, where the address was printed and the listener is open.
     fn next(&mut self) -> Option<TcpStream> {
         self.tell_address().ok()?;
         let (stream, _) = self.listener.as_ref()?.accept().ok()?;

@@ -1,4 +1,4 @@
-//! A store that is served over HTTP: how it begins, and what is told of it.
+//! A store that is served over HTTP: how it begins, and what is printed of it.
 
 ghost use Rattle.hg_opening.specs.Opening.{IsOpened};
 
@@ -17,8 +17,8 @@ use std::sync::Wait;
 use std::thread::Threads;
 use std::time::Clock;
 
-/// Opens the store, binds the address, tells where it listens, and serves until the store fails, in this order.
-/// Gives the status; what ends it is told.
+/// Opens the store, binds the address, says where it listens, and serves until the store fails, in this order.
+/// Gives the status; what ends it is printed.
 pub fn host<R>(rt: &R, state: RandomState, hosting: &Hosting<'_>) -> u8
 where
     R: Files<File = File>
@@ -120,7 +120,7 @@ fn terms_of<'a>(hosting: &Hosting<'a>) -> HostTerms<'a> {
     }
 }
 
-/// Tells where it listens and what the store has; and where others reach it, that they need no name.
+/// Prints where it listens and what the store has; and where others reach it, that they need no name.
 fn tell_listening<R: Eprint>(
     rt: &R,
     address: SocketAddr,
@@ -138,7 +138,7 @@ fn tell_listening<R: Eprint>(
     }
 }
 
-/// The status where the store was not opened, which is told.
+/// The status where the store was not opened, which is printed.
 fn not_opened<R: Eprint>(rt: &R, folder: &str, fault: &OpeningFault) -> u8 {
     let status = fault.status();
     if status == 4 {
@@ -152,7 +152,7 @@ fn not_opened<R: Eprint>(rt: &R, folder: &str, fault: &OpeningFault) -> u8 {
     status
 }
 
-/// The status where the address was not bound, which is told.
+/// The status where the address was not bound, which is printed.
 fn not_bound<R: Eprint>(rt: &R, listen: &str, error: &io::Error) -> u8 {
     let status = device_status(error);
     if status == 4 {
@@ -163,7 +163,7 @@ fn not_bound<R: Eprint>(rt: &R, listen: &str, error: &io::Error) -> u8 {
     status
 }
 
-/// The status where serving ended for good, which is told.
+/// The status where serving ended for good, which is printed.
 fn ended<R: Eprint>(rt: &R, over: Over) -> u8 {
     match over {
         Over::NoMemory => {

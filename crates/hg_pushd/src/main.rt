@@ -23,13 +23,13 @@ use std::sync::Wait;
 use std::thread::Threads;
 use std::time::Clock;
 
-/// Tells the status on standard error, and gives it.
+/// Prints the status on standard error, and gives it.
 fn told<R: Eprint>(rt: &R, status: u8) -> u8 {
     tell(rt, status);
     status
 }
 
-/// Does what these words ask for, and gives the status, which is told. A system that gives no random bytes is
+/// Does what these words ask for, and gives the status, which is printed. A system that gives no random bytes is
 /// a device that failed.
 fn obey<R>(rt: &R, words: &[String]) -> u8
 where

@@ -1,10 +1,9 @@
 -- Lists.
 use Rattle.std.proofs.Common.{◌≡◌, ℕ, ◌+◌, ◌<◌, List, [], ◌∷◌, ◌++◌, sym, subst, take}
 use Rattle.std.specs.List.{AllZip}
-use Rattle.std.proofs.Common.{length, ap, ◌∙◌, arith, suc, zero}
-use Rattle.std.specs.List.{flat_map, range_with_len}
+use Rattle.std.proofs.Common.{length, ap, ◌∙◌}
 use Rattle.std.specs.Prelude.{get_or}
-use Rattle.std.proofs.lemmas.List.{flat_map_more, take_more}
+use Rattle.std.proofs.lemmas.List.{take_more}
 
 -- what holds place by place holds with one more item of each
 pub AllZip_more : {X Y : Type 0} (R : X → Y → Type 0) (xs : List X) (ys : List Y) (x : X) (y : Y) →
@@ -20,26 +19,6 @@ pub AllZip_next : {X Y : Type 0} (R : X → Y → Type 0) (xs : List X) (ys : Li
 AllZip_next R xs ys i x y lt is h r =
     subst (λ l. AllZip R l (ys ++ y ∷ [])) (ap (λ z. take i xs ++ z ∷ []) is ∙ sym (take_more xs i x lt))
     (AllZip_more R (take i xs) ys x y h r)
-
-range_with_len-last : (a n : ℕ) → range_with_len a (suc n) ≡ range_with_len a n ++ (a + n) ∷ []
-range_with_len-last a zero = ap (λ (k : ℕ). k ∷ []) (omega arith)
-range_with_len-last a (suc n) =
-    let e : (a + 1) + n ≡ a + suc n = omega arith in
-    ap (λ ns. a ∷ ns) (range_with_len-last (a + 1) n ∙ ap (λ (k : ℕ). range_with_len (a + 1) n ++ k ∷ []) e)
-
--- the line of one number more
-pub number_more : (f : ℕ → List ℕ) (before now next : List ℕ) (n : ℕ) →
-    now ≡ before ++ flat_map f (range_with_len 0 n) → next ≡ now ++ f n →
-    next ≡ before ++ flat_map f (range_with_len 0 (n + 1))
-number_more f before now next n so more =
-    let one : n + 1 ≡ suc n = omega arith in
-    let none : 0 + n ≡ n = omega arith in
-    let range : range_with_len 0 (n + 1) ≡ range_with_len 0 n ++ n ∷ [] =
-    ap (range_with_len 0) one ∙ (range_with_len-last 0 n ∙ ap (λ (k : ℕ). range_with_len 0 n ++ k ∷ []) none) in
-    more
-    ∙ ap (λ text. text ++ f n) so
-    ∙ flat_map_more f before (range_with_len 0 n) n
-    ∙ ap (λ ns. before ++ flat_map f ns) (sym range)
 
 -- what holds place by place of two lists, through a third
 pub AllZip_through : {X Y Z : Type 0} (R : X → Y → Type 0) (S : Y → Z → Type 0) (T : X → Z → Type 0)

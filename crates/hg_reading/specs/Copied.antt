@@ -1,4 +1,4 @@
--- What goes through all changesets is told of copies of them.
+-- What goes through all changesets is made from copies of them.
 use Rattle.std.specs.Prelude.{ℕ, ◌≡◌, Bool, true, false, List, [], Option, Some, None, is_some, codes, bytes_eq, IfSome}
 use Rattle.std.specs.Prelude.{if◌then◌else◌}
 use Rattle.std.specs.List.{AllZip, list_any}
@@ -54,7 +54,7 @@ pub record IsCopyOf {A : Type 0} (repo : Repository A) (copies : Copies A) : Typ
   pub phases : copies.phases.current.phases ≡ repo.phases
   pub publishing : copies.publishing ≡ repo.settings.publishing
 
--- the text that is told of the copies; that of phases is the same whatever bookmarks there are
+-- the text that is made from the copies; that of phases is the same whatever bookmarks there are
 abbrev pub IsOfCopies : {A : Type 0} → Copies A → Long → List ℕ → Type 0
 IsOfCopies copies Branches text = IsBranchMap copies.view.rows copies.view.markers text
 IsOfCopies copies Phases text = (pairs : Pairs) → text
@@ -76,12 +76,12 @@ pub record IsJoinedOf {A : Type 0} (copies : Copies A) (pieces : List (Piece A))
   pub each : AllZip (IsOfPiece copies) pieces texts
   pub joined : text ≡ answers_joined texts
 
--- Asked about that, the repository tells this piece.
+-- Asked about that, the repository answers this piece.
 abbrev pub IsPieceOf : {A : Type 0} → Repository A → Read → List ℕ → Piece A → Type 0
 IsPieceOf repo read about (Short text) = IsTextOf repo read about text
 IsPieceOf repo read about (OfCopies long) = IsLong read about long
 
--- a name of no command that reads tells nothing
+-- a name of no command that reads has no answer
 abbrev pub IsNoPiece : {A : Type 0} → Piece A → Type 0
 IsNoPiece (Short text) = text ≡ []
 IsNoPiece (OfCopies long) = ⊥
@@ -91,7 +91,7 @@ IsPieceIf repo command None piece = IsNoPiece piece
 IsPieceIf repo command (Some read) piece =
     IsPieceOf repo read (argument_in command.arguments (subject_of read)) piece
 
--- a command of a batch is told this piece
+-- a command of a batch is answered this piece
 abbrev pub IsCommandPiece : {A : Type 0} → Repository A → Command A → Piece A → Type 0
 IsCommandPiece repo command piece = IsPieceIf repo command (read_of command.name) piece
 

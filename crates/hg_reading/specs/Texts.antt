@@ -1,4 +1,4 @@
--- What the commands that only read are told of a repository.
+-- What the commands that only read are answered.
 use Rattle.std.specs.Prelude.{ℕ, ◌≡◌, Bool, ◌&&◌, List, [], Option, Some, None, is_some, codes, count_by, length}
 use Rattle.std.specs.Prelude.{bytes_eq, if◌then◌else◌, nat_le}
 use Rattle.std.specs.List.{AllZip, list_all}
@@ -16,7 +16,7 @@ use Rattle.hg_http.specs.declared.command.Read.TheVariants.{Heads, Known, ListKe
 use Rattle.hg_http.specs.Commands.{read_of, subject_of}
 use Rattle.hg_http.specs.Requests.{argument_in}
 
--- Asked about that, the repository tells this text.
+-- Asked about that, the repository answers this text.
 abbrev pub IsTextOf : {A : Type 0} → Repository A → Read → List ℕ → List ℕ → Type 0
 IsTextOf repo Heads about text = IsHeadsText repo.rows text
 IsTextOf repo Known about text = text ≡ known_text repo.rows about
@@ -25,17 +25,17 @@ IsTextOf repo ListKeys about text =
 IsTextOf repo Lookup about text = text ≡ lookup_text repo.rows repo.bookmarks about
 IsTextOf repo BranchMap about text = IsBranchMap repo.rows repo.markers text
 
--- a name of no command that reads tells nothing; a batch with one is refused
+-- a name of no command that reads has no answer; a batch with one is refused
 abbrev pub IsTextIf : {A : Type 0} → Repository A → Command A → Option Read → List ℕ → Type 0
 IsTextIf repo command None text = text ≡ []
 IsTextIf repo command (Some read) text =
     IsTextOf repo read (argument_in command.arguments (subject_of read)) text
 
--- a command of a batch is told this text
+-- a command of a batch is answered this text
 abbrev pub IsCommandText : {A : Type 0} → Repository A → Command A → List ℕ → Type 0
 IsCommandText repo command text = IsTextIf repo command (read_of command.name) text
 
--- A batch is told this text: those of its commands, in order, escaped, with a `;` between, all of the same
+-- A batch is answered this text: those of its commands, in order, escaped, with a `;` between, all of the same
 -- repository.
 pub record IsBatchText {A : Type 0} (repo : Repository A) (commands : List (Command A))
     (text : List ℕ) : Type 0 where

@@ -1,4 +1,4 @@
-//! What stands around the commands: the page, the counters, and who is told of pushes.
+//! What stands around the commands: the page, the counters, and who hears of pushes.
 
 use hg_push::Outcome;
 use hg_repo::{Done, Refusal, Repo};
@@ -41,7 +41,7 @@ pub struct Pushed<'a, A: Allocator = Global> {
     pub bundle: &'a [u8],
 }
 
-/// Watches one connection: it is told of the places that a push reaches under way, by which times can be taken
+/// Watches one connection: it hears of the places that a push reaches under way, by which times can be taken
 /// (after `Marked` it waits for the lock, after `Answered` for the device), and of each push that ended, before
 /// its answer is sent.
 pub trait Watch<A: Allocator>: Gate {

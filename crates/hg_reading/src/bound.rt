@@ -1,7 +1,7 @@
 //! How much a batch may ask.
 //!
-//! All of a batch is told of one repository, so a part of it is made under the server's lock. A client of Mercurial
-//! asks two commands in a batch, `heads` and `known`.
+//! All of a batch is answered from one repository, so a part of it is made under the server's lock. A client of
+//! Mercurial asks two commands in a batch, `heads` and `known`.
 
 ghost use Rattle.std.specs.Prelude.{◌≡◌, count_by};
 ghost use Rattle.hg_reading.specs.Texts.{are_reads as all_read, is_lookup as looks_up, is_read as only_reads};

@@ -1,4 +1,4 @@
-//! Copies of what is told by going through all changesets.
+//! Copies of what a pass over all changesets needs.
 
 ghost use Rattle.std.specs.Prelude.{◌≤◌, length};
 

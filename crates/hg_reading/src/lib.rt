@@ -1,11 +1,11 @@
-//! What a client of Mercurial that only reads is answered, told of one look at a repository.
+//! What a client of Mercurial that only reads is answered, from one look at a repository.
 //!
 //! Each question is a [`Question`](hg_serve::Question) of `hg_serve`, asked under the server's lock: [`Reading`] for
 //! one command, [`Batch`] for several, [`Viewing`] for what is shown without a command. What goes through all
-//! changesets ([`long_of`], [`have_long`]) is told of copies instead: [`Copying`] and [`LongBatch`] bring them, and
+//! changesets ([`long_of`], [`have_long`]) is made from copies instead: [`Copying`] and [`LongBatch`] bring them, and
 //! [`long_text`] and [`batch_text`] make the texts when the lock is given back. [`refusal_of`] says which batches
 //! are refused, and [`shown`] which answer shows a view. [`Shown`] and [`Watch`] are what stands around the
-//! commands: who shows the page and the counters, and who is told of pushes. Nothing here waits.
+//! commands: who shows the page and the counters, and who hears of pushes. Nothing here waits.
 //!
 //! The commands are those of Mercurial's `internals.wireprotocol`, "Commands".
 #![tactic(auto)]

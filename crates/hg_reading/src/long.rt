@@ -1,4 +1,4 @@
-//! What goes through all changesets: it is told of copies, when the server's lock is given back.
+//! What goes through all changesets: it is made from copies, when the server's lock is given back.
 
 ghost use Rattle.std.specs.Prelude.{◌≡◌, codes, IfOk, IfSome};
 ghost use Rattle.std.specs.List.{AllZip};
@@ -22,7 +22,7 @@ pub enum Long {
     Phases,
 }
 
-/// What is told of a command: a text, in the form of `hg_told`, or one that is made of copies.
+/// What a command is answered: a text, in the form of `hg_told`, or one that is made of copies.
 #[derive(Drop)]
 pub enum Piece<A: Allocator = Global> {
     Short(Seq<u8, A>),
@@ -48,7 +48,7 @@ pub fn long_of(read: Read, about: &[u8]) -> Option<Long>
     }
 }
 
-/// Copies what is told by going through all changesets: one pass over them.
+/// Copies what a pass over all changesets needs: one pass over them.
 pub fn copies_of<A: Allocator + Copy>(alloc: A, repo: &Repo<A>) -> Result<Copies<A>, NoMemory>
     ensures { IfOk result (λ copies. IsCopyOf repo.now copies) }
 {

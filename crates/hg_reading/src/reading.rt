@@ -40,7 +40,7 @@ impl<A: Allocator + Copy> Question<A, Result<Seq<u8, A>, NoMemory>> for Reading<
     }
 }
 
-/// Several commands, all told of the same repository.
+/// Several commands, all answered from the same repository.
 #[derive(Drop)]
 pub struct Batch<'a, A: Allocator> {
     pub alloc: A,
@@ -59,7 +59,7 @@ impl<A: Allocator + Copy> Question<A, Result<Seq<u8, A>, NoMemory>> for Batch<'_
     }
 }
 
-/// Copies of what is told by going through all changesets.
+/// Copies of what a pass over all changesets needs.
 #[derive(Drop)]
 pub struct Copying<A: Allocator> {
     pub alloc: A,
@@ -83,7 +83,7 @@ pub struct Brought<A: Allocator = Global> {
     pub copies: Copies<A>,
 }
 
-/// Several commands, of which some go through all changesets. These are told of copies.
+/// Several commands, of which some go through all changesets. These are answered from copies.
 #[derive(Drop)]
 pub struct LongBatch<'a, A: Allocator> {
     pub alloc: A,

@@ -1,11 +1,12 @@
 //! What is shown without a command, as a question to the repository.
 
-ghost use Rattle.std.specs.Prelude.{◌≡◌, ◌++◌, ◌+◌, IfOk, OnOk};
-ghost use Rattle.hg_reading.specs.Views.{finished, IsShown, place_line, place_lines};
+ghost use Rattle.std.specs.Prelude.{◌≡◌, ◌++◌, ◌+◌, IfOk};
+ghost use Rattle.hg_repo.specs.Report.{journal_lines};
+ghost use Rattle.hg_reading.specs.Views.{finished, IsShown};
 
 use crate::around::Shown;
 use hg_http::{Answer, Refusal, View};
-use hg_repo::Repo;
+use hg_repo::{Repo, add_journal_lines};
 use hg_serve::Question;
 use hg_types::{NoMemory, Seq};
 use std::alloc::Allocator;
@@ -78,39 +79,12 @@ fn with_lines<A: Allocator + Copy>(
     stored: usize,
     rests: usize,
 ) -> Result<Seq<u8, A>, NoMemory>
-    ensures { IfOk result (λ text. text ≡ report ++ place_lines (stored + rests)) }
+    ensures { IfOk result (λ text. text ≡ report ++ journal_lines (stored + rests)) }
 {
     let Some(count) = stored.checked_add(rests) else {
         return Err(NoMemory);
     };
     let mut text = report.into_vec();
-    add_lines(alloc, &mut text, count)?;
+    add_journal_lines(alloc, &mut text, count)?;
     Ok(Seq::from_vec(text))
-}
-
-/// Adds a line for each of so many places.
-fn add_lines<A: Allocator + Copy>(
-    alloc: A,
-    text: &mut Vec<u8, A>,
-    count: usize,
-) -> Result<(), NoMemory>
-    ensures { OnOk result (text.new.items ≡ text.old.items ++ place_lines count) }
-{
-    'lines: for place in 0..count {
-        add_line(alloc, text, place)?;
-    }
-    Ok(())
-}
-
-/// Adds the line of a push.
-fn add_line<A: Allocator + Copy>(
-    alloc: A,
-    text: &mut Vec<u8, A>,
-    place: usize,
-) -> Result<(), NoMemory>
-    ensures { OnOk result (text.new.items ≡ text.old.items ++ place_line place) }
-{
-    let line = format!(in alloc; "J {place}\n")?;
-    text.extend_from_slice(line.as_bytes())?;
-    Ok(())
 }

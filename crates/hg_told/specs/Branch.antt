@@ -1,4 +1,4 @@
--- The branch of a changeset, as its text tells it.
+-- The branch of a changeset, as its text names it.
 use Rattle.std.specs.Prelude.{ℕ, ◌==◌, nat_eq, Bool, List, [], ◌∷◌, map, filter, drop, codes, Option, Some, None}
 use Rattle.std.specs.Prelude.{unwrap_or, if◌then◌else◌}
 use Rattle.std.specs.List.{before_first, last_or, slice_split, starts_with}

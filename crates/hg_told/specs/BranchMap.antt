@@ -1,4 +1,4 @@
--- The branches with their heads, as they are told.
+-- The branches with their heads, as they are reported.
 use Rattle.std.specs.Prelude.{◌≡◌, ◌↔◌, ℕ, ◌==◌, Bool, ◌||◌, List, [], ◌∷◌, ◌++◌, map, All, Contains}
 use Rattle.std.specs.Prelude.{if◌then◌else◌}
 use Rattle.std.specs.Char.{is_ascii_alphanumeric}
@@ -58,7 +58,7 @@ pub record AreBranchHeads {A : Type 0} (rows : List Changeset) (markers : List (
   pub each : (r : ℕ) → Contains heads r ↔ IsBranchHead rows markers name r
   pub ascending : IsStrictlySortedBy nat_cmp heads
 
--- ---- how they are told
+-- ---- how they are reported
 
 -- a space and 40 lower-case digits
 abbrev pub head_word : List Changeset → ℕ → List ℕ

@@ -15,7 +15,7 @@ with_escapes [] = []
 with_escapes (line ∷ []) = line
 with_escapes (line ∷ next ∷ lines) = line ++ codes "%0A" ++ with_escapes (next ∷ lines)
 
--- the words that a client is told, with one space between
+-- the words that a client gets, with one space between
 abbrev pub capabilities_told : List ℕ
 capabilities_told = join_with_byte 32 (codes "batch" ∷ codes "branchmap"
     ∷ (codes "bundle2=" ++ with_escapes bundle_lines) ∷ codes "getbundle" ∷ codes "httpheader=1024"

@@ -1,4 +1,4 @@
--- What is told of heads, and of ids that a client asks for.
+-- What is reported of heads, and of ids that a client asks for.
 use Rattle.std.specs.Prelude.{◌≡◌, ℕ, ◌==◌, Bool, false, List, [], ◌∷◌, ◌++◌, map, Option, Some, None}
 use Rattle.std.specs.Prelude.{if◌then◌else◌}
 use Rattle.std.specs.List.{slice_split, join_with_byte}

@@ -1,4 +1,4 @@
--- What is told of the keys of a namespace: a line for each key, with a tab and its value.
+-- What is reported of the keys of a namespace: a line for each key, with a tab and its value.
 use Rattle.std.specs.Prelude.{ℕ, ◌==◌, Bool, false, true, not, ◌&&◌, ◌||◌, List, [], ◌∷◌, ◌++◌, length, map}
 use Rattle.std.specs.Prelude.{filter, codes, bytes_eq, if◌then◌else◌}
 use Rattle.std.specs.List.{join_with_byte, list_any, range_with_len}
@@ -50,7 +50,7 @@ publishing_lines publishing = if publishing then key_line (codes "publishing") (
 abbrev pub breaks_lines : ℕ → Bool
 breaks_lines b = b == 9 || b == 10 || b == 13
 
--- a bookmark is told unless it is on the null id, or its name would break the line
+-- a bookmark is reported unless it is on the null id, or its name would break the line
 abbrev pub is_told : List ℕ × Node → Bool
 is_told pair = not (is_null pair.1) && not (list_any breaks_lines pair.0)
 
@@ -58,7 +58,7 @@ is_told pair = not (is_null pair.1) && not (list_any breaks_lines pair.0)
 abbrev pub bookmark_line : List ℕ × Node → List ℕ
 bookmark_line pair = key_line pair.0 (encode_lower pair.1.0)
 
--- the bookmarks that are told, in ascending order of their names
+-- the bookmarks that are reported, in ascending order of their names
 abbrev pub bookmark_lines : Pairs → List (List ℕ)
 bookmark_lines pairs = map bookmark_line (filter is_told pairs)
 

@@ -1,4 +1,4 @@
--- What a key names: a changeset, or nothing, and what is told of it.
+-- What a key names: a changeset, or nothing, and what is printed of it.
 use Rattle.std.specs.Prelude.{ℕ, ◌==◌, nat_eq, Bool, ◌||◌, List, [], ◌∷◌, ◌++◌, length, map, filter}
 use Rattle.std.specs.Prelude.{Option, Some, None, codes, bytes_eq, if◌then◌else◌}
 use Rattle.std.specs.List.{starts_with}
@@ -50,17 +50,17 @@ named_by rows pairs key =
     else if bytes_eq key (codes "null") then Id (record { 0 = null_id })
     else id_or (known_of rows (node_in_hex key)) (id_or (node_of pairs key) (begun_by rows key))
 
--- a line feed in a key is told as a space
+-- a line feed in a key is reported as a space
 abbrev pub without_line_feed : ℕ → ℕ
 without_line_feed b = if b == 10 then 32 else b
 
--- the line that tells it: 1 and an id, or 0 and why there is none
+-- the line that says it: 1 and an id, or 0 and why there is none
 unfoldable pub lookup_line : List ℕ → Named → List ℕ
 lookup_line key (Id node) = codes "1 " ++ (encode_lower node.0 ++ 10 ∷ [])
 lookup_line key Ambiguous = codes "0 ambiguous identifier" ++ 10 ∷ []
 lookup_line key Unknown =
     codes "0 unknown revision '" ++ (map without_line_feed key ++ (codes "'" ++ 10 ∷ []))
 
--- what a client is told of a key
+-- what a client gets for a key
 unfoldable pub lookup_text : List Changeset → Pairs → List ℕ → List ℕ
 lookup_text rows pairs key = lookup_line key (named_by rows pairs key)

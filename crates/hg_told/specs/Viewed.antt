@@ -1,4 +1,4 @@
--- What is told of when the repository is out of reach.
+-- What is reported of when the repository is out of reach.
 use Rattle.std.specs.Prelude.{List}
 use Rattle.hg_log.specs.Changeset.{Changeset}
 use Rattle.hg_obs.specs.declared.marker.Marker.{Marker}

@@ -119,7 +119,7 @@ fn unescape<A: Allocator + Copy>(alloc: A, text: &[u8]) -> Result<Seq<u8, A>, No
     Ok(Seq::from_vec(bytes))
 }
 
-/// The first byte that a text stands for, and how many bytes tell it.
+/// The first byte that a text stands for, and how many bytes spell it.
 fn read_first(text: &[u8]) -> (u8, usize)
     requires { 0 < length text.now }
     ensures within { result.1 ≤ length text.now }

@@ -8,7 +8,7 @@ use hg_types::NoMemory;
 use std::alloc::Allocator;
 
 /// For each changeset, the sets that a proper descendant of it is in. A set is a bit of a number: up to 64
-/// sets are told at once, and the numbers that come in tell the sets of each changeset. It is one pass over
+/// sets are reported at once, and the numbers that come in report the sets of each changeset. It is one pass over
 /// the changesets.
 pub fn sets_behind<A: Allocator + Copy>(
     alloc: A,

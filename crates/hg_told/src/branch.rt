@@ -1,4 +1,4 @@
-//! The branch of a changeset, which its text tells.
+//! The branch of a changeset, which its text names.
 
 ghost use Rattle.std.specs.Prelude.{◌≡◌, ◌==◌, ◌<◌, ◌≤◌, ◌++◌, ◌∷◌, drop, false, length, nat_eq, IfNone};
 ghost use Rattle.std.specs.Prelude.{IfOk, IfSome, OnOk};
@@ -11,7 +11,7 @@ use crate::text::split_once;
 use hg_types::{NoMemory, Seq};
 use std::alloc::Allocator;
 
-/// The name of the branch that the text of a changeset tells. Lines end at line feeds, and the third has to
+/// The name of the branch that the text of a changeset names. Lines end at line feeds, and the third has to
 /// have its end. After its second space stand extras, parted by bytes 0, in which `\\`, `\n`, `\r` and `\0`
 /// stand for a backslash and for the bytes 10, 13 and 0. The last that begins with `branch:` gives the name;
 /// with none it is `default`. Any bytes are a text. It takes memory for the name alone.
@@ -23,7 +23,7 @@ pub fn branch_of<A: Allocator + Copy>(alloc: A, text: &[u8]) -> Result<Seq<u8, A
     Ok(Seq::from_vec(name))
 }
 
-/// Adds the name of the branch that a text tells.
+/// Adds the name of the branch that a text names.
 pub fn push_branch<A: Allocator>(name: &mut Vec<u8, A>, text: &[u8]) -> Result<(), NoMemory>
     ensures { OnOk result (name.new.items ≡ name.old.items ++ name_in text.now) }
 {
@@ -102,7 +102,7 @@ fn behind_key<'a>(extra: &'a [u8], key: &[u8]) -> Option<&'a [u8]>
     Some(rest)
 }
 
-/// The first byte that an extra stands for, and how many bytes tell it.
+/// The first byte that an extra stands for, and how many bytes spell it.
 fn read_extra(extra: &[u8]) -> (u8, usize)
     requires { 0 < length extra.now }
     ensures within { result.1 ≤ length extra.now }

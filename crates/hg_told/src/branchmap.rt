@@ -197,7 +197,7 @@ fn has_set(sets: u64, place: usize) -> bool
     sets >> place & 1 == 1
 }
 
-/// Adds the line of a branch, whose number is told.
+/// Adds the line of a branch, whose number is given.
 fn push_line<A: Allocator>(
     lines: &mut Vec<u8, A>,
     view: &View<A>,

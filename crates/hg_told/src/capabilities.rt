@@ -1,4 +1,4 @@
-//! What this server can do, as it tells a client first of all.
+//! What this server can do, as a client hears it first of all.
 
 ghost use Rattle.std.specs.Prelude.{◌≡◌};
 ghost use Rattle.hg_told.specs.Capabilities.{capabilities_told};

@@ -30,7 +30,7 @@ pub fn hidden_changesets<A: Allocator + Copy>(
     Ok(Seq::from_vec(hidden))
 }
 
-/// For each changeset a number, whose lowest bit tells whether it is not obsolete.
+/// For each changeset a number, whose lowest bit says whether it is not obsolete.
 pub fn kept_sets<A: Allocator + Copy>(
     alloc: A,
     log: &Changelog<A>,

@@ -1,4 +1,4 @@
-//! What a repository tells a client over HTTP: the texts that a Mercurial client asks a server for before and
+//! What a repository answers a client over HTTP: the texts that a Mercurial client asks a server for before and
 //! after a push, and the forms in which it asks.
 //!
 //! Each text is a function of values that are borrowed: nothing is changed, and the only refusal is a want of

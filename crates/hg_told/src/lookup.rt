@@ -32,7 +32,7 @@ pub enum Named {
 /// - a beginning of the lower-case digits of exactly one changeset. Of several it is
 ///   `ambiguous identifier`.
 ///
-/// Any other key, the empty one too, is told as `unknown revision 'KEY'`, its line feeds as spaces. Only a
+/// Any other key, the empty one too, is reported as `unknown revision 'KEY'`, its line feeds as spaces. Only a
 /// beginning costs a pass over the changesets.
 #[tactic(auto, unfolding(crate::specs::Lookup::lookup_text))]
 pub fn lookup_text<A: Allocator + Copy>(

@@ -1,4 +1,4 @@
-//! What is kept of a repository's changesets and markers, to tell of them when it is out of reach.
+//! What is kept of a repository's changesets and markers, to answer from when it is out of reach.
 
 ghost use Rattle.std.specs.Prelude.{◌≡◌, ◌<◌, ◌^◌, ℕ, length, slice_index, IfOk, IfSome, OnOk};
 ghost use Rattle.hg_log.specs.Parents.{parents_of};
@@ -30,7 +30,7 @@ pub struct Entry {
 pub struct View<A: Allocator = Global> {
     entries: Vec<Entry, A>,
     branches: Vec<Seq<u8, A>, A>,
-    /// Numbers whose lowest bit tells whether the changeset is not obsolete.
+    /// Numbers whose lowest bit says whether the changeset is not obsolete.
     kept: Vec<u64, A>,
     /// What it was made of, which takes no memory.
     made_of: Log<Changelog<A>, Markers<A>>,
@@ -49,7 +49,7 @@ impl<A: Allocator> Model for View<A> {
 }
 
 impl<A: Allocator + Copy> View<A> {
-    /// Keeps what is told of these changesets and markers. It is one pass over the changesets, which reads the
+    /// Keeps what is needed of these changesets and markers. It is one pass over the changesets, which reads the
     /// branch in the text of each and looks it up among the markers.
     pub fn of(alloc: A, log: &Changelog<A>, markers: &Markers<A>) -> Result<View<A>, NoMemory>
         ensures { IfOk result (λ view. view ≡ record { rows = log.now.rows; markers = markers.now }) }
@@ -105,7 +105,7 @@ impl<A: Allocator> View<A> {
         self.branches[rev as usize].as_slice()
     }
 
-    /// For each changeset a number, whose lowest bit tells whether it is not obsolete.
+    /// For each changeset a number, whose lowest bit says whether it is not obsolete.
     pub(crate) fn kept(&self) -> &[u64]
         ensures len { length result.now ≡ length self.now.rows }
         ensures each { (r : ℕ) → r < length self.now.rows

@@ -1,9 +1,10 @@
 //! Branches, hidden changesets and the branch map. The changesets and the branch map are those of Mercurial 6.3.
 
-use hg_log::{Added, Changelog, node_id};
+use hg_help_tests::changelog::put_text;
+use hg_log::Changelog;
 use hg_obs::{Marker, Markers};
 use hg_told::*;
-use hg_types::{Entry, Limits, NoMemory, Node, Seq};
+use hg_types::{Limits, NoMemory, Node, Seq};
 use linked_list_allocator::LocalHeap;
 use std::alloc::{Allocator, Global};
 use std::hash::RandomState;
@@ -185,39 +186,6 @@ const BRANCHES: &[u8] = b"a%3Bb%26c/d~e 70a5d81ecbe10d9b153929e68025e7d8a239a848
       x%2By%2541%3D 36fc5403fe22dfecf6c6143765d950c159253119\n\
       %C3%BC 86e2ba5d97ff7a840c25c6d106bcd258ea0676ab 5f97498b2b6357f8f2a45e1de6b10bb27899cf03";
 
-/// Adds a changeset, and gives its id.
-fn put<A: Allocator + Copy>(
-    alloc: A,
-    log: &mut Changelog<A>,
-    p1: Node,
-    p2: Node,
-    text: &[u8],
-) -> Option<Node> {
-    let node = node_id(&p1, &p2, text);
-    let Ok(len) = u32::try_from(text.len()) else {
-        return None
-    };
-    let Ok(mut delta) = Vec::from_slice(alloc, &[0, 0, 0, 0, 0, 0, 0, 0]) else {
-        return None
-    };
-    if delta.extend_from_slice(&len.to_be_bytes()).is_err()
-        || delta.extend_from_slice(text).is_err()
-    {
-        return None;
-    }
-    let entry = Entry {
-        node,
-        p1,
-        p2,
-        base: Node::NULL,
-        delta: Seq::from_vec(delta),
-    };
-    match log.add(&entry) {
-        Ok(Added::New(_)) => Some(node),
-        _ => None,
-    }
-}
-
 /// Makes a changeset obsolete, without a successor.
 fn prune<A: Allocator + Copy>(
     alloc: A,
@@ -251,7 +219,7 @@ fn put_all(alloc: Global, log: &mut Changelog, rows: &[Row]) -> Result<Vec<Node>
             .p2
             .and_then(|p| nodes.get(p).copied())
             .unwrap_or(Node::NULL);
-        nodes.push(put(alloc, log, p1, p2, row.text).ok_or("not added")?)?;
+        nodes.push(put_text(alloc, log, p1, p2, row.text).ok_or("not added")?)?;
     }
     Ok(nodes)
 }
@@ -347,7 +315,7 @@ fn a_hidden_chain(rt: HostRuntime) -> Result<(), Fail> {
     let mut markers = Markers::new(alloc, state);
     let mut parent = Node::NULL;
     for number in 0..70u8 {
-        parent = put(alloc, &mut log, parent, Node::NULL, &[number]).ok_or("not added")?;
+        parent = put_text(alloc, &mut log, parent, Node::NULL, &[number]).ok_or("not added")?;
         if number != 40 {
             prune(alloc, &mut markers, parent)?;
         }
@@ -386,7 +354,7 @@ fn more_branches_than_a_pass_tells(rt: HostRuntime) -> Result<(), Fail> {
         let branch = number % 130;
         let name = format!(in alloc; "b{branch:03}")?;
         let text = format!(in alloc; "m\nu\n0 0 branch:{name}\n{number}\n")?;
-        parent = put(
+        parent = put_text(
             alloc,
             &mut log,
             parent,
@@ -412,11 +380,13 @@ fn three_hundred_heads_of_a_branch(rt: HostRuntime) -> Result<(), Fail> {
     let state = RandomState::new(&rt)?;
     let mut log = Changelog::new(alloc, state, Limits::standard());
     let markers = Markers::new(alloc, state);
-    let root = put(alloc, &mut log, Node::NULL, Node::NULL, b"m\nu\n0 0\n").ok_or("not added")?;
+    let root = put_text(alloc, &mut log, Node::NULL, Node::NULL, b"m\nu\n0 0\n").ok_or(
+        "not added",
+    )?;
     let mut wanted = Vec::from_slice(alloc, b"default")?;
     for number in 0..300u16 {
         let text = format!(in alloc; "m\nu\n0 0\n{number}\n")?;
-        let node = put(alloc, &mut log, root, Node::NULL, text.as_str().as_bytes());
+        let node = put_text(alloc, &mut log, root, Node::NULL, text.as_str().as_bytes());
         let id = hex::encode(alloc, node.ok_or("not added")?.0.as_slice())?;
         wanted.push(b' ')?;
         wanted.extend_from_slice(id.as_str().as_bytes())?;
@@ -429,8 +399,8 @@ fn three_hundred_heads_of_a_branch(rt: HostRuntime) -> Result<(), Fail> {
 fn tell_branches<A: Allocator + Copy>(alloc: A, state: RandomState) -> Option<bool> {
     let mut log = Changelog::new(alloc, state, Limits::standard());
     let markers = Markers::new(alloc, state);
-    let root = put(alloc, &mut log, Node::NULL, Node::NULL, b"m\nu\n0 0\n")?;
-    let _child = put(alloc, &mut log, root, Node::NULL, b"m\nu\n0 0 branch:x\n")?;
+    let root = put_text(alloc, &mut log, Node::NULL, Node::NULL, b"m\nu\n0 0\n")?;
+    let _child = put_text(alloc, &mut log, root, Node::NULL, b"m\nu\n0 0 branch:x\n")?;
     let name = branch_of(alloc, log.text(0)).ok()?;
     let hidden = hidden_of(alloc, &log, &markers).ok()?;
     let text = map_of(alloc, &log, &markers).ok()?;

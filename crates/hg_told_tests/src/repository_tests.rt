@@ -2,12 +2,13 @@
 
 ghost use Rattle.std.specs.Prelude.{◌≤◌, length};
 
+use hg_help_tests::changelog::put;
 use hg_keys::Bookmarks;
-use hg_log::{Added, Changelog, node_id};
+use hg_log::Changelog;
 use hg_obs::Markers;
 use hg_phases::Phases;
 use hg_told::*;
-use hg_types::{Entry, Limits, NoMemory, Node, Phase, Seq};
+use hg_types::{Limits, NoMemory, Node, Phase, Seq};
 use linked_list_allocator::LocalHeap;
 use std::alloc::{Allocator, Global};
 use std::hash::RandomState;
@@ -35,33 +36,6 @@ const CAPABILITIES: &[u8] =
     b"batch branchmap bundle2=HG20%0Abookmarks%0Achangegroup%3D01%2C02%0Aerror%3Dabort%2C\
       unsupportedcontent%2Cpushraced%2Cpushkey%0Aobsmarkers%3DV0%0Aphases%3Dheads%0Apushkey \
       getbundle httpheader=1024 known lookup pushkey unbundle";
-
-/// Adds a changeset whose text is that number, and gives its id.
-fn put<A: Allocator + Copy>(
-    alloc: A,
-    log: &mut Changelog<A>,
-    p1: Node,
-    p2: Node,
-    number: u16,
-) -> Option<Node> {
-    let text = number.to_be_bytes();
-    let node = node_id(&p1, &p2, &text);
-    let delta = [0, 0, 0, 0, 0, 0, 0, 0, 0, 0, 0, 2, text[0], text[1]];
-    let Ok(delta) = Vec::from_slice(alloc, &delta) else {
-        return None
-    };
-    let entry = Entry {
-        node,
-        p1,
-        p2,
-        base: NULL,
-        delta: Seq::from_vec(delta),
-    };
-    match log.add(&entry) {
-        Ok(Added::New(_)) => Some(node),
-        _ => None,
-    }
-}
 
 fn is_text<A: Allocator>(told: Result<Seq<u8, A>, NoMemory>, wanted: &[u8]) -> bool {
     told.is_ok_and(|text| text.as_slice() == wanted)

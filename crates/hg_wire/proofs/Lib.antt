@@ -1,5 +1,6 @@
 mod OneBundle
 mod Served
 mod Wires
-mod Following
+mod Pieces
 mod Looked
+mod Later

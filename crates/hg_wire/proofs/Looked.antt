@@ -1,18 +1,19 @@
 -- What a look tells, as an answer.
 use Rattle.std.proofs.Common.{◌≡◌, ℕ, List, Result, Ok, Err, subst, inl, inr}
 use Rattle.std.specs.Prelude.{IfOk, MatchResult}
-use Rattle.hg_types.specs.declared.item.Taken.{Taken}
 use Rattle.hg_parts.specs.Repository.{Repository}
 use Rattle.hg_push.specs.Run.{RepositoryOf}
 use Rattle.hg_http.specs.declared.answer.Answer.{Answer}
 use Rattle.hg_http.specs.declared.answer.Answer.TheVariants.{Refused, Told}
 use Rattle.hg_http.specs.declared.answer.Refusal.TheVariants.{NoMemory}
+use Rattle.hg_ledger.specs.Clients.{KeptSeen}
 use Rattle.hg_wire.specs.Answering.{IsToldAt, LacksMemory, OrLacks}
 use Rattle.hg_wire.specs.Looking.{LooksKept}
+use Rattle.hg_wire.proofs.Later.{looked_later}
 
 -- what a look tells is told in an answer, in other words
-pub told_so : {A : Type 0} (first : RepositoryOf A) (kept : List (Taken A) → ℕ → Type 0)
-    (before after : List (Taken A)) (Tells : Repository A → Type 0) (IsText : Repository A → List ℕ → Type 0)
+pub told_so : {A : Type 0} (first : RepositoryOf A) (kept : KeptSeen A → ℕ → Type 0)
+    (before after : KeptSeen A) (Tells : Repository A → Type 0) (IsText : Repository A → List ℕ → Type 0)
     (answer : Answer A) (text : List ℕ) → LooksKept first kept before after Tells
     → ((repo : Repository A) → Tells repo → IsText repo text) → answer ≡ Told text
     → IsToldAt first kept IsText before answer after
@@ -21,6 +22,7 @@ told_so first kept before after Tells IsText answer text look so is = record {
   looks = record {
     repo = look.repo;
     looks = look.looks;
+    grows = look.grows;
     is_kept = look.is_kept;
     told = so look.repo look.told;
   };
@@ -28,14 +30,14 @@ told_so first kept before after Tells IsText answer text look so is = record {
 }
 
 -- a look found no memory
-pub look_lacks : {A : Type 0} (first : RepositoryOf A) (kept : List (Taken A) → ℕ → Type 0)
-    (before after : List (Taken A)) (Tells : Repository A → Type 0) (answer : Answer A)
+pub look_lacks : {A : Type 0} (first : RepositoryOf A) (kept : KeptSeen A → ℕ → Type 0)
+    (before after : KeptSeen A) (Tells : Repository A → Type 0) (answer : Answer A)
     → LooksKept first kept before after Tells → answer ≡ Refused NoMemory → LacksMemory before answer after
-look_lacks first kept before after Tells answer look is = record { refused = is; earlier = look.looks.earlier }
+look_lacks first kept before after Tells answer look is = record { refused = is; earlier = looked_later first kept before after Tells look }
 
 -- what is told by a look is told in an answer, or memory was refused
-pub told_or_lacks : {A E : Type 0} (first : RepositoryOf A) (kept : List (Taken A) → ℕ → Type 0)
-    (before after : List (Taken A)) (Tells : Repository A → Type 0) (IsText : Repository A → List ℕ → Type 0)
+pub told_or_lacks : {A E : Type 0} (first : RepositoryOf A) (kept : KeptSeen A → ℕ → Type 0)
+    (before after : KeptSeen A) (Tells : Repository A → Type 0) (IsText : Repository A → List ℕ → Type 0)
     (text : Result (List ℕ) E) (answer : Answer A) → LooksKept first kept before after Tells
     → ((repo : Repository A) → Tells repo → IfOk text (λ t. IsText repo t))
     → MatchResult text (λ t. answer ≡ Told t) (λ _. answer ≡ Refused NoMemory)

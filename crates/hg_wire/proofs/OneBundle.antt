@@ -2,7 +2,6 @@
 use Rattle.std.proofs.Common.{◌≡◌, ◌≢◌, ℕ, List, [], ◌∷◌, ◌++◌, Option, Some, None}
 use Rattle.std.proofs.Common.{sym, ap, subst, ◌∙◌, append-nil, append_assoc, map, drop}
 use Rattle.std.specs.Prelude.{⊤, IfSome, Result, Ok, Err}
-use mathlib.Core.List.{IsPrefix}
 use Rattle.hg_types.specs.declared.item.Taken.{Taken}
 use Rattle.hg_types.specs.declared.limits.Limits.{Limits}
 use Rattle.hg_push.specs.Reply.{reply_of}
@@ -11,11 +10,11 @@ use Rattle.hg_devices.specs.Devices.{Output, ReadAnswer, Gave, Failed, WriteAnsw
 use Rattle.hg_devices.specs.Sent.{IsSent}
 use Rattle.hg_devices.specs.declared.sending.Sending.{Sending}
 use Rattle.hg_devices.specs.declared.sending.Sending.TheVariants.{Whole as sent_whole}
-use Rattle.hg_receiving.specs.declared.ending.Ending.{Ending}
-use Rattle.hg_receiving.specs.declared.ending.Ending.TheVariants.{InputEnded, ReadFailed}
-use Rattle.hg_receiving.specs.Receiving.{IsReceived, last_read, Ran, Stops}
+use Rattle.hg_receiving.specs.declared.ending.BundleEnd.{BundleEnd}
+use Rattle.hg_receiving.specs.declared.ending.BundleEnd.TheVariants.{InputEnded, ReadFailed}
+use Rattle.hg_receiving.specs.Receiving.{IsReceived, last_read, Ran, StopsBundle}
 use Rattle.hg_store.specs.declared.head.Head.{Head}
-use Rattle.hg_ledger.specs.Records.{AreKept}
+use Rattle.hg_ledger.specs.Clients.{IsCovered, IsLater, KeptSeen}
 use Rattle.hg_kept.specs.Kept.{KeptExchange, Replies, ServesKept, TellsOfKept}
 use Rattle.hg_kept.specs.declared.served.Replied.{Replied}
 use Rattle.hg_kept.specs.declared.served.Replied.TheVariants.{Sent, NotStored}
@@ -39,7 +38,7 @@ back_gave [] ys h = h
 back_gave (Gave bytes ∷ xs) ys h = back_gave xs ys h
 back_gave (Failed ∷ xs) ys h = absurd h
 
-none_failed : (pieces : List (List ℕ)) (ending : Ending) → AllGave (map Gave pieces ++ last_read ending) →
+none_failed : (pieces : List (List ℕ)) (ending : BundleEnd) → AllGave (map Gave pieces ++ last_read ending) →
     ending ≢ ReadFailed
 none_failed pieces ending h is =
     subst (λ e. AllGave (last_read e)) is (back_gave (map Gave pieces) (last_read ending) h)
@@ -53,35 +52,43 @@ sent_all gone uses reply s = s.reply_is ∙ (ap (λ l. gone ++ l) s.ends.0 ∙ a
 abbrev has : List ℕ → Output
 has bytes = record { taken = Some bytes; uses = None }
 
+-- a client is what it has seen and what its receipt counts
+pub same_client : {A : Type 0} (history : List (Taken A)) (receipt : ℕ) (client : KeptSeen A) →
+    history ≡ client.history → receipt ≡ client.receipt →
+    record { history = history; receipt = receipt } ≡ client
+same_client {A} history receipt client h r =
+    ap (λ (x : List (Taken A)). record { history = x; receipt = receipt }) h
+    ∙ ap (λ (n : ℕ). record { history = client.history; receipt = n }) r
+
 -- one bundle, told of where it began
 module _ {A D : Type 0} (seen : D → List ℕ) (may_leave : D → List ℕ → Type 0) (head : Head)
     (stored : List (List ℕ)) (limits : Limits) (capacity : ℕ) (first : RepositoryOf A) (x : KeptExchange A)
     (waiting : List ℕ) (left : BodyView) (reply : List ℕ)
   where
-    abbrev Serves : List ℕ → BodyView → List ℕ → List (Taken A) → Type 0
+    abbrev Serves : List ℕ → BodyView → List ℕ → KeptSeen A → Type 0
     Serves waited start out before = ServesKept seen may_leave head stored limits capacity first waited waiting
         (told_of start) (told_of left) (has out) (has reply) before x
 
     pub begun : (waited waited_at : List ℕ) (start start_at : BodyView) (out out_at : List ℕ)
-        (before before_at : List (Taken A)) → waited ≡ waited_at → start ≡ start_at → out ≡ out_at →
+        (before before_at : KeptSeen A) → waited ≡ waited_at → start ≡ start_at → out ≡ out_at →
         before ≡ before_at → Serves waited start out before → Serves waited_at start_at out_at before_at
     begun waited waited_at start start_at out out_at before before_at w s o b v =
-        subst (λ (it : List (Taken A)). Serves waited_at start_at out_at it) b
+        subst (λ (it : KeptSeen A). Serves waited_at start_at out_at it) b
         (subst (λ (it : List ℕ). Serves waited_at start_at it before) o
         (subst (λ (it : BodyView). Serves waited_at it out before) s
         (subst (λ (it : List ℕ). Serves it start out before) w v)))
 
 module _ {A D : Type 0} (seen : D → List ℕ) (may_leave : D → List ℕ → Type 0) (head : Head)
     (stored : List (List ℕ)) (limits : Limits) (capacity : ℕ) (first : RepositoryOf A)
-    (before after : List (Taken A)) (body waiting : List ℕ) (left : BodyView) (reply : List ℕ)
+    (before after : KeptSeen A) (body waiting : List ℕ) (left : BodyView) (reply : List ℕ)
     (x : KeptExchange A)
     (v : ServesKept seen may_leave head stored limits capacity first [] waiting
     (told_of (record { bytes = body; at = 0; reads = [] })) (told_of left)
     (record { taken = Some []; uses = None }) (record { taken = Some reply; uses = None }) before x)
     (same : limits ≡ first.settings.limits)
   where
-    abbrev kept : List (Taken A) → ℕ → Type 0
-    kept h count = AreKept seen may_leave head stored first h count
+    abbrev kept : KeptSeen A → ℕ → Type 0
+    kept h count = IsCovered seen may_leave head stored first h count
 
     abbrev rest : List ℕ
     rest = drop left.at left.bytes
@@ -89,7 +96,7 @@ module _ {A D : Type 0} (seen : D → List ℕ) (may_leave : D → List ℕ → 
     -- what the end of the input broke took all of the body
     took_all : x.ending ≡ InputEnded → x.rest ++ rest ≡ []
     took_all ended =
-        let none : x.rest ≡ [] = subst (λ e. Stops A e limits [] v.is.received.pieces x.consumed x.rest) ended
+        let none : x.rest ≡ [] = subst (λ e. StopsBundle A e limits [] v.is.received.pieces x.consumed x.rest) ended
         v.is.received.stops in
         let at_end : rest ≡ [] = subst (λ e. Ran e (told_of left)) ended v.ran in
         ap (λ l. l ++ rest) none ∙ at_end
@@ -99,6 +106,7 @@ module _ {A D : Type 0} (seen : D → List ℕ) (may_leave : D → List ℕ → 
       received = subst (λ l. IsReceived l [] x.reads x.ending x.parts x.consumed x.rest) same v.is.received;
       fresh = v.is.fresh;
       answers = v.is.answers;
+      grows = v.is.grows;
       rests_on = v.is.rests_on;
       recorded = v.is.recorded;
       is_kept = are_kept;
@@ -122,7 +130,8 @@ module _ {A D : Type 0} (seen : D → List ℕ) (may_leave : D → List ℕ → 
         (told : Result (Option (Told A)) E) → TellsRound how reply replied told →
         Pushed capacity first kept before body told after
     tells how NotStored is then replies (Ok told) t = absurd t
-    tells how NotStored is then replies (Err e) t = subst (λ h. IsPrefix before h) then v.is.answers.earlier
+    tells how NotStored is then replies (Err e) t =
+        subst (λ h. IsLater before h) then (record { seen = v.is.answers.earlier; grows = v.is.grows })
     tells how (Sent sending) is then replies (Err e) t = absurd t
     tells how (Sent sending) is then replies (Ok None) t = absurd t
     tells how (Sent sending) is then replies (Ok (Some told)) t = (
@@ -134,7 +143,7 @@ module _ {A D : Type 0} (seen : D → List ℕ) (may_leave : D → List ℕ → 
           (told_reply x.how sending replies.1 told.reply t.1),
     )
 
-    pub pushed : {E : Type 0} (ending : Ending) (how : How A) (takes rests written : ℕ) (replied : Replied) →
+    pub pushed : {E : Type 0} (ending : BundleEnd) (how : How A) (takes rests written : ℕ) (replied : Replied) →
         TellsOfKept x ending how takes rests replied written after →
         (told : Result (Option (Told A)) E) → TellsRound how reply replied told →
         Pushed capacity first kept before body told after

@@ -18,8 +18,9 @@ use Rattle.http_server.proofs.KnownLemmas.{Appends-then, Consumes-then}
 use Rattle.http_server.proofs.StreamLemmas.{Chain-append}
 use Rattle.http_server.proofs.Theorems.{never_stalls}
 use Rattle.hg_wire.specs.Serving.{calls_of, Converses, Ends, IsRefused, IsTold, no_room_text, read_of, Refused, sent_of}
-use Rattle.hg_wire.specs.code.Following.{FollowsAt, IsHeld, Passes}
-use Rattle.hg_wire.specs.declared.follow.Follower.{Follower}
+use Rattle.hg_follow.specs.declared.follow.Follower.{Follower}
+use Rattle.hg_follow.specs.Following.{FollowsAt, KeepsUp, limits_of}
+use Rattle.hg_wire.specs.code.Following.{IsHeld, Passes}
 use Rattle.hg_wire.specs.declared.serve.Finish.{Finish}
 use Rattle.hg_wire.specs.declared.serve.Finish.TheVariants.{NotStored}
 
@@ -215,7 +216,7 @@ pub is_open_still : (config : Config) (h : History) → Rests config h → h.pen
 is_open_still config h rests none more = open_by config h none more (never_stalls config h rests)
 
 pub is_held : (config : Config) (h : History) (f : Follower) → Rests config h → h.pending ≡ [] → (IsDone h → ⊥) →
-    f.limits ≡ config.limits → (f.is_lost ≡ false → (count : ℕ) × FollowsAt f h.received count) →
+    limits_of f ≡ config.limits → (KeepsUp f → (count : ℕ) × FollowsAt f h.received count) →
     IsHeld config h f
 is_held config h f rests none more limits follows =
     let still = is_open_still config h rests none more in

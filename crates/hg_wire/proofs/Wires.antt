@@ -1,57 +1,56 @@
 -- A wire whose client was answered.
-use Rattle.std.proofs.Common.{◌≡◌, ℕ, Bool, false, List, [], ◌∷◌, ◌++◌, Option, Some, append-nil, refl, sym, ap, subst, ◌∙◌}
+use Rattle.std.proofs.Common.{◌≡◌, ℕ, Bool, false, List, [], ◌∷◌, ◌++◌, Option, Some, refl, sym, ap, subst, ◌∙◌}
 use Rattle.std.specs.Option.{IsSome}
-use mathlib.Core.List.{IsPrefix}
 use Rattle.http.specs.declared.request.Request.{Request}
 use Rattle.http_server.specs.declared.response.Response.{Response}
-use Rattle.hg_types.specs.declared.item.Taken.{Taken}
 use Rattle.hg_parts.specs.Repository.{Repository}
 use Rattle.hg_push.specs.Run.{RepositoryOf}
+use Rattle.hg_ledger.specs.Clients.{IsLater, KeptSeen}
 use Rattle.hg_http.specs.declared.answer.Answer.{Answer}
 use Rattle.hg_http.specs.Tellings.{Tells}
-use Rattle.hg_wire.specs.Answering.{around_of, Answers, Responds, WireView}
+use Rattle.hg_wire.specs.Answering.{around_of, AnswersRequest, Responds, WireView}
 use Rattle.hg_wire.specs.code.Wires.{seen_by, told_last}
 use Rattle.hg_wire.specs.declared.terms.Terms.{Terms}
-
--- a list begins itself
-begins_itself : {X : Type 0} (xs : List X) → IsPrefix xs xs
-begins_itself xs = ([], append-nil xs)
+use Rattle.hg_wire.proofs.Later.{answered_later, is_as_late}
 
 -- what is noted in an empty log is what was told last
-pub last_noted : {A : Type 0} (empty items : List (List (Taken A) × ℕ)) (client : List (Taken A)) (number : ℕ) →
+pub last_noted : {A : Type 0} (empty items : List (KeptSeen A × ℕ)) (client : KeptSeen A) (number : ℕ) →
     empty ≡ [] → items ≡ empty ++ (client, number) ∷ [] → told_last items ≡ client
 last_noted empty items client number none noted =
     ap told_last (noted ∙ ap (λ l. l ++ (client, number) ∷ []) none)
 
 -- what its client has seen was told
-pub told_all : {A : Type 0} (place : Option (List (Taken A))) (told client : List (Taken A)) (failed : Bool) →
+pub told_all : {A : Type 0} (place : Option (KeptSeen A)) (told client : KeptSeen A) (failed : Bool) →
     place ≡ Some client → told ≡ client →
-    IsSome place × IsPrefix told (seen_by place) × (failed ≡ false → seen_by place ≡ told)
+    IsSome place × IsLater told (seen_by place) × (failed ≡ false → seen_by place ≡ told)
 told_all place told client failed is same =
     let seen : seen_by place ≡ told = ap seen_by is ∙ sym same in (
       subst IsSome (sym is) refl,
-      subst (λ s. IsPrefix told s) (sym seen) (begins_itself told),
+      subst (λ s. IsLater told s) (sym seen) (is_as_late told),
       λ _. seen,
     )
 
-module _ {A S : Type 0} (capacity : ℕ) (first : RepositoryOf A) (kept : List (Taken A) → ℕ → Type 0)
+module _ {A S : Type 0} (capacity : ℕ) (first : RepositoryOf A) (kept : KeptSeen A → ℕ → Type 0)
     (page metrics : S → Repository A → List ℕ → Type 0)
   where
     -- the answer to a request tells on from what was told last
     pub responds : (old new : WireView A S) (request : Request (List ℕ)) (response : Response)
-        (answer : Answer A) (terms : Terms S) (told client after seen : List (Taken A)) →
+        (answer : Answer A) (terms : Terms S) (told client after seen : KeptSeen A) →
         record { told = told; terms = terms } ≡ old → new ≡ record { told = seen; terms = terms } →
         client ≡ told → seen ≡ after →
-        Answers capacity first (around_of kept page metrics terms) request client answer after →
+        AnswersRequest capacity first (around_of kept page metrics terms) request client answer after →
         Tells answer response → Responds capacity first kept page metrics old request response new
     responds old new request response answer terms told client after seen was is same last answers tells =
         subst (λ (o : WireView A S). Responds capacity first kept page metrics o request response new) was
         (subst (λ (n : WireView A S). Responds capacity first kept page metrics
         (record { told = told; terms = terms }) request response n) (sym is) (record {
           answer = answer;
-          answers = subst (λ c. Answers capacity first (around_of kept page metrics terms) request c answer seen)
-              same (subst (λ s. Answers capacity first (around_of kept page metrics terms) request client answer s)
+          answers = subst (λ c. AnswersRequest capacity first (around_of kept page metrics terms) request c answer seen)
+              same (subst (λ s. AnswersRequest capacity first (around_of kept page metrics terms) request client answer s)
               (sym last) answers);
+          later = subst (λ c. IsLater c seen) same (subst (λ s. IsLater client s) (sym last)
+              (answered_later capacity first (around_of kept page metrics terms) client answer after request
+              answers));
           tells = tells;
           same = refl;
         }))

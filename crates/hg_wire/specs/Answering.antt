@@ -1,15 +1,14 @@
 -- What each request is answered.
 use Rattle.std.specs.Prelude.{ℕ, ◌≡◌, ◌⊎◌, ◌+◌, Bool, true, false, List, Option, Some, None, codes, bytes_eq}
 use Rattle.std.specs.Option.{option_copied}
-use mathlib.Core.List.{IsPrefix}
 use Rattle.http.specs.declared.request.Request.{Request}
 use Rattle.http.specs.Request.{body_of}
 use Rattle.http_server.specs.declared.response.Response.{Response}
-use Rattle.hg_types.specs.declared.item.Taken.{Taken}
 use Rattle.hg_stream.specs.Written.{bundle_bytes}
 use Rattle.hg_parts.specs.Repository.{Repository}
 use Rattle.hg_push.specs.Reply.{reply_of}
 use Rattle.hg_push.specs.Run.{RepositoryOf}
+use Rattle.hg_ledger.specs.Clients.{IsLater, KeptSeen}
 use Rattle.hg_ledger.specs.Records.{done_in}
 use Rattle.hg_wire.specs.Looking.{LooksKept}
 use Rattle.hg_told.specs.declared.batch.Command.{Command as Asked}
@@ -42,12 +41,12 @@ use Rattle.hg_wire.specs.declared.terms.Terms.{Terms}
 pub record Around (A : Type 0) : Type 1 where
   pub page : Repository A → List ℕ → Type 0
   pub metrics : Repository A → List ℕ → Type 0
-  pub kept : List (Taken A) → ℕ → Type 0
+  pub kept : KeptSeen A → ℕ → Type 0
   pub stored : ℕ
   pub pull : Option (List ℕ)
 
 -- what answers say beside the repository, on these terms
-abbrev pub around_of : {A S : Type 0} → (List (Taken A) → ℕ → Type 0) → (S → Repository A → List ℕ → Type 0) →
+abbrev pub around_of : {A S : Type 0} → (KeptSeen A → ℕ → Type 0) → (S → Repository A → List ℕ → Type 0) →
     (S → Repository A → List ℕ → Type 0) → Terms S → Around A
 around_of kept page metrics terms = record {
   page = page terms.shown.now;
@@ -58,80 +57,80 @@ around_of kept page metrics terms = record {
 }
 
 -- nothing changed, and this is the answer
-abbrev pub IsSaid : {A : Type 0} → Answer A → List (Taken A) → Answer A → List (Taken A) → Type 0
+abbrev pub IsSaid : {A : Type 0} → Answer A → KeptSeen A → Answer A → KeptSeen A → Type 0
 IsSaid said before answer after = (answer ≡ said) × (after ≡ before)
 
 -- Memory was refused before anything changed. The client may have seen more than before.
-pub record LacksMemory {A : Type 0} (before : List (Taken A)) (answer : Answer A)
-    (after : List (Taken A)) : Type 0 where
+pub record LacksMemory {A : Type 0} (before : KeptSeen A) (answer : Answer A)
+    (after : KeptSeen A) : Type 0 where
   pub refused : answer ≡ Refused NoMemory
-  pub earlier : IsPrefix before after
+  pub earlier : IsLater before after
 
 -- it is answered so, or memory was refused before anything changed
-abbrev pub OrLacks : {A : Type 0} → (List (Taken A) → Answer A → List (Taken A) → Type 0) → List (Taken A) →
-    Answer A → List (Taken A) → Type 0
+abbrev pub OrLacks : {A : Type 0} → (KeptSeen A → Answer A → KeptSeen A → Type 0) → KeptSeen A →
+    Answer A → KeptSeen A → Type 0
 OrLacks Says before answer after = Says before answer after ⊎ LacksMemory before answer after
 
--- The answer is a text that is so told of the repository at one point of the serial order, and not before
--- what the client was told; all pushes that were done by then were on the device.
-pub record IsSaidAt {A : Type 0} (first : RepositoryOf A) (kept : List (Taken A) → ℕ → Type 0)
-    (says : List ℕ → Answer A) (IsText : Repository A → List ℕ → Type 0) (before : List (Taken A))
-    (answer : Answer A) (after : List (Taken A)) : Type 0 where
+-- The answer is a text that the repository gives so at one point of the serial order, and not before
+-- what the client was answered; all pushes that were done by then were on the device.
+pub record IsSaidAt {A : Type 0} (first : RepositoryOf A) (kept : KeptSeen A → ℕ → Type 0)
+    (says : List ℕ → Answer A) (IsText : Repository A → List ℕ → Type 0) (before : KeptSeen A)
+    (answer : Answer A) (after : KeptSeen A) : Type 0 where
   pub text : List ℕ
   pub looks : LooksKept first kept before after (λ repo. IsText repo text)
   pub answer_is : answer ≡ says text
 
-abbrev pub IsToldAt : {A : Type 0} → RepositoryOf A → (List (Taken A) → ℕ → Type 0) →
-    (Repository A → List ℕ → Type 0) → List (Taken A) → Answer A → List (Taken A) → Type 0
+abbrev pub IsToldAt : {A : Type 0} → RepositoryOf A → (KeptSeen A → ℕ → Type 0) →
+    (Repository A → List ℕ → Type 0) → KeptSeen A → Answer A → KeptSeen A → Type 0
 IsToldAt first kept IsText before answer after = IsSaidAt first kept Told IsText before answer after
 
--- a batch that is not refused is told of one repository
-abbrev pub AnswersBatch : {A : Type 0} → RepositoryOf A → (List (Taken A) → ℕ → Type 0) → List (Asked A) →
-    Option Refusal → List (Taken A) → Answer A → List (Taken A) → Type 0
+-- a batch that is not refused is answered from one repository
+abbrev pub AnswersBatch : {A : Type 0} → RepositoryOf A → (KeptSeen A → ℕ → Type 0) → List (Asked A) →
+    Option Refusal → KeptSeen A → Answer A → KeptSeen A → Type 0
 AnswersBatch first kept commands (Some why) before answer after = IsSaid (Refused why) before answer after
 AnswersBatch first kept commands None before answer after =
     IsToldAt first kept (λ repo text. IsBatchText repo commands text) before answer after
 
 -- a push of the body, where its heads are forced: `force` in hexadecimal digits
-abbrev pub AnswersForced : {A : Type 0} → ℕ → RepositoryOf A → (List (Taken A) → ℕ → Type 0) → List ℕ → Bool →
-    List (Taken A) → Answer A → List (Taken A) → Type 0
+abbrev pub AnswersForced : {A : Type 0} → ℕ → RepositoryOf A → (KeptSeen A → ℕ → Type 0) → List ℕ → Bool →
+    KeptSeen A → Answer A → KeptSeen A → Type 0
 AnswersForced capacity first kept body false before answer after =
     IsSaid (Refused NotForced) before answer after
 AnswersForced capacity first kept body true before answer after =
     IsPushAnswered capacity first kept body reply_of before answer after
 
 -- a push that sets the key
-abbrev pub AnswersFitting : {A : Type 0} → ℕ → RepositoryOf A → (List (Taken A) → ℕ → Type 0) → List ℕ →
-    List ℕ → List ℕ → List ℕ → List (Taken A) → Answer A → List (Taken A) → Type 0
+abbrev pub AnswersFitting : {A : Type 0} → ℕ → RepositoryOf A → (KeptSeen A → ℕ → Type 0) → List ℕ →
+    List ℕ → List ℕ → List ℕ → KeptSeen A → Answer A → KeptSeen A → Type 0
 AnswersFitting {A} capacity first kept namespace key old new before answer after =
     IsPushAnswered capacity first kept (bundle_bytes (key_parts {A = A} namespace key old new)) key_line before
     answer after
 
 -- the same where a part can hold the values; else it is not set
-abbrev pub AnswersKey : {A : Type 0} → ℕ → RepositoryOf A → (List (Taken A) → ℕ → Type 0) → List ℕ → List ℕ →
-    List ℕ → List ℕ → Bool → List (Taken A) → Answer A → List (Taken A) → Type 0
+abbrev pub AnswersKey : {A : Type 0} → ℕ → RepositoryOf A → (KeptSeen A → ℕ → Type 0) → List ℕ → List ℕ →
+    List ℕ → List ℕ → Bool → KeptSeen A → Answer A → KeptSeen A → Type 0
 AnswersKey capacity first kept namespace key old new false before answer after =
     IsSaid (Told (set_line false)) before answer after
 AnswersKey capacity first kept namespace key old new true before answer after =
     AnswersFitting capacity first kept namespace key old new before answer after
 
 -- a change of a key is answered by a push, where its values fit; else as not set
-abbrev pub AnswersChange : {A : Type 0} → ℕ → RepositoryOf A → (List (Taken A) → ℕ → Type 0) → List ℕ →
-    List ℕ → List ℕ → List ℕ → List (Taken A) → Answer A → List (Taken A) → Type 0
+abbrev pub AnswersChange : {A : Type 0} → ℕ → RepositoryOf A → (KeptSeen A → ℕ → Type 0) → List ℕ →
+    List ℕ → List ℕ → List ℕ → KeptSeen A → Answer A → KeptSeen A → Type 0
 AnswersChange capacity first kept namespace key old new before answer after =
     AnswersKey capacity first kept namespace key old new (fits namespace key old new) before answer after
 
 -- the change that the arguments ask for
-abbrev pub AnswersPushKey : {A : Type 0} → ℕ → RepositoryOf A → (List (Taken A) → ℕ → Type 0) →
-    List (Field A) → List (Taken A) → Answer A → List (Taken A) → Type 0
+abbrev pub AnswersPushKey : {A : Type 0} → ℕ → RepositoryOf A → (KeptSeen A → ℕ → Type 0) →
+    List (Field A) → KeptSeen A → Answer A → KeptSeen A → Type 0
 AnswersPushKey capacity first kept fields before answer after =
     AnswersChange capacity first kept (argument_in fields (codes "namespace"))
     (argument_in fields (codes "key")) (argument_in fields (codes "old")) (argument_in fields (codes "new"))
     before answer after
 
 -- what no page in a browser sent is answered so; what one could have sent is forbidden
-abbrev pub IfFromClient : {A : Type 0} → Bool → (List (Taken A) → Answer A → List (Taken A) → Type 0) →
-    List (Taken A) → Answer A → List (Taken A) → Type 0
+abbrev pub IfFromClient : {A : Type 0} → Bool → (KeptSeen A → Answer A → KeptSeen A → Type 0) →
+    KeptSeen A → Answer A → KeptSeen A → Type 0
 IfFromClient false Answers before answer after = IsSaid Forbidden before answer after
 IfFromClient true Answers before answer after = Answers before answer after
 
@@ -141,9 +140,9 @@ pull_answer None r = Refused PushesAlone
 pull_answer (Some address) r = Moved (moved_to address r)
 
 -- the answer to a command with these arguments, and what its client has seen then
-abbrev pub AnswersCommand : {A : Type 0} → ℕ → RepositoryOf A → (List (Taken A) → ℕ → Type 0) →
-    Option (List ℕ) → Command → List (Field A) → Request (List ℕ) → List (Taken A) → Answer A →
-    List (Taken A) → Type 0
+abbrev pub AnswersCommand : {A : Type 0} → ℕ → RepositoryOf A → (KeptSeen A → ℕ → Type 0) →
+    Option (List ℕ) → Command → List (Field A) → Request (List ℕ) → KeptSeen A → Answer A →
+    KeptSeen A → Type 0
 AnswersCommand capacity first kept pull Capabilities fields r before answer after =
     IsSaid (Told capabilities_told) before answer after
 AnswersCommand capacity first kept pull GetBundle fields r before answer after =
@@ -162,16 +161,16 @@ AnswersCommand capacity first kept pull PushKey fields r before answer after =
 
 -- The answer without a command: a view, of the repository at one point of the serial order. A report names so
 -- many pushes as the store had, and those that were done here.
-abbrev pub AnswersView : {A : Type 0} → RepositoryOf A → Around A → Option View → List (Taken A) → Answer A →
-    List (Taken A) → Type 0
+abbrev pub AnswersView : {A : Type 0} → RepositoryOf A → Around A → Option View → KeptSeen A → Answer A →
+    KeptSeen A → Type 0
 AnswersView first around None before answer after = IsSaid NotFound before answer after
 AnswersView first around (Some view) before answer after =
     IsSaidAt first around.kept
-    (λ text. Shown view (finished view (around.stored + done_in first after) text))
+    (λ text. Shown view (finished view (around.stored + done_in first after.history) text))
     (IsViewed around.page around.metrics view) before answer after
 
 abbrev pub AnswersAsked : {A : Type 0} → ℕ → RepositoryOf A → Around A → Option Command → List (Field A) →
-    Request (List ℕ) → List (Taken A) → Answer A → List (Taken A) → Type 0
+    Request (List ℕ) → KeptSeen A → Answer A → KeptSeen A → Type 0
 AnswersAsked capacity first around None fields r before answer after =
     AnswersView first around (view_of r) before answer after
 AnswersAsked capacity first around (Some command) fields r before answer after =
@@ -179,23 +178,24 @@ AnswersAsked capacity first around (Some command) fields r before answer after =
 
 -- The answer to a request: that to its command with its arguments, or memory was refused before anything
 -- changed.
-abbrev pub Answers : {A : Type 0} → ℕ → RepositoryOf A → Around A → Request (List ℕ) → List (Taken A) →
-    Answer A → List (Taken A) → Type 0
-Answers {A} capacity first around r before answer after =
+abbrev pub AnswersRequest : {A : Type 0} → ℕ → RepositoryOf A → Around A → Request (List ℕ) → KeptSeen A →
+    Answer A → KeptSeen A → Type 0
+AnswersRequest {A} capacity first around r before answer after =
     OrLacks (AnswersAsked capacity first around (command_of (name_of A r)) (arguments_of r) r) before answer
     after
 
 -- what contracts see of a connection's service: what its client had seen when the last request was answered, and
 -- the terms
 pub record WireView (A S : Type 0) : Type 0 where
-  pub told : List (Taken A)
+  pub told : KeptSeen A
   pub terms : Terms S
 
--- the response tells the answer
+-- The response reports the answer. Its client has seen no less than before, and its receipt counts no less.
 pub record Responds {A S : Type 0} (capacity : ℕ) (first : RepositoryOf A)
-    (kept : List (Taken A) → ℕ → Type 0) (page metrics : S → Repository A → List ℕ → Type 0)
+    (kept : KeptSeen A → ℕ → Type 0) (page metrics : S → Repository A → List ℕ → Type 0)
     (old : WireView A S) (r : Request (List ℕ)) (response : Response) (new : WireView A S) : Type 0 where
   pub answer : Answer A
-  pub answers : Answers capacity first (around_of kept page metrics old.terms) r old.told answer new.told
+  pub answers : AnswersRequest capacity first (around_of kept page metrics old.terms) r old.told answer new.told
+  pub later : IsLater old.told new.told
   pub tells : Tells answer response
   pub same : new.terms ≡ old.terms

@@ -1,9 +1,7 @@
 -- A push over HTTP, and what it is answered.
-use Rattle.std.specs.Prelude.{ℕ, ◌≡◌, ◌≢◌, ◌⊎◌, ◌++◌, Bool, true, false, ◌&&◌, List, [], ◌∷◌}
+use Rattle.std.specs.Prelude.{ℕ, ◌≡◌, ◌≢◌, ◌⊎◌, ◌≤◌, ◌++◌, Bool, true, false, ◌&&◌, List, [], ◌∷◌}
 use Rattle.std.specs.Prelude.{Option, Some, None, codes, bytes_eq, IfSome, Result, Ok, Err}
 use Rattle.std.specs.List.{list_any}
-use mathlib.Core.List.{IsPrefix}
-use Rattle.hg_types.specs.declared.item.Taken.{Taken}
 use Rattle.hg_types.specs.declared.part.Part.{Part}
 use Rattle.hg_types.specs.declared.part.Param.{Param}
 use Rattle.hg_repo.specs.declared.done.Done.{Done}
@@ -16,8 +14,9 @@ use Rattle.hg_push.specs.Run.{RepositoryOf, run_push}
 use Rattle.hg_queue.specs.History.{of, items_of}
 use Rattle.hg_serve.specs.Answers.{Answers as IsAnswered}
 use Rattle.hg_serve.specs.Histories.{newest_first}
-use Rattle.hg_receiving.specs.declared.ending.Ending.TheVariants.{InputEnded, ReadFailed}
+use Rattle.hg_receiving.specs.declared.ending.BundleEnd.TheVariants.{InputEnded, ReadFailed}
 use Rattle.hg_receiving.specs.Receiving.{IsReceived, mark_of, push_items}
+use Rattle.hg_ledger.specs.Clients.{IsLater, KeptSeen}
 use Rattle.hg_kept.specs.Kept.{IsRecorded, KeptExchange}
 use Rattle.hg_http.specs.declared.answer.Answer.{Answer}
 use Rattle.hg_http.specs.declared.answer.Answer.TheVariants.{Told, Refused}
@@ -29,25 +28,26 @@ abbrev pub How : Type 0 → Type 0
 How A = Outcome (Done A) (RunRefusal A)
 
 -- What is said of an answer holds of it. Where the store failed there is none, and the client may have seen more.
-abbrev pub Answered : {A E : Type 0} → (List (Taken A) → Answer A → List (Taken A) → Type 0) →
-    List (Taken A) → Result (Answer A) E → List (Taken A) → Type 0
+abbrev pub Answered : {A E : Type 0} → (KeptSeen A → Answer A → KeptSeen A → Type 0) →
+    KeptSeen A → Result (Answer A) E → KeptSeen A → Type 0
 Answered Says before (Ok answer) after = Says before answer after
-Answered Says before (Err e) after = IsPrefix before after
+Answered Says before (Err e) after = IsLater before after
 
 -- One bundle was pushed: its bytes begin the body, and end before it only after an end mark or a fault. No
 -- read of the body failed. The push goes on from what its client had seen, and ended so. The answer rests on so
 -- many done pushes, of which a done one is the last, with its bundle as its record; all of these were on the
--- device.
+-- device, and the receipt of its client counts them.
 pub record IsPush {A : Type 0} (capacity : ℕ) (first : RepositoryOf A)
-    (kept : List (Taken A) → ℕ → Type 0) (before : List (Taken A)) (body : List ℕ) (x : KeptExchange A) :
+    (kept : KeptSeen A → ℕ → Type 0) (before : KeptSeen A) (body : List ℕ) (x : KeptExchange A) :
     Type 0
   where
     pub received : IsReceived first.settings.limits [] x.reads x.ending x.parts x.consumed x.rest
-    pub fresh : of x.push (items_of before) ≡ []
-    pub answers : IsAnswered capacity first x.push (push_items x.push x.parts (mark_of x.ending)) before x.how
-        x.takes x.after
-    pub rests_on : RestsOn run_push first (newest_first x.after) x.push x.how x.rests
-    pub recorded : IsRecorded first x.after x.rests x.consumed x.how
+    pub fresh : of x.push (items_of before.history) ≡ []
+    pub answers : IsAnswered capacity first x.push (push_items x.push x.parts (mark_of x.ending))
+        before.history x.how x.takes x.after.history
+    pub grows : before.receipt ≤ x.after.receipt
+    pub rests_on : RestsOn run_push first (newest_first x.after.history) x.push x.how x.rests
+    pub recorded : IsRecorded first x.after.history x.rests x.consumed x.how
     pub is_kept : kept x.after x.rests
     pub read : x.ending ≢ ReadFailed
     pub behind : List ℕ
@@ -56,20 +56,20 @@ pub record IsPush {A : Type 0} (capacity : ℕ) (first : RepositoryOf A)
 
 -- No push was opened, and nothing changed; or one was, and ended so. Its reply was made, if there was memory for
 -- it.
-abbrev pub Pushes : {A : Type 0} → ℕ → RepositoryOf A → (List (Taken A) → ℕ → Type 0) → List (Taken A) →
-    List ℕ → Option (ToldPush A) → List (Taken A) → Type 0
+abbrev pub Pushes : {A : Type 0} → ℕ → RepositoryOf A → (KeptSeen A → ℕ → Type 0) → KeptSeen A →
+    List ℕ → Option (ToldPush A) → KeptSeen A → Type 0
 Pushes capacity first kept before body None after = after ≡ before
 Pushes {A} capacity first kept before body (Some told) after =
     (x : KeptExchange A) × IsPush capacity first kept before body x × (x.how ≡ told.outcome)
     × (x.after ≡ after) × IfSome told.reply (λ reply. reply ≡ reply_of told.outcome)
 
--- the same; where the store failed, nothing is told
-abbrev pub Pushed : {A E : Type 0} → ℕ → RepositoryOf A → (List (Taken A) → ℕ → Type 0) → List (Taken A) →
-    List ℕ → Result (Option (ToldPush A)) E → List (Taken A) → Type 0
+-- the same; where the store failed, nothing is answered
+abbrev pub Pushed : {A E : Type 0} → ℕ → RepositoryOf A → (KeptSeen A → ℕ → Type 0) → KeptSeen A →
+    List ℕ → Result (Option (ToldPush A)) E → KeptSeen A → Type 0
 Pushed capacity first kept before body (Ok told) after = Pushes capacity first kept before body told after
-Pushed capacity first kept before body (Err e) after = IsPrefix before after
+Pushed capacity first kept before body (Err e) after = IsLater before after
 
--- a push that ended so is told by this text, or there was no memory for the answer
+-- a push that ended so is answered by this text, or there was no memory for the answer
 abbrev pub IsReplyTo : {A : Type 0} → (How A → List ℕ) → How A → Answer A → Type 0
 IsReplyTo reply how answer = (answer ≡ Told (reply how)) ⊎ (answer ≡ Refused NoAnswer)
 
@@ -78,11 +78,11 @@ abbrev pub IsReply : {A : Type 0} → (How A → List ℕ) → Option (ToldPush 
 IsReply reply None answer = answer ≡ Refused NotOpened
 IsReply reply (Some told) answer = IsReplyTo reply told.outcome answer
 
--- A push of that bundle was answered: it was not opened, and nothing changed; or it was, and the answer tells
+-- A push of that bundle was answered: it was not opened, and nothing changed; or it was, and the answer reports
 -- how it ended.
 pub record IsPushAnswered {A : Type 0} (capacity : ℕ) (first : RepositoryOf A)
-    (kept : List (Taken A) → ℕ → Type 0) (body : List ℕ) (reply : How A → List ℕ) (before : List (Taken A))
-    (answer : Answer A) (after : List (Taken A)) : Type 0 where
+    (kept : KeptSeen A → ℕ → Type 0) (body : List ℕ) (reply : How A → List ℕ) (before : KeptSeen A)
+    (answer : Answer A) (after : KeptSeen A) : Type 0 where
   pub ended : Option (ToldPush A)
   pub pushes : Pushes capacity first kept before body ended after
   pub answer_is : IsReply reply ended answer
@@ -107,6 +107,6 @@ abbrev pub set_line : Bool → List ℕ
 set_line true = 49 ∷ 10 ∷ []
 set_line false = 48 ∷ 10 ∷ []
 
--- the line that tells it
+-- the line that says it
 abbrev pub key_line : {A : Type 0} → How A → List ℕ
 key_line how = set_line (is_set how)

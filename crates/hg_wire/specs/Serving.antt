@@ -10,12 +10,12 @@ use Rattle.http_server.specs.declared.state.Config.{Config}
 use Rattle.http_server.specs.declared.state.State.TheVariants.{Open}
 use Rattle.http_server.specs.Exchange.{Call, Chain}
 use Rattle.http_server.specs.History.{History, IsServed}
-use Rattle.hg_types.specs.declared.item.Taken.{Taken}
 use Rattle.hg_parts.specs.Repository.{Repository}
 use Rattle.hg_push.specs.declared.outcome.Outcome.TheVariants.{Aborted}
 use Rattle.hg_push.specs.declared.outcome.Reason.TheVariants.{NoMemory}
 use Rattle.hg_push.specs.Reply.{reply_of}
 use Rattle.hg_push.specs.Run.{RepositoryOf}
+use Rattle.hg_ledger.specs.Clients.{IsLater, KeptSeen}
 use Rattle.hg_wire.specs.declared.serve.Finish.{Finish}
 use Rattle.hg_wire.specs.declared.serve.Finish.TheVariants.{Done, NotStored}
 use Rattle.hg_wire.specs.declared.terms.Terms.{Terms}
@@ -52,7 +52,7 @@ abbrev pub sent_of : Refused → List ℕ
 sent_of r = r.history.sent ++ no_room_text false
 
 -- The requests of a stretch were served as HTTP has it, and what was sent answers those before the refused one.
--- All bytes of the stretch are whole requests of HTTP's grammar, as it reads them before what was behind: those
+-- All bytes of the stretch are whole requests of HTTP's grammar, as it reads them before what follows: those
 -- that were answered, and the refused one, which no call was made for.
 pub record IsRefused (config : Config) (r : Refused) : Type 0 where
   pub served : ∥ IsServed config r.history ∥₁
@@ -93,20 +93,20 @@ pub record Converses {V : Type 0} (breaks : Type 0) (config : Config)
   pub written : Appends out sent (flat_map sent_of refused ++ (history.sent ++ told))
 
 -- What was received begins with requests of HTTP's grammar, and what was sent, or waits, is in order the
--- responses to them: each tells the answer to its request, and each goes on from what the client had seen
+-- responses to them: each reports the answer to its request, and each goes on from what the client had seen
 -- before it. Where a body finds no room, its rest is read and dropped, the answer says so, and the connection
 -- goes on. All bytes that were read are those that were received or dropped, and all that were written those that
--- were sent. The client has seen what the last answer told of; it may have seen more only where the connection
+-- were sent. The client has seen what the last answer spoke of; it may have seen more only where the connection
 -- ended since the store failed.
 pub record ServesHttp {A S : Type 0} (capacity : ℕ) (first : RepositoryOf A)
-    (kept : List (Taken A) → ℕ → Type 0) (page metrics : S → Repository A → List ℕ → Type 0)
-    (terms : Terms S) (before : List (Taken A)) (input left out sent : Option (List ℕ)) (finish : Finish)
-    (after : List (Taken A)) : Type 0 where
+    (kept : KeptSeen A → ℕ → Type 0) (page metrics : S → Repository A → List ℕ → Type 0)
+    (terms : Terms S) (before : KeptSeen A) (input left out sent : Option (List ℕ)) (finish : Finish)
+    (after : KeptSeen A) : Type 0 where
   pub config : Config
   pub room : config.max_body_len ≡ first.settings.limits.stream
   pub last : WireView A S
   pub converses : Converses (finish ≢ Done) config
       (λ old r response new. Responds capacity first kept page metrics old r response new)
       (record { told = before; terms = terms }) last input left out sent
-  pub seen : IsPrefix last.told after
+  pub seen : IsLater last.told after
   pub all : finish ≢ NotStored → after ≡ last.told

@@ -11,8 +11,8 @@ ghost use Rattle.hg_told.specs.Batch.{commands_of};
 ghost use Rattle.hg_told.specs.Capabilities.{capabilities_told};
 ghost use Rattle.hg_reading.specs.Copied.{IsLong};
 ghost use Rattle.hg_reading.specs.Texts.{refusal_of as why_refused, IsBatchText, IsTextOf};
-ghost use Rattle.hg_ledger.specs.Records.{AreKept};
-ghost use Rattle.hg_wire.specs.Answering.{Answers, AnswersAsked, AnswersBatch, AnswersCommand, AnswersForced};
+ghost use Rattle.hg_ledger.specs.Clients.{IsCovered};
+ghost use Rattle.hg_wire.specs.Answering.{AnswersRequest, AnswersAsked, AnswersBatch, AnswersCommand, AnswersForced};
 ghost use Rattle.hg_wire.specs.Answering.{AnswersPushKey, around_of, IfFromClient, IsSaid, IsToldAt, OrLacks};
 ghost use Rattle.hg_wire.specs.Answering.{pull_answer};
 ghost use Rattle.hg_wire.specs.Pushes.{Answered};
@@ -27,12 +27,11 @@ use hg_http::{
     Answer, Command, Read, Refusal, argument, command_of, is_from_client, moved_to, read_arguments,
     read_name, subject_of, view_of,
 };
-use hg_ledger::{NotStored, Storing};
+use hg_ledger::{KeptClient, NotStored, Storing};
 use hg_reading::{
     Batch, Copying, Long, LongBatch, Reading, Shown, Watch, batch_text, have_long, long_of,
     long_text, refusal_of,
 };
-use hg_serve::Client;
 use hg_store::Device;
 use hg_told::{Field, capabilities_text, read_batch};
 use hg_types::{NoMemory, Seq};
@@ -40,7 +39,7 @@ use http::Request;
 use std::alloc::Allocator;
 use std::sync::Wait;
 
-/// Answers a request. Its client has then seen what the answer tells of. Where the store failed, there is no
+/// Answers a request. Its client has then seen what the answer speaks of. Where the store failed, there is no
 /// answer.
 pub fn answer_request<
     J: Storing<A>,
@@ -52,12 +51,12 @@ pub fn answer_request<
 >(
     host: &Host<'_, J, D, R, A>,
     terms: &Terms<'_, S>,
-    client: Client<J, A>,
+    client: KeptClient<J, A>,
     request: &Request<Bytes>,
     watch: &mut V,
-) -> (Client<J, A>, Result<Answer<A>, NotStored>)
-    ensures { Answered (Answers J.capacity J.first
-        (around_of (AreKept D.seen D.may_leave J.head J.stored J.first) S.is_page S.are_metrics terms.now)
+) -> (KeptClient<J, A>, Result<Answer<A>, NotStored>)
+    ensures { Answered (AnswersRequest J.capacity J.first
+        (around_of (IsCovered D.seen D.may_leave J.head J.stored J.first) S.is_page S.are_metrics terms.now)
         request.now) client result.1 result.0 }
 {
     match read_request(host.alloc, request) {
@@ -86,14 +85,14 @@ fn read_request<A: Allocator + Copy>(
 fn answer_asked<J: Storing<A>, D: Device, A: Allocator + Copy, R: Wait, S: Shown<A>, V: Watch<A>>(
     host: &Host<'_, J, D, R, A>,
     terms: &Terms<'_, S>,
-    client: Client<J, A>,
+    client: KeptClient<J, A>,
     command: Option<Command>,
     fields: &[Field<A>],
     request: &Request<Bytes>,
     watch: &mut V,
-) -> (Client<J, A>, Result<Answer<A>, NotStored>)
+) -> (KeptClient<J, A>, Result<Answer<A>, NotStored>)
     ensures { Answered (OrLacks (AnswersAsked J.capacity J.first
-        (around_of (AreKept D.seen D.may_leave J.head J.stored J.first) S.is_page S.are_metrics terms.now)
+        (around_of (IsCovered D.seen D.may_leave J.head J.stored J.first) S.is_page S.are_metrics terms.now)
         command fields.now request.now)) client result.1 result.0 }
 {
     match command {
@@ -106,14 +105,14 @@ fn answer_asked<J: Storing<A>, D: Device, A: Allocator + Copy, R: Wait, S: Shown
 fn answer_command<J: Storing<A>, D: Device, A: Allocator + Copy, R: Wait, V: Watch<A>>(
     host: &Host<'_, J, D, R, A>,
     pull: Option<&[u8]>,
-    client: Client<J, A>,
+    client: KeptClient<J, A>,
     command: Command,
     fields: &[Field<A>],
     request: &Request<Bytes>,
     watch: &mut V,
-) -> (Client<J, A>, Result<Answer<A>, NotStored>)
+) -> (KeptClient<J, A>, Result<Answer<A>, NotStored>)
     ensures { Answered (OrLacks (AnswersCommand J.capacity J.first
-        (AreKept D.seen D.may_leave J.head J.stored J.first) (option_copied pull.entry) command fields.now
+        (IsCovered D.seen D.may_leave J.head J.stored J.first) (option_copied pull.entry) command fields.now
         request.now)) client result.1 result.0 }
 {
     match command {
@@ -144,7 +143,7 @@ fn answer_pull<A: Allocator + Copy>(
     }
 }
 
-/// The answer that tells a text, or that there was no memory for it.
+/// The answer that holds a text, or that there was no memory for it.
 fn told<A: Allocator>(text: Result<Seq<u8, A>, NoMemory>) -> Answer<A>
     ensures { MatchResult text (λ t. result ≡ Answer.Told t) (λ _. result ≡ Answer.Refused Refusal.NoMemory) }
 {
@@ -157,12 +156,12 @@ fn told<A: Allocator>(text: Result<Seq<u8, A>, NoMemory>) -> Answer<A>
 /// Answers a command that only reads, by one look.
 fn tell<J: Storing<A>, D: Device, A: Allocator + Copy, R: Wait>(
     host: &Host<'_, J, D, R, A>,
-    client: Client<J, A>,
+    client: KeptClient<J, A>,
     read: Read,
     fields: &[Field<A>],
-) -> (Client<J, A>, Result<Answer<A>, NotStored>)
+) -> (KeptClient<J, A>, Result<Answer<A>, NotStored>)
     ensures { Answered (OrLacks (IsToldAt J.first
-        (AreKept D.seen D.may_leave J.head J.stored J.first)
+        (IsCovered D.seen D.may_leave J.head J.stored J.first)
         (λ repo text. IsTextOf repo read (argument_in fields.now (subject read)) text)))
         client result.1 result.0 }
 {
@@ -182,17 +181,17 @@ fn tell<J: Storing<A>, D: Device, A: Allocator + Copy, R: Wait>(
     }
 }
 
-/// Answers a command that goes through all changesets: one look copies what it is told of.
+/// Answers a command that goes through all changesets: one look copies what it is made from.
 fn tell_long<J: Storing<A>, D: Device, A: Allocator + Copy, R: Wait>(
     host: &Host<'_, J, D, R, A>,
-    client: Client<J, A>,
+    client: KeptClient<J, A>,
     read: Read,
     about: &[u8],
     long: Long,
-) -> (Client<J, A>, Result<Answer<A>, NotStored>)
+) -> (KeptClient<J, A>, Result<Answer<A>, NotStored>)
     requires { IsLong read about.now long }
     ensures { Answered (OrLacks (IsToldAt J.first
-        (AreKept D.seen D.may_leave J.head J.stored J.first)
+        (IsCovered D.seen D.may_leave J.head J.stored J.first)
         (λ repo text. IsTextOf repo read about.now text)))
         client result.1 result.0 }
 {
@@ -207,7 +206,7 @@ fn tell_long<J: Storing<A>, D: Device, A: Allocator + Copy, R: Wait>(
     }
 }
 
-/// Tells the capabilities.
+/// Answers the capabilities.
 fn capabilities<A: Allocator + Copy>(alloc: A) -> Answer<A>
     ensures { (result ≡ Answer.Told capabilities_told) ⊎ (result ≡ Answer.Refused Refusal.NoMemory) }
 {
@@ -217,11 +216,11 @@ fn capabilities<A: Allocator + Copy>(alloc: A) -> Answer<A>
 /// Answers a batch: all of it by one look.
 fn answer_batch<J: Storing<A>, D: Device, A: Allocator + Copy, R: Wait>(
     host: &Host<'_, J, D, R, A>,
-    client: Client<J, A>,
+    client: KeptClient<J, A>,
     fields: &[Field<A>],
-) -> (Client<J, A>, Result<Answer<A>, NotStored>)
+) -> (KeptClient<J, A>, Result<Answer<A>, NotStored>)
     ensures { let commands = commands_of (argument_in fields.now (codes "cmds")) in
-        Answered (OrLacks (AnswersBatch J.first (AreKept D.seen D.may_leave J.head J.stored J.first) commands
+        Answered (OrLacks (AnswersBatch J.first (IsCovered D.seen D.may_leave J.head J.stored J.first) commands
         (why_refused commands))) client result.1 result.0 }
 {
     match read_batch(host.alloc, argument(fields, b"cmds".as_slice())) {
@@ -233,10 +232,10 @@ fn answer_batch<J: Storing<A>, D: Device, A: Allocator + Copy, R: Wait>(
 /// Answers the commands of a batch.
 fn tell_all<J: Storing<A>, D: Device, A: Allocator + Copy, R: Wait>(
     host: &Host<'_, J, D, R, A>,
-    client: Client<J, A>,
+    client: KeptClient<J, A>,
     commands: &[hg_told::Command<A>],
-) -> (Client<J, A>, Result<Answer<A>, NotStored>)
-    ensures { Answered (OrLacks (AnswersBatch J.first (AreKept D.seen D.may_leave J.head J.stored J.first)
+) -> (KeptClient<J, A>, Result<Answer<A>, NotStored>)
+    ensures { Answered (OrLacks (AnswersBatch J.first (IsCovered D.seen D.may_leave J.head J.stored J.first)
         commands.now (why_refused commands.now))) client result.1 result.0 }
 {
     if let Some(why) = refusal_of(commands) {
@@ -256,14 +255,14 @@ fn tell_all<J: Storing<A>, D: Device, A: Allocator + Copy, R: Wait>(
     }
 }
 
-/// Answers the commands of a batch of which some go through all changesets: one look copies what these are told
+/// Answers the commands of a batch of which some go through all changesets: one look copies what these are made
 /// of, and each kind of them costs one pass over the copies.
 fn tell_all_long<J: Storing<A>, D: Device, A: Allocator + Copy, R: Wait>(
     host: &Host<'_, J, D, R, A>,
-    client: Client<J, A>,
+    client: KeptClient<J, A>,
     commands: &[hg_told::Command<A>],
-) -> (Client<J, A>, Result<Answer<A>, NotStored>)
-    ensures { Answered (OrLacks (IsToldAt J.first (AreKept D.seen D.may_leave J.head J.stored J.first)
+) -> (KeptClient<J, A>, Result<Answer<A>, NotStored>)
+    ensures { Answered (OrLacks (IsToldAt J.first (IsCovered D.seen D.may_leave J.head J.stored J.first)
         (λ repo text. IsBatchText repo commands.now text))) client result.1 result.0 }
 {
     let question = LongBatch {
@@ -283,13 +282,13 @@ fn tell_all_long<J: Storing<A>, D: Device, A: Allocator + Copy, R: Wait>(
 /// Answers a push, which is the body of the request.
 fn answer_unbundle<J: Storing<A>, D: Device, A: Allocator + Copy, R: Wait, V: Watch<A>>(
     host: &Host<'_, J, D, R, A>,
-    client: Client<J, A>,
+    client: KeptClient<J, A>,
     fields: &[Field<A>],
     request: &Request<Bytes>,
     watch: &mut V,
-) -> (Client<J, A>, Result<Answer<A>, NotStored>)
+) -> (KeptClient<J, A>, Result<Answer<A>, NotStored>)
     ensures { Answered (IfFromClient (came_from_client request.now) (AnswersForced J.capacity J.first
-        (AreKept D.seen D.may_leave J.head J.stored J.first) (body_of request.now)
+        (IsCovered D.seen D.may_leave J.head J.stored J.first) (body_of request.now)
         (bytes_eq (argument_in fields.now (codes "heads")) (codes "666f726365"))))
         client result.1 result.0 }
 {
@@ -313,13 +312,13 @@ fn are_forced(heads: &[u8]) -> bool
 /// Answers a push that sets one key.
 fn answer_pushkey<J: Storing<A>, D: Device, A: Allocator + Copy, R: Wait, V: Watch<A>>(
     host: &Host<'_, J, D, R, A>,
-    client: Client<J, A>,
+    client: KeptClient<J, A>,
     fields: &[Field<A>],
     request: &Request<Bytes>,
     watch: &mut V,
-) -> (Client<J, A>, Result<Answer<A>, NotStored>)
+) -> (KeptClient<J, A>, Result<Answer<A>, NotStored>)
     ensures { Answered (OrLacks (IfFromClient (came_from_client request.now) (AnswersPushKey J.capacity J.first
-        (AreKept D.seen D.may_leave J.head J.stored J.first) fields.now))) client result.1 result.0 }
+        (IsCovered D.seen D.may_leave J.head J.stored J.first) fields.now))) client result.1 result.0 }
 {
     if !is_from_client(request) {
         return (client, Ok(Answer::Forbidden));

@@ -4,7 +4,7 @@ ghost use Rattle.std.specs.Prelude.{◌≡◌, ◌⊎◌, true};
 ghost use Rattle.hg_http.specs.Keys.{fits as can_fit};
 ghost use Rattle.std.specs.List.{list_any};
 ghost use Rattle.hg_wire.specs.Answering.{AnswersChange, AnswersFitting, AnswersPushKey, OrLacks};
-ghost use Rattle.hg_ledger.specs.Records.{AreKept};
+ghost use Rattle.hg_ledger.specs.Clients.{IsCovered};
 ghost use Rattle.hg_wire.specs.Pushes.{Answered, IsPushAnswered, IsReply, is_one as returns_one};
 ghost use Rattle.hg_wire.specs.Pushes.{is_set as key_is_set, key_line, set_line};
 ghost use Rattle.hg_wire.specs.Pushes.{says_one as part_says_one};
@@ -12,11 +12,10 @@ ghost use Rattle.hg_wire.specs.Pushes.{says_one as part_says_one};
 use crate::push::{Told, push_bundle};
 use crate::terms::Host;
 use hg_http::{Answer, KeyChange, Refusal, fits, key_bundle, read_change};
-use hg_ledger::{NotStored, Storing};
+use hg_ledger::{KeptClient, NotStored, Storing};
 use hg_push::Outcome;
 use hg_reading::Watch;
 use hg_repo::{Done, Refusal as RunRefusal};
-use hg_serve::Client;
 use hg_store::Device;
 use hg_told::Field;
 use hg_types::{Param, Part, Seq};
@@ -26,12 +25,12 @@ use std::sync::Wait;
 /// Sets a key by a push of its own, and says whether it was set.
 pub fn push_key<J: Storing<A>, D: Device, A: Allocator + Copy, R: Wait, V: Watch<A>>(
     host: &Host<'_, J, D, R, A>,
-    client: Client<J, A>,
+    client: KeptClient<J, A>,
     fields: &[Field<A>],
     watch: &mut V,
-) -> (Client<J, A>, Result<Answer<A>, NotStored>)
+) -> (KeptClient<J, A>, Result<Answer<A>, NotStored>)
     ensures { Answered (OrLacks (AnswersPushKey J.capacity J.first
-        (AreKept D.seen D.may_leave J.head J.stored J.first) fields.now)) client result.1 result.0 }
+        (IsCovered D.seen D.may_leave J.head J.stored J.first) fields.now)) client result.1 result.0 }
 {
     let change = read_change(fields);
     push_change(host, client, &change, watch)
@@ -40,12 +39,12 @@ pub fn push_key<J: Storing<A>, D: Device, A: Allocator + Copy, R: Wait, V: Watch
 /// Asks for a change by a push of its own, where a part can hold its values.
 fn push_change<J: Storing<A>, D: Device, A: Allocator + Copy, R: Wait, V: Watch<A>>(
     host: &Host<'_, J, D, R, A>,
-    client: Client<J, A>,
+    client: KeptClient<J, A>,
     change: &KeyChange<'_>,
     watch: &mut V,
-) -> (Client<J, A>, Result<Answer<A>, NotStored>)
+) -> (KeptClient<J, A>, Result<Answer<A>, NotStored>)
     ensures { Answered (OrLacks (AnswersChange J.capacity J.first
-        (AreKept D.seen D.may_leave J.head J.stored J.first) change.now.namespace.now
+        (IsCovered D.seen D.may_leave J.head J.stored J.first) change.now.namespace.now
         change.now.key.now change.now.old.now change.now.new.now)) client result.1 result.0 }
 {
     if !fits(change) {
@@ -57,14 +56,14 @@ fn push_change<J: Storing<A>, D: Device, A: Allocator + Copy, R: Wait, V: Watch<
 /// Pushes the bundle that asks for a change.
 fn set_key<J: Storing<A>, D: Device, A: Allocator + Copy, R: Wait, V: Watch<A>>(
     host: &Host<'_, J, D, R, A>,
-    client: Client<J, A>,
+    client: KeptClient<J, A>,
     change: &KeyChange<'_>,
     watch: &mut V,
-) -> (Client<J, A>, Result<Answer<A>, NotStored>)
+) -> (KeptClient<J, A>, Result<Answer<A>, NotStored>)
     requires { can_fit change.now.namespace.now change.now.key.now change.now.old.now
         change.now.new.now ≡ true }
     ensures { Answered (OrLacks (AnswersFitting J.capacity J.first
-        (AreKept D.seen D.may_leave J.head J.stored J.first) change.now.namespace.now
+        (IsCovered D.seen D.may_leave J.head J.stored J.first) change.now.namespace.now
         change.now.key.now change.now.old.now change.now.new.now)) client result.1 result.0 }
 {
     match key_bundle(host.alloc, change) {
@@ -76,12 +75,12 @@ fn set_key<J: Storing<A>, D: Device, A: Allocator + Copy, R: Wait, V: Watch<A>>(
 /// Pushes a bundle, and says whether it set its key.
 fn push_for_key<J: Storing<A>, D: Device, A: Allocator + Copy, R: Wait, V: Watch<A>>(
     host: &Host<'_, J, D, R, A>,
-    client: Client<J, A>,
+    client: KeptClient<J, A>,
     bundle: &[u8],
     watch: &mut V,
-) -> (Client<J, A>, Result<Answer<A>, NotStored>)
+) -> (KeptClient<J, A>, Result<Answer<A>, NotStored>)
     ensures { Answered (IsPushAnswered J.capacity J.first
-        (AreKept D.seen D.may_leave J.head J.stored J.first) bundle.now key_line)
+        (IsCovered D.seen D.may_leave J.head J.stored J.first) bundle.now key_line)
         client result.1 result.0 }
 {
     let (client, told) = push_bundle(host, client, bundle, watch);

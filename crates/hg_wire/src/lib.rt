@@ -5,8 +5,8 @@
 //! serves a connection with it. A push is served as one bundle of `hg_kept` is, and a command that reads is
 //! answered by one look at the repository, also where a batch asks several. Each answer that depends on the
 //! repository waits until the pushes that it rests on are on the device; where the store failed there is none.
-//! Whatever else comes is answered: out of memory too is told, and closes no connection. A body which finds no
-//! room in the [`Budget`] of all of them is read to its end and dropped, and is told so.
+//! Whatever else comes is answered: out of memory too is answered, and closes no connection. A body which finds no
+//! room in the [`Budget`] of all of them is read to its end and dropped, and is answered so.
 //!
 //! The form of requests and answers is that of Mercurial's `internals.wireprotocol`, "HTTP Version 1
 //! Transport".
@@ -14,7 +14,6 @@
 
 mod answering;
 mod budget;
-mod follow;
 mod key;
 mod looking;
 mod push;

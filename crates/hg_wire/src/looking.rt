@@ -1,36 +1,37 @@
-//! A question to the repository, whose answer is told once it is kept.
+//! A question to the repository, whose answer is given once it is kept.
 
 ghost use Rattle.std.specs.Prelude.{◌≡◌, MatchResult};
-ghost use mathlib.Core.List.{IsPrefix};
-ghost use Rattle.hg_ledger.specs.Records.{AreKept, done_in};
+ghost use Rattle.hg_ledger.specs.Clients.{IsCovered, IsLater};
+ghost use Rattle.hg_ledger.specs.Records.{done_in};
 ghost use Rattle.hg_wire.specs.Looking.{LooksKept};
 
 use crate::terms::Host;
-use hg_ledger::{NotStored, Storing};
-use hg_serve::{Client, Question};
+use hg_ledger::{KeptClient, NotStored, Storing};
+use hg_serve::Question;
 use hg_store::Device;
 use std::alloc::Allocator;
 use std::sync::Wait;
 
 /// Asks the question by one look, and waits until all pushes that were done then are on the device. Says how
-/// many these are. Where the store failed, nothing is told.
+/// many these are. Where the store failed, nothing is answered.
 pub fn look<J: Storing<A>, D: Device, A: Allocator + Copy, R: Wait, T: Drop, Q: Question<A, T>>(
     host: &Host<'_, J, D, R, A>,
-    client: Client<J, A>,
+    client: KeptClient<J, A>,
     question: &Q,
-) -> (Client<J, A>, Result<(T, usize), NotStored>)
+) -> (KeptClient<J, A>, Result<(T, usize), NotStored>)
     ensures { MatchResult result.1
-        (λ told. LooksKept J.first (AreKept D.seen D.may_leave J.head J.stored J.first) client result.0
-        (λ repo. Q.tells question.now repo told.0) × (told.1 ≡ done_in J.first result.0))
-        (λ _. IsPrefix client result.0) }
+        (λ told. LooksKept J.first (IsCovered D.seen D.may_leave J.head J.stored J.first) client result.0
+        (λ repo. Q.tells question.now repo told.0) × (told.1 ≡ done_in J.first result.0.history))
+        (λ _. IsLater client result.0) }
 {
-    let mut client = client;
+    let (mut client, receipt) = client.into_parts();
     let (told, rests) = host.server.look_resting(host.rt, &mut client, question);
+    let mut client = KeptClient::of(client, receipt);
     match host
         .ledger
         .receipt(host.rt, host.server, &mut client, rests)
     {
-        Ok(_receipt) => (client, Ok((told, rests))),
+        Ok(()) => (client, Ok((told, rests))),
         Err(fault) => (client, Err(fault)),
     }
 }

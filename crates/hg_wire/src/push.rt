@@ -2,7 +2,7 @@
 
 ghost use Rattle.std.specs.Prelude.{◌≡◌, IfSome};
 ghost use Rattle.hg_push.specs.Reply.{reply_of};
-ghost use Rattle.hg_ledger.specs.Records.{AreKept};
+ghost use Rattle.hg_ledger.specs.Clients.{IsCovered};
 ghost use Rattle.hg_wire.specs.Pushes.{Answered, IsPushAnswered, IsReply, Pushed as EndsOrFails};
 ghost use Rattle.hg_wire.specs.code.Rounds.{TellsRound};
 
@@ -10,12 +10,12 @@ use crate::terms::Host;
 use hg_devices::Sending;
 use hg_http::{Answer, Body, Refusal};
 use hg_kept::{KeptRound, Replied, open_kept, serve_bundle_kept};
-use hg_ledger::{NotStored, Storing};
+use hg_ledger::{KeptClient, NotStored, Storing};
 use hg_push::Outcome;
 use hg_reading::{Pushed, Watch};
 use hg_receiving::Inbox;
 use hg_repo::{Done, Refusal as RunRefusal};
-use hg_serve::{Answer as Ended, Client};
+use hg_serve::Answer as Awaiting;
 use hg_store::Device;
 use hg_stream::Unbundler;
 use hg_types::Seq;
@@ -33,11 +33,11 @@ pub struct Told<A: Allocator = Global> {
 /// Pushes a bundle. Says how the push ended, if one was opened; the store may have failed.
 pub fn push_bundle<J: Storing<A>, D: Device, A: Allocator + Copy, R: Wait, V: Watch<A>>(
     host: &Host<'_, J, D, R, A>,
-    client: Client<J, A>,
+    client: KeptClient<J, A>,
     bundle: &[u8],
     watch: &mut V,
-) -> (Client<J, A>, Result<Option<Told<A>>, NotStored>)
-    ensures { EndsOrFails J.capacity J.first (AreKept D.seen D.may_leave J.head J.stored J.first) client
+) -> (KeptClient<J, A>, Result<Option<Told<A>>, NotStored>)
+    ensures { EndsOrFails J.capacity J.first (IsCovered D.seen D.may_leave J.head J.stored J.first) client
         bundle.now result.1 result.0 }
 {
     let limits = *host.server.limits();
@@ -65,7 +65,7 @@ pub fn push_bundle<J: Storing<A>, D: Device, A: Allocator + Copy, R: Wait, V: Wa
     (client, told_of(round, reply))
 }
 
-/// Tells who watches the connection.
+/// Informs who watches the connection.
 fn tell_watch<A: Allocator, V: Watch<A>>(watch: &mut V, round: &KeptRound<A>, bundle: &[u8]) {
     let is_kept = match round.replied {
         Replied::Sent(_) => true,
@@ -79,7 +79,7 @@ fn tell_watch<A: Allocator, V: Watch<A>>(watch: &mut V, round: &KeptRound<A>, bu
     });
 }
 
-/// What is told of a push that ended so, whose reply was made there.
+/// What is answered to a push that ended so, whose reply was made there.
 fn told_of<A: Allocator>(
     round: KeptRound<A>,
     reply: Vec<u8, A>,
@@ -93,7 +93,7 @@ fn told_of<A: Allocator>(
         replied,
         written: _,
     } = round;
-    let Ended { outcome, takes: _ } = answer;
+    let Awaiting { outcome, takes: _ } = answer;
     match replied {
         Replied::NotStored => Err(NotStored),
         Replied::Sent(Sending::Whole) => Ok(Some(Told {
@@ -110,12 +110,12 @@ fn told_of<A: Allocator>(
 /// Pushes the bundle that is the body of a request, and gives its reply.
 pub fn unbundle<J: Storing<A>, D: Device, A: Allocator + Copy, R: Wait, V: Watch<A>>(
     host: &Host<'_, J, D, R, A>,
-    client: Client<J, A>,
+    client: KeptClient<J, A>,
     bundle: &[u8],
     watch: &mut V,
-) -> (Client<J, A>, Result<Answer<A>, NotStored>)
+) -> (KeptClient<J, A>, Result<Answer<A>, NotStored>)
     ensures { Answered (IsPushAnswered J.capacity J.first
-        (AreKept D.seen D.may_leave J.head J.stored J.first) bundle.now reply_of)
+        (IsCovered D.seen D.may_leave J.head J.stored J.first) bundle.now reply_of)
         client result.1 result.0 }
 {
     let (client, told) = push_bundle(host, client, bundle, watch);

@@ -6,19 +6,20 @@ ghost use Rattle.std.specs.Io.KnownBytes.{Appends, Consumes, Keeps};
 ghost use Rattle.http_server.specs.Connection.{config_of, history};
 ghost use Rattle.http_server.specs.Exchange.{Calls};
 ghost use Rattle.http_server.specs.History.{after_read, IsQuiet, Rests, new_history};
-ghost use Rattle.hg_ledger.specs.Records.{AreKept};
+ghost use Rattle.hg_ledger.specs.Clients.{IsCovered};
 ghost use Rattle.hg_wire.specs.Answering.{Responds};
 ghost use Rattle.hg_wire.specs.Serving.{Converses, IsTold, no_room_text, ServesHttp};
-ghost use Rattle.hg_wire.specs.code.Following.{FollowsAt, FollowsOn, IsHeld, Passes};
+ghost use Rattle.hg_follow.specs.Following.{FollowsAt, FollowsOn, limits_of};
+ghost use Rattle.hg_wire.specs.code.Following.{IsHeld, Passes};
 
 use crate::budget::Share;
-use crate::follow::{Follower, Found};
 use crate::terms::{Host, Terms};
 use crate::wire::Wire;
 use hg_devices::{Sending, send};
-use hg_ledger::{Ledger, Storing};
+use hg_follow::{Follower, Found};
+use hg_ledger::{KeptClient, Ledger, Storing};
 use hg_reading::{Shown, Watch};
-use hg_serve::{Client, Server};
+use hg_serve::Server;
 use hg_store::Device;
 use http_server::{Config, Connection};
 use std::alloc::{Allocator, Global};
@@ -57,12 +58,12 @@ pub fn serve_http<
     alloc: Global,
     keys: RandomState,
     terms: &Terms<'_, S>,
-    client: Client<J>,
+    client: KeptClient<J>,
     watch: &mut V,
     reader: &mut I,
     writer: &mut W,
-) -> (Client<J>, Finish)
-    ensures { ServesHttp J.capacity J.first (AreKept D.seen D.may_leave J.head J.stored J.first) S.is_page
+) -> (KeptClient<J>, Finish)
+    ensures { ServesHttp J.capacity J.first (IsCovered D.seen D.may_leave J.head J.stored J.first) S.is_page
         S.are_metrics terms.now client (I.remaining reader.old) (I.remaining reader.new)
         (W.contents writer.old) (W.contents writer.new) result.1 result.0 }
 {
@@ -130,14 +131,14 @@ fn serve_stretches<
     writer: &mut W,
 ) -> io::Result<()>
     ensures { Converses (result ≢ Ok tt) config (Responds J.capacity J.first
-        (AreKept D.seen D.may_leave J.head J.stored J.first) S.is_page S.are_metrics) wire.old wire.new
+        (IsCovered D.seen D.may_leave J.head J.stored J.first) S.is_page S.are_metrics) wire.old wire.new
         (I.remaining reader.old) (I.remaining reader.new) (W.contents writer.old) (W.contents writer.new) }
 {
     // A loop is proved to end, so this one counts its turns.
     'stretches: for _ in 0..u64::MAX {
         let mut connection = Connection::new(alloc, keys, config);
         let mut follower = Follower::new(alloc, config.limits);
-        if converse(
+        let ended = converse(
             rt,
             &mut connection,
             &mut follower,
@@ -145,7 +146,10 @@ fn serve_stretches<
             share,
             reader,
             writer,
-        )? {
+        );
+        // Dropped here once, and not at each place where the function returns.
+        drop(connection);
+        if ended? {
             return Ok(());
         }
         share.clear(rt);
@@ -229,12 +233,12 @@ fn converse<
     writer: &mut W,
 ) -> io::Result<bool>
     requires { (history connection.old ≡ new_history) × FollowsAt follower.old [] 0
-        × (follower.old.limits ≡ (config_of connection.old).limits) }
+        × (limits_of follower.old ≡ (config_of connection.old).limits) }
     ensures read { (more : List ℕ) × Consumes (I.remaining reader.old) (I.remaining reader.new) more
         × ((history connection.new).received ≡ (history connection.old).received ++ more) }
     ensures written { (more : List ℕ) × Appends (W.contents writer.old) (W.contents writer.new) more
         × ((history connection.new).sent ≡ (history connection.old).sent ++ more) }
-    ensures calls { Calls (Responds J.capacity J.first (AreKept D.seen D.may_leave J.head J.stored J.first)
+    ensures calls { Calls (Responds J.capacity J.first (IsCovered D.seen D.may_leave J.head J.stored J.first)
         S.is_page S.are_metrics) wire.old wire.new (history connection.old).calls
         (history connection.new).calls }
     ensures config { config_of connection.new ≡ config_of connection.old }
@@ -274,7 +278,7 @@ fn advance<J: Storing<A>, D: Device, R: Wait, S: Shown<A>, V: Watch<A>, A: Alloc
     wire: &mut Wire<'_, J, D, R, S, V, A>,
     share: &mut Share<'_>,
 ) -> bool
-    ensures calls { Calls (Responds J.capacity J.first (AreKept D.seen D.may_leave J.head J.stored J.first)
+    ensures calls { Calls (Responds J.capacity J.first (IsCovered D.seen D.may_leave J.head J.stored J.first)
         S.is_page S.are_metrics) wire.old wire.new (history connection.old).calls
         (history connection.new).calls }
     ensures quiet { IsQuiet (history connection.old) (history connection.new) }

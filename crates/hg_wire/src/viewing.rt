@@ -1,15 +1,14 @@
 //! What is shown without a command.
 
-ghost use Rattle.hg_ledger.specs.Records.{AreKept};
+ghost use Rattle.hg_ledger.specs.Clients.{IsCovered};
 ghost use Rattle.hg_wire.specs.Answering.{AnswersView, around_of, OrLacks};
 ghost use Rattle.hg_wire.specs.Pushes.{Answered};
 
 use crate::looking::look;
 use crate::terms::{Host, Terms};
 use hg_http::{Answer, View};
-use hg_ledger::{NotStored, Storing};
+use hg_ledger::{KeptClient, NotStored, Storing};
 use hg_reading::{Shown, Viewing, shown};
-use hg_serve::Client;
 use hg_store::Device;
 use std::alloc::Allocator;
 use std::sync::Wait;
@@ -18,11 +17,11 @@ use std::sync::Wait;
 pub fn answer_view<J: Storing<A>, D: Device, A: Allocator + Copy, R: Wait, S: Shown<A>>(
     host: &Host<'_, J, D, R, A>,
     terms: &Terms<'_, S>,
-    client: Client<J, A>,
+    client: KeptClient<J, A>,
     view: Option<View>,
-) -> (Client<J, A>, Result<Answer<A>, NotStored>)
+) -> (KeptClient<J, A>, Result<Answer<A>, NotStored>)
     ensures { Answered (OrLacks (AnswersView J.first
-        (around_of (AreKept D.seen D.may_leave J.head J.stored J.first) S.is_page S.are_metrics terms.now)
+        (around_of (IsCovered D.seen D.may_leave J.head J.stored J.first) S.is_page S.are_metrics terms.now)
         view)) client result.1 result.0 }
 {
     let Some(view) = view else {

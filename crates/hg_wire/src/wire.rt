@@ -1,15 +1,14 @@
 //! The service of one connection.
 
 ghost use Rattle.std.specs.Prelude.{◌≡◌, false, None, Some};
-ghost use mathlib.Core.List.{IsPrefix};
+ghost use Rattle.hg_ledger.specs.Clients.{IsLater};
 
 use crate::answering::answer_request;
 use crate::terms::{Host, Terms};
 use bytes::Bytes;
 use hg_http::respond;
-use hg_ledger::{NotStored, Storing};
+use hg_ledger::{KeptClient, NotStored, Storing};
 use hg_reading::{Shown, Watch};
-use hg_serve::Client;
 use hg_store::Device;
 use http::Request;
 use http_server::{Log, Response, Service};
@@ -17,7 +16,7 @@ use std::alloc::{AllocError, Allocator, Global};
 use std::marker::Model;
 use std::sync::Wait;
 
-/// What a connection is served by. Contracts see the history that the last answer told of.
+/// What a connection is served by. Contracts see the history that the last answer spoke of.
 pub struct Wire<
     'a,
     J: Storing<A>,
@@ -31,19 +30,19 @@ pub struct Wire<
     terms: &'a Terms<'a, S>,
     global: Global,
     watch: &'a mut V,
-    client: Option<Client<J, A>>,
+    client: Option<KeptClient<J, A>>,
     /// How many requests were answered.
     answered: u64,
     /// Whether the store failed before a request was answered.
     has_failed: bool,
     /// What the client had seen when the last request was answered.
-    told: Log<Client<J, A>, u64>,
+    told: Log<KeptClient<J, A>, u64>,
 }
 
 impl<'a, J: Storing<A>, D: Device, R: Wait, S: Shown<A>, V: Watch<A>, A: Allocator> Model
     for Wire<'a, J, D, R, S, V, A> {
     ghost use Rattle.std.specs.Prelude.{◌≡◌, IsSome, false};
-    ghost use mathlib.Core.List.{IsPrefix};
+    ghost use Rattle.hg_ledger.specs.Clients.{IsLater};
     ghost use Rattle.hg_wire.specs.Answering.{WireView};
     ghost use Rattle.hg_wire.specs.code.Wires.{seen_by, told_last};
 
@@ -51,7 +50,7 @@ impl<'a, J: Storing<A>, D: Device, R: Wait, S: Shown<A>, V: Watch<A>, A: Allocat
 
     ghost view = { λ w. record { told = told_last w.told.items; terms = w.terms.now } };
 
-    ghost invariant = { λ w. IsSome w.client × IsPrefix (told_last w.told.items) (seen_by w.client)
+    ghost invariant = { λ w. IsSome w.client × IsLater (told_last w.told.items) (seen_by w.client)
         × (w.has_failed ≡ false → seen_by w.client ≡ told_last w.told.items) };
 }
 
@@ -69,7 +68,7 @@ impl<'a, J: Storing<A>, D: Device, R: Wait, S: Shown<A>, V: Watch<A>, A: Allocat
         host: Host<'a, J, D, R, A>,
         terms: &'a Terms<'a, S>,
         global: Global,
-        client: Client<J, A>,
+        client: KeptClient<J, A>,
         watch: &'a mut V,
     ) -> Self
         ensures { result ≡ record { told = client; terms = terms.now } }
@@ -93,8 +92,8 @@ impl<'a, J: Storing<A>, D: Device, R: Wait, S: Shown<A>, V: Watch<A>, A: Allocat
     }
 
     /// Its client, and whether the store failed before a request was answered.
-    pub fn into_client(self) -> (Client<J, A>, bool)
-        ensures later { IsPrefix self.entry.told result.0 }
+    pub fn into_client(self) -> (KeptClient<J, A>, bool)
+        ensures later { IsLater self.entry.told result.0 }
         ensures same { result.1 ≡ false → result.0 ≡ self.entry.told }
     {
         let Wire {
@@ -116,11 +115,11 @@ impl<'a, J: Storing<A>, D: Device, R: Wait, S: Shown<A>, V: Watch<A>, A: Allocat
 
 impl<J: Storing<A>, D: Device, R: Wait, S: Shown<A>, V: Watch<A>, A: Allocator + Copy> Service
     for Wire<'_, J, D, R, S, V, A> {
-    ghost use Rattle.hg_ledger.specs.Records.{AreKept};
+    ghost use Rattle.hg_ledger.specs.Clients.{IsCovered};
     ghost use Rattle.hg_wire.specs.Answering.{Responds};
 
     ghost answers = { λ old request response new. Responds J.capacity J.first
-        (AreKept D.seen D.may_leave J.head J.stored J.first) S.is_page S.are_metrics old request response
+        (IsCovered D.seen D.may_leave J.head J.stored J.first) S.is_page S.are_metrics old request response
         new };
 
     /// Where the store failed there is no answer, and the connection ends: nor is a later request answered.
@@ -161,7 +160,10 @@ impl<J: Storing<A>, D: Device, R: Wait, S: Shown<A>, V: Watch<A>, A: Allocator +
 }
 
 /// Puts a client back in its place.
-fn put_back<J: Storing<A>, A: Allocator>(place: &mut Option<Client<J, A>>, client: Client<J, A>)
+fn put_back<J: Storing<A>, A: Allocator>(
+    place: &mut Option<KeptClient<J, A>>,
+    client: KeptClient<J, A>,
+)
     requires { place.old ≡ None }
     ensures { place.new ≡ Some client }
 {

@@ -5,7 +5,6 @@ ghost use Rattle.hg_types.specs.Limits.{IsAllowed};
 
 mod conversations;
 mod cuts;
-mod device;
 mod forms;
 mod heads;
 mod memory;
@@ -18,8 +17,9 @@ use crate::tests::conversations::{
     ASKED_0, ASKED_1, ASKED_2, ASKED_3, ASKED_4, ASKED_5, ASKED_6, OTHER_PUSH, RACED_3, TOLD_0,
     TOLD_1, TOLD_2, TOLD_3, TOLD_4, TOLD_5, TOLD_6, TOLD_RACED_3,
 };
-use crate::tests::device::Memory;
-use hg_ledger::{Ledger, Parts, Storing};
+use hg_help_tests::device::Memory;
+use hg_kept::{ClosedKept, close_kept};
+use hg_ledger::{KeptClient, Ledger, Parts, Storing};
 use hg_queue::{PartQueue, Taker};
 use hg_repo::Repo;
 use hg_restore::replay_records;
@@ -231,11 +231,7 @@ fn client_of<J: Naming<A>, A: Allocator + Copy, R: Wait + Abort>(
     }
 }
 
-fn add<J: Naming<A>, A: Allocator, R: Abort>(
-    rt: &R,
-    clients: &mut Vec<Client<J, A>, A>,
-    client: Client<J, A>,
-) {
+fn add<T, A: Allocator, R: Abort>(rt: &R, clients: &mut Vec<T, A>, client: T) {
     match clients.push(client) {
         Ok(()) => {}
         Err(AllocFailed { value: _client, .. }) => panic!(rt; "no memory for a client"),
@@ -272,7 +268,7 @@ fn play<J: Storing<Global>, R: RandomSource + Wait + Abort>(
         stored: 0,
     };
     let mut tally = Tally::new();
-    let mut client = client_of(rt, &server);
+    let mut client = KeptClient::new(client_of(rt, &server));
     let mut finish = Finish::Done;
     let mut told = Vec::new(alloc);
     for asked in said {
@@ -302,21 +298,16 @@ fn play<J: Storing<Global>, R: RandomSource + Wait + Abort>(
         finish = ended;
     }
     add(rt, &mut clients, client);
-    let Parts {
-        log,
+    let ClosedKept {
+        closed,
+        log: Log { device, .. },
         kept: _,
-        is_broken: _,
-        witnesses: (first, second),
-        tally: _,
-    } = ledger.into_parts();
-    add(rt, &mut clients, first);
-    add(rt, &mut clients, second);
-    let Log { device, .. } = log;
+    } = close_kept(rt, alloc, server, ledger, clients);
     Left {
         told,
         finish,
         tally,
-        journal: server.close(clients).journal.len(),
+        journal: closed.journal.len(),
         kept: kept_on(rt, alloc, &device),
     }
 }

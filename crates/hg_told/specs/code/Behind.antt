@@ -15,7 +15,7 @@ pub record HasBehind (rows : List Changeset) (sets : List ℕ) (r k : ℕ) : Typ
   pub proper : other ≢ r
   pub is_in : IsIn sets other k
 
--- each bit tells whether one is
+-- each bit says whether one is
 pub record AreBehind (rows : List Changeset) (sets behind : List ℕ) : Type 0 where
   pub as_long : length behind ≡ length rows
   pub each : (r k : ℕ) → r < length rows → IsIn behind r k ↔ HasBehind rows sets r k

@@ -5,7 +5,7 @@ use Rattle.hg_log.specs.Changeset.{Changeset}
 use Rattle.hg_obs.specs.declared.marker.Marker.{Marker}
 use Rattle.hg_told.specs.Hidden.{IsObsolete}
 
--- the lowest bit tells whether the changeset is kept
+-- the lowest bit says whether the changeset is kept
 pub record TellsKept {A : Type 0} (rows : List Changeset) (markers : List (Marker A)) (r sets : ℕ) : Type 0 where
   pub obsolete : bit_at sets 0 ≡ 0 → IsObsolete rows markers r
   pub kept : bit_at sets 0 ≡ 1 → ¬ (IsObsolete rows markers r)

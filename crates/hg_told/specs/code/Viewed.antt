@@ -1,4 +1,4 @@
--- How the code keeps what it tells of changesets and markers.
+-- How the code keeps what it reports of changesets and markers.
 use Rattle.std.specs.Prelude.{◌≡◌, ℕ, ◌<◌, ◌^◌, List, [], ◌∷◌, length, slice_index, slice_index_or, IfSome}
 use Rattle.hg_log.specs.Changeset.{Changeset, Log}
 use Rattle.hg_log.specs.Parents.{parents_of}

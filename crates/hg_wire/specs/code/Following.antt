@@ -1,60 +1,18 @@
--- What has been read of the requests of a connection.
-use Rattle.std.specs.Prelude.{◌≡◌, ℕ, ◌+◌, ◌≤◌, false, List, [], ◌++◌, length}
-use Rattle.http1.specs.declared.conn.Limits.{Limits}
-use Rattle.http1.specs.declared.conn.Reading.{Reading}
-use Rattle.http1.specs.declared.conn.Reading.TheVariants as Reads
-use Rattle.http1.specs.declared.conn.Writing.TheVariants as Writes
-use Rattle.http1.specs.declared.server.Server.{Server}
-use Rattle.http1.specs.Message.{Request, ReadsRequests}
-use Rattle.http1.specs.ServerTrace.{Seen, Trace}
+-- How a follower and the connection that it reads along with stand to each other.
+use Rattle.std.specs.Prelude.{◌≡◌, ℕ, ◌+◌, ◌≤◌, List, [], ◌++◌, length}
 use Rattle.http_server.specs.declared.state.Config.{Config}
 use Rattle.http_server.specs.declared.state.State.TheVariants.{Open}
 use Rattle.http_server.specs.History.{History}
-use Rattle.hg_wire.specs.declared.follow.Follower.{Follower}
-
--- the stream begins with so many requests, and the rest follows them
-abbrev pub BeginsWith : Limits → List ℕ → ℕ → List ℕ → Type 0
-BeginsWith limits stream count rest = (ms : List Request) × ReadsRequests limits stream ms rest × (length ms ≡ count)
-
--- how many requests have begun and are not left yet
-abbrev pub begun : Reading → ℕ
-begun Reads.Head = 0
-begun (Reads.Body d) = 1
-begun Reads.Done = 1
-begun Reads.Upgraded = 0
-begun Reads.Closed = 0
-begun (Reads.Failed e) = 0
-
--- whatever comes, what the server reads from here on are the requests after so many
-abbrev pub LeadsOn : Limits → Server → List ℕ → List ℕ → ℕ → Type 0
-LeadsOn limits server held stream count =
-    (more : List ℕ) (later : Seen) (rest : List ℕ) → Trace server (held ++ more) later rest →
-    BeginsWith limits (stream ++ more) (count + begun server.reading + length later.requests) rest
-
--- the stream was read so far: it begins with so many whole requests, and the server goes on in the one after them
-pub record Follows (limits : Limits) (server : Server) (held stream : List ℕ) (count : ℕ) : Type 0 where
-  pub same_limits : server.limits ≡ limits
-  pub silent : server.writing ≡ Writes.Head
-  pub leads : LeadsOn limits server held stream count
-  pub rest : List ℕ
-  pub whole : BeginsWith limits stream count rest
-
-abbrev pub FollowsAt : Follower → List ℕ → ℕ → Type 0
-FollowsAt f stream count = Follows f.limits f.server f.held.items stream count
-
--- these bytes came, and were followed
-abbrev pub FollowsOn : Follower → Follower → List ℕ → Type 0
-FollowsOn old new more = (new.limits ≡ old.limits)
-    × (new.is_lost ≡ false → (old.is_lost ≡ false)
-    × ((stream : List ℕ) (count : ℕ) → FollowsAt old stream count → (now : ℕ) × FollowsAt new (stream ++ more) now))
+use Rattle.hg_follow.specs.declared.follow.Follower.{Follower}
+use Rattle.hg_follow.specs.Following.{BeginsWith, FollowsAt, KeepsUp, limits_of}
 
 -- a stretch has come to a request that is not whole: all others were answered, and all answers were sent
 abbrev pub IsHeld : Config → History → Follower → Type 0
-IsHeld config h f = (h.state ≡ Open) × (h.pending ≡ []) × (f.limits ≡ config.limits)
-    × (f.is_lost ≡ false → (count : ℕ) × FollowsAt f h.received count × (count ≤ length h.calls))
+IsHeld config h f = (h.state ≡ Open) × (h.pending ≡ []) × (limits_of f ≡ config.limits)
+    × (KeepsUp f → (count : ℕ) × FollowsAt f h.received count × (count ≤ length h.calls))
 
--- these bytes are the rest of the request that is followed, as HTTP has it before what is behind them
+-- these bytes are the rest of the request that is followed, as HTTP has it before what follows them
 abbrev pub Passes : Follower → List ℕ → Type 0
-Passes f dropped = (f.is_lost ≡ false) × ((behind : List ℕ)
+Passes f dropped = KeepsUp f × ((behind : List ℕ)
     × ((stream : List ℕ) (count : ℕ) → FollowsAt f stream count →
-    BeginsWith f.limits (stream ++ dropped ++ behind) (count + 1) behind))
+    BeginsWith (limits_of f) (stream ++ dropped ++ behind) (count + 1) behind))

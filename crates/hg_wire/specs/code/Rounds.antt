@@ -1,4 +1,4 @@
--- What is told of a round of `hg_kept`.
+-- What is said of a round of `hg_kept`.
 use Rattle.std.specs.Prelude.{◌≡◌, ⊤, ℕ, List, Option, Some, None, IfSome, Result, Ok, Err}
 use Rattle.hg_devices.specs.declared.sending.Sending.TheVariants.{Whole}
 use Rattle.hg_kept.specs.declared.served.Replied.{Replied}

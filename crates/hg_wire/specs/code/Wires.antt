@@ -1,12 +1,15 @@
 -- What the client of a connection has seen.
 use Rattle.std.specs.Prelude.{ℕ, List, [], ◌∷◌, Option, Some, None}
-use Rattle.hg_types.specs.declared.item.Taken.{Taken}
+use Rattle.hg_ledger.specs.Clients.{KeptSeen}
 
-abbrev pub seen_by : {A : Type 0} → Option (List (Taken A)) → List (Taken A)
-seen_by None = []
-seen_by (Some history) = history
+abbrev pub nothing_seen : {A : Type 0} → KeptSeen A
+nothing_seen = record { history = []; receipt = 0 }
+
+abbrev pub seen_by : {A : Type 0} → Option (KeptSeen A) → KeptSeen A
+seen_by None = nothing_seen
+seen_by (Some client) = client
 
 -- what it had seen when the last request was answered, which is noted alone
-abbrev pub told_last : {A : Type 0} → List (List (Taken A) × ℕ) → List (Taken A)
-told_last [] = []
+abbrev pub told_last : {A : Type 0} → List (KeptSeen A × ℕ) → KeptSeen A
+told_last [] = nothing_seen
 told_last (noted ∷ more) = noted.0

@@ -43,10 +43,10 @@ fn converse<J: Storing<A>, A: Allocator + Copy, R: RandomSource + Wait + Abort>(
     global: Global,
     host: Host<'_, J, Memory, R, A>,
     terms: &Terms<'_, Words>,
-    client: Client<J, A>,
+    client: KeptClient<J, A>,
     asked: &[u8],
     told: &mut Vec<u8>,
-) -> (Client<J, A>, Result<(), Came>) {
+) -> (KeptClient<J, A>, Result<(), Came>) {
     let mut connection = Connection::new(global, state(host.rt), Config::default());
     let mut tally = Tally::new();
     let mut wire = Wire::new(host, terms, global, client, &mut tally);
@@ -126,7 +126,7 @@ fn converse_over<J: Storing<A>, A: Allocator + Copy, R: RandomSource + Wait + Ab
         pull: None,
         stored: 0,
     };
-    let client = client_of(rt, &server);
+    let client = KeptClient::new(client_of(rt, &server));
     let host = Host {
         server: &server,
         ledger: &ledger,
@@ -153,6 +153,7 @@ fn converse_over<J: Storing<A>, A: Allocator + Copy, R: RandomSource + Wait + Ab
         alloc,
     };
     let (client, third) = converse(global, host, &terms, client, talk.after, &mut after);
+    let (client, _receipt) = client.into_parts();
     add(rt, &mut clients, client);
     let Parts {
         log: _log,

@@ -1,5 +1,11 @@
-use Rattle.std.proofs.Common.{ℕ, ◌≡◌, ◌≤◌, ◌-◌, List, Option, refl, sym, subst}
+use Rattle.std.proofs.Common.{ℕ, ◌≡◌, ◌≤◌, ◌-◌, List, Option, refl, sym, ◌∙◌, ap, subst, arith}
 use Rattle.std.specs.Prelude.{IfSome}
+use Rattle.hg_types.specs.declared.item.Taken.{Taken}
+use Rattle.hg_push.specs.Places.{RestsOn}
+use Rattle.hg_push.specs.Run.{run_push}
+use Rattle.hg_serve.specs.Answers.{Answers}
+use Rattle.hg_serve.specs.Histories.{newest_first}
+use Rattle.hg_ledger.specs.Clients.{KeptSeen}
 use Rattle.hg_ledger.specs.Records.{IsRecordOf}
 use Rattle.hg_connection.proofs.CallerLemmas.{bundle_reply_short}
 use Rattle.hg_kept.proofs.Exchanges.{answered, handed, recorded, rested}
@@ -13,10 +19,12 @@ reply_kept-replied-requires-clause-bundle g c =
     let first = g.J.Naming.first in
     let after = c.answer_resting-answer.result.2 in
     let rests = c.answer_resting-answer.result.1 in
-    subst (λ (o : Option (List ℕ)). IfSome o (λ bytes. (1 ≤ rests)
-    × IsRecordOf first after (rests - 1) bytes)) (sym c.record_of-record.ensures)
+    let seen : after ≡ c.of-client.result.history = sym (ap (λ (v : KeptSeen g.row.A.Denot). v.history)
+    c.of-client.ensures) in
+    subst (λ (y : Option (List ℕ) × List (Taken g.row.A.Denot)). IfSome y.0 (λ bytes. (1 ≤ rests)
+    × IsRecordOf first y.1 (rests - 1) bytes)) (λ i. (sym c.record_of-record.ensures i, seen i))
     (handed c.args.server.now g.J.Naming.capacity first c.args.inbox.now c.receive_kept-ending.new.inbox _ _
-    c.args.opened.1 c.receive_kept-ending.new.sender c.receive_kept-ending.result
+    c.args.opened.sender c.receive_kept-ending.new.sender c.receive_kept-ending.result
     c.receive_kept-ending.new.kept.items c.mark-ended.result c.answer_resting-answer.result.0.takes after rests r m
     c.limits-limits.ensures.first c.answer_resting-answer.result.0.outcome a.answers a.rests)
 
@@ -25,24 +33,31 @@ returns-clause-served g c =
     let r = c.receive_kept-ending.ensures.received in
     let m = c.mark-ended.ensures in
     let a = c.answer_resting-answer.ensures in
-    let w = c.reply_kept-replied.ensures.replied in
+    let k = c.reply_kept-replied.ensures in
+    let w = k.replied in
     let first = g.J.Naming.first in
     let capacity = g.J.Naming.capacity in
     let how = c.answer_resting-answer.result.0.outcome in
     let takes = c.answer_resting-answer.result.0.takes in
     let rests = c.answer_resting-answer.result.1 in
-    let after = c.answer_resting-answer.result.2 in
+    let after : KeptSeen g.row.A.Denot = c.reply_kept-replied.new.client in
+    let e = c.mark-ended.result in
+    let seen : c.answer_resting-answer.result.2 ≡ after.history = sym (k.same
+    ∙ ap (λ (v : KeptSeen g.row.A.Denot). v.history) c.of-client.ensures) in
+    let answers = subst (λ (h : List (Taken g.row.A.Denot)). Answers capacity first e.push e.put e.history how takes h)
+    seen a.answers in
+    let on = subst (λ (h : List (Taken g.row.A.Denot)). RestsOn run_push first (newest_first h) e.push how rests) seen
+    a.rests in
     let put = answered c.args.server.now capacity first c.args.inbox.now c.receive_kept-ending.new.inbox _ _
-    c.args.opened.1 c.receive_kept-ending.new.sender c.receive_kept-ending.result
-    c.receive_kept-ending.new.kept.items c.mark-ended.result takes after rests r m
-    c.limits-limits.ensures.first how a.answers in (
+    c.args.opened.sender c.receive_kept-ending.new.sender c.receive_kept-ending.result
+    c.receive_kept-ending.new.kept.items e takes after.history rests r m c.limits-limits.ensures.first how answers in (
       record {
         reads = r.is.bundle.reads;
         consumed = r.is.bundle.consumed;
         rest = r.is.bundle.rest;
         ending = c.receive_kept-ending.result;
         parts = r.is.parts;
-        push = c.args.opened.1.putter.push;
+        push = c.args.opened.sender.putter.push;
         how = how;
         takes = takes;
         rests = rests;
@@ -57,13 +72,13 @@ returns-clause-served g c =
           fresh = c.requires.sender.1;
           answers = put;
           rests_on = rested c.args.server.now capacity first c.args.inbox.now c.receive_kept-ending.new.inbox _ _
-              c.args.opened.1 c.receive_kept-ending.new.sender c.receive_kept-ending.result
-              c.receive_kept-ending.new.kept.items c.mark-ended.result takes after rests r m
-              c.limits-limits.ensures.first how a.rests;
+              c.args.opened.sender c.receive_kept-ending.new.sender c.receive_kept-ending.result
+              c.receive_kept-ending.new.kept.items e takes after.history rests r m c.limits-limits.ensures.first how on;
           recorded = recorded c.args.server.now capacity first c.args.inbox.now c.receive_kept-ending.new.inbox
-              _ _ c.args.opened.1 c.receive_kept-ending.new.sender c.receive_kept-ending.result
-              c.receive_kept-ending.new.kept.items c.mark-ended.result takes after rests r m
-              c.limits-limits.ensures.first how a.answers a.rests;
+              _ _ c.args.opened.sender c.receive_kept-ending.new.sender c.receive_kept-ending.result
+              c.receive_kept-ending.new.kept.items e takes after.history rests r m c.limits-limits.ensures.first how
+              answers on;
+          grows = omega (arith, k.grows, ap (λ (v : KeptSeen g.row.A.Denot). v.receipt) c.of-client.ensures);
           replies = w.is;
         };
         more = r.is.bundle.more;
@@ -76,8 +91,9 @@ returns-clause-served g c =
         used = w.used;
         short = bundle_reply_short c.replies_are_short.ensures.done c.replies_are_short.ensures.aborted
             c.parts_are_few.ensures c.args.server.now capacity first c.args.inbox.now r.is.bundle.reads
-            c.receive_kept-ending.result r.is.parts r.is.bundle.consumed r.is.bundle.rest c.args.opened.1.putter.push
-            c.args.opened.1.history how takes after c.limits-limits.ensures.allowed r.is.bundle.received put;
+            c.receive_kept-ending.result r.is.parts r.is.bundle.consumed r.is.bundle.rest
+            c.args.opened.sender.putter.push c.args.opened.sender.history how takes after.history
+            c.limits-limits.ensures.allowed r.is.bundle.received put;
       },
       record {
         ending_is = refl;
@@ -86,6 +102,6 @@ returns-clause-served g c =
         rests_are = refl;
         replied_is = refl;
         written_is = w.written_is;
-        after_is = sym c.reply_kept-replied.ensures.same;
+        after_is = refl;
       },
     )

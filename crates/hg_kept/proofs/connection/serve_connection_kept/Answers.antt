@@ -1,7 +1,8 @@
-use Rattle.std.proofs.Common.{◌∙◌, refl, sym, arith}
+use Rattle.std.proofs.Common.{◌≡◌, ◌∙◌, refl, sym, arith}
+use Rattle.hg_ledger.specs.Clients.{KeptSeen, counted}
 use Rattle.hg_kept.proofs.Exchanges.{comes}
 use Rattle.hg_kept.proofs.Chains.{starts, can_add, at_end, at_failure, at_opening, at_most, at_fault}
-use Rattle.hg_kept.proofs.Chains.{goes_on, tells_own, ended_whole, fresh}
+use Rattle.hg_kept.proofs.Chains.{goes_on, tells_own, ended_whole, fresh, as_was}
 use Rattle.hg_kept.proofs.connection.serve_connection_kept.Goals as goal
 
 pub returns-in-Ends : goal.returns-in-Ends
@@ -25,13 +26,17 @@ pub returns-then-is_some : goal.returns-then-is_some
 returns-then-is_some g c =
     let e = c.serve_bundle_kept-seen.ensures.served in
     let r = c.serve_bundle_kept-seen.result.1 in
+    let o = c.in-Ok.opened in
+    let had : KeptSeen g.row.A.Denot = record { history = o.sender.history; receipt = counted o.receipt } in
+    let is = c.in-Ok.ensures.ok in
+    let same : had ≡ c.bundles.client = as_was o.sender.history (counted o.receipt) c.bundles.client is.1 is.3 in
     let own = comes c.args.server.now g.J.Naming.capacity g.J.Naming.first c.bundles.inbox
-    c.next_bundle.new.inbox c.serve_bundle_kept-seen.new.inbox _ _ _ _ _ c.in-Ok.opened.1.history e.0
+    c.next_bundle.new.inbox c.serve_bundle_kept-seen.new.inbox _ _ _ _ _ had e.0
     c.in-Comes.ensures.0 e.1 in
     at_fault c.args.server.now g.J.Naming.capacity g.J.Naming.first _ _ _ _ _ _ c.args.client c.bundles.client
-    c.in-Ok.opened.1.history c.serve_bundle_kept-seen.result.0 c.bundles.inbox c.serve_bundle_kept-seen.new.inbox
+    had c.serve_bundle_kept-seen.result.0 c.bundles.inbox c.serve_bundle_kept-seen.new.inbox
     c.bundles.served c.more-served.result c.bundles.number r.answer r.ending r.rests r.replied r.written
-    c.bundles.invariant.goes c.in-Ok.ensures.ok.1 own.own own.served
+    c.bundles.invariant.goes same own.own own.served
     (tells_own e.0 own.own _ _ _ _ _ _ _ own.same e.2) c.more-served.ensures c.args.most c.bundles-test.true
     (sym c.is_some.ensures ∙ c.if-is_some.true)
 
@@ -39,15 +44,19 @@ pub bundles-preserved : goal.bundles-preserved
 bundles-preserved g c =
     let e = c.serve_bundle_kept-seen.ensures.served in
     let r = c.serve_bundle_kept-seen.result.1 in
+    let o = c.in-Ok.opened in
+    let had : KeptSeen g.row.A.Denot = record { history = o.sender.history; receipt = counted o.receipt } in
+    let is = c.in-Ok.ensures.ok in
+    let same : had ≡ c.bundles.client = as_was o.sender.history (counted o.receipt) c.bundles.client is.1 is.3 in
     let own = comes c.args.server.now g.J.Naming.capacity g.J.Naming.first c.bundles.inbox
-    c.next_bundle.new.inbox c.serve_bundle_kept-seen.new.inbox _ _ _ _ _ c.in-Ok.opened.1.history e.0
+    c.next_bundle.new.inbox c.serve_bundle_kept-seen.new.inbox _ _ _ _ _ had e.0
     c.in-Comes.ensures.0 e.1 in
     record {
       goes = goes_on c.args.server.now g.J.Naming.capacity g.J.Naming.first _ _ _ _ _ _ c.args.client
-          c.bundles.client c.in-Ok.opened.1.history c.serve_bundle_kept-seen.result.0 c.bundles.inbox
+          c.bundles.client had c.serve_bundle_kept-seen.result.0 c.bundles.inbox
           c.serve_bundle_kept-seen.new.inbox c.bundles.served c.more-served.result c.bundles.number r.answer
           r.ending r.rests r.replied r.written
-          c.bundles.invariant.goes c.in-Ok.ensures.ok.1 own.own own.served
+          c.bundles.invariant.goes same own.own own.served
           (tells_own e.0 own.own _ _ _ _ _ _ _ own.same e.2) c.more-served.ensures (sym c.is_some.ensures
           ∙ c.if-is_some.false);
       bundle = record {
@@ -92,9 +101,11 @@ restart-requires-clause-given g c =
 pub more-served-requires-clause-fits : goal.more-served-requires-clause-fits
 more-served-requires-clause-fits g c =
     let e = c.serve_bundle_kept-seen.ensures.served in
+    let o = c.in-Ok.opened in
+    let had : KeptSeen g.row.A.Denot = record { history = o.sender.history; receipt = counted o.receipt } in
     can_add c.args.server.now g.J.Naming.capacity g.J.Naming.first _ _ _ _ _ _ _ c.args.client
     c.bundles.client
-    c.in-Ok.opened.1.history c.serve_bundle_kept-seen.result.0 c.bundles.inbox c.next_bundle.new.inbox
+    had c.serve_bundle_kept-seen.result.0 c.bundles.inbox c.next_bundle.new.inbox
     c.serve_bundle_kept-seen.new.inbox c.bundles.served c.bundles.number e.0 _ _ _ _ _ _ c.bundles.invariant.goes e.1
     e.2
     (omega (arith, c.bundles-test.true, c.requires))

@@ -1,5 +1,5 @@
 use Rattle.std.specs.Prelude.{IfOk}
-use Rattle.hg_ledger.specs.Records.{AreKept}
+use Rattle.hg_ledger.specs.Clients.{IsCovered}
 use Rattle.hg_reading.specs.Copied.{IsBrought}
 use Rattle.hg_wire.specs.Looking.{LooksKept}
 use Rattle.hg_reading.specs.Texts.{IsBatchText}
@@ -9,7 +9,7 @@ use Rattle.hg_wire.proofs.answering.tell_all_long.Goals as goal
 pub returns-in-Ok : goal.returns-in-Ok
 returns-in-Ok g c =
     let first = g.J.Naming.first in
-    let kept = AreKept {D = g.row.D.Denot} g.D.Device.seen g.D.Device.may_leave g.J.Storing.head g.J.Storing.stored first in
+    let kept = IsCovered {D = g.row.D.Denot} g.D.Device.seen g.D.Device.may_leave g.J.Storing.head g.J.Storing.stored first in
     let before = c.args.client in
     let after = c.look-client.result.0 in
     let commands = c.args.commands.now in

@@ -3,7 +3,7 @@ use Rattle.http_server.specs.Connection.{config_of, history}
 use Rattle.http_server.specs.History.{History}
 use Rattle.http_server.proofs.KnownLemmas.{Appends-then, Appends-kept, Consumes-then}
 use Rattle.http_server.proofs.StreamLemmas.{Calls-then}
-use Rattle.hg_wire.specs.code.Following.{FollowsAt}
+use Rattle.hg_follow.specs.Following.{FollowsAt}
 use Rattle.hg_wire.proofs.Served.{is_held, nothing_waits}
 use Rattle.hg_wire.proofs.serve.converse.Goals.{then-wants_write+in_ok-write_to+else-branch-eq0, else-wants_write+in_ok-flush-2+else-not-has_room+in_ok-has_room}
 use Rattle.hg_wire.proofs.serve.converse.Goals as goal

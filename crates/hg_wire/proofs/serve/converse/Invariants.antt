@@ -1,10 +1,10 @@
-use Rattle.std.proofs.Common.{◌≡◌, ℕ, false, List, ◌++◌}
+use Rattle.std.proofs.Common.{◌≡◌, ℕ, List, ◌++◌}
 use Rattle.std.specs.Io.KnownBytes.{Appends, Consumes}
 use Rattle.http_server.specs.Connection.{config_of, history}
 use Rattle.http_server.specs.Exchange.{Calls}
-use Rattle.hg_ledger.specs.Records.{AreKept}
+use Rattle.hg_follow.specs.Following.{FollowsAt, KeepsUp, limits_of}
+use Rattle.hg_ledger.specs.Clients.{IsCovered}
 use Rattle.hg_wire.specs.Answering.{Responds}
-use Rattle.hg_wire.specs.code.Following.{FollowsAt}
 use Rattle.hg_wire.proofs.serve.converse.Given as goal
 
 abbrev pub invariant-turns : goal.invariant-turns
@@ -15,9 +15,9 @@ invariant-turns g l =
     × (new.received ≡ old.received ++ more))
     × ((more : List ℕ) × Appends (g.W.Write.contents l.fn.writer) (g.W.Write.contents l.writer) more
     × (new.sent ≡ old.sent ++ more))
-    × Calls (Responds g.J.Naming.capacity g.J.Naming.first (AreKept g.D.Device.seen g.D.Device.may_leave
+    × Calls (Responds g.J.Naming.capacity g.J.Naming.first (IsCovered g.D.Device.seen g.D.Device.may_leave
     g.J.Storing.head g.J.Storing.stored g.J.Naming.first) g.S.Shown.is_page g.S.Shown.are_metrics)
     l.fn.wire l.wire old.calls new.calls
     × (config_of l.connection ≡ config_of l.fn.connection)
-    × (l.follower.limits ≡ (config_of l.fn.connection).limits)
-    × (l.follower.is_lost ≡ false → (count : ℕ) × FollowsAt l.follower new.received count)
+    × (limits_of l.follower ≡ (config_of l.fn.connection).limits)
+    × (KeepsUp l.follower → (count : ℕ) × FollowsAt l.follower new.received count)

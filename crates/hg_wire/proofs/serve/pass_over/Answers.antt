@@ -3,8 +3,8 @@ use Rattle.std.specs.Io.BufRead.{FillKeeps}
 use Rattle.std.proofs.BufReadLemmas.{Consumes_shown}
 use Rattle.std.proofs.KnownBytes.{Consumes-nil}
 use Rattle.http_server.proofs.KnownLemmas.{Consumes-then}
-use Rattle.hg_wire.specs.code.Following.{BeginsWith, FollowsAt}
-use Rattle.hg_wire.proofs.Following.{regrouped}
+use Rattle.hg_follow.specs.Following.{BeginsWith, FollowsAt, limits_of}
+use Rattle.hg_wire.proofs.Pieces.{regrouped}
 use Rattle.hg_wire.proofs.serve.pass_over.Goals as goal
 
 pub pieces-init : goal.pieces-init
@@ -37,7 +37,7 @@ returns-in-End g c =
               let all = end.1 (stream ++ inv.0) n (inv.4 stream n x) in
               subst (λ l. BeginsWith l (stream ++ (inv.0 ++ take count shown) ++ drop count shown) (n + 1)
               (drop count shown)) inv.2
-              (subst (λ s. BeginsWith c.pieces.follower.limits s (n + 1) (drop count shown))
+              (subst (λ s. BeginsWith (limits_of c.pieces.follower) s (n + 1) (drop count shown))
               (regrouped stream inv.0 (take count shown) (drop count shown) shown (take-append-drop count shown)) all),
         ),
       ),

@@ -2,8 +2,8 @@ use Rattle.std.proofs.Common.{ℕ, List, ◌++◌, subst}
 use Rattle.std.specs.Io.BufRead.{FillKeeps}
 use Rattle.std.specs.Io.KnownBytes.{Consumes}
 use Rattle.std.proofs.BufReadLemmas.{Consumes_shown}
-use Rattle.hg_wire.specs.code.Following.{FollowsAt}
-use Rattle.hg_wire.proofs.Following.{front_is, front_within}
+use Rattle.hg_follow.specs.Following.{FollowsAt}
+use Rattle.hg_wire.proofs.Pieces.{front_is, front_within}
 use Rattle.hg_wire.proofs.serve.read_more.Goals as goal
 
 pub returns-clause-ok : goal.returns-clause-ok
@@ -23,9 +23,9 @@ returns-clause-ok g c =
           same moved.0,
       came.3,
       (
-        c.follow.ensures.limits,
+        c.follow.ensures.0,
         λ lost.
-            let on = c.follow.ensures.follows lost in (
+            let on = c.follow.ensures.1 lost in (
               on.0,
               λ stream n x.
                   let now = on.1 stream n x in

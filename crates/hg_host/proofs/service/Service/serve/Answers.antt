@@ -4,9 +4,7 @@ use Rattle.hg_host.proofs.service.Service.serve.Goals as goal
 pub returns : goal.returns
 returns g c = record {
   recovered = let i = c.self.invariant in let e = c.self.view_is in search rules;
-  before = c.client-client.result;
-  after = c.serve_http-client.result.0;
   terms = _;
   count = let i = c.self.invariant in let e = c.self.view_is in search rules;
-  serves = c.serve_http-client.ensures;
+  serves = c.serve_http.ensures;
 }

@@ -7,7 +7,7 @@ use Rattle.hg_store.specs.Records.{IsRecord}
 use Rattle.hg_store.specs.Log.{IsBeforeOrAfter, IsSettled}
 use Rattle.hg_ledger.specs.Lives.{IsFront}
 use Rattle.hg_ledger.specs.Locks.{DiskView}
-use Rattle.hg_ledger.specs.Records.{AreRecordsFrom, Keeps}
+use Rattle.hg_ledger.specs.Records.{AreRecordsFrom, KeepsRecords}
 use Rattle.hg_ledger.proofs.Keeping.{keeps_more}
 use Rattle.hg_ledger.proofs.Lists.{fit, went_well}
 use Rattle.hg_ledger.proofs.Living.{kept_front, lives_after, lives_failed, written_front}
@@ -102,7 +102,7 @@ invariant_of-self-2 g c =
     c.append.new.self) c.as_slice.ensures.value ack in
     let ok = d.batch.ok in
     let more : d.count + length d.batch.items ≡ d.count + c.len.result = omega (arith, c.len.ensures, ok) in
-    let keeps = subst (λ (n : ℕ). Keeps seen may_leave head stored first d.witness n c.append.new.self) more
+    let keeps = subst (λ (n : ℕ). KeepsRecords seen may_leave head stored first d.witness n c.append.new.self) more
     (keeps_more seen may_leave head stored first d.witness d.count d.batch.items d.log c.append.new.self k settled
     i.2) in
     let run = written_front seen may_leave head stored first moment left_since d.witness d.count d.batch.items d.log

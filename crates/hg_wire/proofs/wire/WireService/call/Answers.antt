@@ -1,6 +1,6 @@
 use Rattle.std.proofs.Common.{◌∙◌, ap, subst, sym}
-use Rattle.hg_ledger.specs.Records.{AreKept}
-use Rattle.hg_wire.specs.Answering.{around_of, Answers}
+use Rattle.hg_ledger.specs.Clients.{IsCovered}
+use Rattle.hg_wire.specs.Answering.{around_of, AnswersRequest}
 use Rattle.hg_wire.specs.Pushes.{Answered}
 use Rattle.hg_wire.specs.code.Wires.{seen_by}
 use Rattle.hg_wire.proofs.Wires.{last_noted, responds, told_all}
@@ -14,13 +14,13 @@ invariant_of-self-in-Ok-4 g c =
 
 pub returns-in-Ok-clause-ok : goal.returns-in-Ok-clause-ok
 returns-in-Ok-clause-ok g c =
-    let kept = AreKept g.D.Device.seen g.D.Device.may_leave g.J.Storing.head g.J.Storing.stored
+    let kept = IsCovered g.D.Device.seen g.D.Device.may_leave g.J.Storing.head g.J.Storing.stored
     g.J.Naming.first in
     let inside = c.self.inside in
     let before = c.in-Some.client in
     let after = c.answer_request-client.result.0 in
     let place = sym c.in-Some.is ∙ c.take.ensures.value in
-    let answers = subst (λ r. Answered (Answers g.J.Naming.capacity g.J.Naming.first
+    let answers = subst (λ r. Answered (AnswersRequest g.J.Naming.capacity g.J.Naming.first
     (around_of kept g.S.Shown.is_page g.S.Shown.are_metrics inside.terms.now) c.args.request.now) before r after)
     c.in-Ok.is c.answer_request-client.ensures in
     responds g.J.Naming.capacity g.J.Naming.first kept g.S.Shown.is_page g.S.Shown.are_metrics

@@ -1,0 +1,105 @@
+-- Whatever a client is answered, it has seen no less then, and its receipt counts no less.
+use Rattle.std.proofs.Common.{◌≡◌, ℕ, ◌⊎◌, inl, inr, Bool, true, false, List, [], Option, None, Some, append-nil, arith, sym, subst}
+use Rattle.http.specs.declared.request.Request.{Request}
+use Rattle.hg_parts.specs.Repository.{Repository}
+use Rattle.hg_push.specs.Run.{RepositoryOf}
+use Rattle.hg_ledger.specs.Clients.{IsLater, KeptSeen}
+use Rattle.hg_told.specs.declared.batch.Command.{Command as Asked}
+use Rattle.hg_told.specs.declared.form.Field.{Field}
+use Rattle.hg_http.specs.declared.answer.Answer.{Answer}
+use Rattle.hg_http.specs.declared.answer.Refusal.{Refusal}
+use Rattle.hg_http.specs.declared.command.Command.{Command}
+use Rattle.hg_http.specs.declared.command.Command.TheVariants.{Tell, Capabilities, Batch, Unbundle, PushKey}
+use Rattle.hg_http.specs.declared.command.Command.TheVariants.{GetBundle}
+use Rattle.hg_http.specs.declared.view.View.{View}
+use Rattle.hg_http.specs.Commands.{command_of}
+use Rattle.hg_http.specs.Requests.{arguments_of, is_from_client, name_of}
+use Rattle.hg_wire.specs.Answering.{AnswersAsked, AnswersBatch, AnswersCommand, AnswersForced, AnswersKey, AnswersRequest}
+use Rattle.hg_wire.specs.Answering.{AnswersView, Around, IfFromClient, IsSaid, IsSaidAt}
+use Rattle.hg_wire.specs.Looking.{LooksKept}
+use Rattle.hg_wire.specs.Pushes.{How, IsPushAnswered, Pushes}
+use Rattle.hg_wire.specs.declared.push.Told.{Told as ToldPush}
+
+-- a client has seen what it has seen
+pub is_as_late : {A : Type 0} (client : KeptSeen A) → IsLater client client
+is_as_late client = record { seen = ([], append-nil client.history); grows = omega arith }
+
+same_later : {A : Type 0} (before after : KeptSeen A) → after ≡ before → IsLater before after
+same_later before after is = subst (λ c. IsLater before c) (sym is) (is_as_late before)
+
+-- whoever looked has seen what it had seen, or more
+pub looked_later : {A : Type 0} (first : RepositoryOf A) (kept : KeptSeen A → ℕ → Type 0)
+    (before after : KeptSeen A) (Tells : Repository A → Type 0) → LooksKept first kept before after Tells →
+    IsLater before after
+looked_later first kept before after Tells look = record { seen = look.looks.earlier; grows = look.grows }
+
+module _ {A : Type 0} (capacity : ℕ) (first : RepositoryOf A) (kept : KeptSeen A → ℕ → Type 0)
+    (before : KeptSeen A) (answer : Answer A) (after : KeptSeen A)
+  where
+    said_later : (said : Answer A) → IsSaid said before answer after → IsLater before after
+    said_later said is = same_later before after is.1
+
+    said_at_later : (says : List ℕ → Answer A) (IsText : Repository A → List ℕ → Type 0) →
+        IsSaidAt first kept says IsText before answer after → IsLater before after
+    said_at_later says IsText is =
+        looked_later first kept before after (λ repo. IsText repo is.text) is.looks
+
+    pushes_later : (body : List ℕ) (ended : Option (ToldPush A)) →
+        Pushes capacity first kept before body ended after → IsLater before after
+    pushes_later body None is = same_later before after is
+    pushes_later body (Some told) is =
+        subst (λ c. IsLater before c) is.3 (record { seen = is.1.answers.earlier; grows = is.1.grows })
+
+    pushed_later : (body : List ℕ) (reply : How A → List ℕ) →
+        IsPushAnswered capacity first kept body reply before answer after → IsLater before after
+    pushed_later body reply is = pushes_later body is.ended is.pushes
+
+    from_later : (is_from : Bool) (Says : KeptSeen A → Answer A → KeptSeen A → Type 0) →
+        (Says before answer after → IsLater before after) →
+        IfFromClient is_from Says before answer after → IsLater before after
+    from_later false Says later is = same_later before after is.1
+    from_later true Says later is = later is
+
+    batch_later : (commands : List (Asked A)) (why : Option Refusal) →
+        AnswersBatch first kept commands why before answer after → IsLater before after
+    batch_later commands (Some why) is = same_later before after is.1
+    batch_later commands None is = said_at_later _ _ is
+
+    forced_later : (body : List ℕ) (forced : Bool) →
+        AnswersForced capacity first kept body forced before answer after → IsLater before after
+    forced_later body false is = same_later before after is.1
+    forced_later body true is = pushed_later body _ is
+
+    key_later : (namespace key old new : List ℕ) (fits : Bool) →
+        AnswersKey capacity first kept namespace key old new fits before answer after → IsLater before after
+    key_later namespace key old new false is = same_later before after is.1
+    key_later namespace key old new true is = pushed_later _ _ is
+
+    command_later : (pull : Option (List ℕ)) (command : Command) (fields : List (Field A))
+        (r : Request (List ℕ)) → AnswersCommand capacity first kept pull command fields r before answer after →
+        IsLater before after
+    command_later pull Capabilities fields r is = said_later _ is
+    command_later pull GetBundle fields r is = said_later _ is
+    command_later pull (Tell read) fields r is = said_at_later _ _ is
+    command_later pull Batch fields r is = batch_later _ _ is
+    command_later pull Unbundle fields r is = from_later (is_from_client r) _ (forced_later _ _) is
+    command_later pull PushKey fields r is = from_later (is_from_client r) _ (key_later _ _ _ _ _) is
+
+module _ {A : Type 0} (capacity : ℕ) (first : RepositoryOf A) (around : Around A) (before : KeptSeen A)
+    (answer : Answer A) (after : KeptSeen A)
+  where
+    view_later : (view : Option View) → AnswersView first around view before answer after →
+        IsLater before after
+    view_later None is = same_later before after is.1
+    view_later (Some view) is = said_at_later capacity first around.kept before answer after _ _ is
+
+    asked_later : (command : Option Command) (fields : List (Field A)) (r : Request (List ℕ)) →
+        AnswersAsked capacity first around command fields r before answer after → IsLater before after
+    asked_later None fields r is = view_later _ is
+    asked_later (Some command) fields r is =
+        command_later capacity first around.kept before answer after around.pull command fields r is
+
+    pub answered_later : (r : Request (List ℕ)) → AnswersRequest capacity first around r before answer after →
+        IsLater before after
+    answered_later r (inl is) = asked_later (command_of (name_of A r)) (arguments_of r) r is
+    answered_later r (inr lacks) = lacks.earlier

@@ -1,0 +1,22 @@
+-- The bytes that a reader shows, taken apart.
+use Rattle.std.proofs.Common.{◌≡◌, ℕ, ◌+◌, ◌≤◌, List, [], ◌∷◌, ◌++◌, length, take}
+use Rattle.std.proofs.Common.{refl, sym, ap, subst, ◌∙◌, arith, append_assoc, length-append}
+
+-- the front of what is shown
+take_front : (more rest : List ℕ) → take (length more) (more ++ rest) ≡ more
+take_front [] rest = refl
+take_front (byte ∷ more) rest = ap (λ (l : List ℕ). byte ∷ l) (take_front more rest)
+
+pub front_is : (shown more rest : List ℕ) (n : ℕ) → length more ≡ n → shown ≡ more ++ rest → take n shown ≡ more
+front_is shown more rest n is parts =
+    ap (λ l. take n l) parts ∙ subst (λ k. take k (more ++ rest) ≡ more) is (take_front more rest)
+
+pub front_within : (shown more rest : List ℕ) (n : ℕ) → length more ≡ n → shown ≡ more ++ rest → n ≤ length shown
+front_within shown more rest n is parts = omega (arith, is, ap length parts, length-append more rest)
+
+-- the same bytes in other groups
+pub regrouped : (stream gone front back shown : List ℕ) → front ++ back ≡ shown →
+    (stream ++ gone) ++ shown ≡ (stream ++ (gone ++ front)) ++ back
+regrouped stream gone front back shown is =
+    ap (λ (l : List ℕ). (stream ++ gone) ++ l) (sym is) ∙ sym (append_assoc (stream ++ gone) front back)
+    ∙ ap (λ (l : List ℕ). l ++ back) (append_assoc stream gone front)
