@@ -268,7 +268,8 @@ def main():
     known = {crate: definitions(crate) for crate in crates()}
     for crate in crates():
         every, imports = [], {}
-        folders = (f"{ROOT}/crates/{crate}/src", f"{ROOT}/crates/{crate}_tests/src")
+        folders = (f"{ROOT}/crates/{crate}/src", f"{ROOT}/crates/{crate}_tests/src",
+                   f"{ROOT}/crates/hg_help_tests/src")
         for path in (path for folder in folders for path in files(folder, ".rt")):
             imports[path] = {}
             for below, module, group in GHOST.findall(read(path)):

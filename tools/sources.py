@@ -69,7 +69,9 @@ def parts_of_impl(line):
     given = re.search(r"\bFrom<(.*)> for ", head)
     of_trait, is_trait, of_type = without_arguments(head).rpartition(" for ")
     if given:
-        return f"From{last_word(given[1])}", last_word(of_type)
+        # from whatever is of a bound, as in `impl<E: Into<NoMemory>> From<E> for Fault`, it is `From` alone
+        is_any = head.startswith(f"<{given[1]}: ")
+        return "From" if is_any else f"From{last_word(given[1])}", last_word(of_type)
     # an impl on a type at a built-in type: `Seq<u8, A>` is `Seq+u8+A`
     made = re.search(r"\b([A-Z]\w*)<([^<>]*)>\s*$", head)
     if not is_trait and made and re.search(r"\b(u\d+|i\d+|bool|char)\b", made[2]):

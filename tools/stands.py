@@ -12,6 +12,8 @@ PARTS = ("src", "specs", "proofs")
 # files that say what a program is run on
 ASIDE = ("stdin", "stdout", "args", "status", "data")
 TESTS = "_tests"
+# what tests of several crates use, and no test
+HELPERS = ("hg_help_tests",)
 TESTS_INSIDE = re.compile(r"#\[cfg\(test\)\]\nmod tests;\n")
 
 
@@ -21,8 +23,8 @@ def has_tests_inside(crate):
 
 
 def tests():
-    """The crates that are run for their tests."""
-    return [it for it in sources.rows() if it.endswith(TESTS) or has_tests_inside(it)]
+    """The crates that are run for their tests. What only other tests use has none."""
+    return [it for it in sources.rows() if it not in HELPERS and (it.endswith(TESTS) or has_tests_inside(it))]
 
 
 def proved():

@@ -14,8 +14,8 @@ CRATE = "hg_delta"
 # the end of a text is not appended
 TAIL = ("src/text.rt", "text.extend_from_slice(&base[end..])?;", "text.extend_from_slice(&base[base.len()..])?;")
 # want of memory is told as a short delta, by a method of a trait
-METHOD = ("src/fault.rt", "fn from(_e: AllocError) -> Self {",
-          "fn from(_e: AllocError) -> Self { if true { return DeltaFault::Short; }")
+METHOD = ("src/fault.rt", "fn from(_refused: E) -> Self {",
+          "fn from(_refused: E) -> Self { if true { return DeltaFault::Short; }")
 # a hunk may end before it begins
 HUNK = ("src/hunk.rt", "if header.start < before || header.end < header.start {", "if header.start < before {")
 
@@ -94,7 +94,7 @@ def wanted_of(place):
         edit(place, "another_clause", "text::write_text, clause fault", TAIL): "is not open",
         edit(place, "not_seen_by_the_public_clause", "text::apply, clause text", TAIL): "is not of",
         edit(place, "a_private_function", "hunk::read_hunk, clause placed", HUNK): "",
-        edit(place, "a_method_of_a_trait", "fault::DeltaFaultFromAllocError::from, its clause", METHOD): "",
+        edit(place, "a_method_of_a_trait", "fault::DeltaFaultFrom::from, its clause", METHOD): "",
         edit(place, "does_not_compile", "text::apply", (file, "return Err(DeltaFault::TooLong);", "return 7;")):
             "did not reach the prover",
         edit(place, "no_such_text", "text::apply", (file, "there is no such text", "none")): "does not stand",

@@ -25,8 +25,10 @@ SECONDS = "2700"
 # crates of tests that are compiled together; what stands in none of them is run alone
 GROUPS = {
     "formats": ["hg_types_tests", "hg_chunks_tests", "hg_params_tests", "hg_stream_tests", "hg_delta_tests",
-                "hg_cgroup_tests", "hg_obs_tests", "hg_store_tests", "hg_command_tests", "hg_page_tests"],
-    "changelog": ["hg_log_tests", "hg_phases_tests", "hg_names_tests", "hg_keys_tests", "hg_checks_tests", "hg_told_tests"],
+                "hg_cgroup_tests", "hg_obs_tests", "hg_store_tests", "hg_command_tests", "hg_page_tests",
+                "hg_follow_tests"],
+    "changelog": ["hg_log_tests", "hg_phases_tests", "hg_names_tests", "hg_base85_tests", "hg_keys_tests", "hg_checks_tests",
+                  "hg_told_tests"],
     "repository": ["hg_parts_tests", "hg_repo_tests", "hg_push_tests", "hg_receiving_tests", "hg_replay_tests",
                    "hg_restore_tests", "hg_archive_tests", "hg_ended_tests"],
     "threads": ["hg_queue_tests", "hg_serve_tests", "hg_connection_tests", "hg_reading_tests", "hg_wire_tests",

@@ -1,11 +1,12 @@
 #!/usr/bin/env python3
 """Whether the documents that are written by hand are short, and in plain English.
 
-    tools/words.py --check    lists what is not, with its place and a count; it reads no crate
+    tools/words.py --check    lists what is not, with its place and a count
     tools/words.py --wrap     wraps the paragraphs that have too wide a line
 
-It looks for words that have a plainer one, in every document by hand; for sentences of more than 30 words, in
-those that users read first; for lines of more than 110 characters; and for how large the documents by hand are
+It looks for words that have a plainer one, in every document by hand, and in the comments of crates that their users
+read: those of documentation in `src/`, and all in `specs/`. It looks for sentences of more than 30 words, in the
+documents that users read first; for lines of more than 110 characters; and for how large the documents by hand are
 together. It leaves out code, tables of bytes, and what tools make: whole documents, what stands between two
 marks, and the lists of modules on the pages of the crates.
 """
@@ -107,6 +108,25 @@ def plain_words(path):
                 yield number, f"'{found[0]}': {plain}"
 
 
+def comments():
+    """The comments of crates that their users read, with their places; code in quotes is one word."""
+    for pattern, mark in (("src/**/*.rt", r"\s*//[/!]"), ("specs/**/*.antt", r"\s*--")):
+        for path in sorted(glob.glob(f"{ROOT}/crates/*/{pattern}", recursive=True)):
+            name = os.path.relpath(path, ROOT)
+            if "_tests/" in name or "/tests" in name:
+                continue
+            for number, line in enumerate(read(name).splitlines(), 1):
+                if re.match(mark, line):
+                    yield name, number, re.sub(r"`[^`]*`", "CODE", line)
+
+
+def comment_words():
+    for path, number, line in comments():
+        for pattern, plain in PLAIN:
+            for found in re.finditer(pattern, line, re.I):
+                yield f"words: {path}:{number}: '{found[0]}': {plain}"
+
+
 def wide_lines(path):
     in_code = False
     for number, line in enumerate(by_hand(path), 1):
@@ -163,6 +183,7 @@ def check():
             kinds.append(long_sentences(path))
         for kind in kinds:
             found += [f"words: {path}:{number}: {what}" for number, what in kind]
+    found += comment_words()
     size = sum(len(line.encode()) + 1 for path in BY_HAND for line in by_hand(path))
     if size > MOST_BYTES:
         found.append(f"words: the documents by hand have {size} bytes of {MOST_BYTES}")

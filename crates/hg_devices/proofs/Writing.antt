@@ -9,7 +9,7 @@ use Rattle.std.proofs.lemmas.List.Folds.{concat-append}
 use Rattle.std.proofs.Math.Seq.{take-add, take-length}
 use Rattle.std.proofs.KnownBytes.{Appends-nil, Appends-trans}
 use Rattle.std.specs.Io.KnownBytes.{Appends}
-use Rattle.hg_devices.specs.Devices.{Output, WriteAnswer, Took, Refused, Flushed, NotFlushed, Adds, Uses}
+use Rattle.hg_devices.specs.Devices.{Output, WriteAnswer, Took, Refused, Flushed, NotFlushed, TellsMore, Uses}
 use Rattle.hg_devices.specs.Devices.{taken_by}
 use Rattle.hg_devices.specs.declared.sending.Sending.{Sending}
 use Rattle.hg_devices.specs.declared.sending.Sending.TheVariants.{Whole, Broken}
@@ -23,7 +23,7 @@ pub record WritesOn (before now : Output) (all : List ℕ) (sent : ℕ) : Type 0
   pub sent_is : concat pieces ≡ take sent all
   pub bound : sent ≤ length all
   pub bytes : Appends before.taken now.taken (concat pieces)
-  pub uses : Adds before.uses now.uses (map Took pieces)
+  pub uses : TellsMore before.uses now.uses (map Took pieces)
 
 pub starts : (writer : Output) (bytes : List ℕ) → WritesOn writer writer bytes 0
 starts writer bytes = record {
@@ -65,7 +65,7 @@ more_sent before mid now bytes sent n w some bound step =
       bound = omega (arith, w.bound, few, length-drop sent bytes);
       bytes = subst (Appends before.taken now.taken) (sym joined)
           (Appends-trans before.taken mid.taken now.taken (concat w.pieces) piece w.bytes used.bytes);
-      uses = subst (Adds before.uses now.uses) (sym (map-append Took w.pieces (piece ∷ [])))
+      uses = subst (TellsMore before.uses now.uses) (sym (map-append Took w.pieces (piece ∷ [])))
           (Adds-trans before.uses mid.uses now.uses (map Took w.pieces) (Took piece ∷ []) w.uses used.told);
     }
 
@@ -78,7 +78,7 @@ all_written before now bytes sent w all = record {
   each = w.each;
   sent_is = w.sent_is;
   bytes = w.bytes;
-  uses = subst (Adds before.uses now.uses) (sym (append-nil (map Took w.pieces))) w.uses;
+  uses = subst (TellsMore before.uses now.uses) (sym (append-nil (map Took w.pieces))) w.uses;
   ends = inl (omega (arith, w.bound, all), refl);
 }
 
@@ -161,7 +161,7 @@ finishes sending before mid after bytes sent answer w all step none ends =
       | inl whole ↦ whole.1
       | inr short ↦ absurd (short.1.0 (drop_all sent bytes all))
     ] in
-    let wrote : Adds before.uses mid.uses (map Took w.pieces) = subst (Adds before.uses mid.uses)
+    let wrote : TellsMore before.uses mid.uses (map Took w.pieces) = subst (TellsMore before.uses mid.uses)
     (ap (λ l. map Took w.pieces ++ l) nothing ∙ append-nil (map Took w.pieces)) w.uses in
     let whole : concat w.pieces ≡ bytes = w.sent_is ∙ take_all sent bytes all in
     let bound : sent ≤ length bytes = elim w.ends [

@@ -1,4 +1,4 @@
--- What a reader and a writer tell of how they were used.
+-- What a reader and a writer report of how they were used.
 use Rattle.std.specs.Prelude.{ℕ, ◌≡◌, ⊤, List, [], ◌∷◌, ◌++◌, take, Option, None, Some, Result, Ok, Err}
 use Rattle.std.specs.Io.KnownBytes.{Appends, Consumes}
 
@@ -14,28 +14,28 @@ pub data WriteAnswer : Type 0 where
   Flushed : WriteAnswer
   NotFlushed : WriteAnswer
 
--- What a reader tells: the bytes that it has still to give, and how its reads went, in order. It may tell
+-- What a reader reports: the bytes that it has still to give, and how its reads went, in order. It may report
 -- neither.
 pub record Input : Type 0 where
   pub left : Option (List ℕ)
   pub reads : Option (List ReadAnswer)
 
--- What a writer tells: the bytes that it took, and how its uses went, in order. It may tell neither.
+-- What a writer reports: the bytes that it took, and how its uses went, in order. It may report neither.
 pub record Output : Type 0 where
   pub taken : Option (List ℕ)
   pub uses : Option (List WriteAnswer)
 
--- what a read tells by its result and the bytes in its buffer
+-- what a read reports by its result and the bytes in its buffer
 abbrev pub read_answer : {E : Type 0} → Result ℕ E → List ℕ → ReadAnswer
 read_answer (Ok count) buffer = Gave (take count buffer)
 read_answer (Err error) buffer = Failed
 
--- what a write tells by its result and the bytes that it was given
+-- what a write reports by its result and the bytes that it was given
 abbrev pub write_answer : {E : Type 0} → Result ℕ E → List ℕ → WriteAnswer
 write_answer (Ok count) bytes = Took (take count bytes)
 write_answer (Err error) bytes = Refused
 
--- what a flush tells by its result
+-- what a flush reports by its result
 abbrev pub flush_answer : {T E : Type 0} → Result T E → WriteAnswer
 flush_answer (Ok done) = Flushed
 flush_answer (Err error) = NotFlushed
@@ -52,18 +52,18 @@ taken_by Refused = []
 taken_by Flushed = []
 taken_by NotFlushed = []
 
--- what is told grows by these
-abbrev pub Adds : {X : Type 0} → Option (List X) → Option (List X) → List X → Type 0
-Adds None new more = ⊤
-Adds (Some told) None more = ⊥
-Adds (Some told) (Some new) more = new ≡ told ++ more
+-- what is reported grows by these
+abbrev pub TellsMore : {X : Type 0} → Option (List X) → Option (List X) → List X → Type 0
+TellsMore None new more = ⊤
+TellsMore (Some told) None more = ⊥
+TellsMore (Some told) (Some new) more = new ≡ told ++ more
 
 -- one read
-pub record Reads (before after : Input) (answer : ReadAnswer) : Type 0 where
+pub record ReadsOnce (before after : Input) (answer : ReadAnswer) : Type 0 where
   pub bytes : Consumes before.left after.left (given_by answer)
-  pub told : Adds before.reads after.reads (answer ∷ [])
+  pub told : TellsMore before.reads after.reads (answer ∷ [])
 
 -- one use of a writer
 pub record Uses (before after : Output) (answer : WriteAnswer) : Type 0 where
   pub bytes : Appends before.taken after.taken (taken_by answer)
-  pub told : Adds before.uses after.uses (answer ∷ [])
+  pub told : TellsMore before.uses after.uses (answer ∷ [])

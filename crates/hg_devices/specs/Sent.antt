@@ -4,7 +4,7 @@ use Rattle.std.specs.List.{concat}
 use Rattle.std.specs.Io.KnownBytes.{Appends}
 use Rattle.hg_devices.specs.declared.sending.Sending.{Sending}
 use Rattle.hg_devices.specs.declared.sending.Sending.TheVariants.{Whole, Broken, NoMemory}
-use Rattle.hg_devices.specs.Devices.{Output, WriteAnswer, Took, Refused, Flushed, NotFlushed, Adds}
+use Rattle.hg_devices.specs.Devices.{Output, WriteAnswer, Took, Refused, Flushed, NotFlushed, TellsMore}
 
 -- what was not written, and the last write, where it took none of that or failed
 abbrev pub StopsShort : List ℕ → List WriteAnswer → Type 0
@@ -18,7 +18,7 @@ pub record Writes (before after : Output) (all : List ℕ) (sent : ℕ) : Type 0
   pub each : All (λ piece. 1 ≤ length piece) pieces
   pub sent_is : concat pieces ≡ take sent all
   pub bytes : Appends before.taken after.taken (concat pieces)
-  pub uses : Adds before.uses after.uses (map Took pieces ++ last)
+  pub uses : TellsMore before.uses after.uses (map Took pieces ++ last)
   pub ends : ((sent ≡ length all) × (last ≡ [])) ⊎ ((sent ≤ length all) × StopsShort (drop sent all) last)
 
 -- what was not written, and the last use of the writer
@@ -49,4 +49,4 @@ pub record Sends (sending : Sending) (count : ℕ) (before after : Output) (repl
   pub sent : IsSent sending gone uses reply
   pub count_is : count ≡ length gone
   pub bytes : Appends before.taken after.taken gone
-  pub told : Adds before.uses after.uses uses
+  pub told : TellsMore before.uses after.uses uses

@@ -1,26 +1,26 @@
-//! Readers and writers that may tell how they were used.
+//! Readers and writers that may say how they were used.
 
 ghost use Rattle.std.specs.Prelude.{◌≡◌, ◌<◌, Ok, None, length};
 ghost use Rattle.std.specs.Io.{ReadsAtMost, WritesAtMost};
 ghost use Rattle.std.specs.Io.KnownBytes.{IsAtEnd};
-ghost use Rattle.hg_devices.specs.Devices.{Input, Output, Reads, Uses, flush_answer, read_answer};
+ghost use Rattle.hg_devices.specs.Devices.{Input, Output, ReadsOnce, Uses, flush_answer, read_answer};
 ghost use Rattle.hg_devices.specs.Devices.{write_answer};
 
 use std::io::{Read, Result, Write};
 
-/// A reader of bytes. A contract speaks of what it tells: the bytes that it has still to give, and how each
+/// A reader of bytes. A contract speaks of what it reports: the bytes that it has still to give, and how each
 /// read went.
 pub trait Reader {
     ghost told: { Self → Input };
 
-    /// Reads some bytes to the front of the buffer, and says how many: none at the end of the input.
+    /// ReadsOnce some bytes to the front of the buffer, and says how many: none at the end of the input.
     fn read(&mut self, buffer: &mut [u8]) -> Result<usize>
         ensures bound { ReadsAtMost result buffer.new }
-        ensures read { Reads (told self.old) (told self.new) (read_answer result buffer.new) }
+        ensures read { ReadsOnce (told self.old) (told self.new) (read_answer result buffer.new) }
         ensures end { result ≡ Ok 0 → 0 < length buffer.new → IsAtEnd (told self.new).left };
 }
 
-/// A writer of bytes. A contract speaks of what it tells: the bytes that it took, and how each write and
+/// A writer of bytes. A contract speaks of what it reports: the bytes that it took, and how each write and
 /// flush went.
 pub trait Writer {
     ghost told: { Self → Output };
@@ -35,7 +35,7 @@ pub trait Writer {
         ensures { Uses (told self.old) (told self.new) (flush_answer result) };
 }
 
-/// A reader of the library tells its bytes, where it knows them, and not how its reads went.
+/// A reader of the library reports its bytes, where it knows them, and not how its reads went.
 impl<R: Read> Reader for R {
     ghost told = { λ r. record { left = R.remaining r; reads = None } };
 
@@ -44,7 +44,7 @@ impl<R: Read> Reader for R {
     }
 }
 
-/// A writer of the library tells its bytes, where it knows them, and not how its writes went.
+/// A writer of the library reports its bytes, where it knows them, and not how its writes went.
 impl<W: Write> Writer for W {
     ghost told = { λ w. record { taken = W.contents w; uses = None } };
 

@@ -21,7 +21,7 @@ use Rattle.hg_log.specs.declared.add.AddFault.TheVariants.{TooMany, NoMemory}
 use Rattle.hg_log.specs.Rows.{AreLawful}
 use Rattle.hg_log.specs.Changeset.{Changeset, Log}
 use Rattle.hg_log.specs.Answer.{answer_of}
-use Rattle.hg_log.specs.Add.{row_of, Leaves, IsAppended}
+use Rattle.hg_log.specs.Add.{row_of, AddLeaves, IsAppended}
 use Rattle.hg_log.specs.Parents.{parents_of, rev_of}
 use Rattle.hg_log.specs.HeadCount.{head_count}
 use Rattle.hg_phases.specs.Phases.{AreFor, Marked, registered}
@@ -94,14 +94,14 @@ on_known_more rows more pairs all = λ k d low. known_more rows more (get_or pai
 
 -- the log has a row more, under that number
 pub appended : {A : Type 0} (old new : Log) (entry : Entry A) (added : Added) (rev : ℕ) → added ≡ New rev
-    → Leaves old entry added new → IsAppended old entry rev new
+    → AddLeaves old entry added new → IsAppended old entry rev new
 appended old new entry (New other) rev is left = let same : other ≡ rev = cc in
     subst (λ (r : ℕ). IsAppended old entry r new) same left
 appended old new entry Known rev is left = absurd cc
 
 -- the log is as it was
 pub unchanged : {A : Type 0} (old new : Log) (entry : Entry A) (added : Added) → added ≡ Known
-    → Leaves old entry added new → new ≡ old
+    → AddLeaves old entry added new → new ≡ old
 unchanged old new entry (New other) is left = absurd cc
 unchanged old new entry Known is left = left.1
 

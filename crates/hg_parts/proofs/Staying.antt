@@ -17,7 +17,7 @@ use Rattle.hg_types.specs.declared.phase.Phase.{Phase}
 use Rattle.hg_log.specs.declared.add.Added.{Added}
 use Rattle.hg_log.specs.declared.add.Added.TheVariants.{New, Known}
 use Rattle.hg_log.specs.declared.add.AddFault.{AddFault}
-use Rattle.hg_log.specs.Add.{Leaves, row_of}
+use Rattle.hg_log.specs.Add.{AddLeaves, row_of}
 use Rattle.hg_log.specs.Answer.{answer_of}
 use Rattle.hg_log.specs.Changeset.{Changeset, Log}
 use Rattle.hg_log.specs.Parents.{parents_of, rev_of}
@@ -66,7 +66,7 @@ pub record Laws (A : Type 0) : Type 0 where
   pub rows_stay : (log : Log) (entry : Entry A) → AreLawfulRows log.rows
       → AreLawfulRows (answer_of log entry).1.rows
   pub leaves : (log : Log) (entry : Entry A)
-      → IfOk (answer_of log entry).0 (λ added. Leaves log entry added (answer_of log entry).1)
+      → IfOk (answer_of log entry).0 (λ added. AddLeaves log entry added (answer_of log entry).1)
   pub behind : (old new : List Changeset) (phases : List Phase)
       → AreLawfulRows new → length old ≤ length new → take (length old) new ≡ old → length phases ≤ length old
       → AreLawfulPhases (parents_of old) phases → AreLawfulPhases (parents_of new) phases
@@ -176,7 +176,7 @@ module _ {A : Type 0} (laws : Laws A) where
 
   grown_by : (pairs : Pairs) (t : Phase) (log : Log) (phases : List Phase) (entry : Entry A)
       (answer : Result Added AddFault × Log) → AreLawfulRows answer.1.rows
-      → IfOk answer.0 (λ added. Leaves log entry added answer.1)
+      → IfOk answer.0 (λ added. AddLeaves log entry added answer.1)
       → AreGrown pairs (record { rows = log.rows; phases = phases })
       → Grows pairs (changegroup.grown_by t phases answer)
   grown_by pairs t log phases entry (Ok (New rev), after) lawful left before =

@@ -51,7 +51,7 @@ table =
     }
     ∷ []
 
--- what a race tells of a check of that kind
+-- what a race says of a check of that kind
 abbrev pub race_text : CheckKind → RaceText
 race_text check.Heads = HeadsChanged
 race_text check.Phases = PhasesChanged
@@ -61,7 +61,7 @@ race_text check.Bookmarks = BookmarksChanged
 unfoldable pub row_of : List ℕ → Option Row
 row_of kind = find (λ row. str_eq_ignore_ascii_case row.name kind) table
 
--- a type as a refusal tells it
+-- a type as a refusal names it
 abbrev pub lower : List ℕ → List ℕ
 lower kind = str_to_ascii_lowercase kind
 

@@ -1,4 +1,4 @@
--- Parts that are read before their turn: what their bytes tell without the repository, and what is kept of
+-- Parts that are read before their turn: what their bytes say without the repository, and what is kept of
 -- them.
 use Rattle.std.specs.Prelude.{◌≡◌, ℕ, Bool, true, false, List, [], ◌∷◌, Ok, Err}
 use Rattle.hg_types.specs.declared.part.Part.{Part}
@@ -37,12 +37,12 @@ read_supported part Pushkey = reading.Pushkey
 read_supported part Output = reading.Output
 read_supported part ErrorAbort = reading.ErrorAbort
 
--- what a part tells without the repository, by whether it is supported
+-- what a part says without the repository, by whether it is supported
 abbrev pub read_as : {A : Type 0} → Part A → Support → Reading A
 read_as part (Supported part_type) = read_supported part part_type
 read_as part (Unsupported names) = reading.Unsupported
 
--- What a part tells without the repository.
+-- What a part says without the repository.
 abbrev pub reading_of : {A : Type 0} → Part A → Reading A
 reading_of part = read_as part (support_of part)
 

@@ -1,4 +1,4 @@
--- What a refusal tells the client.
+-- What a refusal says to the client.
 use Rattle.std.specs.Prelude.{ℕ, List, codes}
 use Rattle.hg_parts.specs.declared.refusal.RaceText.{RaceText}
 use Rattle.hg_parts.specs.declared.refusal.RaceText.TheVariants.{HeadsChanged, PhasesChanged}

@@ -10,7 +10,7 @@ use Rattle.hg_params.specs.Writing.{IsWritable}
 abbrev pub answering : {A : Type 0} → List ℕ → List ℕ → Param A
 answering key value = record { mandatory = false; key = key; value = value }
 
--- The reply of that type to the part with that id: it tells the id, and under that name one value more. Its
+-- The reply of that type to the part with that id: it has the id, and under that name one value more. Its
 -- own id is given by its place among the replies.
 unfoldable pub reply_part : {A : Type 0} → List ℕ → ℕ → List ℕ → List ℕ → Part A
 reply_part kind id key value = record {

@@ -33,7 +33,7 @@ pub fn replies_have_no_payload<A: Allocator>()
         → IfSome given.reply (λ reply. reply.payload ≡ []) }
 {}
 
-/// A refusal tells the place of its part, and which types of part can give it. By the definitions alone no part
+/// A refusal names the place of its part, and which types of part can give it. By the definitions alone no part
 /// is refused for lack of memory, and none of its changesets: only code answers that.
 pub fn refusals_tell_their_parts<A: Allocator>()
     ensures { (source : AnySource) (repo : Repository A) (replying : Bool) (place : ℕ) (part : AnyPart A)

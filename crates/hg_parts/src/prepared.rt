@@ -1,10 +1,10 @@
 //! Parts that are read before their turn.
 //!
-//! What a part's bytes tell without the repository is read when the part comes: whether it is supported, and
+//! What a part's bytes say without the repository is read when the part comes: whether it is supported, and
 //! the payloads of `changegroup`, `phase-heads` and `obsmarkers`. A payload that was read is dropped, and the
 //! content of manifests and files with it; so is that of a part that is not supported or has a fault. All
 //! other payloads stay, also those of `replycaps`, `output`, `pushkey` and `error:abort`, which nobody looks
-//! at. What is left is a [`Prepared`]. A fault that reading finds is kept there, and told when the part's
+//! at. What is left is a [`Prepared`]. A fault that reading finds is kept there, and reported when the part's
 //! turn comes: a part before it may refuse the push for another reason.
 
 ghost use Rattle.std.specs.Prelude.{◌≡◌, IfOk};
@@ -20,7 +20,7 @@ use hg_checks::CheckKind;
 use hg_types::{Entry, NoMemory, Node, Part, Phase, Seq};
 use std::alloc::{Allocator, Global};
 
-/// What a part tells without the repository. A type of part that is named alone is read in its turn.
+/// What a part says without the repository. A type of part that is named alone is read in its turn.
 #[derive(Drop)]
 pub enum Reading<A: Allocator = Global> {
     /// Its type is not known, or a mandatory parameter of it is not.
@@ -44,7 +44,7 @@ pub enum Reading<A: Allocator = Global> {
     ErrorAbort,
 }
 
-/// A part that waits for its turn: what it told without the repository, and what else is wanted of it.
+/// A part that waits for its turn: what it says without the repository, and what else is wanted of it.
 #[derive(Drop)]
 pub struct Prepared<A: Allocator = Global> {
     pub(crate) reading: Reading<A>,
@@ -106,7 +106,7 @@ fn is_replycaps<A: Allocator>(reading: &Reading<A>) -> bool
     matches!(reading, Reading::ReplyCaps)
 }
 
-/// What a part tells without the repository.
+/// What a part says without the repository.
 pub fn read_part<A: Allocator + Copy>(alloc: A, part: &Part<A>) -> Result<Reading<A>, NoMemory>
     ensures { IfOk result (λ reading. reading ≡ reading_of part.now) }
 {

@@ -11,18 +11,18 @@ use std::alloc::{Allocator, Global};
 /// What changed under a push between its preparation and its run.
 #[derive(Clone, Copy, Debug, PartialEq, Eq)]
 pub enum RaceText {
-    /// `heads changed`: the heads are not those that `check:heads` names.
+    /// `heads changed`: the heads are not those that a check names.
     HeadsChanged,
-    /// `phases changed`: a changeset is in another phase than `check:phases` says.
+    /// `phases changed`: a changeset is in another phase than a check says.
     PhasesChanged,
-    /// `bookmarks changed`: a bookmark is on another changeset than `check:bookmarks` says.
+    /// `bookmarks changed`: a bookmark is on another changeset than a check says.
     BookmarksChanged,
 }
 
 impl RaceText {
     ghost use Rattle.hg_parts.specs.Refusal.{message_of};
 
-    /// The text that the reply tells, in ASCII.
+    /// The text that the reply reports, in ASCII.
     pub fn message(self) -> &'static [u8]
         ensures { result.now ≡ message_of self }
     {

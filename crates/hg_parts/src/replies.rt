@@ -1,6 +1,6 @@
 //! The parts of a reply.
 //!
-//! A part that is handled may leave one part of the reply to its push: an advisory one, which tells the id
+//! A part that is handled may leave one part of the reply to its push: an advisory one, which has the id
 //! of the part that it answers and one value more, in advisory parameters, and has no payload.
 
 ghost use Rattle.std.specs.Prelude.{◌≡◌, IfOk};
@@ -9,7 +9,7 @@ ghost use Rattle.hg_parts.specs.Replies.{answering, reply_part, CanReply, IsRepl
 use hg_types::{NoMemory, Param, Part, Seq};
 use std::alloc::Allocator;
 
-/// The reply of that type to the part with that id: `in-reply-to` tells the id, in decimal, and `key` the
+/// The reply of that type to the part with that id: `in-reply-to` has the id, in decimal, and `key` the
 /// value.
 pub fn reply_part<A: Allocator + Copy>(
     alloc: A,

@@ -54,9 +54,22 @@ impl<A: Allocator + Copy> Store<A> {
         ensures { IfOk result (λ copy. copy ≡ without_marks self.now) }
     {
         let log = self.log.try_clone(alloc)?;
-        let phases = self.phases.try_clone(alloc)?;
-        let markers = self.markers.try_clone(alloc)?;
-        let bookmarks = self.bookmarks.try_clone(alloc)?;
+        // A copy that is not wanted is dropped by a call: its clause is proved once.
+        let Ok(phases) = self.phases.try_clone(alloc) else {
+            drop(log);
+            return Err(NoMemory);
+        };
+        let Ok(markers) = self.markers.try_clone(alloc) else {
+            drop(log);
+            drop(phases);
+            return Err(NoMemory);
+        };
+        let Ok(bookmarks) = self.bookmarks.try_clone(alloc) else {
+            drop(log);
+            drop(phases);
+            drop(markers);
+            return Err(NoMemory);
+        };
         Ok(Store {
             log,
             phases,

@@ -159,7 +159,7 @@ fn row_of(kind: &[u8]) -> Option<&'static Row>
     find_row(rows(), kind)
 }
 
-/// What a race tells of a check of that kind.
+/// What a race says of a check of that kind.
 pub fn race_text(kind: CheckKind) -> RaceText
     ensures { result ≡ race_text kind }
 {

@@ -2,10 +2,10 @@
 use Rattle.std.proofs.Common.{ℕ, ◌≡◌, [], sym, arith, nat_le, nat_lt}
 use Rattle.std.proofs.lemmas.Bool.{and_parts, leb-true, ltb-true}
 use Rattle.hg_push.specs.History.{Running}
-use Rattle.hg_push.specs.Book.{Book, Holds}
+use Rattle.hg_push.specs.Book.{Book, HoldsHistory}
 
 pub holds_none : {A R D E : Type 0} (run : Running A R D E) (first : R) (b : Book A R D E) → b.repo ≡ first
-    → b.journal ≡ [] → b.next ≡ b.first_push → Holds run first [] b
+    → b.journal ≡ [] → b.next ≡ b.first_push → HoldsHistory run first [] b
 holds_none {A} {R} run first b repo journal next = record {
   state = λ i. record { repo = sym repo i; journal = sym journal i };
   legal = tt;

@@ -12,8 +12,8 @@ use Rattle.hg_push.specs.declared.outcome.Outcome.{Outcome}
 use Rattle.hg_push.specs.declared.row.Row.{Row}
 use Rattle.hg_push.specs.History.{Running, outcome}
 use Rattle.hg_push.specs.Rows.{row_of, rows_without, reply_in}
-use Rattle.hg_push.specs.Book.{Book, Holds}
-use Rattle.hg_push.specs.Calls.{AreAnswers, Course, Follows, IsAnswer, after_call, after_calls, is_waiting}
+use Rattle.hg_push.specs.Book.{Book, HoldsHistory}
+use Rattle.hg_push.specs.Calls.{AreAnswers, Course, BookFollows, IsAnswer, after_call, after_calls, is_waiting}
 use Rattle.hg_push.specs.Calls.{reply_due}
 use Rattle.hg_push.proofs.Trims.{either_way}
 
@@ -31,7 +31,7 @@ absent_row p (r ∷ rows) waits =
     cc) (λ f. rw f (absent_row p rows (rw f at waits)))
 
 pub reply_right : {A R D E : Type 0} (run : Running A R D E) (first : R) (c : Course A) (b : Book A R D E)
-    (p : ℕ) (reply : Option (Outcome D E)) → Follows run first c b → reply ≡ reply_in (row_of p b.rows)
+    (p : ℕ) (reply : Option (Outcome D E)) → BookFollows run first c b → reply ≡ reply_in (row_of p b.rows)
     → (IsSome (row_of p b.rows) → reply ≡ outcome run first p c.history) → reply ≡ reply_due run first c p
 reply_right run first c b p reply follows is told =
     either_way (is_waiting c p)
@@ -46,11 +46,11 @@ pushes_without p (r ∷ rows) =
     (λ f. rw f (ap (λ ps. r.push ∷ ps) (pushes_without p rows)))
 
 pub reply_follows : {A R D E : Type 0} (run : Running A R D E) (first : R) (c : Course A)
-    (b new : Book A R D E) (p : ℕ) (reply : Option (Outcome D E)) → Follows run first c b
+    (b new : Book A R D E) (p : ℕ) (reply : Option (Outcome D E)) → BookFollows run first c b
     → IfNone reply (new ≡ b) → IfSome reply (λ ending. new ≡ record b { rows = rows_without p b.rows })
-    → Holds run first c.history new → Follows run first (after_call c (TakeReply p) (Reply reply)) new
+    → HoldsHistory run first c.history new → BookFollows run first (after_call c (TakeReply p) (Reply reply)) new
 reply_follows run first c b new p None follows same taken holds =
-    subst (Follows run first c) (sym same) follows
+    subst (BookFollows run first c) (sym same) follows
 reply_follows run first c b new p (Some ending) follows same taken holds = record {
   holds = holds;
   first_push = ap (λ k. k.first_push) taken ∙ follows.first_push;
@@ -86,24 +86,24 @@ after_more run first c (k ∷ calls) (a ∷ answers) call answer are =
 pub record AnswersSoFar {A R D E : Type 0} (run : Running A R D E) (first : R) (c : Course A)
     (calls : List (Call A)) (answers : List (Answer D E)) (b : Book A R D E) : Type 0 where
   pub right : AreAnswers run first c calls answers
-  pub follows : Follows run first (after_calls c calls answers) b
+  pub follows : BookFollows run first (after_calls c calls answers) b
 
 pub so_far_more : {A R D E : Type 0} (run : Running A R D E) (first : R) (c : Course A)
     (calls : List (Call A)) (answers : List (Answer D E)) (b new : Book A R D E) (call : Call A)
     (answer : Answer D E) → AnswersSoFar run first c calls answers b
-    → (Follows run first (after_calls c calls answers) b
+    → (BookFollows run first (after_calls c calls answers) b
     → IsAnswer run first (after_calls c calls answers) call answer)
-    → (Follows run first (after_calls c calls answers) b
-    → Follows run first (after_call (after_calls c calls answers) call answer) new)
+    → (BookFollows run first (after_calls c calls answers) b
+    → BookFollows run first (after_call (after_calls c calls answers) call answer) new)
     → AnswersSoFar run first c (calls ++ call ∷ []) (answers ++ answer ∷ []) new
 so_far_more run first c calls answers b new call answer far is next = record {
   right = answers_more run first c calls answers call answer far.right (is far.follows);
-  follows = subst (λ k. Follows run first k new)
+  follows = subst (λ k. BookFollows run first k new)
       (sym (after_more run first c calls answers call answer far.right)) (next far.follows);
 }
 
 pub so_far_none : {A R D E : Type 0} (run : Running A R D E) (first : R) (c : Course A)
-    (answers : List (Answer D E)) (b : Book A R D E) → answers ≡ [] → Follows run first c b
+    (answers : List (Answer D E)) (b : Book A R D E) → answers ≡ [] → BookFollows run first c b
     → AnswersSoFar run first c [] answers b
 so_far_none run first c answers b none follows = rw none (record { right = tt; follows = follows })
 

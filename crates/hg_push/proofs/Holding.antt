@@ -17,8 +17,8 @@ use Rattle.hg_push.specs.declared.row.State.{State}
 use Rattle.hg_push.specs.declared.row.State.TheVariants.{Open, Closed}
 use Rattle.hg_push.specs.History.{History, Running, is_of, closes, is_closed, kept, parts, parts_after}
 use Rattle.hg_push.specs.History.{serial, outcome, decided, decided_by, is_mark, told}
-use Rattle.hg_push.specs.Rows.{row_of, is_open, staged_in, Stages, Tells, TellsState, StepsRow}
-use Rattle.hg_push.specs.Book.{Book, Holds, is_opened, stepped}
+use Rattle.hg_push.specs.Rows.{row_of, is_open, staged_in, Stages, RowTells, TellsState, StepsRow}
+use Rattle.hg_push.specs.Book.{Book, HoldsHistory, is_opened, stepped}
 use Rattle.hg_push.proofs.Trims.{either_way}
 use Rattle.hg_push.proofs.Withouts.{outcome_open}
 
@@ -101,7 +101,7 @@ open_tells ps how (Closed ending) ready tells = cc
 
 -- what no row or a closed row tells
 no_row_closed : {A D E : Type 0} (ps : List (Part A)) (how : Option (Outcome D E)) (row : Option (Row D E A))
-    → ((r : Row D E A) → row ≡ Some r → is_open r.state ≡ false) → Tells ps how row → IsSome how
+    → ((r : Row D E A) → row ≡ Some r → is_open r.state ≡ false) → RowTells ps how row → IsSome how
 no_row_closed ps how None shut tells = tells
 no_row_closed ps how (Some r) shut tells = closed_tells ps how r.state (shut r refl) tells
 
@@ -116,9 +116,9 @@ other_place p x h other = grind (arith, nat_tests)
 -- ---- an item of a closed push is dropped
 
 pub holds_dropped : {A R D E : Type 0} (run : Running A R D E) (first : R) (h : History A) (b : Book A R D E)
-    (item : Item A) → Holds run first h b → is_opened b item.push ≡ true
+    (item : Item A) → HoldsHistory run first h b → is_opened b item.push ≡ true
     → ((r : Row D E A) → row_of item.push b.rows ≡ Some r → is_open r.state ≡ false)
-    → Holds run first (record { item = item; refused = false } ∷ h) b
+    → HoldsHistory run first (record { item = item; refused = false } ∷ h) b
 holds_dropped {A} run first h b item holds opened shut =
     let x : Taken A = record { item = item; refused = false } in
     let ended = no_row_closed _ _ _ shut (holds.rows item.push opened) in
@@ -129,8 +129,8 @@ holds_dropped {A} run first h b item holds opened shut =
       opened = (opened, holds.opened);
       rows = λ p q.
           let late = late_place p x h c in
-          subst (λ ps. Tells ps (outcome run first p (x ∷ h)) (row_of p b.rows)) (sym (parts_same p x h late))
-          (subst (λ how. Tells (parts p h) how (row_of p b.rows))
+          subst (λ ps. RowTells ps (outcome run first p (x ∷ h)) (row_of p b.rows)) (sym (parts_same p x h late))
+          (subst (λ how. RowTells (parts p h) how (row_of p b.rows))
           (sym (outcome_same run first p x h late)) (holds.rows p q));
     }
 
@@ -142,17 +142,17 @@ all_same f g same [] all = tt
 all_same f g same (x ∷ h) all = (same x.item.push ∙ all.0, all_same f g same h all.1)
 
 pub holds_stepped : {A R D E : Type 0} (run : Running A R D E) (first : R) (h : History A)
-    (b new : Book A R D E) (x : Taken A) (r r' : Row D E A) → Holds run first h b
+    (b new : Book A R D E) (x : Taken A) (r r' : Row D E A) → HoldsHistory run first h b
     → is_opened b x.item.push ≡ true
     → row_of x.item.push b.rows ≡ Some r → r.push ≡ x.item.push → is_open r.state ≡ true
     → StepsRow run (record { repo = b.repo; journal = b.journal }) r x
     (record { repo = new.repo; journal = new.journal }) r'
     → ((p : ℕ) → is_opened new p ≡ is_opened b p) → row_of x.item.push new.rows ≡ Some r'
     → ((p : ℕ) → p ≢ x.item.push → row_of p new.rows ≡ row_of p b.rows)
-    → Holds run first (x ∷ h) new
+    → HoldsHistory run first (x ∷ h) new
 holds_stepped {A} {R} {D} {E} run first h b new x r r' holds opened row own ready steps same row' others =
-    let mine : Tells (parts x.item.push h) (outcome run first x.item.push h) (Some r) = subst
-    (λ o. Tells (parts x.item.push h) (outcome run first x.item.push h) o) row
+    let mine : RowTells (parts x.item.push h) (outcome run first x.item.push h) (Some r) = subst
+    (λ o. RowTells (parts x.item.push h) (outcome run first x.item.push h) o) row
     (holds.rows x.item.push opened) in
     let tells = open_tells (parts x.item.push h) (outcome run first x.item.push h) r.state ready mine in
     let o : is_closed x.item.push h ≡ false = unended_open run first x.item.push h tells.0 in
@@ -168,7 +168,7 @@ holds_stepped {A} {R} {D} {E} run first h b new x r r' holds opened row own read
       rows = λ p q.
           either_way (p == x.item.push)
           (λ t. let e : p ≡ x.item.push = grind (arith, nat_tests) in let P : ℕ
-          → Type 0 = λ n. Tells (parts n (x ∷ h)) (outcome run first n (x ∷ h)) (row_of n new.rows) in
+          → Type 0 = λ n. RowTells (parts n (x ∷ h)) (outcome run first n (x ∷ h)) (row_of n new.rows) in
           subst P (sym e) (rw (it, o, repo, row') with_parts.told))
           (λ f. let other : p ≢ x.item.push = grind (arith, nat_tests) in
           let late = other_place p x h other in
@@ -178,9 +178,9 @@ holds_stepped {A} {R} {D} {E} run first h b new x r r' holds opened row own read
 
 -- an item of a push that is not open is dropped
 pub holds_unchanged : {A R D E : Type 0} (run : Running A R D E) (first : R) (h : History A)
-    (b : Book A R D E) (item : Item A) → Holds run first h b
+    (b : Book A R D E) (item : Item A) → HoldsHistory run first h b
     → ((r : Row D E A) → row_of item.push b.rows ≡ Some r → is_open r.state ≡ false)
-    → Holds run first (stepped b item false h) b
+    → HoldsHistory run first (stepped b item false h) b
 holds_unchanged run first h b item holds shut =
     either_way (is_opened b item.push) (λ t. rw t (holds_dropped run first h b item holds t shut))
     (λ f. rw f holds)

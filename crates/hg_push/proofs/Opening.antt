@@ -11,8 +11,8 @@ use Rattle.hg_push.specs.declared.row.Row.{Row}
 use Rattle.hg_push.specs.declared.row.State.{State}
 use Rattle.hg_push.specs.declared.row.State.TheVariants.{Open}
 use Rattle.hg_push.specs.History.{History, Running, is_of, parts, outcome}
-use Rattle.hg_push.specs.Rows.{row_of, is_open, Tells}
-use Rattle.hg_push.specs.Book.{Book, Holds, AreRows, AreNumbers, is_between, is_opened, Opens}
+use Rattle.hg_push.specs.Rows.{row_of, is_open, RowTells}
+use Rattle.hg_push.specs.Book.{Book, HoldsHistory, AreRows, AreNumbers, is_between, is_opened, Opens}
 use Rattle.hg_push.proofs.Finding.{row_opened}
 use Rattle.hg_push.proofs.Trims.{either_way}
 
@@ -62,7 +62,7 @@ not_yet first next = grind (arith, nat_tests)
 
 pub holds_opened : {A R D E : Type 0} (run : Running A R D E) (first : R) (h : History A)
     (b new : Book A R D E) → b.first_push ≤ b.next → AreRows (is_between b.first_push b.next) b.rows
-    → Opens b b.next new → Holds run first h b → Holds run first h new
+    → Opens b b.next new → HoldsHistory run first h b → HoldsHistory run first h new
 holds_opened {A} {R} {D} {E} run first h b new order are opens holds =
     let row : Row D E A = record { push = b.next; state = Open [] } in
     let grown : Book A R D E = record b { next = b.next + 1; rows = b.rows ++ row ∷ [] } in
@@ -70,7 +70,7 @@ holds_opened {A} {R} {D} {E} run first h b new order are opens holds =
     let none : row_of b.next b.rows ≡ None = no_row (is_between b.first_push b.next) b.next b.rows _ are fresh
     refl in
     let own : (b.next == b.next) ≡ true = grind (arith, nat_tests) in
-    subst (Holds run first h) (sym opens.1) (record {
+    subst (HoldsHistory run first h) (sym opens.1) (record {
       state = holds.state;
       legal = holds.legal;
       opened = more_opened (is_opened b) (is_opened grown) (λ p q. next_opened b.first_push b.next p order
@@ -79,7 +79,7 @@ holds_opened {A} {R} {D} {E} run first h b new order are opens holds =
           either_way (p == b.next)
           (λ t.
           let e : p ≡ b.next = grind (arith, nat_tests) in
-          let P : ℕ → Type 0 = λ n. Tells (parts n h) (outcome run first n h)
+          let P : ℕ → Type 0 = λ n. RowTells (parts n h) (outcome run first n h)
           (row_of n (b.rows ++ row ∷ [])) in
           let here : row_of b.next (b.rows ++ row ∷ []) ≡ Some row = find-append (λ r. r.push
           == b.next) b.rows (row ∷ []) ∙ rw (none, own) in

@@ -14,7 +14,7 @@ use Rattle.hg_push.specs.declared.outcome.Standing.TheVariants.{Aborted as is_ab
 use Rattle.hg_push.specs.History.{History, Running, outcome, serial}
 use Rattle.hg_push.specs.Changed.{is_done}
 use Rattle.hg_push.specs.Rows.{standing_of}
-use Rattle.hg_push.specs.Book.{Book, Holds, is_opened}
+use Rattle.hg_push.specs.Book.{Book, HoldsHistory, is_opened}
 use Rattle.hg_push.specs.Places.{IsPlace, RestsOn, TellsPlace, TellsRests}
 use Rattle.hg_push.proofs.Journals.{done_journal}
 use Rattle.hg_push.proofs.Opening.{fresh_outcome}
@@ -41,7 +41,7 @@ splits p (suc k) (n ∷ ns) low is =
     }
 
 module _ {A R D E : Type 0} (run : Running A R D E) (first : R) (h : History A) (b : Book A R D E) (p : ℕ)
-    (holds : Holds run first h b) where
+    (holds : HoldsHistory run first h b) where
   pub journal_is : (serial run first h).journal ≡ b.journal
   journal_is = ap (λ s. s.journal) holds.state
 
@@ -91,7 +91,7 @@ module _ {A R D E : Type 0} (run : Running A R D E) (first : R) (h : History A) 
   known : s ≢ is_unknown_now → s ≡ standing_of (outcome run first p h)
   known other = either_way (is_opened b p) opened (λ f. absurd (other (unknown f)))
 
-  pub rests_unknown : Holds run first h b → s ≡ is_unknown_now → TellsRests run first h p None
+  pub rests_unknown : HoldsHistory run first h b → s ≡ is_unknown_now → TellsRests run first h p None
   rests_unknown holds is =
       either_way (is_opened b p)
       (λ t. absurd (unknown_never (outcome run first p h) (sym (opened t) ∙ is)))
@@ -102,7 +102,7 @@ module _ {A R D E : Type 0} (run : Running A R D E) (first : R) (h : History A) 
       open_none (outcome run first p h) (sym (known (λ e. let same : is_open_now ≡ is_unknown_now = sym is ∙ e in
       cc)) ∙ is)
 
-  pub rests_aborted : Holds run first h b → (rests : ℕ) → s ≡ is_aborted_now → rests ≡ length b.journal
+  pub rests_aborted : HoldsHistory run first h b → (rests : ℕ) → s ≡ is_aborted_now → rests ≡ length b.journal
       → TellsRests run first h p (Some rests)
   rests_aborted holds rests is count =
       let how = aborted_some (outcome run first p h)
@@ -117,13 +117,13 @@ module _ {A R D E : Type 0} (run : Running A R D E) (first : R) (h : History A) 
       done_some (outcome run first p h)
       (sym (known (λ e. let same : is_done_now ≡ is_unknown_now = sym is ∙ e in cc)) ∙ is)
 
-  pub rests_done : Holds run first h b → (place : ℕ) → s ≡ is_done_now → place < length b.journal
+  pub rests_done : HoldsHistory run first h b → (place : ℕ) → s ≡ is_done_now → place < length b.journal
       → p ≡ get_or b.journal place p → TellsRests run first h p (Some (place + 1))
   rests_done holds place is low at =
       let how = done_there is in
       (Done how.0, how.1, (place, place_found run first h b p holds place low at, refl))
 
-  pub rests_nowhere : Holds run first h b → s ≡ is_done_now → list_any (λ q. q == p) b.journal ≡ false
+  pub rests_nowhere : HoldsHistory run first h b → s ≡ is_done_now → list_any (λ q. q == p) b.journal ≡ false
       → TellsRests run first h p None
   rests_nowhere holds is none =
       let how = done_there is in

@@ -13,8 +13,8 @@ use Rattle.hg_types.specs.declared.part.Part.{Part}
 use Rattle.hg_push.specs.declared.outcome.Standing.TheVariants.{Done as done_now, Aborted as aborted_now}
 use Rattle.hg_push.specs.History.{History, Running, parts, outcome}
 use Rattle.hg_push.specs.Changed.{is_done}
-use Rattle.hg_push.specs.Rows.{Tells, TellsState, standing_of, standing_in}
-use Rattle.hg_push.specs.Book.{Book, Holds, is_between, is_opened}
+use Rattle.hg_push.specs.Rows.{RowTells, TellsState, standing_of, standing_in}
+use Rattle.hg_push.specs.Book.{Book, HoldsHistory, is_between, is_opened}
 use Rattle.hg_push.proofs.Finding.{find_nowhere, found_at}
 use Rattle.hg_push.proofs.Journals.{done_journal}
 
@@ -31,13 +31,13 @@ told_standing ps how (Open staged) tells = rw tells.0
 told_standing ps how (Closed ending) tells = rw tells
 
 pub row_tells : {A R D E : Type 0} (run : Running A R D E) (first : R) (h : History A) (b : Book A R D E)
-    (p i : ℕ) (r : Row D E A) → Holds run first h b → is_opened b p ≡ true
+    (p i : ℕ) (r : Row D E A) → HoldsHistory run first h b → is_opened b p ≡ true
     → position (λ x. x.push == p) b.rows ≡ Some i → r ≡ get_or b.rows i r
     → standing_in r.state ≡ standing_of (outcome run first p h)
 row_tells run first h b p i r holds opened found is =
     let at = found_at (λ x. x.push == p) b.rows i r found is in
     told_standing (parts p h) (outcome run first p h) r.state
-    (subst (λ o. Tells (parts p h) (outcome run first p h) o) at.here (holds.rows p opened))
+    (subst (λ o. RowTells (parts p h) (outcome run first p h) o) at.here (holds.rows p opened))
 
 ended_standing : {D E : Type 0} (how : Option (Outcome D E)) → IsSome how
     → ((is_done how ≡ true → done_now ≡ standing_of how)
@@ -47,11 +47,11 @@ ended_standing (Some (Done done)) ended = (λ h. refl, λ h. cc)
 ended_standing (Some (Aborted reason)) ended = (λ h. cc, λ h. refl)
 
 pub journal_tells : {A R D E : Type 0} (run : Running A R D E) (first : R) (h : History A) (b : Book A R D E)
-    (p : ℕ) → Holds run first h b → is_opened b p ≡ true → position (λ x. x.push == p) b.rows ≡ None
+    (p : ℕ) → HoldsHistory run first h b → is_opened b p ≡ true → position (λ x. x.push == p) b.rows ≡ None
     → (list_any (λ q. q == p) b.journal ≡ true → done_now ≡ standing_of (outcome run first p h))
     × (list_any (λ q. q == p) b.journal ≡ false → aborted_now ≡ standing_of (outcome run first p h))
 journal_tells run first h b p holds opened none =
-    let ended : IsSome (outcome run first p h) = subst (λ o. Tells (parts p h) (outcome run first p h) o)
+    let ended : IsSome (outcome run first p h) = subst (λ o. RowTells (parts p h) (outcome run first p h) o)
     (find_nowhere (λ x. x.push == p) b.rows none) (holds.rows p opened) in
     let cases = ended_standing (outcome run first p h) ended in
     let same : list_any (λ q. q == p) b.journal ≡ is_done (outcome run first p h) =

@@ -9,7 +9,7 @@ use Rattle.hg_types.specs.declared.item.What.{What}
 use Rattle.hg_push.specs.declared.row.Row.{Row}
 use Rattle.hg_push.specs.History.{History, Running}
 use Rattle.hg_push.specs.Rows.{row_of, is_open, StepsRow, IsOpenAt, IsShut}
-use Rattle.hg_push.specs.Book.{Book, Holds, AreRows, AreNumbers, IsSameOpenings, is_between, stepped}
+use Rattle.hg_push.specs.Book.{Book, HoldsHistory, AreRows, AreNumbers, IsSameOpenings, is_between, stepped}
 use Rattle.hg_push.specs.Book.{is_opened}
 use Rattle.hg_push.proofs.Finding.{found_at, row_set, other_set, pushes_set, row_opened}
 use Rattle.hg_push.proofs.Holding.{holds_stepped}
@@ -25,7 +25,7 @@ pub step_taken : {A R D E : Type 0} (run : Running A R D E) (first : R) (h : His
     → StepsRow run (record { repo = b.repo; journal = b.journal }) r
     (record { item = record { push = r.push; index = index; what = what }; refused = refused })
     (record { repo = new.repo; journal = new.journal }) r'
-    → Holds run first h b → Holds run first
+    → HoldsHistory run first h b → HoldsHistory run first
     (stepped b (record { push = push; index = index; what = what }) refused h) new
 step_taken {A} {R} {D} {E} run first h b new rows push index what refused i r r' same rows' first' next' are
     found is steps holds =

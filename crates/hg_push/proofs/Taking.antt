@@ -12,8 +12,8 @@ use Rattle.hg_push.specs.declared.row.Row.{Row}
 use Rattle.hg_push.specs.declared.row.State.{State}
 use Rattle.hg_push.specs.declared.row.State.TheVariants.{Open, Closed}
 use Rattle.hg_push.specs.History.{History, Running, parts, outcome}
-use Rattle.hg_push.specs.Rows.{row_of, rows_without, reply_in, ending_in, is_open, Tells, TellsState}
-use Rattle.hg_push.specs.Book.{Book, Holds, AreRows, is_between, is_opened}
+use Rattle.hg_push.specs.Rows.{row_of, rows_without, reply_in, ending_in, is_open, RowTells, TellsState}
+use Rattle.hg_push.specs.Book.{Book, HoldsHistory, AreRows, is_between, is_opened}
 use Rattle.hg_push.proofs.Finding.{find_nowhere, found_at, row_opened}
 use Rattle.hg_push.proofs.Trims.{either_way}
 
@@ -116,7 +116,7 @@ ending_tells ps how (Open staged) tells = sym tells.0
 ending_tells ps how (Closed ending) tells = sym tells
 
 reply_tells : {A D E : Type 0} (ps : List (Part A)) (how : Option (Outcome D E)) (row : Option (Row D E A))
-    → IsSome row → Tells ps how row → reply_in row ≡ how
+    → IsSome row → RowTells ps how row → reply_in row ≡ how
 reply_tells ps how None has tells = cc
 reply_tells ps how (Some row) has tells = ending_tells ps how row.state tells
 
@@ -127,21 +127,21 @@ some_opened opened p rows (Some r) are is has = row_opened opened p rows r are i
 
 -- the reply that waits in the row of a push is its outcome
 pub reply_is : {A R D E : Type 0} (run : Running A R D E) (first : R) (h : History A) (b : Book A R D E)
-    (p : ℕ) → AreRows (is_between b.first_push b.next) b.rows → Holds run first h b → IsSome (row_of p b.rows)
+    (p : ℕ) → AreRows (is_between b.first_push b.next) b.rows → HoldsHistory run first h b → IsSome (row_of p b.rows)
     → reply_in (row_of p b.rows) ≡ outcome run first p h
 reply_is run first h b p are holds has =
     reply_tells (parts p h) (outcome run first p h) (row_of p b.rows) has
     (holds.rows p (some_opened (is_between b.first_push b.next) p b.rows _ are refl has))
 
 closed_ended : {A D E : Type 0} (ps : List (Part A)) (how : Option (Outcome D E)) (row : Option (Row D E A))
-    → IsSome (reply_in row) → Tells ps how row → IsSome how
+    → IsSome (reply_in row) → RowTells ps how row → IsSome how
 closed_ended ps how None has tells = tells
 closed_ended ps how (Some row) has tells = subst (λ o. IsSome o) (ending_tells ps how row.state tells) has
 
 -- the book holds the same after a reply was taken
 pub holds_taken : {A R D E : Type 0} (run : Running A R D E) (first : R) (h : History A) (b : Book A R D E)
-    (p : ℕ) → IsSome (reply_in (row_of p b.rows)) → Holds run first h b
-    → Holds run first h (record b { rows = rows_without p b.rows })
+    (p : ℕ) → IsSome (reply_in (row_of p b.rows)) → HoldsHistory run first h b
+    → HoldsHistory run first h (record b { rows = rows_without p b.rows })
 holds_taken {A} run first h b p has holds = record {
   state = holds.state;
   legal = holds.legal;
@@ -152,7 +152,7 @@ holds_taken {A} run first h b p has holds = record {
       let e : q ≡ p = equals q p t in
       let ended : IsSome (outcome run first p h) = closed_ended (parts p h) (outcome run first p h)
       (row_of p b.rows) has (holds.rows p (subst (λ n. is_opened b n ≡ true) e opened)) in
-      let P : ℕ → Type 0 = λ n. Tells (parts n h) (outcome run first n h)
+      let P : ℕ → Type 0 = λ n. RowTells (parts n h) (outcome run first n h)
       (row_of n (rows_without p b.rows)) in
       subst P (sym e) (rw (row_taken p b.rows) ended))
       (λ f. let other : q ≢ p = (λ e. let h : (q == p) ≡ true = rw e (own p) in cc) in

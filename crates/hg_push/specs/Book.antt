@@ -6,7 +6,7 @@ use Rattle.hg_types.specs.declared.item.Item.{Item}
 use Rattle.hg_push.specs.declared.row.State.TheVariants.{Open}
 use Rattle.hg_push.specs.declared.row.Row.{Row}
 use Rattle.hg_push.specs.History.{History, Running, serial, parts, outcome, IsHistory}
-use Rattle.hg_push.specs.Rows.{row_of, Tells}
+use Rattle.hg_push.specs.Rows.{row_of, RowTells}
 
 -- A repository, the numbers of the done pushes, the numbers that are opened, and a row for each push whose
 -- reply was not taken.
@@ -27,12 +27,12 @@ abbrev pub is_opened : {A R D E : Type 0} → Book A R D E → ℕ → Bool
 is_opened b p = is_between b.first_push b.next p
 
 -- The book holds the history h over a first repository.
-pub record Holds {A R D E : Type 0} (run : Running A R D E) (first : R) (h : History A)
+pub record HoldsHistory {A R D E : Type 0} (run : Running A R D E) (first : R) (h : History A)
     (b : Book A R D E) : Type 0 where
   pub state : serial run first h ≡ record { repo = b.repo; journal = b.journal }
   pub legal : IsHistory h
   pub opened : AllByRecursion (λ x. is_opened b x.item.push ≡ true) h
-  pub rows : (p : ℕ) → is_opened b p ≡ true → Tells (parts p h) (outcome run first p h) (row_of p b.rows)
+  pub rows : (p : ℕ) → is_opened b p ≡ true → RowTells (parts p h) (outcome run first p h) (row_of p b.rows)
 
 -- each of these numbers is opened, and they rise
 abbrev pub AreNumbers : (ℕ → Bool) → List ℕ → Type 0

@@ -1,4 +1,4 @@
--- Lists of calls of a book: what their answers have to be, told by the history and with no table of rows.
+-- Lists of calls of a book: what their answers have to be, by the history and with no table of rows.
 use Rattle.std.specs.Prelude.{ℕ, Bool, true, ◌≡◌, ◌<◌, ◌≤◌, ◌+◌, ◌-◌, ◌^◌, ◌==◌, not, List, [], ◌∷◌, ◌++◌}
 use Rattle.std.specs.Prelude.{length, map, filter, Option, None, Some, Result, Ok, Err, if◌then◌else◌}
 use Rattle.std.specs.List.{list_any}
@@ -11,7 +11,7 @@ use Rattle.hg_push.specs.declared.calls.Answer.{Answer}
 use Rattle.hg_push.specs.declared.calls.Answer.TheVariants.{Opened, Stepped, Reply}
 use Rattle.hg_push.specs.declared.outcome.Outcome.{Outcome}
 use Rattle.hg_push.specs.History.{History, Running, outcome, may_refuse}
-use Rattle.hg_push.specs.Book.{Book, Holds, is_between}
+use Rattle.hg_push.specs.Book.{Book, HoldsHistory, is_between}
 
 -- What has come of the calls so far: the items that were taken, the numbers that are opened, and the pushes
 -- whose reply was not taken, in the order in which they were opened.
@@ -38,7 +38,7 @@ IsOpening c (Err TooManyOpen) = c.limit ≤ length c.waiting
 IsOpening c (Err Exhausted) = (length c.waiting < c.limit) × (c.next ≡ 2 ^ 32 - 1)
 IsOpening c (Err NoMemory) = Unit {0}
 
--- out of memory is told of an item only where its push is opened and open and it takes memory
+-- out of memory is reported of an item only where its push is opened and open and it takes memory
 abbrev pub MayRefuse : {A : Type 0} → Course A → Item A → Bool → Type 0
 MayRefuse c item refused = refused ≡ true → (is_between c.first_push c.next item.push ≡ true)
     × (may_refuse c.history item ≡ true)
@@ -80,9 +80,9 @@ after_calls c (call ∷ calls) (answer ∷ answers) = after_calls (after_call c 
 after_calls c calls answers = c
 
 -- The book has come as far.
-pub record Follows {A R D E : Type 0} (run : Running A R D E) (first : R) (c : Course A)
+pub record BookFollows {A R D E : Type 0} (run : Running A R D E) (first : R) (c : Course A)
     (b : Book A R D E) : Type 0 where
-  pub holds : Holds run first c.history b
+  pub holds : HoldsHistory run first c.history b
   pub first_push : b.first_push ≡ c.first_push
   pub next : b.next ≡ c.next
   pub limit : b.limit ≡ c.limit

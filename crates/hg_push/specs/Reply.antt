@@ -1,4 +1,4 @@
--- The reply to a push: the parts that tell how it ended (`internals.bundle2`, "error:abort",
+-- The reply to a push: the parts that say how it ended (`internals.bundle2`, "error:abort",
 -- "error:pushraced", "error:pushkey" and "error:unsupportedcontent").
 use Rattle.std.specs.Prelude.{ℕ, ◌<◌, ◌^◌, List, [], ◌∷◌, ◌++◌, All, length, take, codes, decimal, true}
 use Rattle.std.specs.List.{join_with_byte}
@@ -101,7 +101,7 @@ abbrev pub CanBeTold : {A : Type 0} → Outcome (Done A) (Refusal A) → Type 0
 CanBeTold (done_with done) = CanBeSent done.replies
 CanBeTold (Aborted reason) = Unit {0}
 
--- what is kept of a push can be told once it is closed
+-- what is kept of a push can be reported once it is closed
 abbrev pub KeepsTellable : {A : Type 0} → State (Done A) (Refusal A) A → Type 0
 KeepsTellable (Open staged) = Unit {0}
 KeepsTellable (Closed outcome) = CanBeTold outcome

@@ -46,15 +46,15 @@ IsOpenAt {A} {D} {E} p rows i = (position (λ r. r.push == p) rows ≡ Some i)
 abbrev pub Stages : {A : Type 0} → List (Prepared A) → List (Part A) → Type 0
 Stages staged parts = AreMadeOf parts staged
 
--- what is kept of a push tells its parts while it is open, and how it ended
+-- what is kept of a push has its parts while it is open, and how it ended
 abbrev pub TellsState : {A D E : Type 0} → List (Part A) → Option (Outcome D E) → State D E A → Type 0
 TellsState ps how (Open staged) = (how ≡ None) × Stages staged ps
 TellsState ps how (Closed outcome) = how ≡ Some outcome
 
 -- a push without a row has ended
-abbrev pub Tells : {A D E : Type 0} → List (Part A) → Option (Outcome D E) → Option (Row D E A) → Type 0
-Tells ps how None = IsSome how
-Tells ps how (Some row) = TellsState ps how row.state
+abbrev pub RowTells : {A D E : Type 0} → List (Part A) → Option (Outcome D E) → Option (Row D E A) → Type 0
+RowTells ps how None = IsSome how
+RowTells ps how (Some row) = TellsState ps how row.state
 
 -- memory was refused
 abbrev pub is_no_memory : {E : Type 0} → Reason E → Bool

@@ -4,8 +4,8 @@ ghost use Rattle.std.specs.Prelude.{◌≡◌, ◌≢◌, ◌<◌, ◌+◌, ◌�
 ghost use Rattle.std.specs.Prelude.{true, false, IsTrue, IsNone, IfNone, IfSome, IsSome, IfOk, OnOk, OnErr};
 ghost use Rattle.std.specs.Prelude.{IsErrOf, ◌-◌, Some, None, if◌then◌else◌};
 ghost use Rattle.hg_push.specs.History.{History, serial, outcome};
-ghost use Rattle.hg_push.specs.Book.{Holds, IsSameOpenings, is_opened, stepped, Opens};
-ghost use Rattle.hg_push.specs.Calls.{Follows, course_of_new};
+ghost use Rattle.hg_push.specs.Book.{HoldsHistory, IsSameOpenings, is_opened, stepped, Opens};
+ghost use Rattle.hg_push.specs.Calls.{BookFollows, course_of_new};
 ghost use Rattle.hg_push.specs.Rows.{IsShut, reply_in, row_of, rows_without, standing_of};
 ghost use Rattle.hg_push.specs.Reply.{CanBeTold};
 ghost use Rattle.hg_push.specs.Places.{TellsPlace, TellsRests};
@@ -24,7 +24,7 @@ use std::collections::VecDeque;
 use std::marker::Model;
 use thiserror::Error;
 
-/// Why a push is not opened. Of several, the lower number is told.
+/// Why a push is not opened. Of several, the lower number is reported.
 #[derive(Clone, Copy, Debug, PartialEq, Eq, Error)]
 pub enum OpenFault {
     /// 1: as many pushes have a row as the limit `rows` allows.
@@ -88,8 +88,8 @@ impl<A: Allocator + Copy> Book<A> {
             × (result.next ≡ repo.settings.first_push) }
         ensures limit { result.limit ≡ repo.settings.limits.rows }
         ensures rows { result.rows ≡ [] }
-        ensures holds { Holds run_push repo [] result }
-        ensures follows { Follows run_push repo
+        ensures holds { HoldsHistory run_push repo [] result }
+        ensures follows { BookFollows run_push repo
             (course_of_new repo.settings.first_push repo.settings.limits.rows) result }
     {
         let first_push = repo.settings().first_push;
@@ -107,7 +107,7 @@ impl<A: Allocator + Copy> Book<A> {
     /// What is known of the number, also after its reply was taken. It takes no memory.
     pub fn standing(&self, push: u32) -> Standing
         ensures unknown { is_opened self.now push ≡ false → result ≡ Standing.Unknown }
-        ensures opened { (first : RepositoryOf A) (h : History A) → Holds run_push first h self.now →
+        ensures opened { (first : RepositoryOf A) (h : History A) → HoldsHistory run_push first h self.now →
             is_opened self.now push ≡ true →
             result ≡ standing_of (outcome run_push first push h) }
     {
@@ -135,8 +135,8 @@ impl<A: Allocator + Copy> Book<A> {
         ensures too_many { IsErrOf result OpenFault.TooManyOpen ↔ (self.old.limit ≤ length self.old.rows) }
         ensures exhausted { IsErrOf result OpenFault.Exhausted ↔
             ((length self.old.rows < self.old.limit) × (self.old.next ≡ 2 ^ 32 - 1)) }
-        ensures holds { (first : RepositoryOf A) (h : History A) → Holds run_push first h self.old →
-            Holds run_push first h self.new }
+        ensures holds { (first : RepositoryOf A) (h : History A) → HoldsHistory run_push first h self.old →
+            HoldsHistory run_push first h self.new }
     {
         if self.rows.len() >= self.limit as usize {
             return Err(OpenFault::TooManyOpen);
@@ -173,8 +173,8 @@ impl<A: Allocator + Copy> Book<A> {
         ensures opened { result ≡ true → is_opened self.old item.push ≡ true }
         ensures dropped { IsShut item.push self.old.rows → (result ≡ false) × (self.new ≡ self.old) }
         ensures pushes { IsSameOpenings self.old self.new }
-        ensures holds { (first : RepositoryOf A) (h : History A) → Holds run_push first h self.old →
-            Holds run_push first (stepped self.old item result h) self.new }
+        ensures holds { (first : RepositoryOf A) (h : History A) → HoldsHistory run_push first h self.old →
+            HoldsHistory run_push first (stepped self.old item result h) self.new }
     {
         let Item { push, index, what } = item;
         let Some(at) = open_place(&self.rows, push) else {
@@ -192,12 +192,12 @@ impl<A: Allocator + Copy> Book<A> {
         ensures none { IfNone result (self.new ≡ self.old) }
         ensures some { IfSome result (λ _. self.new
             ≡ record self.old { rows = rows_without push self.old.rows }) }
-        ensures answer { (first : RepositoryOf A) (h : History A) → Holds run_push first h self.old →
+        ensures answer { (first : RepositoryOf A) (h : History A) → HoldsHistory run_push first h self.old →
             IsSome (row_of push self.old.rows) →
             result ≡ outcome run_push first push h }
         ensures told { IfSome result CanBeTold }
-        ensures holds { (first : RepositoryOf A) (h : History A) → Holds run_push first h self.old →
-            Holds run_push first h self.new }
+        ensures holds { (first : RepositoryOf A) (h : History A) → HoldsHistory run_push first h self.old →
+            HoldsHistory run_push first h self.new }
     {
         let at = closed_place(&self.rows, push)?;
         match self.rows.remove(at) {
@@ -209,7 +209,7 @@ impl<A: Allocator + Copy> Book<A> {
     /// The place of a push in the journal: how many pushes were done before it. `None` where it is not done.
     /// The journal is searched from its end, so the search is as long as pushes were done since.
     pub fn place(&self, push: u32) -> Option<usize>
-        ensures { (first : RepositoryOf A) (h : History A) → Holds run_push first h self.now →
+        ensures { (first : RepositoryOf A) (h : History A) → HoldsHistory run_push first h self.now →
             TellsPlace run_push first h push result }
     {
         last_place(self.journal.as_slice(), push)
@@ -219,7 +219,7 @@ impl<A: Allocator + Copy> Book<A> {
     /// up to it and with it; where it is aborted, all that are done now. `None` while it has no answer. Asked
     /// before the push's reply is taken, it searches the journal as `place` does.
     pub fn rests(&self, push: u32) -> Option<usize>
-        ensures { (first : RepositoryOf A) (h : History A) → Holds run_push first h self.now →
+        ensures { (first : RepositoryOf A) (h : History A) → HoldsHistory run_push first h self.now →
             TellsRests run_push first h push result }
     {
         match self.standing(push) {

@@ -25,7 +25,7 @@ ghost use Rattle.hg_parts.specs.declared.refusal.Refusal.{Refusal as AnyRefusal}
 ghost use Rattle.hg_parts.specs.Repository.{IsLawful};
 ghost use Rattle.hg_repo.specs.declared.done.Done.{Done};
 ghost use Rattle.hg_repo.specs.Run.{HaveBytes};
-ghost use Rattle.hg_push.specs.Book.{Holds};
+ghost use Rattle.hg_push.specs.Book.{HoldsHistory};
 ghost use Rattle.hg_push.specs.Calls.{AreAnswers, Course, IsAnswer, after_calls};
 ghost use Rattle.hg_push.specs.declared.calls.Answer.{Answer};
 ghost use Rattle.hg_push.specs.declared.calls.Answer.TheVariants.{Opened, Reply, Stepped};
@@ -128,8 +128,8 @@ pub fn closed_pushes_have_a_closing_place<A: Allocator>()
         late ++ x ∷ before ≡ other_late ++ y ∷ other_before → (x ≡ y) × (before ≡ other_before) }
 {}
 
-/// Out of memory is no part's refusal: no run gives it, and so no push is told that its run was refused for
-/// it. Where memory was refused, the push is told `Reason::NoMemory`, and the place that closed it says so.
+/// Out of memory is no part's refusal: no run gives it, and so no push is reported that its run was refused for
+/// it. Where memory was refused, the push is answered `Reason::NoMemory`, and the place that closed it says so.
 pub fn memory_refuses_no_part<A: Allocator>()
     ensures runs { (repo : RepositoryOf A) (ran : List (AnyPart A)) →
         run_push repo ran ≢ Err AnyRefusal.NoMemory }
@@ -166,8 +166,8 @@ pub fn one_by_one<A: Allocator>()
         last ≡ (serial run_push first h).repo }
 {}
 
-/// A push is told as done exactly where its number is in the journal, and it is there once. It ran in its
-/// turn: on the repository that the pushes before it in the journal give, with the answer that is told.
+/// A push is reported as done exactly where its number is in the journal, and it is there once. It ran in its
+/// turn: on the repository that the pushes before it in the journal give, with the answer that is reported.
 pub fn done_pushes_ran_in_turn<A: Allocator>()
     ensures once { (first : RepositoryOf A) (p : ℕ) (h : History A) →
         count_by (λ q. q == p) (serial run_push first h).journal
@@ -215,7 +215,7 @@ pub fn journals_grow<A: Allocator>()
 /// changeset is in a lower phase than a parent, markers have their format, and each bookmark is on a known
 /// changeset.
 pub fn the_repository_is_lawful<A: Allocator + Copy>(book: &Book<A>)
-    ensures { (first : RepositoryOf A) (h : History A) → Holds run_push first h book.now →
+    ensures { (first : RepositoryOf A) (h : History A) → HoldsHistory run_push first h book.now →
         IsLawful (serial run_push first h).repo }
 {
     every_repository_is_lawful(book.repo());
@@ -244,7 +244,7 @@ pub fn aborted_changes_nothing<A: Allocator>()
 {}
 
 /// A push that is answered as done had all parts that its sender put, and they were run in that order; its
-/// last item was its end mark. Each part was handled exactly once: the answer tells their places `0, 1, ..`.
+/// last item was its end mark. Each part was handled exactly once: the answer reports their places `0, 1, ..`.
 pub fn done_had_all<A: Allocator>()
     ensures complete { (capacity : ℕ) (events : List (Event A)) (first : RepositoryOf A) (p : ℕ)
         (done : Done A) →
@@ -299,7 +299,7 @@ pub fn turns_are_steps_of_the_journal<A: Allocator>()
         done ≡ other }
 {}
 
-/// What a call of a book may answer: an opening gives the next number, memory is told to be refused only
+/// What a call of a book may answer: an opening gives the next number, memory is reported to be refused only
 /// where it can be, a reply is the outcome of its push, and no call has an answer of another kind. Of a list
 /// of calls there are as many answers, and each is that of its call, after those before it.
 pub fn calls_have_their_answers<A: Allocator>()

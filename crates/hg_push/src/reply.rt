@@ -1,4 +1,4 @@
-//! The reply that a push's outcome is told by.
+//! The reply that a push's outcome is sent in.
 
 ghost use Rattle.std.specs.Prelude.{◌≡◌, ◌≢◌, [], ◌∷◌, take, IfOk};
 ghost use Rattle.std.specs.List.{join_with_byte};
@@ -17,7 +17,7 @@ use std::alloc::Allocator;
 const LONGEST_VALUE: usize = 255;
 
 /// The bytes of the reply to a push that ended so: the bundle of its reply parts, which are numbered by
-/// their places (Mercurial's `internals.bundle2`, "Bundle2 Part Types"). A push that is done tells what its
+/// their places (Mercurial's `internals.bundle2`, "Bundle2 Part Types"). A push that is done says what its
 /// run left, and an aborted one the one part that says why.
 pub fn reply_bytes<A: Allocator + Copy>(
     alloc: A,
@@ -47,7 +47,7 @@ fn error_parts<A: Allocator + Copy>(
     Ok(parts)
 }
 
-/// The part that tells why a push was aborted.
+/// The part that says why a push was aborted.
 fn reason_part<A: Allocator + Copy>(
     alloc: A,
     reason: &Reason<Refusal<A>>,

@@ -57,7 +57,7 @@ pub fn is_open_row<D, E, A: Allocator>(row: &Row<D, E, A>) -> bool
     }
 }
 
-/// The standing that the row tells.
+/// The standing that the row reports.
 pub fn row_standing<D, E, A: Allocator>(row: &Row<D, E, A>) -> Standing
     ensures { result ≡ standing_in row.now.state }
 {

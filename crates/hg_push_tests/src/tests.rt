@@ -7,29 +7,16 @@ mod prepared;
 mod replies;
 
 ghost use Rattle.std.specs.Prelude.{◌≤◌};
-ghost use Rattle.hg_types.specs.Limits.{IsAllowed};
 
+use hg_help_tests::parts::{part_of, settings};
 use hg_push::{Book, Outcome, Reason};
 use hg_repo::{Done, Refusal, Repo};
-use hg_types::{CutReason, Item, Limits, NoMemory, Param, Part, Seq, Settings, What};
+use hg_types::{CutReason, Item, NoMemory, Param, Part, Seq, What};
 use std::alloc::Allocator;
 use std::hash::RandomState;
 
 /// The null id.
 const NULL: [u8; 20] = [0; 20];
-
-fn settings(first_push: u32, rows: u32) -> Settings
-    requires { (1 ≤ rows) × (rows ≤ 1024) }
-    ensures { IsAllowed result.limits }
-{
-    let mut limits = Limits::standard();
-    limits.rows = rows;
-    Settings {
-        publishing: false,
-        limits,
-        first_push,
-    }
-}
 
 /// An empty book whose pushes begin at that number.
 fn book_from<A: Allocator + Copy>(
@@ -49,12 +36,7 @@ fn empty_book<A: Allocator + Copy>(alloc: A, state: RandomState) -> Book<A> {
 
 /// A part without parameters.
 fn part<A: Allocator + Copy>(alloc: A, kind: &[u8], payload: &[u8]) -> Result<Part<A>, NoMemory> {
-    Ok(Part {
-        kind: Seq::copy_of(alloc, kind)?,
-        id: 0,
-        params: Seq::new(alloc),
-        payload: Seq::copy_of(alloc, payload)?,
-    })
+    part_of(alloc, kind, 0, payload)
 }
 
 /// A part with one parameter.

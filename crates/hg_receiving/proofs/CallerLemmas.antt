@@ -21,20 +21,20 @@ use Rattle.hg_stream.specs.declared.fault.StreamFault.TheVariants.{NoMemory}
 use Rattle.hg_stream.specs.declared.state.State.{State}
 use Rattle.hg_stream.specs.declared.state.State.TheVariants.{Reading as going, Ended as at_end_mark}
 use Rattle.hg_stream.specs.declared.unbundler.Unbundler.{Unbundler}
-use Rattle.hg_stream.specs.Faults.{Tells}
-use Rattle.hg_stream.specs.Unbundler.{Holds, limits_of, ready_of, state_of}
+use Rattle.hg_stream.specs.Faults.{StateTells}
+use Rattle.hg_stream.specs.Unbundler.{HoldsBundle, limits_of, ready_of, state_of}
 use Rattle.hg_devices.specs.Devices.{Input}
 use Rattle.hg_devices.proofs.CallerLemmas.{Adds-nil}
-use Rattle.hg_receiving.specs.declared.ending.Ending.{Ending}
-use Rattle.hg_receiving.specs.declared.ending.Ending.TheVariants.{Whole, Fault, InputEnded, ReadFailed}
+use Rattle.hg_receiving.specs.declared.ending.BundleEnd.{BundleEnd}
+use Rattle.hg_receiving.specs.declared.ending.BundleEnd.TheVariants.{Whole, Fault, InputEnded, ReadFailed}
 use Rattle.hg_receiving.specs.Receiving.{IsReceivedFrom, mark_of, part_items, state_at}
-use Rattle.hg_receiving.specs.Turns.{Feeds, Fills, IsReceiving, ReadsMore, Turned, ended_at}
+use Rattle.hg_receiving.specs.Turns.{FeedsFront, Fills, IsReceiving, ReadsMore, Turned, ended_at}
 use Rattle.hg_receiving.proofs.Filling.{fill_ends, fill_not_whole, filled, none_waits, told}
 use Rattle.hg_receiving.proofs.Feeding.{fed_on, feed_ends, feed_whole, refuse, turned}
 
 -- It begins: nothing was fed yet.
 pub begins : {A : Type 0} (limits : Limits) (waited : List ℕ) (input : Input) (u : Unbundler A)
-    → Holds u [] [] → state_of u ≡ going → limits_of u ≡ limits
+    → HoldsBundle u [] [] → state_of u ≡ going → limits_of u ≡ limits
     → IsReceiving limits waited input [] waited input u []
 begins limits waited input u holds state same = record {
   holds = holds;
@@ -59,7 +59,7 @@ within_limit limits waited input fed waiting left u given r =
 pub parts_taken : {A : Type 0} (limits : Limits) (waited : List ℕ) (input : Input) (fed waiting : List ℕ)
     (left : Input) (u v : Unbundler A) (given taken : List (Part A))
     → IsReceiving limits waited input fed waiting left u given
-    → ((before : List (Part A)) (bytes : List ℕ) → Holds u before bytes → Holds v (before ++ taken) bytes)
+    → ((before : List (Part A)) (bytes : List ℕ) → HoldsBundle u before bytes → HoldsBundle v (before ++ taken) bytes)
     → state_of v ≡ state_of u → limits_of v ≡ limits_of u
     → IsReceiving limits waited input fed waiting left v (given ++ taken)
 parts_taken limits waited input fed waiting left u v given taken r holds state same = record {
@@ -83,14 +83,14 @@ waits_on limits waited input fed waiting before mid left u given r f =
     filled limits waited input fed waiting before mid left u given r f
 
 -- none waited where no more came
-pub nothing_waits : (before after : List ℕ) (input left : Input) (ending : Ending)
+pub nothing_waits : (before after : List ℕ) (input left : Input) (ending : BundleEnd)
     → Fills before after input left (Some ending) → (before ≡ []) × ReadsMore after input left (Some ending)
 nothing_waits before after input left ending f = none_waits before after input left ending f
 
 -- It goes on: those that waited were fed.
 pub goes_on : {A : Type 0} (limits : Limits) (waited : List ℕ) (input : Input) (fed before after : List ℕ)
     (left : Input) (u v : Unbundler A) (given : List (Part A))
-    → IsReceiving limits waited input fed before left u given → Feeds u v before after
+    → IsReceiving limits waited input fed before left u given → FeedsFront u v before after
     → None ≡ ended_at (state_of v)
     → (after ≡ []) × IsReceiving limits waited input (fed ++ before) after left v given
 goes_on limits waited input fed before after left u v given r f is =
@@ -98,27 +98,27 @@ goes_on limits waited input fed before after left u v given r f is =
 
 -- It ends: no more came.
 pub ends_unfed : {A : Type 0} (limits : Limits) (waited : List ℕ) (input : Input)
-    (fed waiting after : List ℕ) (mid left : Input) (u : Unbundler A) (given : List (Part A)) (ending : Ending)
+    (fed waiting after : List ℕ) (mid left : Input) (u : Unbundler A) (given : List (Part A)) (ending : BundleEnd)
     → IsReceiving limits waited input fed waiting mid u given → Fills waiting after mid left (Some ending)
     → IsReceivedFrom limits waited after input left ending (given ++ ready_of u)
 ends_unfed limits waited input fed waiting after mid left u given ending r f =
     fill_ends limits waited input fed waiting after mid left u given ending r f
 
 -- then it saw no end mark
-pub not_whole : (before after : List ℕ) (input left : Input) (ending : Ending)
+pub not_whole : (before after : List ℕ) (input left : Input) (ending : BundleEnd)
     → Fills before after input left (Some ending) → ending ≢ Whole
 not_whole before after input left ending f = fill_not_whole before after input left ending f
 
 -- where it is whole, the reader of bundles was fed an end mark
-pub whole_ended : (state : State) (result : Option Ending) → result ≡ ended_at state → result ≡ Some Whole
+pub whole_ended : (state : State) (result : Option BundleEnd) → result ≡ ended_at state → result ≡ Some Whole
     → state ≡ at_end_mark
 whole_ended state result is whole = feed_whole state result is whole
 
 -- It ends: there was an end mark or a fault.
 pub ends : {A : Type 0} (limits : Limits) (waited : List ℕ) (input : Input) (fed before after : List ℕ)
-    (left : Input) (u v : Unbundler A) (given : List (Part A)) (ending : Ending)
+    (left : Input) (u v : Unbundler A) (given : List (Part A)) (ending : BundleEnd)
     → IsReceiving limits waited input fed before left u given → 1 ≤ length before
-    → Feeds u v before after → Some ending ≡ ended_at (state_of v)
+    → FeedsFront u v before after → Some ending ≡ ended_at (state_of v)
     → (q : IsReceivedFrom limits waited after input left ending (given ++ ready_of v))
     × (fed ++ before ≡ q.consumed ++ q.rest)
 ends limits waited input fed before after left u v given ending r some f is =
@@ -134,8 +134,8 @@ ends_refused limits waited input fed before left u given r some few =
 
 -- what a turn makes of it: those that waited were fed
 pub turn_made : {A : Type 0} (limits : Limits) (waited : List ℕ) (input : Input) (fed before after : List ℕ)
-    (left : Input) (u v : Unbundler A) (given : List (Part A)) (result : Option Ending)
-    → IsReceiving limits waited input fed before left u given → 1 ≤ length before → Feeds u v before after
+    (left : Input) (u v : Unbundler A) (given : List (Part A)) (result : Option BundleEnd)
+    → IsReceiving limits waited input fed before left u given → 1 ≤ length before → FeedsFront u v before after
     → result ≡ ended_at (state_of v) → Turned limits waited input fed after left v given result
 turn_made limits waited input fed before after left u v given result r some f is =
     turned limits waited input fed before after left u v given result r some f is
@@ -143,11 +143,11 @@ turn_made limits waited input fed before after left u v given result r some f is
 -- the law `parts_are_few`
 abbrev pub PartsAreFew : Type 0 → Type 0
 PartsAreFew A = (limits : Limits) (state : State) (bytes : List ℕ) (parts : List (Part A))
-    → Tells state limits bytes parts → length parts ≤ limits.parts
+    → StateTells state limits bytes parts → length parts ≤ limits.parts
 
 -- no more parts are ready after a turn, with those before them, than the limit on parts
 pub parts_few : {A : Type 0} → PartsAreFew A → (limits : Limits) (waited : List ℕ) (input : Input)
-    (fed waiting : List ℕ) (left : Input) (u : Unbundler A) (given : List (Part A)) (result : Option Ending)
+    (fed waiting : List ℕ) (left : Input) (u : Unbundler A) (given : List (Part A)) (result : Option BundleEnd)
     → Turned limits waited input fed waiting left u given result
     → length (given ++ ready_of u) ≤ limits.parts
 parts_few few limits waited input fed waiting left u given None t =
@@ -192,14 +192,14 @@ pub items_more : {A : Type 0} (push index : ℕ) (parts : List (Part A)) (part :
 items_more push index parts part = items_append push index parts (part ∷ [])
 
 -- a mark has no part
-pub mark_empty : {A : Type 0} (ending : Ending) → part_in {A = A} (mark_of ending) ≡ []
+pub mark_empty : {A : Type 0} (ending : BundleEnd) → part_in {A = A} (mark_of ending) ≡ []
 mark_empty Whole = refl
 mark_empty (Fault fault) = refl
 mark_empty InputEnded = refl
 mark_empty ReadFailed = refl
 
 -- the mark of a bundle that was not read to its end mark is no end mark
-pub end_whole : {A : Type 0} (ending : Ending) → mark_of {A = A} ending ≡ End → ending ≡ Whole
+pub end_whole : {A : Type 0} (ending : BundleEnd) → mark_of {A = A} ending ≡ End → ending ≡ Whole
 end_whole Whole e = refl
 end_whole (Fault fault) e = absurd cc
 end_whole InputEnded e = absurd cc

@@ -12,14 +12,14 @@ use Rattle.hg_stream.specs.declared.fault.StreamFault.TheVariants.{NoMemory, Tru
 use Rattle.hg_stream.specs.declared.state.State.{State}
 use Rattle.hg_stream.specs.declared.state.State.TheVariants.{Reading as going, Ended, Failed as stream_failed}
 use Rattle.hg_stream.specs.declared.unbundler.Unbundler.{Unbundler}
-use Rattle.hg_stream.specs.Unbundler.{Holds, ready_of, state_of}
-use Rattle.hg_stream.specs.Faults.{Tells}
-use Rattle.hg_devices.specs.Devices.{Input, ReadAnswer, Gave, Adds}
-use Rattle.hg_receiving.specs.declared.ending.Ending.{Ending}
-use Rattle.hg_receiving.specs.declared.ending.Ending.TheVariants.{Whole, Fault, InputEnded, ReadFailed}
-use Rattle.hg_receiving.specs.Receiving.{CameLast, IsReceivedFrom, Keeps, Ran, Stops, StopsIn}
+use Rattle.hg_stream.specs.Unbundler.{HoldsBundle, ready_of, state_of}
+use Rattle.hg_stream.specs.Faults.{StateTells}
+use Rattle.hg_devices.specs.Devices.{Input, ReadAnswer, Gave, TellsMore}
+use Rattle.hg_receiving.specs.declared.ending.BundleEnd.{BundleEnd}
+use Rattle.hg_receiving.specs.declared.ending.BundleEnd.TheVariants.{Whole, Fault, InputEnded, ReadFailed}
+use Rattle.hg_receiving.specs.Receiving.{CameLast, IsReceivedFrom, KeepsWaiting, Ran, StopsBundle, StopsIn}
 use Rattle.hg_receiving.specs.Receiving.{last_read, state_at}
-use Rattle.hg_receiving.specs.Turns.{Feeds, IsReceiving, Turned, ended_at}
+use Rattle.hg_receiving.specs.Turns.{FeedsFront, IsReceiving, Turned, ended_at}
 use Rattle.hg_receiving.proofs.Filling.{told}
 
 reads_on : (s : State) → None ≡ ended_at s → s ≡ going
@@ -61,7 +61,7 @@ came_last limits waited input fed before left u given r some = elim r.place [
 -- the bundle goes on
 pub fed_on : {A : Type 0} (limits : Limits) (waited : List ℕ) (input : Input) (fed before after : List ℕ)
     (left : Input) (u v : Unbundler A) (given : List (Part A))
-    → IsReceiving limits waited input fed before left u given → Feeds u v before after
+    → IsReceiving limits waited input fed before left u given → FeedsFront u v before after
     → None ≡ ended_at (state_of v)
     → (after ≡ []) × IsReceiving limits waited input (fed ++ before) after left v given
 fed_on {A} limits waited input fed before after left u v given r f is =
@@ -70,7 +70,7 @@ fed_on {A} limits waited input fed before after left u v given r f is =
     let all : take f.place before ≡ before = ap (λ n. take n before) waits.0 ∙ take-length before in (
       waits.1,
       record {
-        holds = subst (λ (l : List ℕ). Holds v given (fed ++ l)) all (f.holds given fed r.holds);
+        holds = subst (λ (l : List ℕ). HoldsBundle v given (fed ++ l)) all (f.holds given fed r.holds);
         limits_are = f.limits ∙ r.limits_are;
         state = state;
         pieces = r.pieces;
@@ -84,14 +84,14 @@ fed_on {A} limits waited input fed before after left u v given r f is =
     )
 
 -- there is an end mark or a fault
-stops : {A : Type 0} (ending : Ending) (limits : Limits) (waited : List ℕ) (input : Input)
+stops : {A : Type 0} (ending : BundleEnd) (limits : Limits) (waited : List ℕ) (input : Input)
     (fed taken rest after : List ℕ) (left : Input) (u : Unbundler A) (given parts : List (Part A))
     (r : IsReceiving limits waited input fed (taken ++ rest) left u given) → 1 ≤ length (taken ++ rest)
-    → length (taken ++ rest) ≤ 4096 → Tells (state_at ending) limits (fed ++ taken) parts
+    → length (taken ++ rest) ≤ 4096 → StateTells (state_at ending) limits (fed ++ taken) parts
     → last_read ending ≡ []
     → (StopsIn A limits waited r.pieces (fed ++ taken) rest
-    → Stops A ending limits waited r.pieces (fed ++ taken) rest)
-    → Keeps ending rest after → Ran ending left
+    → StopsBundle A ending limits waited r.pieces (fed ++ taken) rest)
+    → KeepsWaiting ending rest after → Ran ending left
     → (q : IsReceivedFrom limits waited after input left ending parts)
     × (fed ++ (taken ++ rest) ≡ q.consumed ++ q.rest)
 stops {A} ending limits waited input fed taken rest after left u given parts r some few tells last by keeps
@@ -131,7 +131,7 @@ stops {A} ending limits waited input fed taken rest after left u given parts r s
         };
         spelled = spelled;
         bytes = r.bytes;
-        told = subst (Adds input.reads left.reads) reads r.told;
+        told = subst (TellsMore input.reads left.reads) reads r.told;
         keeps = keeps;
         ran = ran;
       },
@@ -139,20 +139,20 @@ stops {A} ending limits waited input fed taken rest after left u given parts r s
     )
 
 -- what the bundle ended with
-abbrev Ends : {A : Type 0} → Limits → List ℕ → Input → List ℕ → List ℕ → List ℕ → Input → Ending →
+abbrev EndsBundle : {A : Type 0} → Limits → List ℕ → Input → List ℕ → List ℕ → List ℕ → Input → BundleEnd →
     List (Part A) → Type 0
-Ends limits waited input fed before after left ending parts =
+EndsBundle limits waited input fed before after left ending parts =
     (q : IsReceivedFrom limits waited after input left ending parts) × (fed ++ before ≡ q.consumed ++ q.rest)
 
 -- the bytes that were fed last, up to a place
-stops_at : {A : Type 0} (ending : Ending) (limits : Limits) (waited : List ℕ) (input : Input)
+stops_at : {A : Type 0} (ending : BundleEnd) (limits : Limits) (waited : List ℕ) (input : Input)
     (fed before after : List ℕ) (place : ℕ) (left : Input) (u : Unbundler A) (given parts : List (Part A))
     → IsReceiving limits waited input fed before left u given → 1 ≤ length before → length before ≤ 4096
-    → Tells (state_at ending) limits (fed ++ take place before) parts → last_read ending ≡ []
+    → StateTells (state_at ending) limits (fed ++ take place before) parts → last_read ending ≡ []
     → ((pieces : List (List ℕ)) → StopsIn A limits waited pieces (fed ++ take place before) (drop place before)
-    → Stops A ending limits waited pieces (fed ++ take place before) (drop place before))
-    → Keeps ending (drop place before) after → Ran ending left
-    → Ends limits waited input fed before after left ending parts
+    → StopsBundle A ending limits waited pieces (fed ++ take place before) (drop place before))
+    → KeepsWaiting ending (drop place before) after → Ran ending left
+    → EndsBundle limits waited input fed before after left ending parts
 stops_at {A} ending limits waited input fed before after place left u given parts r some few tells last by
     keeps ran =
     let whole : take place before ++ drop place before ≡ before = take-append-drop place before in
@@ -165,9 +165,9 @@ stops_at {A} ending limits waited input fed before after place left u given part
 
 -- the bundle ends
 pub feed_ends : {A : Type 0} (limits : Limits) (waited : List ℕ) (input : Input) (fed before after : List ℕ)
-    (left : Input) (u v : Unbundler A) (given : List (Part A)) (ending : Ending)
+    (left : Input) (u v : Unbundler A) (given : List (Part A)) (ending : BundleEnd)
     → IsReceiving limits waited input fed before left u given → 1 ≤ length before
-    → Feeds u v before after → Some ending ≡ ended_at (state_of v)
+    → FeedsFront u v before after → Some ending ≡ ended_at (state_of v)
     → (q : IsReceivedFrom limits waited after input left ending (given ++ ready_of v))
     × (fed ++ before ≡ q.consumed ++ q.rest)
 feed_ends limits waited input fed before after left u v given Whole r some f is =
@@ -194,18 +194,18 @@ pub refuse : {A : Type 0} (limits : Limits) (waited : List ℕ) (input : Input) 
     → IsReceiving limits waited input fed before left u given → 1 ≤ length before → length before ≤ 4096
     → IsReceivedFrom limits waited before input left (Fault NoMemory) (given ++ ready_of u)
 refuse {A} limits waited input fed before left u given r some few =
-    let still : Tells going limits fed (given ++ ready_of u) = told limits u going fed given r.state r.limits_are
+    let still : StateTells going limits fed (given ++ ready_of u) = told limits u going fed given r.state r.limits_are
     r.holds in
     let none : fed ++ [] ≡ fed = append-nil fed in
     let fresh : NoMemory ≢ Truncated = λ e. absurd cc in
     (stops (Fault NoMemory) limits waited input fed [] before before left u given (given ++ ready_of u) r some
-    few (subst (λ (l : List ℕ). Tells going limits l (given ++ ready_of u)) (sym none) still) refl
+    few (subst (λ (l : List ℕ). StateTells going limits l (given ++ ready_of u)) (sym none) still) refl
     (λ s. (fresh, s)) tt tt).0
 
 -- where it goes on, bytes were fed; where it does not, it was received
 pub turned : {A : Type 0} (limits : Limits) (waited : List ℕ) (input : Input) (fed before after : List ℕ)
-    (left : Input) (u v : Unbundler A) (given : List (Part A)) (result : Option Ending)
-    → IsReceiving limits waited input fed before left u given → 1 ≤ length before → Feeds u v before after
+    (left : Input) (u v : Unbundler A) (given : List (Part A)) (result : Option BundleEnd)
+    → IsReceiving limits waited input fed before left u given → 1 ≤ length before → FeedsFront u v before after
     → result ≡ ended_at (state_of v) → Turned limits waited input fed after left v given result
 turned limits waited input fed before after left u v given None r some f is =
     let on = fed_on limits waited input fed before after left u v given r f is in (before, some, on.0, on.1)
@@ -213,6 +213,6 @@ turned limits waited input fed before after left u v given (Some ending) r some 
     (feed_ends limits waited input fed before after left u v given ending r some f is).0
 
 -- an end mark was fed
-pub feed_whole : (state : State) (result : Option Ending) → result ≡ ended_at state → result ≡ Some Whole
+pub feed_whole : (state : State) (result : Option BundleEnd) → result ≡ ended_at state → result ≡ Some Whole
     → state ≡ Ended
 feed_whole state result is whole = ends_whole state (sym whole ∙ is)

@@ -12,13 +12,13 @@ use Rattle.hg_types.specs.declared.limits.Limits.{Limits}
 use Rattle.hg_stream.specs.declared.state.State.{State}
 use Rattle.hg_stream.specs.declared.state.State.TheVariants.{Reading as going}
 use Rattle.hg_stream.specs.declared.unbundler.Unbundler.{Unbundler}
-use Rattle.hg_stream.specs.Unbundler.{Holds, limits_of, ready_of, state_of}
-use Rattle.hg_stream.specs.Faults.{Tells}
-use Rattle.hg_devices.specs.Devices.{Input, ReadAnswer, Gave, Failed, Adds, Reads}
+use Rattle.hg_stream.specs.Unbundler.{HoldsBundle, limits_of, ready_of, state_of}
+use Rattle.hg_stream.specs.Faults.{StateTells}
+use Rattle.hg_devices.specs.Devices.{Input, ReadAnswer, Gave, Failed, TellsMore, ReadsOnce}
 use Rattle.hg_devices.proofs.CallerLemmas.{Adds-trans}
-use Rattle.hg_receiving.specs.declared.ending.Ending.{Ending}
-use Rattle.hg_receiving.specs.declared.ending.Ending.TheVariants.{Whole, Fault, InputEnded, ReadFailed}
-use Rattle.hg_receiving.specs.Receiving.{IsPiece, IsReceivedFrom, Keeps, Ran, Stops, last_read, state_at}
+use Rattle.hg_receiving.specs.declared.ending.BundleEnd.{BundleEnd}
+use Rattle.hg_receiving.specs.declared.ending.BundleEnd.TheVariants.{Whole, Fault, InputEnded, ReadFailed}
+use Rattle.hg_receiving.specs.Receiving.{IsPiece, IsReceivedFrom, KeepsWaiting, Ran, StopsBundle, last_read, state_at}
 use Rattle.hg_receiving.specs.Turns.{Fills, IsReceiving, ReadsMore}
 
 -- bytes wait, and nothing is read
@@ -26,17 +26,17 @@ pub fills_none : (before : List ℕ) (input : Input) → before ≢ [] → Fills
 fills_none before input some = inl (some, refl, refl, refl)
 
 -- no byte waits, and one read is made
-pub fills_one : (before after : List ℕ) (input left : Input) (result : Option Ending) → before ≡ []
+pub fills_one : (before after : List ℕ) (input left : Input) (result : Option BundleEnd) → before ≡ []
     → ReadsMore after input left result → Fills before after input left result
 fills_one before after input left result none read = inr (none, read)
 
 -- what the reader of bundles tells
 pub told : {A : Type 0} (limits : Limits) (u : Unbundler A) (state : State) (bytes : List ℕ)
-    (given : List (Part A)) → state_of u ≡ state → limits_of u ≡ limits → Holds u given bytes
-    → Tells state limits bytes (given ++ ready_of u)
+    (given : List (Part A)) → state_of u ≡ state → limits_of u ≡ limits → HoldsBundle u given bytes
+    → StateTells state limits bytes (given ++ ready_of u)
 told {A} limits u state bytes given is same holds =
-    subst (λ (l : Limits). Tells state l bytes (given ++ ready_of u)) same
-    (subst (λ (st : State). Tells st (limits_of u) bytes (given ++ ready_of u)) is holds.tells)
+    subst (λ (l : Limits). StateTells state l bytes (given ++ ready_of u)) same
+    (subst (λ (st : State). StateTells st (limits_of u) bytes (given ++ ready_of u)) is holds.tells)
 
 pub empty : {X : Type 0} (ys : List X) → length ys ≡ 0 → ys ≡ []
 empty [] z = refl
@@ -54,7 +54,7 @@ joined_more pieces piece = concat-append pieces (piece ∷ []) ∙ ap (λ l. con
 -- a piece came
 piece_came : {A : Type 0} (limits : Limits) (waited : List ℕ) (input : Input) (fed waiting piece : List ℕ)
     (mid left : Input) (u : Unbundler A) (given : List (Part A))
-    → IsReceiving limits waited input fed waiting mid u given → waiting ≡ [] → Reads mid left (Gave piece)
+    → IsReceiving limits waited input fed waiting mid u given → waiting ≡ [] → ReadsOnce mid left (Gave piece)
     → IsPiece piece → IsReceiving limits waited input fed piece left u given
 piece_came {A} limits waited input fed waiting piece mid left u given r none once is =
     let joined = joined_more r.pieces piece in
@@ -68,7 +68,7 @@ piece_came {A} limits waited input fed waiting piece mid left u given r none onc
       each = All-append IsPiece r.pieces (piece ∷ []) r.each (All-cons IsPiece piece [] is (search rules));
       bytes = subst (Consumes input.left left.left) (sym joined)
           (Consumes-trans input.left mid.left left.left (concat r.pieces) piece r.bytes once.bytes);
-      told = subst (Adds input.reads left.reads) (sym (map-append Gave r.pieces (piece ∷ [])))
+      told = subst (TellsMore input.reads left.reads) (sym (map-append Gave r.pieces (piece ∷ [])))
           (Adds-trans input.reads mid.reads left.reads (map Gave r.pieces) (Gave piece ∷ []) r.told once.told);
       spelled = ap (λ (l : List ℕ). waited ++ l) joined ∙ sym (append_assoc waited (concat r.pieces) piece)
           ∙ ap (λ (l : List ℕ). l ++ piece) whole;
@@ -93,13 +93,13 @@ filled {A} limits waited input fed waiting before mid left u given r f = elim f 
 ]
 
 -- a read that gave nothing, or failed, was the last
-ends : {A : Type 0} (ending : Ending) (answer : ReadAnswer) (limits : Limits) (waited : List ℕ) (input : Input)
+ends : {A : Type 0} (ending : BundleEnd) (answer : ReadAnswer) (limits : Limits) (waited : List ℕ) (input : Input)
     (fed waiting after : List ℕ) (mid left : Input) (u : Unbundler A) (given : List (Part A))
     → IsReceiving limits waited input fed waiting mid u given → waiting ≡ []
-    → Consumes mid.left left.left [] → Adds mid.reads left.reads (answer ∷ []) → state_at ending ≡ going
+    → Consumes mid.left left.left [] → TellsMore mid.reads left.reads (answer ∷ []) → state_at ending ≡ going
     → last_read ending ≡ answer ∷ []
-    → ((pieces : List (List ℕ)) → Stops A ending limits waited pieces fed [])
-    → Keeps ending [] after → Ran ending left
+    → ((pieces : List (List ℕ)) → StopsBundle A ending limits waited pieces fed [])
+    → KeepsWaiting ending [] after → Ran ending left
     → IsReceivedFrom limits waited after input left ending (given ++ ready_of u)
 ends {A} ending answer limits waited input fed waiting after mid left u given r none nothing once at last stops
     keeps ran =
@@ -122,7 +122,7 @@ ends {A} ending answer limits waited input fed waiting after mid left u given r 
       spelled = spelled;
       bytes = subst (Consumes input.left left.left) (append-nil (concat r.pieces))
           (Consumes-trans input.left mid.left left.left (concat r.pieces) [] r.bytes nothing);
-      told = subst (Adds input.reads left.reads)
+      told = subst (TellsMore input.reads left.reads)
           (ap (λ (l : List ReadAnswer). map Gave r.pieces ++ l) (sym last))
           (Adds-trans input.reads mid.reads left.reads (map Gave r.pieces) (answer ∷ []) r.told once);
       keeps = keeps;
@@ -130,7 +130,7 @@ ends {A} ending answer limits waited input fed waiting after mid left u given r 
     }
 
 -- nothing waited where a read was made
-pub none_waits : (before after : List ℕ) (input left : Input) (ending : Ending)
+pub none_waits : (before after : List ℕ) (input left : Input) (ending : BundleEnd)
     → Fills before after input left (Some ending) → (before ≡ []) × ReadsMore after input left (Some ending)
 none_waits before after input left ending f = elim f [
   | inl waits ↦ (let e : Some ending ≡ None = waits.3 in absurd cc)
@@ -139,7 +139,7 @@ none_waits before after input left ending f = elim f [
 
 -- no more came
 pub fill_ends : {A : Type 0} (limits : Limits) (waited : List ℕ) (input : Input) (fed waiting after : List ℕ)
-    (mid left : Input) (u : Unbundler A) (given : List (Part A)) (ending : Ending)
+    (mid left : Input) (u : Unbundler A) (given : List (Part A)) (ending : BundleEnd)
     → IsReceiving limits waited input fed waiting mid u given → Fills waiting after mid left (Some ending)
     → IsReceivedFrom limits waited after input left ending (given ++ ready_of u)
 fill_ends limits waited input fed waiting after mid left u given Whole r f =
@@ -156,7 +156,7 @@ fill_ends limits waited input fed waiting after mid left u given ReadFailed r f 
     n.1.1.told refl refl (λ pieces. refl) tt tt
 
 -- no read sees an end mark
-pub fill_not_whole : (before after : List ℕ) (input left : Input) (ending : Ending)
+pub fill_not_whole : (before after : List ℕ) (input left : Input) (ending : BundleEnd)
     → Fills before after input left (Some ending) → ending ≢ Whole
 fill_not_whole before after input left Whole f =
     absurd (none_waits before after input left Whole f).1

@@ -14,29 +14,29 @@ use Rattle.hg_stream.specs.declared.fault.StreamFault.TheVariants.{Truncated}
 use Rattle.hg_stream.specs.declared.state.State.{State}
 use Rattle.hg_stream.specs.declared.state.State.TheVariants.{Reading, Ended, Failed as stream_failed}
 use Rattle.hg_stream.specs.Number.{number_of}
-use Rattle.hg_stream.specs.Faults.{Tells}
-use Rattle.hg_devices.specs.Devices.{Input, ReadAnswer, Gave, Failed, Adds}
-use Rattle.hg_receiving.specs.declared.ending.Ending.{Ending}
-use Rattle.hg_receiving.specs.declared.ending.Ending.TheVariants.{Whole, Fault, InputEnded, ReadFailed}
+use Rattle.hg_stream.specs.Faults.{StateTells}
+use Rattle.hg_devices.specs.Devices.{Input, ReadAnswer, Gave, Failed, TellsMore}
+use Rattle.hg_receiving.specs.declared.ending.BundleEnd.{BundleEnd}
+use Rattle.hg_receiving.specs.declared.ending.BundleEnd.TheVariants.{Whole, Fault, InputEnded, ReadFailed}
 
 -- why the push of a bundle that ended so is cut off, if it is
-abbrev pub cut_of : Ending → Option CutReason
+abbrev pub cut_of : BundleEnd → Option CutReason
 cut_of Whole = None
 cut_of (Fault fault) = Some (Stream (number_of fault))
 cut_of InputEnded = Some (Stream (number_of Truncated))
 cut_of ReadFailed = Some connection_lost
 
--- the mark that tells why a push is cut off, or that it is not
+-- the mark that says why a push is cut off, or that it is not
 abbrev pub mark_for : {A : Type 0} → Option CutReason → What A
 mark_for None = End
 mark_for (Some reason) = Cut reason
 
 -- the mark of a push whose bundle ended so
-abbrev pub mark_of : {A : Type 0} → Ending → What A
+abbrev pub mark_of : {A : Type 0} → BundleEnd → What A
 mark_of ending = mark_for (cut_of ending)
 
 -- how far the reader of bundles was
-abbrev pub state_at : Ending → State
+abbrev pub state_at : BundleEnd → State
 state_at Whole = Ended
 state_at (Fault fault) = stream_failed fault
 state_at InputEnded = Reading
@@ -62,7 +62,7 @@ abbrev pub IsPiece : List ℕ → Type 0
 IsPiece piece = (1 ≤ length piece) × (length piece ≤ greatest_piece)
 
 -- the read that gave nothing, at the end of the input, or that failed
-abbrev pub last_read : Ending → List ReadAnswer
+abbrev pub last_read : BundleEnd → List ReadAnswer
 last_read Whole = []
 last_read (Fault fault) = []
 last_read InputEnded = Gave [] ∷ []
@@ -81,48 +81,48 @@ pub record StopsIn (A : Type 0) (limits : Limits) (waited : List ℕ) (pieces : 
   pub taken : List ℕ
   pub fed : List ℕ
   pub earlier : List (Part A)
-  pub goes_on : Tells Reading limits front earlier
+  pub goes_on : StateTells Reading limits front earlier
   pub consumed_is : consumed ≡ front ++ taken
   pub fed_is : fed ≡ taken ++ rest
   pub some : 1 ≤ length fed
   pub place : CameLast waited pieces front fed
 
 -- where the reading of a bundle stopped, by how it ended
-abbrev pub Stops : Type 0 → Ending → Limits → List ℕ → List (List ℕ) → List ℕ → List ℕ → Type 0
-Stops A Whole limits waited pieces consumed rest = StopsIn A limits waited pieces consumed rest
-Stops A (Fault fault) limits waited pieces consumed rest =
+abbrev pub StopsBundle : Type 0 → BundleEnd → Limits → List ℕ → List (List ℕ) → List ℕ → List ℕ → Type 0
+StopsBundle A Whole limits waited pieces consumed rest = StopsIn A limits waited pieces consumed rest
+StopsBundle A (Fault fault) limits waited pieces consumed rest =
     (fault ≢ Truncated) × StopsIn A limits waited pieces consumed rest
-Stops A InputEnded limits waited pieces consumed rest = rest ≡ []
-Stops A ReadFailed limits waited pieces consumed rest = rest ≡ []
+StopsBundle A InputEnded limits waited pieces consumed rest = rest ≡ []
+StopsBundle A ReadFailed limits waited pieces consumed rest = rest ≡ []
 
 -- A bundle was received by these reads, after the bytes that waited: each gave a piece, except one that
 -- gave nothing or failed, which is the last. All bytes together are those of the bundle and a rest. Those of
 -- the bundle are a whole bundle with these parts, or hold a fault, or go on, with these parts before it. A
 -- read is made only where the bytes before it hold no end mark and no fault. That the bytes are truncated is
--- never told as a fault of them: their end is.
+-- never reported as a fault of them: their end is.
 pub record IsReceived {A : Type 0} (limits : Limits) (waited : List ℕ) (reads : List ReadAnswer)
-    (ending : Ending) (parts : List (Part A)) (consumed rest : List ℕ) : Type 0 where
+    (ending : BundleEnd) (parts : List (Part A)) (consumed rest : List ℕ) : Type 0 where
   pub pieces : List (List ℕ)
   pub each : All IsPiece pieces
   pub reads_are : reads ≡ map Gave pieces ++ last_read ending
   pub spelled : waited ++ concat pieces ≡ consumed ++ rest
-  pub tells : Tells (state_at ending) limits consumed parts
-  pub stops : Stops A ending limits waited pieces consumed rest
+  pub tells : StateTells (state_at ending) limits consumed parts
+  pub stops : StopsBundle A ending limits waited pieces consumed rest
   pub bound : length consumed + length rest ≤ limits.stream + greatest_piece
 
 -- what waits after an end mark: the bytes that were not fed
-abbrev pub Keeps : Ending → List ℕ → List ℕ → Type 0
-Keeps Whole rest waiting = waiting ≡ rest
-Keeps ending rest waiting = ⊤
+abbrev pub KeepsWaiting : BundleEnd → List ℕ → List ℕ → Type 0
+KeepsWaiting Whole rest waiting = waiting ≡ rest
+KeepsWaiting ending rest waiting = ⊤
 
 -- where the input is said to have ended, it has
-abbrev pub Ran : Ending → Input → Type 0
+abbrev pub Ran : BundleEnd → Input → Type 0
 Ran InputEnded left = IsAtEnd left.left
 Ran ending left = ⊤
 
 -- A bundle was received from that reader, after the bytes that waited, and others wait then.
 pub record IsReceivedFrom {A : Type 0} (limits : Limits) (waited waiting : List ℕ) (input left : Input)
-    (ending : Ending) (parts : List (Part A)) : Type 0 where
+    (ending : BundleEnd) (parts : List (Part A)) : Type 0 where
   pub consumed : List ℕ
   pub rest : List ℕ
   pub reads : List ReadAnswer
@@ -130,6 +130,6 @@ pub record IsReceivedFrom {A : Type 0} (limits : Limits) (waited waiting : List 
   pub received : IsReceived limits waited reads ending parts consumed rest
   pub spelled : waited ++ more ≡ consumed ++ rest
   pub bytes : Consumes input.left left.left more
-  pub told : Adds input.reads left.reads reads
-  pub keeps : Keeps ending rest waiting
+  pub told : TellsMore input.reads left.reads reads
+  pub keeps : KeepsWaiting ending rest waiting
   pub ran : Ran ending left

@@ -8,7 +8,7 @@ use hg_types::CutReason;
 
 /// Why no more is read of a bundle.
 #[derive(Clone, Copy, Debug, PartialEq, Eq)]
-pub enum Ending {
+pub enum BundleEnd {
     /// Its end mark was read.
     Whole,
     /// Its bytes hold that fault.
@@ -20,13 +20,13 @@ pub enum Ending {
 }
 
 /// Why the push of a bundle that ended so is cut off. None where it is whole, and gets an end mark.
-pub fn cut_of(ending: Ending) -> Option<CutReason>
+pub fn cut_of(ending: BundleEnd) -> Option<CutReason>
     ensures { result ≡ cut_of ending }
 {
     match ending {
-        Ending::Whole => None,
-        Ending::Fault(fault) => Some(CutReason::Stream(fault.number())),
-        Ending::InputEnded => Some(CutReason::Stream(StreamFault::Truncated.number())),
-        Ending::ReadFailed => Some(CutReason::ReadFailed),
+        BundleEnd::Whole => None,
+        BundleEnd::Fault(fault) => Some(CutReason::Stream(fault.number())),
+        BundleEnd::InputEnded => Some(CutReason::Stream(StreamFault::Truncated.number())),
+        BundleEnd::ReadFailed => Some(CutReason::ReadFailed),
     }
 }

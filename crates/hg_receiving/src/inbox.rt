@@ -2,9 +2,9 @@
 
 ghost use Rattle.std.specs.Prelude.{◌≡◌, ◌≤◌, [], length, drop, IsTrue, ◌↔◌};
 ghost use Rattle.hg_stream.specs.Unbundler.{state_of};
-ghost use Rattle.hg_receiving.specs.Turns.{Feeds, Fills, ReadsMore, ended_at};
+ghost use Rattle.hg_receiving.specs.Turns.{FeedsFront, Fills, ReadsMore, ended_at};
 
-use crate::ending::Ending;
+use crate::ending::BundleEnd;
 use hg_devices::Reader;
 use hg_stream::{State, Unbundler};
 use std::alloc::Allocator;
@@ -67,7 +67,7 @@ impl Inbox {
     }
 
     /// Reads once, if no bytes wait. Says why none came, if none did.
-    pub fn fill<I: Reader>(&mut self, reader: &mut I) -> Option<Ending>
+    pub fn fill<I: Reader>(&mut self, reader: &mut I) -> Option<BundleEnd>
         ensures { Fills self.old self.new (I.told reader.old) (I.told reader.new) result }
     {
         if !self.is_empty() {
@@ -77,38 +77,38 @@ impl Inbox {
     }
 
     /// Reads once, in place of what it has.
-    fn read_more<I: Reader>(&mut self, reader: &mut I) -> Option<Ending>
+    fn read_more<I: Reader>(&mut self, reader: &mut I) -> Option<BundleEnd>
         ensures { ReadsMore self.new (I.told reader.old) (I.told reader.new) result }
     {
         self.from = 0;
         self.to = 0;
         match reader.read(&mut self.buffer) {
-            Ok(0) => Some(Ending::InputEnded),
+            Ok(0) => Some(BundleEnd::InputEnded),
             Ok(count) => {
                 self.to = count;
                 None
             }
-            Err(_) => Some(Ending::ReadFailed),
+            Err(_) => Some(BundleEnd::ReadFailed),
         }
     }
 
-    /// Feeds the bytes that wait to the reader of bundles: those after an end mark wait on. Says why the bundle
+    /// FeedsFront the bytes that wait to the reader of bundles: those after an end mark wait on. Says why the bundle
     /// ended, if it did.
-    pub fn feed<A: Allocator + Copy>(&mut self, bundle: &mut Unbundler<A>) -> Option<Ending>
-        ensures feeds { Feeds bundle.old bundle.new self.old self.new }
+    pub fn feed<A: Allocator + Copy>(&mut self, bundle: &mut Unbundler<A>) -> Option<BundleEnd>
+        ensures feeds { FeedsFront bundle.old bundle.new self.old self.new }
         ensures result { result ≡ ended_at (state_of bundle.new) }
     {
         self.feed_pending(bundle);
         match bundle.state() {
             State::Reading => None,
-            State::Ended => Some(Ending::Whole),
-            State::Failed(fault) => Some(Ending::Fault(fault)),
+            State::Ended => Some(BundleEnd::Whole),
+            State::Failed(fault) => Some(BundleEnd::Fault(fault)),
         }
     }
 
-    /// Feeds the bytes that wait.
+    /// FeedsFront the bytes that wait.
     fn feed_pending<A: Allocator + Copy>(&mut self, bundle: &mut Unbundler<A>)
-        ensures { Feeds bundle.old bundle.new self.old self.new }
+        ensures { FeedsFront bundle.old bundle.new self.old self.new }
     {
         if let Ok(count) = bundle.feed(self.pending()) {
             self.skip(count);

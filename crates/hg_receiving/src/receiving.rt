@@ -3,10 +3,10 @@
 ghost use Rattle.std.specs.Prelude.{◌≡◌, Some};
 ghost use Rattle.hg_stream.specs.Unbundler.{limits_of, state_of};
 ghost use Rattle.hg_stream.specs.declared.state.State.TheVariants.{Ended as at_end_mark};
-ghost use Rattle.hg_receiving.specs.declared.ending.Ending.TheVariants.{Whole};
+ghost use Rattle.hg_receiving.specs.declared.ending.BundleEnd.TheVariants.{Whole};
 ghost use Rattle.hg_receiving.specs.Turns.{Turns};
 
-use crate::ending::Ending;
+use crate::ending::BundleEnd;
 use crate::inbox::Inbox;
 use hg_devices::Reader;
 use hg_stream::Unbundler;
@@ -18,7 +18,7 @@ pub fn turn<A: Allocator + Copy, I: Reader>(
     bundle: &mut Unbundler<A>,
     inbox: &mut Inbox,
     reader: &mut I,
-) -> Option<Ending>
+) -> Option<BundleEnd>
     ensures turns { Turns bundle.old bundle.new inbox.old inbox.new (I.told reader.old) (I.told reader.new)
         result }
     ensures whole { result ≡ Some Whole → state_of bundle.new ≡ at_end_mark }

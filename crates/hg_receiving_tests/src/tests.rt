@@ -1,23 +1,16 @@
 //! What no contract says: bytes that came from outside, in pieces, whole replies to a writer in memory, and
 //! that out of memory is answered where there is none.
 
-mod devices;
-
-use crate::tests::devices::{Sink, Source};
 use hg_devices::Sending;
+use hg_help_tests::bundles::{EMPTY, RACE};
+use hg_help_tests::devices::{Sink, Source};
 use hg_push::{Outcome, Reason};
-use hg_receiving::{Ending, Inbox, cut_of, send_reply, turn};
+use hg_receiving::{BundleEnd, Inbox, cut_of, send_reply, turn};
 use hg_repo::{Done, Refusal};
 use hg_stream::{StreamFault, Unbundler};
 use hg_types::{CutReason, Limits, Seq};
 use linked_list_allocator::LocalHeap;
 use std::test::*;
-
-/// The bundle without parts, and the reply to a push that is done.
-const EMPTY: &[u8] = b"HG20\0\0\0\0\0\0\0\0";
-
-/// `check:heads` without an id.
-const RACE: &[u8] = b"HG20\0\0\0\0\0\0\0\x12\x0bCHECK:HEADS\0\0\0\0\0\0\0\0\0\0\0\0\0\0";
 
 /// The reply to a push whose bytes are of another kind.
 const FOREIGN_REPLY: &[u8] =
@@ -27,12 +20,18 @@ const FOREIGN_REPLY: &[u8] =
 // off by the faults 1, 11 and 10, and by the read.
 #[test]
 fn marks_of_bundles(rt: HostRuntime) {
-    assert_eq!(rt; cut_of(Ending::Whole), None);
+    assert_eq!(rt; cut_of(BundleEnd::Whole), None);
     let cuts = [
-        (Ending::Fault(StreamFault::BadMagic), CutReason::Stream(1)),
-        (Ending::Fault(StreamFault::NoMemory), CutReason::Stream(11)),
-        (Ending::InputEnded, CutReason::Stream(10)),
-        (Ending::ReadFailed, CutReason::ReadFailed),
+        (
+            BundleEnd::Fault(StreamFault::BadMagic),
+            CutReason::Stream(1),
+        ),
+        (
+            BundleEnd::Fault(StreamFault::NoMemory),
+            CutReason::Stream(11),
+        ),
+        (BundleEnd::InputEnded, CutReason::Stream(10)),
+        (BundleEnd::ReadFailed, CutReason::ReadFailed),
     ];
     for (ending, reason) in cuts {
         assert_eq!(rt; cut_of(ending), Some(reason));
@@ -71,7 +70,7 @@ fn bytes_that_wait(rt: HostRuntime) -> Result<(), Fail> {
     assert_eq!(rt; inbox.fill(&mut reader), None);
     assert!(rt; inbox.pending() == &bytes[4_096..]);
     assert!(rt; drops(&mut inbox, 904) && inbox.pending().is_empty());
-    assert_eq!(rt; inbox.fill(&mut reader), Some(Ending::InputEnded));
+    assert_eq!(rt; inbox.fill(&mut reader), Some(BundleEnd::InputEnded));
     assert_eq!(rt; (inbox.is_empty(), reader.reads()), (true, 3));
     Ok(())
 }
@@ -80,9 +79,9 @@ fn bytes_that_wait(rt: HostRuntime) -> Result<(), Fail> {
 // bytes wait; then two.
 #[test]
 fn bytes_after_a_failed_read(rt: HostRuntime) {
-    let mut reader = Source::failing(b"ab", 9, 0);
+    let mut reader = Source::failing(b"ab", 9, 0, true);
     let mut inbox = Inbox::new();
-    assert_eq!(rt; inbox.fill(&mut reader), Some(Ending::ReadFailed));
+    assert_eq!(rt; inbox.fill(&mut reader), Some(BundleEnd::ReadFailed));
     assert!(rt; inbox.is_empty());
     assert_eq!(rt; inbox.fill(&mut reader), None);
     assert_eq!(rt; inbox.pending(), b"ab".as_slice());
@@ -101,7 +100,7 @@ fn bytes_that_are_fed(rt: HostRuntime) {
         None
     );
     for _again in 0..2usize {
-        assert_eq!(rt; inbox.feed(&mut bundle), Some(Ending::Whole));
+        assert_eq!(rt; inbox.feed(&mut bundle), Some(BundleEnd::Whole));
         assert_eq!(rt; inbox.pending(), b"end".as_slice());
     }
     let mut front = Inbox::new();
@@ -113,7 +112,7 @@ fn bytes_that_are_fed(rt: HostRuntime) {
     assert_eq!(rt; foreign.fill(&mut Source::new(b"HG10")), None);
     assert_eq!(rt;
         foreign.feed(&mut refusing),
-        Some(Ending::Fault(StreamFault::BadMagic))
+        Some(BundleEnd::Fault(StreamFault::BadMagic))
     );
 }
 
@@ -124,10 +123,20 @@ fn bytes_that_are_fed(rt: HostRuntime) {
 fn turns_of_a_bundle(rt: HostRuntime) -> Result<(), Fail> {
     let alloc = rt.alloc();
     let cases = [
-        (Source::in_pieces(RACE, 9), 4, Ending::Whole, 1),
-        (Source::in_pieces(&RACE[..18], 9), 2, Ending::InputEnded, 0),
-        (Source::failing(RACE, 9, 2), 2, Ending::ReadFailed, 0),
-        (Source::in_pieces(RACE, 100), 0, Ending::Whole, 1),
+        (Source::in_pieces(RACE, 9), 4, BundleEnd::Whole, 1),
+        (
+            Source::in_pieces(&RACE[..18], 9),
+            2,
+            BundleEnd::InputEnded,
+            0,
+        ),
+        (
+            Source::failing(RACE, 9, 2, true),
+            2,
+            BundleEnd::ReadFailed,
+            0,
+        ),
+        (Source::in_pieces(RACE, 100), 0, BundleEnd::Whole, 1),
     ];
     for (source, turns, ending, parts) in cases {
         let mut reader = source;
@@ -159,15 +168,15 @@ fn replies_are_sent(rt: HostRuntime) {
         replies: Seq::new(alloc),
         handled: Seq::new(alloc),
     });
-    let mut writer = Sink::new(alloc, 5, usize::MAX, true);
+    let mut writer = Sink::in_pieces(alloc, 5);
     assert_eq!(rt; send_reply(alloc, &mut writer, &done), (Sending::Whole, 12));
     assert_eq!(rt; writer.bytes(), EMPTY);
     let cut: Outcome<Done, Refusal> = Outcome::Aborted(Reason::Cut(CutReason::Stream(1)));
-    let mut writer = Sink::new(alloc, 5, usize::MAX, true);
+    let mut writer = Sink::in_pieces(alloc, 5);
     assert_eq!(rt; send_reply(alloc, &mut writer, &cut), (Sending::Whole, 61));
     assert_eq!(rt; writer.bytes(), FOREIGN_REPLY);
     for room in 0..61usize {
-        let mut writer = Sink::new(alloc, usize::MAX, room, true);
+        let mut writer = Sink::failing(alloc, room, true);
         assert_eq!(rt;
             send_reply(alloc, &mut writer, &cut),
             (Sending::Broken, room)
@@ -184,7 +193,7 @@ fn no_memory_for_a_reply(rt: HostRuntime) -> Result<(), Fail> {
     let cut: Outcome<Done<&LocalHeap>, Refusal<&LocalHeap>> = Outcome::Aborted(Reason::Cut(
         CutReason::Stream(1),
     ));
-    let mut writer = Sink::new(rt.alloc(), usize::MAX, usize::MAX, false);
+    let mut writer = Sink::without_flush(rt.alloc());
     assert_eq!(rt;
         send_reply(&heap, &mut writer, &cut),
         (Sending::NoMemory, 0)

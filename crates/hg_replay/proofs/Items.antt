@@ -13,23 +13,23 @@ use Rattle.hg_parts.specs.declared.refusal.Refusal.{Refusal}
 use Rattle.hg_push.specs.declared.outcome.Outcome.{Outcome}
 use Rattle.hg_push.specs.declared.row.Row.{Row}
 use Rattle.hg_push.specs.History.{History, is_closed, is_mark, outcome}
-use Rattle.hg_push.specs.Book.{Holds, IsSameOpenings, Opens, is_opened, stepped}
+use Rattle.hg_push.specs.Book.{HoldsHistory, IsSameOpenings, Opens, is_opened, stepped}
 use Rattle.hg_push.specs.Reply.{CanBeTold}
 use Rattle.hg_push.specs.Rows.{row_of, rows_without}
 use Rattle.hg_push.specs.Run.{RepositoryOf, run_push}
-use Rattle.hg_receiving.specs.declared.ending.Ending.{Ending}
-use Rattle.hg_receiving.specs.declared.ending.Ending.TheVariants.{Whole, Fault, InputEnded, ReadFailed}
+use Rattle.hg_receiving.specs.declared.ending.BundleEnd.{BundleEnd}
+use Rattle.hg_receiving.specs.declared.ending.BundleEnd.TheVariants.{Whole, Fault, InputEnded, ReadFailed}
 use Rattle.hg_types.specs.declared.item.What.{What}
 use Rattle.hg_types.specs.declared.item.Taken.{Taken}
 use Rattle.hg_receiving.specs.Receiving.{mark_of, part_items, push_items}
 use Rattle.hg_receiving.proofs.CallerLemmas.{items_more}
-use Rattle.hg_replay.specs.Taking.{BookOf, HasTaken, IsIdle, Leaves}
+use Rattle.hg_replay.specs.Taking.{BookOf, HasTaken, IsIdle, PushLeaves}
 
 -- a step of the book, as its contract tells it
 pub record Steps {A : Type 0} (b new : BookOf A) (item : Item A) (refused : Bool) : Type 0 where
   pub pushes : IsSameOpenings b new
-  pub holds : (first : RepositoryOf A) (h : History A) → Holds run_push first h b
-      → Holds run_push first (stepped b item refused h) new
+  pub holds : (first : RepositoryOf A) (h : History A) → HoldsHistory run_push first h b
+      → HoldsHistory run_push first (stepped b item refused h) new
 
 still_opened : {A : Type 0} (b new : BookOf A) (p : ℕ) → IsSameOpenings b new → is_opened b p ≡ true
     → is_opened new p ≡ true
@@ -47,7 +47,7 @@ pub has_stepped : {A : Type 0} (first : RepositoryOf A) (before : History A) (pu
 has_stepped {A} first before push b new items item refused of_it s t = record {
   places = record { item = item; refused = refused } ∷ t.places;
   items_are = ap (λ (l : List (Item A)). l ++ item ∷ []) t.items_are;
-  holds = subst (λ (h : History A). Holds run_push first h new)
+  holds = subst (λ (h : History A). HoldsHistory run_push first h new)
       (its_step b item refused push (t.places ++ before) of_it t.opened)
       (s.holds first (t.places ++ before) t.holds);
   opened = still_opened b new push s.pushes t.opened;
@@ -92,12 +92,12 @@ mark_stepped {A} law first before push b new items item refused of_it mark s t =
 -- a reply that a book hands out
 pub record HandsOut {A : Type 0} (push : ℕ) (book new : BookOf A)
     (reply : Option (Outcome (Done A) (Refusal A))) : Type 0 where
-  pub answer : (first : RepositoryOf A) (h : History A) → Holds run_push first h book
+  pub answer : (first : RepositoryOf A) (h : History A) → HoldsHistory run_push first h book
       → IsSome (row_of push book.rows) → reply ≡ outcome run_push first push h
   pub told : IfSome reply CanBeTold
   pub some : IfSome reply (λ _. new ≡ record book { rows = rows_without push book.rows })
-  pub holds : (first : RepositoryOf A) (h : History A) → Holds run_push first h book
-      → Holds run_push first h new
+  pub holds : (first : RepositoryOf A) (h : History A) → HoldsHistory run_push first h book
+      → HoldsHistory run_push first h new
 
 none_left : {A D E : Type 0} (push : ℕ) (rows : List (Row D E A)) → map (λ r. r.push) rows ≡ push ∷ []
     → rows_without push rows ≡ []
@@ -111,7 +111,7 @@ pub ends_so : {A : Type 0} (first : RepositoryOf A) (before : History A) (push :
     (items : List (Item A)) (reply : Option (Outcome (Done A) (Refusal A)))
     (how : Outcome (Done A) (Refusal A))
     → reply ≡ Some how → HandsOut push book new reply → Closes first before push book items
-    → Leaves first before push items how new
+    → PushLeaves first before push items how new
 ends_so first before push book new items reply how is hands c = record {
   ends = record {
     places = c.taken.places;
@@ -130,7 +130,7 @@ ends_so first before push book new items reply how is hands c = record {
 
 pub has_reply : {A : Type 0} (first : RepositoryOf A) (before : History A) (push : ℕ) (book : BookOf A)
     (items : List (Item A)) (reply : Option (Outcome (Done A) (Refusal A))) → reply ≡ None
-    → ((first : RepositoryOf A) (h : History A) → Holds run_push first h book → IsSome (row_of push book.rows)
+    → ((first : RepositoryOf A) (h : History A) → HoldsHistory run_push first h book → IsSome (row_of push book.rows)
     → reply ≡ outcome run_push first push h) → Closes first before push book items → ⊥
 has_reply {A} first before push book items reply none answer c =
     let e : outcome run_push first push (c.taken.places ++ before) ≡ None = sym
@@ -141,7 +141,7 @@ has_reply {A} first before push book items reply none answer c =
 -- a push was opened in an idle book
 pub begins : {A : Type 0} (first : RepositoryOf A) (before : History A) (push : ℕ) (b new : BookOf A)
     → IsIdle first before b → Opens b push new → is_opened new push ≡ true
-    → ((first : RepositoryOf A) (h : History A) → Holds run_push first h b → Holds run_push first h new)
+    → ((first : RepositoryOf A) (h : History A) → HoldsHistory run_push first h b → HoldsHistory run_push first h new)
     → HasTaken first before push new []
 begins {A} first before push b new idle opens opened holds = record {
   places = [];
@@ -216,7 +216,7 @@ all_stepped {A} old b push index ready parts none s =
           e (s.taken first before t),
     )
 
-marked : (A : Type 0) (ending : Ending) → is_mark (mark_of {A = A} ending) ≡ true
+marked : (A : Type 0) (ending : BundleEnd) → is_mark (mark_of {A = A} ending) ≡ true
 marked A Whole = refl
 marked A (Fault fault) = refl
 marked A InputEnded = refl
@@ -225,7 +225,7 @@ marked A ReadFailed = refl
 -- the book was given all parts and the mark
 pub whole_push : {A : Type 0} → ClosedAreEnded A
     → (first : RepositoryOf A) (before : History A) (push : ℕ) (b new : BookOf A) (parts : List (Part A))
-    (ending : Ending) (index : ℕ) (what : What A) (refused : Bool) → index ≡ length parts
+    (ending : BundleEnd) (index : ℕ) (what : What A) (refused : Bool) → index ≡ length parts
     → what ≡ mark_of ending → Steps b new (record { push = push; index = index; what = what }) refused
     → HasTaken first before push b (part_items push 0 parts)
     → Closes first before push new (push_items push parts (mark_of ending))

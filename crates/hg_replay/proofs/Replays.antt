@@ -14,8 +14,8 @@ use Rattle.hg_push.specs.Run.{RepositoryOf}
 use Rattle.hg_devices.specs.declared.sending.Sending.TheVariants.{Whole as sent_whole}
 use Rattle.hg_devices.specs.Devices.{Input, Output}
 use Rattle.hg_devices.specs.declared.sending.Sending.{Sending}
-use Rattle.hg_receiving.specs.declared.ending.Ending.{Ending}
-use Rattle.hg_replay.specs.Taking.{BookOf, IsIdle, Takes}
+use Rattle.hg_receiving.specs.declared.ending.BundleEnd.{BundleEnd}
+use Rattle.hg_replay.specs.Taking.{BookOf, IsIdle, PushTakes}
 use Rattle.hg_replay.specs.Answering.{IsSentTo, empty_repository, status_of}
 use Rattle.hg_repo.specs.Report.{report_of}
 use Rattle.hg_replay.specs.Replaying.{AreReplayed, IsPlayed, NotOpened, Plays, PlaysOne, Ran, Replay, Replayed}
@@ -129,8 +129,8 @@ one_played {A} first before inputs lefts input left old mid new status one p q =
     }
 
 -- a push that ran
-pub played : {A : Type 0} (input left : Input) (old new : BookOf A) (ending : Ending)
-    (how : Outcome (Done A) (Refusal A)) (status : ℕ) → Takes input left old new ending how
+pub played : {A : Type 0} (input left : Input) (old new : BookOf A) (ending : BundleEnd)
+    (how : Outcome (Done A) (Refusal A)) (status : ℕ) → PushTakes input left old new ending how
     → status ≡ status_of ending how sent_whole
     → PlaysOne input left old new status
 played input left old new ending how status t is = record {

@@ -16,10 +16,10 @@ use Rattle.hg_push.specs.Reply.{CanBeTold, reply_of}
 use Rattle.hg_push.specs.Run.{RepositoryOf, run_push}
 use Rattle.hg_push.specs.World.{all_parts, items_in}
 use Rattle.hg_devices.specs.Devices.{Input}
-use Rattle.hg_receiving.specs.declared.ending.Ending.{Ending}
+use Rattle.hg_receiving.specs.declared.ending.BundleEnd.{BundleEnd}
 use Rattle.hg_receiving.specs.Receiving.{mark_of, push_items, state_at}
 use Rattle.hg_replay.specs.Receiving.{Received}
-use Rattle.hg_replay.specs.Taking.{Ends}
+use Rattle.hg_replay.specs.Taking.{PushEnds}
 use Rattle.hg_receiving.proofs.CallerLemmas.{AbortedAreShort, DoneAreShort, PartsAreFew, mark_empty, put_parts}
 
 more_parts : {A : Type 0} (items : List (Item A)) (item : Item A)
@@ -60,9 +60,9 @@ outcome_short done_short aborted_short first p h (done_with done) ended told few
 outcome_short done_short aborted_short first p h (Aborted reason) ended told few = aborted_short reason
 
 pub reply_short : {A : Type 0} → DoneAreShort A → AbortedAreShort A → PartsAreFew A
-    → (first : RepositoryOf A) (push : ℕ) (input left : Input) (ending : Ending) (parts : List (Part A))
+    → (first : RepositoryOf A) (push : ℕ) (input left : Input) (ending : BundleEnd) (parts : List (Part A))
     (how : Outcome (Done A) (Refusal A)) → Received standard_limits input left ending parts
-    → Ends first [] push (push_items push parts (mark_of ending)) how → length (reply_of how) ≤ greatest_reply
+    → PushEnds first [] push (push_items push parts (mark_of ending)) how → length (reply_of how) ≤ greatest_reply
 reply_short {A} done_short aborted_short law first push input left ending parts how received e =
     let count : length parts ≤ most_parts = law standard_limits (state_at ending) received.1.consumed parts
     received.1.received.tells in

@@ -11,15 +11,15 @@ use Rattle.hg_push.specs.declared.outcome.Outcome.TheVariants.{Done as done_with
 use Rattle.hg_push.specs.declared.outcome.Reason.TheVariants.{NoMemory as without_memory}
 use Rattle.hg_push.specs.Lengths.{greatest_reply}
 use Rattle.hg_push.specs.Reply.{reply_of}
-use Rattle.hg_receiving.specs.declared.ending.Ending.{Ending}
-use Rattle.hg_receiving.specs.declared.ending.Ending.TheVariants.{Fault, ReadFailed}
+use Rattle.hg_receiving.specs.declared.ending.BundleEnd.{BundleEnd}
+use Rattle.hg_receiving.specs.declared.ending.BundleEnd.TheVariants.{Fault, ReadFailed}
 use Rattle.hg_devices.specs.declared.sending.Sending.{Sending}
 use Rattle.hg_devices.specs.declared.sending.Sending.TheVariants.{Whole as sent_whole, Broken, NoMemory}
 use Rattle.hg_devices.specs.Devices.{Input, Output}
 use Rattle.hg_devices.specs.Sent.{Sends}
 use Rattle.hg_receiving.specs.Receiving.{mark_of, push_items}
 use Rattle.hg_replay.specs.Receiving.{Received}
-use Rattle.hg_replay.specs.Taking.{Ends}
+use Rattle.hg_replay.specs.Taking.{PushEnds}
 
 -- the repository without changesets
 abbrev pub empty_repository : {A : Type 0} → Bool → Repository A
@@ -50,22 +50,22 @@ starved_status NoMemory = 4
 
 -- 3 where a device failed, else 4 where memory was refused, else 1 where the push was aborted, and 0 where it
 -- is done
-abbrev pub status_of : {A : Type 0} → Ending → Outcome (Done A) (Refusal A) → Sending → ℕ
+abbrev pub status_of : {A : Type 0} → BundleEnd → Outcome (Done A) (Refusal A) → Sending → ℕ
 status_of ReadFailed how sending = 3
 status_of (Fault stream_without_memory) how sending = starved_status sending
 status_of ending how sending = sent_status sending how
 
 -- One push was run on the empty repository: its items are the parts of the bytes taken and the mark that they
 -- ask for, in a history that says for which of them memory was refused. Its reply, which has fewer than 2^32
--- bytes, was sent, and the status tells how it went.
+-- bytes, was sent, and the status says how it went.
 pub record Answered (A : Type 0) (publishing : Bool) (input input_after : Input)
     (output output_after : Output)
     (status : ℕ) : Type 0 where
-  pub ending : Ending
+  pub ending : BundleEnd
   pub parts : List (Part A)
   pub received : Received standard_limits input input_after ending parts
   pub how : Outcome (Done A) (Refusal A)
-  pub ends : Ends {A = A} (empty_repository publishing) [] 0 (push_items 0 parts (mark_of ending)) how
+  pub ends : PushEnds {A = A} (empty_repository publishing) [] 0 (push_items 0 parts (mark_of ending)) how
   pub short : length (reply_of how) ≤ greatest_reply
   pub sending : Sending
   pub sent : IsSentTo sending output output_after (reply_of how)

@@ -13,16 +13,16 @@ use Rattle.hg_push.specs.Run.{RepositoryOf, run_push}
 use Rattle.hg_devices.specs.declared.sending.Sending.{Sending}
 use Rattle.hg_devices.specs.declared.sending.Sending.TheVariants.{Whole as sent_whole, Broken, NoMemory}
 use Rattle.hg_devices.specs.Devices.{Input, Output}
-use Rattle.hg_receiving.specs.declared.ending.Ending.{Ending}
+use Rattle.hg_receiving.specs.declared.ending.BundleEnd.{BundleEnd}
 use Rattle.hg_receiving.specs.Receiving.{mark_of, push_items}
 use Rattle.hg_replay.specs.Receiving.{Received}
-use Rattle.hg_replay.specs.Taking.{BookOf, Ends, IsIdle, Leaves}
+use Rattle.hg_replay.specs.Taking.{BookOf, PushEnds, IsIdle, PushLeaves}
 use Rattle.hg_replay.specs.Answering.{IsSentTo, empty_repository, status_of}
 
 -- What became of the push of a reader: it was received so and ended so; or it was not opened, and nothing was
 -- read of it.
 pub data Replay (A : Type 0) : Type 0 where
-  Ran : Ending → List (Part A) → Outcome (Done A) (Refusal A) → Replay A
+  Ran : BundleEnd → List (Part A) → Outcome (Done A) (Refusal A) → Replay A
   NotOpened : Replay A
 
 -- The readers gave these pushes, in their order: each was received from its reader and run after the history
@@ -34,7 +34,7 @@ AreReplayed first number before (input ∷ inputs) (left ∷ lefts) (NotOpened �
     (left ≡ input) × AreReplayed first number before inputs lefts replays after
 AreReplayed first number before (input ∷ inputs) (left ∷ lefts) (Ran ending parts how ∷ replays) after =
     Received standard_limits input left ending parts
-    × (ends : Ends first before number (push_items number parts (mark_of ending)) how)
+    × (ends : PushEnds first before number (push_items number parts (mark_of ending)) how)
     × AreReplayed first (number + 1) (ends.places ++ before) inputs lefts replays after
 AreReplayed first number before inputs lefts replays after = ⊥
 
@@ -59,13 +59,13 @@ sending_status NoMemory = 4
 abbrev pub is_told : ℕ → List ℕ → Bool
 is_told status statuses = list_any (λ s. s == status) statuses
 
--- of several statuses 3 is told before 4, 4 before 1, and 1 before 0
+-- of several statuses 3 is reported before 4, 4 before 1, and 1 before 0
 abbrev pub first_told : List ℕ → ℕ
 first_told statuses = if is_told 3 statuses then 3 else if is_told 4 statuses then 4
     else if is_told 1 statuses then 1 else 0
 
 -- The pushes of these readers were replayed onto the empty repository, and the report of the repository that
--- the serial run of their history gives was sent. The status tells how all of it went.
+-- the serial run of their history gives was sent. The status says how all of it went.
 pub record Replayed (A : Type 0) (publishing : Bool) (inputs lefts : List Input)
     (output output_after : Output) (status : ℕ) : Type 0 where
   pub replays : List (Replay A)
@@ -83,7 +83,7 @@ IsPlayed {A} input left old new (Ran ending parts how) =
     Received standard_limits input left ending parts
     × (new.next ≡ old.next + 1)
     × ((first : RepositoryOf A) (before : History A) → IsIdle first before old →
-    Leaves first before old.next (push_items old.next parts (mark_of ending)) how new)
+    PushLeaves first before old.next (push_items old.next parts (mark_of ending)) how new)
 
 -- One push was replayed on a book, and this is its status.
 pub record PlaysOne {A : Type 0} (input left : Input) (old new : BookOf A) (status : ℕ) : Type 0 where
@@ -92,7 +92,7 @@ pub record PlaysOne {A : Type 0} (input left : Input) (old new : BookOf A) (stat
   pub status_is : status ≡ replay_status replay
 
 -- The pushes of these readers were replayed on an idle book, after that history, and this is the status that
--- is told of them.
+-- is reported of them.
 pub record Plays {A : Type 0} (first : RepositoryOf A) (before : History A) (inputs lefts : List Input)
     (old new : BookOf A) (status : ℕ) : Type 0 where
   pub replays : List (Replay A)

@@ -10,15 +10,15 @@ use Rattle.hg_parts.specs.declared.source.Source.TheVariants.{Seed}
 use Rattle.hg_parts.specs.Repository.{Repository}
 use Rattle.hg_stream.specs.declared.fault.StreamFault.TheVariants.{NoMemory as stream_without_memory}
 use Rattle.hg_devices.specs.Devices.{Input}
-use Rattle.hg_receiving.specs.declared.ending.Ending.{Ending}
-use Rattle.hg_receiving.specs.declared.ending.Ending.TheVariants.{Whole, Fault, InputEnded, ReadFailed}
+use Rattle.hg_receiving.specs.declared.ending.BundleEnd.{BundleEnd}
+use Rattle.hg_receiving.specs.declared.ending.BundleEnd.TheVariants.{Whole, Fault, InputEnded, ReadFailed}
 use Rattle.hg_replay.specs.declared.seed.SeedFault.{SeedFault}
 use Rattle.hg_replay.specs.declared.seed.SeedFault.TheVariants.{Aborted, ReadFailed as read_failed, NoMemory}
 use Rattle.hg_replay.specs.Receiving.{Received}
 use Rattle.hg_replay.specs.Answering.{empty_repository}
 
 -- why a bundle that ended so is no seed: it is not whole, a read failed, or memory was refused
-abbrev pub ending_fault : Ending → Option SeedFault
+abbrev pub ending_fault : BundleEnd → Option SeedFault
 ending_fault Whole = None
 ending_fault ReadFailed = Some read_failed
 ending_fault (Fault stream_without_memory) = Some NoMemory
@@ -50,7 +50,7 @@ SeedGives None publishing parts result = Grows publishing parts result
 -- One bundle was read, as for a push, and gave that.
 pub record Seeds {A : Type 0} (publishing : Bool) (input left : Input)
     (result : Result (Repository A) SeedFault) : Type 0 where
-  pub ending : Ending
+  pub ending : BundleEnd
   pub parts : List (Part A)
   pub received : Received standard_limits input left ending parts
   pub gives : SeedGives (ending_fault ending) publishing parts result

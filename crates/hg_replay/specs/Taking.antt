@@ -5,14 +5,14 @@ use Rattle.hg_types.specs.declared.part.Part.{Part}
 use Rattle.hg_types.specs.declared.item.Item.{Item}
 use Rattle.hg_repo.specs.declared.done.Done.{Done}
 use Rattle.hg_parts.specs.declared.refusal.Refusal.{Refusal}
-use Rattle.hg_push.specs.Book.{Book, Holds, is_opened}
+use Rattle.hg_push.specs.Book.{Book, HoldsHistory, is_opened}
 use Rattle.hg_push.specs.History.{History, IsHistory, outcome}
 use Rattle.hg_push.specs.Reply.{CanBeTold}
 use Rattle.hg_push.specs.declared.outcome.Outcome.{Outcome}
 use Rattle.hg_push.specs.Run.{RepositoryOf, run_push}
 use Rattle.hg_push.specs.World.{items_in}
 use Rattle.hg_devices.specs.Devices.{Input}
-use Rattle.hg_receiving.specs.declared.ending.Ending.{Ending}
+use Rattle.hg_receiving.specs.declared.ending.BundleEnd.{BundleEnd}
 use Rattle.hg_receiving.specs.Receiving.{mark_of, push_items}
 use Rattle.hg_replay.specs.Receiving.{Received}
 
@@ -26,13 +26,13 @@ pub record HasTaken {A : Type 0} (first : RepositoryOf A) (before : History A) (
     (items : List (Item A)) : Type 0 where
   pub places : History A
   pub items_are : items_in places ≡ items
-  pub holds : Holds run_push first (places ++ before) book
+  pub holds : HoldsHistory run_push first (places ++ before) book
   pub opened : is_opened book push ≡ true
   pub rows : map (λ r. r.push) book.rows ≡ push ∷ []
 
 -- After that history these items of a push were taken, over that first repository. They end the push so, in
--- a way that can be told.
-pub record Ends {A : Type 0} (first : RepositoryOf A) (before : History A) (push : ℕ) (items : List (Item A))
+-- a way that can be reported.
+pub record PushEnds {A : Type 0} (first : RepositoryOf A) (before : History A) (push : ℕ) (items : List (Item A))
     (how : Outcome (Done A) (Refusal A)) : Type 0 where
   pub places : History A
   pub items_are : items_in places ≡ items
@@ -42,21 +42,21 @@ pub record Ends {A : Type 0} (first : RepositoryOf A) (before : History A) (push
 
 -- The book holds that history over that first repository, and no push has a row.
 pub record IsIdle {A : Type 0} (first : RepositoryOf A) (history : History A) (book : BookOf A) : Type 0 where
-  pub holds : Holds run_push first history book
+  pub holds : HoldsHistory run_push first history book
   pub rows : book.rows ≡ []
 
 -- The push ended so, and the book is idle after it.
-pub record Leaves {A : Type 0} (first : RepositoryOf A) (before : History A) (push : ℕ)
+pub record PushLeaves {A : Type 0} (first : RepositoryOf A) (before : History A) (push : ℕ)
     (items : List (Item A))
     (how : Outcome (Done A) (Refusal A)) (book : BookOf A) : Type 0 where
-  pub ends : Ends first before push items how
+  pub ends : PushEnds first before push items how
   pub idle : IsIdle first (ends.places ++ before) book
 
 -- The next push was received, run on the repository of an idle book, and ended so.
-pub record Takes {A : Type 0} (input left : Input) (old new : BookOf A) (ending : Ending)
+pub record PushTakes {A : Type 0} (input left : Input) (old new : BookOf A) (ending : BundleEnd)
     (how : Outcome (Done A) (Refusal A)) : Type 0 where
   pub parts : List (Part A)
   pub received : Received standard_limits input left ending parts
   pub next : new.next ≡ old.next + 1
   pub leaves : (first : RepositoryOf A) (before : History A) → IsIdle first before old
-      → Leaves first before old.next (push_items old.next parts (mark_of ending)) how new
+      → PushLeaves first before old.next (push_items old.next parts (mark_of ending)) how new

@@ -5,13 +5,13 @@ ghost use Rattle.hg_push.specs.History.{History};
 ghost use Rattle.hg_push.specs.Run.{RepositoryOf};
 ghost use Rattle.hg_stream.specs.Unbundler.{ready_of};
 ghost use Rattle.hg_receiving.specs.Receiving.{mark_of, part_items, push_items};
-ghost use Rattle.hg_replay.specs.Taking.{HasTaken, IsIdle, Leaves, Takes};
+ghost use Rattle.hg_replay.specs.Taking.{HasTaken, IsIdle, PushLeaves, PushTakes};
 
 use crate::receiving::receive;
 use hg_devices::Reader;
 use hg_push::laws::closed_pushes_have_ended;
 use hg_push::{Book, Outcome};
-use hg_receiving::{Ending, cut_of};
+use hg_receiving::{BundleEnd, cut_of};
 use hg_repo::{Done, Refusal};
 use hg_stream::Unbundler;
 use hg_stream::laws::parts_are_few;
@@ -25,11 +25,11 @@ pub fn take_push<A: Allocator + Copy, R: Reader>(
     alloc: A,
     book: &mut Book<A>,
     reader: &mut R,
-) -> Option<(Ending, Outcome<Done<A>, Refusal<A>>)>
+) -> Option<(BundleEnd, Outcome<Done<A>, Refusal<A>>)>
     requires idle { (first : RepositoryOf A) × (before : History A) × IsIdle first before book.old }
     ensures none { IfNone result ((R.told reader.new ≡ R.told reader.old) × (book.new ≡ book.old)) }
     ensures some { IfSome result
-        (λ r. Takes (R.told reader.old) (R.told reader.new) book.old book.new r.0 r.1) }
+        (λ r. PushTakes (R.told reader.old) (R.told reader.new) book.old book.new r.0 r.1) }
 {
     let Ok(push) = book.open() else {
         return None;
@@ -47,14 +47,14 @@ fn end_push<A: Allocator + Copy>(
     book: &mut Book<A>,
     push: u32,
     bundle: &mut Unbundler<A>,
-    ending: Ending,
+    ending: BundleEnd,
 ) -> Outcome<Done<A>, Refusal<A>>
     requires few { length (ready_of bundle.old) < 2 ^ 32 }
     requires taken { (first : RepositoryOf A) × (before : History A)
         × HasTaken first before push book.old [] }
     ensures next { book.new.next ≡ book.old.next }
     ensures leaves { (first : RepositoryOf A) (before : History A) → HasTaken first before push book.old []
-        → Leaves first before push (push_items push (ready_of bundle.old) (mark_of ending)) result book.new }
+        → PushLeaves first before push (push_items push (ready_of bundle.old) (mark_of ending)) result book.new }
 {
     let index = step_parts(book, push, bundle);
     let what = mark_of(ending);
@@ -68,7 +68,7 @@ fn end_push<A: Allocator + Copy>(
 }
 
 /// The mark of a push whose bundle ended so: an end mark, or why it is cut off.
-fn mark_of<A: Allocator>(ending: Ending) -> What<A>
+fn mark_of<A: Allocator>(ending: BundleEnd) -> What<A>
     ensures { result ≡ mark_of ending }
 {
     match cut_of(ending) {

@@ -39,7 +39,7 @@ pub fn run_replay<A: Allocator + Copy, R: Reader, W: Writer>(
     first_told(status, sending_status(sending))
 }
 
-/// Replays the pushes of the readers, and gives the status that is told of them.
+/// Replays the pushes of the readers, and gives the status that is reported of them.
 fn replay_each<A: Allocator + Copy, R: Reader>(
     alloc: A,
     book: &mut Book<A>,

@@ -8,11 +8,11 @@ ghost use Rattle.hg_replay.specs.Seeding.{Grows, IsRefused, Seeds, ending_fault}
 use crate::receiving::receive;
 use crate::run::empty_repository;
 use hg_devices::Reader;
-use hg_receiving::Ending;
+use hg_receiving::BundleEnd;
 use hg_repo::{Refusal, Repo, Source};
 use hg_stream::laws::parts_are_few;
-use hg_stream::{StreamFault, Unbundler};
-use hg_types::{Limits, NoMemory, Part};
+use hg_stream::{StreamFault, Unbundler, all_parts};
+use hg_types::Limits;
 use std::alloc::Allocator;
 use std::hash::RandomState;
 
@@ -49,15 +49,15 @@ pub fn seeded<A: Allocator + Copy, R: Reader>(
 }
 
 /// Why a bundle that ended so is no seed, if it is none.
-fn fault_of(ending: Ending) -> Option<SeedFault>
+fn fault_of(ending: BundleEnd) -> Option<SeedFault>
     ensures { result ≡ ending_fault ending }
 {
     match ending {
-        Ending::Whole => None,
-        Ending::ReadFailed => Some(SeedFault::ReadFailed),
-        Ending::Fault(StreamFault::NoMemory) => Some(SeedFault::NoMemory),
-        Ending::Fault(_) => Some(SeedFault::Aborted),
-        Ending::InputEnded => Some(SeedFault::Aborted),
+        BundleEnd::Whole => None,
+        BundleEnd::ReadFailed => Some(SeedFault::ReadFailed),
+        BundleEnd::Fault(StreamFault::NoMemory) => Some(SeedFault::NoMemory),
+        BundleEnd::Fault(_) => Some(SeedFault::Aborted),
+        BundleEnd::InputEnded => Some(SeedFault::Aborted),
     }
 }
 
@@ -90,18 +90,4 @@ fn refused<A: Allocator>(refusal: &Refusal<A>) -> SeedFault
         Refusal::NoMemory => SeedFault::NoMemory,
         _ => SeedFault::Aborted,
     }
-}
-
-/// The parts that the bundle has finished.
-fn all_parts<A: Allocator + Copy>(
-    alloc: A,
-    bundle: &mut Unbundler<A>,
-) -> Result<Vec<Part<A>, A>, NoMemory>
-    ensures { IfOk result (λ parts. parts.items ≡ ready_of bundle.old) }
-{
-    let mut parts = Vec::new(alloc);
-    while let Some(part) = bundle.next_part() {
-        parts.push(part)?;
-    }
-    Ok(parts)
 }

@@ -1,4 +1,4 @@
-//! The status that tells how a push or a replay went.
+//! The status that says how a push or a replay went.
 
 ghost use Rattle.std.specs.Prelude.{◌≡◌, ◌∷◌, []};
 ghost use Rattle.hg_replay.specs.Answering.{outcome_status, status_of};
@@ -6,7 +6,7 @@ ghost use Rattle.hg_replay.specs.Replaying.{first_told, sending_status};
 
 use hg_devices::Sending;
 use hg_push::{Outcome, Reason};
-use hg_receiving::Ending;
+use hg_receiving::BundleEnd;
 use hg_repo::{Done, Refusal};
 use hg_stream::StreamFault;
 use std::alloc::Allocator;
@@ -14,16 +14,16 @@ use std::alloc::Allocator;
 /// 3 where a device failed, else 4 where memory was refused, else 1 where the push was aborted, and 0 where
 /// it is done.
 pub fn status_of<A: Allocator>(
-    ending: Ending,
+    ending: BundleEnd,
     outcome: &Outcome<Done<A>, Refusal<A>>,
     sending: Sending,
 ) -> u8
     ensures { result ≡ status_of ending outcome.now sending }
 {
     match (ending, sending) {
-        (Ending::ReadFailed, _) => 3,
+        (BundleEnd::ReadFailed, _) => 3,
         (_, Sending::Broken) => 3,
-        (Ending::Fault(StreamFault::NoMemory), _) => 4,
+        (BundleEnd::Fault(StreamFault::NoMemory), _) => 4,
         (_, Sending::NoMemory) => 4,
         (_, Sending::Whole) => outcome_status(outcome),
     }
@@ -39,7 +39,7 @@ fn outcome_status<A: Allocator>(outcome: &Outcome<Done<A>, Refusal<A>>) -> u8
     }
 }
 
-/// Of two statuses the one that is told: 3 before 4, 4 before 1, and 1 before 0.
+/// Of two statuses the one that is reported: 3 before 4, 4 before 1, and 1 before 0.
 pub fn first_told(one: u8, other: u8) -> u8
     ensures { result ≡ first_told (one ∷ other ∷ []) }
 {

@@ -1,6 +1,5 @@
 //! Worked examples of one bundle and its reply, in memory.
 
-mod devices;
 mod large;
 mod memory;
 mod replay;
@@ -9,7 +8,8 @@ mod sending;
 mod telling;
 mod uses;
 
-use crate::tests::devices::{Sink, Source};
+use hg_help_tests::bundles::{EMPTY, INTERRUPTED_ROOT, RACE, RACE_REPLY, ROOT, ROOT_REPLY};
+use hg_help_tests::devices::{Sink, Source};
 use hg_replay::run_one;
 use std::alloc::{Allocator, Global};
 use std::hash::RandomState;
@@ -17,20 +17,11 @@ use std::process::Abort;
 use std::random::RandomSource;
 use std::test::*;
 
-/// The bundle without parts.
-const EMPTY: &[u8] = b"HG20\0\0\0\0\0\0\0\0";
-
 /// `replycaps`, and `check:heads` with the null id.
 const FIRST_PUSH: &[u8] = b"HG20\0\0\0\0\
         \0\0\0\x10\x09REPLYCAPS\0\0\0\0\0\0\0\0\0\0\
         \0\0\0\x12\x0bCHECK:HEADS\0\0\0\x01\0\0\0\0\0\x14\0\0\0\0\0\0\0\0\0\0\0\0\0\0\0\0\0\0\0\0\0\
         \0\0\0\0\0\0\0";
-
-/// `check:heads` without an id.
-const RACE: &[u8] = b"HG20\0\0\0\0\0\0\0\x12\x0bCHECK:HEADS\0\0\0\0\0\0\0\0\0\0\0\0\0\0";
-
-const RACE_REPLY: &[u8] =
-    b"HG20\0\0\0\0\0\0\0\x2c\x0fERROR:PUSHRACED\0\0\0\0\x01\0\x07\x0dmessageheads changed\0\0\0\0\0\0\0\0";
 
 /// `frob` with the id 5, which may be ignored.
 const ADVISORY: &[u8] = b"HG20\0\0\0\0\0\0\0\x0b\x04frob\0\0\0\x05\0\0\0\0\0\0\0\0\0\0";
@@ -87,27 +78,6 @@ const UNKNOWN_INTERRUPTION: &[u8] = b"HG20\0\0\0\0\
 
 const UNKNOWN_INTERRUPTION_REPLY: &[u8] =
     b"HG20\0\0\0\0\0\0\0\x29\x0bERROR:ABORT\0\0\0\0\x01\0\x07\x0emessagestream fault 8\0\0\0\0\0\0\0\0";
-
-/// `replycaps`, and a changegroup with the changeset of the empty text.
-const ROOT: &[u8] =
-    b"HG20\0\0\0\0\0\0\0\x10\x09REPLYCAPS\0\0\0\0\0\0\0\0\0\0\0\0\0\x1d\x0bCHANGEGROUP\0\0\0\x01\x01\0\x07\
-    \x02version02\0\0\0t\0\0\0h\xb8\x0d\xe5\xd18u\x85A\xc5\xf0Re\xad\x14J\xb9\xfa\x86\xd1\xdb\0\0\0\0\0\
-    \0\0\0\0\0\0\0\0\0\0\0\0\0\0\0\0\0\0\0\0\0\0\0\0\0\0\0\0\0\0\0\0\0\0\0\0\0\0\0\0\0\0\0\0\0\0\0\0\0\0\
-    \0\0\0\0\0\xb8\x0d\xe5\xd18u\x85A\xc5\xf0Re\xad\x14J\xb9\xfa\x86\xd1\xdb\0\0\0\0\0\0\0\0\0\0\0\0\0\0\
-    \0\0\0\0\0\0";
-
-/// The same, the changegroup in chunks of 40 and 76 bytes and a part `output` between them.
-const INTERRUPTED_ROOT: &[u8] =
-    b"HG20\0\0\0\0\0\0\0\x10\x09REPLYCAPS\0\0\0\0\0\0\0\0\0\0\0\0\0\x1d\x0bCHANGEGROUP\0\0\0\x01\x01\0\x07\
-    \x02version02\0\0\0(\0\0\0h\xb8\x0d\xe5\xd18u\x85A\xc5\xf0Re\xad\x14J\xb9\xfa\x86\xd1\xdb\0\0\0\0\0\
-    \0\0\0\0\0\0\0\0\0\0\0\xff\xff\xff\xff\0\0\0\x0d\x06output\0\0\0\0\0\0\0\0\0\0\0\0\0L\0\0\0\0\0\0\0\
-    \0\0\0\0\0\0\0\0\0\0\0\0\0\0\0\0\0\0\0\0\0\0\0\0\0\0\0\0\0\0\0\0\0\0\0\0\0\xb8\x0d\xe5\xd18u\x85A\
-    \xc5\xf0Re\xad\x14J\xb9\xfa\x86\xd1\xdb\0\0\0\0\0\0\0\0\0\0\0\0\0\0\0\0\0\0\0\0";
-
-/// The reply to a push of a changeset.
-const ROOT_REPLY: &[u8] =
-    b"HG20\0\0\0\0\0\0\0\x2f\x11reply:changegroup\0\0\0\0\0\x02\x0b\x01\x06\x01in-reply-to1return1\0\0\0\0\
-    \0\0\0\0";
 
 /// The bundle without parts, and bytes that are dropped.
 const WITH_MORE: &[u8] = b"HG20\0\0\0\0\0\0\0\0 more";

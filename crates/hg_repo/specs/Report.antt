@@ -59,3 +59,11 @@ unfoldable pub report_of : {A : Type 0} → Repository A → List ℕ
 report_of repo =
     flat_map (changeset_line repo) (range_with_len 0 (length repo.rows))
     ++ (flat_map bookmark_line repo.bookmarks ++ flat_map marker_line repo.markers)
+
+-- a push of a journal, by its number or its place
+abbrev pub journal_line : ℕ → List ℕ
+journal_line number = codes "J " ++ decimal number ++ codes "\n"
+
+-- so many pushes, from the first one
+abbrev pub journal_lines : ℕ → List ℕ
+journal_lines count = flat_map journal_line (range_with_len 0 count)

@@ -31,7 +31,7 @@ use std::hash::RandomState;
 use std::marker::Model;
 
 /// A repository: its settings, its changesets with the phase of each, its markers and its bookmarks.
-/// Contracts see the record of them, which is lawful: the law `every_repository_is_lawful` tells so.
+/// Contracts see the record of them, which is lawful: the law `every_repository_is_lawful` says so.
 #[derive(Drop)]
 pub struct Repo<A: Allocator = Global> {
     settings: Settings,

@@ -5,6 +5,7 @@
 //! - `B node name`: a bookmark. The changeset that it is on, and its name, in which every byte but ASCII
 //!   letters and digits is written `%` and two upper case hexadecimal digits.
 //! - `O bytes`: an obsolescence marker. Its bytes, as marker data has them.
+//! - `J number`: a push of a journal, which follows the report.
 //!
 //! Changesets stand in the order of their numbers, bookmarks in that of their names' bytes, and markers in
 //! that in which they came. Numbers are decimal, and ids and bytes are lower case hexadecimal digits. Each
@@ -12,9 +13,10 @@
 
 ghost use Rattle.std.specs.Prelude.{◌≡◌, ◌<◌, ◌++◌, length, OnOk, string_bytes};
 ghost use Rattle.std.specs.List.{flat_map, range_with_len};
-ghost use Rattle.hg_obs.specs.Marker.{Fits};
+ghost use Rattle.hg_obs.specs.Marker.{MarkerFits};
 ghost use Rattle.hg_obs.specs.Markers.{AreLawful};
 ghost use Rattle.hg_repo.specs.Report.{changeset_line, bookmark_line, marker_line};
+ghost use Rattle.hg_repo.specs.Report.{journal_line, journal_lines};
 
 use crate::repo::Repo;
 use hg_keys::Bookmarks;
@@ -113,12 +115,39 @@ fn write_marker<A: Allocator + Copy>(
     text: &mut String<A>,
     marker: &Marker<A>,
 ) -> Result<(), NoMemory>
-    requires { Fits marker.now }
+    requires { MarkerFits marker.now }
     ensures { OnOk result (string_bytes text.new ≡ string_bytes text.old ++ marker_line marker.now) }
 {
     let mut bytes = Vec::new(alloc);
     marker.append_to(&mut bytes)?;
     let digits = hex::encode(alloc, bytes.as_slice())?;
     writeln!(text, "O {digits}")?;
+    Ok(())
+}
+
+/// Adds a line for each of so many pushes, numbered from 0 on.
+pub fn add_journal_lines<A: Allocator + Copy>(
+    alloc: A,
+    text: &mut Vec<u8, A>,
+    count: usize,
+) -> Result<(), NoMemory>
+    ensures { OnOk result (text.new.items ≡ text.old.items ++ journal_lines count) }
+{
+    for number in 0..count {
+        add_journal_line(alloc, text, number)?;
+    }
+    Ok(())
+}
+
+/// Adds the line of a push.
+pub fn add_journal_line<A: Allocator + Copy>(
+    alloc: A,
+    text: &mut Vec<u8, A>,
+    number: usize,
+) -> Result<(), NoMemory>
+    ensures { OnOk result (text.new.items ≡ text.old.items ++ journal_line number) }
+{
+    let line = format!(in alloc; "J {number}\n")?;
+    text.extend_from_slice(line.as_bytes())?;
     Ok(())
 }

@@ -9,6 +9,7 @@ mod pushes;
 ghost use Rattle.std.specs.Prelude.{IfOk, length, ◌≤◌};
 ghost use Rattle.hg_types.specs.Limits.{IsAllowed};
 
+use hg_help_tests::parts::part_of as part;
 use hg_repo::{Done, RaceText, Refusal, Repo, Source};
 use hg_types::{Limits, NoMemory, Node, Param, Part, Seq, Settings, TryClone};
 use linked_list_allocator::LocalHeap;
@@ -27,20 +28,6 @@ fn settings() -> Settings
         limits: Limits::standard(),
         first_push: 0,
     }
-}
-
-fn part<A: Allocator + Copy>(
-    alloc: A,
-    kind: &[u8],
-    id: u32,
-    payload: &[u8],
-) -> Result<Part<A>, NoMemory> {
-    Ok(Part {
-        kind: Seq::copy_of(alloc, kind)?,
-        id,
-        params: Seq::new(alloc),
-        payload: Seq::copy_of(alloc, payload)?,
-    })
 }
 
 /// The part with one parameter more.

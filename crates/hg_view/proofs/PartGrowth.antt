@@ -18,9 +18,9 @@ use Rattle.hg_phases.specs.declared.fault.EntryFault.{EntryFault}
 use Rattle.hg_obs.specs.declared.fault.MarkerFault.{MarkerFault}
 use Rattle.hg_obs.specs.declared.marker.Marker.{Marker}
 use Rattle.hg_obs.specs.Markers.{fresh}
-use Rattle.hg_keys.specs.declared.fault.Base85Fault.{Base85Fault}
+use Rattle.hg_base85.specs.declared.fault.Base85Fault.{Base85Fault}
 use Rattle.hg_keys.specs.declared.fault.KeyFault.{KeyFault}
-use Rattle.hg_keys.specs.Base85.{decoded as decoded_text}
+use Rattle.hg_base85.specs.Base85.{decoded as decoded_text}
 use Rattle.hg_keys.specs.declared.keys.KeyCall.{KeyCall}
 use Rattle.hg_keys.specs.Payload as bookmark
 use Rattle.hg_keys.specs.PushKey.{Keys, key_pushed}

@@ -142,14 +142,14 @@ handle_target source repo replying place part (Some target) =
     handle_decoded source repo replying place part target (outcome_of (version_of part.params) part.payload)
 handle_target source repo replying place part None = Err (BadPart place)
 
--- what it tells without the repository: the phase that is named and its entries, or that its format has a
+-- what it says without the repository: the phase that is named and its entries, or that its format has a
 -- fault
 abbrev pub reading_in : {A E : Type 0} → Option Phase → Result (List (Entry A)) E → Reading A
 reading_in (Some target) (Ok entries) = ChangeGroup target entries
 reading_in (Some target) (Err fault) = Malformed
 reading_in None decoded = Malformed
 
--- what a changegroup tells without the repository
+-- what a changegroup says without the repository
 abbrev pub read_changegroup : {A : Type 0} → Part A → Reading A
 read_changegroup part = reading_in (target_of part.params) (outcome_of (version_of part.params) part.payload)
 

@@ -1,4 +1,4 @@
--- The check parts: what a check answers, told of its part. None changes the repository or leaves a reply.
+-- The check parts: what a check answers, reported of its part. None changes the repository or leaves a reply.
 use Rattle.std.specs.Prelude.{ℕ, Ok, Err}
 use Rattle.hg_types.specs.declared.part.Part.{Part}
 use Rattle.hg_checks.specs.declared.fault.CheckFault.{CheckFault}

@@ -12,7 +12,7 @@ use Rattle.hg_parts.specs.Repository.{Repository}
 use Rattle.hg_parts.specs.Handled.{Outcome}
 use Rattle.hg_parts.specs.Replies.{reply_part, reply_where}
 
--- the reply tells how many markers are new
+-- the reply says how many markers are new
 abbrev pub reply_to_markers : {A : Type 0} → ℕ → ℕ → Part A
 reply_to_markers id count = reply_part (codes "reply:obsmarkers") id (codes "new") (decimal count)
 
@@ -25,12 +25,12 @@ handle_read repo replying place part (Ok added) = Ok (record {
 })
 handle_read repo replying place part (Err fault) = Err (BadPart place)
 
--- what it tells without the repository: its markers, or that its format has a fault
+-- what it says without the repository: its markers, or that its format has a fault
 abbrev pub reading_in : {A : Type 0} → Result (List (Marker A)) MarkerFault → Reading A
 reading_in (Ok added) = Obsmarkers added
 reading_in (Err fault) = Malformed
 
--- what an `obsmarkers` part tells without the repository
+-- what an `obsmarkers` part says without the repository
 abbrev pub read_obsmarkers : {A : Type 0} → Part A → Reading A
 read_obsmarkers part = reading_in (markers_of part.payload)
 

@@ -48,12 +48,12 @@ abbrev pub handle_read : {A : Type 0} → Repository A → ℕ → Result (List 
 handle_read repo place (Ok entries) = handle_entries repo place entries
 handle_read repo place (Err fault) = Err (BadPart place)
 
--- what it tells without the repository: its entries, or that its format has a fault
+-- what it says without the repository: its entries, or that its format has a fault
 abbrev pub reading_in : {A : Type 0} → Result (List (Phase × Node)) EntryFault → Reading A
 reading_in (Ok entries) = PhaseHeads entries
 reading_in (Err fault) = Malformed
 
--- what a `phase-heads` part tells without the repository
+-- what a `phase-heads` part says without the repository
 abbrev pub read_phase_heads : {A : Type 0} → Part A → Reading A
 read_phase_heads part = reading_in (entries_of part.payload)
 

@@ -11,7 +11,7 @@
 //!
 //! Its entries are added in order, and each new row is registered at the phase of its source: a push has
 //! that of the server, public where it publishes and draft else. A push then advances all changesets of the
-//! group to that phase, those that were known too. The reply `reply:changegroup` tells in `return` one more
+//! group to that phase, those that were known too. The reply `reply:changegroup` has in `return` one more
 //! than the heads that came, or, where heads went, one less than their number below zero (Mercurial's
 //! `internals.wireprotocol`, "Commands", "unbundle").
 
@@ -24,7 +24,7 @@ ghost use Rattle.hg_parts.specs.Replies.{IsReply};
 ghost use Rattle.hg_parts.specs.Store.{repository_of, IsSound, IsGrown};
 ghost use Rattle.hg_parts.specs.parts.Changegroup.{phase_named, target_of, version_of, phase_for, grown_by};
 ghost use Rattle.hg_parts.specs.parts.Changegroup.{grown_of, add_each, revs_of, phases_after, result_text};
-ghost use Rattle.hg_parts.specs.parts.Changegroup.{reply_to_group, refusal_for, handle_entries};
+ghost use Rattle.hg_parts.specs.parts.Changegroup.{reply_to_group, refusal_for};
 ghost use Rattle.hg_parts.specs.parts.Changegroup.{read_changegroup, handle_group, AddGives, AreOthersSame};
 
 use crate::params::value_of;
@@ -76,24 +76,6 @@ pub fn handle_group<A: Allocator + Copy>(
         store.old store.new result }
 {
     let t = phase_for(turn.source, &turn.settings, target);
-    handle_entries(alloc, store, turn, part, t, entries)
-}
-
-/// Adds the entries at that phase, and gives the reply.
-fn handle_entries<A: Allocator + Copy>(
-    alloc: A,
-    store: &mut Store<A>,
-    turn: Turn,
-    part: &Part<A>,
-    t: Phase,
-    entries: &[Entry<A>],
-) -> Result<Option<Part<A>>, Refusal<A>>
-    requires { IsSound turn.settings store.old }
-    ensures { Handles turn
-        (handle_entries turn.source (repository_of turn.settings store.old) turn.replying turn.place part.now
-        t entries.now)
-        store.old store.new result }
-{
     let before = store.log.head_count();
     match add_each(store, &turn.settings, t, entries) {
         Err(fault) => return Err(refusal_for(turn.place, fault)),
@@ -288,7 +270,7 @@ fn phase_for(source: Source, settings: &Settings, target: Phase) -> Phase
     }
 }
 
-/// What the reply tells of the numbers of heads before and after.
+/// What the reply says of the numbers of heads before and after.
 #[tactic(auto, unfolding(crate::specs::parts::Changegroup::result_text))]
 fn result_text<A: Allocator + Copy>(
     alloc: A,

@@ -1,6 +1,6 @@
 //! The check parts, each of a kind: what the client saw before it made its bundle.
 //!
-//! What a kind compares, and the bytes of its payload, the crate `hg_checks` tells. A payload that is not whole,
+//! What a kind compares, and the bytes of its payload, the crate `hg_checks` says. A payload that is not whole,
 //! or has another phase than there is, is a fault of format. Then the first entry decides that names an unknown
 //! changeset or is not so any more: the push is raced then. None changes the repository or leaves a reply.
 
@@ -44,7 +44,7 @@ pub fn handle_check<A: Allocator + Copy>(
     }
 }
 
-/// The refusal of a check part, of which `text` is what a race tells.
+/// The refusal of a check part, of which `text` is what a race says.
 fn refusal_of<A: Allocator>(place: u32, text: RaceText, fault: CheckFault) -> Refusal<A>
     ensures { result ≡ refusal_of place text fault }
 {

@@ -2,7 +2,7 @@
 //!
 //! The payload is marker data of version 0 (Mercurial's `internals.bundle2`, "Bundle2 Part Types",
 //! "obsmarkers"); what is none is a fault of format. Each marker that is not there yet is added, in order.
-//! The reply `reply:obsmarkers` tells in `new` how many these are.
+//! The reply `reply:obsmarkers` has in `new` how many these are.
 
 ghost use Rattle.std.specs.Prelude.{◌≡◌, IfOk, IfSome};
 ghost use Rattle.hg_parts.specs.Handled.{Handles};

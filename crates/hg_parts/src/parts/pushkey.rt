@@ -2,8 +2,8 @@
 //!
 //! Its parameters `namespace`, `key`, `old` and `new` are the call (Mercurial's `internals.bundle2`, "Bundle2
 //! Part Types", "pushkey"); that one is missing is a fault of format, and so are a dump of markers that is no
-//! base-85 and one that is no marker data. What the namespaces do, the crate `hg_keys` tells. A mandatory
-//! part whose call does not take effect refuses the push. The reply `reply:pushkey` tells in `return` whether
+//! base-85 and one that is no marker data. What the namespaces do, the crate `hg_keys` says. A mandatory
+//! part whose call does not take effect refuses the push. The reply `reply:pushkey` has in `return` whether
 //! it did, 1 or 0. The payload is not looked at.
 
 ghost use Rattle.std.specs.Prelude.{◌≡◌, Some, IfOk, IfSome};
@@ -124,7 +124,7 @@ fn call_of<A: Allocator + Copy>(
     }))
 }
 
-/// What the reply tells of a call.
+/// What the reply says of a call.
 fn result_text(done: bool) -> &'static [u8]
     ensures { result.now ≡ result_text done }
 {

@@ -5,6 +5,7 @@ ghost use Rattle.std.specs.Prelude.{OnOk};
 ghost use Rattle.hg_parts.specs.Store.{IsSound, IsGrown};
 
 use super::*;
+use hg_help_tests::parts::put_param;
 use hg_parts::laws::growing_adds_up;
 
 /// A part: its type, its parameters, all mandatory, the pieces of its payload, and what becomes of it.
@@ -64,7 +65,7 @@ const BOOKMARKS: Came = Came::Raced(RaceText::BookmarksChanged);
 fn part_of<A: Allocator + Copy>(alloc: A, step: &Step) -> Result<Part<A>, NoMemory> {
     let mut params = Seq::new(alloc);
     for (key, value) in step.1 {
-        put_param(alloc, &mut params, key, value)?;
+        put_param(alloc, &mut params, true, key, value)?;
     }
     let mut payload = Vec::new(alloc);
     for piece in step.2 {
@@ -417,20 +418,6 @@ static CALLS: [Call; 13] = [
     ),
 ];
 
-fn put_param<A: Allocator + Copy>(
-    alloc: A,
-    params: &mut Seq<Param<A>, A>,
-    key: &[u8],
-    value: &[u8],
-) -> Result<(), NoMemory> {
-    let param = Param {
-        mandatory: true,
-        key: Seq::copy_of(alloc, key)?,
-        value: Seq::copy_of(alloc, value)?,
-    };
-    params.push(param)
-}
-
 /// The part of a call, with the id 1.
 fn key_part<A: Allocator + Copy>(
     alloc: A,
@@ -439,10 +426,10 @@ fn key_part<A: Allocator + Copy>(
 ) -> Result<Part<A>, NoMemory> {
     let [namespace, key, old, new] = texts;
     let mut params = Seq::new(alloc);
-    put_param(alloc, &mut params, b"namespace", namespace)?;
-    put_param(alloc, &mut params, b"key", key)?;
-    put_param(alloc, &mut params, b"old", old)?;
-    put_param(alloc, &mut params, b"new", new)?;
+    put_param(alloc, &mut params, true, b"namespace", namespace)?;
+    put_param(alloc, &mut params, true, b"key", key)?;
+    put_param(alloc, &mut params, true, b"old", old)?;
+    put_param(alloc, &mut params, true, b"new", new)?;
     Ok(Part {
         kind: Seq::copy_of(alloc, kind)?,
         id: 1,

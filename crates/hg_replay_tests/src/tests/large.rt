@@ -1,38 +1,9 @@
 //! Many reads, a long reply, a large payload, many readers, a long report and a seed of many parts.
 
 use super::*;
+use hg_help_tests::bundles::{large_output, many_parts, many_replies};
 use hg_replay::{run_replay, seeded};
 use linked_list_allocator::LocalHeap;
-
-/// `replycaps`, and a part `obsmarkers` without markers, whose id is 5.
-const CAPS: &[u8] = b"HG20\0\0\0\0\0\0\0\x10\x09REPLYCAPS\0\0\0\0\0\0\0\0\0\0";
-
-const NO_MARKERS: &[u8] = b"\0\0\0\x11\x0aOBSMARKERS\0\0\0\x05\0\0\0\0\0\x01\0\0\0\0\0";
-
-/// How many such parts a bundle has: it is of 60,000 bytes and more, and so is its reply.
-const PARTS: u32 = 3_000;
-
-/// `replycaps` and those parts.
-fn many_parts(alloc: Global) -> Result<Vec<u8>, Fail> {
-    let mut bundle = Vec::from_slice(alloc, CAPS)?;
-    for _ in 0..PARTS {
-        bundle.extend_from_slice(NO_MARKERS)?;
-    }
-    bundle.extend_from_slice(&[0; 4])?;
-    Ok(bundle)
-}
-
-/// The reply to them: each brings no marker that is new.
-fn many_replies(alloc: Global) -> Result<Vec<u8>, Fail> {
-    let mut reply = Vec::from_slice(alloc, b"HG20\0\0\0\0")?;
-    for place in 0..PARTS {
-        reply.extend_from_slice(b"\0\0\0\x2b\x10reply:obsmarkers")?;
-        reply.extend_from_slice(&place.to_be_bytes())?;
-        reply.extend_from_slice(b"\0\x02\x0b\x01\x03\x01in-reply-to5new0\0\0\0\0")?;
-    }
-    reply.extend_from_slice(&[0; 4])?;
-    Ok(reply)
-}
 
 /// A bundle that comes at once and byte by byte, by 90,000 reads, and a reply of 150,000 bytes.
 #[test]
@@ -45,12 +16,7 @@ fn many_parts_and_a_long_reply(rt: HostRuntime) -> Result<(), Fail> {
 /// `output` with a payload of 33 MiB.
 #[test]
 fn a_large_payload(rt: HostRuntime) -> Result<(), Fail> {
-    let mut bundle = Vec::from_slice(
-        rt.alloc(),
-        b"HG20\0\0\0\0\0\0\0\x0d\x06output\0\0\0\0\0\0\x02\x10\0\0",
-    )?;
-    bundle.resize(bundle.len().saturating_add(33 << 20), b'a')?;
-    bundle.extend_from_slice(&[0; 8])?;
+    let bundle = large_output(rt.alloc())?;
     let mut reader = Source::new(&bundle);
     let mut writer = Sink::new(rt.alloc());
     let status = run_one(rt.alloc(), state(&rt), &mut reader, &mut writer, false);

@@ -1,6 +1,7 @@
 //! Pushes that change a repository, one after another, and what it reports then.
 
 use super::*;
+use hg_help_tests::parts::put_param;
 
 // ---- pieces of payloads
 
@@ -140,25 +141,11 @@ pub enum Ending {
 /// A run: where its parts come from, the parts, and how it ends.
 type Run = (Source, &'static [Recipe], Ending);
 
-fn put_param<A: Allocator + Copy>(
-    alloc: A,
-    params: &mut Seq<Param<A>, A>,
-    key: &[u8],
-    value: &[u8],
-) -> Result<(), NoMemory> {
-    let param = Param {
-        mandatory: true,
-        key: Seq::copy_of(alloc, key)?,
-        value: Seq::copy_of(alloc, value)?,
-    };
-    params.push(param)
-}
-
 /// The part of a recipe, with that id.
 fn made<A: Allocator + Copy>(alloc: A, id: u32, recipe: &Recipe) -> Result<Part<A>, NoMemory> {
     let mut params = Seq::new(alloc);
     for (key, value) in recipe.1 {
-        put_param(alloc, &mut params, key, value)?;
+        put_param(alloc, &mut params, true, key, value)?;
     }
     let mut payload = Vec::new(alloc);
     for piece in recipe.2 {

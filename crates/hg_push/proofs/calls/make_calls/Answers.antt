@@ -1,6 +1,6 @@
 use Rattle.std.proofs.Common.{sym, ◌∙◌, ap, subst, arith, length}
 use Rattle.std.specs.Vec.Iter.{into_iter_items}
-use Rattle.hg_push.specs.Calls.{AreAnswers, Follows, after_calls}
+use Rattle.hg_push.specs.Calls.{AreAnswers, BookFollows, after_calls}
 use Rattle.hg_push.specs.Run.{run_push}
 use Rattle.hg_push.proofs.Calling.{all_made, more_made, so_far_more, so_far_none}
 use Rattle.hg_push.proofs.calls.make_calls.Goals as goal
@@ -61,5 +61,5 @@ returns-clause-follows g c = λ first course follows.
     let made = all_made c.args.calls.items c.loop-call.yielded
     (into_iter_items c.loop-call.call-iterator) c.loop-call.invariant.calls
     (sym c.loop-call.invariant.left ∙ c.in-None.ensures.steps.0) in
-    subst (λ calls. Follows run_push first (after_calls course calls c.loop-call.answers.items)
+    subst (λ calls. BookFollows run_push first (after_calls course calls c.loop-call.answers.items)
     c.loop-call.book) made (c.loop-call.invariant.answered first course follows).follows

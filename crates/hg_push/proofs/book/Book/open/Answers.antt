@@ -1,6 +1,6 @@
 use Rattle.std.proofs.Common.{sym, ap, subst, refl, arith, ◌+◌}
 use Rattle.hg_push.specs.Run.{run_push}
-use Rattle.hg_push.specs.Book.{Holds}
+use Rattle.hg_push.specs.Book.{HoldsHistory}
 use Rattle.hg_push.specs.declared.row.State.TheVariants.{Open}
 use Rattle.hg_push.proofs.Opening.{holds_opened, next_is_opened, opens_from, rows_last, room_last}
 use Rattle.hg_push.proofs.EachRow.{each_last}
@@ -26,4 +26,4 @@ returns-clause-holds g c = λ first h holds.
     holds_opened run_push first h _ _ c.self.invariant.1 c.self.invariant.0
     (opens_from _ _ _ refl c.in_default.ensures.items refl refl refl refl
     (ap Open c.new.ensures) c.in_default-push_back.ensures.items)
-    (subst (λ b. Holds run_push first h b) (sym c.self.view_is) holds)
+    (subst (λ b. HoldsHistory run_push first h b) (sym c.self.view_is) holds)

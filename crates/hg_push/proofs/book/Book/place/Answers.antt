@@ -1,12 +1,12 @@
 use Rattle.std.proofs.Common.{sym, subst}
 use Rattle.hg_push.specs.Run.{run_push}
-use Rattle.hg_push.specs.Book.{Holds}
+use Rattle.hg_push.specs.Book.{HoldsHistory}
 use Rattle.hg_push.proofs.Resting.{tells_place}
 use Rattle.hg_push.proofs.book.Book.place.Goals as goal
 
 pub returns : goal.returns
 returns g c = λ first h holds.
-    tells_place run_push first h _ c.args.push (subst (λ b. Holds run_push first h b) (sym c.self.view_is) holds)
+    tells_place run_push first h _ c.args.push (subst (λ b. HoldsHistory run_push first h b) (sym c.self.view_is) holds)
     c.last_place.result
     (rw c.as_slice.ensures.value at c.last_place.ensures.none)
     (rw c.as_slice.ensures.value at c.last_place.ensures.some)

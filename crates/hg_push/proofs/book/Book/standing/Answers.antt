@@ -1,6 +1,6 @@
 use Rattle.std.proofs.Common.{arith, sym, subst, ◌∙◌, true, false, ◌≡◌}
 use Rattle.hg_push.specs.Run.{run_push}
-use Rattle.hg_push.specs.Book.{Holds, is_between, is_opened}
+use Rattle.hg_push.specs.Book.{HoldsHistory, is_between, is_opened}
 use Rattle.hg_push.proofs.Finding.{found_within}
 use Rattle.hg_push.proofs.Standings.{row_tells, journal_tells, not_unknown}
 use Rattle.hg_push.proofs.Searching.{rows_in_order}
@@ -39,14 +39,14 @@ returns-else-has_push-clause-unknown g c = λ unknown.
 pub returns-in-Some-clause-opened : goal.returns-in-Some-clause-opened
 returns-in-Some-clause-opened g c = λ first h holds opened.
     c.row_standing.ensures ∙ row_tells run_push first h _ c.args.push c.in-Some.at _
-    (subst (λ b. Holds run_push first h b) (sym c.self.view_is) holds)
+    (subst (λ b. HoldsHistory run_push first h b) (sym c.self.view_is) holds)
     (subst (λ b. is_opened b c.args.push ≡ true) (sym c.self.view_is) opened)
     (sym c.in-Some.ensures) c.index.ensures
 
 pub returns-then-has_push-clause-opened : goal.returns-then-has_push-clause-opened
 returns-then-has_push-clause-opened g c = λ first h holds opened.
     (journal_tells run_push first h _ c.args.push
-    (subst (λ b. Holds run_push first h b) (sym c.self.view_is) holds)
+    (subst (λ b. HoldsHistory run_push first h b) (sym c.self.view_is) holds)
     (subst (λ b. is_opened b c.args.push ≡ true) (sym c.self.view_is) opened)
     (sym c.in-None.ensures)).0
     (sym (rw c.as_slice.ensures.value at c.if-has_push.ensures))
@@ -54,7 +54,7 @@ returns-then-has_push-clause-opened g c = λ first h holds opened.
 pub returns-else-has_push-clause-opened : goal.returns-else-has_push-clause-opened
 returns-else-has_push-clause-opened g c = λ first h holds opened.
     (journal_tells run_push first h _ c.args.push
-    (subst (λ b. Holds run_push first h b) (sym c.self.view_is) holds)
+    (subst (λ b. HoldsHistory run_push first h b) (sym c.self.view_is) holds)
     (subst (λ b. is_opened b c.args.push ≡ true) (sym c.self.view_is) opened)
     (sym c.in-None.ensures)).1
     (sym (rw c.as_slice.ensures.value at c.if-has_push.ensures))

@@ -1,7 +1,7 @@
 use Rattle.std.proofs.Common.{sym, ap, subst, refl, arith, ◌∙◌}
 use Rattle.std.specs.Prelude.{IsSome, is_some}
 use Rattle.hg_push.specs.Run.{run_push}
-use Rattle.hg_push.specs.Book.{Holds, AreRows, is_between}
+use Rattle.hg_push.specs.Book.{HoldsHistory, AreRows, is_between}
 use Rattle.hg_push.specs.Rows.{reply_in, row_of}
 use Rattle.hg_push.proofs.Taking.{book_taken, holds_taken, open_without, reply_closed, reply_is}
 use Rattle.hg_push.proofs.Taking.{rows_stay_without, rows_taken}
@@ -68,7 +68,7 @@ pub returns-clause-holds : goal.returns-clause-holds
 returns-clause-holds g c = λ first h holds.
     let has : IsSome (reply_in (row_of c.args.push c.args.self.now.rows)) = ap is_some
     (sym (returns-clause-reply g c)) in
-    subst (λ b. Holds run_push first h b) (sym (returns-clause-some g c))
+    subst (λ b. HoldsHistory run_push first h b) (sym (returns-clause-some g c))
     (holds_taken run_push first h c.args.self.now c.args.push has holds)
 
 pub returns-clause-told : goal.returns-clause-told
