@@ -2,8 +2,7 @@
 use Rattle.std.proofs.Common.{true, false, true≢false, ℕ, ◌≡◌, ◌≢◌, ◌≤◌, ◌<◌, ◌+◌, ◌*◌, ◌^◌, List, [], ◌∷◌}
 use Rattle.std.proofs.Common.{◌++◌, refl, sym, ◌∙◌, ap, subst, inl, inr, arith, length, append_assoc, Option}
 use Rattle.std.proofs.Common.{Some, None}
-use Rattle.std.proofs.lemmas.List.{append-nil, length-append, flat_map_more}
-use Rattle.std.proofs.Math.Nat.{mul-le-mul_right}
+use Rattle.std.proofs.lemmas.List.{append-nil, length-append}
 use Rattle.std.proofs.KnownBytes.{Consumes-trans, Consumes-nil, Appends-nil, Appends-trans}
 use Rattle.std.specs.Prelude.{is_some}
 use Rattle.std.specs.Io.KnownBytes.{Consumes, Appends}
@@ -23,23 +22,20 @@ use Rattle.hg_devices.specs.Devices.{Input, Output, ReadAnswer, WriteAnswer, Gav
 use Rattle.hg_devices.proofs.CallerLemmas.{Adds-nil, Adds-trans}
 use Rattle.hg_devices.specs.declared.sending.Sending.{Sending}
 use Rattle.hg_devices.specs.declared.sending.Sending.TheVariants.{Whole as sent_whole, Broken, NoMemory}
-use Rattle.hg_devices.specs.Sent.{IsSent}
 use Rattle.hg_receiving.specs.declared.ending.BundleEnd.{BundleEnd}
 use Rattle.hg_receiving.specs.declared.ending.BundleEnd.TheVariants.{Whole, Fault, InputEnded, ReadFailed}
 use Rattle.hg_connection.specs.declared.coming.Next.TheVariants.{Comes, Ends as comes_no_more, Fails}
 use Rattle.hg_connection.specs.declared.served.ConnFault.{ConnFault}
 use Rattle.hg_connection.specs.declared.served.ConnFault.TheVariants.{Open, ReadFailed as read_failed}
 use Rattle.hg_connection.specs.declared.served.Served.{Served}
-use Rattle.hg_receiving.specs.Receiving.{IsPiece, KeepsWaiting, Ran, state_at}
+use Rattle.hg_receiving.specs.Receiving.{IsPiece, Ran, state_at}
 use Rattle.hg_connection.specs.Receiving.{IsNext}
 use Rattle.hg_connection.specs.Connections.{Exchange, IsExchange, AreExchanges, AreWhole, Connects, EndsBy}
 use Rattle.hg_connection.specs.Connections.{Serves, TellsLast, TellsOf, bytes_of, reads_of, uses_of}
 use Rattle.hg_connection.specs.Connections.{replies_of, gone_of, fault_of}
-
--- the bytes that were read after the last end mark
-abbrev pub last_rest : {A : Type 0} → List ℕ → List (Exchange A) → List ℕ
-last_rest waited [] = waited
-last_rest waited (x ∷ xs) = last_rest x.rest xs
+use Rattle.hg_connection.proofs.Joins.{last_rest, chain_more, whole_more, last_more, bytes_more, reads_more}
+use Rattle.hg_connection.proofs.Joins.{uses_more, gone_more, replies_more, rest_waits, gone_whole, none_of}
+use Rattle.hg_connection.proofs.Joins.{mul_more, within}
 
 -- all bundles so far were whole, and all their replies went out
 pub record Goes {A : Type 0} (limits : Limits) (capacity : ℕ) (first : RepositoryOf A) (input left : Input)
@@ -63,45 +59,6 @@ pub record Goes {A : Type 0} (limits : Limits) (capacity : ℕ) (first : Reposit
   pub sent_all : replies_of whole ≡ gone_of whole
   pub fault : served.fault ≡ None
 
-module _ {A : Type 0} (limits : Limits) (capacity : ℕ) (first : RepositoryOf A) where
-  chain_more : (before : List (Taken A)) (waited : List ℕ) (xs : List (Exchange A)) (now : List (Taken A))
-      (x : Exchange A) → AreExchanges limits capacity first before waited xs now
-      → IsExchange limits capacity first now (last_rest waited xs) x
-      → AreExchanges limits capacity first before waited (xs ++ x ∷ []) x.after
-  chain_more before waited [] now x c is =
-      (subst (λ (h : List (Taken A)). IsExchange limits capacity first h waited x) c is, refl)
-  chain_more before waited (y ∷ ys) now x c is = (c.0, chain_more y.after y.rest ys now x c.1 is)
-
-last_more : {A : Type 0} (waited : List ℕ) (xs : List (Exchange A)) (x : Exchange A)
-    → last_rest waited (xs ++ x ∷ []) ≡ x.rest
-last_more waited [] x = refl
-last_more waited (y ∷ ys) x = last_more y.rest ys x
-
-whole_more : {A : Type 0} (xs : List (Exchange A)) (x : Exchange A) → AreWhole xs → x.ending ≡ Whole
-    → x.sending ≡ sent_whole → AreWhole (xs ++ x ∷ [])
-whole_more [] x all is went = (is, went, tt)
-whole_more (y ∷ ys) x all is went = (all.0, all.1, whole_more ys x all.2 is went)
-
-bytes_more : {A : Type 0} (xs : List (Exchange A)) (x : Exchange A) → bytes_of xs
-    ++ x.consumed ≡ bytes_of (xs ++ x ∷ [])
-bytes_more {A} xs x = flat_map_more (λ (y : Exchange A). y.consumed) [] xs x
-
-reads_more : {A : Type 0} (xs : List (Exchange A)) (x : Exchange A) → reads_of xs
-    ++ x.reads ≡ reads_of (xs ++ x ∷ [])
-reads_more {A} xs x = flat_map_more (λ (y : Exchange A). y.reads) [] xs x
-
-uses_more : {A : Type 0} (xs : List (Exchange A)) (x : Exchange A) → uses_of xs
-    ++ x.uses ≡ uses_of (xs ++ x ∷ [])
-uses_more {A} xs x = flat_map_more (λ (y : Exchange A). y.uses) [] xs x
-
-gone_more : {A : Type 0} (xs : List (Exchange A)) (x : Exchange A) → gone_of xs
-    ++ x.gone ≡ gone_of (xs ++ x ∷ [])
-gone_more {A} xs x = flat_map_more (λ (y : Exchange A). y.gone) [] xs x
-
-replies_more : {A : Type 0} (xs : List (Exchange A)) (x : Exchange A) → replies_of xs
-    ++ reply_of x.how ≡ replies_of (xs ++ x ∷ [])
-replies_more {A} xs x = flat_map_more (λ (y : Exchange A). reply_of y.how) [] xs x
-
 no_fault : (ending : BundleEnd) (sending : Sending) → fault_of ending sending ≡ None → (ending ≡ Whole)
     × (sending ≡ sent_whole)
 no_fault ReadFailed sending e = absurd cc
@@ -110,12 +67,6 @@ no_fault InputEnded sending e = absurd cc
 no_fault Whole sent_whole e = (refl, refl)
 no_fault Whole Broken e = absurd cc
 no_fault Whole NoMemory e = absurd cc
-
-mul_more : (n s : ℕ) → (n + 1) * s ≡ n * s + s
-mul_more n s = grind (arith)
-
-within : (n m s : ℕ) → n ≤ m → n * s ≤ m * s
-within n m s le = mul-le-mul_right s le
 
 -- what went out of one reply more can be added: the replies to so few bundles are short together
 pub can_add : {A : Type 0} (limits : Limits) (capacity : ℕ) (first : RepositoryOf A)
@@ -149,7 +100,8 @@ starts {A} limits capacity first input out before waiting served none s = record
   ends = tt;
   count = refl;
   counted = s.0;
-  tells = subst (λ (o : Option (Answer A)). TellsLast {A = A} {S = Sending} o []) (sym s.1) refl;
+  tells = subst (λ (o : Option (Answer A)). TellsLast {A = A} {S = Sending} {H = List (Taken A)} o [])
+      (sym s.1) refl;
   read = subst (λ (l : List ℕ). Consumes input.left input.left l) (sym none) (Consumes-nil input.left);
   reads = Adds-nil input.reads;
   uses = Adds-nil out.uses;
@@ -286,29 +238,10 @@ ends_with : {A : Type 0} (most : ℕ) (whole : List (Exchange A)) (x : Exchange 
 ends_with most whole x left None e some ran = absurd (true≢false (sym some))
 ends_with most whole x left (Some fault) e some ran = (refl, refl, e, ran)
 
-none_of : {X : Type 0} (o : Option X) → is_some o ≡ false → o ≡ None
-none_of None e = refl
-none_of (Some x) e = absurd (true≢false e)
-
 -- after a bundle without a fault its end mark was read
 pub ended_whole : (ending : BundleEnd) (sending : Sending) (fault : Option ConnFault)
     → fault_of ending sending ≡ fault → is_some fault ≡ false → ending ≡ Whole
 ended_whole ending sending fault is none = (no_fault ending sending (is ∙ none_of fault none)).0
-
--- what went out of a reply that was sent whole
-gone_whole : (sending : Sending) (gone : List ℕ) (uses : List WriteAnswer) (reply : List ℕ)
-    → sending ≡ sent_whole → IsSent sending gone uses reply → gone ≡ reply
-gone_whole sent_whole gone uses reply is s =
-    sym (s.reply_is ∙ ap (λ (l : List ℕ). gone ++ l) s.ends.0 ∙ append-nil gone)
-gone_whole Broken gone uses reply is s = absurd cc
-gone_whole NoMemory gone uses reply is s = absurd cc
-
-rest_waits : (ending : BundleEnd) (rest waiting : List ℕ) → ending ≡ Whole → KeepsWaiting ending rest waiting
-    → waiting ≡ rest
-rest_waits Whole rest waiting is keeps = keeps
-rest_waits (Fault fault) rest waiting is keeps = absurd cc
-rest_waits InputEnded rest waiting is keeps = absurd cc
-rest_waits ReadFailed rest waiting is keeps = absurd cc
 
 -- what is told of a bundle is told of it with other reads as well
 pub tells_own : {A : Type 0} (x own : Exchange A) (ending : BundleEnd) (how : Outcome (Done A) (Refusal A))
@@ -338,7 +271,7 @@ module _ {A : Type 0} (limits : Limits) (capacity : ℕ) (first : RepositoryOf A
   chained =
       subst (λ (h : List (Taken A)). AreExchanges limits capacity first before [] (g.whole ++ x ∷ []) h)
       t.after_is
-      (chain_more limits capacity first before [] g.whole now x g.chain
+      (chain_more (IsExchange limits capacity first) before [] g.whole now x g.chain
       (subst (λ (y : List (Taken A) × List ℕ). IsExchange limits capacity first y.0 y.1 x)
       (λ i. (same i, sym g.rest_is i)) v.is))
 
@@ -449,7 +382,7 @@ module _ {A : Type 0} (limits : Limits) (capacity : ℕ) (first : RepositoryOf A
         whole = g.whole ++ x ∷ [];
         chain = chained;
         rest_is = last_more [] g.whole x ∙ sym rest;
-        ends = whole_more g.whole x g.ends both.0 both.1;
+        ends = whole_more (λ sending. sending ≡ sent_whole) g.whole x g.ends both.0 both.1;
         count = sym s.0 ∙ counted_one;
         counted = s.0;
         tells = tells_it;

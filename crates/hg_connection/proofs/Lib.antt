@@ -1,6 +1,7 @@
 mod Putting
-mod Receivings
+pub mod Receivings
 mod Shortness
 mod Exchanges
 mod Chains
+pub mod Joins
 pub mod CallerLemmas

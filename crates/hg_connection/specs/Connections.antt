@@ -31,8 +31,8 @@ use Rattle.hg_receiving.specs.Receiving.{IsReceived, KeepsWaiting, Ran, mark_of,
 -- One bundle of a connection: how its reader was read, the bytes that are the bundle's and those that were
 -- read after them, why no more was read of it, and its parts; its push, how that ended and how many items
 -- were taken for it; how the writer was used for the reply, what became of it and which bytes of it went out;
--- and the history that its client has seen then. What a reply may become is a type of its own.
-pub record ExchangeOf (A S : Type 0) : Type 0 where
+-- and what its client has seen then. What a reply may become and what is known of a client are types of their own.
+pub record ExchangeOf (A S H : Type 0) : Type 0 where
   pub reads : List ReadAnswer
   pub consumed : List ℕ
   pub rest : List ℕ
@@ -44,11 +44,11 @@ pub record ExchangeOf (A S : Type 0) : Type 0 where
   pub uses : List WriteAnswer
   pub sending : S
   pub gone : List ℕ
-  pub after : List (Taken A)
+  pub after : H
 
--- one whose reply is sent, as far as the writer takes it
+-- one whose reply is sent, as far as the writer takes it; of its client its history is known
 abbrev pub Exchange : Type 0 → Type 0
-Exchange A = ExchangeOf A Sending
+Exchange A = ExchangeOf A Sending (List (Taken A))
 
 -- The bundle was received by these reads, after the bytes that waited. The client had seen no item of the
 -- push. Of the push the bundle's parts were put and the mark that the ending asks for, and it was answered
@@ -62,8 +62,8 @@ pub record IsExchange {A : Type 0} (limits : Limits) (capacity : ℕ) (first : R
   pub sent : IsSent x.sending x.gone x.uses (reply_of x.how)
 
 -- its bytes came from that reader and went to that writer, and its reply is no longer than a reply can be
-pub record Flows {A S : Type 0} (waited waiting : List ℕ) (input left : Input) (out sent : Output)
-    (x : ExchangeOf A S) : Type 0 where
+pub record Flows {A S H : Type 0} (waited waiting : List ℕ) (input left : Input) (out sent : Output)
+    (x : ExchangeOf A S H) : Type 0 where
   pub more : List ℕ
   pub spelled : waited ++ more ≡ x.consumed ++ x.rest
   pub bytes : Consumes input.left left.left more
@@ -82,9 +82,8 @@ pub record Serves {A : Type 0} (limits : Limits) (capacity : ℕ) (first : Repos
   pub flows : Flows waited waiting input left out sent x
 
 -- what the call reports of the bundle
-pub record TellsOf {A S : Type 0} (x : ExchangeOf A S) (ending : BundleEnd)
-    (how : Outcome (Done A) (Refusal A)) (takes : ℕ) (sending : S) (written : ℕ) (after : List (Taken A))
-    : Type 0 where
+pub record TellsOf {A S H : Type 0} (x : ExchangeOf A S H) (ending : BundleEnd)
+    (how : Outcome (Done A) (Refusal A)) (takes : ℕ) (sending : S) (written : ℕ) (after : H) : Type 0 where
   pub ending_is : x.ending ≡ ending
   pub how_is : x.how ≡ how
   pub takes_are : x.takes ≡ takes
@@ -101,9 +100,10 @@ fault_of Whole sent_whole = None
 fault_of Whole Broken = Some WriteFailed
 fault_of Whole NoMemory = Some without_memory
 
--- Each goes on from the history of the one before, and from the bytes that were read after its end mark.
-abbrev pub AreChained : {A S : Type 0} → (List (Taken A) → List ℕ → ExchangeOf A S → Type 0) →
-    List (Taken A) → List ℕ → List (ExchangeOf A S) → List (Taken A) → Type 0
+-- Each goes on from what the client had seen after the one before, and from the bytes that were read after its
+-- end mark.
+abbrev pub AreChained : {A S H : Type 0} → (H → List ℕ → ExchangeOf A S H → Type 0) → H → List ℕ →
+    List (ExchangeOf A S H) → H → Type 0
 AreChained Is before waited [] after = after ≡ before
 AreChained Is before waited (x ∷ xs) after = Is before waited x × AreChained Is x.after x.rest xs after
 
@@ -114,7 +114,7 @@ AreExchanges limits capacity first before waited xs after =
     AreChained (IsExchange limits capacity first) before waited xs after
 
 -- each was read to its end mark, and that became of its reply
-abbrev pub AreAllWhole : {A S : Type 0} → (S → Type 0) → List (ExchangeOf A S) → Type 0
+abbrev pub AreAllWhole : {A S H : Type 0} → (S → Type 0) → List (ExchangeOf A S H) → Type 0
 AreAllWhole Is [] = ⊤
 AreAllWhole Is (x ∷ xs) = (x.ending ≡ Whole) × Is x.sending × AreAllWhole Is xs
 
@@ -123,29 +123,29 @@ abbrev pub AreWhole : {A : Type 0} → List (Exchange A) → Type 0
 AreWhole xs = AreAllWhole (λ sending. sending ≡ sent_whole) xs
 
 -- the bytes of the bundles, joined
-abbrev pub bytes_of : {A S : Type 0} → List (ExchangeOf A S) → List ℕ
+abbrev pub bytes_of : {A S H : Type 0} → List (ExchangeOf A S H) → List ℕ
 bytes_of xs = flat_map (λ x. x.consumed) xs
 
 -- the answers of the reads of all bundles, in order
-abbrev pub reads_of : {A S : Type 0} → List (ExchangeOf A S) → List ReadAnswer
+abbrev pub reads_of : {A S H : Type 0} → List (ExchangeOf A S H) → List ReadAnswer
 reads_of xs = flat_map (λ x. x.reads) xs
 
 -- the answers of the writer's uses for all replies, in order
-abbrev pub uses_of : {A S : Type 0} → List (ExchangeOf A S) → List WriteAnswer
+abbrev pub uses_of : {A S H : Type 0} → List (ExchangeOf A S H) → List WriteAnswer
 uses_of xs = flat_map (λ x. x.uses) xs
 
 -- the replies, joined
-abbrev pub replies_of : {A S : Type 0} → List (ExchangeOf A S) → List ℕ
+abbrev pub replies_of : {A S H : Type 0} → List (ExchangeOf A S H) → List ℕ
 replies_of xs = flat_map (λ x. reply_of x.how) xs
 
 -- what went out of their replies
-abbrev pub gone_of : {A S : Type 0} → List (ExchangeOf A S) → List ℕ
+abbrev pub gone_of : {A S H : Type 0} → List (ExchangeOf A S H) → List ℕ
 gone_of xs = flat_map (λ x. x.gone) xs
 
 -- the answer that is reported is that of the last bundle
-abbrev pub TellsLast : {A S : Type 0} → Option (Answer A) → List (ExchangeOf A S) → Type 0
-TellsLast {A} {S} None xs = xs ≡ []
-TellsLast {A} {S} (Some answer) xs = (front : List (ExchangeOf A S)) × (x : ExchangeOf A S)
+abbrev pub TellsLast : {A S H : Type 0} → Option (Answer A) → List (ExchangeOf A S H) → Type 0
+TellsLast {A} {S} {H} None xs = xs ≡ []
+TellsLast {A} {S} {H} (Some answer) xs = (front : List (ExchangeOf A S H)) × (x : ExchangeOf A S H)
     × (xs ≡ front ++ x ∷ []) × (answer.outcome ≡ x.how) × (answer.takes ≡ x.takes)
 
 -- Why a connection ended between two bundles, after these whole ones, and by which read. Without a fault: so
@@ -173,8 +173,8 @@ EndsBy most whole (Some x) final dropped left (Some fault) =
 -- These bundles, at most so many, are all that was read and written, except one read at the end. So many bundles
 -- and bytes are reported, and the answer of the last one. The bytes that were read are those of the bundles and
 -- a rest, and a front of the replies went out.
-pub record AreJoined {A S : Type 0} (limits : Limits) (most : ℕ) (input left : Input) (out sent : Output)
-    (xs : List (ExchangeOf A S)) (bundles : ℕ) (last : Option (Answer A)) (written : ℕ) : Type 0 where
+pub record AreJoined {A S H : Type 0} (limits : Limits) (most : ℕ) (input left : Input) (out sent : Output)
+    (xs : List (ExchangeOf A S H)) (bundles : ℕ) (last : Option (Answer A)) (written : ℕ) : Type 0 where
   pub count : bundles ≡ length xs
   pub few : length xs ≤ most
   pub tells : TellsLast last xs
