@@ -2,8 +2,9 @@
 
 ghost use Rattle.std.specs.Prelude.{◌≤◌};
 
-use crate::tests::{Source, add_bundle, client_of, marker, new_log, settings, state};
+use crate::tests::Source;
 use hg_connection::ConnFault;
+use hg_help_serve_tests::{client_of, marker, new_log, one_part, settings, state};
 use hg_help_tests::device::Memory;
 use hg_kept::{KeptFault, serve_connection_kept};
 use hg_ledger::{KeptClient, Ledger, Parts, Storing, Tally};
@@ -149,7 +150,7 @@ fn told_of<R: Wait + RandomSource + Abort, G: Gate>(
 ) -> Option<Told> {
     let mut input = Vec::new(alloc);
     for turn in 0..pushes {
-        add_bundle(rt, &mut input, &marker(rt, alloc, 1, turn));
+        one_part(rt, &mut input, &marker(rt, alloc, 1, turn));
     }
     let log = new_log(rt, alloc, 1_000_000);
     let (queue, taker) = PartQueue::new(heap, 1).ok()?;

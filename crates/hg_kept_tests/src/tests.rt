@@ -4,17 +4,15 @@
 ghost use Rattle.std.specs.Prelude.{◌≡◌, ◌≤◌};
 ghost use Rattle.hg_ledger.specs.Clients.{counted};
 
+use hg_help_serve_tests::{client_of, marker, new_log, one_part, settings, starts_again, state};
 use hg_help_tests::device::Memory;
 use hg_kept::{KeptFault, serve_connection_kept};
 use hg_ledger::{KeptClient, Ledger, Parts, Receipt, Storing, Tally};
 use hg_queue::{PartQueue, Taker};
 use hg_repo::Repo;
-use hg_restore::replay_records;
 use hg_serve::{Client, Closed, Naming, NoGate, Server};
-use hg_store::{Head, Log, recover};
-use hg_types::{Limits, Settings};
+use hg_store::Log;
 use std::alloc::{AllocFailed, Allocator, Global};
-use std::hash::RandomState;
 use std::io::Read;
 use std::marker::Brand;
 use std::process::Abort;
@@ -32,46 +30,6 @@ const FEW: u8 = 24;
 
 /// How often each pushes where it stops anywhere.
 const MANY: u8 = 200;
-
-pub fn settings() -> Settings {
-    Settings {
-        publishing: false,
-        limits: Limits::standard(),
-        first_push: 0,
-    }
-}
-
-pub fn state<R: RandomSource + Abort>(rt: &R) -> RandomState {
-    match RandomState::new(rt) {
-        Ok(state) => state,
-        Err(_) => panic!(*rt; "no random bytes"),
-    }
-}
-
-/// A marker without successors, on a node that no other push has.
-pub fn marker<R: Abort>(rt: &R, alloc: Global, thread: u8, turn: u8) -> Vec<u8> {
-    let mut made = Vec::new(alloc);
-    let mut ok = made
-        .extend_from_slice(&[0, 0, 0, 0, 0, 0, 0, thread, turn])
-        .is_ok();
-    for _ in 0..18 {
-        ok = ok && made.push(7).is_ok();
-    }
-    assert!(rt; ok);
-    made
-}
-
-/// The bundle of a push with that part.
-pub fn add_bundle<R: Abort>(rt: &R, made: &mut Vec<u8>, payload: &[u8]) {
-    let size = payload.len() as u32;
-    let ok = made
-        .extend_from_slice(b"HG20\0\0\0\0\0\0\0\x11\x0aOBSMARKERS\0\0\0\0\0\0")
-        .is_ok()
-        && made.extend_from_slice(&size.to_be_bytes()).is_ok()
-        && made.extend_from_slice(payload).is_ok()
-        && made.extend_from_slice(&[0; 8]).is_ok();
-    assert!(rt; ok);
-}
 
 /// The reply to a push of a marker that is done.
 const DONE_REPLY: &[u8] = b"HG20\0\0\0\0\0\0\0\0";
@@ -136,7 +94,7 @@ fn connect<J: Storing<Global>, R: Wait + Abort>(
         } else {
             &payload[..]
         };
-        add_bundle(rt, &mut input, payload);
+        one_part(rt, &mut input, payload);
     }
     let mut reader = Source {
         bytes: &input,
@@ -232,8 +190,8 @@ fn push_twice<J: Storing<Global>, R: Wait + Abort>(
     turn: u8,
 ) -> (KeptClient<J>, usize) {
     let mut input = Vec::new(alloc);
-    add_bundle(rt, &mut input, &marker(rt, alloc, thread, turn));
-    add_bundle(rt, &mut input, &marker(rt, alloc, thread, 100 + turn));
+    one_part(rt, &mut input, &marker(rt, alloc, thread, turn));
+    one_part(rt, &mut input, &marker(rt, alloc, thread, 100 + turn));
     let mut reader = Source {
         bytes: &input,
         step: 40,
@@ -308,6 +266,13 @@ struct Left {
     done: usize,
     replies: usize,
     refused: usize,
+}
+
+impl Left {
+    /// Starts again from what a crash leaves: what every reply rested on is there, in the order of the journal.
+    fn starts_again<R: RandomSource + Abort>(&self, rt: &R, alloc: Global, part: usize) -> usize {
+        starts_again(rt, alloc, &self.device, part, &self.closed, self.done)
+    }
 }
 
 fn play<J: Storing<Global> + Send + Sync, R: Threads + Wait + Abort + Sync>(
@@ -392,39 +357,6 @@ fn ledger_over<J: Storing<Global>, R: Wait + Abort>(
     }
 }
 
-pub fn client_of<J: Naming<A>, A: Allocator + Copy, R: Wait + Abort>(
-    rt: &R,
-    server: &Server<J, A>,
-) -> Client<J, A> {
-    match server.client(rt) {
-        Ok(client) => client,
-        Err(_) => panic!(rt; "no client"),
-    }
-}
-
-/// A log without records, on a device that fails after so many calls.
-pub fn new_log<R: Abort>(rt: &R, alloc: Global, calls: usize) -> Log<Memory> {
-    let head = Head {
-        publishing: false,
-        limits: Limits::standard(),
-    };
-    let mut file = Vec::new(alloc);
-    assert!(rt; head.put(&mut file).is_ok());
-    let mut device = match Memory::new(alloc, &file, calls) {
-        Ok(device) => device,
-        Err(_) => panic!(rt; "no memory for a device"),
-    };
-    let found = match recover(alloc, &mut device) {
-        Ok(found) => found,
-        Err(_) => panic!(rt; "no store"),
-    };
-    Log {
-        device,
-        end: found.end,
-        digest: found.digest,
-    }
-}
-
 /// Runs the threads, each of so many pushes, on a device that fails after so many calls.
 fn run<R: Threads + Wait + RandomSource + Abort + Sync>(
     rt: &R,
@@ -449,33 +381,6 @@ fn run<R: Threads + Wait + RandomSource + Abort + Sync>(
     }
 }
 
-/// Starts again from what a crash leaves: what every reply rested on is there, in the order of the journal.
-fn starts_again<R: RandomSource + Abort>(rt: &R, alloc: Global, run: &Left, part: usize) -> usize {
-    let file = match run.device.crashed(part) {
-        Ok(file) => file,
-        Err(_) => panic!(rt; "no memory"),
-    };
-    let mut device = match Memory::new(alloc, &file, 9) {
-        Ok(device) => device,
-        Err(_) => panic!(rt; "no memory"),
-    };
-    let found = match recover(alloc, &mut device) {
-        Ok(found) => found,
-        Err(_) => panic!(rt; "no store is left"),
-    };
-    let mut repo = Repo::new(alloc, settings(), state(rt));
-    assert!(rt; replay_records(alloc, &mut repo, found.records.as_slice()).is_ok());
-    let count = found.records.len();
-    assert!(rt; run.done <= count);
-    let all = run.closed.repo.markers();
-    assert!(rt; count <= all.len());
-    assert!(rt; repo.markers().len() == count);
-    for (again, first) in repo.markers().iter().zip(all) {
-        assert!(rt; again.predecessor == first.predecessor);
-    }
-    count
-}
-
 /// How many of so many pushes of each thread are done: those that are not every third.
 fn done_of(pushes: u8) -> usize {
     let pushes = pushes as usize;
@@ -489,7 +394,7 @@ fn eight_connections_are_all_kept(rt: HostRuntime) -> Result<(), Fail> {
     assert!(rt; left.refused == 0);
     assert!(rt; left.done == done_of(FEW));
     assert!(rt; left.replies == THREADS as usize * FEW as usize);
-    assert!(rt; starts_again(&rt, alloc, &left, 0) == done_of(FEW));
+    assert!(rt; left.starts_again(&rt, alloc, 0) == done_of(FEW));
     // two syncs a batch: some batches had more than one record
     assert!(rt; left.device.syncs < 2 * done_of(FEW));
     Ok(())
@@ -503,7 +408,7 @@ fn eight_connections_on_a_device_that_stops(rt: HostRuntime) -> Result<(), Fail>
         let left = run(&rt, alloc, calls, FEW);
         assert!(rt; left.refused > 0);
         for part in [0, 1, 30, 100, 100_000] {
-            let _count = starts_again(&rt, alloc, &left, part);
+            let _count = left.starts_again(&rt, alloc, part);
         }
     }
     Ok(())
@@ -525,13 +430,13 @@ fn many_pushes_on_a_device_that_stops_anywhere(rt: HostRuntime) -> Result<(), Fa
         let calls = any_number(&rt).saturating_add(3);
         let left = run(&rt, alloc, calls, MANY);
         for part in [0, any_number(&rt), 100_000] {
-            let _count = starts_again(&rt, alloc, &left, part);
+            let _count = left.starts_again(&rt, alloc, part);
         }
     }
     let left = run(&rt, alloc, 1_000_000, MANY);
     assert!(rt; left.refused == 0);
     assert!(rt; left.done == done_of(MANY));
-    assert!(rt; starts_again(&rt, alloc, &left, 0) == done_of(MANY));
+    assert!(rt; left.starts_again(&rt, alloc, 0) == done_of(MANY));
     Ok(())
 }
 

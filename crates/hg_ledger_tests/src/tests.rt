@@ -4,18 +4,17 @@
 ghost use Rattle.std.specs.Prelude.{◌≡◌, ◌≤◌};
 ghost use Rattle.hg_ledger.specs.Clients.{counted};
 
+use hg_help_serve_tests::{client_of, marker, new_log, one_part, settings, starts_again, state};
 use hg_help_tests::device::Memory;
 use hg_ledger::{KeptClient, Ledger, NotStored, Parts, Receipt, Storing, Tally};
 use hg_push::Outcome;
 use hg_queue::{PartQueue, Taker};
 use hg_repo::Repo;
-use hg_restore::replay_records;
 use hg_serve::{Client, Closed, Naming, NoGate, Server};
-use hg_store::{Head, Log, recover};
-use hg_types::{Limits, Part, Seq, Settings};
+use hg_store::Log;
+use hg_types::{Part, Seq};
 use linked_list_allocator::LocalHeap;
 use std::alloc::{AllocFailed, Allocator, Global};
-use std::hash::RandomState;
 use std::marker::Brand;
 use std::process::Abort;
 use std::random::RandomSource;
@@ -29,39 +28,11 @@ const THREADS: u8 = 8;
 
 const PUSHES: u8 = 24;
 
-fn settings() -> Settings {
-    Settings {
-        publishing: false,
-        limits: Limits::standard(),
-        first_push: 0,
-    }
-}
-
-fn state<R: RandomSource + Abort>(rt: &R) -> RandomState {
-    match RandomState::new(rt) {
-        Ok(state) => state,
-        Err(_) => panic!(*rt; "no random bytes"),
-    }
-}
-
 fn bytes<R: Abort>(rt: &R, alloc: Global, bytes: &[u8]) -> Seq<u8> {
     match Seq::copy_of(alloc, bytes) {
         Ok(copy) => copy,
         Err(_) => panic!(rt; "no memory"),
     }
-}
-
-/// A marker without successors, on a node that no other push has.
-fn marker<R: Abort>(rt: &R, alloc: Global, thread: u8, turn: u8) -> Vec<u8> {
-    let mut made = Vec::new(alloc);
-    let mut ok = made
-        .extend_from_slice(&[0, 0, 0, 0, 0, 0, 0, thread, turn])
-        .is_ok();
-    for _ in 0..18 {
-        ok = ok && made.push(7).is_ok();
-    }
-    assert!(rt; ok);
-    made
 }
 
 /// The part of a push, and the bundle that has it.
@@ -76,14 +47,7 @@ fn part<R: Abort>(rt: &R, alloc: Global, payload: &[u8]) -> Part<Global> {
 
 fn bundle<R: Abort>(rt: &R, alloc: Global, payload: &[u8]) -> Seq<u8> {
     let mut made = Vec::new(alloc);
-    let size = payload.len() as u32;
-    let ok = made
-        .extend_from_slice(b"HG20\0\0\0\0\0\0\0\x11\x0aOBSMARKERS\0\0\0\0\0\0")
-        .is_ok()
-        && made.extend_from_slice(&size.to_be_bytes()).is_ok()
-        && made.extend_from_slice(payload).is_ok()
-        && made.extend_from_slice(&[0; 8]).is_ok();
-    assert!(rt; ok);
+    one_part(rt, &mut made, payload);
     Seq::from_vec(made)
 }
 
@@ -169,7 +133,7 @@ fn push_all<J: Storing<Global>, R: Wait + Abort>(
     told: &Told,
     thread: u8,
 ) {
-    let mut mine = KeptClient::new(client(rt, server));
+    let mut mine = KeptClient::new(client_of(rt, server));
     for turn in 0..PUSHES {
         // every third push is malformed, and so aborted
         let payload = marker(rt, alloc, thread, turn);
@@ -217,6 +181,13 @@ struct Left {
     refused: usize,
 }
 
+impl Left {
+    /// Starts again from what a crash leaves: what every reply rested on is there, in the order of the journal.
+    fn starts_again<R: RandomSource + Abort>(&self, rt: &R, alloc: Global, part: usize) -> usize {
+        starts_again(rt, alloc, &self.device, part, &self.closed, self.kept)
+    }
+}
+
 fn play<J: Storing<Global> + Send + Sync, R: Threads + Wait + Abort + Sync>(
     rt: &R,
     alloc: Global,
@@ -226,7 +197,7 @@ fn play<J: Storing<Global> + Send + Sync, R: Threads + Wait + Abort + Sync>(
     log: Log<Memory>,
 ) -> Left {
     let server = Server::<J>::new(alloc, repo, queue, taker);
-    let (first, second) = (client(rt, &server), client(rt, &server));
+    let (first, second) = (client_of(rt, &server), client_of(rt, &server));
     let ledger = match Ledger::new(alloc, log, (first, second), tally_over(rt, alloc)) {
         Ok(ledger) => ledger,
         Err(_parts) => panic!(rt; "no memory for a ledger"),
@@ -277,29 +248,6 @@ fn play<J: Storing<Global> + Send + Sync, R: Threads + Wait + Abort + Sync>(
     }
 }
 
-/// A log without records, on a device that fails after so many calls.
-fn new_log<R: Abort>(rt: &R, alloc: Global, calls: usize) -> Log<Memory> {
-    let head = Head {
-        publishing: false,
-        limits: Limits::standard(),
-    };
-    let mut file = Vec::new(alloc);
-    assert!(rt; head.put(&mut file).is_ok());
-    let mut device = match Memory::new(alloc, &file, calls) {
-        Ok(device) => device,
-        Err(_) => panic!(rt; "no memory for a device"),
-    };
-    let found = match recover(alloc, &mut device) {
-        Ok(found) => found,
-        Err(_) => panic!(rt; "no store"),
-    };
-    Log {
-        device,
-        end: found.end,
-        digest: found.digest,
-    }
-}
-
 /// Runs the threads on a device that fails after so many calls.
 fn run<R: Threads + Wait + RandomSource + Abort + Sync>(
     rt: &R,
@@ -322,33 +270,6 @@ fn run<R: Threads + Wait + RandomSource + Abort + Sync>(
     }
 }
 
-/// Starts again from what a crash leaves: what every reply rested on is there, in the order of the journal.
-fn starts_again<R: RandomSource + Abort>(rt: &R, alloc: Global, run: &Left, part: usize) -> usize {
-    let file = match run.device.crashed(part) {
-        Ok(file) => file,
-        Err(_) => panic!(rt; "no memory"),
-    };
-    let mut device = match Memory::new(alloc, &file, 9) {
-        Ok(device) => device,
-        Err(_) => panic!(rt; "no memory"),
-    };
-    let found = match recover(alloc, &mut device) {
-        Ok(found) => found,
-        Err(_) => panic!(rt; "no store is left"),
-    };
-    let mut repo = Repo::new(alloc, settings(), state(rt));
-    assert!(rt; replay_records(alloc, &mut repo, found.records.as_slice()).is_ok());
-    let count = found.records.len();
-    assert!(rt; run.kept <= count);
-    let all = run.closed.repo.markers();
-    assert!(rt; count <= all.len());
-    assert!(rt; repo.markers().len() == count);
-    for (again, first) in repo.markers().iter().zip(all) {
-        assert!(rt; again.predecessor == first.predecessor);
-    }
-    count
-}
-
 /// How many pushes are done: two of three of each thread.
 const DONE: usize = 8 * 16;
 
@@ -358,7 +279,7 @@ fn eight_threads_are_all_kept(rt: HostRuntime) -> Result<(), Fail> {
     let left = run(&rt, alloc, 1_000_000);
     assert!(rt; left.refused == 0);
     assert!(rt; left.kept == DONE);
-    assert!(rt; starts_again(&rt, alloc, &left, 0) == DONE);
+    assert!(rt; left.starts_again(&rt, alloc, 0) == DONE);
     // two syncs a batch: some batches had more than one record
     assert!(rt; left.device.syncs < 2 * DONE);
     Ok(())
@@ -371,7 +292,7 @@ fn eight_threads_on_a_device_that_stops(rt: HostRuntime) -> Result<(), Fail> {
         let left = run(&rt, alloc, calls);
         assert!(rt; left.refused > 0);
         for part in [0, 1, 30, 100, 100_000] {
-            let _count = starts_again(&rt, alloc, &left, part);
+            let _count = left.starts_again(&rt, alloc, part);
         }
     }
     Ok(())
@@ -397,8 +318,8 @@ fn ask<J: Storing<Global>, R: Wait + Abort>(
     log: Log<Memory>,
 ) -> Receipts {
     let server = Server::<J>::new(alloc, repo, queue, taker);
-    let (first, second) = (client(rt, &server), client(rt, &server));
-    let mut mine = KeptClient::new(client(rt, &server));
+    let (first, second) = (client_of(rt, &server), client_of(rt, &server));
+    let mut mine = KeptClient::new(client_of(rt, &server));
     let ledger = match Ledger::new(alloc, log, (first, second), tally_over(rt, alloc)) {
         Ok(ledger) => ledger,
         Err(_parts) => panic!(rt; "no memory for a ledger"),
@@ -443,16 +364,6 @@ fn tally_over<A: Allocator, R: Abort>(rt: &R, alloc: A) -> Tally<A> {
     match Tally::new(alloc) {
         Ok(tally) => tally,
         Err(_) => panic!(rt; "no memory for a tally"),
-    }
-}
-
-fn client<J: Naming<A>, A: Allocator + Copy, R: Wait + Abort>(
-    rt: &R,
-    server: &Server<J, A>,
-) -> Client<J, A> {
-    match server.client(rt) {
-        Ok(client) => client,
-        Err(_) => panic!(rt; "no client"),
     }
 }
 
@@ -529,9 +440,9 @@ fn push_in_turn<J: Storing<Global>, R: Wait + Abort>(
     log: Log<Memory>,
 ) -> Turns {
     let server = Server::<J>::new(alloc, repo, queue, taker);
-    let witnesses = (client(rt, &server), client(rt, &server));
-    let mut first = KeptClient::new(client(rt, &server));
-    let mut second = KeptClient::new(client(rt, &server));
+    let witnesses = (client_of(rt, &server), client_of(rt, &server));
+    let mut first = KeptClient::new(client_of(rt, &server));
+    let mut second = KeptClient::new(client_of(rt, &server));
     let ledger = match Ledger::new(alloc, log, witnesses, tally_over(rt, alloc)) {
         Ok(ledger) => ledger,
         Err(_parts) => panic!(rt; "no memory for a ledger"),
@@ -626,7 +537,7 @@ fn used<'h, J: Storing<&'h LocalHeap>, R: Wait + Abort>(
     log: Log<Memory>,
 ) -> (usize, usize) {
     let server = Server::<J, &'h LocalHeap>::new(heap, repo, queue, taker);
-    let (first, second) = (client(rt, &server), client(rt, &server));
+    let (first, second) = (client_of(rt, &server), client_of(rt, &server));
     let ledger = match Ledger::new(heap, log, (first, second), tally_over(rt, heap)) {
         Ok(ledger) => ledger,
         Err(_parts) => panic!(rt; "no memory for a ledger"),

@@ -1,7 +1,6 @@
 //! What no contract says: whole conversations of a real client, and that out of memory is told.
 
 ghost use Rattle.std.specs.Prelude.{◌≡◌, ◌≤◌};
-ghost use Rattle.hg_types.specs.Limits.{IsAllowed};
 
 mod conversations;
 mod cuts;
@@ -17,41 +16,24 @@ use crate::tests::conversations::{
     ASKED_0, ASKED_1, ASKED_2, ASKED_3, ASKED_4, ASKED_5, ASKED_6, OTHER_PUSH, RACED_3, TOLD_0,
     TOLD_1, TOLD_2, TOLD_3, TOLD_4, TOLD_5, TOLD_6, TOLD_RACED_3,
 };
+use hg_help_serve_tests::{client_of, new_log, settings, state};
 use hg_help_tests::device::Memory;
 use hg_kept::{ClosedKept, close_kept};
 use hg_ledger::{KeptClient, Ledger, Parts, Storing};
 use hg_queue::{PartQueue, Taker};
 use hg_repo::Repo;
 use hg_restore::replay_records;
-use hg_serve::{Client, Gate, Naming, Point, Server};
-use hg_store::{Head, Log, recover};
-use hg_types::{Limits, NoMemory, Seq, Settings};
+use hg_serve::{Gate, Point, Server};
+use hg_store::{Log, recover};
+use hg_types::{NoMemory, Seq};
 use hg_wire::{Budget, Finish, Pushed, Shown, Terms, Watch, serve_http};
 use std::alloc::{AllocFailed, Allocator, Global};
-use std::hash::RandomState;
 use std::io::{BufReader, Read};
 use std::marker::Brand;
 use std::process::Abort;
 use std::random::RandomSource;
 use std::sync::Wait;
 use std::test::*;
-
-fn settings() -> Settings
-    ensures { IsAllowed result.limits }
-{
-    Settings {
-        publishing: false,
-        limits: Limits::standard(),
-        first_push: 0,
-    }
-}
-
-fn state<R: RandomSource + Abort>(rt: &R) -> RandomState {
-    match RandomState::new(rt) {
-        Ok(state) => state,
-        Err(_) => panic!(*rt; "no random bytes"),
-    }
-}
 
 /// A page of one word, and as many counters as there are changesets.
 struct Words;
@@ -166,29 +148,6 @@ struct Left {
     kept: usize,
 }
 
-/// An open log over a device that has a store without pushes.
-fn open_log<R: Abort>(rt: &R, alloc: Global, calls: usize) -> Log<Memory> {
-    let head = Head {
-        publishing: false,
-        limits: Limits::standard(),
-    };
-    let mut file = Vec::new(alloc);
-    assert!(rt; head.put(&mut file).is_ok());
-    let mut device = match Memory::new(alloc, &file, calls) {
-        Ok(device) => device,
-        Err(_) => panic!(rt; "no memory for a device"),
-    };
-    let found = match recover(alloc, &mut device) {
-        Ok(found) => found,
-        Err(_) => panic!(rt; "no store"),
-    };
-    Log {
-        device,
-        end: found.end,
-        digest: found.digest,
-    }
-}
-
 /// How many pushes are found on the device, each of which is done when it is run again.
 fn kept_on<R: RandomSource + Abort>(rt: &R, alloc: Global, device: &Memory) -> usize {
     let mut again = match Memory::new(alloc, &device.bytes, 9) {
@@ -221,16 +180,6 @@ fn joined<R: Abort>(rt: &R, alloc: Global, pieces: &[&[u8]]) -> Vec<u8> {
     all
 }
 
-fn client_of<J: Naming<A>, A: Allocator + Copy, R: Wait + Abort>(
-    rt: &R,
-    server: &Server<J, A>,
-) -> Client<J, A> {
-    match server.client(rt) {
-        Ok(client) => client,
-        Err(_) => panic!(rt; "no client"),
-    }
-}
-
 fn add<T, A: Allocator, R: Abort>(rt: &R, clients: &mut Vec<T, A>, client: T) {
     match clients.push(client) {
         Ok(()) => {}
@@ -250,7 +199,7 @@ fn play<J: Storing<Global>, R: RandomSource + Wait + Abort>(
 ) -> Left {
     let mut clients = Vec::new(alloc);
     let server = Server::<J>::new(alloc, repo, queue, taker);
-    let log = open_log(rt, alloc, way.calls);
+    let log = new_log(rt, alloc, way.calls);
     let witnesses = (client_of(rt, &server), client_of(rt, &server));
     let counts = match hg_ledger::Tally::new(alloc) {
         Ok(counts) => counts,

@@ -101,7 +101,7 @@ fn converse_over<J: Storing<A>, A: Allocator + Copy, R: RandomSource + Wait + Ab
         return Came::Unmade;
     };
     let server = Server::<J, A>::new(alloc, repo, queue, taker);
-    let log = open_log(rt, global, 1_000_000);
+    let log = new_log(rt, global, 1_000_000);
     let witnesses = (client_of(rt, &server), client_of(rt, &server));
     let ledger = match Ledger::new(alloc, log, witnesses, tally) {
         Ok(ledger) => ledger,

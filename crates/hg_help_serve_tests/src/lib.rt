@@ -1,0 +1,9 @@
+//! What tests of servers over a store use: how such a server begins, what is pushed at it, and what is there when it
+//! begins again. No test stands here.
+#![tactic(auto)]
+
+mod beginning;
+mod pushing;
+
+pub use beginning::{new_log, settings, starts_again, state};
+pub use pushing::{client_of, marker, one_part};
