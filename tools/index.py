@@ -1,5 +1,5 @@
 #!/usr/bin/env python3
-"""From a clause to all that stands behind it: prints docs/index.md from the sources.
+"""From a clause to all that it rests on: prints docs/index.md from the sources.
 
 For each crate a list of the public functions, with the wrong bodies that turn each, the clauses that were seen
 to refuse one, and the tests that run it; and one of the words that their clauses use: where a word is defined, which heading of the public standard its
@@ -77,7 +77,7 @@ class Function:
         return re.sub(r"\w+(::<[^()]*>)?\([^()]*\);?", "", inner).strip() == "" and self.clauses() != ""
 
     def clauses(self):
-        """What stands behind `requires` and `ensures`."""
+        """What follows `requires` and `ensures`."""
         found = re.search(r"^\s*(requires|ensures)\b", self.head, re.M)
         return self.head[found.start():] if found else ""
 
@@ -262,14 +262,14 @@ def main():
     headings, excused = standard(), exceptions()
     out, missing = [], []
     say = out.append
-    say("# From a clause to all that stands behind it")
+    say("# From a clause to all that it rests on")
     say("")
     say(ABOUT)
     known = {crate: definitions(crate) for crate in crates()}
     for crate in crates():
         every, imports = [], {}
         folders = (f"{ROOT}/crates/{crate}/src", f"{ROOT}/crates/{crate}_tests/src",
-                   f"{ROOT}/crates/hg_help_tests/src")
+                   f"{ROOT}/crates/hg_help_tests/src", f"{ROOT}/crates/hg_help_serve_tests/src")
         for path in (path for folder in folders for path in files(folder, ".rt")):
             imports[path] = {}
             for below, module, group in GHOST.findall(read(path)):
