@@ -2,8 +2,7 @@
 use Rattle.std.proofs.Common.{true, false, true≢false, ℕ, ◌≡◌, ◌≢◌, ◌≤◌, ◌<◌, ◌+◌, ◌*◌, ◌^◌, List, [], ◌∷◌}
 use Rattle.std.proofs.Common.{◌++◌, refl, sym, ◌∙◌, ap, subst, inl, inr, arith, length, append_assoc, Option}
 use Rattle.std.proofs.Common.{Some, None}
-use Rattle.std.proofs.lemmas.List.{append-nil, length-append, flat_map_more}
-use Rattle.std.proofs.Math.Nat.{mul-le-mul_right}
+use Rattle.std.proofs.lemmas.List.{append-nil, length-append}
 use Rattle.std.proofs.KnownBytes.{Consumes-trans, Consumes-nil, Appends-nil, Appends-trans}
 use Rattle.std.specs.Prelude.{is_some}
 use Rattle.std.specs.Io.KnownBytes.{Consumes, Appends}
@@ -18,58 +17,36 @@ use Rattle.hg_push.specs.Run.{RepositoryOf}
 use Rattle.hg_push.specs.declared.book.OpenFault.{OpenFault}
 use Rattle.hg_store.specs.declared.head.Head.{Head}
 use Rattle.hg_ledger.specs.Clients.{KeptSeen}
-use Rattle.hg_stream.specs.declared.state.State.{State}
-use Rattle.hg_stream.specs.declared.state.State.TheVariants.{Ended, Reading as going}
-use Rattle.hg_stream.specs.declared.unbundler.Unbundler.{Unbundler}
-use Rattle.hg_stream.specs.Unbundler.{HoldsBundle, limits_of, ready_of, state_of}
+use Rattle.hg_stream.specs.declared.state.State.TheVariants.{Ended}
 use Rattle.hg_stream.specs.Faults.{StateTells}
-use Rattle.hg_stream.specs.Laws.{AreSettledOnce}
-use Rattle.hg_stream.specs.Places.{IsReading}
 use Rattle.hg_serve.specs.declared.desk.Answer.{Answer}
 use Rattle.hg_devices.specs.Devices.{Input, Output, ReadAnswer, WriteAnswer, Gave, Failed, TellsMore}
 use Rattle.hg_devices.proofs.CallerLemmas.{Adds-nil, Adds-trans}
-use Rattle.hg_devices.specs.declared.sending.Sending.{Sending}
 use Rattle.hg_devices.specs.declared.sending.Sending.TheVariants.{Whole as sent_whole, Broken, NoMemory}
-use Rattle.hg_devices.specs.Sent.{IsSent}
 use Rattle.hg_receiving.specs.declared.ending.BundleEnd.{BundleEnd}
 use Rattle.hg_receiving.specs.declared.ending.BundleEnd.TheVariants.{Whole, Fault, InputEnded, ReadFailed}
 use Rattle.hg_connection.specs.declared.coming.Next.TheVariants.{Comes, Ends as comes_no_more, Fails}
 use Rattle.hg_connection.specs.declared.served.ConnFault.TheVariants.{Open, ReadFailed as read_failed}
-use Rattle.hg_receiving.specs.Receiving.{IsPiece, KeepsWaiting, Ran, state_at}
-use Rattle.hg_connection.specs.Receiving.{IsFresh, IsNext}
+use Rattle.hg_receiving.specs.Receiving.{IsPiece, Ran, state_at}
+use Rattle.hg_connection.specs.Receiving.{IsNext}
+use Rattle.hg_connection.specs.Connections.{AreAllWhole, TellsLast, TellsOf, bytes_of, reads_of, uses_of}
+use Rattle.hg_connection.specs.Connections.{replies_of, gone_of}
+use Rattle.hg_connection.proofs.Joins.{last_rest, chain_more, whole_more, last_more, bytes_more, reads_more}
+use Rattle.hg_connection.proofs.Joins.{uses_more, gone_more, replies_more, rest_waits, gone_whole as sent_gone}
+use Rattle.hg_connection.proofs.Joins.{none_of, mul_more, within}
 use Rattle.hg_kept.specs.declared.served.Replied.{Replied}
 use Rattle.hg_kept.specs.declared.served.Replied.TheVariants.{Sent, NotStored}
 use Rattle.hg_kept.specs.declared.served.KeptFault.{KeptFault}
 use Rattle.hg_kept.specs.declared.served.KeptFault.TheVariants.{Connection}
 use Rattle.hg_kept.specs.declared.served.KeptServed.{KeptServed}
-use Rattle.hg_kept.specs.Kept.{KeptExchange, IsKeptExchange, Replies, ServesKept, TellsOfKept, kept_fault_of}
-use Rattle.hg_kept.specs.Connections.{AreKeptExchanges, AreWholeKept, ConnectsKept, EndsKeptBy, TellsLastKept, bytes_of}
-use Rattle.hg_kept.specs.Connections.{reads_of, uses_of, replies_of, gone_of}
-
--- a reader of a stream that was begun anew has given no part
-pub fresh : {A : Type 0} → ((limits : Limits) → AreSettledOnce A limits) → (limits : Limits) (u : Unbundler A)
-    → HoldsBundle u [] [] → state_of u ≡ going → limits_of u ≡ limits → IsFresh limits u
-fresh {A} law limits u holds state is =
-    let tells : StateTells going (limits_of u) [] ([] ++ ready_of u) = subst
-    (λ (st : State). StateTells st (limits_of u) [] ([] ++ ready_of u)) state holds.tells in
-    record {
-      empty = holds;
-      state = state;
-      limits_are = is;
-      ready = (law (limits_of u)).one_reading [] (ready_of u) [] tells.0
-          (IsReading.at_magic (omega arith) refl);
-    }
+use Rattle.hg_kept.specs.Kept.{KeptExchange, KeptReply, IsKeptExchange, Replies, ServesKept, kept_fault_of}
+use Rattle.hg_kept.specs.Connections.{AreKeptExchanges, ConnectsKept, EndsKeptBy, IsSentWhole}
 
 -- what a client had that was taken apart is what it was
 pub as_was : {A : Type 0} (history : List (Taken A)) (receipt : ℕ) (now : KeptSeen A) → history ≡ now.history
     → receipt ≡ now.receipt
     → (let had : KeptSeen A = record { history = history; receipt = receipt } in had ≡ now)
 as_was history receipt now seen same = λ i. record { history = seen i; receipt = same i }
-
--- the bytes that were read after the last end mark
-abbrev pub last_rest : {A : Type 0} → List ℕ → List (KeptExchange A) → List ℕ
-last_rest waited [] = waited
-last_rest waited (x ∷ xs) = last_rest x.rest xs
 
 -- all bundles so far were whole, and all their replies went out
 pub record Goes {A D : Type 0} (seen : D → List ℕ) (may_leave : D → List ℕ → Type 0) (head : Head)
@@ -79,10 +56,10 @@ pub record Goes {A D : Type 0} (seen : D → List ℕ) (may_leave : D → List �
   pub whole : List (KeptExchange A)
   pub chain : AreKeptExchanges seen may_leave head stored limits capacity first before [] whole now
   pub rest_is : last_rest [] whole ≡ waiting
-  pub ends : AreWholeKept whole
+  pub ends : AreAllWhole IsSentWhole whole
   pub count : number ≡ length whole
   pub counted : served.bundles ≡ number
-  pub tells : TellsLastKept served.last whole
+  pub tells : TellsLast served.last whole
   pub read : Consumes input.left left.left (bytes_of whole ++ waiting)
   pub reads : TellsMore input.reads left.reads (reads_of whole)
   pub uses : TellsMore out.uses sent.uses (uses_of whole)
@@ -93,49 +70,6 @@ pub record Goes {A D : Type 0} (seen : D → List ℕ) (may_leave : D → List �
   pub short : length (replies_of whole) ≤ number * greatest_reply
   pub sent_all : replies_of whole ≡ gone_of whole
   pub fault : served.fault ≡ None
-
-module _ {A D : Type 0} {seen : D → List ℕ} {may_leave : D → List ℕ → Type 0} {head : Head}
-    {stored : List (List ℕ)} (limits : Limits) (capacity : ℕ) (first : RepositoryOf A) where
-  chain_more : (before : KeptSeen A) (waited : List ℕ) (xs : List (KeptExchange A)) (now : KeptSeen A)
-      (x : KeptExchange A) → AreKeptExchanges seen may_leave head stored limits capacity first before waited xs now
-      → IsKeptExchange seen may_leave head stored limits capacity first now (last_rest waited xs) x
-      → AreKeptExchanges seen may_leave head stored limits capacity first before waited (xs ++ x ∷ []) x.after
-  chain_more before waited [] now x c is = (
-    subst (λ (h : KeptSeen A). IsKeptExchange seen may_leave head stored limits capacity first h waited x) c
-        is,
-    refl,
-  )
-  chain_more before waited (y ∷ ys) now x c is = (c.0, chain_more y.after y.rest ys now x c.1 is)
-
-last_more : {A : Type 0} (waited : List ℕ) (xs : List (KeptExchange A)) (x : KeptExchange A)
-    → last_rest waited (xs ++ x ∷ []) ≡ x.rest
-last_more waited [] x = refl
-last_more waited (y ∷ ys) x = last_more y.rest ys x
-
-whole_more : {A : Type 0} (xs : List (KeptExchange A)) (x : KeptExchange A) → AreWholeKept xs → x.ending ≡ Whole
-    → x.replied ≡ Sent sent_whole → AreWholeKept (xs ++ x ∷ [])
-whole_more [] x all is went = (is, went, tt)
-whole_more (y ∷ ys) x all is went = (all.0, all.1, whole_more ys x all.2 is went)
-
-bytes_more : {A : Type 0} (xs : List (KeptExchange A)) (x : KeptExchange A) → bytes_of xs
-    ++ x.consumed ≡ bytes_of (xs ++ x ∷ [])
-bytes_more {A} xs x = flat_map_more (λ (y : KeptExchange A). y.consumed) [] xs x
-
-reads_more : {A : Type 0} (xs : List (KeptExchange A)) (x : KeptExchange A) → reads_of xs
-    ++ x.reads ≡ reads_of (xs ++ x ∷ [])
-reads_more {A} xs x = flat_map_more (λ (y : KeptExchange A). y.reads) [] xs x
-
-uses_more : {A : Type 0} (xs : List (KeptExchange A)) (x : KeptExchange A) → uses_of xs
-    ++ x.uses ≡ uses_of (xs ++ x ∷ [])
-uses_more {A} xs x = flat_map_more (λ (y : KeptExchange A). y.uses) [] xs x
-
-gone_more : {A : Type 0} (xs : List (KeptExchange A)) (x : KeptExchange A) → gone_of xs
-    ++ x.gone ≡ gone_of (xs ++ x ∷ [])
-gone_more {A} xs x = flat_map_more (λ (y : KeptExchange A). y.gone) [] xs x
-
-replies_more : {A : Type 0} (xs : List (KeptExchange A)) (x : KeptExchange A) → replies_of xs
-    ++ reply_of x.how ≡ replies_of (xs ++ x ∷ [])
-replies_more {A} xs x = flat_map_more (λ (y : KeptExchange A). reply_of y.how) [] xs x
 
 no_fault : (ending : BundleEnd) (replied : Replied) → kept_fault_of ending replied ≡ None → (ending ≡ Whole)
     × (replied ≡ Sent sent_whole)
@@ -158,35 +92,29 @@ rest_of seen may_leave head stored first after rests reply gone uses (Sent sendi
 rest_of seen may_leave head stored first after rests reply gone uses NotStored is =
     (reply, ap (λ (l : List ℕ). l ++ reply) (sym is.0))
 
-mul_more : (n s : ℕ) → (n + 1) * s ≡ n * s + s
-mul_more n s = grind (arith)
-
-within : (n m s : ℕ) → n ≤ m → n * s ≤ m * s
-within n m s le = mul-le-mul_right s le
-
 -- what went out of one reply more can be added: the replies to so few bundles are short together
 pub can_add : {A D : Type 0} {seen : D → List ℕ} {may_leave : D → List ℕ → Type 0} {head : Head}
     {stored : List (List ℕ)}
     (limits : Limits) (capacity : ℕ) (first : RepositoryOf A) (input mid begun left : Input)
     (out way sent : Output) (before now had after : KeptSeen A) (waiting waited waits : List ℕ)
     (served : KeptServed A) (number : ℕ) (x : KeptExchange A) (ending : BundleEnd)
-    (how : Outcome (Done A) (Refusal A)) (takes rests : ℕ) (replied : Replied) (written : ℕ)
+    (how : Outcome (Done A) (Refusal A)) (takes : ℕ) (reply : KeptReply) (written : ℕ)
     → Goes seen may_leave head stored limits capacity first input mid out way before now waiting served number
     → ServesKept seen may_leave head stored limits capacity first waited waits begun left way sent had x
-    → TellsOfKept x ending how takes rests replied written after → number < 10000
+    → TellsOf x ending how takes reply written after → number < 10000
     → served.written + written < 2 ^ 64
 can_add {seen = seen} {may_leave = may_leave} {head = head} {stored = stored} limits capacity first input mid
-    begun left out way sent before now had after waiting waited waits served number x ending how takes rests replied written g v t less =
+    begun left out way sent before now had after waiting waited waits served number x ending how takes reply written g v t less =
     let so_far = g.written in
     let bound = g.short in
     let most = within number 10000 greatest_reply (omega (arith, less)) in
     let went = t.written_is in
-    let reply = v.short in
-    let kept = rest_of seen may_leave head stored first x.after x.rests (reply_of x.how) x.gone x.uses x.replied
+    let short = v.flows.short in
+    let kept = rest_of seen may_leave head stored first x.after x.sending.rests (reply_of x.how) x.gone x.uses x.sending.replied
     v.is.replies in
     let parted = ap (λ (l : List ℕ). length l) kept.1 in
     let both = length-append x.gone kept.0 in
-    omega (arith, so_far, bound, most, went, reply, parted, both)
+    omega (arith, so_far, bound, most, went, short, parted, both)
 
 -- nothing was served yet
 pub starts : {A D : Type 0} {seen : D → List ℕ} {may_leave : D → List ℕ → Type 0} {head : Head}
@@ -202,7 +130,7 @@ starts {A = A} limits capacity first input out before waiting served none s = re
   ends = tt;
   count = refl;
   counted = s.0;
-  tells = subst (λ (o : Option (Answer A)). TellsLastKept {A = A} o []) (sym s.1) refl;
+  tells = subst (λ (o : Option (Answer A)). TellsLast {A = A} {S = KeptReply} {H = KeptSeen A} o []) (sym s.1) refl;
   read = subst (λ (l : List ℕ). Consumes input.left input.left l) (sym none) (Consumes-nil input.left);
   reads = Adds-nil input.reads;
   uses = Adds-nil out.uses;
@@ -247,25 +175,27 @@ module _ {A D : Type 0} {seen : D → List ℕ} {may_leave : D → List ℕ → 
             AreKeptExchanges seen may_leave head stored limits capacity first before [] y.0 y.1)
             (λ i. (sym e i, sym same i)) g.chain;
         ends = g.ends;
-        count = count' ∙ ap (λ (l : List (KeptExchange A)). length l) (sym e);
-        few = subst (λ (l : List (KeptExchange A)). length l ≤ most) (sym e) few';
-        tells = subst (λ (y : Option (Answer A) × List (KeptExchange A)). TellsLastKept y.0 y.1)
-            (λ i. (sym is.1 i, sym e i)) g.tells;
-        final = final;
-        reads = subst (λ (l : List (KeptExchange A)). TellsMore input.reads left.reads (reads_of l ++ final))
-            (sym e) reads;
-        uses = subst (λ (l : List (KeptExchange A)). TellsMore out.uses sent.uses (uses_of l)) (sym e) g.uses;
-        dropped = dropped;
-        read = subst (λ (l : List (KeptExchange A)). Consumes input.left left.left (bytes_of l ++ dropped))
-            (sym e) read;
-        bound = subst (λ (l : List (KeptExchange A)). length (bytes_of l
-            ++ dropped) ≤ most * limits.stream + 4096) (sym e) size;
-        gone = replies_of g.whole;
-        gone_is = g.sent_all ∙ ap (λ (l : List (KeptExchange A)). gone_of l) (sym e);
-        unsent = [];
-        replies = ap (λ (l : List (KeptExchange A)). replies_of l) e ∙ sym (append-nil (replies_of g.whole));
-        went = g.went;
-        written = is.2 ∙ g.written;
+        joined = record {
+          count = count' ∙ ap (λ (l : List (KeptExchange A)). length l) (sym e);
+          few = subst (λ (l : List (KeptExchange A)). length l ≤ most) (sym e) few';
+          tells = subst (λ (y : Option (Answer A) × List (KeptExchange A)). TellsLast y.0 y.1)
+              (λ i. (sym is.1 i, sym e i)) g.tells;
+          final = final;
+          reads = subst (λ (l : List (KeptExchange A)). TellsMore input.reads left.reads (reads_of l ++ final))
+              (sym e) reads;
+          uses = subst (λ (l : List (KeptExchange A)). TellsMore out.uses sent.uses (uses_of l)) (sym e) g.uses;
+          dropped = dropped;
+          read = subst (λ (l : List (KeptExchange A)). Consumes input.left left.left (bytes_of l ++ dropped))
+              (sym e) read;
+          bound = subst (λ (l : List (KeptExchange A)). length (bytes_of l
+              ++ dropped) ≤ most * limits.stream + 4096) (sym e) size;
+          gone = replies_of g.whole;
+          gone_is = g.sent_all ∙ ap (λ (l : List (KeptExchange A)). gone_of l) (sym e);
+          kept = [];
+          replies = ap (λ (l : List (KeptExchange A)). replies_of l) e ∙ sym (append-nil (replies_of g.whole));
+          went = g.went;
+          wrote = is.2 ∙ g.written;
+        };
         all = λ _. refl;
         end = subst (λ (f : Option KeptFault). EndsKeptBy most g.whole None final dropped left f) (sym is.3) end;
       }
@@ -335,26 +265,15 @@ module _ {A D : Type 0} {seen : D → List ℕ} {may_leave : D → List ℕ → 
       (inl (sym g.count ∙ all, refl))
 
 ends_with : {A : Type 0} (most : ℕ) (whole : List (KeptExchange A)) (x : KeptExchange A) (left : Input)
-    (fault : Option KeptFault) → kept_fault_of x.ending x.replied ≡ fault → is_some fault ≡ true
+    (fault : Option KeptFault) → kept_fault_of x.ending x.sending.replied ≡ fault → is_some fault ≡ true
     → Ran x.ending left → EndsKeptBy most whole (Some x) [] x.rest left fault
 ends_with most whole x left None e some ran = absurd (true≢false (sym some))
 ends_with most whole x left (Some fault) e some ran = (refl, refl, e, ran)
-
-none_of : {X : Type 0} (o : Option X) → is_some o ≡ false → o ≡ None
-none_of None e = refl
-none_of (Some x) e = absurd (true≢false e)
 
 -- after a bundle without a fault its end mark was read
 pub ended_whole : (ending : BundleEnd) (replied : Replied) (fault : Option KeptFault)
     → kept_fault_of ending replied ≡ fault → is_some fault ≡ false → ending ≡ Whole
 ended_whole ending replied fault is none = (no_fault ending replied (is ∙ none_of fault none)).0
-
-sent_gone : (sending : Sending) (gone : List ℕ) (uses : List WriteAnswer) (reply : List ℕ)
-    → sending ≡ sent_whole → IsSent sending gone uses reply → gone ≡ reply
-sent_gone sent_whole gone uses reply is s =
-    sym (s.reply_is ∙ ap (λ (l : List ℕ). gone ++ l) s.ends.0 ∙ append-nil gone)
-sent_gone Broken gone uses reply is s = absurd cc
-sent_gone NoMemory gone uses reply is s = absurd cc
 
 -- what went out of a reply that was sent whole
 gone_whole : {A D : Type 0} (seen : D → List ℕ) (may_leave : D → List ℕ → Type 0) (head : Head)
@@ -365,24 +284,16 @@ gone_whole seen may_leave head stored first after rests reply gone uses (Sent se
     let whole : sending ≡ sent_whole = cc in sent_gone sending gone uses reply whole r.1
 gone_whole seen may_leave head stored first after rests reply gone uses NotStored is r = absurd cc
 
-rest_waits : (ending : BundleEnd) (rest waiting : List ℕ) → ending ≡ Whole → KeepsWaiting ending rest waiting
-    → waiting ≡ rest
-rest_waits Whole rest waiting is keeps = keeps
-rest_waits (Fault fault) rest waiting is keeps = absurd cc
-rest_waits InputEnded rest waiting is keeps = absurd cc
-rest_waits ReadFailed rest waiting is keeps = absurd cc
-
 -- what is told of a bundle is told of it with other reads as well
 pub tells_own : {A : Type 0} (x own : KeptExchange A) (ending : BundleEnd) (how : Outcome (Done A) (Refusal A))
-    (takes rests : ℕ) (replied : Replied) (written : ℕ) (after : KeptSeen A)
-    → own ≡ record x { reads = own.reads } → TellsOfKept x ending how takes rests replied written after
-    → TellsOfKept own ending how takes rests replied written after
-tells_own {A} x own ending how takes rests replied written after same t = record {
+    (takes : ℕ) (reply : KeptReply) (written : ℕ) (after : KeptSeen A)
+    → own ≡ record x { reads = own.reads } → TellsOf x ending how takes reply written after
+    → TellsOf own ending how takes reply written after
+tells_own {A} x own ending how takes reply written after same t = record {
   ending_is = ap (λ (y : KeptExchange A). y.ending) same ∙ t.ending_is;
   how_is = ap (λ (y : KeptExchange A). y.how) same ∙ t.how_is;
   takes_are = ap (λ (y : KeptExchange A). y.takes) same ∙ t.takes_are;
-  rests_are = ap (λ (y : KeptExchange A). y.rests) same ∙ t.rests_are;
-  replied_is = ap (λ (y : KeptExchange A). y.replied) same ∙ t.replied_is;
+  sending_is = ap (λ (y : KeptExchange A). y.sending) same ∙ t.sending_is;
   written_is = t.written_is ∙ ap (λ (y : KeptExchange A). length y.gone) (sym same);
   after_is = ap (λ (y : KeptExchange A). y.after) same ∙ t.after_is;
 }
@@ -391,21 +302,21 @@ module _ {A D : Type 0} {seen : D → List ℕ} {may_leave : D → List ℕ → 
     {stored : List (List ℕ)} (limits : Limits) (capacity : ℕ) (first : RepositoryOf A)
     (input mid left : Input) (out way sent : Output) (before now had now' : KeptSeen A)
     (waiting waits : List ℕ)
-    (served told : KeptServed A) (number : ℕ) (answer : Answer A) (ending : BundleEnd) (rests : ℕ)
-    (replied : Replied) (written : ℕ)
+    (served told : KeptServed A) (number : ℕ) (answer : Answer A) (ending : BundleEnd)
+    (reply : KeptReply) (written : ℕ)
     (g : Goes seen may_leave head stored limits capacity first input mid out way before now waiting served number)
     (same : had ≡ now)
     (x : KeptExchange A)
     (v : ServesKept seen may_leave head stored limits capacity first waiting waits mid left way sent had x)
-    (t : TellsOfKept x ending answer.outcome answer.takes rests replied written now')
+    (t : TellsOf x ending answer.outcome answer.takes reply written now')
     (s : (told.bundles ≡ number + 1) × (told.last ≡ Some answer) × (told.written ≡ served.written + written)
-    × (told.fault ≡ kept_fault_of ending replied)) where
+    × (told.fault ≡ kept_fault_of ending reply.replied)) where
   chained : AreKeptExchanges seen may_leave head stored limits capacity first before [] (g.whole ++ x ∷ []) now'
   chained =
       subst (λ (h : KeptSeen A). AreKeptExchanges seen may_leave head stored limits capacity first before []
       (g.whole ++ x ∷ []) h)
       t.after_is
-      (chain_more limits capacity first before [] g.whole now x g.chain
+      (chain_more (IsKeptExchange seen may_leave head stored limits capacity first) before [] g.whole now x g.chain
       (subst (λ (y : KeptSeen A × List ℕ). IsKeptExchange seen may_leave head stored limits capacity first y.0
       y.1 x)
       (λ i. (same i, sym g.rest_is i)) v.is))
@@ -413,20 +324,20 @@ module _ {A D : Type 0} {seen : D → List ℕ} {may_leave : D → List ℕ → 
   was_read : Consumes input.left left.left (bytes_of (g.whole ++ x ∷ []) ++ x.rest)
   was_read =
       let b = bytes_of g.whole in
-      let spell : (b ++ waiting) ++ v.more ≡ bytes_of (g.whole ++ x ∷ []) ++ x.rest =
-      append_assoc b waiting v.more ∙ ap (λ (l : List ℕ). b ++ l) v.spelled
+      let spell : (b ++ waiting) ++ v.flows.more ≡ bytes_of (g.whole ++ x ∷ []) ++ x.rest =
+      append_assoc b waiting v.flows.more ∙ ap (λ (l : List ℕ). b ++ l) v.flows.spelled
       ∙ sym (append_assoc b x.consumed x.rest)
       ∙ ap (λ (l : List ℕ). l ++ x.rest) (bytes_more g.whole x) in
       subst (λ (l : List ℕ). Consumes input.left left.left l) spell
-      (Consumes-trans input.left mid.left left.left (b ++ waiting) v.more g.read v.bytes)
+      (Consumes-trans input.left mid.left left.left (b ++ waiting) v.flows.more g.read v.flows.bytes)
 
   was_asked : TellsMore input.reads left.reads (reads_of (g.whole ++ x ∷ []))
   was_asked = subst (λ (l : List ReadAnswer). TellsMore input.reads left.reads l) (reads_more g.whole x)
-      (Adds-trans input.reads mid.reads left.reads (reads_of g.whole) x.reads g.reads v.told)
+      (Adds-trans input.reads mid.reads left.reads (reads_of g.whole) x.reads g.reads v.flows.told)
 
   was_used : TellsMore out.uses sent.uses (uses_of (g.whole ++ x ∷ []))
   was_used = subst (λ (l : List WriteAnswer). TellsMore out.uses sent.uses l) (uses_more g.whole x)
-      (Adds-trans out.uses way.uses sent.uses (uses_of g.whole) x.uses g.uses v.used)
+      (Adds-trans out.uses way.uses sent.uses (uses_of g.whole) x.uses g.uses v.flows.used)
 
   few_bytes : length (bytes_of (g.whole ++ x ∷ []) ++ x.rest) ≤ (number + 1) * limits.stream + 4096
   few_bytes =
@@ -438,7 +349,7 @@ module _ {A D : Type 0} {seen : D → List ℕ} {may_leave : D → List ℕ → 
       omega (arith, long, sum, sum', b, c, mul_more number limits.stream)
 
   went_out : Appends out.taken sent.taken (replies_of g.whole ++ x.gone)
-  went_out = Appends-trans out.taken way.taken sent.taken (replies_of g.whole) x.gone g.went v.went
+  went_out = Appends-trans out.taken way.taken sent.taken (replies_of g.whole) x.gone g.went v.flows.went
 
   was_written : told.written ≡ length (replies_of g.whole ++ x.gone)
   was_written =
@@ -450,22 +361,22 @@ module _ {A D : Type 0} {seen : D → List ℕ} {may_leave : D → List ℕ → 
   short_on : length (replies_of (g.whole ++ x ∷ [])) ≤ (number + 1) * greatest_reply
   short_on =
       let before = g.short in
-      let more = v.short in
+      let more = v.flows.short in
       let long = ap (λ (l : List ℕ). length l) (sym (replies_more g.whole x)) in
       omega (arith, before, more, long, length-append (replies_of g.whole) (reply_of x.how))
 
   counted_one : told.bundles ≡ length (g.whole ++ x ∷ [])
   counted_one = let a = s.0 in let c = g.count in omega (arith, a, c, length-append g.whole (x ∷ []))
 
-  tells_it : TellsLastKept told.last (g.whole ++ x ∷ [])
-  tells_it = subst (λ (o : Option (Answer A)). TellsLastKept o (g.whole ++ x ∷ [])) (sym s.1)
+  tells_it : TellsLast told.last (g.whole ++ x ∷ [])
+  tells_it = subst (λ (o : Option (Answer A)). TellsLast o (g.whole ++ x ∷ [])) (sym s.1)
       (g.whole, x, refl, sym t.how_is, sym t.takes_are)
 
-  its_fault : kept_fault_of x.ending x.replied ≡ told.fault
-  its_fault = (λ i. kept_fault_of (t.ending_is i) (t.replied_is i)) ∙ sym s.3
+  its_fault : kept_fault_of x.ending x.sending.replied ≡ told.fault
+  its_fault = (λ i. kept_fault_of (t.ending_is i) (t.sending_is i).replied) ∙ sym s.3
 
   its_rest : (rest : List ℕ) × (reply_of x.how ≡ x.gone ++ rest)
-  its_rest = rest_of seen may_leave head stored first x.after x.rests (reply_of x.how) x.gone x.uses x.replied
+  its_rest = rest_of seen may_leave head stored first x.after x.sending.rests (reply_of x.how) x.gone x.uses x.sending.replied
       v.is.replies
 
   pub at_fault : (most : ℕ) → number < most → is_some told.fault ≡ true
@@ -479,39 +390,41 @@ module _ {A D : Type 0} {seen : D → List ℕ} {may_leave : D → List ℕ → 
         last = Some x;
         chain = chained;
         ends = g.ends;
-        count = counted_one;
-        few = let c = g.count in omega (arith, c, less, length-append g.whole (x ∷ []));
-        tells = tells_it;
-        final = [];
-        reads = subst (λ (l : List ReadAnswer). TellsMore input.reads left.reads l)
-            (sym (append-nil (reads_of (g.whole ++ x ∷ [])))) was_asked;
-        uses = was_used;
-        dropped = x.rest;
-        read = was_read;
-        bound = omega (arith, b, le);
-        gone = replies_of g.whole ++ x.gone;
-        gone_is = ap (λ (l : List ℕ). l ++ x.gone) g.sent_all ∙ gone_more g.whole x;
-        unsent = its_rest.0;
-        replies = sym (replies_more g.whole x)
-            ∙ (ap (λ (l : List ℕ). replies_of g.whole ++ l) its_rest.1
-            ∙ sym (append_assoc (replies_of g.whole) x.gone its_rest.0));
-        went = went_out;
-        written = was_written;
+        joined = record {
+          count = counted_one;
+          few = let c = g.count in omega (arith, c, less, length-append g.whole (x ∷ []));
+          tells = tells_it;
+          final = [];
+          reads = subst (λ (l : List ReadAnswer). TellsMore input.reads left.reads l)
+              (sym (append-nil (reads_of (g.whole ++ x ∷ [])))) was_asked;
+          uses = was_used;
+          dropped = x.rest;
+          read = was_read;
+          bound = omega (arith, b, le);
+          gone = replies_of g.whole ++ x.gone;
+          gone_is = ap (λ (l : List ℕ). l ++ x.gone) g.sent_all ∙ gone_more g.whole x;
+          kept = its_rest.0;
+          replies = sym (replies_more g.whole x)
+              ∙ (ap (λ (l : List ℕ). replies_of g.whole ++ l) its_rest.1
+              ∙ sym (append_assoc (replies_of g.whole) x.gone its_rest.0));
+          went = went_out;
+          wrote = was_written;
+        };
         all = λ none. absurd (true≢false (sym some ∙ ap (λ (o : Option KeptFault). is_some o) none));
-        end = ends_with most g.whole x left told.fault its_fault some v.ran;
+        end = ends_with most g.whole x left told.fault its_fault some v.flows.ran;
       }
 
   pub goes_on : is_some told.fault ≡ false
       → Goes seen may_leave head stored limits capacity first input left out sent before now' waits told (number + 1)
   goes_on none =
-      let both = no_fault x.ending x.replied (its_fault ∙ none_of told.fault none) in
+      let both = no_fault x.ending x.sending.replied (its_fault ∙ none_of told.fault none) in
       let gone : replies_of g.whole
       ++ x.gone ≡ replies_of (g.whole ++ x ∷ []) = ap (λ (l : List ℕ). replies_of g.whole ++ l)
-      (gone_whole seen may_leave head stored first x.after x.rests (reply_of x.how) x.gone x.uses x.replied both.1
+      (gone_whole seen may_leave head stored first x.after x.sending.rests (reply_of x.how) x.gone x.uses x.sending.replied both.1
       v.is.replies) ∙ replies_more g.whole x in
       let told_ended : StateTells Ended limits x.consumed x.parts = subst
       (λ (e : BundleEnd). StateTells (state_at e) limits x.consumed x.parts) both.0 v.is.received.tells in
-      let rest : waits ≡ x.rest = rest_waits x.ending x.rest waits both.0 v.keeps in
+      let rest : waits ≡ x.rest = rest_waits x.ending x.rest waits both.0 v.flows.keeps in
       let long = ap (λ (l : List ℕ). length l) (sym (bytes_more g.whole x)) in
       let sum = length-append (bytes_of g.whole) x.consumed in
       let b = g.bytes in
@@ -520,7 +433,7 @@ module _ {A D : Type 0} {seen : D → List ℕ} {may_leave : D → List ℕ → 
         whole = g.whole ++ x ∷ [];
         chain = chained;
         rest_is = last_more [] g.whole x ∙ sym rest;
-        ends = whole_more g.whole x g.ends both.0 both.1;
+        ends = whole_more IsSentWhole g.whole x g.ends both.0 both.1;
         count = sym s.0 ∙ counted_one;
         counted = s.0;
         tells = tells_it;

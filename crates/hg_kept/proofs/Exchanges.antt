@@ -1,6 +1,6 @@
 -- One bundle, from its bytes to its receipt and its reply.
-use Rattle.std.proofs.Common.{ℕ, ◌≡◌, ◌≤◌, ◌+◌, ◌-◌, List, [], ◌∷◌, ◌++◌, refl, sym, ◌∙◌, ap, subst, arith, rules}
-use Rattle.std.proofs.Common.{inl, inr, length}
+use Rattle.std.proofs.Common.{ℕ, ◌≡◌, ◌≤◌, ◌+◌, ◌-◌, List, [], ◌∷◌, ◌++◌, refl, sym, ◌∙◌, subst, arith, rules}
+use Rattle.std.proofs.Common.{inl, inr}
 use Rattle.std.proofs.KnownBytes.{Consumes-trans}
 use Rattle.std.specs.Prelude.{IfSome}
 use Rattle.hg_types.specs.declared.limits.Limits.{Limits}
@@ -18,7 +18,7 @@ use Rattle.hg_serve.specs.Answers.{Answers}
 use Rattle.hg_serve.specs.Clients.{SenderView, AwaitingView, PutsItsMark}
 use Rattle.hg_serve.specs.Histories.{newest_first}
 use Rattle.hg_store.specs.declared.head.Head.{Head}
-use Rattle.hg_devices.specs.Devices.{Input, Output, ReadAnswer, Gave}
+use Rattle.hg_devices.specs.Devices.{Input, Output, Gave}
 use Rattle.hg_devices.proofs.CallerLemmas.{Adds-trans}
 use Rattle.hg_ledger.specs.Clients.{KeptSeen}
 use Rattle.hg_ledger.specs.Records.{IsRecordOf}
@@ -126,15 +126,18 @@ comes {seen = seen} {may_leave = may_leave} {head = head} {stored = stored} limi
                 grows = v.is.grows;
                 replies = v.is.replies;
               };
-              more = piece ++ v.more;
-              spelled = v.spelled;
-              bytes = Consumes-trans input.left mid.left left.left piece v.more read.1.bytes v.bytes;
-              told = Adds-trans input.reads mid.reads left.reads (Gave piece ∷ []) x.reads read.1.told v.told;
-              keeps = v.keeps;
-              ran = v.ran;
-              went = v.went;
-              used = v.used;
-              short = v.short;
+              flows = record {
+                more = piece ++ v.flows.more;
+                spelled = v.flows.spelled;
+                bytes = Consumes-trans input.left mid.left left.left piece v.flows.more read.1.bytes v.flows.bytes;
+                told = Adds-trans input.reads mid.reads left.reads (Gave piece ∷ []) x.reads read.1.told
+                    v.flows.told;
+                keeps = v.flows.keeps;
+                ran = v.flows.ran;
+                went = v.flows.went;
+                used = v.flows.used;
+                short = v.flows.short;
+              };
             });
         same = refl;
       }

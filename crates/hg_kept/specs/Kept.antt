@@ -1,7 +1,6 @@
 -- One bundle whose push is kept before it is answered.
-use Rattle.std.specs.Prelude.{ℕ, ◌≡◌, ◌≤◌, ◌-◌, ⊤, List, [], ◌++◌, length, Option, Some, None}
-use Rattle.std.specs.Io.KnownBytes.{Consumes, Appends}
-use Rattle.hg_types.specs.declared.part.Part.{Part}
+use Rattle.std.specs.Prelude.{ℕ, ◌≡◌, ◌≤◌, ◌-◌, ⊤, List, [], length, Option, Some, None}
+use Rattle.std.specs.Io.KnownBytes.{Appends}
 use Rattle.hg_types.specs.declared.item.Taken.{Taken}
 use Rattle.hg_types.specs.declared.limits.Limits.{Limits}
 use Rattle.hg_repo.specs.declared.done.Done.{Done}
@@ -9,7 +8,6 @@ use Rattle.hg_parts.specs.declared.refusal.Refusal.{Refusal}
 use Rattle.hg_queue.specs.History.{of, items_of}
 use Rattle.hg_push.specs.declared.outcome.Outcome.{Outcome}
 use Rattle.hg_push.specs.declared.outcome.Outcome.TheVariants.{Done as done_with, Aborted}
-use Rattle.hg_push.specs.Lengths.{greatest_reply}
 use Rattle.hg_push.specs.Places.{RestsOn}
 use Rattle.hg_push.specs.Reply.{reply_of}
 use Rattle.hg_push.specs.Run.{RepositoryOf, run_push}
@@ -18,12 +16,12 @@ use Rattle.hg_serve.specs.Histories.{newest_first}
 use Rattle.hg_store.specs.declared.head.Head.{Head}
 use Rattle.hg_ledger.specs.Clients.{IsCovered, KeptSeen}
 use Rattle.hg_ledger.specs.Records.{IsRecordOf}
-use Rattle.hg_devices.specs.Devices.{Input, Output, ReadAnswer, WriteAnswer, TellsMore}
+use Rattle.hg_devices.specs.Devices.{Input, Output, WriteAnswer, TellsMore}
 use Rattle.hg_devices.specs.Sent.{IsSent}
 use Rattle.hg_receiving.specs.declared.ending.BundleEnd.{BundleEnd}
-use Rattle.hg_connection.specs.Connections.{fault_of}
-use Rattle.hg_receiving.specs.Receiving.{IsReceived, KeepsWaiting, Ran, mark_of, push_items}
+use Rattle.hg_receiving.specs.Receiving.{IsReceived, mark_of, push_items}
 use Rattle.hg_connection.specs.declared.served.ConnFault.{ConnFault}
+use Rattle.hg_connection.specs.Connections.{ExchangeOf, Flows, fault_of}
 use Rattle.hg_kept.specs.declared.served.Replied.{Replied}
 use Rattle.hg_kept.specs.declared.served.Replied.TheVariants.{Sent, NotStored}
 use Rattle.hg_kept.specs.declared.served.KeptFault.{KeptFault}
@@ -43,22 +41,14 @@ abbrev pub kept_fault_of : BundleEnd → Replied → Option KeptFault
 kept_fault_of ending (Sent sending) = connection_fault (fault_of ending sending)
 kept_fault_of ending NotStored = Some store_failed
 
--- One bundle of a connection, as `Exchange` has it; besides, how many done pushes its answer rests on, and
--- what became of its reply.
-pub record KeptExchange (A : Type 0) : Type 0 where
-  pub reads : List ReadAnswer
-  pub consumed : List ℕ
-  pub rest : List ℕ
-  pub ending : BundleEnd
-  pub parts : List (Part A)
-  pub push : ℕ
-  pub how : Outcome (Done A) (Refusal A)
-  pub takes : ℕ
+-- what became of a reply, and on how many done pushes it rests
+pub record KeptReply : Type 0 where
   pub rests : ℕ
   pub replied : Replied
-  pub uses : List WriteAnswer
-  pub gone : List ℕ
-  pub after : KeptSeen A
+
+-- One bundle of a connection whose pushes are kept. Its client has seen a history, and has a receipt.
+abbrev pub KeptExchange : Type 0 → Type 0
+KeptExchange A = ExchangeOf A KeptReply (KeptSeen A)
 
 -- A reply that was sent is true: all that it rests on was on the device, so many done pushes, and the client's receipt
 -- counts them. Where the store failed, the writer was not used.
@@ -97,35 +87,16 @@ pub record IsKeptExchange {A D : Type 0} (seen : D → List ℕ) (may_leave : D 
   pub fresh : of x.push (items_of before.history) ≡ []
   pub answers : Answers capacity first x.push
       (push_items x.push x.parts (mark_of x.ending)) before.history x.how x.takes x.after.history
-  pub rests_on : RestsOn run_push first (newest_first x.after.history) x.push x.how x.rests
-  pub recorded : IsRecorded first x.after.history x.rests x.consumed x.how
+  pub rests_on : RestsOn run_push first (newest_first x.after.history) x.push x.how x.sending.rests
+  pub recorded : IsRecorded first x.after.history x.sending.rests x.consumed x.how
   pub grows : before.receipt ≤ x.after.receipt
-  pub replies : Replies seen may_leave head stored first x.after x.rests (reply_of x.how) x.gone x.uses
-      x.replied
+  pub replies : Replies seen may_leave head stored first x.after x.sending.rests (reply_of x.how) x.gone x.uses
+      x.sending.replied
 
--- one bundle was served by that reader and that writer, and its reply is no longer than a reply can be
+-- one bundle was served by that reader and that writer
 pub record ServesKept {A D : Type 0} (seen : D → List ℕ) (may_leave : D → List ℕ → Type 0) (head : Head)
     (stored : List (List ℕ)) (limits : Limits) (capacity : ℕ) (first : RepositoryOf A)
     (waited waiting : List ℕ) (input left : Input) (out sent : Output) (before : KeptSeen A)
     (x : KeptExchange A) : Type 0 where
   pub is : IsKeptExchange seen may_leave head stored limits capacity first before waited x
-  pub more : List ℕ
-  pub spelled : waited ++ more ≡ x.consumed ++ x.rest
-  pub bytes : Consumes input.left left.left more
-  pub told : TellsMore input.reads left.reads x.reads
-  pub keeps : KeepsWaiting x.ending x.rest waiting
-  pub ran : Ran x.ending left
-  pub went : Appends out.taken sent.taken x.gone
-  pub used : TellsMore out.uses sent.uses x.uses
-  pub short : length (reply_of x.how) ≤ greatest_reply
-
--- what the call reports of the bundle
-pub record TellsOfKept {A : Type 0} (x : KeptExchange A) (ending : BundleEnd) (how : Outcome (Done A) (Refusal A))
-    (takes rests : ℕ) (replied : Replied) (written : ℕ) (after : KeptSeen A) : Type 0 where
-  pub ending_is : x.ending ≡ ending
-  pub how_is : x.how ≡ how
-  pub takes_are : x.takes ≡ takes
-  pub rests_are : x.rests ≡ rests
-  pub replied_is : x.replied ≡ replied
-  pub written_is : written ≡ length x.gone
-  pub after_is : x.after ≡ after
+  pub flows : Flows waited waiting input left out sent x

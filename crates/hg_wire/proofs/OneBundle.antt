@@ -15,7 +15,8 @@ use Rattle.hg_receiving.specs.declared.ending.BundleEnd.TheVariants.{InputEnded,
 use Rattle.hg_receiving.specs.Receiving.{IsReceived, last_read, Ran, StopsBundle}
 use Rattle.hg_store.specs.declared.head.Head.{Head}
 use Rattle.hg_ledger.specs.Clients.{IsCovered, IsLater, KeptSeen}
-use Rattle.hg_kept.specs.Kept.{KeptExchange, Replies, ServesKept, TellsOfKept}
+use Rattle.hg_connection.specs.Connections.{TellsOf}
+use Rattle.hg_kept.specs.Kept.{KeptExchange, KeptReply, Replies, ServesKept}
 use Rattle.hg_kept.specs.declared.served.Replied.{Replied}
 use Rattle.hg_kept.specs.declared.served.Replied.TheVariants.{Sent, NotStored}
 use Rattle.hg_http.specs.Bodies.{BodyView, given, told_of}
@@ -98,10 +99,10 @@ module _ {A D : Type 0} (seen : D → List ℕ) (may_leave : D → List ℕ → 
     took_all ended =
         let none : x.rest ≡ [] = subst (λ e. StopsBundle A e limits [] v.is.received.pieces x.consumed x.rest) ended
         v.is.received.stops in
-        let at_end : rest ≡ [] = subst (λ e. Ran e (told_of left)) ended v.ran in
+        let at_end : rest ≡ [] = subst (λ e. Ran e (told_of left)) ended v.flows.ran in
         ap (λ l. l ++ rest) none ∙ at_end
 
-    is_push : kept x.after x.rests → IsPush capacity first kept before body x
+    is_push : kept x.after x.sending.rests → IsPush capacity first kept before body x
     is_push are_kept = record {
       received = subst (λ l. IsReceived l [] x.reads x.ending x.parts x.consumed x.rest) same v.is.received;
       fresh = v.is.fresh;
@@ -111,9 +112,9 @@ module _ {A D : Type 0} (seen : D → List ℕ) (may_leave : D → List ℕ → 
       recorded = v.is.recorded;
       is_kept = are_kept;
       read = none_failed v.is.received.pieces x.ending
-          (subst AllGave v.is.received.reads_are (subst AllGave v.told (all_given left.bytes left.reads)));
+          (subst AllGave v.is.received.reads_are (subst AllGave v.flows.told (all_given left.bytes left.reads)));
       behind = x.rest ++ rest;
-      body_is = v.bytes ∙ (ap (λ l. l ++ rest) v.spelled ∙ append_assoc x.consumed x.rest rest);
+      body_is = v.flows.bytes ∙ (ap (λ l. l ++ rest) v.flows.spelled ∙ append_assoc x.consumed x.rest rest);
       whole = took_all;
     }
 
@@ -122,11 +123,11 @@ module _ {A D : Type 0} (seen : D → List ℕ) (may_leave : D → List ℕ → 
         IfSome r (λ told. told ≡ reply_of how)
     told_reply how sending sent None h = tt
     told_reply how sending sent (Some told) h =
-        h.0 ∙ (v.went ∙ sym (sent_all x.gone x.uses (reply_of how)
+        h.0 ∙ (v.flows.went ∙ sym (sent_all x.gone x.uses (reply_of how)
         (subst (λ s. IsSent s x.gone x.uses (reply_of how)) h.1 sent)))
 
     tells : {E : Type 0} (how : How A) (replied : Replied) → x.how ≡ how → x.after ≡ after →
-        Replies seen may_leave head stored first x.after x.rests (reply_of x.how) x.gone x.uses replied →
+        Replies seen may_leave head stored first x.after x.sending.rests (reply_of x.how) x.gone x.uses replied →
         (told : Result (Option (Told A)) E) → TellsRound how reply replied told →
         Pushed capacity first kept before body told after
     tells how NotStored is then replies (Ok told) t = absurd t
@@ -144,9 +145,10 @@ module _ {A D : Type 0} (seen : D → List ℕ) (may_leave : D → List ℕ → 
     )
 
     pub pushed : {E : Type 0} (ending : BundleEnd) (how : How A) (takes rests written : ℕ) (replied : Replied) →
-        TellsOfKept x ending how takes rests replied written after →
+        TellsOf x ending how takes (record { rests = rests; replied = replied }) written after →
         (told : Result (Option (Told A)) E) → TellsRound how reply replied told →
         Pushed capacity first kept before body told after
     pushed ending how takes rests written replied o told t =
-        tells how replied o.how_is o.after_is (subst (λ r. Replies seen may_leave head stored first x.after x.rests
-        (reply_of x.how) x.gone x.uses r) o.replied_is v.is.replies) told t
+        tells how replied o.how_is o.after_is (subst (λ r. Replies seen may_leave head stored first x.after x.sending.rests
+        (reply_of x.how) x.gone x.uses r) (ap (λ (s : KeptReply). s.replied) o.sending_is) v.is.replies)
+        told t

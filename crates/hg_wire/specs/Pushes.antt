@@ -46,9 +46,9 @@ pub record IsPush {A : Type 0} (capacity : ℕ) (first : RepositoryOf A)
     pub answers : IsAnswered capacity first x.push (push_items x.push x.parts (mark_of x.ending))
         before.history x.how x.takes x.after.history
     pub grows : before.receipt ≤ x.after.receipt
-    pub rests_on : RestsOn run_push first (newest_first x.after.history) x.push x.how x.rests
-    pub recorded : IsRecorded first x.after.history x.rests x.consumed x.how
-    pub is_kept : kept x.after x.rests
+    pub rests_on : RestsOn run_push first (newest_first x.after.history) x.push x.how x.sending.rests
+    pub recorded : IsRecorded first x.after.history x.sending.rests x.consumed x.how
+    pub is_kept : kept x.after x.sending.rests
     pub read : x.ending ≢ ReadFailed
     pub behind : List ℕ
     pub body_is : body ≡ x.consumed ++ behind

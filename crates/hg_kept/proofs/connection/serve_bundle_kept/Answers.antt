@@ -60,8 +60,7 @@ returns-clause-served g c =
         push = c.args.opened.sender.putter.push;
         how = how;
         takes = takes;
-        rests = rests;
-        replied = c.reply_kept-replied.result.0;
+        sending = record { rests = rests; replied = c.reply_kept-replied.result.0 };
         uses = w.uses;
         gone = w.gone;
         after = after;
@@ -81,26 +80,27 @@ returns-clause-served g c =
           grows = omega (arith, k.grows, ap (λ (v : KeptSeen g.row.A.Denot). v.receipt) c.of-client.ensures);
           replies = w.is;
         };
-        more = r.is.bundle.more;
-        spelled = r.is.bundle.spelled;
-        bytes = r.is.bundle.bytes;
-        told = r.is.bundle.told;
-        keeps = r.is.bundle.keeps;
-        ran = r.is.bundle.ran;
-        went = w.went;
-        used = w.used;
-        short = bundle_reply_short c.replies_are_short.ensures.done c.replies_are_short.ensures.aborted
-            c.parts_are_few.ensures c.args.server.now capacity first c.args.inbox.now r.is.bundle.reads
-            c.receive_kept-ending.result r.is.parts r.is.bundle.consumed r.is.bundle.rest
-            c.args.opened.sender.putter.push c.args.opened.sender.history how takes after.history
-            c.limits-limits.ensures.allowed r.is.bundle.received put;
+        flows = record {
+          more = r.is.bundle.more;
+          spelled = r.is.bundle.spelled;
+          bytes = r.is.bundle.bytes;
+          told = r.is.bundle.told;
+          keeps = r.is.bundle.keeps;
+          ran = r.is.bundle.ran;
+          went = w.went;
+          used = w.used;
+          short = bundle_reply_short c.replies_are_short.ensures.done c.replies_are_short.ensures.aborted
+              c.parts_are_few.ensures c.args.server.now capacity first c.args.inbox.now r.is.bundle.reads
+              c.receive_kept-ending.result r.is.parts r.is.bundle.consumed r.is.bundle.rest
+              c.args.opened.sender.putter.push c.args.opened.sender.history how takes after.history
+              c.limits-limits.ensures.allowed r.is.bundle.received put;
+        };
       },
       record {
         ending_is = refl;
         how_is = refl;
         takes_are = refl;
-        rests_are = refl;
-        replied_is = refl;
+        sending_is = refl;
         written_is = w.written_is;
         after_is = refl;
       },

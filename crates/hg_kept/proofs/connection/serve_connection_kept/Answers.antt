@@ -2,7 +2,8 @@ use Rattle.std.proofs.Common.{◌≡◌, ◌∙◌, refl, sym, arith}
 use Rattle.hg_ledger.specs.Clients.{KeptSeen, counted}
 use Rattle.hg_kept.proofs.Exchanges.{comes}
 use Rattle.hg_kept.proofs.Chains.{starts, can_add, at_end, at_failure, at_opening, at_most, at_fault}
-use Rattle.hg_kept.proofs.Chains.{goes_on, tells_own, ended_whole, fresh, as_was}
+use Rattle.hg_kept.proofs.Chains.{goes_on, tells_own, ended_whole, as_was}
+use Rattle.hg_connection.proofs.Receivings.{fresh}
 use Rattle.hg_kept.proofs.connection.serve_connection_kept.Goals as goal
 
 pub returns-in-Ends : goal.returns-in-Ends
@@ -35,9 +36,10 @@ returns-then-is_some g c =
     c.in-Comes.ensures.0 e.1 in
     at_fault c.args.server.now g.J.Naming.capacity g.J.Naming.first _ _ _ _ _ _ c.args.client c.bundles.client
     had c.serve_bundle_kept-seen.result.0 c.bundles.inbox c.serve_bundle_kept-seen.new.inbox
-    c.bundles.served c.more-served.result c.bundles.number r.answer r.ending r.rests r.replied r.written
+    c.bundles.served c.more-served.result c.bundles.number r.answer r.ending
+    (record { rests = r.rests; replied = r.replied }) r.written
     c.bundles.invariant.goes same own.own own.served
-    (tells_own e.0 own.own _ _ _ _ _ _ _ own.same e.2) c.more-served.ensures c.args.most c.bundles-test.true
+    (tells_own e.0 own.own _ _ _ _ _ _ own.same e.2) c.more-served.ensures c.args.most c.bundles-test.true
     (sym c.is_some.ensures ∙ c.if-is_some.true)
 
 pub bundles-preserved : goal.bundles-preserved
@@ -55,9 +57,9 @@ bundles-preserved g c =
       goes = goes_on c.args.server.now g.J.Naming.capacity g.J.Naming.first _ _ _ _ _ _ c.args.client
           c.bundles.client had c.serve_bundle_kept-seen.result.0 c.bundles.inbox
           c.serve_bundle_kept-seen.new.inbox c.bundles.served c.more-served.result c.bundles.number r.answer
-          r.ending r.rests r.replied r.written
+          r.ending (record { rests = r.rests; replied = r.replied }) r.written
           c.bundles.invariant.goes same own.own own.served
-          (tells_own e.0 own.own _ _ _ _ _ _ _ own.same e.2) c.more-served.ensures (sym c.is_some.ensures
+          (tells_own e.0 own.own _ _ _ _ _ _ own.same e.2) c.more-served.ensures (sym c.is_some.ensures
           ∙ c.if-is_some.false);
       bundle = record {
         empty = c.restart.ensures.empty;
@@ -106,6 +108,6 @@ more-served-requires-clause-fits g c =
     can_add c.args.server.now g.J.Naming.capacity g.J.Naming.first _ _ _ _ _ _ _ c.args.client
     c.bundles.client
     had c.serve_bundle_kept-seen.result.0 c.bundles.inbox c.next_bundle.new.inbox
-    c.serve_bundle_kept-seen.new.inbox c.bundles.served c.bundles.number e.0 _ _ _ _ _ _ c.bundles.invariant.goes e.1
+    c.serve_bundle_kept-seen.new.inbox c.bundles.served c.bundles.number e.0 _ _ _ _ _ c.bundles.invariant.goes e.1
     e.2
     (omega (arith, c.bundles-test.true, c.requires))
