@@ -170,7 +170,7 @@ fn is_refused(fault: Option<KeptFault>) -> bool {
     )
 }
 
-// Of five pushes, all memory of the heap is taken once the first was answered, or the second, and so on: behind a
+// Of five pushes, all memory of the heap is taken once the first was answered, or the second, and so on: after a
 // done push, and before its record is handed in. Result: so many pushes are done and kept, the store is whole, and
 // memory is refused for what comes next, the reply or the next push.
 #[test]

@@ -50,7 +50,7 @@ impl<'a> Read for Source<'a> {
     }
 }
 
-/// How many pushes were told as done, how many replies went out, and how many connections the store failed.
+/// How many pushes were reported as done, how many replies went out, and how many connections the store failed.
 struct Told {
     done: Mutex<usize>,
     replies: Mutex<usize>,

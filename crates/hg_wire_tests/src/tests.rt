@@ -1,4 +1,4 @@
-//! What no contract says: whole conversations of a real client, and that out of memory is told.
+//! What no contract says: whole conversations of a real client, and that out of memory is reported.
 
 ghost use Rattle.std.specs.Prelude.{◌≡◌, ◌≤◌};
 
@@ -56,7 +56,7 @@ impl<A: Allocator + Copy> Shown<A> for Words {
     }
 }
 
-/// Counts what it is told of.
+/// Counts what is reported to it.
 #[derive(Drop)]
 struct Tally {
     marked: usize,
@@ -139,7 +139,7 @@ const PLAIN: Way<'static> = Way {
 /// What is left after some connections.
 #[derive(Drop)]
 struct Left {
-    /// What was told on the last one.
+    /// What was answered on the last one.
     told: Vec<u8>,
     finish: Finish,
     tally: Tally,
@@ -276,8 +276,8 @@ fn served<R: RandomSource + Wait + Abort>(
     }
 }
 
-/// Serves connections in turn on a new server. Each is to be told what stands beside it, where the last is to be
-/// seen; then all pushes are on the device. Says how many there are.
+/// Serves connections in turn on a new server. Each is to be answered with what stands beside it, where the last is
+/// to be seen; then all pushes are on the device. Says how many there are.
 fn conversed<R: RandomSource + Wait + Abort>(
     rt: &R,
     alloc: Global,

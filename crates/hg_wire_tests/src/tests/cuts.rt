@@ -78,7 +78,7 @@ fn a_push_is_cut_at_each_byte(rt: HostRuntime) {
 }
 
 /// One byte of a conversation is another, at every third place and by turns with each of a few values:
-/// whatever is told begins as an answer, what is stored is what was done, and who comes then is served.
+/// whatever is sent begins as an answer, what is stored is what was done, and who comes then is served.
 #[test]
 fn a_conversation_is_damaged(rt: HostRuntime) {
     let alloc = rt.alloc();

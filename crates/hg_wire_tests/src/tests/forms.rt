@@ -42,7 +42,7 @@ fn arguments_stand_in_many_places(rt: HostRuntime) {
         // a cut within an escape
         "GET /?cmd=lookup HTTP/1.1\r\nhost: a\r\nx-hgarg-1: key=nu%\r\nx-hgarg-2: 6\r\n\
             x-hgarg-3: cl\r\n\r\n",
-        // a piece that is empty, and one behind a gap
+        // a piece that is empty, and one after a gap
         "GET /?cmd=lookup HTTP/1.1\r\nhost: a\r\nx-hgarg-1: key=nu\r\nx-hgarg-2:\r\nx-hgarg-3: ll\r\n\
             x-hgarg-5: x\r\n\r\n",
     ];
@@ -52,7 +52,7 @@ fn arguments_stand_in_many_places(rt: HostRuntime) {
     }
 }
 
-/// What is looked up, and the line that it is told.
+/// What is looked up, and the line that is the answer.
 #[test]
 fn keys_are_looked_up(rt: HostRuntime) {
     let alloc = rt.alloc();
@@ -156,7 +156,7 @@ fn namespaces_have_their_keys(rt: HostRuntime) {
     }
 }
 
-/// All that may stand in a batch, twice, after a first push: each is told of, in order and escaped.
+/// All that may stand in a batch, twice, after a first push: each is answered, in order and escaped.
 #[test]
 fn a_batch_of_all_that_reads(rt: HostRuntime) {
     let alloc = rt.alloc();

@@ -162,7 +162,7 @@ fn texts_of_no_form_are_taken(rt: HostRuntime) {
     assert_eq!(rt; map.len(), 6 * 41 + 1 + 4 + 7 + 2);
 }
 
-/// Branches whose names hold the bytes 9, 10, 13 and 0, and what else is quoted: each is told on a line of
+/// Branches whose names hold the bytes 9, 10, 13 and 0, and what else is quoted: each is given on a line of
 /// its own.
 #[test]
 fn branches_of_all_names_are_told(rt: HostRuntime) {

@@ -18,11 +18,11 @@ enum Came {
     Answered(Answered),
 }
 
-/// What was told.
+/// What was answered.
 #[derive(Drop)]
 struct Answered {
     told: Vec<u8>,
-    /// What was told to a connection after it, when the memory was there again.
+    /// What was answered on a connection after it, when the memory was there again.
     after: Vec<u8>,
 }
 
@@ -209,7 +209,7 @@ const NOT_OPENED: &[u8] =
     b"HTTP/1.1 200 OK\r\ncontent-type: application/hg-error\r\ncontent-length: 26\r\n\r\n\
     no push can be opened now\n";
 
-/// A push ended, and how is not told.
+/// A push ended, and how is not reported.
 const NO_ANSWER: &[u8] =
     b"HTTP/1.1 200 OK\r\ncontent-type: application/hg-error\r\ncontent-length: 34\r\n\r\n\
     there is no memory for the answer\n";
@@ -244,7 +244,7 @@ fn pushed(answer: &[u8], done: &[u8]) -> Option<Option<bool>> {
 }
 
 /// Heaps of rising size: one growth after another is refused, each request is answered all the same, and what
-/// a push is told is what comes of it.
+/// a push is answered is what comes of it.
 #[test]
 fn each_growth_is_refused(rt: HostRuntime) -> Result<(), Fail> {
     let alloc = rt.alloc();
@@ -325,7 +325,7 @@ const ALL: &[u8] =
     GET /?cmd=between HTTP/1.1\r\nhost: a\r\n\r\n\
     GET /metrics HTTP/1.1\r\nhost: a\r\n\r\n";
 
-/// What they are told, where there is memory.
+/// What they are answered, where there is memory.
 const TOLD_ALL: [&[u8]; 12] = [
     b"\r\n1\n",
     b"\r\n30b653f69f5c5d07bc0bd38d172d2c1224b7be72\n",
@@ -343,7 +343,7 @@ const TOLD_ALL: [&[u8]; 12] = [
 ];
 
 /// After a first push so many blocks of the heap are left: each request is answered, by what it asks for or
-/// that memory was refused. When the memory is there again, all is told.
+/// that memory was refused. When the memory is there again, all is answered.
 #[test]
 fn each_command_is_refused_memory(rt: HostRuntime) -> Result<(), Fail> {
     let alloc = rt.alloc();

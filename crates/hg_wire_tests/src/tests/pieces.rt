@@ -9,7 +9,7 @@ const HEAD: &str =
     "POST /?cmd=unbundle HTTP/1.1\r\nhost: a\r\ncontent-type: application/mercurial-0.1\r\n\
     x-hgarg-1: heads=666f726365\r\n";
 
-/// What a push of the bundle without parts is told.
+/// What a push of the bundle without parts is answered.
 const DONE: &[u8] =
     b"HTTP/1.1 200 OK\r\ncontent-type: application/mercurial-0.1\r\ncontent-length: 12\r\n\r\n\
     HG20\0\0\0\0\0\0\0\0";
@@ -108,7 +108,7 @@ fn a_connection_ends_within_a_body(rt: HostRuntime) {
     }
 }
 
-/// A body that is whole, and no whole bundle, cut at each byte: it is told so, and nothing is kept.
+/// A body that is whole, and no whole bundle, cut at each byte: it is answered so, and nothing is kept.
 #[test]
 fn a_bundle_is_cut_at_each_byte(rt: HostRuntime) {
     let alloc = rt.alloc();
@@ -265,7 +265,7 @@ fn a_body_without_room_ends_early(rt: HostRuntime) {
     assert!(rt; left.told.as_slice() == DONE);
 }
 
-/// Where the request asks to close, its answer is the last, and what is behind it is not looked at.
+/// Where the request asks to close, its answer is the last, and what comes after it is not looked at.
 #[test]
 fn a_body_without_room_is_the_last(rt: HostRuntime) {
     let alloc = rt.alloc();

@@ -67,7 +67,7 @@ fn request<R: Abort>(
 }
 
 /// Sends this after a first push, on a connection of its own, and the requests that come after it: the first
-/// is told so, the others as if it had not been there, and nothing more is stored.
+/// is answered so, the others as if it had not been there, and nothing more is stored.
 fn assert_refused<R: RandomSource + Wait + Abort>(
     rt: &R,
     alloc: Global,
@@ -243,7 +243,7 @@ fn long_batches_are_refused(rt: HostRuntime) {
     assert_refused(&rt, alloc, asked.as_slice(), BAD_BATCH);
 }
 
-/// Batches of 16 commands, and of 4 that look up a key, are told.
+/// Batches of 16 commands, and of 4 that look up a key, are answered.
 #[test]
 fn batches_at_the_bound_are_told(rt: HostRuntime) {
     let alloc = rt.alloc();
@@ -439,7 +439,7 @@ fn heads_of_requests_have_a_limit(rt: HostRuntime) {
     );
 }
 
-/// Is told that status, and nothing after it; then another client pushes.
+/// Is answered with that status, and nothing after it; then another client pushes.
 fn assert_closed<R: RandomSource + Wait + Abort>(
     rt: &R,
     alloc: Global,

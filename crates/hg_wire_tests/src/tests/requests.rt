@@ -154,7 +154,7 @@ const EMPTY: &[u8] = b"HG20\0\0\0\0\0\0\0\0";
 const TRUNCATED_REPLY: &[u8] =
     b"HG20\0\0\0\0\0\0\0\x2a\x0bERROR:ABORT\0\0\0\0\x01\0\x07\x0fmessagestream fault 10\0\0\0\0\0\0\0\0";
 
-/// A body that is no whole bundle is told so, and the connection goes on with the next request.
+/// A body that is no whole bundle is answered so, and the connection goes on with the next request.
 #[test]
 fn a_bundle_that_ends_early_is_answered(rt: HostRuntime) {
     let alloc = rt.alloc();
@@ -193,7 +193,7 @@ fn head_of<R: Abort>(rt: &R, alloc: Global, body: &[u8]) -> Vec<u8> {
     }
 }
 
-/// A key is set by a push of its own. A bookmark whose name would break a line is set, and not told.
+/// A key is set by a push of its own. A bookmark whose name would break a line is set, and not listed.
 #[test]
 fn a_key_is_set_once(rt: HostRuntime) {
     let alloc = rt.alloc();

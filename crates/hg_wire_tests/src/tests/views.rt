@@ -2,7 +2,7 @@
 
 use super::*;
 
-/// What is told to one request on a connection of its own, after a first push.
+/// What is answered to one request on a connection of its own, after a first push.
 fn told_to<R: RandomSource + Wait + Abort>(
     rt: &R,
     alloc: Global,
