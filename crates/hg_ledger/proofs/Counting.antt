@@ -1,71 +1,97 @@
 -- Each step keeps a tally.
-use Rattle.std.proofs.Common.{◌≡◌, ◌≢◌, ◌⊎◌, ℕ, zero, suc, ◌≤◌, List, [], ◌∷◌, set}
-use Rattle.std.proofs.Common.{true, false, true≢false, refl, sym, ◌∙◌, subst, ⊎_elim, arith}
+use Rattle.std.proofs.Common.{◌≡◌, ◌≢◌, ◌⊎◌, ℕ, zero, suc, List, [], ◌∷◌, ◌++◌, set}
+use Rattle.std.proofs.Common.{true, false, true≢false, refl, sym, ◌∙◌, subst, ⊎_elim}
+use Rattle.std.specs.Prelude.{All, Contains}
+use Rattle.std.proofs.lemmas.List.Elements.{All-append, All-contains_itself, All-weaker, All-nil}
+use Rattle.std.proofs.lemmas.List.Elements.{Contains-append_left}
 use mathlib.Core.Option.{none, some, some-ne-none, some-injective}
 use lib.ListN.{get_elem?}
 use Rattle.atomic_table.specs.Table.{Me, step, keeps, opening, Allows, Splits, Joins}
 use Rattle.atomic_table.proofs.Lists.{at_set, at_snoc, set_again}
-use Rattle.hg_ledger.specs.declared.tally.Known.{Known}
-use Rattle.hg_ledger.specs.code.Tallies.{keeper, told, KnownFits, IsTallied, raised, heard_from, united, compared}
+use Rattle.hg_ledger.specs.declared.known.Known.{Known}
+use Rattle.hg_ledger.specs.Promises.{Promise}
+use Rattle.hg_ledger.specs.code.Tallies.{AreAmong, IsTallied, KnownFits, keeper, told, one_more}
+use Rattle.hg_ledger.specs.code.Tallies.{raised, heard_from, united, compared}
 
 off : false ≡ true → ⊥
 off e = true≢false (sym e)
 
-pub begins : (words : List ℕ) → IsTallied (opening words [] (keeper 0))
-begins words = (0, 0, one)
+none_among : (all : List Promise) → AreAmong [] all
+none_among all = All-nil (Contains all)
+
+itself_among : (all : List Promise) → AreAmong all all
+itself_among all = All-contains_itself all
+
+-- a list that grew has what it had
+grown : (all promises : List Promise) (count moment : ℕ) → AreAmong promises all
+    → AreAmong promises (one_more all count moment)
+grown all promises count moment low =
+    All-weaker (Contains all) (Contains (one_more all count moment))
+    (λ p c. Contains-append_left all _ p c) promises low
+
+pub begins : (words : List ℕ) → IsTallied (opening words [] (keeper []))
+begins words = (0, [], one)
   where
-    one : (at : ℕ) (v : Known) → get_elem? (keeper 0 ∷ []) at ≡ some v → KnownFits 0 0 at v
-    one zero v e = subst (KnownFits 0 0 0) (some-injective _ _ e)
-        (record { kept = λ _. (refl, refl); low = omega arith; heard = omega arith })
+    one : (at : ℕ) (v : Known) → get_elem? (keeper [] ∷ []) at ≡ some v → KnownFits 0 [] at v
+    one zero v e = subst (KnownFits 0 [] 0) (some-injective _ _ e)
+        (record { kept = λ _. (refl, refl); low = none_among []; heard = none_among [] })
     one (suc at) v e = absurd (some-ne-none v (sym e))
 
-fits_set : (seat count now : ℕ) (views : List Known) (id : ℕ) (w : Known)
+fits_set : (seat : ℕ) (now : List Promise) (views : List Known) (id : ℕ) (w : Known)
     → ((j : ℕ) (u : Known) → j ≢ id → get_elem? views j ≡ some u → KnownFits seat now j u) → KnownFits seat now id w
     → (j : ℕ) (u : Known) → get_elem? (set views id w) j ≡ some u → KnownFits seat now j u
-fits_set seat count now views id w others mine j u e =
+fits_set seat now views id w others mine j u e =
     ⊎_elim
     (λ (x : (j ≡ id) × (w ≡ u)). subst (λ (y : ℕ × Known). KnownFits seat now y.0 y.1) (λ i. (sym x.0 i, x.1 i)) mine)
     (λ (x : (j ≢ id) × (get_elem? views j ≡ some u)). others j u x.0 x.1)
     (at_set views id j w u e)
 
-pub raises : (slots id : ℕ) (me : Me (Unit {0}) Known) (new : ℕ) → me.0.is_keeper ≡ true → me.0.least ≤ new
-    → Allows IsTallied slots id me 0 (λ _. new) (λ _. raised (step slots 0 new 0 none) me new)
-raises slots id me new keeps_it low s r homes at small =
+-- one that knows nothing
+spent_fits : (seat : ℕ) (all : List Promise) (at : ℕ) → KnownFits seat all at (told [])
+spent_fits seat all at =
+    record { kept = λ k. absurd (off k); low = none_among all; heard = none_among all }
+
+pub raises : (moment slots id : ℕ) (me : Me (Unit {0}) Known) (new : ℕ) → me.0.is_keeper ≡ true
+    → Allows IsTallied slots id me 0 (λ _. new) (λ _. raised moment (step slots 0 new 0 none) me new)
+raises moment slots id me new keeps_it s r homes at small =
     let mine = r.2 id me.0 at in
     let known = mine.kept keeps_it in
-    let w : Known = record { is_keeper = me.0.is_keeper; least = new; heard = 0 } in (
+    let more : List Promise = one_more me.0.promises new moment in
+    let w : Known = record { is_keeper = me.0.is_keeper; promises = more; heard = [] } in
+    let on : (promises : List Promise) → AreAmong promises r.1 → AreAmong promises more =
+    λ promises low. grown me.0.promises promises new moment (subst (AreAmong promises) (sym known.1) low) in (
       w,
       keeps,
       tt,
       (
         r.0,
-        new,
-        fits_set r.0 r.1 new s.views id w
+        more,
+        fits_set r.0 more s.views id w
             (λ j u apart e.
             let f = r.2 j u e in
             record {
               kept = λ k. absurd (apart ((f.kept k).0 ∙ sym known.0));
-              low = omega (arith, f.low, known.1, low);
-              heard = omega (arith, f.heard, known.1, low);
+              low = on u.promises f.low;
+              heard = on u.heard f.heard;
             })
-            (record { kept = λ _. (known.0, refl); low = omega arith; heard = omega arith }),
+            (record { kept = λ _. (known.0, refl); low = itself_among more; heard = none_among more }),
       ),
       refl,
     )
 
-pub copies : (id : ℕ) (v : Known) → Splits IsTallied id v v (told v.least)
+pub copies : (id : ℕ) (v : Known) → Splits IsTallied id v v (told v.promises)
 copies id v s r at =
     let mine = r.2 id v at in (
       r.0,
       r.1,
       λ j u e. ⊎_elim
           (λ was. r.2 j u (subst (λ l. get_elem? l j ≡ some u) (set_again s.views id v at) was))
-          (λ (same : told v.least ≡ u). subst (KnownFits r.0 r.1 j) same
-          (record { kept = λ k. absurd (off k); low = mine.low; heard = omega arith }))
-          (at_snoc (set s.views id v) (told v.least) u j e),
+          (λ (same : told v.promises ≡ u). subst (KnownFits r.0 r.1 j) same
+          (record { kept = λ k. absurd (off k); low = mine.low; heard = none_among r.1 }))
+          (at_snoc (set s.views id v) (told v.promises) u j e),
     )
 
-pub hears : (id : ℕ) (v : Known) (other : ℕ) (w : Known) → Joins IsTallied id v other w (heard_from v w) (told 0)
+pub hears : (id : ℕ) (v : Known) (other : ℕ) (w : Known) → Joins IsTallied id v other w (heard_from v w) (told [])
 hears id v other w s r at apart there =
     let mine = r.2 id v at in
     let both : Known = heard_from v w in
@@ -75,13 +101,13 @@ hears id v other w s r at apart there =
     (at_set s.views id other both w there) in (
       r.0,
       r.1,
-      fits_set r.0 r.1 r.1 (set s.views id both) other (told 0)
-          (λ j u _ e. fits_set r.0 r.1 r.1 s.views id both (λ i y _ e'. r.2 i y e')
+      fits_set r.0 r.1 (set s.views id both) other (told [])
+          (λ j u _ e. fits_set r.0 r.1 s.views id both (λ i y _ e'. r.2 i y e')
           (record { kept = mine.kept; low = mine.low; heard = theirs.low }) j u e)
-          (record { kept = λ k. absurd (off k); low = omega arith; heard = omega arith }),
+          (spent_fits r.0 r.1 other),
     )
 
-pub unites : (id : ℕ) (v : Known) (other : ℕ) (w : Known) → Joins IsTallied id v other w (united v w) (told 0)
+pub unites : (id : ℕ) (v : Known) (other : ℕ) (w : Known) → Joins IsTallied id v other w (united v w) (told [])
 unites id v other w s r at apart there =
     let mine = r.2 id v at in
     let both : Known = united v w in
@@ -91,14 +117,14 @@ unites id v other w s r at apart there =
     (at_set s.views id other both w there) in (
       r.0,
       r.1,
-      fits_set r.0 r.1 r.1 (set s.views id both) other (told 0)
-          (λ j u _ e. fits_set r.0 r.1 r.1 s.views id both (λ i y _ e'. r.2 i y e')
+      fits_set r.0 r.1 (set s.views id both) other (told [])
+          (λ j u _ e. fits_set r.0 r.1 s.views id both (λ i y _ e'. r.2 i y e')
           (record {
-            kept = λ k. ((mine.kept k).0, omega (arith, (mine.kept k).1, theirs.low));
-            low = omega (arith, mine.low, theirs.low);
-            heard = mine.heard;
+            kept = λ k. absurd (off k);
+            low = All-append (Contains r.1) v.promises w.promises mine.low theirs.low;
+            heard = none_among r.1;
           }) j u e)
-          (record { kept = λ k. absurd (off k); low = omega arith; heard = omega arith }),
+          (spent_fits r.0 r.1 other),
     )
 
 pub compares : (slots id : ℕ) (me : Me (Unit {0}) Known)
@@ -113,5 +139,5 @@ compares slots id me s r homes at small =
         r.1,
         λ j u e. r.2 j u (subst (λ l. get_elem? l j ≡ some u) (set_again s.views id me.0 at) e),
       ),
-      (refl, λ k. omega (arith, (mine.kept k).1, mine.heard)),
+      (refl, λ k. subst (AreAmong me.0.heard) (sym (mine.kept k).1) mine.heard),
     )

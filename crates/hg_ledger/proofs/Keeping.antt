@@ -51,7 +51,7 @@ module _ {A D : Type 0} (seen : D → List ℕ) (may_leave : D → List ℕ → 
       number = length-append k.records batch ∙ ap (λ n. n + length batch) k.number;
     }
 
-    pub are_kept : (h : List (Taken A)) (count : ℕ) (log : Log D)
+    abbrev pub are_kept : (h : List (Taken A)) (count : ℕ) (log : Log D)
         → KeepsRecords seen may_leave head stored first h count log → AreKept seen may_leave head stored first h count
     are_kept h count log k = record {
       log = log;
@@ -61,7 +61,7 @@ module _ {A D : Type 0} (seen : D → List ℕ) (may_leave : D → List ℕ → 
       each = front first h 0 count k.records k.each;
     }
 
-    pub none_kept : (h h' : List (Taken A)) → AreKept seen may_leave head stored first h 0
+    abbrev pub none_kept : (h h' : List (Taken A)) → AreKept seen may_leave head stored first h 0
         → AreKept seen may_leave head stored first h' 0
     none_kept h h' k = record {
       log = k.log;
@@ -71,7 +71,7 @@ module _ {A D : Type 0} (seen : D → List ℕ) (may_leave : D → List ℕ → 
       each = tt;
     }
 
-    pub kept_on : (h h' : List (Taken A)) (count : ℕ)
+    abbrev pub kept_on : (h h' : List (Taken A)) (count : ℕ)
         → ((k : ℕ) (bytes : List ℕ) → IsRecordOf first h k bytes → IsRecordOf first h' k bytes)
         → AreKept seen may_leave head stored first h count → AreKept seen may_leave head stored first h' count
     kept_on h h' count moves k = record {
@@ -83,7 +83,7 @@ module _ {A D : Type 0} (seen : D → List ℕ) (may_leave : D → List ℕ → 
     }
 
     -- by a shorter history, of so many pushes as are done in it
-    pub kept_back : (h h' : List (Taken A)) (count rests done : ℕ) → rests ≤ count → rests ≤ done
+    abbrev pub kept_back : (h h' : List (Taken A)) (count rests done : ℕ) → rests ≤ count → rests ≤ done
         → ((k : ℕ) (bytes : List ℕ) → k < done → IsRecordOf first h k bytes → IsRecordOf first h' k bytes)
         → AreKept seen may_leave head stored first h count → AreKept seen may_leave head stored first h' rests
     kept_back h h' count rests done low few moves k =

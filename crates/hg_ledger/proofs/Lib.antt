@@ -1,5 +1,6 @@
 mod Staying
 mod Lists
 mod Keeping
+mod Covering
 mod Living
 mod Counting

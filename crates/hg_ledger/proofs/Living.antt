@@ -2,6 +2,8 @@
 use Rattle.std.proofs.Common.{inl, inr, ⊎_elim, ℕ, ◌≡◌, ◌≤◌, ◌<◌, ◌+◌, List, [], ◌∷◌, ◌++◌, refl, sym, ◌∙◌, ap, subst, arith}
 use Rattle.std.proofs.Common.{length, length-append, append_assoc, take}
 use Rattle.std.specs.List.{AllByRecursion}
+use Rattle.std.specs.Prelude.{All}
+use Rattle.std.proofs.lemmas.List.Elements.{All-weaker}
 use Rattle.hg_types.specs.declared.item.Taken.{Taken}
 use Rattle.hg_types.specs.Limits.{IsAllowed}
 use Rattle.hg_store.specs.declared.head.Head.{Head}
@@ -12,7 +14,8 @@ use Rattle.hg_store.specs.Log.{IsBeforeOrAfter, at_rest}
 use Rattle.hg_store.specs.Records.{IsRecord, shut}
 use Rattle.hg_push.specs.Run.{RepositoryOf}
 use mathlib.Core.List.{IsPrefix}
-use Rattle.hg_ledger.specs.Lives.{AreWrites, Before, IsFront, Lives, StillHas}
+use Rattle.hg_ledger.specs.Lives.{AreWrites, Before, IsFront, IsKeptSince, IsLeftSince, Lives, StillHas}
+use Rattle.hg_ledger.specs.Promises.{Promise}
 use Rattle.hg_ledger.specs.Records.{AreRecordsFrom, IsRecordOf, KeepsRecords, done_in}
 use Rattle.hg_ledger.proofs.Lists.{each_moves, each_moves_below, front, joined, length-front}
 
@@ -44,12 +47,12 @@ module _ {A : Type 0} (head : Head) (stored : List (List ℕ)) (first : Reposito
       → IsRecordOf first before k bytes → IsRecordOf first after k bytes)
       → (earlier : (before after : List (Taken A)) (k : ℕ) (bytes : List ℕ) → IsPrefix before after
       → k < done_in first before → IsRecordOf first after k bytes → IsRecordOf first before k bytes)
-      → (client witness whole : List (Taken A)) (rests receipt kept : ℕ) (file : List ℕ)
-      → IsPrefix client whole → IsPrefix witness whole → rests ≤ done_in first client → rests ≤ receipt
-      → receipt ≤ kept → IsFront head stored first witness kept file
+      → (client witness whole : List (Taken A)) (rests count : ℕ) (file : List ℕ)
+      → IsPrefix client whole → IsPrefix witness whole → rests ≤ done_in first client → rests ≤ count
+      → IsFront head stored first witness count file
       → StillHas head stored first client rests file
-  still_has later earlier client witness whole rests receipt kept file mine theirs done low few f =
-      let all : rests ≤ length f.records = omega (arith, low, few, f.enough) in
+  still_has later earlier client witness whole rests count file mine theirs done low f =
+      let all : rests ≤ length f.records = omega (arith, low, f.enough) in
       record {
         records = f.records;
         stands = f.stands;
@@ -166,6 +169,73 @@ module _ {A D : Type 0} (moment : D → ℕ) (left_since : D → ℕ → List �
     lives_failed h count old new counts_now l run =
         lives_after h count count old new l run
         (λ file left. run.each file (counts_now (moment old) file run.later left))
+
+module _ {A D : Type 0} (moment : D → ℕ) (left_since : D → ℕ → List ℕ → Type 0) (head : Head)
+    (stored : List (List ℕ)) (first : RepositoryOf A)
+  where
+    -- promises, as the journal goes on
+    pub promises_on : (h h' : List (Taken A)) (count : ℕ) (device : D)
+        → ((k : ℕ) (bytes : List ℕ) → IsRecordOf first h k bytes → IsRecordOf first h' k bytes)
+        → (promises : List Promise) → All (IsKeptSince moment left_since head stored first h count device) promises
+        → All (IsKeptSince moment left_since head stored first h' count device) promises
+    promises_on h h' count device moves =
+        All-weaker (IsKeptSince moment left_since head stored first h count device)
+        (IsKeptSince moment left_since head stored first h' count device)
+        (λ p k. record {
+          reached = k.reached;
+          few = k.few;
+          left = λ file left. front_on head stored first h h' p.count file moves (k.left file left);
+        })
+
+    -- after calls that left so many records at each moment
+    pub promises_after : (h : List (Taken A)) (count more : ℕ) (old new : D) → count ≤ more
+        → LeavesOnly moment left_since old new (IsFront head stored first h count)
+        → (promises : List Promise) → All (IsKeptSince moment left_since head stored first h count old) promises
+        → All (IsKeptSince moment left_since head stored first h more new) promises
+    promises_after h count more old new low run =
+        All-weaker (IsKeptSince moment left_since head stored first h count old)
+        (IsKeptSince moment left_since head stored first h more new)
+        (λ p k. record {
+          reached = omega (arith, k.reached, run.later);
+          few = omega (arith, k.few, low);
+          left = λ file left. ⊎_elim (k.left file)
+              (fewer head stored first h count p.count file k.few)
+              (run.before p.moment file k.reached left);
+        })
+
+    -- one of all that is there now
+    pub promise_now : (may_leave : D → List ℕ → Type 0) (h : List (Taken A)) (count : ℕ) (device : D)
+        → ((file : List ℕ) → left_since device (moment device) file → may_leave device file)
+        → ((file : List ℕ) → may_leave device file → IsFront head stored first h count file)
+        → IsKeptSince moment left_since head stored first h count device
+        (record { count = count; moment = moment device })
+    promise_now may_leave h count device only_now now = record {
+      reached = omega arith;
+      few = omega arith;
+      left = λ file left. now file (only_now file left);
+    }
+
+    -- by the history of a client
+    pub left_since_then : (later : (before after : List (Taken A)) (k : ℕ) (bytes : List ℕ) → IsPrefix before after
+        → IsRecordOf first before k bytes → IsRecordOf first after k bytes)
+        → (earlier : (before after : List (Taken A)) (k : ℕ) (bytes : List ℕ) → IsPrefix before after
+        → k < done_in first before → IsRecordOf first after k bytes → IsRecordOf first before k bytes)
+        → (may_leave : D → List ℕ → Type 0)
+        → (client witness whole : List (Taken A)) (kept : ℕ) (device : D) (promise : Promise)
+        → ((t : ℕ) (file : List ℕ) → t ≤ moment device → may_leave device file → left_since device t file)
+        → IsPrefix client whole → IsPrefix witness whole
+        → IsKeptSince moment left_since head stored first witness kept device promise
+        → IsLeftSince moment left_since may_leave head stored first client device promise
+    left_since_then later earlier may_leave client witness whole kept device promise counts_now mine theirs k =
+        let has : (rests : ℕ) → rests ≤ done_in first client → rests ≤ promise.count → (file : List ℕ)
+        → left_since device promise.moment file → StillHas head stored first client rests file =
+        λ rests done low file left. still_has head stored first later earlier client witness whole rests
+        promise.count file mine theirs done low (k.left file left) in
+        record {
+          reached = k.reached;
+          since = has;
+          now = λ rests done low file left. has rests done low file (counts_now promise.moment file k.reached left);
+        }
 
 all_weaker : {X : Type 0} (P Q : X → Type 0) → ((x : X) → P x → Q x) → (xs : List X) → AllByRecursion P xs
     → AllByRecursion Q xs

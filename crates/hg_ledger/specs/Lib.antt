@@ -1,4 +1,5 @@
 pub mod Records
+pub mod Promises
 pub mod Clients
 pub mod Locks
 pub mod Lives

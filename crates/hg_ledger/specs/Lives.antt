@@ -6,7 +6,8 @@ use Rattle.hg_store.specs.declared.head.Head.{Head}
 use Rattle.hg_store.specs.Device.{LeavesOnly}
 use Rattle.hg_store.specs.Files.{StandsFor}
 use Rattle.hg_push.specs.Run.{RepositoryOf}
-use Rattle.hg_ledger.specs.Records.{AreRecordsFrom}
+use Rattle.hg_ledger.specs.Promises.{Promise}
+use Rattle.hg_ledger.specs.Records.{AreRecordsFrom, done_in}
 
 -- The file stands for the records that the log was opened with and, after them, those of the first pushes of
 -- the journal, none skipped: so many at least.
@@ -34,6 +35,27 @@ pub record Lives {A D : Type 0} (moment : D → ℕ) (left_since : D → ℕ →
   pub later : opened ≤ moment device
   pub always : (file : List ℕ) → left_since device opened file → IsFront head stored first h 0 file
   pub now : (file : List ℕ) → may_leave device file → IsFront head stored first h count file
+
+-- A promise of a device that so many records were brought to is kept: its moment was reached, it is of no more
+-- records, and whatever an end might have left since that moment is a front of the journal with as many as it says.
+pub record IsKeptSince {A D : Type 0} (moment : D → ℕ) (left_since : D → ℕ → List ℕ → Type 0) (head : Head)
+    (stored : List (List ℕ)) (first : RepositoryOf A) (h : List (Taken A)) (count : ℕ) (device : D)
+    (promise : Promise) : Type 0 where
+  pub reached : promise.moment ≤ moment device
+  pub few : promise.count ≤ count
+  pub left : (file : List ℕ) → left_since device promise.moment file
+      → IsFront head stored first h promise.count file
+
+-- Whatever an end might have left since the moment of a promise, and what one leaves from now on, has the records of
+-- the first pushes that are done in this history: any number of these that the promise counts.
+pub record IsLeftSince {A D : Type 0} (moment : D → ℕ) (left_since : D → ℕ → List ℕ → Type 0)
+    (may_leave : D → List ℕ → Type 0) (head : Head) (stored : List (List ℕ)) (first : RepositoryOf A)
+    (h : List (Taken A)) (device : D) (promise : Promise) : Type 0 where
+  pub reached : promise.moment ≤ moment device
+  pub since : (rests : ℕ) → rests ≤ done_in first h → rests ≤ promise.count → (file : List ℕ)
+      → left_since device promise.moment file → StillHas head stored first h rests file
+  pub now : (rests : ℕ) → rests ≤ done_in first h → rests ≤ promise.count → (file : List ℕ)
+      → may_leave device file → StillHas head stored first h rests file
 
 -- A device before a write: how many records of pushes were on it, by that history.
 pub record Before (A D : Type 0) : Type 0 where

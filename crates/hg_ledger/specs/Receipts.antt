@@ -1,12 +1,13 @@
--- What receipts count, and what it is compared with.
-use Rattle.std.specs.Prelude.{ℕ, ◌≡◌}
+-- What a tally promised.
+use Rattle.std.specs.Prelude.{ℕ, ◌≡◌, List}
 use Rattle.atomic_table.specs.Seated.{TableId}
+use Rattle.hg_ledger.specs.Promises.{Promise}
 
--- Which tally it is: no other has that name. How many records were brought to its device. And the name by which rooms
+-- Which tally it is: no other has that name. And all that was promised, the latest last. And the name by which rooms
 -- for records are counted, and how many parts that has.
 pub record TallyView : Type 0 where
   pub id : TableId
-  pub count : ℕ
+  pub promises : List Promise
   pub name : ℕ
   pub parts : ℕ
 

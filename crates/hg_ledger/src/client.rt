@@ -1,7 +1,7 @@
 //! A client of a server that keeps its pushes, with the receipt for all that it was answered.
 
-ghost use Rattle.std.specs.Prelude.{◌≡◌, max};
-ghost use Rattle.hg_ledger.specs.Clients.{counted};
+ghost use Rattle.std.specs.Prelude.{◌≡◌, ◌++◌, []};
+ghost use Rattle.hg_ledger.specs.Clients.{promised};
 
 use crate::storing::Storing;
 use crate::tally::{OpenTally, Receipt};
@@ -9,25 +9,25 @@ use hg_serve::Client;
 use std::alloc::{Allocator, Global};
 use std::marker::Model;
 
-/// A client, and its receipt once it has one. Contracts see the history that it has seen, and how many records the
-/// receipt counts.
+/// A client, and its receipt once it has one. Contracts see the history that it has seen, and the promises of the
+/// receipt.
 pub struct KeptClient<J: Storing<A>, A: Allocator = Global> {
     pub(crate) client: Client<J, A>,
     receipt: Option<Receipt<J, A>>,
 }
 
 impl<J: Storing<A>, A: Allocator> Model for KeptClient<J, A> {
-    ghost use Rattle.hg_ledger.specs.Clients.{KeptSeen, counted};
+    ghost use Rattle.hg_ledger.specs.Clients.{KeptSeen, promised};
 
     ghost Value = { KeptSeen A };
 
-    ghost view = { λ c. record { history = c.client; receipt = counted c.receipt } };
+    ghost view = { λ c. record { history = c.client; receipt = promised c.receipt } };
 }
 
 impl<J: Storing<A>, A: Allocator> KeptClient<J, A> {
     /// A client that has no receipt yet.
     pub fn new(client: Client<J, A>) -> Self
-        ensures { result ≡ record { history = client; receipt = 0 } }
+        ensures { result ≡ record { history = client; receipt = [] } }
     {
         KeptClient {
             client,
@@ -37,23 +37,23 @@ impl<J: Storing<A>, A: Allocator> KeptClient<J, A> {
 
     /// A client with its receipt, if it has one.
     pub fn of(client: Client<J, A>, receipt: Option<Receipt<J, A>>) -> Self
-        ensures { result ≡ record { history = client; receipt = counted receipt } }
+        ensures { result ≡ record { history = client; receipt = promised receipt } }
     {
         KeptClient { client, receipt }
     }
 
     /// The client, and its receipt, which may be compared with the tally.
     pub fn into_parts(self) -> (Client<J, A>, Option<Receipt<J, A>>)
-        ensures { (result.0 ≡ self.history) × (counted result.1 ≡ self.receipt) }
+        ensures { (result.0 ≡ self.history) × (promised result.1 ≡ self.receipt) }
     {
         let KeptClient { client, receipt } = self;
         (client, receipt)
     }
 
-    /// Takes a further receipt: what the client has counts as much as both then.
+    /// Takes a further receipt: what the client has then has the promises of both.
     pub(crate) fn take_in(&mut self, tally: &OpenTally<J, A>, receipt: Receipt<J, A>)
         ensures same { self.new.history ≡ self.old.history }
-        ensures counts { self.new.receipt ≡ max self.old.receipt receipt }
+        ensures both { self.new.receipt ≡ self.old.receipt ++ receipt }
     {
         let receipt = match self.receipt.take() {
             Some(mut held) => {

@@ -1,12 +1,14 @@
 //! The device under its lock, with the records that are on it and the batch that is written next.
 
-ghost use Rattle.std.specs.Prelude.{◌≡◌, ◌≤◌, ◌<◌, ◌+◌, ◌++◌, ◌∷◌, [], false, true, length, IfOk, IfErr, IfSome};
+ghost use Rattle.std.specs.Prelude.{◌≡◌, ◌≤◌, ◌<◌, ◌+◌, ◌++◌, ◌∷◌, [], false, true, length};
+ghost use Rattle.std.specs.Prelude.{All, IfOk, IfErr, IfSome};
 ghost use mathlib.Core.List.{IsPrefix};
 ghost use Rattle.hg_types.specs.Limits.{IsAllowed};
 ghost use Rattle.hg_store.specs.Device.{LeavesOnly};
 ghost use Rattle.hg_store.specs.Log.{IsSettled};
-ghost use Rattle.hg_ledger.specs.Lives.{IsFront, Lives};
-ghost use Rattle.hg_ledger.specs.Records.{AreKept, IsRecordOf, KeepsRecords};
+ghost use Rattle.hg_ledger.specs.Clients.{IsCovered};
+ghost use Rattle.hg_ledger.specs.Lives.{IsFront, IsKeptSince, Lives};
+ghost use Rattle.hg_ledger.specs.Records.{IsRecordOf, KeepsRecords};
 
 use crate::laws::records_stay;
 use crate::storing::Storing;
@@ -26,8 +28,8 @@ const MOST: usize = 1 << 62;
 
 /// The device, how many records are on it after those that it was opened with, and a batch that is not
 /// written yet. The records and the batch are, in order, the bundles of the first pushes of the journal that
-/// the witness has seen. The keeper of the tally has counted as many. After a write or a sync that failed the
-/// device is not called again.
+/// the witness has seen. Each promise of the tally is kept, and unless it is broken the keeper has one of all these
+/// records, at this moment. After a write or a sync that failed the device is not called again.
 pub struct Disk<J: Storing<A>, D: Device, A: Allocator = Global> {
     log: Log<D>,
     count: usize,
@@ -38,8 +40,8 @@ pub struct Disk<J: Storing<A>, D: Device, A: Allocator = Global> {
 }
 
 impl<J: Storing<A>, D: Device, A: Allocator> Model for Disk<J, D, A> {
-    ghost use Rattle.std.specs.Prelude.{◌≡◌, ◌-◌, false, vec_len, vec_capacity};
-    ghost use Rattle.hg_ledger.specs.Lives.{Lives};
+    ghost use Rattle.std.specs.Prelude.{◌≡◌, ◌-◌, false, All, Contains, vec_len, vec_capacity};
+    ghost use Rattle.hg_ledger.specs.Lives.{IsKeptSince, Lives};
     ghost use Rattle.hg_ledger.specs.Locks.{DiskView};
     ghost use Rattle.hg_ledger.specs.Records.{AreRecordsFrom, KeepsRecords};
     ghost use Rattle.hg_types.specs.Limits.{IsAllowed};
@@ -60,11 +62,13 @@ impl<J: Storing<A>, D: Device, A: Allocator> Model for Disk<J, D, A> {
         × AreRecordsFrom J.first d.witness d.count d.batch.items
         × Lives D.moment D.left_since D.may_leave J.head J.stored J.first J.opened d.witness d.count
         d.log.device
-        × (d.keeper ≡ d.count) };
+        × All (IsKeptSince D.moment D.left_since J.head J.stored J.first d.witness d.count d.log.device) d.keeper
+        × (d.is_broken ≡ false →
+        Contains d.keeper (record { count = d.count; moment = D.moment d.log.device })) };
 }
 
 impl<J: Storing<A>, D: Device, A: Allocator + Copy> Disk<J, D, A> {
-    /// A device with what it was opened with, and the keeper of a tally that has counted nothing.
+    /// A device with what it was opened with, and the keeper of a tally that promised no more.
     pub fn new(
         alloc: A,
         log: Log<D>,
@@ -74,7 +78,7 @@ impl<J: Storing<A>, D: Device, A: Allocator + Copy> Disk<J, D, A> {
         requires settled { IsSettled D.seen D.may_leave J.head J.stored log }
         requires opened { J.opened ≡ D.moment log.device }
         requires allowed { IsAllowed J.first.settings.limits }
-        requires nothing { keeper ≡ 0 }
+        requires nothing { keeper ≡ record { count = 0; moment = D.moment log.device } ∷ [] }
         ensures made { IfOk result (λ disk. (disk.device ≡ log.device) × (disk.count ≡ 0) × (disk.batch ≡ [])
             × (disk.is_broken ≡ false) × (disk.history ≡ witness)) }
         ensures refused { IfErr result (λ back. back ≡ (log, witness, keeper)) }
@@ -139,18 +143,12 @@ impl<J: Storing<A>, D: Device, A: Allocator + Copy> Disk<J, D, A> {
         server.meet(rt, &mut self.witness, client);
     }
 
-    /// What it has is on the device.
-    pub fn kept(&self)
-        requires { self.now.is_broken ≡ false }
-        ensures { AreKept D.seen D.may_leave J.head J.stored J.first self.now.history self.now.count }
-    {
-        let _witness = &self.witness;
-    }
-
     /// A receipt for all that is on the device.
     pub fn counted(&mut self, tally: &OpenTally<J, A>) -> Receipt<J, A>
+        requires { self.old.is_broken ≡ false }
         ensures same { self.new ≡ self.old }
-        ensures counted { result ≡ self.old.count }
+        ensures covered { IsCovered D.seen D.may_leave D.moment J.head J.stored J.first
+            (record { history = self.old.history; receipt = result }) self.old.count }
     {
         tally.receipt(&mut self.keeper)
     }
@@ -166,7 +164,7 @@ impl<J: Storing<A>, D: Device, A: Allocator + Copy> Disk<J, D, A> {
         self.batch.push_reserved(bytes);
     }
 
-    /// Writes the batch, syncs and counts it, and asks for no memory. Where that fails, the device is broken from
+    /// Writes the batch, syncs it and promises it, and asks for no memory. Where that fails, the device is broken from
     /// then on.
     pub fn write(&mut self, tally: &OpenTally<J, A>)
         ensures lasting { self.old.is_broken ≡ true → self.new.is_broken ≡ true }
@@ -193,11 +191,11 @@ impl<J: Storing<A>, D: Device, A: Allocator + Copy> Disk<J, D, A> {
         }
         self.count += self.batch.len();
         self.batch.clear();
-        tally.raise(&mut self.keeper, self.count);
+        tally.raise(&mut self.keeper, self.count, &self.log);
     }
 
     /// The log, how many records are on it after those that it was opened with, whether it is broken, the client
-    /// that has seen the history of its records, and the keeper that has counted them.
+    /// that has seen the history of its records, and the keeper, whose promises are kept.
     pub fn into_parts(self) -> (Log<D>, usize, bool, Client<J, A>, Keeper<J, A>)
         ensures kept { result.2 ≡ false →
             KeepsRecords D.seen D.may_leave J.head J.stored J.first result.3 result.1 result.0 }
@@ -206,7 +204,8 @@ impl<J: Storing<A>, D: Device, A: Allocator + Copy> Disk<J, D, A> {
         ensures count { result.1 ≡ self.count }
         ensures broken { result.2 ≡ self.is_broken }
         ensures history { result.3 ≡ self.history }
-        ensures keeper { result.4 ≡ result.1 }
+        ensures keeper { All (IsKeptSince D.moment D.left_since J.head J.stored J.first result.3 result.1
+            result.0.device) result.4 }
     {
         let Disk {
             log,

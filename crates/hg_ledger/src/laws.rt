@@ -6,7 +6,8 @@ ghost use mathlib.Core.List.{IsPrefix};
 ghost use Rattle.hg_types.specs.declared.item.Taken.{Taken as TakenItem};
 ghost use Rattle.hg_store.specs.declared.head.Head.{Head};
 ghost use Rattle.hg_push.specs.Run.{RepositoryOf};
-ghost use Rattle.hg_ledger.specs.Lives.{AreWrites, Before, IsFront, StillHas};
+ghost use Rattle.hg_ledger.specs.Lives.{AreWrites, Before, IsFront, IsKeptSince, IsLeftSince};
+ghost use Rattle.hg_ledger.specs.Promises.{Promise};
 ghost use Rattle.hg_ledger.specs.Records.{IsRecordOf, done_in};
 
 use hg_push::laws::{closed_pushes_have_ended, done_pushes_have_a_place, journals_grow};
@@ -39,16 +40,15 @@ pub fn what_is_kept_stays<A: Allocator, D: Device>()
     records_stay::<A>();
 }
 
-/// **What a receipt rests on is left by every end.** A client got a receipt for so many done pushes, and at the end of
-/// the ledger's life its tally has counted as many as the receipt, or more (`Tally::compare`). Then each file that
-/// stands for all that was counted has the records of these pushes, by the client's own history. The two histories
+/// **What a promise counts is left by every end since its moment.** A promise is kept by the journal of the client that
+/// has seen what is on the device. Then each client that has it may rest on it, by its own history. The two histories
 /// begin one, as those of two clients of a server do.
-pub fn what_a_receipt_rests_on_is_left<A: Allocator>()
+pub fn what_is_promised_is_left<A: Allocator, D: Device>()
     ensures { (head : Head) (stored : List (List ℕ)) (first : RepositoryOf A)
-        (client witness whole : List (TakenItem A)) (rests receipt kept : ℕ) (file : List ℕ) →
-        IsPrefix client whole → IsPrefix witness whole → rests ≤ done_in first client → rests ≤ receipt →
-        receipt ≤ kept → IsFront head stored first witness kept file →
-        StillHas head stored first client rests file }
+        (client witness whole : List (TakenItem A)) (kept : ℕ) (device : D) (promise : Promise) →
+        IsPrefix client whole → IsPrefix witness whole →
+        IsKeptSince D.moment D.left_since head stored first witness kept device promise →
+        IsLeftSince D.moment D.left_since D.may_leave head stored first client device promise }
 {
     records_stay::<A>();
 }

@@ -1,12 +1,13 @@
 //! A ledger: what a server keeps, for threads.
 
-ghost use Rattle.std.specs.Prelude.{◌≡◌, ◌≤◌, ◌<◌, ◌-◌, ℕ, [], false, IfOk, IfSome};
+ghost use Rattle.std.specs.Prelude.{◌≡◌, ◌≤◌, ◌<◌, ◌-◌, ℕ, [], false, All, IfOk, IfSome};
+ghost use mathlib.Core.List.{IsPrefix};
 ghost use Rattle.hg_types.specs.Limits.{IsAllowed};
 ghost use Rattle.hg_store.specs.Log.{IsSettled};
 ghost use Rattle.hg_ledger.specs.Clients.{IsCovered};
-ghost use Rattle.hg_ledger.specs.Lives.{Lives};
+ghost use Rattle.hg_ledger.specs.Lives.{IsKeptSince, Lives};
 ghost use Rattle.hg_ledger.specs.Receipts.{IsTallyOf};
-ghost use Rattle.hg_ledger.specs.Records.{AreKept, IsRecordOf, KeepsRecords, done_in};
+ghost use Rattle.hg_ledger.specs.Records.{IsRecordOf, KeepsRecords, done_in};
 
 use crate::client::KeptClient;
 use crate::disk::Disk;
@@ -58,14 +59,14 @@ impl<J: Storing<A>, D: Device, A: Allocator + Copy> Ledger<J, D, A> {
         requires settled { IsSettled D.seen D.may_leave J.head J.stored log }
         requires opened { J.opened ≡ D.moment log.device }
         requires allowed { IsAllowed J.first.settings.limits }
-        requires tally { IsTallyOf J.tally J.name J.parts tally × (tally.count ≡ 0) }
+        requires tally { IsTallyOf J.tally J.name J.parts tally × (tally.promises ≡ []) }
     {
         let (first, second) = witnesses;
         let (tally, mut keeper, rooms) = tally.open::<J>();
-        let counted = tally.receipt(&mut keeper);
+        tally.raise(&mut keeper, 0, &log);
         match Disk::new(alloc, log, first, keeper) {
-            Ok(disk) => {
-                disk.kept();
+            Ok(mut disk) => {
+                let counted = disk.counted(&tally);
                 Ok(Ledger {
                     waiting: Mutex::new(Waiting::new(alloc, second, counted, Rooms::new(rooms))),
                     disk: Mutex::new(disk),
@@ -108,8 +109,9 @@ impl<J: Storing<A>, D: Device, A: Allocator + Copy> Ledger<J, D, A> {
         requires bundle { IfSome bundle (λ bytes. (1 ≤ rests)
             × IsRecordOf J.first client.old.history (rests - 1) bytes) }
         ensures same { client.new.history ≡ client.old.history }
-        ensures grows { client.old.receipt ≤ client.new.receipt }
-        ensures covered { IfOk result (λ _. IsCovered D.seen D.may_leave J.head J.stored J.first client.new rests) }
+        ensures grows { IsPrefix client.old.receipt client.new.receipt }
+        ensures covered { IfOk result (λ _. IsCovered D.seen D.may_leave D.moment J.head J.stored J.first client.new
+            rests) }
     {
         match bundle {
             None => self.give_back(rt, room),
@@ -135,8 +137,9 @@ impl<J: Storing<A>, D: Device, A: Allocator + Copy> Ledger<J, D, A> {
     ) -> Result<(), NotStored>
         requires { rests ≤ done_in J.first client.old.history }
         ensures same { client.new.history ≡ client.old.history }
-        ensures grows { client.old.receipt ≤ client.new.receipt }
-        ensures covered { IfOk result (λ _. IsCovered D.seen D.may_leave J.head J.stored J.first client.new rests) }
+        ensures grows { IsPrefix client.old.receipt client.new.receipt }
+        ensures covered { IfOk result (λ _. IsCovered D.seen D.may_leave D.moment J.head J.stored J.first client.new
+            rests) }
     {
         match self.await_records(rt, server, &mut client.client, rests) {
             Ok(receipt) => {
@@ -157,8 +160,8 @@ impl<J: Storing<A>, D: Device, A: Allocator + Copy> Ledger<J, D, A> {
     ) -> Result<Receipt<J, A>, NotStored>
         requires { rests ≤ done_in J.first client.old }
         ensures same { client.new ≡ client.old }
-        ensures kept { IfOk result (λ _. AreKept D.seen D.may_leave J.head J.stored J.first client.old rests) }
-        ensures counted { IfOk result (λ receipt. rests ≤ receipt) }
+        ensures covered { IfOk result (λ receipt. IsCovered D.seen D.may_leave D.moment J.head J.stored J.first
+            (record { history = client.old; receipt = receipt }) rests) }
     {
         let mut waiting = self.waiting.lock(rt);
         'waiting: for _ in rt.forever() {
@@ -194,13 +197,15 @@ impl<J: Storing<A>, D: Device, A: Allocator + Copy> Ledger<J, D, A> {
 
     /// The log, and what is known of it. **Whatever an end might have left at any moment of the ledger's life is a
     /// front of the journal**, also where a write or a sync failed; and what one leaves from now on has each record
-    /// that was brought to the device.
+    /// that was brought to the device. **Each promise is kept since its moment.**
     pub fn into_parts(self) -> Parts<J, D, A>
         ensures kept { result.is_broken ≡ false →
             KeepsRecords D.seen D.may_leave J.head J.stored J.first result.witnesses.0 result.kept result.log }
         ensures life { Lives D.moment D.left_since D.may_leave J.head J.stored J.first J.opened
             result.witnesses.0 result.kept result.log.device }
-        ensures tally { (result.tally.id ≡ J.tally) × (result.tally.count ≡ result.kept) }
+        ensures tally { result.tally.id ≡ J.tally }
+        ensures promises { All (IsKeptSince D.moment D.left_since J.head J.stored J.first
+            result.witnesses.0 result.kept result.log.device) result.tally.promises }
     {
         let Ledger {
             waiting,

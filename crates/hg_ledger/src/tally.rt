@@ -1,48 +1,55 @@
-//! How many records were brought to a device, and receipts that say it for good.
+//! What was promised of a device: that so many records were on it for good by a moment. And receipts, which have such
+//! promises.
 //!
-//! A tally is one number that only grows. One seat at it, the keeper, knows the number and raises it. A receipt is
-//! a seat that knows a number which was reached. None of this is there when the program runs, except one word of
-//! memory: the contracts know the rest.
+//! A tally is a list of promises that only grows. One seat at it, the keeper, knows all of them and makes more. A
+//! receipt is a seat that knows some. None of this is there when the program runs, except one word of memory: the
+//! contracts know the rest.
 
-ghost use Rattle.std.specs.Prelude.{◌≡◌, ◌≤◌, ◌^◌, max, IfOk};
+ghost use Rattle.std.specs.Prelude.{◌≡◌, ◌^◌, ◌++◌, ◌∷◌, [], All, Contains, IfOk};
 ghost use Rattle.hg_ledger.specs.Receipts.{IsTallyOf};
 
+use crate::known::Known;
 use crate::rooms::MOST_ROOMS;
 use crate::storing::Storing;
 use atomic_table::{Join, Play, Seat, Split, Table, TableRule};
+use hg_store::{Device, Log};
 use hg_types::NoMemory;
 use std::alloc::{Allocator, Global};
-use std::marker::{Model, PhantomData};
+use std::marker::{Brand, Model, PhantomData};
 use std::sync::ledger::Blank;
 
-/// What a seat at a tally knows. It is a value of contracts alone: none is made when the program runs.
-pub struct Known {
-    /// Whether it is the keeper, who raises the number.
-    pub is_keeper: bool,
-    /// The number was at least this. It is this where the keeper knows it.
-    pub least: u64,
-    /// What the keeper heard from another seat.
-    pub heard: u64,
+/// A moment of a device, which a call picks.
+pub trait Moment {
+    ghost use Rattle.std.specs.Prelude.{ℕ};
+
+    ghost moment: { ℕ };
+}
+
+impl Moment for Brand {
+    ghost moment = { 0 };
 }
 
 /// The rule of a tally.
 pub struct Tallied;
 
 impl TableRule<(), Known, ()> for Tallied {
+    ghost use Rattle.std.specs.Prelude.{[]};
     ghost use Rattle.hg_ledger.specs.code.Tallies.{IsTallied, keeper};
 
     ghost holds = { λ _ s. IsTallied s };
 
-    ghost first = { λ _. keeper 0 };
+    ghost first = { λ _. keeper [] };
 }
 
-/// The keeper raises the number.
-struct Raises;
+/// The keeper makes a promise more.
+struct Raises<M> {
+    moment: PhantomData<M>,
+}
 
-impl Play<(), Known> for Raises {
+impl<M: Moment> Play<(), Known> for Raises<M> {
     ghost use Rattle.hg_ledger.specs.code.Tallies.{raised};
 
-    ghost then = { raised };
+    ghost then = { raised M.moment };
 }
 
 /// A seat is made that knows what another knows, but is no keeper.
@@ -53,32 +60,34 @@ impl Split<Known> for Copies {
 
     ghost left = { λ v. v };
 
-    ghost right = { λ v. told v.least };
+    ghost right = { λ v. told v.promises };
 }
 
 /// The keeper hears what a seat knows, which is used no more.
 struct Hears;
 
 impl Join<Known> for Hears {
+    ghost use Rattle.std.specs.Prelude.{[]};
     ghost use Rattle.hg_ledger.specs.code.Tallies.{heard_from, told};
 
     ghost both = { heard_from };
 
-    ghost spent = { told 0 };
+    ghost spent = { told [] };
 }
 
-/// A seat knows the greater of what it knew and what another does, which is used no more.
+/// A seat knows what it knew and what another does, which is used no more.
 struct Unites;
 
 impl Join<Known> for Unites {
+    ghost use Rattle.std.specs.Prelude.{[]};
     ghost use Rattle.hg_ledger.specs.code.Tallies.{told, united};
 
     ghost both = { united };
 
-    ghost spent = { told 0 };
+    ghost spent = { told [] };
 }
 
-/// The keeper compares what it heard with the number.
+/// The keeper compares what it heard of with all that was promised.
 struct Compares;
 
 impl Play<(), Known> for Compares {
@@ -87,8 +96,7 @@ impl Play<(), Known> for Compares {
     ghost then = { compared };
 }
 
-/// How many records were brought to a device after those that it was opened with. Contracts see which tally it
-/// is, and the number.
+/// What was promised of a device. Contracts see which tally it is, and the promises.
 #[derive(Drop)]
 pub struct Tally<A: Allocator = Global> {
     table: Table<(), Known, (), Tallied, A>,
@@ -105,7 +113,7 @@ impl<A: Allocator> Model for Tally<A> {
 
     ghost view = { λ t. record {
       id = t.table.shared.table_id;
-      count = t.keeper.me.0.least;
+      promises = t.keeper.me.0.promises;
       name = t.rooms.name;
       parts = t.rooms.parts;
     } };
@@ -131,7 +139,7 @@ impl<J: Storing<A>, A: Allocator> Model for OpenTally<J, A> {
     ghost invariant = { λ t. (t.table.shared.table_id ≡ J.tally) × (0 < J.tally.words) };
 }
 
-/// The right to raise the tally of that name. Contracts see its number.
+/// The right to make promises at the tally of that name. Contracts see all that were made.
 #[derive(Drop)]
 pub struct Keeper<J: Storing<A>, A: Allocator = Global> {
     seat: Seat<(), Known>,
@@ -139,18 +147,18 @@ pub struct Keeper<J: Storing<A>, A: Allocator = Global> {
 }
 
 impl<J: Storing<A>, A: Allocator> Model for Keeper<J, A> {
-    ghost use Rattle.std.specs.Prelude.{ℕ};
+    ghost use Rattle.std.specs.Prelude.{List};
     ghost use Rattle.hg_ledger.specs.code.Tallies.{IsKeeperAt};
+    ghost use Rattle.hg_ledger.specs.Promises.{Promise};
 
-    ghost Value = { ℕ };
+    ghost Value = { List Promise };
 
-    ghost view = { λ k. k.seat.me.0.least };
+    ghost view = { λ k. k.seat.me.0.promises };
 
     ghost invariant = { λ k. IsKeeperAt J.tally k.seat };
 }
 
-/// So many records at least were brought to the device of the ledger of that name. Contracts see the number. Only
-/// this crate makes one.
+/// Promises of the ledger of that name: each was made. Contracts see them. Only this crate makes one.
 #[derive(Drop)]
 pub struct Receipt<J: Storing<A>, A: Allocator = Global> {
     seat: Seat<(), Known>,
@@ -158,20 +166,21 @@ pub struct Receipt<J: Storing<A>, A: Allocator = Global> {
 }
 
 impl<J: Storing<A>, A: Allocator> Model for Receipt<J, A> {
-    ghost use Rattle.std.specs.Prelude.{ℕ};
+    ghost use Rattle.std.specs.Prelude.{List};
     ghost use Rattle.hg_ledger.specs.code.Tallies.{IsSeatAt};
+    ghost use Rattle.hg_ledger.specs.Promises.{Promise};
 
-    ghost Value = { ℕ };
+    ghost Value = { List Promise };
 
-    ghost view = { λ r. r.seat.me.0.least };
+    ghost view = { λ r. r.seat.me.0.promises };
 
     ghost invariant = { λ r. IsSeatAt J.tally r.seat };
 }
 
 impl<A: Allocator> Tally<A> {
-    /// A tally of no records.
+    /// A tally of no promise.
     pub fn new(alloc: A) -> Result<Tally<A>, NoMemory>
-        ensures { IfOk result (λ tally. tally.count ≡ 0) }
+        ensures { IfOk result (λ tally. tally.promises ≡ []) }
     {
         let (table, keeper) = Table::of_words(alloc, &[0], &())?;
         Ok(Tally {
@@ -181,10 +190,10 @@ impl<A: Allocator> Tally<A> {
         })
     }
 
-    /// The tally of that name, for threads, the right to raise it, and by what rooms are counted.
+    /// The tally of that name, for threads, the right to make promises, and by what rooms are counted.
     pub(crate) fn open<J: Storing<A>>(self) -> (OpenTally<J, A>, Keeper<J, A>, Blank)
         requires { IsTallyOf J.tally J.name J.parts self }
-        ensures count { result.1 ≡ self.count }
+        ensures promises { result.1 ≡ self.promises }
         ensures rooms { (result.2.name ≡ J.name) × (result.2.parts ≡ J.parts) × (result.2.parts ≡ 2 ^ 62) }
     {
         let Tally {
@@ -203,11 +212,11 @@ impl<A: Allocator> Tally<A> {
         (open, keeper, rooms)
     }
 
-    /// **What a receipt counts is counted.** The receipt is as it was.
+    /// **What a receipt promises was promised.** The receipt is as it was.
     pub fn compare<J: Storing<A>>(&mut self, receipt: &mut Receipt<J, A>)
         requires { self.old.id ≡ J.tally }
         ensures same { (self.new ≡ self.old) × (receipt.new ≡ receipt.old) }
-        ensures counted { receipt.old ≤ self.old.count }
+        ensures promised { All (Contains self.old.promises) receipt.old }
     {
         let table = &self.table;
         let keeper = &mut self.keeper;
@@ -220,7 +229,7 @@ impl<A: Allocator> Tally<A> {
 impl<J: Storing<A>, A: Allocator> OpenTally<J, A> {
     /// The tally, when no thread shares it any more.
     pub fn close(self, keeper: Keeper<J, A>) -> Tally<A>
-        ensures { (result.id ≡ J.tally) × (result.count ≡ keeper) }
+        ensures { (result.id ≡ J.tally) × (result.promises ≡ keeper) }
     {
         let OpenTally { table, of: _ } = self;
         let Keeper { seat, of: _ } = keeper;
@@ -231,20 +240,18 @@ impl<J: Storing<A>, A: Allocator> OpenTally<J, A> {
         }
     }
 
-    /// Raises the number.
-    pub fn raise(&self, keeper: &mut Keeper<J, A>, count: usize)
-        requires { keeper.old ≤ count }
-        ensures { keeper.new ≡ count }
+    /// Promises that so many records are on the device of this log, at its moment now.
+    pub fn raise<D: Device>(&self, keeper: &mut Keeper<J, A>, count: usize, log: &Log<D>)
+        ensures { keeper.new
+            ≡ keeper.old ++ record { count = count; moment = D.moment log.now.device } ∷ [] }
     {
-        self.table
-            .shared
-            .store::<Raises>(&mut keeper.seat, 0, count as u64);
+        raise_at::<Brand, J, D, A>(self, keeper, count, log);
     }
 
-    /// A receipt for the number.
+    /// A receipt for all that was promised.
     pub fn receipt(&self, keeper: &mut Keeper<J, A>) -> Receipt<J, A>
         ensures same { keeper.new ≡ keeper.old }
-        ensures counted { result ≡ keeper.old }
+        ensures promised { result ≡ keeper.old }
     {
         let seat = self.table.shared.split_seat::<Copies>(&mut keeper.seat);
         Receipt {
@@ -253,9 +260,9 @@ impl<J: Storing<A>, A: Allocator> OpenTally<J, A> {
         }
     }
 
-    /// Joins a receipt to another, which then counts as many as both.
+    /// Joins a receipt to another, which then has the promises of both.
     pub fn join(&self, held: &mut Receipt<J, A>, other: Receipt<J, A>)
-        ensures { held.new ≡ max held.old other }
+        ensures { held.new ≡ held.old ++ other }
     {
         self.table
             .shared
@@ -265,7 +272,7 @@ impl<J: Storing<A>, A: Allocator> OpenTally<J, A> {
     /// The same receipt once more.
     pub fn again(&self, receipt: &mut Receipt<J, A>) -> Receipt<J, A>
         ensures same { receipt.new ≡ receipt.old }
-        ensures counted { result ≡ receipt.old }
+        ensures promised { result ≡ receipt.old }
     {
         let seat = self.table.shared.split_seat::<Copies>(&mut receipt.seat);
         Receipt {
@@ -273,4 +280,22 @@ impl<J: Storing<A>, A: Allocator> OpenTally<J, A> {
             of: PhantomData,
         }
     }
+}
+
+/// The same, at a moment that the call names.
+fn raise_at<M: Moment, J: Storing<A>, D: Device, A: Allocator>(
+    tally: &OpenTally<J, A>,
+    keeper: &mut Keeper<J, A>,
+    count: usize,
+    log: &Log<D>,
+)
+    requires { M.moment ≡ D.moment log.now.device }
+    ensures { keeper.new
+        ≡ keeper.old ++ record { count = count; moment = D.moment log.now.device } ∷ [] }
+{
+    let _log = log;
+    tally
+        .table
+        .shared
+        .store::<Raises<M>>(&mut keeper.seat, 0, count as u64);
 }

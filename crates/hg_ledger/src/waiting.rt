@@ -1,8 +1,9 @@
 //! The records that wait, under their lock.
 
 ghost use Rattle.std.specs.Prelude.{◌≡◌, ◌≤◌, false, true, length, IfOk, IfSome};
+ghost use Rattle.hg_ledger.specs.Clients.{IsCovered};
 ghost use mathlib.Core.List.{IsPrefix};
-ghost use Rattle.hg_ledger.specs.Records.{AreKept, IsRecordOf, done_in};
+ghost use Rattle.hg_ledger.specs.Records.{IsRecordOf, done_in};
 
 use crate::disk::{BATCH, Disk};
 use crate::laws::records_stay;
@@ -49,23 +50,24 @@ pub struct Waiting<J: Storing<A>, D: Device, A: Allocator = Global> {
 
 impl<J: Storing<A>, D: Device, A: Allocator> Model for Waiting<J, D, A> {
     ghost use Rattle.std.specs.Prelude.{◌≡◌, ◌≤◌, ◌+◌, false, vec_len, vec_capacity};
+    ghost use Rattle.hg_ledger.specs.Clients.{IsCovered};
     ghost use Rattle.hg_ledger.specs.Locks.{AreWaiting, WaitingView};
-    ghost use Rattle.hg_ledger.specs.Records.{AreKept};
 
     ghost Value = { WaitingView A };
 
     ghost view = { λ w. record { count = w.count; is_broken = w.is_broken; history = w.witness } };
 
     ghost invariant = { λ w. AreWaiting J.first w.witness w.records.items
-        × (w.is_broken ≡ false → AreKept D.seen D.may_leave J.head J.stored J.first w.witness w.count)
-        × (w.count ≤ w.counted)
+        × (w.is_broken ≡ false → IsCovered D.seen D.may_leave D.moment J.head J.stored J.first
+        (record { history = w.witness; receipt = w.counted }) w.count)
         × (vec_len w.records + w.rooms ≤ vec_capacity w.records) };
 }
 
 impl<J: Storing<A>, D: Device, A: Allocator + Copy> Waiting<J, D, A> {
     /// None wait.
     pub fn new(alloc: A, witness: Client<J, A>, counted: Receipt<J, A>, rooms: Rooms<J, A>) -> Self
-        requires kept { AreKept D.seen D.may_leave J.head J.stored J.first witness 0 }
+        requires kept { IsCovered D.seen D.may_leave D.moment J.head J.stored J.first
+            (record { history = witness; receipt = counted }) 0 }
         requires rooms { rooms ≡ 0 }
     {
         Waiting {
@@ -130,8 +132,8 @@ impl<J: Storing<A>, D: Device, A: Allocator + Copy> Waiting<J, D, A> {
     ) -> Result<Receipt<J, A>, Step>
         requires { rests ≤ done_in J.first client.old }
         ensures same { client.new ≡ client.old }
-        ensures kept { IfOk result (λ _. AreKept D.seen D.may_leave J.head J.stored J.first client.old rests) }
-        ensures counted { IfOk result (λ receipt. rests ≤ receipt) }
+        ensures covered { IfOk result (λ receipt. IsCovered D.seen D.may_leave D.moment J.head J.stored J.first
+            (record { history = client.old; receipt = receipt }) rests) }
     {
         if self.is_broken {
             return Err(Step::Stop);
@@ -158,8 +160,8 @@ impl<J: Storing<A>, D: Device, A: Allocator + Copy> Waiting<J, D, A> {
         requires low { rests ≤ self.old.count }
         requires done { rests ≤ done_in J.first client.old }
         ensures same { client.new ≡ client.old }
-        ensures kept { AreKept D.seen D.may_leave J.head J.stored J.first client.old rests }
-        ensures counted { rests ≤ result }
+        ensures covered { IsCovered D.seen D.may_leave D.moment J.head J.stored J.first
+            (record { history = client.old; receipt = result }) rests }
     {
         records_stay::<A>();
         server.meet(rt, client, &mut self.witness);
@@ -217,10 +219,9 @@ impl<J: Storing<A>, D: Device, A: Allocator + Copy> Waiting<J, D, A> {
             self.is_broken = true;
             return;
         }
-        disk.kept();
-        disk.tell(rt, server, &mut self.witness);
         self.count = disk.count();
         self.counted = disk.counted(tally);
+        disk.tell(rt, server, &mut self.witness);
     }
 
     /// The client that has seen the history of the records. Those that wait are dropped.

@@ -3,7 +3,7 @@ use Rattle.std.proofs.Common.{arith, length}
 use mathlib.Core.List.{IsPrefix}
 use Rattle.hg_ledger.proofs.Keeping.{keeps_on}
 use Rattle.hg_ledger.proofs.Lists.{each_moves}
-use Rattle.hg_ledger.proofs.Living.{lives_on}
+use Rattle.hg_ledger.proofs.Living.{lives_on, promises_on}
 use Rattle.hg_ledger.proofs.disk.Disk.hear.Goals as goal
 
 pub invariant_of-self : goal.invariant_of-self
@@ -22,5 +22,8 @@ invariant_of-self g c =
       lives_on g.D.Device.moment g.D.Device.left_since g.D.Device.may_leave g.J.Storing.head g.J.Storing.stored first
           g.J.Storing.opened old new d.count d.log.device
           (λ k bytes r. c.records_stay.ensures.later first old new k bytes c.meet.ensures.later r) i.3,
-      i.4,
+      promises_on g.D.Device.moment g.D.Device.left_since g.J.Storing.head g.J.Storing.stored first old new d.count
+          d.log.device (λ k bytes r. c.records_stay.ensures.later first old new k bytes c.meet.ensures.later r)
+          d.keeper i.4,
+      i.5,
     )

@@ -19,6 +19,7 @@ invariant_of-self g c =
           (one_more first d.witness d.count d.batch.items c.args.bytes i.2 here),
       i.3,
       i.4,
+      i.5,
     )
 
 pub push_reserved-requires : goal.push_reserved-requires

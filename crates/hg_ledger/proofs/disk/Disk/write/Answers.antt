@@ -5,12 +5,15 @@ use Rattle.std.specs.Prelude.{is_err, OnOk, Result}
 use Rattle.hg_store.specs.Device.{LeavesOnly}
 use Rattle.hg_store.specs.Records.{IsRecord}
 use Rattle.hg_store.specs.Log.{IsBeforeOrAfter, IsSettled}
-use Rattle.hg_ledger.specs.Lives.{IsFront}
+use Rattle.std.specs.Prelude.{All, Contains}
+use Rattle.std.proofs.lemmas.List.Elements.{All-push, All-same, Contains-push}
+use Rattle.hg_ledger.specs.Lives.{IsFront, IsKeptSince}
+use Rattle.hg_ledger.specs.Promises.{Promise}
 use Rattle.hg_ledger.specs.Locks.{DiskView}
 use Rattle.hg_ledger.specs.Records.{AreRecordsFrom, KeepsRecords}
 use Rattle.hg_ledger.proofs.Keeping.{keeps_more}
 use Rattle.hg_ledger.proofs.Lists.{fit, went_well}
-use Rattle.hg_ledger.proofs.Living.{kept_front, lives_after, lives_failed, written_front}
+use Rattle.hg_ledger.proofs.Living.{kept_front, lives_after, lives_failed, promise_now, promises_after, written_front}
 use Rattle.hg_ledger.proofs.disk.Disk.write.Goals as goal
 
 pub append-requires-clause-each : goal.append-requires-clause-each
@@ -19,9 +22,6 @@ append-requires-clause-each g c =
     let i = c.self.invariant in
     subst (λ (l : List (List ℕ)). AllByRecursion IsRecord l) (sym c.as_slice.ensures.value)
     (fit g.J.Naming.first i.0 d.witness d.count d.batch.items i.2)
-
-pub raise-requires : goal.raise-requires
-raise-requires g c = omega (arith, c.self.invariant.4)
 
 -- an append that failed leaves what was there, too
 pub invariant_of-self-then-is_err : goal.invariant_of-self-then-is_err
@@ -44,7 +44,9 @@ invariant_of-self-then-is_err g c =
       i.2,
       lives_failed moment left_since g.D.Device.may_leave head stored first g.J.Storing.opened d.witness d.count
           d.log.device c.append.new.self.device (g.met.D.Device.counts_now c.append.new.self.device) i.3 run,
-      i.4,
+      promises_after moment left_since head stored first d.witness d.count d.count d.log.device
+          c.append.new.self.device (omega arith) run d.keeper i.4,
+      λ b. absurd (let e : true ≡ false = b in cc),
     )
 
 pub returns-then-is_err-clause-any_moment : goal.returns-then-is_err-clause-any_moment
@@ -109,14 +111,25 @@ invariant_of-self-2 g c =
     k i.2 d.log.device c.append.new.self.device
     (subst (λ (l : List (List ℕ)). LeavesOnly moment left_since d.log.device c.append.new.self.device
     (IsBeforeOrAfter head (stored ++ k.records) l)) c.as_slice.ensures.value
-    (c.append.ensures.any_moment head (stored ++ k.records) k.settled)) in (
+    (c.append.ensures.any_moment head (stored ++ k.records) k.settled)) in
+    let now = c.append.new.self.device in
+    let count : ℕ = d.count + c.len.result in
+    let one : Promise = record { count = count; moment = moment now } in
+    let Kept : Promise → Type 0 = IsKeptSince moment left_since head stored first d.witness count now in
+    let front = kept_front seen may_leave head stored first c.records_are_read_back.ensures d.witness count
+    c.append.new.self keeps in (
       i.0,
       λ b. keeps,
       subst (λ (l : List (List ℕ)). AreRecordsFrom first d.witness (d.count + c.len.result) l)
           (sym c.clear.ensures.items) tt,
       lives_after moment left_since may_leave head stored first g.J.Storing.opened d.witness d.count
           (d.count + c.len.result) d.log.device c.append.new.self.device i.3 run
-          (kept_front seen may_leave head stored first c.records_are_read_back.ensures d.witness
-          (d.count + c.len.result) c.append.new.self keeps),
-      c.raise.ensures,
+          front,
+      All-same Kept c.raise.new.keeper (d.keeper ++ one ∷ []) c.raise.ensures
+          (All-push Kept d.keeper one
+          (promises_after moment left_since head stored first d.witness d.count count d.log.device now (omega arith)
+          run d.keeper i.4)
+          (promise_now moment left_since head stored first may_leave d.witness count now
+          (g.met.D.Device.only_now now) front)),
+      λ b. subst (λ (l : List Promise). Contains l one) (sym c.raise.ensures) (Contains-push d.keeper one),
     )

@@ -3,10 +3,12 @@ use Rattle.std.proofs.Common.{arith, length}
 use mathlib.Core.List.{IsPrefix}
 use Rattle.std.proofs.lemmas.List.Elements.{All-weaker}
 use Rattle.hg_ledger.specs.declared.waiting.Record.{Record}
-use Rattle.hg_ledger.specs.Records.{AreKept, IsRecordOf}
+use Rattle.hg_ledger.specs.Clients.{IsCovered}
+use Rattle.hg_ledger.specs.Promises.{Promise}
+use Rattle.hg_ledger.specs.Records.{IsRecordOf}
 use Rattle.hg_ledger.specs.Locks.{WaitingView}
 use Rattle.hg_ledger.specs.Records.{done_in}
-use Rattle.hg_ledger.proofs.Keeping.{kept_back, kept_on}
+use Rattle.hg_ledger.proofs.Covering.{covered_back, covered_on}
 use Rattle.hg_ledger.proofs.waiting.Waiting.grant.Goals as goal
 
 pub invariant_of-self : goal.invariant_of-self
@@ -19,29 +21,32 @@ invariant_of-self g c =
           (λ r. IsRecordOf first new r.place r.bytes)
           (λ r p. c.records_stay.ensures.later first w.witness new r.place r.bytes c.meet.ensures.later p)
           w.records.items i.0,
-      λ b. kept_on g.D.Device.seen g.D.Device.may_leave g.J.Storing.head g.J.Storing.stored first w.witness new
-          w.count (λ k bytes r. c.records_stay.ensures.later first w.witness new k bytes c.meet.ensures.later r)
-          (i.1 b),
-      omega (arith, i.2, c.again.ensures.same),
-      i.3,
+      λ b. subst (λ (l : List Promise). IsCovered g.D.Device.seen g.D.Device.may_leave g.D.Device.moment
+          g.J.Storing.head g.J.Storing.stored first (record { history = new; receipt = l }) w.count)
+          (sym c.again.ensures.same)
+          (covered_on g.D.Device.seen g.D.Device.may_leave g.D.Device.moment g.J.Storing.head g.J.Storing.stored
+          first w.witness new w.counted w.count
+          (λ k bytes r. c.records_stay.ensures.later first w.witness new k bytes c.meet.ensures.later r) (i.1 b)),
+      i.2,
     )
 
-pub returns-clause-kept : goal.returns-clause-kept
-returns-clause-kept g c =
+pub returns-clause-covered : goal.returns-clause-covered
+returns-clause-covered g c =
     let w = c.self.inside in
     let first = g.J.Naming.first in
     let new = c.meet.new.witness in
     let mine = c.args.client.now in
     let whole : w.is_broken ≡ false = ap (λ v. v.is_broken) c.self.view_is ∙ c.requires.whole in
     let same : w.count ≡ c.args.self.now.count = ap (λ v. v.count) c.self.view_is in
-    let all = kept_on g.D.Device.seen g.D.Device.may_leave g.J.Storing.head g.J.Storing.stored first w.witness new
-    w.count (λ k bytes r. c.records_stay.ensures.later first w.witness new k bytes c.meet.ensures.later r)
+    let all = covered_on g.D.Device.seen g.D.Device.may_leave g.D.Device.moment g.J.Storing.head g.J.Storing.stored
+    first w.witness new w.counted w.count
+    (λ k bytes r. c.records_stay.ensures.later first w.witness new k bytes c.meet.ensures.later r)
     (c.self.invariant.1 whole) in
-    kept_back g.D.Device.seen g.D.Device.may_leave g.J.Storing.head g.J.Storing.stored first new mine w.count
-    c.args.rests (done_in first mine) (omega (arith, c.requires.low, same)) c.requires.done
-    (λ k bytes low r. c.records_stay.ensures.earlier first mine new k bytes c.meet.ensures.one low r) all
-
-pub returns-clause-counted : goal.returns-clause-counted
-returns-clause-counted g c =
-    let same : c.self.inside.count ≡ c.args.self.now.count = ap (λ v. v.count) c.self.view_is in
-    omega (arith, c.requires.low, same, c.self.invariant.2, c.again.ensures.counted)
+    let receipt : List Promise = w.counted in
+    subst (λ (l : List Promise). IsCovered g.D.Device.seen g.D.Device.may_leave g.D.Device.moment
+    g.J.Storing.head g.J.Storing.stored first (record { history = mine; receipt = l }) c.args.rests)
+    (sym c.again.ensures.promised)
+    (covered_back g.D.Device.seen g.D.Device.may_leave g.D.Device.moment g.J.Storing.head g.J.Storing.stored first
+    new mine receipt w.count c.args.rests (done_in first mine) (omega (arith, c.requires.low, same))
+    c.requires.done (λ k bytes low r. c.records_stay.ensures.earlier first mine new k bytes c.meet.ensures.one low r)
+    all)

@@ -3,10 +3,10 @@ use Rattle.std.proofs.Common.{arith, length}
 use mathlib.Core.List.{IsPrefix}
 use Rattle.std.proofs.lemmas.List.Elements.{All-weaker}
 use Rattle.hg_ledger.specs.declared.waiting.Record.{Record}
-use Rattle.hg_ledger.specs.Records.{AreKept, IsRecordOf}
+use Rattle.hg_ledger.specs.Records.{IsRecordOf}
 use Rattle.std.specs.Prelude.{is_ok, All}
 use Rattle.hg_ledger.specs.Locks.{AreWaiting}
-use Rattle.hg_ledger.proofs.Keeping.{kept_on}
+use Rattle.hg_ledger.proofs.Covering.{covered_on}
 use Rattle.hg_ledger.proofs.Lists.{either_insert, room_left}
 use Rattle.hg_ledger.proofs.waiting.Waiting.hand_in.Goals as goal
 
@@ -25,10 +25,10 @@ invariant_of-self g c =
           w.records.items i.0)
           (c.records_stay.ensures.later first c.args.client.now new c.args.entry.place c.args.entry.bytes
           c.meet.ensures.one c.requires)),
-      λ b. kept_on g.D.Device.seen g.D.Device.may_leave g.J.Storing.head g.J.Storing.stored first w.witness new
-          w.count (λ k bytes r. c.records_stay.ensures.later first w.witness new k bytes c.meet.ensures.later r)
+      λ b. covered_on g.D.Device.seen g.D.Device.may_leave g.D.Device.moment g.J.Storing.head g.J.Storing.stored
+          first w.witness new w.counted w.count
+          (λ k bytes r. c.records_stay.ensures.later first w.witness new k bytes c.meet.ensures.later r)
           (i.1 b),
-      i.2,
-      room_left (is_ok c.insert.result) _ _ _ _ _ _ c.insert.ensures.len c.give_back.ensures i.3
+      room_left (is_ok c.insert.result) _ _ _ _ _ _ c.insert.ensures.len c.give_back.ensures i.2
           c.insert.ensures.capacity,
     )

@@ -3,8 +3,10 @@ use Rattle.std.proofs.Common.{arith, length}
 use mathlib.Core.List.{IsPrefix}
 use Rattle.std.proofs.lemmas.List.Elements.{All-weaker}
 use Rattle.hg_ledger.specs.declared.waiting.Record.{Record}
-use Rattle.hg_ledger.specs.Records.{AreKept, IsRecordOf}
-use Rattle.hg_ledger.proofs.Keeping.{kept_on}
+use Rattle.hg_ledger.specs.Clients.{IsCovered}
+use Rattle.hg_ledger.specs.Locks.{DiskView}
+use Rattle.hg_ledger.specs.Records.{IsRecordOf}
+use Rattle.hg_ledger.proofs.Covering.{covered_on}
 use Rattle.hg_ledger.proofs.waiting.Waiting.note.Goals as goal
 
 pub invariant_of-self-2 : goal.invariant_of-self-2
@@ -14,16 +16,18 @@ invariant_of-self-2 g c =
     let first = g.J.Naming.first in
     let new = c.tell.new.client in
     let there = c.args.disk.now.history in
-    let count : c.args.disk.now.count ≡ c.count-self-inside.result =
-    sym (c.count-self-inside.ensures ∙ ap (λ v. v.count) c.tell.ensures.same) in (
+    let all = subst (λ (v : DiskView g.row.A.Denot g.row.D.Denot). IsPrefix v.history new) c.counted.ensures.same
+    c.tell.ensures.all in
+    let count : c.args.disk.now.count ≡ c.count-self-inside.result = sym c.count-self-inside.ensures in (
       All-weaker (λ (r : Record g.row.A.Denot). IsRecordOf first w.witness r.place r.bytes)
           (λ r. IsRecordOf first new r.place r.bytes)
           (λ r p. c.records_stay.ensures.later first w.witness new r.place r.bytes c.tell.ensures.later p)
           w.records.items i.0,
-      λ b. subst (λ (n : ℕ). AreKept g.D.Device.seen g.D.Device.may_leave g.J.Storing.head g.J.Storing.stored first
-          new n) count (kept_on g.D.Device.seen g.D.Device.may_leave g.J.Storing.head g.J.Storing.stored first
-          there new c.args.disk.now.count
-          (λ k bytes r. c.records_stay.ensures.later first there new k bytes c.tell.ensures.all r) c.kept.ensures),
-      omega (arith, c.count-self-inside.ensures, c.counted.ensures.counted),
-      i.3,
+      λ b. subst (λ (n : ℕ). IsCovered g.D.Device.seen g.D.Device.may_leave g.D.Device.moment g.J.Storing.head
+          g.J.Storing.stored first (record { history = new; receipt = c.counted.result }) n) count
+          (covered_on g.D.Device.seen g.D.Device.may_leave g.D.Device.moment g.J.Storing.head g.J.Storing.stored
+          first there new c.counted.result c.args.disk.now.count
+          (λ k bytes r. c.records_stay.ensures.later first there new k bytes all r)
+          c.counted.ensures.covered),
+      i.2,
     )

@@ -1,0 +1,87 @@
+-- What a receipt covers, as the journal goes on and as receipts are joined.
+use Rattle.std.proofs.Common.{ℕ, ◌≡◌, ◌≤◌, ◌<◌, List, ◌++◌, refl, sym, subst, arith}
+use Rattle.std.specs.Prelude.{Contains}
+use Rattle.std.proofs.lemmas.List.Elements.{Contains-append_right}
+use Rattle.hg_types.specs.declared.item.Taken.{Taken}
+use Rattle.hg_store.specs.declared.head.Head.{Head}
+use Rattle.hg_store.specs.declared.log.Log.{Log}
+use Rattle.hg_push.specs.Run.{RepositoryOf}
+use Rattle.hg_ledger.specs.Clients.{IsCovered, KeptSeen}
+use Rattle.hg_ledger.specs.Promises.{Promise}
+use Rattle.hg_ledger.specs.Records.{IsRecordOf, KeepsRecords}
+use Rattle.hg_ledger.proofs.Keeping.{are_kept, kept_back, kept_on, none_kept}
+
+module _ {A D : Type 0} (seen : D → List ℕ) (may_leave : D → List ℕ → Type 0) (moment : D → ℕ) (head : Head)
+    (stored : List (List ℕ)) (first : RepositoryOf A)
+  where
+    pub covers : (h : List (Taken A)) (count : ℕ) (log : Log D) (receipt : List Promise)
+        → KeepsRecords seen may_leave head stored first h count log
+        → Contains receipt (record { count = count; moment = moment log.device })
+        → IsCovered seen may_leave moment head stored first (record { history = h; receipt = receipt }) count
+    covers h count log receipt k has = record {
+      kept = are_kept seen may_leave head stored first h count log k;
+      promise = record { count = count; moment = moment log.device };
+      has = has;
+      counts = omega arith;
+      reached = refl;
+    }
+
+    pub covered_on : (h h' : List (Taken A)) (receipt : List Promise) (count : ℕ)
+        → ((k : ℕ) (bytes : List ℕ) → IsRecordOf first h k bytes → IsRecordOf first h' k bytes)
+        → IsCovered seen may_leave moment head stored first (record { history = h; receipt = receipt }) count
+        → IsCovered seen may_leave moment head stored first (record { history = h'; receipt = receipt }) count
+    covered_on h h' receipt count moves c = record {
+      kept = kept_on seen may_leave head stored first h h' count moves c.kept;
+      promise = c.promise;
+      has = c.has;
+      counts = c.counts;
+      reached = c.reached;
+    }
+
+    pub covered_none : (h h' : List (Taken A)) (receipt : List Promise)
+        → IsCovered seen may_leave moment head stored first (record { history = h; receipt = receipt }) 0
+        → IsCovered seen may_leave moment head stored first (record { history = h'; receipt = receipt }) 0
+    covered_none h h' receipt c = record {
+      kept = none_kept seen may_leave head stored first h h' c.kept;
+      promise = c.promise;
+      has = c.has;
+      counts = c.counts;
+      reached = c.reached;
+    }
+
+    -- by a shorter history, of so many pushes as are done in it
+    pub covered_back : (h h' : List (Taken A)) (receipt : List Promise) (count rests done : ℕ) → rests ≤ count
+        → rests ≤ done
+        → ((k : ℕ) (bytes : List ℕ) → k < done → IsRecordOf first h k bytes → IsRecordOf first h' k bytes)
+        → IsCovered seen may_leave moment head stored first (record { history = h; receipt = receipt }) count
+        → IsCovered seen may_leave moment head stored first (record { history = h'; receipt = receipt }) rests
+    covered_back h h' receipt count rests done low few moves c = record {
+      kept = kept_back seen may_leave head stored first h h' count rests done low few moves c.kept;
+      promise = c.promise;
+      has = c.has;
+      counts = omega (arith, low, c.counts);
+      reached = c.reached;
+    }
+
+    -- a receipt was joined to another
+    pub covered_joined : (h : List (Taken A)) (held receipt : List Promise) (rests : ℕ)
+        → IsCovered seen may_leave moment head stored first (record { history = h; receipt = receipt }) rests
+        → IsCovered seen may_leave moment head stored first (record { history = h; receipt = held ++ receipt }) rests
+    covered_joined h held receipt rests c = record {
+      kept = c.kept;
+      promise = c.promise;
+      has = Contains-append_right held receipt c.promise c.has;
+      counts = c.counts;
+      reached = c.reached;
+    }
+
+    -- and so of the client that has it then
+    pub covered_by : (h : List (Taken A)) (held receipt : List Promise) (now : KeptSeen A) (rests : ℕ)
+        → now.history ≡ h → now.receipt ≡ held ++ receipt
+        → IsCovered seen may_leave moment head stored first (record { history = h; receipt = receipt }) rests
+        → IsCovered seen may_leave moment head stored first now rests
+    covered_by h held receipt now rests same both c =
+        let joined : KeptSeen A = record { history = h; receipt = held ++ receipt } in
+        let is : joined ≡ now = λ i. record { history = sym same i; receipt = sym both i } in
+        subst (λ (v : KeptSeen A). IsCovered seen may_leave moment head stored first v rests) is
+        (covered_joined h held receipt rests c)

@@ -1,0 +1,9 @@
+use Rattle.std.proofs.Common.{◌∙◌}
+use Rattle.hg_ledger.proofs.Covering.{covered_by}
+use Rattle.hg_ledger.proofs.ledger.Ledger.receipt.Goals as goal
+
+pub returns-in-Ok-clause-covered : goal.returns-in-Ok-clause-covered
+returns-in-Ok-clause-covered g c =
+    covered_by g.D.Device.seen g.D.Device.may_leave g.D.Device.moment g.J.Storing.head g.J.Storing.stored
+    g.J.Naming.first c.client.inside.client _ c.in-Ok.receipt c.take_in.new.self c.args.rests
+    (c.take_in.ensures.same ∙ c.await_records.ensures.same) c.take_in.ensures.both c.in-Ok.ensures.covered

@@ -1,7 +1,0 @@
-use Rattle.std.proofs.Common.{arith, rules}
-use Rattle.hg_ledger.proofs.Counting.{raises}
-use Rattle.hg_ledger.proofs.tally.OpenTally.raise.Goals as goal
-
-pub store-requires : goal.store-requires
-store-requires g c =
-    (search rules, search rules, raises _ _ _ _ c.keeper.invariant.3 (omega (arith, c.requires, c.keeper.view_is)))
