@@ -17,6 +17,7 @@ use Rattle.hg_push.specs.Run.{RepositoryOf}
 use Rattle.hg_push.specs.declared.book.OpenFault.{OpenFault}
 use Rattle.hg_store.specs.declared.head.Head.{Head}
 use Rattle.hg_ledger.specs.Clients.{KeptSeen}
+use Rattle.hg_ledger.specs.Promises.{Promise}
 use Rattle.hg_stream.specs.declared.state.State.TheVariants.{Ended}
 use Rattle.hg_stream.specs.Faults.{StateTells}
 use Rattle.hg_serve.specs.declared.desk.Answer.{Answer}
@@ -43,18 +44,18 @@ use Rattle.hg_kept.specs.Kept.{KeptExchange, KeptReply, IsKeptExchange, Replies,
 use Rattle.hg_kept.specs.Connections.{AreKeptExchanges, ConnectsKept, EndsKeptBy, IsSentWhole}
 
 -- what a client had that was taken apart is what it was
-pub as_was : {A : Type 0} (history : List (Taken A)) (receipt : ℕ) (now : KeptSeen A) → history ≡ now.history
+pub as_was : {A : Type 0} (history : List (Taken A)) (receipt : List Promise) (now : KeptSeen A) → history ≡ now.history
     → receipt ≡ now.receipt
     → (let had : KeptSeen A = record { history = history; receipt = receipt } in had ≡ now)
 as_was history receipt now seen same = λ i. record { history = seen i; receipt = same i }
 
 -- all bundles so far were whole, and all their replies went out
-pub record Goes {A D : Type 0} (seen : D → List ℕ) (may_leave : D → List ℕ → Type 0) (head : Head)
+pub record Goes {A D : Type 0} (seen : D → List ℕ) (may_leave : D → List ℕ → Type 0) (moment : D → ℕ) (head : Head)
     (stored : List (List ℕ)) (limits : Limits) (capacity : ℕ) (first : RepositoryOf A) (input left : Input)
     (out sent : Output) (before now : KeptSeen A) (waiting : List ℕ) (served : KeptServed A)
     (number : ℕ) : Type 0 where
   pub whole : List (KeptExchange A)
-  pub chain : AreKeptExchanges seen may_leave head stored limits capacity first before [] whole now
+  pub chain : AreKeptExchanges seen may_leave moment head stored limits capacity first before [] whole now
   pub rest_is : last_rest [] whole ≡ waiting
   pub ends : AreAllWhole IsSentWhole whole
   pub count : number ≡ length whole
@@ -82,47 +83,49 @@ no_fault Whole (Sent NoMemory) e = absurd cc
 no_fault ending NotStored e = absurd cc
 
 -- what did not go out of a reply
-rest_of : {A D : Type 0} (seen : D → List ℕ) (may_leave : D → List ℕ → Type 0) (head : Head)
+rest_of : {A D : Type 0} (seen : D → List ℕ) (may_leave : D → List ℕ → Type 0) (moment : D → ℕ) (head : Head)
     (stored : List (List ℕ)) (first : RepositoryOf A) (after : KeptSeen A) (rests : ℕ)
     (reply gone : List ℕ) (uses : List WriteAnswer) (replied : Replied)
-    → Replies seen may_leave head stored first after rests reply gone uses replied
+    → Replies seen may_leave moment head stored first after rests reply gone uses replied
     → (rest : List ℕ) × (reply ≡ gone ++ rest)
-rest_of seen may_leave head stored first after rests reply gone uses (Sent sending) is =
+rest_of seen may_leave moment head stored first after rests reply gone uses (Sent sending) is =
     (is.1.rest, is.1.reply_is)
-rest_of seen may_leave head stored first after rests reply gone uses NotStored is =
+rest_of seen may_leave moment head stored first after rests reply gone uses NotStored is =
     (reply, ap (λ (l : List ℕ). l ++ reply) (sym is.0))
 
 -- what went out of one reply more can be added: the replies to so few bundles are short together
-pub can_add : {A D : Type 0} {seen : D → List ℕ} {may_leave : D → List ℕ → Type 0} {head : Head}
+pub can_add : {A D : Type 0} {seen : D → List ℕ} {may_leave : D → List ℕ → Type 0} {moment : D → ℕ} {head : Head}
     {stored : List (List ℕ)}
     (limits : Limits) (capacity : ℕ) (first : RepositoryOf A) (input mid begun left : Input)
     (out way sent : Output) (before now had after : KeptSeen A) (waiting waited waits : List ℕ)
     (served : KeptServed A) (number : ℕ) (x : KeptExchange A) (ending : BundleEnd)
     (how : Outcome (Done A) (Refusal A)) (takes : ℕ) (reply : KeptReply) (written : ℕ)
-    → Goes seen may_leave head stored limits capacity first input mid out way before now waiting served number
-    → ServesKept seen may_leave head stored limits capacity first waited waits begun left way sent had x
+    → Goes seen may_leave moment head stored limits capacity first input mid out way before now waiting served number
+    → ServesKept seen may_leave moment head stored limits capacity first waited waits begun left way sent had x
     → TellsOf x ending how takes reply written after → number < 10000
     → served.written + written < 2 ^ 64
-can_add {seen = seen} {may_leave = may_leave} {head = head} {stored = stored} limits capacity first input mid
+can_add {seen = seen} {may_leave = may_leave} {moment = moment} {head = head} {stored = stored} limits capacity
+    first input mid
     begun left out way sent before now had after waiting waited waits served number x ending how takes reply written g v t less =
     let so_far = g.written in
     let bound = g.short in
     let most = within number 10000 greatest_reply (omega (arith, less)) in
     let went = t.written_is in
     let short = v.flows.short in
-    let kept = rest_of seen may_leave head stored first x.after x.sending.rests (reply_of x.how) x.gone x.uses x.sending.replied
+    let kept = rest_of seen may_leave moment head stored first x.after x.sending.rests
+    (reply_of x.how) x.gone x.uses x.sending.replied
     v.is.replies in
     let parted = ap (λ (l : List ℕ). length l) kept.1 in
     let both = length-append x.gone kept.0 in
     omega (arith, so_far, bound, most, went, short, parted, both)
 
 -- nothing was served yet
-pub starts : {A D : Type 0} {seen : D → List ℕ} {may_leave : D → List ℕ → Type 0} {head : Head}
+pub starts : {A D : Type 0} {seen : D → List ℕ} {may_leave : D → List ℕ → Type 0} {moment : D → ℕ} {head : Head}
     {stored : List (List ℕ)}
     (limits : Limits) (capacity : ℕ) (first : RepositoryOf A) (input : Input) (out : Output)
     (before : KeptSeen A) (waiting : List ℕ) (served : KeptServed A) → waiting ≡ []
     → (served.bundles ≡ 0) × (served.last ≡ None) × (served.written ≡ 0) × (served.fault ≡ None)
-    → Goes seen may_leave head stored limits capacity first input input out out before before waiting served 0
+    → Goes seen may_leave moment head stored limits capacity first input input out out before before waiting served 0
 starts {A = A} limits capacity first input out before waiting served none s = record {
   whole = [];
   chain = refl;
@@ -149,17 +152,18 @@ SameBut old new fault = (new.bundles ≡ old.bundles) × (new.last ≡ old.last)
     × (new.fault ≡ fault)
 
 -- the connection ends between two bundles
-module _ {A D : Type 0} {seen : D → List ℕ} {may_leave : D → List ℕ → Type 0} {head : Head}
+module _ {A D : Type 0} {seen : D → List ℕ} {may_leave : D → List ℕ → Type 0} {moment : D → ℕ} {head : Head}
     {stored : List (List ℕ)} (limits : Limits) (capacity : ℕ) (first : RepositoryOf A) (most : ℕ)
     (input mid left : Input) (out sent : Output) (before now : KeptSeen A) (waiting after : List ℕ)
     (served told : KeptServed A) (number : ℕ)
-    (g : Goes seen may_leave head stored limits capacity first input mid out sent before now waiting served number)
+    (g : Goes seen may_leave moment head stored limits capacity first input mid out sent before now waiting served
+    number)
     (less : number ≤ most) where
   closes : (now' : KeptSeen A) (dropped : List ℕ) (final : List ReadAnswer) (fault : Option KeptFault)
       → now' ≡ now → Consumes input.left left.left (bytes_of g.whole ++ dropped)
       → TellsMore input.reads left.reads (reads_of g.whole ++ final) → length dropped ≤ 4096
       → SameBut served told fault → EndsKeptBy most g.whole None final dropped left fault
-      → ConnectsKept seen may_leave head stored limits capacity first most input left out sent before now' told
+      → ConnectsKept seen may_leave moment head stored limits capacity first most input left out sent before now' told
   closes now' dropped final fault same read reads small is end =
       let e : g.whole ++ [] ≡ g.whole = append-nil g.whole in
       let le = within number most limits.stream less in
@@ -172,7 +176,7 @@ module _ {A D : Type 0} {seen : D → List ℕ} {may_leave : D → List ℕ → 
         whole = g.whole;
         last = None;
         chain = subst (λ (y : List (KeptExchange A) × KeptSeen A).
-            AreKeptExchanges seen may_leave head stored limits capacity first before [] y.0 y.1)
+            AreKeptExchanges seen may_leave moment head stored limits capacity first before [] y.0 y.1)
             (λ i. (sym e i, sym same i)) g.chain;
         ends = g.ends;
         joined = record {
@@ -210,7 +214,7 @@ module _ {A D : Type 0} {seen : D → List ℕ} {may_leave : D → List ℕ → 
 
   -- the input ended
   pub at_end : IsNext number waiting after mid left comes_no_more → SameBut served told served.fault
-      → ConnectsKept seen may_leave head stored limits capacity first most input left out sent before now told
+      → ConnectsKept seen may_leave moment head stored limits capacity first most input left out sent before now told
   at_end n is =
       closes now [] (Gave [] ∷ []) None refl (read_nothing (Gave []) n.0 n.1.bytes)
       (Adds-trans input.reads mid.reads left.reads (reads_of g.whole) (Gave [] ∷ []) g.reads n.1.told)
@@ -218,7 +222,7 @@ module _ {A D : Type 0} {seen : D → List ℕ} {may_leave : D → List ℕ → 
 
   -- a read failed between two bundles
   pub at_failure : IsNext number waiting after mid left Fails → SameBut served told (Some (Connection read_failed))
-      → ConnectsKept seen may_leave head stored limits capacity first most input left out sent before now told
+      → ConnectsKept seen may_leave moment head stored limits capacity first most input left out sent before now told
   at_failure n is = closes now [] (Failed ∷ []) (Some (Connection read_failed)) refl
       (read_nothing Failed n.0 n.1.bytes)
       (Adds-trans input.reads mid.reads left.reads (reads_of g.whole) (Failed ∷ []) g.reads n.1.told)
@@ -235,7 +239,7 @@ module _ {A D : Type 0} {seen : D → List ℕ} {may_leave : D → List ℕ → 
   -- a push was not opened
   pub at_opening : (now' : KeptSeen A) (fault : OpenFault) → IsNext number waiting after mid left Comes
       → now' ≡ now → SameBut served told (Some (Connection (Open fault)))
-      → ConnectsKept seen may_leave head stored limits capacity first most input left out sent before now' told
+      → ConnectsKept seen may_leave moment head stored limits capacity first most input left out sent before now' told
   at_opening now' fault n same is = elim n.0 [
     | inl there ↦ closes now' after [] (Some (Connection (Open fault))) same
         (subst (λ (y : List ℕ × Input). Consumes input.left y.1.left (bytes_of g.whole ++ y.0))
@@ -255,7 +259,7 @@ module _ {A D : Type 0} {seen : D → List ℕ} {may_leave : D → List ℕ → 
 
   -- so many bundles were served as were asked for
   pub at_most : left ≡ mid → number ≡ most → length waiting ≤ 4096 → SameBut served told served.fault
-      → ConnectsKept seen may_leave head stored limits capacity first most input left out sent before now told
+      → ConnectsKept seen may_leave moment head stored limits capacity first most input left out sent before now told
   at_most still all small is =
       closes now waiting [] None refl
       (subst (λ (i : Input). Consumes input.left i.left (bytes_of g.whole ++ waiting)) (sym still) g.read)
@@ -276,13 +280,13 @@ pub ended_whole : (ending : BundleEnd) (replied : Replied) (fault : Option KeptF
 ended_whole ending replied fault is none = (no_fault ending replied (is ∙ none_of fault none)).0
 
 -- what went out of a reply that was sent whole
-gone_whole : {A D : Type 0} (seen : D → List ℕ) (may_leave : D → List ℕ → Type 0) (head : Head)
+gone_whole : {A D : Type 0} (seen : D → List ℕ) (may_leave : D → List ℕ → Type 0) (moment : D → ℕ) (head : Head)
     (stored : List (List ℕ)) (first : RepositoryOf A) (after : KeptSeen A) (rests : ℕ)
     (reply gone : List ℕ) (uses : List WriteAnswer) (replied : Replied) → replied ≡ Sent sent_whole
-    → Replies seen may_leave head stored first after rests reply gone uses replied → gone ≡ reply
-gone_whole seen may_leave head stored first after rests reply gone uses (Sent sending) is r =
+    → Replies seen may_leave moment head stored first after rests reply gone uses replied → gone ≡ reply
+gone_whole seen may_leave moment head stored first after rests reply gone uses (Sent sending) is r =
     let whole : sending ≡ sent_whole = cc in sent_gone sending gone uses reply whole r.1
-gone_whole seen may_leave head stored first after rests reply gone uses NotStored is r = absurd cc
+gone_whole seen may_leave moment head stored first after rests reply gone uses NotStored is r = absurd cc
 
 -- what is told of a bundle is told of it with other reads as well
 pub tells_own : {A : Type 0} (x own : KeptExchange A) (ending : BundleEnd) (how : Outcome (Done A) (Refusal A))
@@ -298,26 +302,28 @@ tells_own {A} x own ending how takes reply written after same t = record {
   after_is = ap (λ (y : KeptExchange A). y.after) same ∙ t.after_is;
 }
 
-module _ {A D : Type 0} {seen : D → List ℕ} {may_leave : D → List ℕ → Type 0} {head : Head}
+module _ {A D : Type 0} {seen : D → List ℕ} {may_leave : D → List ℕ → Type 0} {moment : D → ℕ} {head : Head}
     {stored : List (List ℕ)} (limits : Limits) (capacity : ℕ) (first : RepositoryOf A)
     (input mid left : Input) (out way sent : Output) (before now had now' : KeptSeen A)
     (waiting waits : List ℕ)
     (served told : KeptServed A) (number : ℕ) (answer : Answer A) (ending : BundleEnd)
     (reply : KeptReply) (written : ℕ)
-    (g : Goes seen may_leave head stored limits capacity first input mid out way before now waiting served number)
+    (g : Goes seen may_leave moment head stored limits capacity first input mid out way before now waiting served
+    number)
     (same : had ≡ now)
     (x : KeptExchange A)
-    (v : ServesKept seen may_leave head stored limits capacity first waiting waits mid left way sent had x)
+    (v : ServesKept seen may_leave moment head stored limits capacity first waiting waits mid left way sent had x)
     (t : TellsOf x ending answer.outcome answer.takes reply written now')
     (s : (told.bundles ≡ number + 1) × (told.last ≡ Some answer) × (told.written ≡ served.written + written)
     × (told.fault ≡ kept_fault_of ending reply.replied)) where
-  chained : AreKeptExchanges seen may_leave head stored limits capacity first before [] (g.whole ++ x ∷ []) now'
+  chained : AreKeptExchanges seen may_leave moment head stored limits capacity first before [] (g.whole ++ x ∷ []) now'
   chained =
-      subst (λ (h : KeptSeen A). AreKeptExchanges seen may_leave head stored limits capacity first before []
+      subst (λ (h : KeptSeen A). AreKeptExchanges seen may_leave moment head stored limits capacity first before []
       (g.whole ++ x ∷ []) h)
       t.after_is
-      (chain_more (IsKeptExchange seen may_leave head stored limits capacity first) before [] g.whole now x g.chain
-      (subst (λ (y : KeptSeen A × List ℕ). IsKeptExchange seen may_leave head stored limits capacity first y.0
+      (chain_more (IsKeptExchange seen may_leave moment head stored limits capacity first) before [] g.whole now x
+      g.chain
+      (subst (λ (y : KeptSeen A × List ℕ). IsKeptExchange seen may_leave moment head stored limits capacity first y.0
       y.1 x)
       (λ i. (same i, sym g.rest_is i)) v.is))
 
@@ -376,11 +382,12 @@ module _ {A D : Type 0} {seen : D → List ℕ} {may_leave : D → List ℕ → 
   its_fault = (λ i. kept_fault_of (t.ending_is i) (t.sending_is i).replied) ∙ sym s.3
 
   its_rest : (rest : List ℕ) × (reply_of x.how ≡ x.gone ++ rest)
-  its_rest = rest_of seen may_leave head stored first x.after x.sending.rests (reply_of x.how) x.gone x.uses x.sending.replied
+  its_rest = rest_of seen may_leave moment head stored first x.after x.sending.rests
+      (reply_of x.how) x.gone x.uses x.sending.replied
       v.is.replies
 
   pub at_fault : (most : ℕ) → number < most → is_some told.fault ≡ true
-      → ConnectsKept seen may_leave head stored limits capacity first most input left out sent before now' told
+      → ConnectsKept seen may_leave moment head stored limits capacity first most input left out sent before now' told
   at_fault most less some =
       let up : number + 1 ≤ most = omega (arith, less) in
       let le = within (number + 1) most limits.stream up in
@@ -415,12 +422,14 @@ module _ {A D : Type 0} {seen : D → List ℕ} {may_leave : D → List ℕ → 
       }
 
   pub goes_on : is_some told.fault ≡ false
-      → Goes seen may_leave head stored limits capacity first input left out sent before now' waits told (number + 1)
+      → Goes seen may_leave moment head stored limits capacity first input left out sent before now' waits told
+      (number + 1)
   goes_on none =
       let both = no_fault x.ending x.sending.replied (its_fault ∙ none_of told.fault none) in
       let gone : replies_of g.whole
       ++ x.gone ≡ replies_of (g.whole ++ x ∷ []) = ap (λ (l : List ℕ). replies_of g.whole ++ l)
-      (gone_whole seen may_leave head stored first x.after x.sending.rests (reply_of x.how) x.gone x.uses x.sending.replied both.1
+      (gone_whole seen may_leave moment head stored first x.after x.sending.rests
+      (reply_of x.how) x.gone x.uses x.sending.replied both.1
       v.is.replies) ∙ replies_more g.whole x in
       let told_ended : StateTells Ended limits x.consumed x.parts = subst
       (λ (e : BundleEnd). StateTells (state_at e) limits x.consumed x.parts) both.0 v.is.received.tells in

@@ -1,14 +1,15 @@
 -- What the end of a server and of its ledger leaves.
-use Rattle.std.proofs.Common.{◌≡◌, ℕ, ◌≤◌, List, [], ◌∷◌, ◌++◌, length, refl, sym, subst, arith}
+use Rattle.std.proofs.Common.{◌≡◌, ℕ, List, [], ◌∷◌, ◌++◌, length, refl, sym, subst, arith}
 use Rattle.std.specs.List.{Contains}
-use Rattle.std.proofs.lemmas.List.Elements.{Contains-append_left, Contains-push}
+use Rattle.std.specs.Prelude.{All}
+use Rattle.std.proofs.lemmas.List.Elements.{All-contains, All-weaker, Contains-append_left, Contains-push}
 use mathlib.Core.List.{IsPrefix}
 use Rattle.hg_types.specs.declared.item.Taken.{Taken}
 use Rattle.hg_store.specs.declared.head.Head.{Head}
 use Rattle.hg_push.specs.Run.{RepositoryOf}
 use Rattle.hg_ledger.specs.Clients.{KeptSeen}
-use Rattle.hg_ledger.specs.Lives.{IsFront, StillHas}
-use Rattle.hg_ledger.specs.Records.{done_in}
+use Rattle.hg_ledger.specs.Lives.{IsKeptSince, IsLeftSince}
+use Rattle.hg_ledger.specs.Promises.{Promise}
 use Rattle.hg_kept.specs.Closing.{IsLeft}
 
 pub empty_front : {X : Type 0} (xs ys : List X) → length xs ≡ 0 → xs ++ ys ≡ ys
@@ -29,19 +30,21 @@ pub has_beyond : {X : Type 0} (front whole : List X) (x : X) → IsPrefix front 
 has_beyond front whole x begins there =
     subst (λ xs. Contains xs x) begins.1 (Contains-append_left front begins.0 x there)
 
--- A client whose receipt counts no more than the ledger brought to its device.
-pub is_left : {A D : Type 0} (may_leave : D → List ℕ → Type 0) (head : Head) (stored : List (List ℕ))
-    (first : RepositoryOf A) (whole witness : List (Taken A)) (kept : ℕ) (device : D) (client : KeptSeen A)
-    → ((head : Head) (stored : List (List ℕ)) (first : RepositoryOf A) (client witness whole : List (Taken A))
-    (rests receipt kept : ℕ) (file : List ℕ) → IsPrefix client whole → IsPrefix witness whole →
-    rests ≤ done_in first client → rests ≤ receipt → receipt ≤ kept → IsFront head stored first witness kept file →
-    StillHas head stored first client rests file)
-    → IsPrefix client.history whole → IsPrefix witness whole → client.receipt ≤ kept
-    → ((file : List ℕ) → may_leave device file → IsFront head stored first witness kept file)
-    → IsLeft may_leave head stored first whole device client
-is_left may_leave head stored first whole witness kept device client law mine theirs few now = record {
-  begins = mine;
-  has = λ rests done low file may.
-      law head stored first client.history witness whole rests client.receipt kept file mine theirs done low few
-      (now file may);
-}
+-- A client whose promises the ledger made.
+pub is_left : {A D : Type 0} (moment : D → ℕ) (left_since : D → ℕ → List ℕ → Type 0)
+    (may_leave : D → List ℕ → Type 0) (head : Head) (stored : List (List ℕ)) (first : RepositoryOf A)
+    (whole witness : List (Taken A)) (kept : ℕ) (device : D) (client : KeptSeen A) (promises : List Promise)
+    → ((promise : Promise) → IsKeptSince moment left_since head stored first witness kept device promise
+    → IsLeftSince moment left_since may_leave head stored first client.history device promise)
+    → IsPrefix client.history whole
+    → All (IsKeptSince moment left_since head stored first witness kept device) promises
+    → All (Contains promises) client.receipt
+    → IsLeft moment left_since may_leave head stored first whole device client
+is_left moment left_since may_leave head stored first whole witness kept device client promises law mine kept_all made =
+    let Kept : Promise → Type 0 = IsKeptSince moment left_since head stored first witness kept device in
+    record {
+      begins = mine;
+      each = All-weaker (Contains promises)
+          (IsLeftSince moment left_since may_leave head stored first client.history device)
+          (λ p there. law p (All-contains Kept promises p kept_all there)) client.receipt made;
+    }

@@ -88,33 +88,35 @@ module _ {A : Type 0} (limits : Limits) (capacity : ℕ) (first : RepositoryOf A
     handed (Aborted reason) a on = search rules
 
 -- The same bundle, with the read that saw it come.
-pub record Comes {A D : Type 0} (seen : D → List ℕ) (may_leave : D → List ℕ → Type 0) (head : Head)
+pub record Comes {A D : Type 0} (seen : D → List ℕ) (may_leave : D → List ℕ → Type 0) (moment : D → ℕ) (head : Head)
     (stored : List (List ℕ)) (limits : Limits) (capacity : ℕ) (first : RepositoryOf A)
     (waited waiting : List ℕ) (input left : Input) (out sent : Output) (before : KeptSeen A)
     (x : KeptExchange A) : Type 0 where
   pub own : KeptExchange A
-  pub served : ServesKept seen may_leave head stored limits capacity first waited waiting input left out sent
+  pub served : ServesKept seen may_leave moment head stored limits capacity first waited waiting input left out sent
       before own
   pub same : own ≡ record x { reads = own.reads }
 
-pub comes : {A D : Type 0} {seen : D → List ℕ} {may_leave : D → List ℕ → Type 0} {head : Head}
+pub comes : {A D : Type 0} {seen : D → List ℕ} {may_leave : D → List ℕ → Type 0} {moment : D → ℕ} {head : Head}
     {stored : List (List ℕ)} (limits : Limits) (capacity : ℕ) (first : RepositoryOf A)
     (waited piece waiting : List ℕ) (input mid left : Input) (out sent : Output) (before : KeptSeen A)
     (x : KeptExchange A) → Arrives waited piece input mid
-    → ServesKept seen may_leave head stored limits capacity first piece waiting mid left out sent before x
-    → Comes seen may_leave head stored limits capacity first waited waiting input left out sent before x
-comes {seen = seen} {may_leave = may_leave} {head = head} {stored = stored} limits capacity first waited piece
+    → ServesKept seen may_leave moment head stored limits capacity first piece waiting mid left out sent before x
+    → Comes seen may_leave moment head stored limits capacity first waited waiting input left out sent before x
+comes {seen = seen} {may_leave = may_leave} {moment = moment} {head = head} {stored = stored} limits capacity first
+    waited piece
     waiting input mid left out sent before x arrives v =
     elim arrives [
       | inl there ↦ record {
         own = x;
-        served = subst (λ (y : List ℕ × Input). ServesKept seen may_leave head stored limits capacity first y.0
+        served = subst (λ (y : List ℕ × Input). ServesKept seen may_leave moment head stored limits capacity first y.0
             waiting y.1 left out sent before x) (λ i. (there.0 i, there.1 i)) v;
         same = refl;
       }
       | inr read ↦ record {
         own = record x { reads = Gave piece ∷ x.reads };
-        served = subst (λ (l : List ℕ). ServesKept seen may_leave head stored limits capacity first l waiting input
+        served = subst (λ (l : List ℕ). ServesKept seen may_leave moment head stored limits capacity first l
+            waiting input
             left out sent before (record x { reads = Gave piece ∷ x.reads })) (sym read.0) (record {
               is = record {
                 received = received_with limits piece x.reads x.ending x.parts x.consumed x.rest read.2

@@ -15,10 +15,10 @@ use Rattle.hg_kept.specs.declared.served.KeptServed.{KeptServed}
 use Rattle.hg_kept.specs.Kept.{KeptExchange, KeptReply, IsKeptExchange, kept_fault_of}
 
 -- those of a connection
-abbrev pub AreKeptExchanges : {A D : Type 0} → (D → List ℕ) → (D → List ℕ → Type 0) → Head → List (List ℕ) →
+abbrev pub AreKeptExchanges : {A D : Type 0} → (D → List ℕ) → (D → List ℕ → Type 0) → (D → ℕ) → Head → List (List ℕ) →
     Limits → ℕ → RepositoryOf A → KeptSeen A → List ℕ → List (KeptExchange A) → KeptSeen A → Type 0
-AreKeptExchanges seen may_leave head stored limits capacity first before waited xs after =
-    AreChained (IsKeptExchange seen may_leave head stored limits capacity first) before waited xs after
+AreKeptExchanges seen may_leave moment head stored limits capacity first before waited xs after =
+    AreChained (IsKeptExchange seen may_leave moment head stored limits capacity first) before waited xs after
 
 -- the reply was written whole and flushed: the store did not fail
 abbrev pub IsSentWhole : KeptReply → Type 0
@@ -44,13 +44,14 @@ EndsKeptBy most whole (Some x) final dropped left (Some fault) =
 -- used, and nothing was read or written any more. The bytes that were read are those of the bundles and a rest.
 -- What the writer took is what went out of each reply, in order: a front of the replies, and all of them where
 -- there is no fault.
-pub record ConnectsKept {A D : Type 0} (seen : D → List ℕ) (may_leave : D → List ℕ → Type 0) (head : Head)
+pub record ConnectsKept {A D : Type 0} (seen : D → List ℕ) (may_leave : D → List ℕ → Type 0) (moment : D → ℕ)
+    (head : Head)
     (stored : List (List ℕ)) (limits : Limits) (capacity : ℕ) (first : RepositoryOf A) (most : ℕ)
     (input left : Input) (out sent : Output) (before after : KeptSeen A)
     (served : KeptServed A) : Type 0 where
   pub whole : List (KeptExchange A)
   pub last : Option (KeptExchange A)
-  pub chain : AreKeptExchanges seen may_leave head stored limits capacity first before []
+  pub chain : AreKeptExchanges seen may_leave moment head stored limits capacity first before []
       (whole ++ option_to_list last) after
   pub ends : AreAllWhole IsSentWhole whole
   pub joined : AreJoined limits most input left out sent (whole ++ option_to_list last) served.bundles

@@ -1,6 +1,7 @@
 -- One bundle whose push is kept before it is answered.
 use Rattle.std.specs.Prelude.{ℕ, ◌≡◌, ◌≤◌, ◌-◌, ⊤, List, [], length, Option, Some, None}
 use Rattle.std.specs.Io.KnownBytes.{Appends}
+use mathlib.Core.List.{IsPrefix}
 use Rattle.hg_types.specs.declared.item.Taken.{Taken}
 use Rattle.hg_types.specs.declared.limits.Limits.{Limits}
 use Rattle.hg_repo.specs.declared.done.Done.{Done}
@@ -51,20 +52,20 @@ abbrev pub KeptExchange : Type 0 → Type 0
 KeptExchange A = ExchangeOf A KeptReply (KeptSeen A)
 
 -- A reply that was sent is true: all that it rests on was on the device, so many done pushes, and the client's receipt
--- counts them. Where the store failed, the writer was not used.
-abbrev pub Replies : {A D : Type 0} → (D → List ℕ) → (D → List ℕ → Type 0) → Head → List (List ℕ) →
+-- has a promise of them. Where the store failed, the writer was not used.
+abbrev pub Replies : {A D : Type 0} → (D → List ℕ) → (D → List ℕ → Type 0) → (D → ℕ) → Head → List (List ℕ) →
     RepositoryOf A → KeptSeen A → ℕ → List ℕ → List ℕ → List WriteAnswer → Replied → Type 0
-Replies seen may_leave head stored first after rests reply gone uses (Sent sending) =
-    IsCovered seen may_leave head stored first after rests × IsSent sending gone uses reply
-Replies seen may_leave head stored first after rests reply gone uses NotStored = (gone ≡ []) × (uses ≡ [])
+Replies seen may_leave moment head stored first after rests reply gone uses (Sent sending) =
+    IsCovered seen may_leave moment head stored first after rests × IsSent sending gone uses reply
+Replies seen may_leave moment head stored first after rests reply gone uses NotStored = (gone ≡ []) × (uses ≡ [])
 
 -- this became of a reply at a writer, which took so many bytes of it
-pub record RepliesBy {A D : Type 0} (seen : D → List ℕ) (may_leave : D → List ℕ → Type 0) (head : Head)
+pub record RepliesBy {A D : Type 0} (seen : D → List ℕ) (may_leave : D → List ℕ → Type 0) (moment : D → ℕ) (head : Head)
     (stored : List (List ℕ)) (first : RepositoryOf A) (after : KeptSeen A) (rests : ℕ) (reply : List ℕ)
     (out sent : Output) (replied : Replied) (written : ℕ) : Type 0 where
   pub gone : List ℕ
   pub uses : List WriteAnswer
-  pub is : Replies seen may_leave head stored first after rests reply gone uses replied
+  pub is : Replies seen may_leave moment head stored first after rests reply gone uses replied
   pub written_is : written ≡ length gone
   pub went : Appends out.taken sent.taken gone
   pub used : TellsMore out.uses sent.uses uses
@@ -78,9 +79,10 @@ IsRecorded first after rests bytes (Aborted reason) = ⊤
 -- The bundle was received by these reads, after the bytes that waited. The client had seen no item of the
 -- push. Of the push the bundle's parts were put and the mark that the ending asks for, and it was answered so.
 -- The answer rests on so many done pushes, the last of which is this one, where it is done, and its record is
--- the bundle. The reply was sent only where all of that was on the device, and the client has a receipt for it. What
--- its receipt counts does not fall.
-pub record IsKeptExchange {A D : Type 0} (seen : D → List ℕ) (may_leave : D → List ℕ → Type 0) (head : Head)
+-- the bundle. The reply was sent only where all of that was on the device, and the client has a receipt for it. The
+-- promises that it had it still has.
+pub record IsKeptExchange {A D : Type 0} (seen : D → List ℕ) (may_leave : D → List ℕ → Type 0) (moment : D → ℕ)
+    (head : Head)
     (stored : List (List ℕ)) (limits : Limits) (capacity : ℕ) (first : RepositoryOf A)
     (before : KeptSeen A) (waited : List ℕ) (x : KeptExchange A) : Type 0 where
   pub received : IsReceived limits waited x.reads x.ending x.parts x.consumed x.rest
@@ -89,14 +91,15 @@ pub record IsKeptExchange {A D : Type 0} (seen : D → List ℕ) (may_leave : D 
       (push_items x.push x.parts (mark_of x.ending)) before.history x.how x.takes x.after.history
   pub rests_on : RestsOn run_push first (newest_first x.after.history) x.push x.how x.sending.rests
   pub recorded : IsRecorded first x.after.history x.sending.rests x.consumed x.how
-  pub grows : before.receipt ≤ x.after.receipt
-  pub replies : Replies seen may_leave head stored first x.after x.sending.rests (reply_of x.how) x.gone x.uses
+  pub grows : IsPrefix before.receipt x.after.receipt
+  pub replies : Replies seen may_leave moment head stored first x.after x.sending.rests (reply_of x.how) x.gone x.uses
       x.sending.replied
 
 -- one bundle was served by that reader and that writer
-pub record ServesKept {A D : Type 0} (seen : D → List ℕ) (may_leave : D → List ℕ → Type 0) (head : Head)
+pub record ServesKept {A D : Type 0} (seen : D → List ℕ) (may_leave : D → List ℕ → Type 0) (moment : D → ℕ)
+    (head : Head)
     (stored : List (List ℕ)) (limits : Limits) (capacity : ℕ) (first : RepositoryOf A)
     (waited waiting : List ℕ) (input left : Input) (out sent : Output) (before : KeptSeen A)
     (x : KeptExchange A) : Type 0 where
-  pub is : IsKeptExchange seen may_leave head stored limits capacity first before waited x
+  pub is : IsKeptExchange seen may_leave moment head stored limits capacity first before waited x
   pub flows : Flows waited waiting input left out sent x

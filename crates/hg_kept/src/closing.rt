@@ -1,14 +1,14 @@
 //! The end of a server whose pushes are kept.
 
-ghost use Rattle.std.specs.Prelude.{◌≡◌, ◌≤◌, ◌++◌, ◌∷◌, [], All};
+ghost use Rattle.std.specs.Prelude.{◌≡◌, ◌++◌, ◌∷◌, [], All};
 ghost use Rattle.std.specs.List.{Contains};
 ghost use mathlib.Core.List.{IsPrefix};
 ghost use Rattle.hg_queue.specs.Words.{history};
 ghost use Rattle.hg_serve.specs.Histories.{serial_run};
-ghost use Rattle.hg_ledger.specs.Clients.{counted};
+ghost use Rattle.hg_ledger.specs.Clients.{promised};
 ghost use Rattle.hg_kept.specs.Closing.{ClosesKept};
 
-use hg_ledger::laws::what_a_receipt_rests_on_is_left;
+use hg_ledger::laws::what_is_promised_is_left;
 use hg_ledger::{KeptClient, Ledger, Parts, Receipt, Storing, Tally};
 use hg_serve::{Client, Closed, Server};
 use hg_store::{Device, Log};
@@ -27,8 +27,9 @@ pub struct ClosedKept<D: Device, A: Allocator = Global> {
 }
 
 /// Closes a server and its ledger, with the clients of its connections, and compares the receipt of each with the
-/// ledger's tally. **Whatever an end leaves from now on has, for each of these clients, the records of all that it
-/// was answered rests on.** And what ends might have left before is a front of the journal. It waits for memory.
+/// ledger's tally. **Whatever an end might have left since a client was answered, and what one leaves from now on, has
+/// the records of all that the answer rests on**: by each promise of each of these clients. And whatever an end might
+/// have left before is a front of the journal. It waits for memory.
 pub fn close_kept<J: Storing<A>, D: Device, A: Allocator + Copy, R: Wait>(
     rt: &R,
     alloc: A,
@@ -41,7 +42,7 @@ pub fn close_kept<J: Storing<A>, D: Device, A: Allocator + Copy, R: Wait>(
     ensures left { ClosesKept D.moment D.left_since D.may_leave J.head J.stored J.first J.opened clients.items
         (history result.closed.taker) result.kept result.log.device }
 {
-    what_a_receipt_rests_on_is_left::<A>();
+    what_is_promised_is_left::<A, D>();
     let Parts {
         log,
         kept,
@@ -66,7 +67,8 @@ fn compare_each<J: Storing<A>, A: Allocator, R: Wait>(
 )
     requires { tally.old.id ≡ J.tally }
     ensures keeps { IsPrefix seen.old.items seen.new.items }
-    ensures each { All (λ c. (c.receipt ≤ tally.old.count) × Contains seen.new.items c.history) clients.items }
+    ensures each { All (λ c. All (Contains tally.old.promises) c.receipt × Contains seen.new.items c.history)
+        clients.items }
 {
     'comparing: while let Some(client) = clients.pop() {
         let (client, receipt) = client.into_parts();
@@ -80,7 +82,7 @@ fn compare_each<J: Storing<A>, A: Allocator, R: Wait>(
 fn compare<J: Storing<A>, A: Allocator>(tally: &mut Tally<A>, receipt: Option<Receipt<J, A>>)
     requires { tally.old.id ≡ J.tally }
     ensures same { tally.new ≡ tally.old }
-    ensures counted { counted receipt ≤ tally.old.count }
+    ensures promised { All (Contains tally.old.promises) (promised receipt) }
 {
     if let Some(mut receipt) = receipt {
         tally.compare(&mut receipt);

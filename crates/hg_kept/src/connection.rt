@@ -1,13 +1,14 @@
 //! A connection whose pushes are kept before they are answered.
 
 ghost use Rattle.std.specs.Prelude.{◌≡◌, ◌≤◌, ◌-◌, [], IfSome, IfOk, IfErr};
+ghost use mathlib.Core.List.{IsPrefix};
 ghost use Rattle.hg_stream.specs.Unbundler.{limits_of, ready_of, state_of};
 ghost use Rattle.hg_stream.specs.declared.state.State.TheVariants.{Ended as at_end_mark};
 ghost use Rattle.hg_queue.specs.History.{of, items_of};
 ghost use Rattle.hg_receiving.specs.declared.ending.BundleEnd.TheVariants.{Whole};
 ghost use Rattle.hg_connection.specs.Receiving.{IsFresh};
 ghost use Rattle.hg_push.specs.Reply.{CanBeTold, reply_of};
-ghost use Rattle.hg_ledger.specs.Clients.{counted};
+ghost use Rattle.hg_ledger.specs.Clients.{promised};
 ghost use Rattle.hg_ledger.specs.Records.{IsRecordOf, done_in};
 ghost use Rattle.hg_connection.specs.Connections.{TellsOf};
 ghost use Rattle.hg_kept.specs.Kept.{KeptExchange, RepliesBy, ServesKept, record_of};
@@ -60,7 +61,7 @@ pub fn open_kept<J: Storing<A>, D: Device, A: Allocator + Copy, R: Wait>(
     ensures ok { IfOk result (λ opened. (opened.sender.putter.put ≡ [])
         × (opened.sender.history ≡ client.history)
         × (of opened.sender.putter.push (items_of client.history) ≡ [])
-        × (counted opened.receipt ≡ client.receipt)) }
+        × (promised opened.receipt ≡ client.receipt)) }
     ensures err { IfErr result (λ back. back.0 ≡ client) }
 {
     let room = match ledger.room(rt) {
@@ -100,8 +101,8 @@ fn reply_kept<J: Storing<A>, D: Device, A: Allocator + Copy, R: Wait, W: Writer>
         × IsRecordOf J.first client.old.history (rests - 1) bytes) }
     requires told { CanBeTold outcome.now }
     ensures same { client.new.history ≡ client.old.history }
-    ensures grows { client.old.receipt ≤ client.new.receipt }
-    ensures replied { RepliesBy D.seen D.may_leave J.head J.stored J.first client.new rests
+    ensures grows { IsPrefix client.old.receipt client.new.receipt }
+    ensures replied { RepliesBy D.seen D.may_leave D.moment J.head J.stored J.first client.new rests
         (reply_of outcome.now) (W.told writer.old) (W.told writer.new) result.0 result.1 }
 {
     match ledger.keep(rt, server, client, room, rests, bundle) {
@@ -116,7 +117,7 @@ fn reply_kept<J: Storing<A>, D: Device, A: Allocator + Copy, R: Wait, W: Writer>
 /// Serves one bundle on a push that was opened with room for its record: receives it and keeps its bytes, puts
 /// its mark, waits for its answer, hands in the record of a done push, waits until all that the reply rests
 /// on is on the device, and only then sends the reply. A reply that a push was aborted waits as well. Where
-/// the store failed, the writer is not used. The client has the receipt that it had, or one that counts as much and
+/// the store failed, the writer is not used. The client has the receipt that it had, or one that has its promises and
 /// all that the reply rests on.
 pub fn serve_bundle_kept<
     J: Storing<A>,
@@ -142,9 +143,9 @@ pub fn serve_bundle_kept<
     requires sender { (opened.sender.putter.put ≡ [])
         × (of opened.sender.putter.push (items_of opened.sender.history) ≡ []) }
     ensures served { (x : KeptExchange A)
-        × ServesKept D.seen D.may_leave J.head J.stored server.now J.capacity J.first inbox.old inbox.new
+        × ServesKept D.seen D.may_leave D.moment J.head J.stored server.now J.capacity J.first inbox.old inbox.new
         (I.told reader.old) (I.told reader.new) (W.told writer.old) (W.told writer.new)
-        (record { history = opened.sender.history; receipt = counted opened.receipt }) x
+        (record { history = opened.sender.history; receipt = promised opened.receipt }) x
         × TellsOf x result.1.ending result.1.answer.outcome result.1.answer.takes
         (record { rests = result.1.rests; replied = result.1.replied }) result.1.written result.0 }
     ensures whole { result.1.ending ≡ Whole
@@ -223,7 +224,7 @@ pub fn serve_connection_kept<
     gate: &mut G,
 ) -> (KeptClient<J, A>, KeptServed<A>)
     requires { (1 ≤ most) × (most ≤ 10000) }
-    ensures { ConnectsKept D.seen D.may_leave J.head J.stored server.now J.capacity J.first most
+    ensures { ConnectsKept D.seen D.may_leave D.moment J.head J.stored server.now J.capacity J.first most
         (I.told reader.old) (I.told reader.new) (W.told writer.old) (W.told writer.new) client result.0 result.1 }
 {
     streams_are_settled_once::<A>();

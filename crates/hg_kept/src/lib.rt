@@ -6,7 +6,7 @@
 //! are read, and the writer is used only once the client has the ledger's receipt for all that the reply rests on.
 //! [`serve_bundle_kept`] is the part of it that serves one bundle.
 //!
-//! [`close_kept`] ends such a server, and compares the receipts of its clients with what the ledger counted.
+//! [`close_kept`] ends such a server, and compares the receipts of its clients with what the ledger promised.
 #![tactic(auto)]
 
 mod closing;

@@ -1,4 +1,4 @@
-use Rattle.std.proofs.Common.{◌≡◌, ℕ, ◌≤◌, List, sym, subst, arith, ap}
+use Rattle.std.proofs.Common.{◌≡◌, ℕ, List, sym, subst, ap}
 use Rattle.std.specs.Prelude.{All}
 use Rattle.std.specs.List.{Contains}
 use Rattle.std.proofs.lemmas.List.Elements.{All-contains, All-weaker}
@@ -6,6 +6,7 @@ use mathlib.Core.List.{IsPrefix}
 use Rattle.hg_types.specs.declared.item.Taken.{Taken}
 use Rattle.hg_queue.specs.Words.{history}
 use Rattle.hg_ledger.specs.Clients.{KeptSeen}
+use Rattle.hg_ledger.specs.Promises.{Promise}
 use Rattle.hg_kept.specs.Closing.{IsLeft}
 use Rattle.hg_kept.proofs.Ends.{has_beyond, has_last, has_still, is_left}
 use Rattle.hg_kept.proofs.closing.close_kept.Goals as goal
@@ -25,12 +26,20 @@ returns-clause-left g c =
     (has_still c.put.new.clients.items c.put-2.new.clients.items witness parts.witnesses.1 c.put-2.ensures
     (has_last c.new-seen.result.items c.put.new.clients.items witness c.put.ensures)) in
     let theirs : IsPrefix witness whole = All-contains Begins seen witness early there in
+    let moment = g.D.Device.moment in
+    let left_since = g.D.Device.left_since in
+    let may_leave = g.D.Device.may_leave in
+    let head = g.J.Storing.head in
+    let stored = g.J.Storing.stored in
+    let promises : List Promise = parts.tally.promises in
     record {
-      each = All-weaker (λ (k : KeptSeen g.row.A.Denot). (k.receipt ≤ parts.tally.count) × Contains seen k.history)
-          (IsLeft g.D.Device.may_leave g.J.Storing.head g.J.Storing.stored first whole device)
-          (λ k w. is_left g.D.Device.may_leave g.J.Storing.head g.J.Storing.stored first whole witness parts.kept device
-          k c.what_a_receipt_rests_on_is_left.ensures (All-contains Begins seen k.history early w.1) theirs
-          (omega (arith, w.0, c.into_parts-log.ensures.tally.1)) life.now) c.args.clients.items
+      each = All-weaker (λ (k : KeptSeen g.row.A.Denot). All (Contains promises) k.receipt × Contains seen k.history)
+          (IsLeft moment left_since may_leave head stored first whole device)
+          (λ k w.
+          let mine : IsPrefix k.history whole = All-contains Begins seen k.history early w.1 in
+          is_left moment left_since may_leave head stored first whole witness parts.kept device k promises
+          (λ p kept. c.what_is_promised_is_left.ensures head stored first k.history witness whole parts.kept device p
+          mine theirs kept) mine c.into_parts-log.ensures.promises w.0) c.args.clients.items
           c.compare_each.ensures.each;
       witness = witness;
       begins = theirs;

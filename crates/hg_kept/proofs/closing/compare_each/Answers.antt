@@ -2,7 +2,9 @@ use Rattle.std.proofs.Common.{◌≡◌, ℕ, ◌≤◌, [], ◌∷◌, ◌++◌
 use Rattle.std.specs.Prelude.{All}
 use Rattle.std.specs.List.{Contains}
 use Rattle.std.proofs.lemmas.List.Elements.{All-cons, All-nil, All-same, All-weaker}
-use Rattle.hg_ledger.specs.Clients.{KeptSeen}
+use Rattle.hg_ledger.specs.Clients.{KeptSeen, promised}
+use Rattle.hg_ledger.specs.Promises.{Promise}
+use Rattle.hg_ledger.specs.Receipts.{TallyView}
 use Rattle.hg_kept.proofs.Ends.{empty_front, has_last, has_still}
 use Rattle.hg_kept.proofs.closing.compare_each.Goals as goal
 
@@ -14,13 +16,10 @@ comparing-preserved g c =
     let v = c.in-Some.client in
     let parts = c.into_parts-client in
     let client = parts.result.0 in
-    let most = c.args.tally.now.count in
-    let few : v.receipt ≤ most = omega (
-      arith,
-      parts.ensures.1,
-      c.compare.ensures.counted,
-      ap (λ t. t.count) i.same,
-    ) in
+    let most = c.args.tally.now.promises in
+    let receipt : List Promise = promised parts.result.1 in
+    let made : All (Contains most) v.receipt = All-same (Contains most) v.receipt receipt (sym parts.ensures.1)
+    (subst (λ (t : TallyView). All (Contains t.promises) receipt) i.same c.compare.ensures.promised) in
     let there : Contains now v.history = subst (λ h. Contains now h) parts.ensures.0
     (has_last seen now client c.put.ensures) in
     record {
@@ -34,9 +33,10 @@ comparing-preserved g c =
         v ∷ i.done.0,
         i.done.1 ∙ (ap (λ l. l ++ i.done.0) c.in-Some.ensures.items
             ∙ append_assoc c.pop.new.self.items (v ∷ []) i.done.0),
-        All-cons (λ (k : KeptSeen g.row.A.Denot). (k.receipt ≤ most) × Contains now k.history) v i.done.0 (few, there)
-            (All-weaker (λ (k : KeptSeen g.row.A.Denot). (k.receipt ≤ most) × Contains seen k.history)
-            (λ (k : KeptSeen g.row.A.Denot). (k.receipt ≤ most) × Contains now k.history)
+        All-cons (λ (k : KeptSeen g.row.A.Denot). All (Contains most) k.receipt × Contains now k.history) v
+            i.done.0 (made, there)
+            (All-weaker (λ (k : KeptSeen g.row.A.Denot). All (Contains most) k.receipt × Contains seen k.history)
+            (λ (k : KeptSeen g.row.A.Denot). All (Contains most) k.receipt × Contains now k.history)
             (λ k w. (w.0, has_still seen now k.history client c.put.ensures w.1)) i.done.0 i.done.2),
       );
     }
@@ -47,6 +47,6 @@ returns-clause-each g c =
     let ok = c.comparing.clients.ok in
     let len = c.in_default.ensures.cases.0 in
     let none : length c.comparing.clients.items ≡ 0 = omega arith in
-    All-same (λ (k : KeptSeen g.row.A.Denot). (k.receipt ≤ c.args.tally.now.count)
+    All-same (λ (k : KeptSeen g.row.A.Denot). All (Contains c.args.tally.now.promises) k.receipt
     × Contains c.comparing.seen.items k.history) c.args.clients.items i.done.0
     (i.done.1 ∙ empty_front c.comparing.clients.items i.done.0 none) i.done.2

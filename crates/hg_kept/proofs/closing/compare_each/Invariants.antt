@@ -10,7 +10,7 @@ invariant-comparing g l = record {
   same : l.tally ≡ l.fn.tally;
   keeps : IsPrefix l.fn.seen.items l.seen.items;
   done : (spent : List (KeptSeen g.row.A.Denot)) × (l.initial.clients.items ≡ l.clients.items ++ spent)
-      × All (λ c. (c.receipt ≤ l.fn.tally.count) × Contains l.seen.items c.history) spent;
+      × All (λ c. All (Contains l.fn.tally.promises) c.receipt × Contains l.seen.items c.history) spent;
 }
 
 abbrev pub decreases-comparing : goal.decreases-comparing

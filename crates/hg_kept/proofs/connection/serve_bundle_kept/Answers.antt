@@ -1,5 +1,6 @@
 use Rattle.std.proofs.Common.{ℕ, ◌≡◌, ◌≤◌, ◌-◌, List, Option, refl, sym, ◌∙◌, ap, subst, arith}
 use Rattle.std.specs.Prelude.{IfSome}
+use mathlib.Core.List.{IsPrefix}
 use Rattle.hg_types.specs.declared.item.Taken.{Taken}
 use Rattle.hg_push.specs.Places.{RestsOn}
 use Rattle.hg_push.specs.Run.{run_push}
@@ -77,7 +78,8 @@ returns-clause-served g c =
               _ _ c.args.opened.sender c.receive_kept-ending.new.sender c.receive_kept-ending.result
               c.receive_kept-ending.new.kept.items e takes after.history rests r m c.limits-limits.ensures.first how
               answers on;
-          grows = omega (arith, k.grows, ap (λ (v : KeptSeen g.row.A.Denot). v.receipt) c.of-client.ensures);
+          grows = subst (λ (v : KeptSeen g.row.A.Denot). IsPrefix v.receipt c.reply_kept-replied.new.client.receipt)
+              c.of-client.ensures k.grows;
           replies = w.is;
         };
         flows = record {

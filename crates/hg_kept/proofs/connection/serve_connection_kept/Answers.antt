@@ -1,5 +1,5 @@
 use Rattle.std.proofs.Common.{◌≡◌, ◌∙◌, refl, sym, arith}
-use Rattle.hg_ledger.specs.Clients.{KeptSeen, counted}
+use Rattle.hg_ledger.specs.Clients.{KeptSeen, promised}
 use Rattle.hg_kept.proofs.Exchanges.{comes}
 use Rattle.hg_kept.proofs.Chains.{starts, can_add, at_end, at_failure, at_opening, at_most, at_fault}
 use Rattle.hg_kept.proofs.Chains.{goes_on, tells_own, ended_whole, as_was}
@@ -28,9 +28,9 @@ returns-then-is_some g c =
     let e = c.serve_bundle_kept-seen.ensures.served in
     let r = c.serve_bundle_kept-seen.result.1 in
     let o = c.in-Ok.opened in
-    let had : KeptSeen g.row.A.Denot = record { history = o.sender.history; receipt = counted o.receipt } in
+    let had : KeptSeen g.row.A.Denot = record { history = o.sender.history; receipt = promised o.receipt } in
     let is = c.in-Ok.ensures.ok in
-    let same : had ≡ c.bundles.client = as_was o.sender.history (counted o.receipt) c.bundles.client is.1 is.3 in
+    let same : had ≡ c.bundles.client = as_was o.sender.history (promised o.receipt) c.bundles.client is.1 is.3 in
     let own = comes c.args.server.now g.J.Naming.capacity g.J.Naming.first c.bundles.inbox
     c.next_bundle.new.inbox c.serve_bundle_kept-seen.new.inbox _ _ _ _ _ had e.0
     c.in-Comes.ensures.0 e.1 in
@@ -47,9 +47,9 @@ bundles-preserved g c =
     let e = c.serve_bundle_kept-seen.ensures.served in
     let r = c.serve_bundle_kept-seen.result.1 in
     let o = c.in-Ok.opened in
-    let had : KeptSeen g.row.A.Denot = record { history = o.sender.history; receipt = counted o.receipt } in
+    let had : KeptSeen g.row.A.Denot = record { history = o.sender.history; receipt = promised o.receipt } in
     let is = c.in-Ok.ensures.ok in
-    let same : had ≡ c.bundles.client = as_was o.sender.history (counted o.receipt) c.bundles.client is.1 is.3 in
+    let same : had ≡ c.bundles.client = as_was o.sender.history (promised o.receipt) c.bundles.client is.1 is.3 in
     let own = comes c.args.server.now g.J.Naming.capacity g.J.Naming.first c.bundles.inbox
     c.next_bundle.new.inbox c.serve_bundle_kept-seen.new.inbox _ _ _ _ _ had e.0
     c.in-Comes.ensures.0 e.1 in
@@ -104,7 +104,7 @@ pub more-served-requires-clause-fits : goal.more-served-requires-clause-fits
 more-served-requires-clause-fits g c =
     let e = c.serve_bundle_kept-seen.ensures.served in
     let o = c.in-Ok.opened in
-    let had : KeptSeen g.row.A.Denot = record { history = o.sender.history; receipt = counted o.receipt } in
+    let had : KeptSeen g.row.A.Denot = record { history = o.sender.history; receipt = promised o.receipt } in
     can_add c.args.server.now g.J.Naming.capacity g.J.Naming.first _ _ _ _ _ _ _ c.args.client
     c.bundles.client
     had c.serve_bundle_kept-seen.result.0 c.bundles.inbox c.next_bundle.new.inbox
