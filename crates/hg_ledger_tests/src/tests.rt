@@ -1,8 +1,9 @@
 //! What no contract says: that many threads push at one server and one ledger, and that after a stop at any
 //! call of the device what was answered is there again.
 
-ghost use Rattle.std.specs.Prelude.{◌≡◌, ◌≤◌};
-ghost use Rattle.hg_ledger.specs.Clients.{counted};
+ghost use Rattle.std.specs.Prelude.{◌≡◌, All, Contains};
+ghost use mathlib.Core.List.{IsPrefix};
+ghost use Rattle.hg_ledger.specs.Clients.{promised};
 
 use hg_help_serve_tests::{client_of, marker, new_log, one_part, settings, starts_again, state};
 use hg_help_tests::device::Memory;
@@ -59,7 +60,7 @@ struct Told {
     refused: Mutex<usize>,
 }
 
-/// Pushes a part, and says whether it is kept. What the client's receipt counts does not fall by it.
+/// Pushes a part, and says whether it is kept. The promises that the client has it still has.
 fn push_part<J: Storing<Global>, R: Wait + Abort>(
     rt: &R,
     alloc: Global,
@@ -68,7 +69,7 @@ fn push_part<J: Storing<Global>, R: Wait + Abort>(
     client: KeptClient<J>,
     payload: &[u8],
 ) -> (KeptClient<J>, usize, Result<(), NotStored>)
-    ensures { client.receipt ≤ result.0.receipt }
+    ensures { IsPrefix client.receipt result.0.receipt }
 {
     let (client, receipt) = client.into_parts();
     let room = match ledger.room(rt) {
@@ -105,7 +106,7 @@ fn push_once<J: Storing<Global>, R: Wait + Abort>(
     told: &Told,
     payload: &[u8],
 ) -> KeptClient<J>
-    ensures { client.receipt ≤ result.receipt }
+    ensures { IsPrefix client.receipt result.receipt }
 {
     let (client, rests, stored) = push_part(rt, alloc, server, ledger, client, payload);
     match stored {
@@ -155,7 +156,7 @@ fn push_all<J: Storing<Global>, R: Wait + Abort>(
 fn compare<J: Storing<A>, A: Allocator>(tally: &mut Tally<A>, receipt: Receipt<J, A>)
     requires { tally.old.id ≡ J.tally }
     ensures same { tally.new ≡ tally.old }
-    ensures counted { receipt ≤ tally.old.count }
+    ensures promised { All (Contains tally.old.promises) receipt }
 {
     let mut receipt = receipt;
     tally.compare(&mut receipt);
@@ -419,7 +420,7 @@ fn has_receipt<J: Storing<A>, A: Allocator>(
 ) -> bool
     requires { tally.old.id ≡ J.tally }
     ensures same { tally.new ≡ tally.old }
-    ensures counted { counted receipt ≤ tally.old.count }
+    ensures promised { All (Contains tally.old.promises) (promised receipt) }
 {
     match receipt {
         Some(receipt) => {

@@ -1,5 +1,5 @@
--- Whatever a client is answered, it has seen no less then, and its receipt counts no less.
-use Rattle.std.proofs.Common.{◌≡◌, ℕ, ◌⊎◌, inl, inr, Bool, true, false, List, [], Option, None, Some, append-nil, arith, sym, subst}
+-- Whatever a client is answered, it has seen no less then, and has all promises that it had.
+use Rattle.std.proofs.Common.{◌≡◌, ℕ, ◌⊎◌, inl, inr, Bool, true, false, List, [], Option, None, Some, append-nil, sym, subst}
 use Rattle.http.specs.declared.request.Request.{Request}
 use Rattle.hg_parts.specs.Repository.{Repository}
 use Rattle.hg_push.specs.Run.{RepositoryOf}
@@ -22,7 +22,7 @@ use Rattle.hg_wire.specs.declared.push.Told.{Told as ToldPush}
 
 -- a client has seen what it has seen
 pub is_as_late : {A : Type 0} (client : KeptSeen A) → IsLater client client
-is_as_late client = record { seen = ([], append-nil client.history); grows = omega arith }
+is_as_late client = record { seen = ([], append-nil client.history); grows = ([], append-nil client.receipt) }
 
 same_later : {A : Type 0} (before after : KeptSeen A) → after ≡ before → IsLater before after
 same_later before after is = subst (λ c. IsLater before c) (sym is) (is_as_late before)

@@ -2,6 +2,7 @@
 use Rattle.std.proofs.Common.{◌≡◌, ◌≢◌, ℕ, List, [], ◌∷◌, ◌++◌, Option, Some, None}
 use Rattle.std.proofs.Common.{sym, ap, subst, ◌∙◌, append-nil, append_assoc, map, drop}
 use Rattle.std.specs.Prelude.{⊤, IfSome, Result, Ok, Err}
+use Rattle.hg_ledger.specs.Promises.{Promise}
 use Rattle.hg_types.specs.declared.item.Taken.{Taken}
 use Rattle.hg_types.specs.declared.limits.Limits.{Limits}
 use Rattle.hg_push.specs.Reply.{reply_of}
@@ -53,21 +54,21 @@ sent_all gone uses reply s = s.reply_is ∙ (ap (λ l. gone ++ l) s.ends.0 ∙ a
 abbrev has : List ℕ → Output
 has bytes = record { taken = Some bytes; uses = None }
 
--- a client is what it has seen and what its receipt counts
-pub same_client : {A : Type 0} (history : List (Taken A)) (receipt : ℕ) (client : KeptSeen A) →
+-- a client is what it has seen and what its receipt promises
+pub same_client : {A : Type 0} (history : List (Taken A)) (receipt : List Promise) (client : KeptSeen A) →
     history ≡ client.history → receipt ≡ client.receipt →
     record { history = history; receipt = receipt } ≡ client
 same_client {A} history receipt client h r =
     ap (λ (x : List (Taken A)). record { history = x; receipt = receipt }) h
-    ∙ ap (λ (n : ℕ). record { history = client.history; receipt = n }) r
+    ∙ ap (λ (l : List Promise). record { history = client.history; receipt = l }) r
 
 -- one bundle, told of where it began
-module _ {A D : Type 0} (seen : D → List ℕ) (may_leave : D → List ℕ → Type 0) (head : Head)
+module _ {A D : Type 0} (seen : D → List ℕ) (may_leave : D → List ℕ → Type 0) (moment : D → ℕ) (head : Head)
     (stored : List (List ℕ)) (limits : Limits) (capacity : ℕ) (first : RepositoryOf A) (x : KeptExchange A)
     (waiting : List ℕ) (left : BodyView) (reply : List ℕ)
   where
     abbrev Serves : List ℕ → BodyView → List ℕ → KeptSeen A → Type 0
-    Serves waited start out before = ServesKept seen may_leave head stored limits capacity first waited waiting
+    Serves waited start out before = ServesKept seen may_leave moment head stored limits capacity first waited waiting
         (told_of start) (told_of left) (has out) (has reply) before x
 
     pub begun : (waited waited_at : List ℕ) (start start_at : BodyView) (out out_at : List ℕ)
@@ -79,17 +80,17 @@ module _ {A D : Type 0} (seen : D → List ℕ) (may_leave : D → List ℕ → 
         (subst (λ (it : BodyView). Serves waited_at it out before) s
         (subst (λ (it : List ℕ). Serves it start out before) w v)))
 
-module _ {A D : Type 0} (seen : D → List ℕ) (may_leave : D → List ℕ → Type 0) (head : Head)
+module _ {A D : Type 0} (seen : D → List ℕ) (may_leave : D → List ℕ → Type 0) (moment : D → ℕ) (head : Head)
     (stored : List (List ℕ)) (limits : Limits) (capacity : ℕ) (first : RepositoryOf A)
     (before after : KeptSeen A) (body waiting : List ℕ) (left : BodyView) (reply : List ℕ)
     (x : KeptExchange A)
-    (v : ServesKept seen may_leave head stored limits capacity first [] waiting
+    (v : ServesKept seen may_leave moment head stored limits capacity first [] waiting
     (told_of (record { bytes = body; at = 0; reads = [] })) (told_of left)
     (record { taken = Some []; uses = None }) (record { taken = Some reply; uses = None }) before x)
     (same : limits ≡ first.settings.limits)
   where
     abbrev kept : KeptSeen A → ℕ → Type 0
-    kept h count = IsCovered seen may_leave head stored first h count
+    kept h count = IsCovered seen may_leave moment head stored first h count
 
     abbrev rest : List ℕ
     rest = drop left.at left.bytes
@@ -127,7 +128,7 @@ module _ {A D : Type 0} (seen : D → List ℕ) (may_leave : D → List ℕ → 
         (subst (λ s. IsSent s x.gone x.uses (reply_of how)) h.1 sent)))
 
     tells : {E : Type 0} (how : How A) (replied : Replied) → x.how ≡ how → x.after ≡ after →
-        Replies seen may_leave head stored first x.after x.sending.rests (reply_of x.how) x.gone x.uses replied →
+        Replies seen may_leave moment head stored first x.after x.sending.rests (reply_of x.how) x.gone x.uses replied →
         (told : Result (Option (Told A)) E) → TellsRound how reply replied told →
         Pushed capacity first kept before body told after
     tells how NotStored is then replies (Ok told) t = absurd t
@@ -149,6 +150,6 @@ module _ {A D : Type 0} (seen : D → List ℕ) (may_leave : D → List ℕ → 
         (told : Result (Option (Told A)) E) → TellsRound how reply replied told →
         Pushed capacity first kept before body told after
     pushed ending how takes rests written replied o told t =
-        tells how replied o.how_is o.after_is (subst (λ r. Replies seen may_leave head stored first x.after x.sending.rests
-        (reply_of x.how) x.gone x.uses r) (ap (λ (s : KeptReply). s.replied) o.sending_is) v.is.replies)
+        tells how replied o.how_is o.after_is (subst (λ r. Replies seen may_leave moment head stored first x.after
+        x.sending.rests (reply_of x.how) x.gone x.uses r) (ap (λ (s : KeptReply). s.replied) o.sending_is) v.is.replies)
         told t

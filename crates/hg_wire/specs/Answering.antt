@@ -190,7 +190,7 @@ pub record WireView (A S : Type 0) : Type 0 where
   pub told : KeptSeen A
   pub terms : Terms S
 
--- The response reports the answer. Its client has seen no less than before, and its receipt counts no less.
+-- The response reports the answer. Its client has seen no less than before, and has all promises that it had.
 pub record Responds {A S : Type 0} (capacity : ℕ) (first : RepositoryOf A)
     (kept : KeptSeen A → ℕ → Type 0) (page metrics : S → Repository A → List ℕ → Type 0)
     (old : WireView A S) (r : Request (List ℕ)) (response : Response) (new : WireView A S) : Type 0 where

@@ -2,6 +2,7 @@
 use Rattle.std.specs.Prelude.{ℕ, ◌≡◌, ◌≢◌, ◌⊎◌, ◌≤◌, ◌++◌, Bool, true, false, ◌&&◌, List, [], ◌∷◌}
 use Rattle.std.specs.Prelude.{Option, Some, None, codes, bytes_eq, IfSome, Result, Ok, Err}
 use Rattle.std.specs.List.{list_any}
+use mathlib.Core.List.{IsPrefix}
 use Rattle.hg_types.specs.declared.part.Part.{Part}
 use Rattle.hg_types.specs.declared.part.Param.{Param}
 use Rattle.hg_repo.specs.declared.done.Done.{Done}
@@ -36,7 +37,7 @@ Answered Says before (Err e) after = IsLater before after
 -- One bundle was pushed: its bytes begin the body, and end before it only after an end mark or a fault. No
 -- read of the body failed. The push goes on from what its client had seen, and ended so. The answer rests on so
 -- many done pushes, of which a done one is the last, with its bundle as its record; all of these were on the
--- device, and the receipt of its client counts them.
+-- device, and the receipt of its client has a promise of them.
 pub record IsPush {A : Type 0} (capacity : ℕ) (first : RepositoryOf A)
     (kept : KeptSeen A → ℕ → Type 0) (before : KeptSeen A) (body : List ℕ) (x : KeptExchange A) :
     Type 0
@@ -45,7 +46,7 @@ pub record IsPush {A : Type 0} (capacity : ℕ) (first : RepositoryOf A)
     pub fresh : of x.push (items_of before.history) ≡ []
     pub answers : IsAnswered capacity first x.push (push_items x.push x.parts (mark_of x.ending))
         before.history x.how x.takes x.after.history
-    pub grows : before.receipt ≤ x.after.receipt
+    pub grows : IsPrefix before.receipt x.after.receipt
     pub rests_on : RestsOn run_push first (newest_first x.after.history) x.push x.how x.sending.rests
     pub recorded : IsRecorded first x.after.history x.sending.rests x.consumed x.how
     pub is_kept : kept x.after x.sending.rests

@@ -56,7 +56,7 @@ pub fn answer_request<
     watch: &mut V,
 ) -> (KeptClient<J, A>, Result<Answer<A>, NotStored>)
     ensures { Answered (AnswersRequest J.capacity J.first
-        (around_of (IsCovered D.seen D.may_leave J.head J.stored J.first) S.is_page S.are_metrics terms.now)
+        (around_of (IsCovered D.seen D.may_leave D.moment J.head J.stored J.first) S.is_page S.are_metrics terms.now)
         request.now) client result.1 result.0 }
 {
     match read_request(host.alloc, request) {
@@ -92,7 +92,7 @@ fn answer_asked<J: Storing<A>, D: Device, A: Allocator + Copy, R: Wait, S: Shown
     watch: &mut V,
 ) -> (KeptClient<J, A>, Result<Answer<A>, NotStored>)
     ensures { Answered (OrLacks (AnswersAsked J.capacity J.first
-        (around_of (IsCovered D.seen D.may_leave J.head J.stored J.first) S.is_page S.are_metrics terms.now)
+        (around_of (IsCovered D.seen D.may_leave D.moment J.head J.stored J.first) S.is_page S.are_metrics terms.now)
         command fields.now request.now)) client result.1 result.0 }
 {
     match command {
@@ -112,7 +112,7 @@ fn answer_command<J: Storing<A>, D: Device, A: Allocator + Copy, R: Wait, V: Wat
     watch: &mut V,
 ) -> (KeptClient<J, A>, Result<Answer<A>, NotStored>)
     ensures { Answered (OrLacks (AnswersCommand J.capacity J.first
-        (IsCovered D.seen D.may_leave J.head J.stored J.first) (option_copied pull.entry) command fields.now
+        (IsCovered D.seen D.may_leave D.moment J.head J.stored J.first) (option_copied pull.entry) command fields.now
         request.now)) client result.1 result.0 }
 {
     match command {
@@ -161,7 +161,7 @@ fn tell<J: Storing<A>, D: Device, A: Allocator + Copy, R: Wait>(
     fields: &[Field<A>],
 ) -> (KeptClient<J, A>, Result<Answer<A>, NotStored>)
     ensures { Answered (OrLacks (IsToldAt J.first
-        (IsCovered D.seen D.may_leave J.head J.stored J.first)
+        (IsCovered D.seen D.may_leave D.moment J.head J.stored J.first)
         (λ repo text. IsTextOf repo read (argument_in fields.now (subject read)) text)))
         client result.1 result.0 }
 {
@@ -191,7 +191,7 @@ fn tell_long<J: Storing<A>, D: Device, A: Allocator + Copy, R: Wait>(
 ) -> (KeptClient<J, A>, Result<Answer<A>, NotStored>)
     requires { IsLong read about.now long }
     ensures { Answered (OrLacks (IsToldAt J.first
-        (IsCovered D.seen D.may_leave J.head J.stored J.first)
+        (IsCovered D.seen D.may_leave D.moment J.head J.stored J.first)
         (λ repo text. IsTextOf repo read about.now text)))
         client result.1 result.0 }
 {
@@ -220,7 +220,7 @@ fn answer_batch<J: Storing<A>, D: Device, A: Allocator + Copy, R: Wait>(
     fields: &[Field<A>],
 ) -> (KeptClient<J, A>, Result<Answer<A>, NotStored>)
     ensures { let commands = commands_of (argument_in fields.now (codes "cmds")) in
-        Answered (OrLacks (AnswersBatch J.first (IsCovered D.seen D.may_leave J.head J.stored J.first) commands
+        Answered (OrLacks (AnswersBatch J.first (IsCovered D.seen D.may_leave D.moment J.head J.stored J.first) commands
         (why_refused commands))) client result.1 result.0 }
 {
     match read_batch(host.alloc, argument(fields, b"cmds".as_slice())) {
@@ -235,7 +235,7 @@ fn tell_all<J: Storing<A>, D: Device, A: Allocator + Copy, R: Wait>(
     client: KeptClient<J, A>,
     commands: &[hg_told::Command<A>],
 ) -> (KeptClient<J, A>, Result<Answer<A>, NotStored>)
-    ensures { Answered (OrLacks (AnswersBatch J.first (IsCovered D.seen D.may_leave J.head J.stored J.first)
+    ensures { Answered (OrLacks (AnswersBatch J.first (IsCovered D.seen D.may_leave D.moment J.head J.stored J.first)
         commands.now (why_refused commands.now))) client result.1 result.0 }
 {
     if let Some(why) = refusal_of(commands) {
@@ -262,7 +262,7 @@ fn tell_all_long<J: Storing<A>, D: Device, A: Allocator + Copy, R: Wait>(
     client: KeptClient<J, A>,
     commands: &[hg_told::Command<A>],
 ) -> (KeptClient<J, A>, Result<Answer<A>, NotStored>)
-    ensures { Answered (OrLacks (IsToldAt J.first (IsCovered D.seen D.may_leave J.head J.stored J.first)
+    ensures { Answered (OrLacks (IsToldAt J.first (IsCovered D.seen D.may_leave D.moment J.head J.stored J.first)
         (λ repo text. IsBatchText repo commands.now text))) client result.1 result.0 }
 {
     let question = LongBatch {
@@ -288,7 +288,7 @@ fn answer_unbundle<J: Storing<A>, D: Device, A: Allocator + Copy, R: Wait, V: Wa
     watch: &mut V,
 ) -> (KeptClient<J, A>, Result<Answer<A>, NotStored>)
     ensures { Answered (IfFromClient (came_from_client request.now) (AnswersForced J.capacity J.first
-        (IsCovered D.seen D.may_leave J.head J.stored J.first) (body_of request.now)
+        (IsCovered D.seen D.may_leave D.moment J.head J.stored J.first) (body_of request.now)
         (bytes_eq (argument_in fields.now (codes "heads")) (codes "666f726365"))))
         client result.1 result.0 }
 {
@@ -318,7 +318,7 @@ fn answer_pushkey<J: Storing<A>, D: Device, A: Allocator + Copy, R: Wait, V: Wat
     watch: &mut V,
 ) -> (KeptClient<J, A>, Result<Answer<A>, NotStored>)
     ensures { Answered (OrLacks (IfFromClient (came_from_client request.now) (AnswersPushKey J.capacity J.first
-        (IsCovered D.seen D.may_leave J.head J.stored J.first) fields.now))) client result.1 result.0 }
+        (IsCovered D.seen D.may_leave D.moment J.head J.stored J.first) fields.now))) client result.1 result.0 }
 {
     if !is_from_client(request) {
         return (client, Ok(Answer::Forbidden));

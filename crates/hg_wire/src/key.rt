@@ -30,7 +30,7 @@ pub fn push_key<J: Storing<A>, D: Device, A: Allocator + Copy, R: Wait, V: Watch
     watch: &mut V,
 ) -> (KeptClient<J, A>, Result<Answer<A>, NotStored>)
     ensures { Answered (OrLacks (AnswersPushKey J.capacity J.first
-        (IsCovered D.seen D.may_leave J.head J.stored J.first) fields.now)) client result.1 result.0 }
+        (IsCovered D.seen D.may_leave D.moment J.head J.stored J.first) fields.now)) client result.1 result.0 }
 {
     let change = read_change(fields);
     push_change(host, client, &change, watch)
@@ -44,7 +44,7 @@ fn push_change<J: Storing<A>, D: Device, A: Allocator + Copy, R: Wait, V: Watch<
     watch: &mut V,
 ) -> (KeptClient<J, A>, Result<Answer<A>, NotStored>)
     ensures { Answered (OrLacks (AnswersChange J.capacity J.first
-        (IsCovered D.seen D.may_leave J.head J.stored J.first) change.now.namespace.now
+        (IsCovered D.seen D.may_leave D.moment J.head J.stored J.first) change.now.namespace.now
         change.now.key.now change.now.old.now change.now.new.now)) client result.1 result.0 }
 {
     if !fits(change) {
@@ -63,7 +63,7 @@ fn set_key<J: Storing<A>, D: Device, A: Allocator + Copy, R: Wait, V: Watch<A>>(
     requires { can_fit change.now.namespace.now change.now.key.now change.now.old.now
         change.now.new.now ≡ true }
     ensures { Answered (OrLacks (AnswersFitting J.capacity J.first
-        (IsCovered D.seen D.may_leave J.head J.stored J.first) change.now.namespace.now
+        (IsCovered D.seen D.may_leave D.moment J.head J.stored J.first) change.now.namespace.now
         change.now.key.now change.now.old.now change.now.new.now)) client result.1 result.0 }
 {
     match key_bundle(host.alloc, change) {
@@ -80,7 +80,7 @@ fn push_for_key<J: Storing<A>, D: Device, A: Allocator + Copy, R: Wait, V: Watch
     watch: &mut V,
 ) -> (KeptClient<J, A>, Result<Answer<A>, NotStored>)
     ensures { Answered (IsPushAnswered J.capacity J.first
-        (IsCovered D.seen D.may_leave J.head J.stored J.first) bundle.now key_line)
+        (IsCovered D.seen D.may_leave D.moment J.head J.stored J.first) bundle.now key_line)
         client result.1 result.0 }
 {
     let (client, told) = push_bundle(host, client, bundle, watch);

@@ -20,7 +20,7 @@ pub fn look<J: Storing<A>, D: Device, A: Allocator + Copy, R: Wait, T: Drop, Q: 
     question: &Q,
 ) -> (KeptClient<J, A>, Result<(T, usize), NotStored>)
     ensures { MatchResult result.1
-        (λ told. LooksKept J.first (IsCovered D.seen D.may_leave J.head J.stored J.first) client result.0
+        (λ told. LooksKept J.first (IsCovered D.seen D.may_leave D.moment J.head J.stored J.first) client result.0
         (λ repo. Q.tells question.now repo told.0) × (told.1 ≡ done_in J.first result.0.history))
         (λ _. IsLater client result.0) }
 {

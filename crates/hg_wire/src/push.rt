@@ -37,7 +37,7 @@ pub fn push_bundle<J: Storing<A>, D: Device, A: Allocator + Copy, R: Wait, V: Wa
     bundle: &[u8],
     watch: &mut V,
 ) -> (KeptClient<J, A>, Result<Option<Told<A>>, NotStored>)
-    ensures { EndsOrFails J.capacity J.first (IsCovered D.seen D.may_leave J.head J.stored J.first) client
+    ensures { EndsOrFails J.capacity J.first (IsCovered D.seen D.may_leave D.moment J.head J.stored J.first) client
         bundle.now result.1 result.0 }
 {
     let limits = *host.server.limits();
@@ -115,7 +115,7 @@ pub fn unbundle<J: Storing<A>, D: Device, A: Allocator + Copy, R: Wait, V: Watch
     watch: &mut V,
 ) -> (KeptClient<J, A>, Result<Answer<A>, NotStored>)
     ensures { Answered (IsPushAnswered J.capacity J.first
-        (IsCovered D.seen D.may_leave J.head J.stored J.first) bundle.now reply_of)
+        (IsCovered D.seen D.may_leave D.moment J.head J.stored J.first) bundle.now reply_of)
         client result.1 result.0 }
 {
     let (client, told) = push_bundle(host, client, bundle, watch);

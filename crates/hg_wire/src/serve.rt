@@ -63,7 +63,7 @@ pub fn serve_http<
     reader: &mut I,
     writer: &mut W,
 ) -> (KeptClient<J>, Finish)
-    ensures { ServesHttp J.capacity J.first (IsCovered D.seen D.may_leave J.head J.stored J.first) S.is_page
+    ensures { ServesHttp J.capacity J.first (IsCovered D.seen D.may_leave D.moment J.head J.stored J.first) S.is_page
         S.are_metrics terms.now client (I.remaining reader.old) (I.remaining reader.new)
         (W.contents writer.old) (W.contents writer.new) result.1 result.0 }
 {
@@ -131,7 +131,7 @@ fn serve_stretches<
     writer: &mut W,
 ) -> io::Result<()>
     ensures { Converses (result ≢ Ok tt) config (Responds J.capacity J.first
-        (IsCovered D.seen D.may_leave J.head J.stored J.first) S.is_page S.are_metrics) wire.old wire.new
+        (IsCovered D.seen D.may_leave D.moment J.head J.stored J.first) S.is_page S.are_metrics) wire.old wire.new
         (I.remaining reader.old) (I.remaining reader.new) (W.contents writer.old) (W.contents writer.new) }
 {
     // A loop is proved to end, so this one counts its turns.
@@ -238,7 +238,7 @@ fn converse<
         × ((history connection.new).received ≡ (history connection.old).received ++ more) }
     ensures written { (more : List ℕ) × Appends (W.contents writer.old) (W.contents writer.new) more
         × ((history connection.new).sent ≡ (history connection.old).sent ++ more) }
-    ensures calls { Calls (Responds J.capacity J.first (IsCovered D.seen D.may_leave J.head J.stored J.first)
+    ensures calls { Calls (Responds J.capacity J.first (IsCovered D.seen D.may_leave D.moment J.head J.stored J.first)
         S.is_page S.are_metrics) wire.old wire.new (history connection.old).calls
         (history connection.new).calls }
     ensures config { config_of connection.new ≡ config_of connection.old }
@@ -278,7 +278,7 @@ fn advance<J: Storing<A>, D: Device, R: Wait, S: Shown<A>, V: Watch<A>, A: Alloc
     wire: &mut Wire<'_, J, D, R, S, V, A>,
     share: &mut Share<'_>,
 ) -> bool
-    ensures calls { Calls (Responds J.capacity J.first (IsCovered D.seen D.may_leave J.head J.stored J.first)
+    ensures calls { Calls (Responds J.capacity J.first (IsCovered D.seen D.may_leave D.moment J.head J.stored J.first)
         S.is_page S.are_metrics) wire.old wire.new (history connection.old).calls
         (history connection.new).calls }
     ensures quiet { IsQuiet (history connection.old) (history connection.new) }

@@ -21,7 +21,7 @@ pub fn answer_view<J: Storing<A>, D: Device, A: Allocator + Copy, R: Wait, S: Sh
     view: Option<View>,
 ) -> (KeptClient<J, A>, Result<Answer<A>, NotStored>)
     ensures { Answered (OrLacks (AnswersView J.first
-        (around_of (IsCovered D.seen D.may_leave J.head J.stored J.first) S.is_page S.are_metrics terms.now)
+        (around_of (IsCovered D.seen D.may_leave D.moment J.head J.stored J.first) S.is_page S.are_metrics terms.now)
         view)) client result.1 result.0 }
 {
     let Some(view) = view else {

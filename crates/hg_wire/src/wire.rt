@@ -119,7 +119,7 @@ impl<J: Storing<A>, D: Device, R: Wait, S: Shown<A>, V: Watch<A>, A: Allocator +
     ghost use Rattle.hg_wire.specs.Answering.{Responds};
 
     ghost answers = { λ old request response new. Responds J.capacity J.first
-        (IsCovered D.seen D.may_leave J.head J.stored J.first) S.is_page S.are_metrics old request response
+        (IsCovered D.seen D.may_leave D.moment J.head J.stored J.first) S.is_page S.are_metrics old request response
         new };
 
     /// Where the store failed there is no answer, and the connection ends: nor is a later request answered.

@@ -3,7 +3,7 @@ use Rattle.std.specs.Prelude.{ℕ, List, [], ◌∷◌, Option, Some, None}
 use Rattle.hg_ledger.specs.Clients.{KeptSeen}
 
 abbrev pub nothing_seen : {A : Type 0} → KeptSeen A
-nothing_seen = record { history = []; receipt = 0 }
+nothing_seen = record { history = []; receipt = [] }
 
 abbrev pub seen_by : {A : Type 0} → Option (KeptSeen A) → KeptSeen A
 seen_by None = nothing_seen

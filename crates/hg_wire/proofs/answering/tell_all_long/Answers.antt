@@ -9,7 +9,8 @@ use Rattle.hg_wire.proofs.answering.tell_all_long.Goals as goal
 pub returns-in-Ok : goal.returns-in-Ok
 returns-in-Ok g c =
     let first = g.J.Naming.first in
-    let kept = IsCovered {D = g.row.D.Denot} g.D.Device.seen g.D.Device.may_leave g.J.Storing.head g.J.Storing.stored first in
+    let kept = IsCovered {D = g.row.D.Denot} g.D.Device.seen g.D.Device.may_leave g.D.Device.moment
+    g.J.Storing.head g.J.Storing.stored first in
     let before = c.args.client in
     let after = c.look-client.result.0 in
     let commands = c.args.commands.now in

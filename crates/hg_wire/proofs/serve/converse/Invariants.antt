@@ -16,6 +16,7 @@ invariant-turns g l =
     × ((more : List ℕ) × Appends (g.W.Write.contents l.fn.writer) (g.W.Write.contents l.writer) more
     × (new.sent ≡ old.sent ++ more))
     × Calls (Responds g.J.Naming.capacity g.J.Naming.first (IsCovered g.D.Device.seen g.D.Device.may_leave
+    g.D.Device.moment
     g.J.Storing.head g.J.Storing.stored g.J.Naming.first) g.S.Shown.is_page g.S.Shown.are_metrics)
     l.fn.wire l.wire old.calls new.calls
     × (config_of l.connection ≡ config_of l.fn.connection)

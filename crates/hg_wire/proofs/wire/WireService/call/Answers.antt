@@ -14,7 +14,7 @@ invariant_of-self-in-Ok-4 g c =
 
 pub returns-in-Ok-clause-ok : goal.returns-in-Ok-clause-ok
 returns-in-Ok-clause-ok g c =
-    let kept = IsCovered g.D.Device.seen g.D.Device.may_leave g.J.Storing.head g.J.Storing.stored
+    let kept = IsCovered g.D.Device.seen g.D.Device.may_leave g.D.Device.moment g.J.Storing.head g.J.Storing.stored
     g.J.Naming.first in
     let inside = c.self.inside in
     let before = c.in-Some.client in
