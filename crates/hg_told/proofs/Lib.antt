@@ -15,3 +15,4 @@ mod BranchSets
 mod BranchLines
 mod Mapping
 mod Viewing
+mod Coming

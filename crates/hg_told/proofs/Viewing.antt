@@ -1,25 +1,26 @@
 -- What is kept of changesets and markers.
 use Rattle.std.proofs.Common.{◌≡◌, ℕ, ◌+◌, ◌<◌, ◌≤◌, List, [], ◌∷◌, ◌++◌, length, get_or, refl, sym, ap, ◌∙◌, arith, subst}
-use Rattle.std.specs.Prelude.{◌^◌, IfSome, Option}
 use Rattle.std.proofs.lemmas.List.{length_push}
 use Rattle.hg_log.specs.Changeset.{Changeset, Log}
 use Rattle.hg_log.specs.Parents.{parents_of}
 use Rattle.hg_log.specs.Rows.{AreLawful, HasNode, HasText}
 use Rattle.hg_obs.specs.declared.marker.Marker.{Marker}
 use Rattle.hg_told.specs.Branch.{branch_of}
-use Rattle.hg_told.specs.declared.viewed.Entry.{Entry}
+use Rattle.hg_told.specs.declared.since.Entry.{Entry}
 use Rattle.hg_told.specs.code.Branches.{branch_at, text_of}
 use Rattle.hg_told.specs.code.Hiding.{TellsKept}
-use Rattle.hg_told.specs.code.Viewed.{markers_in, rows_in, AreEntries, AreNames, IsEntry, IsKeptOf}
+use Rattle.hg_told.specs.code.Viewed.{markers_in, rows_in, AreEntriesFrom, AreKeptFrom, AreNamesFrom, IsEntry}
 use Rattle.hg_told.proofs.Hiding.{each_more}
 
 -- one entry more
-pub entries_more : (rows : List Changeset) (n : ℕ) (old new : List Entry) (entry : Entry)
-    → AreEntries rows n old → new ≡ old ++ entry ∷ [] → IsEntry rows n entry → AreEntries rows (n + 1) new
-entries_more rows n old new entry held more is = record {
+pub entries_more : (rows : List Changeset) (first n : ℕ) (old new : List Entry) (entry : Entry)
+    → AreEntriesFrom rows first n old → new ≡ old ++ entry ∷ [] → IsEntry rows (first + n) entry
+    → AreEntriesFrom rows first (n + 1) new
+entries_more rows first n old new entry held more is = record {
   as_long = omega (arith, ap length more, length_push old entry, held.as_long);
-  each = λ r other low.
-      each_more (IsEntry rows) old new entry other n held.as_long more (λ k within. held.each k other within) is r low;
+  each = λ i other low.
+      each_more (λ k. IsEntry rows (first + k)) old new entry other n held.as_long more
+      (λ k within. held.each k other within) is i low;
 }
 
 -- the branch of a row with that text
@@ -29,11 +30,21 @@ named_at rows r text has =
     ap branch_of (sym has.text_is) ∙ ap (λ o. branch_of (text_of o)) (sym has.row_at)
 
 -- one name more
-pub names_more : (rows : List Changeset) (n : ℕ) (old new : List (List ℕ)) (name : List ℕ)
-    → AreNames rows n old → new ≡ old ++ name ∷ [] → name ≡ branch_at rows n → AreNames rows (n + 1) new
-names_more rows n old new name held more is = record {
+pub names_more : (rows : List Changeset) (first n : ℕ) (old new : List (List ℕ)) (name : List ℕ)
+    → AreNamesFrom rows first n old → new ≡ old ++ name ∷ [] → name ≡ branch_at rows (first + n)
+    → AreNamesFrom rows first (n + 1) new
+names_more rows first n old new name held more is = record {
   as_long = omega (arith, ap length more, length_push old name, held.as_long);
-  each = each_more (λ r named. named ≡ branch_at rows r) old new name [] n held.as_long more held.each is;
+  each = each_more (λ i named. named ≡ branch_at rows (first + i)) old new name [] n held.as_long more held.each is;
+}
+
+-- it is said of one row more whether it is kept
+pub kept_more : {A : Type 0} (rows : List Changeset) (markers : List (Marker A)) (first n : ℕ)
+    (old new : List ℕ) (set : ℕ) → AreKeptFrom rows markers first n old → new ≡ old ++ set ∷ []
+    → TellsKept rows markers (first + n) set → AreKeptFrom rows markers first (n + 1) new
+kept_more rows markers first n old new set held more is = record {
+  as_long = omega (arith, ap length more, length_push old set, held.as_long);
+  each = each_more (λ i. TellsKept rows markers (first + i)) old new set 0 n held.as_long more held.each is;
 }
 
 -- what was made of a changelog and markers is told of them
@@ -46,11 +57,3 @@ pub noted_markers : {A : Type 0} (empty items : List (Log × List (Marker A))) (
     (markers : List (Marker A)) → empty ≡ [] → items ≡ empty ++ (log, markers) ∷ [] → markers_in items ≡ markers
 noted_markers {A} empty items log markers none noted =
     ap markers_in (noted ∙ ap (λ (l : List (Log × List (Marker A))). l ++ (log, markers) ∷ []) none)
-
--- all that is kept of rows and markers is kept of what they are noted as
-pub kept_noted : {A : Type 0} (noted rows : List Changeset) (noted_ms markers : List (Marker A))
-    (entries : List Entry) (names : List (List ℕ)) (kept : List ℕ) → noted ≡ rows → noted_ms ≡ markers
-    → IsKeptOf rows markers entries names kept → IsKeptOf noted noted_ms entries names kept
-kept_noted noted rows noted_ms markers entries names kept same same_ms held =
-    subst (λ rs. IsKeptOf rs noted_ms entries names kept) (sym same)
-    (subst (λ ms. IsKeptOf rows ms entries names kept) (sym same_ms) held)

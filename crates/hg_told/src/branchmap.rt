@@ -99,10 +99,11 @@ fn add_member<A: Allocator + Copy>(
         (map (λ e. (e.0.items, e.1.items)) members.old.entries)
         (map (λ e. (e.0.items, e.1.items)) members.new.entries)) }
 {
-    let name = Vec::from_slice(alloc, view.branch(rev))?;
-    match members.get_mut(name.as_slice()) {
+    let name = view.branch(rev);
+    match members.get_mut(name) {
         Some(revs) => revs.push(rev)?,
         None => {
+            let name = Vec::from_slice(alloc, name)?;
             let revs = Vec::from_slice(alloc, &[rev])?;
             members.insert(name, revs)?;
         }

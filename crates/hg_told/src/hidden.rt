@@ -1,6 +1,6 @@
 //! Which changesets are hidden.
 
-ghost use Rattle.std.specs.Prelude.{◌≡◌, ◌↔◌, ◌<◌, ℕ, length, slice_index, IfOk, IsTrue};
+ghost use Rattle.std.specs.Prelude.{◌≡◌, ◌↔◌, ◌<◌, length, IfOk, IsTrue};
 ghost use Rattle.std.specs.Int.{bit_at};
 ghost use Rattle.hg_told.specs.Hidden.{AreHidden};
 ghost use Rattle.hg_told.specs.code.Hiding.{TellsKept};
@@ -30,24 +30,8 @@ pub fn hidden_changesets<A: Allocator + Copy>(
     Ok(Seq::from_vec(hidden))
 }
 
-/// For each changeset a number, whose lowest bit says whether it is not obsolete.
-pub fn kept_sets<A: Allocator + Copy>(
-    alloc: A,
-    log: &Changelog<A>,
-    markers: &Markers<A>,
-) -> Result<Vec<u64, A>, NoMemory>
-    ensures len { IfOk result (λ sets. length sets.items ≡ length log.now.rows) }
-    ensures each { IfOk result (λ sets. (r : ℕ) → r < length log.now.rows
-        → TellsKept log.now.rows markers.now r (slice_index sets.items r)) }
-{
-    let mut sets = Vec::new(alloc);
-    for rev in 0..log.len() {
-        sets.push(kept_set(log, markers, rev as u32))?;
-    }
-    Ok(sets)
-}
-
-fn kept_set<A: Allocator>(log: &Changelog<A>, markers: &Markers<A>, rev: u32) -> u64
+/// A number whose lowest bit says whether the changeset is not obsolete.
+pub fn kept_set<A: Allocator>(log: &Changelog<A>, markers: &Markers<A>, rev: u32) -> u64
     requires { rev < length log.now.rows }
     ensures { TellsKept log.now.rows markers.now rev result }
 {

@@ -3,7 +3,7 @@
 //!
 //! Each text is a function of values that are borrowed: nothing is changed, and the only refusal is a want of
 //! memory. [`read_form`] and [`read_batch`] read the two forms of arguments, and [`joined_answers`] writes
-//! the answers of a batch. [`heads_text`], [`known_text`], [`listkeys_text`], [`phases_text`] and [`lookup_text`]
+//! the answers of a batch. [`heads_text`], [`known_text`], [`listkeys_text`] and [`lookup_text`]
 //! are the bodies of the answers to the commands of those names, and [`capabilities_text`] is a constant. Whatever
 //! bytes are asked, there is an answer. Nothing here starts a thread or waits.
 //!
@@ -22,6 +22,7 @@ mod hidden;
 mod laws;
 mod listkeys;
 mod lookup;
+mod since;
 mod text;
 mod viewed;
 
@@ -33,6 +34,7 @@ pub use form::{Field, read_form, value_of};
 pub use heads::{heads_text, known_text};
 pub use hidden::hidden_changesets;
 pub use laws::{escapes_are_read_back, forms_are_read_back};
-pub use listkeys::{listkeys_text, phases_text};
+pub use listkeys::listkeys_text;
 pub use lookup::{Named, lookup_text};
+pub use since::Since;
 pub use viewed::View;

@@ -1,28 +1,20 @@
 //! What is kept of a repository's changesets and markers, to answer from when it is out of reach.
 
-ghost use Rattle.std.specs.Prelude.{◌≡◌, ◌<◌, ◌^◌, ℕ, length, slice_index, IfOk, IfSome, OnOk};
+ghost use Rattle.std.specs.Prelude.{◌≡◌, ◌<◌, ◌^◌, ◌++◌, ℕ, [], All, Contains, length, slice_index, IfOk, IfSome};
+ghost use Rattle.std.specs.Prelude.{OnOk, ◌⊎◌};
 ghost use Rattle.hg_log.specs.Parents.{parents_of};
 ghost use Rattle.hg_log.specs.Rows.{AreLawful, HasNode};
+ghost use Rattle.hg_told.specs.Viewed.{IsBefore};
 ghost use Rattle.hg_told.specs.code.Branches.{branch_at};
 ghost use Rattle.hg_told.specs.code.Hiding.{TellsKept};
-ghost use Rattle.hg_told.specs.code.Viewed.{AreEntries, AreNames};
 
-use crate::branch::branch_of;
-use crate::hidden::kept_sets;
+use crate::since::{Entry, Since};
 use hg_log::Changelog;
 use hg_obs::Markers;
 use hg_types::{NoMemory, Node, Seq};
 use http_server::Log;
 use std::alloc::{Allocator, Global};
 use std::marker::Model;
-
-/// What is kept of a changeset: its id, and the numbers of its parents.
-#[derive(Clone, Copy)]
-pub struct Entry {
-    node: Node,
-    p1: Option<u32>,
-    p2: Option<u32>,
-}
 
 /// What is kept of changesets and of markers: of each changeset its id, its parents, the name of its branch, and
 /// whether it is obsolete. Contracts see the changesets and the markers of which it was made.
@@ -32,11 +24,14 @@ pub struct View<A: Allocator = Global> {
     branches: Vec<Seq<u8, A>, A>,
     /// Numbers whose lowest bit says whether the changeset is not obsolete.
     kept: Vec<u64, A>,
+    /// How many markers it was made of.
+    known: usize,
     /// What it was made of, which takes no memory.
     made_of: Log<Changelog<A>, Markers<A>>,
 }
 
 impl<A: Allocator> Model for View<A> {
+    ghost use Rattle.std.specs.Prelude.{◌≡◌, length};
     ghost use Rattle.hg_told.specs.Viewed.{Viewed};
     ghost use Rattle.hg_told.specs.code.Viewed.{markers_in, rows_in, IsKeptOf};
 
@@ -45,29 +40,79 @@ impl<A: Allocator> Model for View<A> {
     ghost view = { λ v. record { rows = rows_in v.made_of.items; markers = markers_in v.made_of.items } };
 
     ghost invariant = { λ v. IsKeptOf (rows_in v.made_of.items) (markers_in v.made_of.items)
-        v.entries.items v.branches.items v.kept.items };
+        v.entries.items v.branches.items v.kept.items × (v.known ≡ length (markers_in v.made_of.items)) };
 }
 
 impl<A: Allocator + Copy> View<A> {
-    /// Keeps what is needed of these changesets and markers. It is one pass over the changesets, which reads the
-    /// branch in the text of each and looks it up among the markers.
+    /// A view of these changesets and markers. It is one pass over the changesets, which reads the branch in the text
+    /// of each and looks it up among the markers.
     pub fn of(alloc: A, log: &Changelog<A>, markers: &Markers<A>) -> Result<View<A>, NoMemory>
         ensures { IfOk result (λ view. view ≡ record { rows = log.now.rows; markers = markers.now }) }
     {
-        let entries = entries_of(alloc, log)?;
-        let branches = names_of(alloc, log)?;
-        let kept = kept_sets(alloc, log, markers)?;
-        let made_of = Log::new().and(log, markers);
-        Ok(View {
-            entries,
-            branches,
-            kept,
-            made_of,
-        })
+        View::new(alloc).with(Since::of(alloc, 0, 0, log, markers)?)
     }
 }
 
 impl<A: Allocator> View<A> {
+    /// A view of nothing.
+    pub fn new(alloc: A) -> View<A>
+    where
+        A: Copy,
+        ensures { result ≡ record { rows = []; markers = [] } }
+    {
+        View {
+            entries: Vec::new(alloc),
+            branches: Vec::new(alloc),
+            kept: Vec::new(alloc),
+            known: 0,
+            made_of: Log::new(),
+        }
+    }
+
+    /// How many changesets and markers it was made of.
+    pub fn counts(&self) -> (usize, usize)
+        ensures changesets { result.0 ≡ length self.now.rows }
+        ensures markers { result.1 ≡ length self.now.markers }
+    {
+        (self.entries.len(), self.known)
+    }
+
+    /// The view with what came to its changesets and markers. It costs by what came, and not by what it was made of.
+    /// Where memory is refused, it is gone.
+    pub fn with(self, came: Since<A>) -> Result<View<A>, NoMemory>
+        requires { IsBefore self came }
+        ensures { IfOk result (λ view. view ≡ record { rows = came.rows; markers = came.markers }) }
+    {
+        let View {
+            mut entries,
+            mut branches,
+            mut kept,
+            known: _,
+            made_of: _,
+        } = self;
+        let Since {
+            first: _,
+            known: _,
+            entries: more,
+            branches: names,
+            kept: sets,
+            obsolete,
+            markers,
+            made_of,
+        } = came;
+        entries.extend_from_slice(more.as_slice())?;
+        add_names(&mut branches, names)?;
+        forget(&mut kept, obsolete.as_slice());
+        kept.extend_from_slice(sets.as_slice())?;
+        Ok(View {
+            entries,
+            branches,
+            kept,
+            known: markers,
+            made_of,
+        })
+    }
+
     /// The number of changesets.
     pub(crate) fn len(&self) -> usize
         ensures len { result ≡ length self.now.rows }
@@ -115,31 +160,28 @@ impl<A: Allocator> View<A> {
     }
 }
 
-/// The entry of each changeset.
-fn entries_of<A: Allocator>(alloc: A, log: &Changelog<A>) -> Result<Vec<Entry, A>, NoMemory>
-    ensures lawful { OnOk result (AreLawful log.now.rows) }
-    ensures few { OnOk result (length log.now.rows < 2 ^ 31) }
-    ensures entries { IfOk result (λ entries. AreEntries log.now.rows (length log.now.rows) entries.items) }
+/// Adds names to others.
+fn add_names<A: Allocator>(
+    names: &mut Vec<Seq<u8, A>, A>,
+    more: Vec<Seq<u8, A>, A>,
+) -> Result<(), NoMemory>
+    ensures { OnOk result (names.new.items ≡ names.old.items ++ more.items) }
 {
-    let mut entries = Vec::new(alloc);
-    for rev in 0..log.len() {
-        let node = log.node(rev as u32);
-        let (p1, p2) = log.parent_revs(rev as u32);
-        entries.push(Entry { node, p1, p2 })?;
+    for name in more {
+        names.push(name)?;
     }
-    Ok(entries)
+    Ok(())
 }
 
-/// The name of the branch of each changeset.
-fn names_of<A: Allocator + Copy>(
-    alloc: A,
-    log: &Changelog<A>,
-) -> Result<Vec<Seq<u8, A>, A>, NoMemory>
-    ensures { IfOk result (λ names. AreNames log.now.rows (length log.now.rows) names.items) }
+/// Says of these changesets that they are obsolete.
+fn forget<A: Allocator>(kept: &mut Vec<u64, A>, revs: &[u32])
+    requires { All (λ r. r < length kept.old.items) revs.now }
+    ensures as_long { length kept.new.items ≡ length kept.old.items }
+    ensures listed { (r : ℕ) → Contains revs.now r → slice_index kept.new.items r ≡ 0 }
+    ensures others { (r : ℕ) → (slice_index kept.new.items r ≡ slice_index kept.old.items r)
+        ⊎ Contains revs.now r }
 {
-    let mut names = Vec::new(alloc);
-    for rev in 0..log.len() {
-        names.push(branch_of(alloc, log.text(rev as u32))?)?;
+    for rev in revs {
+        kept[*rev as usize] = 0;
     }
-    Ok(names)
 }

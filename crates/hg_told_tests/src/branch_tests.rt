@@ -1,5 +1,7 @@
 //! Branches, hidden changesets and the branch map. The changesets and the branch map are those of Mercurial 6.3.
 
+ghost use Rattle.std.specs.Prelude.{◌≡◌, length, take};
+
 use hg_help_tests::changelog::put_text;
 use hg_log::Changelog;
 use hg_obs::{Marker, Markers};
@@ -260,6 +262,58 @@ fn the_branch_map_of_mercurial(rt: HostRuntime) -> Result<(), Fail> {
     for (place, is_hidden) in hidden.as_slice().iter().enumerate() {
         assert_eq!(rt; *is_hidden, place == 16 || place == 17);
     }
+    Ok(())
+}
+
+/// The view, brought up to these.
+fn brought_up(
+    view: View,
+    alloc: Global,
+    log: &Changelog,
+    markers: &Markers,
+) -> Result<View, NoMemory>
+    requires rows { view.rows ≡ take (length view.rows) log.now.rows }
+    requires markers { view.markers ≡ take (length view.markers) markers.now }
+{
+    let (first, known) = view.counts();
+    view.with(Since::of(alloc, first, known, log, markers)?)
+}
+
+// The same branch map of a view that is brought up after each of the first twelve changesets, then to all, and after
+// each marker. One marker comes before its changeset. Result: the same lines.
+#[test]
+fn a_view_is_brought_up(rt: HostRuntime) -> Result<(), Fail> {
+    let alloc = rt.alloc();
+    let state = RandomState::new(&rt)?;
+    let mut whole = Changelog::new(alloc, state, Limits::standard());
+    let rows = rows(alloc)?;
+    let nodes = put_all(alloc, &mut whole, rows.as_slice())?;
+    let mut log = Changelog::new(alloc, state, Limits::standard());
+    let mut markers = Markers::new(alloc, state);
+    let mut view = View::new(alloc);
+    prune(alloc, &mut markers, *nodes.get(13).ok_or("no changeset")?)?;
+    for (place, row) in rows.iter().enumerate() {
+        let p1 = row.p1.and_then(|p| nodes.get(p).copied());
+        let p2 = row.p2.and_then(|p| nodes.get(p).copied());
+        let (p1, p2) = (p1.unwrap_or(Node::NULL), p2.unwrap_or(Node::NULL));
+        put_text(alloc, &mut log, p1, p2, row.text).ok_or("not added")?;
+        if place < 12 {
+            view = brought_up(view, alloc, &log, &markers)?;
+        }
+    }
+    for place in [16, 17] {
+        view = brought_up(view, alloc, &log, &markers)?;
+        prune(
+            alloc,
+            &mut markers,
+            *nodes.get(place).ok_or("no changeset")?,
+        )?;
+    }
+    view = brought_up(view, alloc, &log, &markers)?;
+    assert!(rt; is_text(branchmap_text(alloc, &view), BRANCHES));
+    view = brought_up(view, alloc, &log, &markers)?;
+    assert!(rt; is_text(branchmap_text(alloc, &view), BRANCHES));
+    assert!(rt; view.counts() == (rows.len(), 3));
     Ok(())
 }
 

@@ -5,7 +5,6 @@ ghost use Rattle.std.specs.Prelude.{◌≤◌, length};
 use hg_help_tests::changelog::put;
 use hg_keys::Bookmarks;
 use hg_log::Changelog;
-use hg_obs::Markers;
 use hg_phases::Phases;
 use hg_told::*;
 use hg_types::{Limits, NoMemory, Node, Phase, Seq};
@@ -16,17 +15,17 @@ use std::test::*;
 
 const NULL: Node = Node::NULL;
 
-/// The phases of a view of these, where each changeset has one.
+/// The keys of phases, where each changeset has one.
 fn phases_of<A: Allocator + Copy>(
     alloc: A,
     log: &Changelog<A>,
-    markers: &Markers<A>,
     phases: &Phases<A>,
+    bookmarks: &Bookmarks<A>,
     publishing: bool,
 ) -> Result<Seq<u8, A>, NoMemory>
     requires { length log.now.rows ≤ length phases.now.current.phases }
 {
-    phases_text(alloc, &View::of(alloc, log, markers)?, phases, publishing)
+    listkeys_text(alloc, log, phases, bookmarks, publishing, b"phases")
 }
 
 const NULL_DIGITS: &[u8] = b"0000000000000000000000000000000000000000";
@@ -142,7 +141,6 @@ fn three_hundred_heads(rt: HostRuntime) -> Result<(), Fail> {
 fn keys_of_namespaces(rt: HostRuntime) -> Result<(), Fail> {
     let alloc = rt.alloc();
     let mut log = Changelog::new(alloc, RandomState::new(&rt)?, Limits::standard());
-    let markers = Markers::new(alloc, RandomState::new(&rt)?);
     let mut phases = Phases::new(alloc);
     let mut bookmarks = Bookmarks::new(alloc);
     let root = put(alloc, &mut log, NULL, NULL, 0).ok_or("not added")?;
@@ -168,10 +166,10 @@ fn keys_of_namespaces(rt: HostRuntime) -> Result<(), Fail> {
     );
     let (draft, other) = (draft.as_str().as_bytes(), other.as_str().as_bytes());
     let wanted = joined(alloc, &[draft, b"\t1\n", other, b"\t1"])?;
-    let told = phases_of(alloc, &log, &markers, &phases, false);
+    let told = phases_of(alloc, &log, &phases, &bookmarks, false);
     assert!(rt; is_text(told, wanted.as_slice()));
     let wanted = joined(alloc, &[wanted.as_slice(), b"\npublishing\tTrue"])?;
-    let told = phases_of(alloc, &log, &markers, &phases, true);
+    let told = phases_of(alloc, &log, &phases, &bookmarks, true);
     assert!(rt; is_text(told, wanted.as_slice()));
     for name in [
         b"a;b&c d".as_slice(),
@@ -186,11 +184,11 @@ fn keys_of_namespaces(rt: HostRuntime) -> Result<(), Fail> {
     let root = hex::encode(alloc, root.0.as_slice())?;
     let root = root.as_str().as_bytes();
     let wanted = joined(alloc, &[b"a;b&c d\t", root, b"\n\xC3\xBC\t", root])?;
-    let told = listkeys_text(alloc, &bookmarks, b"bookmarks");
+    let told = listkeys_text(alloc, &log, &phases, &bookmarks, true, b"bookmarks");
     assert!(rt; is_text(told, wanted.as_slice()));
-    let told = listkeys_text(alloc, &bookmarks, b"namespaces");
+    let told = listkeys_text(alloc, &log, &phases, &bookmarks, true, b"namespaces");
     assert!(rt; is_text(told, b"bookmarks\t\nnamespaces\t\nobsolete\t\nphases\t"));
-    let told = listkeys_text(alloc, &bookmarks, b"obsolete");
+    let told = listkeys_text(alloc, &log, &phases, &bookmarks, true, b"obsolete");
     assert!(rt; is_text(told, b""));
     Ok(())
 }
@@ -199,30 +197,24 @@ fn keys_of_namespaces(rt: HostRuntime) -> Result<(), Fail> {
 fn keys_of_an_empty_repository(rt: HostRuntime) -> Result<(), Fail> {
     let alloc = rt.alloc();
     let log = Changelog::new(alloc, RandomState::new(&rt)?, Limits::standard());
-    let markers = Markers::new(alloc, RandomState::new(&rt)?);
     let phases = Phases::new(alloc);
     let bookmarks = Bookmarks::new(alloc);
-    let told = phases_of(alloc, &log, &markers, &phases, false);
+    let told = phases_of(alloc, &log, &phases, &bookmarks, false);
     assert!(rt; is_text(told, b""));
-    let told = phases_of(alloc, &log, &markers, &phases, true);
+    let told = phases_of(alloc, &log, &phases, &bookmarks, true);
     assert!(rt; is_text(told, b"publishing\tTrue"));
-    let told = listkeys_text(alloc, &bookmarks, b"bookmarks");
+    let told = listkeys_text(alloc, &log, &phases, &bookmarks, true, b"bookmarks");
     assert!(rt; is_text(told, b""));
     Ok(())
 }
 
-fn tell_all<A: Allocator + Copy>(
-    alloc: A,
-    log: &Changelog<A>,
-    state: RandomState,
-) -> Result<(), NoMemory> {
-    let markers = Markers::new(alloc, state);
+fn tell_all<A: Allocator + Copy>(alloc: A, log: &Changelog<A>) -> Result<(), NoMemory> {
     let phases = Phases::new(alloc);
     let bookmarks = Bookmarks::new(alloc);
     drop(heads_text(alloc, log)?);
     drop(known_text(alloc, log, NULL_DIGITS)?);
     if log.len() == 0 {
-        drop(phases_of(alloc, log, &markers, &phases, true)?);
+        drop(phases_of(alloc, log, &phases, &bookmarks, true)?);
     }
     drop(lookup_text(alloc, log, &bookmarks, b"tip")?);
     drop(lookup_text(alloc, log, &bookmarks, b"a\nb")?);
@@ -237,7 +229,7 @@ fn each_growth_of_a_text_refused(rt: HostRuntime) -> Result<(), Fail> {
     for sixteens in 1..60usize {
         let heap = LocalHeap::new(rt.alloc(), sixteens * 16)?;
         let log = Changelog::new(&heap, state, Limits::standard());
-        if tell_all(&heap, &log, state).is_ok() {
+        if tell_all(&heap, &log).is_ok() {
             done = done.saturating_add(1);
         } else {
             refused = refused.saturating_add(1);

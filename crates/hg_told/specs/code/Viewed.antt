@@ -1,11 +1,13 @@
 -- How the code keeps what it reports of changesets and markers.
-use Rattle.std.specs.Prelude.{◌≡◌, ℕ, ◌<◌, ◌^◌, List, [], ◌∷◌, length, slice_index, slice_index_or, IfSome}
+use Rattle.std.specs.Prelude.{◌≡◌, ◌⊎◌, ℕ, ◌<◌, ◌≤◌, ◌^◌, ◌+◌, ◌-◌, List, [], ◌∷◌, length, slice_index, slice_index_or, take}
+use Rattle.std.specs.Prelude.{All, Contains, IfSome}
 use Rattle.hg_log.specs.Changeset.{Changeset, Log}
 use Rattle.hg_log.specs.Parents.{parents_of}
 use Rattle.hg_log.specs.Rows.{AreLawful, HasNode}
 use Rattle.hg_obs.specs.declared.marker.Marker.{Marker}
-use Rattle.hg_told.specs.declared.viewed.Entry.{Entry}
+use Rattle.hg_told.specs.declared.since.Entry.{Entry}
 use Rattle.hg_told.specs.code.Branches.{branch_at}
+use Rattle.hg_told.specs.Hidden.{IsObsolete}
 use Rattle.hg_told.specs.code.Hiding.{TellsKept}
 
 -- what a view was made of is noted alone
@@ -44,3 +46,42 @@ pub record IsKeptOf {A : Type 0} (rows : List Changeset) (markers : List (Marker
   pub are_names : AreNames rows (length rows) names
   pub kept_long : length kept ≡ length rows
   pub are_kept : (r : ℕ) → r < length rows → TellsKept rows markers r (slice_index kept r)
+
+-- ---- what came to them
+
+-- there is an entry for each of n rows from that one on
+pub record AreEntriesFrom (rows : List Changeset) (first n : ℕ) (entries : List Entry) : Type 0 where
+  pub as_long : length entries ≡ n
+  pub each : (i : ℕ) (other : Entry) → i < n → IsEntry rows (first + i) (slice_index_or entries i other)
+
+-- there is the name of the branch of each of n rows from that one on
+pub record AreNamesFrom (rows : List Changeset) (first n : ℕ) (names : List (List ℕ)) : Type 0 where
+  pub as_long : length names ≡ n
+  pub each : (i : ℕ) → i < n → slice_index_or names i [] ≡ branch_at rows (first + i)
+
+-- it is said of each of n rows from that one on whether it is kept
+pub record AreKeptFrom {A : Type 0} (rows : List Changeset) (markers : List (Marker A)) (first n : ℕ)
+    (kept : List ℕ) : Type 0 where
+  pub as_long : length kept ≡ n
+  pub each : (i : ℕ) → i < n → TellsKept rows markers (first + i) (slice_index kept i)
+
+-- Of the first rows, those are listed that are obsolete by the markers and not by the known ones; what is listed is
+-- one of them and is obsolete.
+pub record AreListed {A : Type 0} (rows : List Changeset) (markers : List (Marker A)) (first known : ℕ)
+    (revs : List ℕ) : Type 0 where
+  pub each : (r : ℕ) → r < first → IsObsolete rows markers r
+      → IsObsolete rows (take known markers) r ⊎ Contains revs r
+  pub within : All (λ r. r < first) revs
+  pub obsolete : All (λ r. IsObsolete rows markers r) revs
+
+-- all that is kept is what came to the first rows and the known markers
+pub record IsSinceOf {A : Type 0} (first known : ℕ) (rows : List Changeset) (markers : List (Marker A))
+    (entries : List Entry) (names : List (List ℕ)) (kept revs : List ℕ) : Type 0 where
+  pub lawful : AreLawful rows
+  pub few : length rows < 2 ^ 31
+  pub first_within : first ≤ length rows
+  pub known_within : known ≤ length markers
+  pub are_entries : AreEntriesFrom rows first (length rows - first) entries
+  pub are_names : AreNamesFrom rows first (length rows - first) names
+  pub are_kept : AreKeptFrom rows markers first (length rows - first) kept
+  pub are_listed : AreListed rows markers first known revs

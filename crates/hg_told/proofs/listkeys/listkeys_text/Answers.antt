@@ -5,6 +5,6 @@ use Rattle.hg_told.proofs.listkeys.listkeys_text.Goals as goal
 
 pub returns : goal.returns
 unfolding listkeys_text
-returns g c rows phases publishing =
+returns g c =
     c.joined.ensures ∙ lines_joined c.new-lines.result.items c.push_lines.new.lines.items _
-    c.new-lines.ensures.items (c.in_ok-push_lines.ensures rows phases publishing)
+    c.new-lines.ensures.items c.in_ok-push_lines.ensures

@@ -8,7 +8,7 @@ use Rattle.hg_told.proofs.listkeys.push_drafts.Goals as goal
 
 pub loop-rev-preserved : goal.loop-rev-preserved
 loop-rev-preserved g c =
-    let rows = c.args.view.now.rows in
+    let rows = c.args.log.now.rows in
     let test = is_draft_root rows c.args.phases.now.current.phases in
     line_more test (draft_line rows) c.args.lines.now.items c.loop-rev.lines.items
     c.push_draft.new.lines.items (range_with_len 0 c.loop-rev.rev) c.loop-rev.rev c.loop-rev.invariant

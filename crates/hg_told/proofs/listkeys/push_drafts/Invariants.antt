@@ -7,5 +7,5 @@ use Rattle.hg_told.proofs.listkeys.push_drafts.Given as goal
 -- the lines of the changesets so far
 abbrev pub invariant-loop-rev : goal.invariant-loop-rev
 invariant-loop-rev g l =
-    l.lines.items ≡ l.fn.lines.items ++ flat_map (ended 10) (map (draft_line l.view.rows)
-    (filter (is_draft_root l.view.rows l.phases.current.phases) (range_with_len 0 l.rev)))
+    l.lines.items ≡ l.fn.lines.items ++ flat_map (ended 10) (map (draft_line l.log.rows)
+    (filter (is_draft_root l.log.rows l.phases.current.phases) (range_with_len 0 l.rev)))
