@@ -27,7 +27,7 @@ use hg_serve::{Client, Server};
 use hg_slots::{Line, Over, Patience, Sent, Slots, set_up};
 use hg_store::Device;
 use hg_types::NoMemory;
-use hg_wire::{Budget, Finish, Shown, Terms, serve_http};
+use hg_wire::{Budget, Finish, Shelf, Shown, Terms, serve_http};
 use std::alloc::{AllocFailed, Global};
 use std::hash::RandomState;
 use std::io;
@@ -49,6 +49,8 @@ const READ: usize = 16_384;
 pub struct Service<'a, J: Storing<Global>, D: Device, R: Wait + Clock> {
     server: Server<J>,
     ledger: Ledger<J, D>,
+    /// The view that all who read share.
+    shelf: Mutex<Shelf<J>>,
     /// The clients that no connection has.
     free: Mutex<Vec<KeptClient<J>>>,
     budget: Budget,
@@ -116,9 +118,11 @@ where
                 return Err(NoMemory);
             }
         };
+        let shelf = Shelf::new(alloc, new_client(rt, &server));
         Ok(Service {
             server,
             ledger,
+            shelf: Mutex::new(shelf),
             free: Mutex::new(free),
             budget: Budget::new(terms.memory),
             board,
@@ -139,6 +143,7 @@ where
         let Service {
             server,
             ledger,
+            shelf,
             free,
             budget: _,
             board: _,
@@ -147,7 +152,10 @@ where
             stored: _,
         } = self;
         let mut clients = clients;
-        join(rt, &mut clients, free.into_inner());
+        let mut others = free.into_inner();
+        let witness = shelf.into_inner().into_witness();
+        put(rt, &mut others, KeptClient::new(witness));
+        join(rt, &mut clients, others);
         close_kept(rt, alloc, server, ledger, clients)
     }
 
@@ -184,6 +192,7 @@ where
         serve_http(
             &self.server,
             &self.ledger,
+            &self.shelf,
             rt,
             alloc,
             keys,

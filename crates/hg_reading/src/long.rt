@@ -1,177 +1,111 @@
-//! What goes through all changesets: it is made from copies, when the server's lock is given back.
+//! What goes through all changesets: it is made from a view of them, when the server's lock is given back.
 
-ghost use Rattle.std.specs.Prelude.{◌≡◌, codes, IfOk, IfSome};
+ghost use Rattle.std.specs.Prelude.{◌≡◌, length, min, IfOk, IsTrue};
 ghost use Rattle.std.specs.List.{AllZip};
-ghost use Rattle.std.specs.Str.{bytes_eq};
-ghost use Rattle.hg_parts.specs.Store.{repository_of, IsSound};
-ghost use Rattle.hg_reading.specs.Copied.{IsCopyOf, IsJoinedOf, IsLong, IsMade, IsOfCopies, IsOfPiece};
-ghost use Rattle.hg_reading.specs.Copied.{long_of as goes_through};
+ghost use Rattle.hg_parts.specs.Store.{repository_of};
+ghost use Rattle.hg_told.specs.BranchMap.{IsBranchMap};
+ghost use Rattle.hg_http.specs.declared.command.Read.{Read as AnyRead};
+ghost use Rattle.hg_reading.specs.Copied.{is_long as goes_long, IsJoinedOf, IsOfPiece};
 
-use crate::copies::Copies;
 use hg_http::Read;
 use hg_parts::Store;
 use hg_repo::Repo;
-use hg_told::{View, branchmap_text, joined_answers, phases_text};
+use hg_told::{Since, View, branchmap_text, joined_answers};
 use hg_types::{NoMemory, Seq, Settings};
 use std::alloc::{Allocator, Global};
 
-/// What goes through all changesets: the branches with their heads, or the phases.
-#[derive(Clone, Copy, Debug, PartialEq, Eq)]
-pub enum Long {
-    Branches,
-    Phases,
-}
-
-/// What a command is answered: a text, in the form of `hg_told`, or one that is made of copies.
+/// What a command is answered: a text, in the form of `hg_told`, or the branches with their heads, which are made
+/// of a view.
 #[derive(Drop)]
 pub enum Piece<A: Allocator = Global> {
     Short(Seq<u8, A>),
-    OfCopies(Long),
+    Branches,
 }
 
-/// Whether the namespace is that of phases.
-pub fn is_phases(namespace: &[u8]) -> bool
-    ensures { result ≡ bytes_eq namespace.now (codes "phases") }
-{
-    namespace == b"phases".as_slice()
-}
-
-/// What a command that reads goes through, if that is all changesets: `branchmap`, and `listkeys` of phases.
-pub fn long_of(read: Read, about: &[u8]) -> Option<Long>
-    ensures is { result ≡ goes_through read about.now }
-    ensures long { IfSome result (λ long. IsLong read about.now long) }
+/// Whether the command goes through all changesets: `branchmap` does.
+pub fn is_long(read: Read) -> bool
+    ensures is { result ≡ goes_long read }
+    ensures branches { IsTrue result → read ≡ AnyRead.BranchMap }
 {
     match read {
-        Read::BranchMap => Some(Long::Branches),
-        Read::ListKeys if is_phases(about) => Some(Long::Phases),
-        Read::Heads | Read::Known | Read::ListKeys | Read::Lookup => None,
+        Read::BranchMap => true,
+        Read::Heads | Read::Known | Read::ListKeys | Read::Lookup => false,
     }
 }
 
-/// Copies what a pass over all changesets needs: one pass over them.
-pub fn copies_of<A: Allocator + Copy>(alloc: A, repo: &Repo<A>) -> Result<Copies<A>, NoMemory>
-    ensures { IfOk result (λ copies. IsCopyOf repo.now copies) }
-{
-    copies_in(alloc, repo.settings(), repo.store())
-}
-
-fn copies_in<A: Allocator + Copy>(
+/// What came to a view of so many changesets and markers. It costs by what came.
+pub fn came_to<A: Allocator + Copy>(
     alloc: A,
-    settings: &Settings,
-    store: &Store<A>,
-) -> Result<Copies<A>, NoMemory>
-    requires { IsSound settings.now store.now }
-    ensures { IfOk result (λ copies. IsCopyOf (repository_of settings.now store.now) copies) }
+    first: usize,
+    known: usize,
+    repo: &Repo<A>,
+) -> Result<Since<A>, NoMemory>
+    ensures { IfOk result (λ came. came ≡ record {
+      first = min first (length repo.now.rows);
+      known = min known (length repo.now.markers);
+      rows = repo.now.rows;
+      markers = repo.now.markers;
+    }) }
 {
-    let view = View::of(alloc, &store.log, &store.markers)?;
-    let phases = store.phases.try_clone(alloc)?;
-    let publishing = settings.publishing;
-    Ok(Copies {
-        view,
-        phases,
-        publishing,
-    })
+    came_in(alloc, first, known, repo.settings(), repo.store())
 }
 
-/// The texts that were made of copies: each is made once, and copied for each who asks.
-#[derive(Drop)]
-pub struct Made<A: Allocator = Global> {
-    branches: Option<Seq<u8, A>>,
-    phases: Option<Seq<u8, A>>,
+fn came_in<A: Allocator + Copy>(
+    alloc: A,
+    first: usize,
+    known: usize,
+    _settings: &Settings,
+    store: &Store<A>,
+) -> Result<Since<A>, NoMemory>
+    ensures { let repo = repository_of _settings.now store.now in IfOk result (λ came. came ≡ record {
+      first = min first (length repo.rows);
+      known = min known (length repo.markers);
+      rows = repo.rows;
+      markers = repo.markers;
+    }) }
+{
+    Since::of(alloc, first, known, &store.log, &store.markers)
 }
 
-impl<A: Allocator + Copy> Made<A> {
-    /// None yet.
-    pub fn new(copies: &Copies<A>) -> Made<A>
-        ensures { IsMade copies.now result }
-    {
-        Made {
-            branches: None,
-            phases: None,
-        }
-    }
-
-    /// The text of what goes through all changesets.
-    pub fn text(&mut self, alloc: A, copies: &Copies<A>, long: Long) -> Result<Seq<u8, A>, NoMemory>
-        requires { IsMade copies.now self.old }
-        ensures made { IsMade copies.now self.new }
-        ensures text { IfOk result (λ text. IsOfCopies copies.now long text) }
-    {
-        match long {
-            Long::Branches => self.branches(alloc, copies),
-            Long::Phases => self.phases(alloc, copies),
-        }
-    }
-
-    fn branches(&mut self, alloc: A, copies: &Copies<A>) -> Result<Seq<u8, A>, NoMemory>
-        requires { IsMade copies.now self.old }
-        ensures made { IsMade copies.now self.new }
-        ensures text { IfOk result (λ text. IsOfCopies copies.now Long.Branches text) }
-    {
-        if let Some(text) = &self.branches {
-            return Seq::copy_of(alloc, text.as_slice());
-        }
-        let text = branchmap_text(alloc, &copies.view)?;
-        let copy = Seq::copy_of(alloc, text.as_slice())?;
-        self.branches = Some(text);
-        Ok(copy)
-    }
-
-    fn phases(&mut self, alloc: A, copies: &Copies<A>) -> Result<Seq<u8, A>, NoMemory>
-        requires { IsMade copies.now self.old }
-        ensures made { IsMade copies.now self.new }
-        ensures text { IfOk result (λ text. IsOfCopies copies.now Long.Phases text) }
-    {
-        if let Some(text) = &self.phases {
-            return Seq::copy_of(alloc, text.as_slice());
-        }
-        let text = phases_text(alloc, &copies.view, &copies.phases, copies.publishing)?;
-        let copy = Seq::copy_of(alloc, text.as_slice())?;
-        self.phases = Some(text);
-        Ok(copy)
-    }
-}
-
-/// The texts of pieces, in order.
+/// The texts of pieces, in order. That of the branches is made once, and copied for each who asks.
 fn texts_of<A: Allocator + Copy>(
     alloc: A,
-    copies: &Copies<A>,
+    view: &View<A>,
     pieces: &[Piece<A>],
 ) -> Result<Seq<Seq<u8, A>, A>, NoMemory>
-    ensures { IfOk result (λ texts. AllZip (IsOfPiece copies.now) pieces.now texts) }
+    ensures { IfOk result (λ texts. AllZip (IsOfPiece view.now) pieces.now texts) }
 {
-    let mut made = Made::new(copies);
+    let branches = branchmap_text(alloc, view)?;
     let mut texts = Seq::new(alloc);
     for piece in pieces {
-        texts.push(text_of(alloc, copies, &mut made, piece)?)?;
+        texts.push(text_of(alloc, view, branches.as_slice(), piece)?)?;
     }
     Ok(texts)
 }
 
 fn text_of<A: Allocator + Copy>(
     alloc: A,
-    copies: &Copies<A>,
-    made: &mut Made<A>,
+    view: &View<A>,
+    branches: &[u8],
     piece: &Piece<A>,
 ) -> Result<Seq<u8, A>, NoMemory>
-    requires { IsMade copies.now made.old }
-    ensures made { IsMade copies.now made.new }
-    ensures text { IfOk result (λ text. IsOfPiece copies.now piece.now text) }
+    requires { IsBranchMap view.now.rows view.now.markers branches.now }
+    ensures { IfOk result (λ text. IsOfPiece view.now piece.now text) }
 {
     match piece {
         Piece::Short(text) => Seq::copy_of(alloc, text.as_slice()),
-        Piece::OfCopies(long) => made.text(alloc, copies, *long),
+        Piece::Branches => Seq::copy_of(alloc, branches),
     }
 }
 
 /// The answer of a batch, of its pieces.
 pub fn joined_pieces<A: Allocator + Copy>(
     alloc: A,
-    copies: &Copies<A>,
+    view: &View<A>,
     pieces: &[Piece<A>],
 ) -> Result<Seq<u8, A>, NoMemory>
-    ensures { IfOk result (λ text. IsJoinedOf copies.now pieces.now text) }
+    ensures { IfOk result (λ text. IsJoinedOf view.now pieces.now text) }
 {
-    let texts = texts_of(alloc, copies, pieces)?;
+    let texts = texts_of(alloc, view, pieces)?;
     joined_answers(alloc, texts.as_slice())
 }

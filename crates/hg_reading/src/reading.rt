@@ -1,22 +1,22 @@
 //! Commands that only read, each as a question to the repository.
 
-ghost use Rattle.std.specs.Prelude.{◌≡◌, IfOk};
+ghost use Rattle.std.specs.Prelude.{◌≡◌, true, List, IfOk};
 ghost use Rattle.std.specs.List.{AllZip};
 ghost use Rattle.hg_parts.specs.Store.{repository_of, IsSound};
 ghost use Rattle.hg_parts.specs.Repository.{Repository};
-ghost use Rattle.hg_reading.specs.Copied.{have_long as some_are_long, is_long as goes_through_all, IsBrought};
-ghost use Rattle.hg_reading.specs.Copied.{IsCommandPiece, IsCopyOf, IsLong, IsPieceOf};
+ghost use Rattle.hg_reading.specs.Copied.{goes_through_all, have_long as some_are_long, is_long as goes_long};
+ghost use Rattle.hg_told.specs.declared.batch.Command.{Command as AnyCommand};
+ghost use Rattle.hg_reading.specs.Copied.{IsCommandPiece, IsCopyOf, IsPieceOf};
 ghost use Rattle.hg_reading.specs.Texts.{IsBatchText, IsCommandText, IsTextOf};
 
-use crate::copies::Copies;
-use crate::long::{Long, Made, Piece, copies_of, is_phases, joined_pieces, long_of};
+use crate::long::{Piece, came_to, is_long, joined_pieces};
 use hg_http::{Read, argument, read_of, subject_of};
 use hg_parts::Store;
 use hg_repo::Repo;
 use hg_serve::Question;
 use hg_told::{
-    Command, View, branchmap_text, heads_text, joined_answers, known_text, listkeys_text,
-    lookup_text, phases_text,
+    Command, Since, View, branchmap_text, heads_text, joined_answers, known_text, listkeys_text,
+    lookup_text,
 };
 use hg_types::{NoMemory, Seq, Settings};
 use std::alloc::{Allocator, Global};
@@ -59,78 +59,62 @@ impl<A: Allocator + Copy> Question<A, Result<Seq<u8, A>, NoMemory>> for Batch<'_
     }
 }
 
-/// Copies of what a pass over all changesets needs.
-#[derive(Drop)]
-pub struct Copying<A: Allocator> {
-    pub alloc: A,
-}
-
-impl<A: Allocator + Copy> Question<A, Result<Copies<A>, NoMemory>> for Copying<A> {
-    ghost use Rattle.std.specs.Prelude.{IfOk};
-    ghost use Rattle.hg_reading.specs.Copied.{IsCopyOf};
-
-    ghost tells = { λ q repo told. IfOk told (λ copies. IsCopyOf repo copies) };
-
-    fn ask(&self, repo: &Repo<A>) -> Result<Copies<A>, NoMemory> {
-        copies_of(self.alloc, repo)
-    }
-}
-
-/// What a look brings of the commands of a batch: a piece of each, and copies, of which the other texts are made.
+/// What a look brings of the commands of a batch: a piece of each, and what came to the view of which the other texts
+/// are made.
 #[derive(Drop)]
 pub struct Brought<A: Allocator = Global> {
     pub pieces: Seq<Piece<A>, A>,
-    pub copies: Copies<A>,
+    pub came: Since<A>,
 }
 
-/// Several commands, of which some go through all changesets. These are answered from copies.
+/// Several commands, of which some go through all changesets. These are answered from a view, which was of so many
+/// changesets and markers.
 #[derive(Drop)]
 pub struct LongBatch<'a, A: Allocator> {
     pub alloc: A,
     pub commands: &'a [Command<A>],
+    pub first: usize,
+    pub known: usize,
 }
 
 impl<A: Allocator + Copy> Question<A, Result<Brought<A>, NoMemory>> for LongBatch<'_, A> {
     ghost use Rattle.std.specs.Prelude.{IfOk};
     ghost use Rattle.hg_reading.specs.Copied.{IsBrought};
 
-    ghost tells = { λ q repo told. IfOk told (λ brought. IsBrought repo q.commands.now brought) };
+    ghost tells = { λ q repo told. IfOk told (λ brought. IsBrought repo q.first q.known q.commands.now brought) };
 
     fn ask(&self, repo: &Repo<A>) -> Result<Brought<A>, NoMemory> {
         let pieces = pieces_of(self.alloc, repo, self.commands)?;
-        let copies = copies_of(self.alloc, repo)?;
-        Ok(Brought { pieces, copies })
+        let came = came_to(self.alloc, self.first, self.known, repo)?;
+        Ok(Brought { pieces, came })
     }
 }
 
-/// The text of a command that goes through all changesets, of the copies that a look brought.
+/// The text of a command that goes through all changesets, of a view of these.
 pub fn long_text<A: Allocator + Copy>(
     alloc: A,
-    copies: Result<Copies<A>, NoMemory>,
-    read: Read,
-    about: &[u8],
-    long: Long,
+    view: &View<A>,
+    _read: Read,
+    _about: &[u8],
 ) -> Result<Seq<u8, A>, NoMemory>
-    requires { IsLong read about.now long }
-    ensures { (repo : Repository A) → IfOk copies (λ c. IsCopyOf repo c)
-        → IfOk result (λ text. IsTextOf repo read about.now text) }
+    requires { goes_long _read ≡ true }
+    ensures { (repo : Repository A) → IsCopyOf repo view.now
+        → IfOk result (λ text. IsTextOf repo _read _about.now text) }
 {
-    let copies = copies?;
-    let mut made = Made::new(&copies);
-    made.text(alloc, &copies, long)
+    branchmap_text(alloc, view)
 }
 
-/// The answer of a batch, of what a look brought of it.
+/// The answer of a batch, of the pieces of its commands and of a view.
 pub fn batch_text<A: Allocator + Copy>(
     alloc: A,
-    brought: Result<Brought<A>, NoMemory>,
-    commands: &[Command<A>],
+    view: &View<A>,
+    pieces: &[Piece<A>],
 ) -> Result<Seq<u8, A>, NoMemory>
-    ensures { (repo : Repository A) → IfOk brought (λ b. IsBrought repo commands.now b)
-        → IfOk result (λ text. IsBatchText repo commands.now text) }
+    ensures { (repo : Repository A) (commands : List (AnyCommand A)) → IsCopyOf repo view.now
+        → AllZip (IsCommandPiece repo) commands pieces.now
+        → IfOk result (λ text. IsBatchText repo commands text) }
 {
-    let brought = brought?;
-    joined_pieces(alloc, &brought.copies, brought.pieces.as_slice())
+    joined_pieces(alloc, view, pieces)
 }
 
 /// The pieces of the commands, in order.
@@ -174,27 +158,24 @@ fn piece_of<A: Allocator + Copy>(
 ) -> Result<Piece<A>, NoMemory>
     ensures { IfOk result (λ piece. IsPieceOf repo.now read about.now piece) }
 {
-    match long_of(read, about) {
-        Some(long) => Ok(Piece::OfCopies(long)),
-        None => Ok(Piece::Short(text_of(alloc, repo, read, about)?)),
+    if is_long(read) {
+        return Ok(Piece::Branches);
     }
+    Ok(Piece::Short(text_of(alloc, repo, read, about)?))
 }
 
 /// Whether one of a batch's commands goes through all changesets.
 pub fn have_long<A: Allocator>(commands: &[Command<A>]) -> bool
     ensures { result ≡ some_are_long commands.now }
 {
-    commands.iter().any(|command| is_long(command))
+    commands.iter().any(|command| asks_long(command))
 }
 
-fn is_long<A: Allocator>(command: &Command<A>) -> bool
+fn asks_long<A: Allocator>(command: &Command<A>) -> bool
     ensures { result ≡ goes_through_all command.now }
 {
     match read_of(command.name.as_slice()) {
-        Some(read) => {
-            let about = argument(command.arguments.as_slice(), subject_of(read));
-            long_of(read, about).is_some()
-        }
+        Some(read) => is_long(read),
         None => false,
     }
 }
@@ -257,26 +238,15 @@ fn text_in<A: Allocator + Copy>(
     match read {
         Read::Heads => heads_text(alloc, log),
         Read::Known => known_text(alloc, log, about),
-        Read::ListKeys => keys_in(alloc, settings, store, about),
+        Read::ListKeys => listkeys_text(
+            alloc,
+            log,
+            &store.phases,
+            &store.bookmarks,
+            settings.publishing,
+            about,
+        ),
         Read::Lookup => lookup_text(alloc, log, &store.bookmarks, about),
         Read::BranchMap => branchmap_text(alloc, &View::of(alloc, log, &store.markers)?),
     }
-}
-
-/// The keys of a namespace.
-fn keys_in<A: Allocator + Copy>(
-    alloc: A,
-    settings: &Settings,
-    store: &Store<A>,
-    namespace: &[u8],
-) -> Result<Seq<u8, A>, NoMemory>
-    requires { IsSound settings.now store.now }
-    ensures { IfOk result (λ text. IsTextOf (repository_of settings.now store.now) Read.ListKeys namespace.now
-        text) }
-{
-    if is_phases(namespace) {
-        let view = View::of(alloc, &store.log, &store.markers)?;
-        return phases_text(alloc, &view, &store.phases, settings.publishing);
-    }
-    listkeys_text(alloc, &store.bookmarks, namespace)
 }

@@ -4,8 +4,7 @@ ghost use Rattle.hg_types.specs.Limits.{IsAllowed};
 
 use hg_http::{Answer, Read, Refusal, View};
 use hg_reading::{
-    Batch, Long, LongBatch, Reading, Shown, Viewing, batch_text, have_long, long_of, refusal_of,
-    shown,
+    Batch, LongBatch, Reading, Shown, Viewing, batch_text, have_long, is_long, refusal_of, shown,
 };
 use hg_repo::Repo;
 use hg_serve::Question;
@@ -93,7 +92,7 @@ fn an_empty_repository_is_asked(rt: HostRuntime) -> Result<(), Fail> {
     Ok(())
 }
 
-/// What a batch is told, by copies where one of its commands goes through all changesets.
+/// What a batch is answered, by a view where one of its commands goes through all changesets.
 fn answer<A: Allocator + Copy>(
     alloc: A,
     repo: &Repo<A>,
@@ -102,8 +101,15 @@ fn answer<A: Allocator + Copy>(
     let commands = read_batch(alloc, text)?;
     let commands = commands.as_slice();
     if have_long(commands) {
-        let brought = LongBatch { alloc, commands }.ask(repo);
-        batch_text(alloc, brought, commands)
+        let question = LongBatch {
+            alloc,
+            commands,
+            first: 0,
+            known: 0,
+        };
+        let brought = question.ask(repo)?;
+        let view = hg_told::View::new(alloc).with(brought.came)?;
+        batch_text(alloc, &view, brought.pieces.as_slice())
     } else {
         Batch { alloc, commands }.ask(repo)
     }
@@ -170,7 +176,7 @@ fn batches_have_bounds(rt: HostRuntime) {
     let long = Some(Refusal::LongBatch);
     let asked = [
         (b"heads ;branchmap ".as_slice(), None, true),
-        (b"heads ;listkeys namespace=phases", None, true),
+        (b"heads ;listkeys namespace=phases", None, false),
         (b"heads ;listkeys namespace=bookmarks", None, false),
         (b"heads ;unbundle ", Some(Refusal::BadBatch), false),
         (b"", Some(Refusal::BadBatch), false),
@@ -202,10 +208,9 @@ fn batches_have_bounds(rt: HostRuntime) {
 
 #[test]
 fn what_goes_through_all_changesets(rt: HostRuntime) {
-    assert!(rt; long_of(Read::BranchMap, b"") == Some(Long::Branches));
-    assert!(rt; long_of(Read::ListKeys, b"phases") == Some(Long::Phases));
-    assert!(rt; long_of(Read::ListKeys, b"bookmarks").is_none());
-    assert!(rt; long_of(Read::Lookup, b"phases").is_none());
+    assert!(rt; is_long(Read::BranchMap));
+    assert!(rt; !is_long(Read::Heads) && !is_long(Read::Known));
+    assert!(rt; !is_long(Read::ListKeys) && !is_long(Read::Lookup));
 }
 
 /// Whether the answer that shows a view, where the store had one push and two were done since, is this text.

@@ -2,5 +2,4 @@ mod OneBundle
 mod Served
 mod Wires
 mod Pieces
-mod Looked
 mod Later

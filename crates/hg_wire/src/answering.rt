@@ -1,6 +1,6 @@
 //! What a request is answered.
 
-ghost use Rattle.std.specs.Prelude.{◌≡◌, ◌⊎◌, codes, IfOk, MatchResult};
+ghost use Rattle.std.specs.Prelude.{◌≡◌, ◌⊎◌, true, codes, IfOk, MatchResult};
 ghost use Rattle.std.specs.Option.{option_copied};
 ghost use Rattle.std.specs.Str.{bytes_eq};
 ghost use Rattle.http.specs.Request.{body_of};
@@ -9,7 +9,7 @@ ghost use Rattle.hg_http.specs.Requests.{argument_in, arguments_of, is_from_clie
 ghost use Rattle.hg_http.specs.Requests.{name_of};
 ghost use Rattle.hg_told.specs.Batch.{commands_of};
 ghost use Rattle.hg_told.specs.Capabilities.{capabilities_told};
-ghost use Rattle.hg_reading.specs.Copied.{IsLong};
+ghost use Rattle.hg_reading.specs.Copied.{is_long as goes_long};
 ghost use Rattle.hg_reading.specs.Texts.{refusal_of as why_refused, IsBatchText, IsTextOf};
 ghost use Rattle.hg_ledger.specs.Clients.{IsCovered};
 ghost use Rattle.hg_wire.specs.Answering.{AnswersRequest, AnswersAsked, AnswersBatch, AnswersCommand, AnswersForced};
@@ -18,6 +18,7 @@ ghost use Rattle.hg_wire.specs.Answering.{pull_answer};
 ghost use Rattle.hg_wire.specs.Pushes.{Answered};
 
 use crate::key::push_key;
+use crate::long::{look_long, look_long_batch};
 use crate::looking::look;
 use crate::push::unbundle;
 use crate::terms::{Host, Terms};
@@ -28,10 +29,7 @@ use hg_http::{
     read_name, subject_of, view_of,
 };
 use hg_ledger::{KeptClient, NotStored, Storing};
-use hg_reading::{
-    Batch, Copying, Long, LongBatch, Reading, Shown, Watch, batch_text, have_long, long_of,
-    long_text, refusal_of,
-};
+use hg_reading::{Batch, Reading, Shown, Watch, have_long, is_long, refusal_of};
 use hg_store::Device;
 use hg_told::{Field, capabilities_text, read_batch};
 use hg_types::{NoMemory, Seq};
@@ -166,8 +164,8 @@ fn tell<J: Storing<A>, D: Device, A: Allocator + Copy, R: Wait>(
         client result.1 result.0 }
 {
     let about = argument(fields, subject_of(read));
-    if let Some(long) = long_of(read, about) {
-        return tell_long(host, client, read, about, long);
+    if is_long(read) {
+        return tell_long(host, client, read, about);
     }
     let question = Reading {
         alloc: host.alloc,
@@ -181,27 +179,22 @@ fn tell<J: Storing<A>, D: Device, A: Allocator + Copy, R: Wait>(
     }
 }
 
-/// Answers a command that goes through all changesets: one look copies what it is made from.
+/// Answers a command that goes through all changesets, by one look that brings up the view which all share.
 fn tell_long<J: Storing<A>, D: Device, A: Allocator + Copy, R: Wait>(
     host: &Host<'_, J, D, R, A>,
     client: KeptClient<J, A>,
     read: Read,
     about: &[u8],
-    long: Long,
 ) -> (KeptClient<J, A>, Result<Answer<A>, NotStored>)
-    requires { IsLong read about.now long }
+    requires { goes_long read ≡ true }
     ensures { Answered (OrLacks (IsToldAt J.first
         (IsCovered D.seen D.may_leave D.moment J.head J.stored J.first)
         (λ repo text. IsTextOf repo read about.now text)))
         client result.1 result.0 }
 {
-    let question = Copying { alloc: host.alloc };
-    let (client, looked) = look(host, client, &question);
+    let (client, looked) = look_long(host, client, read, about);
     match looked {
-        Ok((copies, _rests)) => {
-            let text = long_text(host.alloc, copies, read, about, long);
-            (client, Ok(told(text)))
-        }
+        Ok(text) => (client, Ok(told(text))),
         Err(fault) => (client, Err(fault)),
     }
 }
@@ -255,8 +248,8 @@ fn tell_all<J: Storing<A>, D: Device, A: Allocator + Copy, R: Wait>(
     }
 }
 
-/// Answers the commands of a batch of which some go through all changesets: one look copies what these are made
-/// of, and each kind of them costs one pass over the copies.
+/// Answers the commands of a batch of which some go through all changesets, by one look that brings up the view
+/// which all share.
 fn tell_all_long<J: Storing<A>, D: Device, A: Allocator + Copy, R: Wait>(
     host: &Host<'_, J, D, R, A>,
     client: KeptClient<J, A>,
@@ -265,16 +258,9 @@ fn tell_all_long<J: Storing<A>, D: Device, A: Allocator + Copy, R: Wait>(
     ensures { Answered (OrLacks (IsToldAt J.first (IsCovered D.seen D.may_leave D.moment J.head J.stored J.first)
         (λ repo text. IsBatchText repo commands.now text))) client result.1 result.0 }
 {
-    let question = LongBatch {
-        alloc: host.alloc,
-        commands,
-    };
-    let (client, looked) = look(host, client, &question);
+    let (client, looked) = look_long_batch(host, client, commands);
     match looked {
-        Ok((brought, _rests)) => {
-            let text = batch_text(host.alloc, brought, commands);
-            (client, Ok(told(text)))
-        }
+        Ok(text) => (client, Ok(told(text))),
         Err(fault) => (client, Err(fault)),
     }
 }

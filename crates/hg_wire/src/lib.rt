@@ -3,7 +3,8 @@
 //!
 //! A [`Wire`] is a service of `http_server` that holds one client of a server: [`serve_http`] makes one and
 //! serves a connection with it. A push is served as one bundle of `hg_kept` is, and a command that reads is
-//! answered by one look at the repository, also where a batch asks several. Each answer that depends on the
+//! answered by one look at the repository, also where a batch asks several. What goes through all changesets is made
+//! of a view that all connections share, on a [`Shelf`] under a lock of its own. Each answer that depends on the
 //! repository waits until the pushes that it rests on are on the device; where the store failed there is none.
 //! Whatever else comes is answered: out of memory too is answered, and closes no connection. A body which finds no
 //! room in the [`Budget`] of all of them is read to its end and dropped, and is answered so.
@@ -15,6 +16,7 @@
 mod answering;
 mod budget;
 mod key;
+mod long;
 mod looking;
 mod push;
 mod serve;
@@ -24,7 +26,7 @@ mod wire;
 
 pub use answering::answer_request;
 pub use budget::Budget;
-pub use hg_reading::{Pushed, Shown, Watch};
+pub use hg_reading::{Pushed, Shelf, Shown, Watch};
 pub use serve::{Finish, serve_http};
 pub use terms::{Host, Terms};
 pub use wire::Wire;

@@ -18,7 +18,7 @@ use crate::wire::Wire;
 use hg_devices::{Sending, send};
 use hg_follow::{Follower, Found};
 use hg_ledger::{KeptClient, Ledger, Storing};
-use hg_reading::{Shown, Watch};
+use hg_reading::{Shelf, Shown, Watch};
 use hg_serve::Server;
 use hg_store::Device;
 use http_server::{Config, Connection};
@@ -26,7 +26,7 @@ use std::alloc::{Allocator, Global};
 use std::hash::RandomState;
 use std::io;
 use std::io::{BufRead, ErrorKind, Write};
-use std::sync::Wait;
+use std::sync::{Mutex, Wait};
 
 /// How a connection ended.
 #[derive(Clone, Copy, Debug, PartialEq, Eq)]
@@ -54,6 +54,7 @@ pub fn serve_http<
 >(
     server: &Server<J>,
     ledger: &Ledger<J, D>,
+    shelf: &Mutex<Shelf<J>>,
     rt: &R,
     alloc: Global,
     keys: RandomState,
@@ -72,6 +73,7 @@ pub fn serve_http<
     let host = Host {
         server,
         ledger,
+        shelf,
         rt,
         alloc,
     };

@@ -2,10 +2,11 @@
 
 use crate::budget::Budget;
 use hg_ledger::{Ledger, Storing};
+use hg_reading::Shelf;
 use hg_serve::Server;
 use hg_store::Device;
 use std::alloc::{Allocator, Global};
-use std::sync::Wait;
+use std::sync::{Mutex, Wait};
 
 /// What all connections have in common beside the repository.
 #[derive(Drop)]
@@ -20,11 +21,12 @@ pub struct Terms<'a, S> {
     pub stored: usize,
 }
 
-/// A server, and the ledger that keeps its pushes.
+/// A server, the ledger that keeps its pushes, and the view that all who read share.
 #[derive(Drop)]
 pub struct Host<'a, J: Storing<A>, D: Device, R: Wait, A: Allocator = Global> {
     pub server: &'a Server<J, A>,
     pub ledger: &'a Ledger<J, D, A>,
+    pub shelf: &'a Mutex<Shelf<J, A>>,
     pub rt: &'a R,
     pub alloc: A,
 }

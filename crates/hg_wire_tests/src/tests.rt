@@ -26,13 +26,13 @@ use hg_restore::replay_records;
 use hg_serve::{Gate, Point, Server};
 use hg_store::{Log, recover};
 use hg_types::{NoMemory, Seq};
-use hg_wire::{Budget, Finish, Pushed, Shown, Terms, Watch, serve_http};
+use hg_wire::{Budget, Finish, Pushed, Shelf, Shown, Terms, Watch, serve_http};
 use std::alloc::{AllocFailed, Allocator, Global};
 use std::io::{BufReader, Read};
 use std::marker::Brand;
 use std::process::Abort;
 use std::random::RandomSource;
-use std::sync::Wait;
+use std::sync::{Mutex, Wait};
 use std::test::*;
 
 /// A page of one word, and as many counters as there are changesets.
@@ -217,6 +217,7 @@ fn play<J: Storing<Global>, R: RandomSource + Wait + Abort>(
         stored: 0,
     };
     let mut tally = Tally::new();
+    let shelf = Mutex::new(Shelf::new(alloc, client_of(rt, &server)));
     let mut client = KeptClient::new(client_of(rt, &server));
     let mut finish = Finish::Done;
     let mut told = Vec::new(alloc);
@@ -234,6 +235,7 @@ fn play<J: Storing<Global>, R: RandomSource + Wait + Abort>(
         let (back, ended) = serve_http(
             &server,
             &ledger,
+            &shelf,
             rt,
             alloc,
             keys,
@@ -247,6 +249,8 @@ fn play<J: Storing<Global>, R: RandomSource + Wait + Abort>(
         finish = ended;
     }
     add(rt, &mut clients, client);
+    let witness = shelf.into_inner().into_witness();
+    add(rt, &mut clients, KeptClient::new(witness));
     let ClosedKept {
         closed,
         log: Log { device, .. },

@@ -97,7 +97,7 @@ fn converse_over<J: Storing<A>, A: Allocator + Copy, R: RandomSource + Wait + Ab
     let Ok(tally) = hg_ledger::Tally::new(alloc) else {
         return Came::Unmade;
     };
-    let Ok(mut clients) = Vec::with_capacity(alloc, 3) else {
+    let Ok(mut clients) = Vec::with_capacity(alloc, 4) else {
         return Came::Unmade;
     };
     let server = Server::<J, A>::new(alloc, repo, queue, taker);
@@ -126,10 +126,12 @@ fn converse_over<J: Storing<A>, A: Allocator + Copy, R: RandomSource + Wait + Ab
         pull: None,
         stored: 0,
     };
+    let shelf = Mutex::new(Shelf::new(alloc, client_of(rt, &server)));
     let client = KeptClient::new(client_of(rt, &server));
     let host = Host {
         server: &server,
         ledger: &ledger,
+        shelf: &shelf,
         rt,
         alloc,
     };
@@ -140,6 +142,7 @@ fn converse_over<J: Storing<A>, A: Allocator + Copy, R: RandomSource + Wait + Ab
     let host = Host {
         server: &server,
         ledger: &ledger,
+        shelf: &shelf,
         rt,
         alloc,
     };
@@ -149,6 +152,7 @@ fn converse_over<J: Storing<A>, A: Allocator + Copy, R: RandomSource + Wait + Ab
     let host = Host {
         server: &server,
         ledger: &ledger,
+        shelf: &shelf,
         rt,
         alloc,
     };
@@ -164,6 +168,7 @@ fn converse_over<J: Storing<A>, A: Allocator + Copy, R: RandomSource + Wait + Ab
     } = ledger.into_parts();
     add(rt, &mut clients, first_witness);
     add(rt, &mut clients, second_witness);
+    add(rt, &mut clients, shelf.into_inner().into_witness());
     let _closed = server.close(clients);
     match (first, second, third) {
         (Ok(()), Ok(()), Ok(())) => Came::Answered(Answered { told, after }),

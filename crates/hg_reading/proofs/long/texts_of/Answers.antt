@@ -5,11 +5,9 @@ use Rattle.hg_reading.proofs.Lists.{AllZip_next}
 use Rattle.hg_reading.proofs.long.texts_of.Goals as goal
 
 pub loop-piece-preserved : goal.loop-piece-preserved
-loop-piece-preserved g c = (
-  c.text_of.ensures.made,
-  subst (AllZip (IsOfPiece c.args.copies.now) (take (c.loop-piece.piece-index + 1) c.args.pieces.now))
-      (sym c.in_ok-push.ensures.ok)
-      (AllZip_next (IsOfPiece c.args.copies.now) c.args.pieces.now c.loop-piece.texts
-      c.loop-piece.piece-index c.piece-item.result c.in_ok-text_of.field-0
-      c.loop-piece-test.true c.piece-item.is c.loop-piece.invariant.1 c.in_ok-text_of.ensures.text),
-)
+loop-piece-preserved g c =
+    subst (AllZip (IsOfPiece c.args.view.now) (take (c.loop-piece.piece-index + 1) c.args.pieces.now))
+    (sym c.in_ok-push.ensures.ok)
+    (AllZip_next (IsOfPiece c.args.view.now) c.args.pieces.now c.loop-piece.texts
+    c.loop-piece.piece-index c.piece-item.result c.in_ok-text_of.field-0
+    c.loop-piece-test.true c.piece-item.is c.loop-piece.invariant c.in_ok-text_of.ensures)

@@ -7,9 +7,9 @@ use Rattle.hg_reading.proofs.reading.text_in.Goals as goal
 
 pub returns-in-ListKeys : goal.returns-in-ListKeys
 returns-in-ListKeys g c =
-    subst (λ read. IfOk c.keys_in.result (λ text.
+    subst (λ read. IfOk c.listkeys_text.result (λ text.
     IsTextOf (repository_of c.args.settings.now c.args.store.now) read c.args.about.now text))
-    (sym c.in-ListKeys.is) c.keys_in.ensures
+    (sym c.in-ListKeys.is) c.listkeys_text.ensures
 
 pub returns-in-Lookup : goal.returns-in-Lookup
 returns-in-Lookup g c =
