@@ -6,6 +6,7 @@ ghost use Rattle.hg_serve.specs.Desks.{OpensWith};
 ghost use Rattle.hg_ledger.specs.Receipts.{IsTallyOf};
 ghost use Rattle.hg_opening.specs.Opening.{IsOpened, IsRecovered};
 
+use crate::runtime::HostingRuntime;
 use crate::service::Service;
 use crate::terms::HostTerms;
 use hg_ledger::{Storing, Tally};
@@ -15,11 +16,10 @@ use hg_slots::Over;
 use hg_store::Device;
 use std::alloc::Global;
 use std::marker::Brand;
-use std::net::{Net, SocketAddr, TcpListener, TcpStream};
-use std::random::RandomSource;
+use std::net::{SocketAddr, TcpListener, TcpStream};
 use std::sync::Wait;
 use std::thread;
-use std::thread::{Builder, Scope, Threads};
+use std::thread::{Builder, Scope};
 use std::time::{Clock, Duration};
 
 /// How many bytes the stack of a connection's thread has.
@@ -28,124 +28,79 @@ const STACK: usize = 524_288;
 /// How many milliseconds are waited after a connection that could not be accepted, or had no thread.
 const PAUSE: u64 = 100;
 
-/// Serves a connection. Where serving is over, whoever accepts connections is woken by one more.
-fn attend<J, D, R>(
-    rt: &R,
-    alloc: Global,
-    service: &Service<'_, J, D, R>,
-    stream: TcpStream,
-    address: SocketAddr,
-)
-where
-    J: Storing<Global>,
-    D: Device + Drop,
-    R: Wait + Clock + Eprint + RandomSource + Net<Listener = TcpListener, Stream = TcpStream>,
-{
-    service.connect(rt, alloc, stream);
-    if service.slots().is_to_wake() {
-        let _ = TcpStream::connect(rt, address);
-    }
-}
-
-/// Starts a thread that serves the connection. Where there is none, the connection is closed, and that is printed.
-fn start<'s, E, J, D, R>(
+/// A service, and where its connections come from.
+#[derive(Drop)]
+struct Hosted<'s, J: Storing<Global>, D: Device, R: Wait + Clock> {
     rt: &'s R,
     alloc: Global,
-    scope: &'s Scope<'s, E>,
     service: &'s Service<'s, J, D, R>,
-    stream: TcpStream,
+    listener: &'s TcpListener,
     address: SocketAddr,
-)
+}
+
+impl<'s, J, D, R> Hosted<'s, J, D, R>
 where
     J: Storing<Global> + Send + Sync,
     D: Device + Drop + Send,
-    R: Threads
-        + Wait
-        + Clock
-        + Eprint
-        + RandomSource
-        + Net<Listener = TcpListener, Stream = TcpStream>
-        + Sync,
+    R: HostingRuntime,
 {
-    let started = Builder::new()
-        .stack_size(STACK)
-        .spawn_scoped(scope, move || attend(rt, alloc, service, stream, address));
-    if let Err(error) = started {
-        service.slots().give_back(rt);
-        let _ = eprintln!(rt; "hg_pushd: no thread for a connection: {error}");
-        thread::sleep(rt, Duration::from_millis(PAUSE));
-    }
-}
-
-/// Accepts connections, as many at one time as there are places, until serving is over. Where one is not
-/// accepted, that is printed once, and it is tried again each while.
-fn admit_all<'s, E, J, D, R>(
-    rt: &'s R,
-    alloc: Global,
-    scope: &'s Scope<'s, E>,
-    service: &'s Service<'s, J, D, R>,
-    listener: &TcpListener,
-    address: SocketAddr,
-)
-where
-    J: Storing<Global> + Send + Sync,
-    D: Device + Drop + Send,
-    R: Threads
-        + Wait
-        + Clock
-        + Eprint
-        + RandomSource
-        + Net<Listener = TcpListener, Stream = TcpStream>
-        + Sync,
-{
-    let mut is_told = false;
-    'admitting: for _ in rt.forever() {
-        if !service.slots().take(rt) {
-            return;
+    /// Serves a connection. Where serving is over, whoever accepts connections is woken by one more.
+    fn attend(&self, stream: TcpStream) {
+        self.service.connect(self.rt, self.alloc, stream);
+        if self.service.slots().is_to_wake() {
+            let _ = TcpStream::connect(self.rt, self.address);
         }
-        match listener.accept() {
-            Ok((stream, _)) => {
-                is_told = false;
-                start(rt, alloc, scope, service, stream, address);
+    }
+
+    /// Starts a thread that serves the connection. Where there is none, the connection is closed, and that is printed.
+    fn start<E>(&'s self, scope: &'s Scope<'s, E>, stream: TcpStream) {
+        let started = Builder::new()
+            .stack_size(STACK)
+            .spawn_scoped(scope, move || self.attend(stream));
+        if let Err(error) = started {
+            self.service.slots().give_back(self.rt);
+            let _ = eprintln!(self.rt; "hg_pushd: no thread for a connection: {error}");
+            thread::sleep(self.rt, Duration::from_millis(PAUSE));
+        }
+    }
+
+    /// Accepts connections, as many at one time as there are places, until serving is over. Where one is not
+    /// accepted, that is printed once, and it is tried again each while.
+    fn admit_all<E>(&'s self, scope: &'s Scope<'s, E>) {
+        let mut is_printed = false;
+        'admitting: for _ in self.rt.forever() {
+            if !self.service.slots().take(self.rt) {
+                return;
             }
-            Err(error) => {
-                service.slots().give_back(rt);
-                if !is_told {
-                    let _ = eprintln!(rt; "hg_pushd: a connection was not accepted: {error}");
+            match self.listener.accept() {
+                Ok((stream, _)) => {
+                    is_printed = false;
+                    self.start(scope, stream);
                 }
-                is_told = true;
-                thread::sleep(rt, Duration::from_millis(PAUSE));
+                Err(error) => {
+                    self.service.slots().give_back(self.rt);
+                    if !is_printed {
+                        let _ = eprintln!(self.rt;
+                            "hg_pushd: a connection was not accepted: {error}"
+                        );
+                    }
+                    is_printed = true;
+                    thread::sleep(self.rt, Duration::from_millis(PAUSE));
+                }
             }
         }
+        unreachable!()
     }
-    unreachable!()
+
+    /// Serves connections until serving is over, and waits for those that run.
+    fn serve_all(&self) {
+        thread::scope(thread::scope_env(), self.rt, move |scope| {
+            self.admit_all(scope);
+        });
+    }
 }
 
-/// Serves connections until serving is over, and waits for those that run.
-fn serve_all<J, D, R>(
-    rt: &R,
-    alloc: Global,
-    service: &Service<'_, J, D, R>,
-    listener: &TcpListener,
-    address: SocketAddr,
-)
-where
-    J: Storing<Global> + Send + Sync,
-    D: Device + Drop + Send,
-    R: Threads
-        + Wait
-        + Clock
-        + Eprint
-        + RandomSource
-        + Net<Listener = TcpListener, Stream = TcpStream>
-        + Sync,
-{
-    thread::scope(thread::scope_env(), rt, move |scope| {
-        admit_all(rt, alloc, scope, service, listener, address);
-    });
-}
-
-/// The same, on a server of that name, with a new tally.
+/// Serves as [`host`] does, on a server of that name, with a new tally.
 fn host_named<J, D, R>(
     rt: &R,
     alloc: Global,
@@ -160,13 +115,7 @@ fn host_named<J, D, R>(
 where
     J: Storing<Global> + Send + Sync,
     D: Device + Drop + Send,
-    R: Threads
-        + Wait
-        + Clock
-        + Eprint
-        + RandomSource
-        + Net<Listener = TcpListener, Stream = TcpStream>
-        + Sync,
+    R: HostingRuntime,
     requires begins { OpensWith J.table J.capacity J.first queue taker recovered.repo }
     requires settled { IsSettled D.seen D.may_leave J.head J.stored recovered.log }
     requires opened { J.opened ≡ D.moment recovered.log.device }
@@ -178,7 +127,14 @@ where
     else {
         return Over::NoMemory;
     };
-    serve_all(rt, alloc, &service, listener, address);
+    let hosted = Hosted {
+        rt,
+        alloc,
+        service: &service,
+        listener,
+        address,
+    };
+    hosted.serve_all();
     let over = service.slots().over(rt);
     let clients = Vec::new(alloc);
     let _closed = service.close(rt, alloc, clients);
@@ -198,13 +154,7 @@ pub fn host<D, R>(
 ) -> Over
 where
     D: Device + Drop + Send,
-    R: Threads
-        + Wait
-        + Clock
-        + Eprint
-        + RandomSource
-        + Net<Listener = TcpListener, Stream = TcpStream>
-        + Sync,
+    R: HostingRuntime,
     requires { IsOpened D.seen D.may_leave recovered }
 {
     let capacity = terms.capacity.clamp(1, 65_536);

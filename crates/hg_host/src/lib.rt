@@ -10,11 +10,13 @@
 #![tactic(auto)]
 
 mod hosting;
+mod runtime;
 mod service;
 mod terms;
 mod watch;
 
 pub use hg_slots::Over;
 pub use hosting::host;
+pub use runtime::HostingRuntime;
 pub use service::Service;
 pub use terms::HostTerms;
