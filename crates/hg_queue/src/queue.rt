@@ -328,7 +328,7 @@ fn open_seat<N: Number, A: Allocator>(ring: &Ring<A>, seat: &mut Seat<A>, push: 
     ring.another::<Opens<N>>(seat)
 }
 
-// Takes an item, and settles what was told of the one before.
+// Takes an item, and settles what was said of the one before.
 fn take_told<N: Answer, R: Wait, A: Allocator>(
     rt: &R,
     ring: &Ring<A>,
@@ -350,7 +350,7 @@ fn take_told<N: Answer, R: Wait, A: Allocator>(
     }
 }
 
-// Settles what was told of the item taken last, and makes a note of the whole history.
+// Settles what was said of the item taken last, and makes a note of the whole history.
 fn settle_seat<N: Answer, A: Allocator>(
     ring: &Ring<A>,
     seat: &mut Seat<A>,

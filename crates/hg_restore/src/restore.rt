@@ -131,7 +131,7 @@ fn feed_whole<A: Allocator + Copy>(
     ensures err { (repo : RepositoryOf A) →
         IfErr result (λ fault. IsUnrun fault place (limits_of bundle.old) repo bytes.now) }
 {
-    // so bytes that are a bundle are told as no fault
+    // so bytes that are a bundle are reported as no fault
     streams_have_one_verdict::<A>();
     let count = match bundle.feed(bytes) {
         Ok(count) => count,

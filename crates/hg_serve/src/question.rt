@@ -7,7 +7,7 @@ use std::alloc::Allocator;
 pub trait Question<A: Allocator, T> {
     ghost use Rattle.hg_parts.specs.Repository.{Repository};
 
-    // of this repository the answer tells so
+    // of this repository the answer says so
     ghost tells: { Self → Repository A → T → Type 0 };
 
     /// Asks the question.

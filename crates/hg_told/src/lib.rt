@@ -1,7 +1,7 @@
 //! What a repository answers a client over HTTP: the texts that a Mercurial client asks a server for before and
 //! after a push, and the forms in which it asks.
 //!
-//! Each text is a function of values that are borrowed: nothing is changed, and the only refusal is a want of
+//! Each text is a function of values that are borrowed: nothing is changed, and the only refusal is out of
 //! memory. [`read_form`] and [`read_batch`] read the two forms of arguments, and [`joined_answers`] writes
 //! the answers of a batch. [`heads_text`], [`known_text`], [`listkeys_text`] and [`lookup_text`]
 //! are the bodies of the answers to the commands of those names, and [`capabilities_text`] is a constant. Whatever
