@@ -13,38 +13,38 @@ pub struct Listening<'a, R: Print> {
     rt: &'a R,
     listener: Option<TcpListener>,
     left: u32,
-    tells: bool,
+    prints: bool,
 }
 
 impl<'a, R: Print> Listening<'a, R> {
     /// The door of so many connections to that listener. Where it is to print its address, it does so when it
     /// is first asked for a connection: the seed was run then, and memory for the queue was there.
-    pub fn new(rt: &'a R, listener: TcpListener, connections: u32, tells: bool) -> Listening<'a, R>
+    pub fn new(rt: &'a R, listener: TcpListener, connections: u32, prints: bool) -> Listening<'a, R>
         ensures left { result.left ≡ connections }
-        ensures tells { result.tells ≡ tells }
+        ensures prints { result.prints ≡ prints }
     {
         Listening {
             rt,
             listener: Some(listener),
             left: connections,
-            tells,
+            prints,
         }
     }
 
     /// Prints the address, where that is still to be done.
-    fn tell_address(&mut self) -> io::Result<()> {
+    fn print_address(&mut self) -> io::Result<()> {
         let rt = self.rt;
-        if let (true, Some(listener)) = (self.tells, &self.listener) {
+        if let (true, Some(listener)) = (self.prints, &self.listener) {
             let bound = listener.local_addr()?;
             println!(rt; "listening on {bound}")?;
         }
-        self.tells = false;
+        self.prints = false;
         Ok(())
     }
 
     /// A connection, where the address was printed and the listener is open.
     fn next(&mut self) -> Option<TcpStream> {
-        self.tell_address().ok()?;
+        self.print_address().ok()?;
         let (stream, _) = self.listener.as_ref()?.accept().ok()?;
         Some(stream)
     }
