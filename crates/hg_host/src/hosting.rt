@@ -1,6 +1,6 @@
 //! A store that is served to connections, each on a thread of its own, for as long as it can be added to.
 
-ghost use Rattle.std.specs.Prelude.{◌≡◌, length};
+ghost use Rattle.std.specs.Prelude.{◌≡◌, [], length};
 ghost use Rattle.hg_store.specs.Log.{IsSettled};
 ghost use Rattle.hg_serve.specs.Desks.{OpensWith};
 ghost use Rattle.hg_ledger.specs.Receipts.{IsTallyOf};
@@ -119,7 +119,7 @@ where
     requires begins { OpensWith J.table J.capacity J.first queue taker recovered.repo }
     requires settled { IsSettled D.seen D.may_leave J.head J.stored recovered.log }
     requires opened { J.opened ≡ D.moment recovered.log.device }
-    requires tally { IsTallyOf J.tally J.name J.parts tally × (tally.count ≡ 0) }
+    requires tally { IsTallyOf J.tally J.name J.parts tally × (tally.promises ≡ []) }
     requires recovered { IsRecovered J.head.publishing J.head J.stored J.first }
     requires count { recovered.stored ≡ length J.stored }
 {

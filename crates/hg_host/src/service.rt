@@ -94,7 +94,7 @@ where
         requires begins { OpensWith J.table J.capacity J.first queue taker recovered.repo }
         requires settled { IsSettled D.seen D.may_leave J.head J.stored recovered.log }
         requires opened { J.opened ≡ D.moment recovered.log.device }
-        requires tally { IsTallyOf J.tally J.name J.parts tally × (tally.count ≡ 0) }
+        requires tally { IsTallyOf J.tally J.name J.parts tally × (tally.promises ≡ []) }
         requires recovered { IsRecovered J.head.publishing J.head J.stored J.first }
         requires count { recovered.stored ≡ length J.stored }
     {
@@ -132,8 +132,9 @@ where
         })
     }
 
-    /// Ends all, with these clients of its connections and those that no connection has. **Whatever an end leaves from
-    /// now on has the records of all that these were answered rests on.**
+    /// Ends all, with these clients of its connections and those that no connection has. **Whatever an end might have
+    /// left since one of these was answered, and what one leaves from now on, has the records of all that the answer
+    /// rests on.**
     pub fn close(self, rt: &R, alloc: Global, clients: Vec<KeptClient<J>>) -> ClosedKept<D>
         ensures serial { serial_run J.first (history result.closed.taker)
             ≡ record { repo = result.closed.repo; journal = result.closed.journal.items } }
@@ -170,7 +171,8 @@ where
         reader: &mut I,
         writer: &mut W,
     ) -> (KeptClient<J>, Finish)
-        ensures { HostsHttp J.capacity J.first J.head J.stored (IsCovered D.seen D.may_leave J.head J.stored J.first)
+        ensures { HostsHttp J.capacity J.first J.head J.stored
+            (IsCovered D.seen D.may_leave D.moment J.head J.stored J.first)
             ⟦<Board<'a, R> as Shown<Global>>⟧.is_page ⟦<Board<'a, R> as Shown<Global>>⟧.are_metrics
             self.now client (I.remaining reader.old) (I.remaining reader.new)
             (W.contents writer.old) (W.contents writer.new) result.1 result.0 }
@@ -213,7 +215,7 @@ where
 
     /// A client that was answered nothing yet.
     pub fn client(&self, rt: &R) -> KeptClient<J>
-        ensures { result ≡ record { history = []; receipt = 0 } }
+        ensures { result ≡ record { history = []; receipt = [] } }
     {
         KeptClient::new(new_client(rt, &self.server))
     }
