@@ -4,7 +4,7 @@ ghost use Rattle.hg_opening.specs.Opening.{IsOpened};
 
 use hg_archive::TornNote;
 use hg_command::{Hosting, tell};
-use hg_host::{HostTerms, Over, host as serve_store};
+use hg_host::{HostTerms, HostingRuntime, Over, host as serve_store};
 use hg_opening::{OpeningFault, Recovered, recover_store};
 use hg_program::device_status;
 use hg_store::{Device, HostFile, StoreFile};
@@ -12,25 +12,15 @@ use std::fs::{File, Files};
 use std::hash::RandomState;
 use std::io;
 use std::net::{Net, SocketAddr, TcpListener, TcpStream};
-use std::random::RandomSource;
 use std::sync::Wait;
-use std::thread::Threads;
-use std::time::Clock;
 
 /// Opens the store, binds the address, says where it listens, and serves until the store fails, in this order.
 /// Gives the status; what ends it is printed.
-pub fn host<R>(rt: &R, state: RandomState, hosting: &Hosting<'_>) -> u8
-where
-    R: Files<File = File>
-        + Eprint
-        + AllocGlobal
-        + RandomSource
-        + Net<Listener = TcpListener, Stream = TcpStream>
-        + Threads
-        + Wait
-        + Clock
-        + Sync,
-{
+pub fn host<R: Files<File = File> + AllocGlobal + HostingRuntime>(
+    rt: &R,
+    state: RandomState,
+    hosting: &Hosting<'_>,
+) -> u8 {
     match recover_store(rt, rt.alloc(), state, hosting.store, hosting.publishing) {
         Ok(recovered) => listen(rt, hosting, recovered),
         Err(fault) => not_opened(rt, hosting.store, &fault),
@@ -39,27 +29,21 @@ where
 
 /// Binds the address, and serves what was recovered. Where the numbers of pushes come to their end, the store is
 /// opened again, and pushes are numbered anew.
-fn listen<R>(rt: &R, hosting: &Hosting<'_>, recovered: Recovered<StoreFile<HostFile>>) -> u8
-where
-    R: Files<File = File>
-        + Eprint
-        + AllocGlobal
-        + RandomSource
-        + Net<Listener = TcpListener, Stream = TcpStream>
-        + Threads
-        + Wait
-        + Clock
-        + Sync,
+fn listen<R: Files<File = File> + AllocGlobal + HostingRuntime>(
+    rt: &R,
+    hosting: &Hosting<'_>,
+    recovered: Recovered<StoreFile<HostFile>>,
+) -> u8
     requires { IsOpened ⟦<StoreFile<HostFile> as Device>⟧.seen
         ⟦<StoreFile<HostFile> as Device>⟧.may_leave recovered }
 {
     match bind(rt, hosting.listen) {
         Ok((listener, address)) => {
-            tell_listening(rt, address, &recovered);
+            print_listening(rt, address, &recovered);
             let terms = terms_of(hosting);
             match serve_store(rt, rt.alloc(), terms, &listener, address, recovered) {
                 Over::NumbersEnd => serve_again(rt, hosting, &listener, address),
-                over => ended(rt, over),
+                over => status_at(rt, over),
             }
         }
         Err(error) => not_bound(rt, hosting.listen, &error),
@@ -68,18 +52,12 @@ where
 
 /// Opens the store and serves it, again each time that the numbers of pushes come to their end. Who connects in
 /// between waits.
-fn serve_again<R>(rt: &R, hosting: &Hosting<'_>, listener: &TcpListener, address: SocketAddr) -> u8
-where
-    R: Files<File = File>
-        + Eprint
-        + AllocGlobal
-        + RandomSource
-        + Net<Listener = TcpListener, Stream = TcpStream>
-        + Threads
-        + Wait
-        + Clock
-        + Sync,
-{
+fn serve_again<R: Files<File = File> + AllocGlobal + HostingRuntime>(
+    rt: &R,
+    hosting: &Hosting<'_>,
+    listener: &TcpListener,
+    address: SocketAddr,
+) -> u8 {
     'serving: for _ in rt.forever() {
         let Ok(state) = RandomState::new(rt) else {
             tell(rt, 3);
@@ -90,7 +68,7 @@ where
                 let terms = terms_of(hosting);
                 match serve_store(rt, rt.alloc(), terms, listener, address, recovered) {
                     Over::NumbersEnd => {}
-                    over => return ended(rt, over),
+                    over => return status_at(rt, over),
                 }
             }
             Err(fault) => return not_opened(rt, hosting.store, &fault),
@@ -121,7 +99,7 @@ fn terms_of<'a>(hosting: &Hosting<'a>) -> HostTerms<'a> {
 }
 
 /// Prints where it listens and what the store has; and where others reach it, that they need no name.
-fn tell_listening<R: Eprint>(
+fn print_listening<R: Eprint>(
     rt: &R,
     address: SocketAddr,
     recovered: &Recovered<StoreFile<HostFile>>,
@@ -164,7 +142,7 @@ fn not_bound<R: Eprint>(rt: &R, listen: &str, error: &io::Error) -> u8 {
 }
 
 /// The status where serving ended for good, which is printed.
-fn ended<R: Eprint>(rt: &R, over: Over) -> u8 {
+fn status_at<R: Eprint>(rt: &R, over: Over) -> u8 {
     match over {
         Over::NoMemory => {
             tell(rt, 4);

@@ -24,7 +24,7 @@ use std::thread::Threads;
 use std::time::Clock;
 
 /// Prints the status on standard error, and gives it.
-fn told<R: Eprint>(rt: &R, status: u8) -> u8 {
+fn printed<R: Eprint>(rt: &R, status: u8) -> u8 {
     tell(rt, status);
     status
 }
@@ -47,19 +47,19 @@ where
 {
     let job = match asked_for(rt, words) {
         Ok(job) => job,
-        Err(status) => return told(rt, status),
+        Err(status) => return printed(rt, status),
     };
     let Ok(state) = RandomState::new(rt) else {
-        return told(rt, 3);
+        return printed(rt, 3);
     };
     let _taken = match take_closed(rt) {
         Ok(taken) => taken,
-        Err(error) => return told(rt, device_status(&error)),
+        Err(error) => return printed(rt, device_status(&error)),
     };
     match &job {
-        Job::One { publishing } => told(rt, one(rt, state, *publishing)),
-        Job::Replay { publishing, files } => told(rt, replay(rt, state, *publishing, files)),
-        Job::Serve(serving) => told(rt, serve(rt, state, serving)),
+        Job::One { publishing } => printed(rt, one(rt, state, *publishing)),
+        Job::Replay { publishing, files } => printed(rt, replay(rt, state, *publishing, files)),
+        Job::Serve(serving) => printed(rt, serve(rt, state, serving)),
         Job::Host(hosting) => host::host(rt, state, hosting),
         Job::Report { store } => report(rt, rt.alloc(), state, store, &mut io::writer(rt)),
         Job::Log {
@@ -79,7 +79,7 @@ where
 fn main(rt: HostRuntime) -> ExitCode {
     let status = match words(&rt) {
         Ok(words) => obey(&rt, &words),
-        Err(status) => told(&rt, status),
+        Err(status) => printed(&rt, status),
     };
     ExitCode::from(status)
 }
