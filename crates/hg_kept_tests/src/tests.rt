@@ -1,8 +1,8 @@
 //! What no contract says: that many connections over one server and one ledger are all kept, and that after a stop
 //! at any call of the device what was answered is there again.
 
-ghost use Rattle.std.specs.Prelude.{◌≡◌, ◌≤◌};
-ghost use Rattle.hg_ledger.specs.Clients.{counted};
+ghost use Rattle.std.specs.Prelude.{◌≡◌, All, Contains};
+ghost use Rattle.hg_ledger.specs.Clients.{promised};
 
 use hg_help_serve_tests::{client_of, marker, new_log, one_part, settings, starts_again, state};
 use hg_help_tests::device::Memory;
@@ -145,7 +145,7 @@ fn add<J: Naming<Global>, R: Abort>(rt: &R, clients: &mut Vec<Client<J>>, client
 fn compare<J: Storing<A>, A: Allocator>(tally: &mut Tally<A>, receipt: Receipt<J, A>)
     requires { tally.old.id ≡ J.tally }
     ensures same { tally.new ≡ tally.old }
-    ensures counted { receipt ≤ tally.old.count }
+    ensures promised { All (Contains tally.old.promises) receipt }
 {
     let mut receipt = receipt;
     tally.compare(&mut receipt);
@@ -158,7 +158,7 @@ fn has_receipt<J: Storing<A>, A: Allocator>(
 ) -> bool
     requires { tally.old.id ≡ J.tally }
     ensures same { tally.new ≡ tally.old }
-    ensures counted { counted receipt ≤ tally.old.count }
+    ensures promised { All (Contains tally.old.promises) (promised receipt) }
 {
     match receipt {
         Some(receipt) => {

@@ -1,0 +1,10 @@
+use Rattle.std.proofs.Common.{ap}
+use Rattle.std.specs.List.{Contains}
+use Rattle.std.proofs.lemmas.List.Elements.{All-same}
+use Rattle.hg_ledger.specs.Clients.{promised}
+use Rattle.hg_kept_tests.proofs.tests.has_receipt.Goals as goal
+
+pub returns-in-Some-clause-promised : goal.returns-in-Some-clause-promised
+returns-in-Some-clause-promised g c =
+    All-same (Contains c.args.tally.now.promises) (promised c.args.receipt) c.in-Some.receipt (ap promised c.in-Some.is)
+    c.compare.ensures.promised
