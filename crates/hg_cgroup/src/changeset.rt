@@ -1,22 +1,24 @@
 //! Changesets: a delta header, and delta data.
 
 ghost use Rattle.std.specs.Prelude.{◌≡◌, ◌≢◌, ◌≤◌, ◌<◌, ◌+◌, ◌++◌, List, ℕ, Option, length, map, IfOk, IfErr};
-ghost use Rattle.std.specs.Prelude.{unwrap_or};
+ghost use Rattle.std.specs.Prelude.{unwrap_or, IfSome};
+ghost use Rattle.hg_types.specs.Hashes.{IsHashOf};
 ghost use Rattle.hg_types.specs.declared.node.Node.{Node};
 ghost use Rattle.hg_cgroup.specs.Chunk.{IsContent, empty_chunk, IsChunkFault};
 ghost use Rattle.hg_cgroup.specs.Changeset.{Changeset, AreChangesets, IsSpelled, entries_of, header_size};
 
+use crate::ahead::HUNK;
 use crate::chunk::{Chunk, read_chunk};
 use crate::fault::GroupFault;
 use crate::version::Version;
-use hg_types::{Entry, Node, Seq};
+use hg_types::{Delta, Entry, Node, Payload, Seq, TextHash};
 use std::alloc::Allocator;
 
 /// The bytes of an id.
 const ID: usize = 20;
 
 /// The id that the first twenty bytes are, and the bytes after it.
-fn split_id(bytes: &[u8]) -> (Node, &[u8])
+pub fn split_id(bytes: &[u8]) -> (Node, &[u8])
     requires { 20 ≤ length bytes.now }
     ensures id { bytes.now ≡ result.0.0 ++ result.1.now }
     ensures size { length result.0.0 ≡ 20 }
@@ -26,14 +28,17 @@ fn split_id(bytes: &[u8]) -> (Node, &[u8])
     (Node(*id), rest)
 }
 
-/// The entry of a changeset. `before` is the node of the one before it, which is the base in version 01.
+/// The entry of a changeset. `before` is the node of the one before it, which is the base in version 01. `hashed` may
+/// be a hash of its text.
 fn read_entry<A: Allocator + Copy>(
     alloc: A,
     version: Version,
     before: Option<Node>,
+    hashed: Option<(TextHash, &[u8])>,
     content: &[u8],
 ) -> Result<Entry<A>, GroupFault>
-    requires { header_size version ≤ length content.now }
+    requires size { header_size version ≤ length content.now }
+    requires hashed { IfSome hashed (λ found. IsHashOf found.1.now found.0) }
     ensures ok { IfOk result (λ entry. IsSpelled version before content.now entry) }
     ensures err { IfErr result (λ fault. fault ≡ GroupFault.NoMemory) }
 {
@@ -45,7 +50,7 @@ fn read_entry<A: Allocator + Copy>(
         Version::V02 => split_id(rest),
     };
     let (_link, delta) = split_id(rest);
-    let delta = Seq::copy_of(alloc, delta)?;
+    let delta = delta_of(Seq::copy_of(alloc, delta)?, hashed);
     Ok(Entry {
         node,
         p1,
@@ -55,11 +60,22 @@ fn read_entry<A: Allocator + Copy>(
     })
 }
 
+/// The delta of these bytes, with the hash of a text where that is what one hunk puts in the place of nothing.
+fn delta_of<A: Allocator>(bytes: Seq<u8, A>, hashed: Option<(TextHash, &[u8])>) -> Delta<A>
+    requires { IfSome hashed (λ found. IsHashOf found.1.now found.0) }
+    ensures { result ≡ bytes }
+{
+    match hashed {
+        Some((hash, text)) => Delta::with_hash(bytes, HUNK, hash, text),
+        None => Delta::of(bytes),
+    }
+}
+
 /// The entries of the group of the changesets, and the bytes after it.
 pub fn read_changesets<A: Allocator + Copy>(
     alloc: A,
     version: Version,
-    payload: &[u8],
+    payload: &Payload<A>,
 ) -> Result<(Seq<Entry<A>, A>, &[u8]), GroupFault>
     ensures ok { IfOk result (λ read. (changesets : List (Changeset A))
         × AreChangesets version payload.now changesets (empty_chunk ++ read.1.now)
@@ -70,12 +86,17 @@ pub fn read_changesets<A: Allocator + Copy>(
 {
     let mut entries = Vec::new(alloc);
     let mut before = None;
-    let mut rest = payload;
+    let mut rest = payload.as_slice();
+    // how many of the texts that were hashed ahead were met
+    let mut met: usize = 0;
     loop {
         match read_chunk(version.header_size(), rest)? {
             (Chunk::Empty, after) => return Ok((Seq::from_vec(entries), after)),
             (Chunk::Content(content), after) => {
-                let entry = read_entry(alloc, version, before, content)?;
+                let entry = read_entry(alloc, version, before, payload.hashed(met), content)?;
+                if entry.delta.is_hashed() {
+                    met = met.saturating_add(1);
+                }
                 before = Some(entry.node);
                 entries.push(entry)?;
                 rest = after;

@@ -12,7 +12,7 @@ use crate::changeset::read_changesets;
 use crate::fault::GroupFault;
 use crate::frames::skip_frames;
 use crate::version::Version;
-use hg_types::{Entry, Seq};
+use hg_types::{Entry, Payload, Seq, bytes_are_bytes};
 use std::alloc::Allocator;
 
 /// The entries of the changesets of a changegroup. `version` is `01` or `02`; the payload is all of it, and
@@ -24,7 +24,7 @@ use std::alloc::Allocator;
 pub fn decode<A: Allocator + Copy>(
     alloc: A,
     version: &[u8],
-    payload: &[u8],
+    payload: &Payload<A>,
 ) -> Result<Seq<Entry<A>, A>, GroupFault>
     ensures entries { IfOk result (λ entries. IsOf version.now (λ v. IsGroup v payload.now entries [])) }
     ensures unknown_version { IsErrOf result GroupFault.UnknownVersion → IsUnknown version.now }
@@ -39,6 +39,7 @@ pub fn decode<A: Allocator + Copy>(
     // It is what reading from left to right gives, unless memory was refused.
     ensures outcome { result ≢ Err GroupFault.NoMemory → result ≡ outcome_of version.now payload.now }
 {
+    bytes_are_bytes(payload.as_slice());
     let Some(version) = Version::named(version) else {
         return Err(GroupFault::UnknownVersion);
     };

@@ -15,9 +15,11 @@
 //! This is Mercurial's `internals.changegroups`, "Delta Groups", "Changeset Segment", "Manifest Segment" and
 //! "Filelogs Segment". Of manifests and files only the chunks are checked, and nothing is kept.
 //!
-//! [`decode`] gives the [`Entry`](hg_types::Entry) of each changeset, or the first fault.
+//! [`decode`] gives the [`Entry`](hg_types::Entry) of each changeset, or the first fault. [`hash_texts`] hashes
+//! texts before, so that they need not be hashed where others wait.
 #![tactic(auto)]
 
+mod ahead;
 mod changeset;
 mod chunk;
 mod fault;
@@ -25,5 +27,6 @@ mod frames;
 mod group;
 mod version;
 
+pub use ahead::hash_texts;
 pub use fault::GroupFault;
 pub use group::{decode, every_changegroup_has_an_outcome, one_outcome};

@@ -13,6 +13,7 @@ use crate::coming::{Next, next_bundle};
 use crate::ending::mark;
 use crate::served::{ConnFault, Round, Served};
 use hg_devices::{Reader, Writer};
+use hg_parts::hash_ahead;
 use hg_push::laws::replies_are_short;
 use hg_receiving::{BundleEnd, Inbox, send_reply, turn};
 use hg_serve::{Client, Gate, Naming, Point, Sender, Server};
@@ -21,7 +22,7 @@ use hg_stream::laws::{parts_are_few, streams_are_settled_once};
 use std::alloc::Allocator;
 use std::sync::Wait;
 
-/// Puts the parts that the bundle has finished.
+/// Puts the parts that the bundle has finished. What can be hashed of them is hashed here, where no other waits.
 pub(crate) fn put_ready<J: Naming<A>, A: Allocator + Copy, R: Wait, G: Gate>(
     server: &Server<J, A>,
     rt: &R,
@@ -37,7 +38,7 @@ pub(crate) fn put_ready<J: Naming<A>, A: Allocator + Copy, R: Wait, G: Gate>(
     ensures limits { limits_of bundle.new ≡ limits_of bundle.old }
 {
     'parts: while let Some(part) = bundle.next_part() {
-        match server.put(rt, sender, part, gate) {
+        match server.put(rt, sender, hash_ahead(part), gate) {
             Ok(()) => {}
             // the reader of bundles refuses more parts than a push may have
             Err(_) => unreachable!(),

@@ -8,7 +8,7 @@ ghost use Rattle.hg_http.specs.Keys.{replycaps_part};
 use crate::command::argument;
 use hg_stream::write_bundle;
 use hg_told::Field;
-use hg_types::{NoMemory, Param, Part, Seq};
+use hg_types::{NoMemory, Param, Part, Payload, Seq};
 use std::alloc::Allocator;
 
 /// The most bytes that a header has for a parameter's value.
@@ -86,7 +86,7 @@ fn replycaps<A: Allocator + Copy>(alloc: A) -> Result<Part<A>, NoMemory>
         kind: Seq::copy_of(alloc, b"REPLYCAPS".as_slice())?,
         id: 0,
         params: Seq::new(alloc),
-        payload: Seq::new(alloc),
+        payload: Payload::new(alloc),
     })
 }
 
@@ -103,7 +103,7 @@ fn pushkey<A: Allocator + Copy>(alloc: A, change: &KeyChange<'_>) -> Result<Part
         kind: Seq::copy_of(alloc, b"pushkey".as_slice())?,
         id: 0,
         params,
-        payload: Seq::new(alloc),
+        payload: Payload::new(alloc),
     })
 }
 

@@ -14,7 +14,7 @@ ghost use Rattle.hg_log.specs.Answer.{text_of, answer_of};
 
 use crate::changelog::{Changelog, Row};
 use crate::graph::Parents;
-use crate::node::node_id;
+use crate::node::node_id_by;
 use hg_delta::{DeltaFault, apply, every_delta_has_an_outcome, one_outcome};
 use hg_types::{Entry, NoMemory, Node, Seq};
 use std::alloc::Allocator;
@@ -166,7 +166,7 @@ impl<A: Allocator + Copy> Changelog<A> {
 fn agrees<A: Allocator>(entry: &Entry<A>, text: &[u8]) -> bool
     ensures { IsTrue result ↔ Agrees entry.now text.now }
 {
-    node_id(&entry.p1, &entry.p2, text) == entry.node
+    node_id_by(&entry.delta, &entry.p1, &entry.p2, text) == entry.node
 }
 
 /// Every entry whose delta is bytes has an answer: the value that `answer_of` gives. `A` is where the entry

@@ -16,8 +16,9 @@ use crate::parts::changegroup::read_changegroup;
 use crate::parts::obsmarkers::{MarkerData, read_obsmarkers};
 use crate::parts::phase_heads::read_phase_heads;
 use crate::table::{PartType, supported_type};
+use hg_cgroup::hash_texts;
 use hg_checks::CheckKind;
-use hg_types::{Entry, NoMemory, Node, Part, Phase, Seq};
+use hg_types::{Entry, NoMemory, Node, Part, Payload, Phase, Seq};
 use std::alloc::{Allocator, Global};
 
 /// What a part says without the repository. A type of part that is named alone is read in its turn.
@@ -61,6 +62,23 @@ pub fn prepare<A: Allocator + Copy>(alloc: A, part: Part<A>) -> Result<Prepared<
     Ok(keep(alloc, part, reading))
 }
 
+/// Hashes the texts that a part's payload carries whole, before the part's turn comes. The part is as it was:
+/// [`prepare`] takes these hashes over, so that they are not made where others wait.
+pub fn hash_ahead<A: Allocator>(mut part: Part<A>) -> Part<A>
+    ensures { result ≡ part }
+{
+    if is_group_with_bases(&part) {
+        hash_texts(&mut part.payload);
+    }
+    part
+}
+
+/// Whether the part is a changegroup of the version that names the base of each delta.
+fn is_group_with_bases<A: Allocator>(part: &Part<A>) -> bool {
+    matches!(supported_type(part), Some(PartType::ChangeGroup))
+        && part.param(b"version") == Some(b"02".as_slice())
+}
+
 impl<A: Allocator> Prepared<A> {
     /// Whether parts leave replies after this one.
     pub fn starts_replies(&self) -> bool
@@ -71,11 +89,11 @@ impl<A: Allocator> Prepared<A> {
 }
 
 /// What is kept of a part that was read so.
-fn keep<A: Allocator>(alloc: A, mut part: Part<A>, reading: Reading<A>) -> Prepared<A>
+fn keep<A: Allocator + Copy>(alloc: A, mut part: Part<A>, reading: Reading<A>) -> Prepared<A>
     ensures { result ≡ kept_with part reading }
 {
     if is_read(&reading) {
-        part.payload = Seq::new(alloc);
+        part.payload = Payload::new(alloc);
     }
     Prepared { reading, part }
 }

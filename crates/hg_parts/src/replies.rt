@@ -6,7 +6,7 @@
 ghost use Rattle.std.specs.Prelude.{◌≡◌, IfOk};
 ghost use Rattle.hg_parts.specs.Replies.{answering, reply_part, CanReply, IsReply};
 
-use hg_types::{NoMemory, Param, Part, Seq};
+use hg_types::{NoMemory, Param, Part, Payload, Seq};
 use std::alloc::Allocator;
 
 /// The reply of that type to the part with that id: `in-reply-to` has the id, in decimal, and `key` the
@@ -44,7 +44,7 @@ fn part_answering<A: Allocator + Copy>(
         kind: Seq::copy_of(alloc, kind)?,
         id: 0,
         params,
-        payload: Seq::new(alloc),
+        payload: Payload::new(alloc),
     })
 }
 

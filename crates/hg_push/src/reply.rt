@@ -10,7 +10,7 @@ use crate::outcome::{Outcome, Reason};
 use hg_keys::KeyCall;
 use hg_repo::{Done, Refusal};
 use hg_stream::write_bundle;
-use hg_types::{CutReason, NoMemory, Param, Part, Seq};
+use hg_types::{CutReason, NoMemory, Param, Part, Payload, Seq};
 use std::alloc::Allocator;
 
 /// The most bytes that a header has for a parameter's value.
@@ -158,7 +158,7 @@ fn error_part<A: Allocator + Copy>(
         kind,
         id: 0,
         params,
-        payload: Seq::new(alloc),
+        payload: Payload::new(alloc),
     })
 }
 

@@ -13,7 +13,7 @@ use crate::interrupting::{Verdict, judge};
 use crate::payloads::Level;
 use crate::told::{header_fault, params_fault};
 use hg_params::{Head, read_header, read_stream_params};
-use hg_types::{Part, Seq};
+use hg_types::{Part, Payload, Seq};
 use std::alloc::Allocator;
 
 /// The greatest well-formed header has so many bytes.
@@ -28,7 +28,7 @@ pub fn header_room(parts_left: u32) -> u32
 }
 
 /// The part of a header and its payload.
-pub fn make_part<A: Allocator>(head: Head<A>, payload: Seq<u8, A>) -> Part<A>
+pub fn make_part<A: Allocator + Copy>(head: Head<A>, payload: Seq<u8, A>) -> Part<A>
     ensures { result ≡ part_of head payload }
 {
     let Head { kind, id, params } = head;
@@ -36,7 +36,7 @@ pub fn make_part<A: Allocator>(head: Head<A>, payload: Seq<u8, A>) -> Part<A>
         kind,
         id,
         params,
-        payload,
+        payload: Payload::of(payload),
     }
 }
 

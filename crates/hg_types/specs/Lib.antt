@@ -3,3 +3,5 @@ pub mod NullId
 pub mod Part
 pub mod Limits
 pub mod Phase
+pub mod Hashes
+pub mod code

@@ -1,7 +1,7 @@
 //! A changeset as a changegroup carries it.
 
+use crate::delta::Delta;
 use crate::node::Node;
-use crate::seq::Seq;
 use std::alloc::{Allocator, Global};
 
 /// A changeset of a changegroup: its id, its parents, and its text as a delta on the text of `base`.
@@ -11,5 +11,5 @@ pub struct Entry<A: Allocator = Global> {
     pub p1: Node,
     pub p2: Node,
     pub base: Node,
-    pub delta: Seq<u8, A>,
+    pub delta: Delta<A>,
 }

@@ -1,9 +1,11 @@
 //! The types that every crate of the server shares: nodes, phases, parts, the items of a push, and limits.
 //!
 //! Nothing here starts a thread or waits. A type that holds memory has its allocator as its last
-//! parameter, and a list inside it is a [`Seq`], which contracts see as the list of its items.
+//! parameter, and a list inside it is a [`Seq`], which contracts see as the list of its items. The bytes of a
+//! [`Payload`] and of a [`Delta`] may have hashes beside them, which contracts do not see.
 #![tactic(auto)]
 
+mod delta;
 mod entry;
 mod item;
 mod law;
@@ -11,9 +13,11 @@ mod limits;
 mod memory;
 mod node;
 mod part;
+mod payload;
 mod phase;
 mod seq;
 
+pub use delta::Delta;
 pub use entry::Entry;
 pub use item::{CutReason, Item, Taken, What};
 pub use law::{a_key_has_one_value, bytes_are_bytes, phases_are_ordered_by_number};
@@ -21,5 +25,6 @@ pub use limits::{Limits, Settings};
 pub use memory::{NoMemory, TryClone};
 pub use node::Node;
 pub use part::{Param, Part};
+pub use payload::{Payload, TextHash};
 pub use phase::Phase;
 pub use seq::{Seq, try_clone_each};

@@ -4,6 +4,7 @@ ghost use Rattle.std.specs.Prelude.{◌≡◌, ◌↔◌, IsTrue, IfSome, IfNone
 ghost use Rattle.hg_types.specs.Part.{IsMandatory, IsFirstWith, LacksKey};
 
 use crate::memory::{NoMemory, TryClone};
+use crate::payload::Payload;
 use crate::seq::{Seq, try_clone_each};
 use std::alloc::{Allocator, Global};
 
@@ -23,7 +24,7 @@ pub struct Part<A: Allocator = Global> {
     pub kind: Seq<u8, A>,
     pub id: u32,
     pub params: Seq<Param<A>, A>,
-    pub payload: Seq<u8, A>,
+    pub payload: Payload<A>,
 }
 
 impl<A: Allocator> Part<A> {

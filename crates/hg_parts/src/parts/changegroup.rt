@@ -52,7 +52,7 @@ pub fn read_changegroup<A: Allocator + Copy>(
         return Ok(Reading::Malformed);
     };
     let version = version_of(part.params.as_slice());
-    match decode(alloc, version, part.payload.as_slice()) {
+    match decode(alloc, version, &part.payload) {
         Ok(entries) => Ok(Reading::ChangeGroup { target, entries }),
         Err(GroupFault::NoMemory) => Err(NoMemory),
         Err(_) => Ok(Reading::Malformed),

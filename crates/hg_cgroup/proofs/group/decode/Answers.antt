@@ -66,14 +66,14 @@ returns-clause-entries g c =
 pub returns-in_default-clause-outcome : goal.returns-in_default-clause-outcome
 returns-in_default-clause-outcome g c =
     λ other. is_outcome_of c.args.version.now c.args.payload.now (Err UnknownVersion)
-    (λ i. omega (arith, c.type_inv.payload i)) (unknown c.in_default.ensures.none)
+    (rw c.as_slice.ensures at c.bytes_are_bytes.ensures) (unknown c.in_default.ensures.none)
 
 pub returns-in_err-entries-clause-outcome : goal.returns-in_err-entries-clause-outcome
 returns-in_err-entries-clause-outcome g c =
     let p = err_from_is_err_and c.from_residual.result c.from_residual.ensures.1 in
     let fault = c.in_err-entries.field-0.0 in
     fault_is_outcome c.args.version.now c.args.payload.now c.from_residual.result fault p.0
-    (λ i. omega (arith, c.type_inv.payload i)) p.1 p.2
+    (rw c.as_slice.ensures at c.bytes_are_bytes.ensures) p.1 p.2
     (λ other. told_changesets c.args.version.now c.args.payload.now c.in-Some.version fault fault
     c.in-Some.ensures.some c.in_err-entries.ensures.fault refl other)
 
@@ -82,7 +82,7 @@ returns-in_err-rest-clause-outcome g c =
     let p = err_from_is_err_and c.from_residual-in_err-rest.result c.from_residual-in_err-rest.ensures.1 in
     let fault = c.in_err-rest.field-0.0 in
     fault_is_outcome c.args.version.now c.args.payload.now c.from_residual-in_err-rest.result fault p.0
-    (λ i. omega (arith, c.type_inv.payload i)) p.1 p.2
+    (rw c.as_slice.ensures at c.bytes_are_bytes.ensures) p.1 p.2
     (λ other. told_frames c.args.version.now c.args.payload.now c.in_ok-entries.rest.now c.in-Some.version
     fault fault c.in_ok-entries.entries c.in-Some.ensures.some c.in_ok-entries.ensures.ok
     c.in_err-rest.ensures.fault refl)
@@ -90,7 +90,7 @@ returns-in_err-rest-clause-outcome g c =
 pub returns-then-not-is_empty-clause-outcome : goal.returns-then-not-is_empty-clause-outcome
 returns-then-not-is_empty-clause-outcome g c = λ other.
     leftover_is_outcome c.args.version.now c.args.payload.now c.in_ok-rest.rest.now c.in-Some.version
-    c.in_ok-entries.entries (λ i. omega (arith, c.type_inv.payload i)) c.in-Some.ensures.some
+    c.in_ok-entries.entries (rw c.as_slice.ensures at c.bytes_are_bytes.ensures) c.in-Some.ensures.some
     (whole c.in-Some.version c.args.payload.now c.in_ok-entries.rest.now c.in_ok-rest.rest.now
     c.in_ok-entries.entries c.in_ok-entries.ensures.ok c.in_ok-rest.ensures.ok)
     (omega (arith, eqb-false _ _ (sym c.if-not-is_empty.ensures)))
@@ -98,5 +98,5 @@ returns-then-not-is_empty-clause-outcome g c = λ other.
 pub returns-clause-outcome : goal.returns-clause-outcome
 returns-clause-outcome g c = λ other.
     is_outcome_of c.args.version.now c.args.payload.now (Ok c.in_ok-entries.entries)
-    (λ i. omega (arith, c.type_inv.payload i))
+    (rw c.as_slice.ensures at c.bytes_are_bytes.ensures)
     (gives c.in_ok-entries.entries (returns-clause-entries g c))

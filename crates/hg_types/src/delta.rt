@@ -1,0 +1,95 @@
+//! The delta of a changeset, and a hash that was made of it ahead.
+
+ghost use Rattle.std.specs.Prelude.{◌≡◌, ◌↔◌, ◌++◌, drop, IfSome, IsTrue};
+ghost use Rattle.sha1.specs.Sha1.{sha1};
+ghost use Rattle.hg_types.specs.Hashes.{IsHashOf};
+
+use crate::node::Node;
+use crate::payload::TextHash;
+use crate::seq::Seq;
+use std::alloc::{Allocator, Global};
+use std::marker::Model;
+
+/// The bytes of a delta, which contracts see alone. Beside them may stand the hash of a text that ends them: then
+/// the delta begins with that many other bytes.
+#[derive(Drop)]
+pub struct Delta<A: Allocator = Global> {
+    bytes: Seq<u8, A>,
+    head: usize,
+    hash: Option<TextHash>,
+}
+
+impl<A: Allocator> Model for Delta<A> {
+    ghost use Rattle.std.specs.Prelude.{ℕ, List, IfSome, drop};
+    ghost use Rattle.hg_types.specs.Hashes.{IsHashOf};
+
+    ghost Value = { List ℕ };
+
+    ghost view = { λ d. d.bytes };
+
+    ghost invariant = { λ d. IfSome d.hash (λ h. IsHashOf (drop d.head d.bytes) h) };
+}
+
+impl<A: Allocator> Delta<A> {
+    /// These bytes, without a hash.
+    pub fn of(bytes: Seq<u8, A>) -> Self
+        ensures { result ≡ bytes }
+    {
+        Delta {
+            bytes,
+            head: 0,
+            hash: None,
+        }
+    }
+
+    /// These bytes, with the hash of a text where that is what stands after the first so many of them.
+    pub fn with_hash(bytes: Seq<u8, A>, head: usize, hash: TextHash, text: &[u8]) -> Self
+        requires { IsHashOf text.now hash }
+        ensures { result ≡ bytes }
+    {
+        if !ends_so(bytes.as_slice(), head, text) {
+            return Delta::of(bytes);
+        }
+        Delta {
+            bytes,
+            head,
+            hash: Some(hash),
+        }
+    }
+
+    /// The bytes.
+    pub fn as_slice(&self) -> &[u8]
+        ensures { result.now ≡ self.now }
+    {
+        self.bytes.as_slice()
+    }
+
+    /// Whether it has a hash.
+    pub fn is_hashed(&self) -> bool {
+        self.hash.is_some()
+    }
+
+    /// SHA-1 of two ids and a text, one after the other, where it is known here.
+    pub fn digest_of(&self, first: &Node, second: &Node, text: &[u8]) -> Option<Node>
+        ensures { IfSome result (λ digest. digest.0 ≡ sha1 (first.now.0 ++ second.now.0 ++ text.now)) }
+    {
+        let hash = self.hash?;
+        if hash.is_of(first, second) && ends_so(self.bytes.as_slice(), self.head, text) {
+            return Some(hash.digest);
+        }
+        None
+    }
+}
+
+/// Whether the text is what stands after the first so many bytes.
+fn ends_so(bytes: &[u8], head: usize, text: &[u8]) -> bool
+    ensures { IsTrue result → drop head bytes.now ≡ text.now }
+{
+    head <= bytes.len() && are_same(&bytes[head..], text)
+}
+
+fn are_same(bytes: &[u8], others: &[u8]) -> bool
+    ensures { IsTrue result ↔ (bytes.now ≡ others.now) }
+{
+    bytes == others
+}
