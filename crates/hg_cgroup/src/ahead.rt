@@ -11,11 +11,21 @@ use std::alloc::Allocator;
 /// The bytes of a hunk before its text: where it begins and ends in the base, and the length of its text.
 pub const HUNK: usize = 12;
 
-/// A text that a chunk carries whole: its parents, the lesser first, and how many bytes it has.
+/// The bytes of a chunk's length, and where the parents' ids stand after it.
+const P1: u32 = 24;
+const P2: u32 = 44;
+
+/// A changeset's chunk: where it begins and ends, and the text that it carries whole, if it does.
+struct Placed {
+    from: u32,
+    to: u32,
+    whole: Option<Whole>,
+}
+
+/// A text that a changeset carries whole: its length, and whether the first parent's id is the lesser.
 struct Whole {
-    lesser: Node,
-    greater: Node,
-    size: usize,
+    size: u32,
+    is_ordered: bool,
 }
 
 /// Hashes the texts that a changegroup of version 02 carries whole, each after the ids of its parents. [`decode`]
@@ -28,30 +38,27 @@ pub fn hash_texts<A: Allocator>(payload: &mut Payload<A>)
 {
     let mut at = 0;
     'chunks: for _ in 0..payload.len() {
-        let Some((next, whole)) = changeset_at(payload.as_slice(), at) else {
+        let Some(Placed { from, to, whole }) = changeset_at(payload.as_slice(), at) else {
             return;
         };
-        if let Some(
-            Whole {
-                lesser,
-                greater,
-                size,
-            },
-        ) = whole
-        {
-            payload.hash(&lesser, &greater, next.saturating_sub(size), next);
+        if let Some(Whole { size, is_ordered }) = whole {
+            let (p1, p2) = (from.saturating_add(P1), from.saturating_add(P2));
+            let (lesser, greater) = if is_ordered { (p1, p2) } else { (p2, p1) };
+            payload.hash(lesser, greater, to.saturating_sub(size), to);
         }
-        at = next;
+        at = to;
     }
 }
 
-/// Where the chunk of a changeset ends that begins at this place, and its text where it is carried whole.
-fn changeset_at(bytes: &[u8], at: usize) -> Option<(usize, Option<Whole>)> {
-    let rest = bytes.get(at..)?;
+/// The chunk of the changeset that begins at a place.
+fn changeset_at(bytes: &[u8], at: u32) -> Option<Placed> {
+    let rest = bytes.get(at as usize..)?;
     match read_chunk(Version::V02.header_size(), rest) {
-        Ok((Chunk::Content(content), after)) => {
-            Some((bytes.len().saturating_sub(after.len()), whole_text(content)))
-        }
+        Ok((Chunk::Content(content), after)) => Some(Placed {
+            from: at,
+            to: u32::try_from(bytes.len().saturating_sub(after.len())).ok()?,
+            whole: whole_text(content),
+        }),
         _ => None,
     }
 }
@@ -67,22 +74,20 @@ fn whole_text(content: &[u8]) -> Option<Whole> {
     let (base, rest) = split_id(rest);
     let (_link, delta) = split_id(rest);
     let (hunk, text) = delta.split_first_chunk::<HUNK>()?;
-    if base != Node::NULL || !is_whole(hunk, text.len()) {
+    let size = u32::try_from(text.len()).ok()?;
+    if base != Node::NULL || !is_whole(hunk, size) {
         return None;
     }
-    let is_ordered = p1 <= p2;
-    let (lesser, greater) = if is_ordered { (p1, p2) } else { (p2, p1) };
     Some(Whole {
-        lesser,
-        greater,
-        size: text.len(),
+        size,
+        is_ordered: p1 <= p2,
     })
 }
 
 /// Whether a hunk puts a text of so many bytes in the place of nothing.
-fn is_whole(hunk: &[u8; HUNK], size: usize) -> bool {
+fn is_whole(hunk: &[u8; HUNK], size: u32) -> bool {
     let [0, 0, 0, 0, 0, 0, 0, 0, a, b, c, d] = *hunk else {
         return false;
     };
-    u32::from_be_bytes([a, b, c, d]) as usize == size
+    u32::from_be_bytes([a, b, c, d]) == size
 }

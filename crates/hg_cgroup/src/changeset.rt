@@ -50,7 +50,7 @@ fn read_entry<A: Allocator + Copy>(
         Version::V02 => split_id(rest),
     };
     let (_link, delta) = split_id(rest);
-    let delta = delta_of(Seq::copy_of(alloc, delta)?, hashed);
+    let delta = delta_of(alloc, Seq::copy_of(alloc, delta)?, hashed);
     Ok(Entry {
         node,
         p1,
@@ -61,12 +61,16 @@ fn read_entry<A: Allocator + Copy>(
 }
 
 /// The delta of these bytes, with the hash of a text where that is what one hunk puts in the place of nothing.
-fn delta_of<A: Allocator>(bytes: Seq<u8, A>, hashed: Option<(TextHash, &[u8])>) -> Delta<A>
+fn delta_of<A: Allocator>(
+    alloc: A,
+    bytes: Seq<u8, A>,
+    hashed: Option<(TextHash, &[u8])>,
+) -> Delta<A>
     requires { IfSome hashed (λ found. IsHashOf found.1.now found.0) }
     ensures { result ≡ bytes }
 {
     match hashed {
-        Some((hash, text)) => Delta::with_hash(bytes, HUNK, hash, text),
+        Some((hash, text)) => Delta::with_hash(alloc, bytes, HUNK, hash, text),
         None => Delta::of(bytes),
     }
 }

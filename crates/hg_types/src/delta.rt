@@ -15,8 +15,14 @@ use std::marker::Model;
 #[derive(Drop)]
 pub struct Delta<A: Allocator = Global> {
     bytes: Seq<u8, A>,
+    tail: Option<Box<Tail, A>>,
+}
+
+/// The hash of a text, and how many bytes of the delta come before it.
+#[derive(Drop)]
+struct Tail {
     head: usize,
-    hash: Option<TextHash>,
+    hash: TextHash,
 }
 
 impl<A: Allocator> Model for Delta<A> {
@@ -27,7 +33,7 @@ impl<A: Allocator> Model for Delta<A> {
 
     ghost view = { λ d. d.bytes };
 
-    ghost invariant = { λ d. IfSome d.hash (λ h. IsHashOf (drop d.head d.bytes) h) };
+    ghost invariant = { λ d. IfSome d.tail (λ t. IsHashOf (drop t.value.head d.bytes) t.value.hash) };
 }
 
 impl<A: Allocator> Delta<A> {
@@ -35,25 +41,24 @@ impl<A: Allocator> Delta<A> {
     pub fn of(bytes: Seq<u8, A>) -> Self
         ensures { result ≡ bytes }
     {
-        Delta {
-            bytes,
-            head: 0,
-            hash: None,
-        }
+        Delta { bytes, tail: None }
     }
 
-    /// These bytes, with the hash of a text where that is what stands after the first so many of them.
-    pub fn with_hash(bytes: Seq<u8, A>, head: usize, hash: TextHash, text: &[u8]) -> Self
+    /// These bytes, with the hash of a text where that is what stands after the first so many of them. Where memory
+    /// is refused for it, it is left out.
+    pub fn with_hash(alloc: A, bytes: Seq<u8, A>, head: usize, hash: TextHash, text: &[u8]) -> Self
         requires { IsHashOf text.now hash }
         ensures { result ≡ bytes }
     {
         if !ends_so(bytes.as_slice(), head, text) {
             return Delta::of(bytes);
         }
-        Delta {
-            bytes,
-            head,
-            hash: Some(hash),
+        match Box::new(alloc, Tail { head, hash }) {
+            Ok(tail) => Delta {
+                bytes,
+                tail: Some(tail),
+            },
+            Err(_) => Delta::of(bytes),
         }
     }
 
@@ -66,16 +71,18 @@ impl<A: Allocator> Delta<A> {
 
     /// Whether it has a hash.
     pub fn is_hashed(&self) -> bool {
-        self.hash.is_some()
+        self.tail.is_some()
     }
 
     /// SHA-1 of two ids and a text, one after the other, where it is known here.
     pub fn digest_of(&self, first: &Node, second: &Node, text: &[u8]) -> Option<Node>
         ensures { IfSome result (λ digest. digest.0 ≡ sha1 (first.now.0 ++ second.now.0 ++ text.now)) }
     {
-        let hash = self.hash?;
-        if hash.is_of(first, second) && ends_so(self.bytes.as_slice(), self.head, text) {
-            return Some(hash.digest);
+        let Some(tail) = &self.tail else {
+            return None;
+        };
+        if tail.hash.is_of(first, second) && ends_so(self.bytes.as_slice(), tail.head, text) {
+            return Some(tail.hash.digest);
         }
         None
     }

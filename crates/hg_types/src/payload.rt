@@ -7,6 +7,7 @@
 ghost use Rattle.std.specs.Prelude.{◌≡◌, [], ◌++◌, length, IfSome, IsTrue};
 ghost use Rattle.sha1.specs.Sha1.{sha1};
 ghost use Rattle.hg_types.specs.Hashes.{IsHashOf};
+ghost use Rattle.hg_types.specs.code.Stretches.{id_in, text_in, IsOfStretch};
 
 use crate::memory::{NoMemory, TryClone};
 use crate::node::Node;
@@ -14,6 +15,9 @@ use crate::seq::Seq;
 use sha1::Sha1;
 use std::alloc::{Allocator, Global};
 use std::marker::Model;
+
+/// The bytes of an id.
+const ID: usize = 20;
 
 /// The SHA-1 of two ids and a text, one after the other.
 #[derive(Clone, Copy)]
@@ -32,12 +36,14 @@ impl TextHash {
     }
 }
 
-/// The hash of a stretch of bytes, and where that begins and ends.
+/// Where two ids and a text stand in a payload, and their SHA-1, one after the other.
 #[derive(Clone, Copy)]
 struct Stretch {
-    from: usize,
-    to: usize,
-    hash: TextHash,
+    first: u32,
+    second: u32,
+    from: u32,
+    to: u32,
+    digest: Node,
 }
 
 /// The bytes of a payload, which contracts see alone. Hashes of stretches of them may stand beside.
@@ -96,20 +102,14 @@ impl<A: Allocator> Payload<A> {
         self.bytes.len()
     }
 
-    /// Hashes two ids and the bytes between two places, and keeps that for [`Payload::hashed`]. Where there are no
-    /// such bytes, or memory is refused, nothing is kept.
-    pub fn hash(&mut self, first: &Node, second: &Node, from: usize, to: usize)
+    /// Hashes the ids at two places and the bytes between two others, and keeps that for [`Payload::hashed`]. Where
+    /// there are no such bytes, or memory is refused, nothing is kept.
+    pub fn hash(&mut self, first: u32, second: u32, from: u32, to: u32)
         ensures { self.new ≡ self.old }
     {
-        if from > to || to > self.bytes.len() {
-            return;
+        if let Some(stretch) = hash_at(self.bytes.as_slice(), first, second, from, to) {
+            let _is_kept = self.stretches.push(stretch);
         }
-        let hash = TextHash {
-            first: *first,
-            second: *second,
-            digest: Node(digest(&first.0, &second.0, &self.bytes[from..to])),
-        };
-        let _is_kept = self.stretches.push(Stretch { from, to, hash });
     }
 
     /// The hash of that number, in the order in which they were made, and the text that it is of.
@@ -117,8 +117,49 @@ impl<A: Allocator> Payload<A> {
         ensures { IfSome result (λ found. IsHashOf found.1.now found.0) }
     {
         let stretch = *self.stretches.get(number)?;
-        Some((stretch.hash, &self.bytes[stretch.from..stretch.to]))
+        let bytes = self.bytes.as_slice();
+        let hash = TextHash {
+            first: id_at(bytes, stretch.first)?,
+            second: id_at(bytes, stretch.second)?,
+            digest: stretch.digest,
+        };
+        Some((hash, text_at(bytes, stretch.from, stretch.to)?))
     }
+}
+
+/// The hash of what stands at these places, where that is there.
+fn hash_at(bytes: &[u8], first: u32, second: u32, from: u32, to: u32) -> Option<Stretch>
+    ensures { IfSome result (IsOfStretch bytes.now) }
+{
+    let ids = (id_at(bytes, first)?, id_at(bytes, second)?);
+    let text = text_at(bytes, from, to)?;
+    let digest = Node(digest(&ids.0.0, &ids.1.0, text));
+    Some(Stretch {
+        first,
+        second,
+        from,
+        to,
+        digest,
+    })
+}
+
+/// The id at a place.
+fn id_at(bytes: &[u8], at: u32) -> Option<Node>
+    ensures { IfSome result (λ id. id.0 ≡ id_in bytes.now at) }
+{
+    let rest = text_at(bytes, at, u32::try_from(bytes.len()).ok()?)?;
+    let (id, _) = rest.split_first_chunk::<ID>()?;
+    Some(Node(*id))
+}
+
+/// The bytes between two places.
+fn text_at(bytes: &[u8], from: u32, to: u32) -> Option<&[u8]>
+    ensures { IfSome result (λ text. text.now ≡ text_in bytes.now from to) }
+{
+    if from > to || to as usize > bytes.len() {
+        return None;
+    }
+    Some(&bytes[from as usize..to as usize])
 }
 
 /// SHA-1 of two ids and a text, one after the other.
