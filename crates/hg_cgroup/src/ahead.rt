@@ -13,6 +13,7 @@ pub const HUNK: usize = 12;
 
 /// The bytes of a chunk's length, and where the parents' ids stand after it.
 const P1: u32 = 24;
+
 const P2: u32 = 44;
 
 /// A changeset's chunk: where it begins and ends, and the text that it carries whole, if it does.

@@ -76,10 +76,10 @@ fn delta_of<A: Allocator>(
 }
 
 /// The entries of the group of the changesets, and the bytes after it.
-pub fn read_changesets<A: Allocator + Copy>(
+pub fn read_changesets<A: Allocator + Copy, B: Allocator>(
     alloc: A,
     version: Version,
-    payload: &Payload<A>,
+    payload: &Payload<B>,
 ) -> Result<(Seq<Entry<A>, A>, &[u8]), GroupFault>
     ensures ok { IfOk result (λ read. (changesets : List (Changeset A))
         × AreChangesets version payload.now changesets (empty_chunk ++ read.1.now)

@@ -21,10 +21,10 @@ use std::alloc::Allocator;
 /// `UnknownVersion` comes first. Then the first faulty chunk decides: its length is bad (`BadLength`), or too
 /// small for the header of a changeset (`ShortHeader`), or the bytes end (`Truncated`). `Leftover` comes
 /// last. Of manifests and files only the chunks are checked, and none of their bytes is copied.
-pub fn decode<A: Allocator + Copy>(
+pub fn decode<A: Allocator + Copy, B: Allocator>(
     alloc: A,
     version: &[u8],
-    payload: &Payload<A>,
+    payload: &Payload<B>,
 ) -> Result<Seq<Entry<A>, A>, GroupFault>
     ensures entries { IfOk result (λ entries. IsOf version.now (λ v. IsGroup v payload.now entries [])) }
     ensures unknown_version { IsErrOf result GroupFault.UnknownVersion → IsUnknown version.now }

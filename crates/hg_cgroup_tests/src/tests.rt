@@ -1,7 +1,7 @@
 //! Changegroups spelled by hand, byte by byte, and their entries; heaps that refuse.
 
 use hg_cgroup::*;
-use hg_types::{Entry, Node};
+use hg_types::{Entry, NoMemory, Node, Payload, Seq};
 use linked_list_allocator::LocalHeap;
 use std::alloc::{AllocError, Allocator, Global};
 use std::test::*;
@@ -83,8 +83,12 @@ fn is_entry<H: Allocator>(
         && entry.delta.as_slice() == delta
 }
 
+fn payload_of(rt: HostRuntime, bytes: &[u8]) -> Result<Payload, NoMemory> {
+    Ok(Payload::of(Seq::copy_of(rt.alloc(), bytes)?))
+}
+
 fn fault_of(rt: HostRuntime, version: &[u8], payload: &[u8]) -> Option<GroupFault> {
-    decode(rt.alloc(), version, payload).err()
+    decode(rt.alloc(), version, &payload_of(rt, payload).ok()?).err()
 }
 
 // 02: `00000068` A Z Z Z A, then three times `00000000`; 116 bytes. Result: one entry: A, Z, Z,
@@ -94,7 +98,9 @@ fn a_root_changeset(rt: HostRuntime) -> Result<(), Fail> {
     let root = root(rt.alloc())?;
     let payload = joined(rt.alloc(), &[root.as_slice(), EMPTY, EMPTY, EMPTY])?;
     assert_eq!(rt; payload.len(), 116);
-    let entries = decode(rt.alloc(), b"02", &payload).ok().ok_or("entries")?;
+    let entries = decode(rt.alloc(), b"02", &payload_of(rt, &payload)?)
+        .ok()
+        .ok_or("entries")?;
     assert_eq!(rt; entries.len(), 1);
     for entry in entries.as_slice() {
         assert!(rt; is_entry(entry, A, Z, Z, Z, b""));
@@ -108,7 +114,9 @@ fn a_root_changeset(rt: HostRuntime) -> Result<(), Fail> {
 fn manifests_and_files(rt: HostRuntime) -> Result<(), Fail> {
     let payload = with_frames(rt.alloc())?;
     assert_eq!(rt; payload.len(), 142);
-    let entries = decode(rt.alloc(), b"02", &payload).ok().ok_or("entries")?;
+    let entries = decode(rt.alloc(), b"02", &payload_of(rt, &payload)?)
+        .ok()
+        .ok_or("entries")?;
     assert_eq!(rt; entries.len(), 1);
     for entry in entries.as_slice() {
         assert!(rt; is_entry(entry, A, Z, Z, Z, b""));
@@ -119,7 +127,9 @@ fn manifests_and_files(rt: HostRuntime) -> Result<(), Fail> {
 // 01: 12 zero bytes. Result: no entry.
 #[test]
 fn no_changesets(rt: HostRuntime) -> Result<(), Fail> {
-    let entries = decode(rt.alloc(), b"01", &[0; 12]).ok().ok_or("no entry")?;
+    let entries = decode(rt.alloc(), b"01", &payload_of(rt, &[0; 12])?)
+        .ok()
+        .ok_or("no entry")?;
     assert!(rt; entries.is_empty());
     Ok(())
 }
@@ -164,7 +174,9 @@ fn short_header(rt: HostRuntime) -> Result<(), Fail> {
 #[test]
 fn bases_in_order(rt: HostRuntime) -> Result<(), Fail> {
     let payload = two_in_order(rt.alloc())?;
-    let entries = decode(rt.alloc(), b"01", &payload).ok().ok_or("entries")?;
+    let entries = decode(rt.alloc(), b"01", &payload_of(rt, &payload)?)
+        .ok()
+        .ok_or("entries")?;
     assert_eq!(rt; entries.len(), 2);
     let mut place = 0;
     for entry in entries.as_slice() {
@@ -281,7 +293,7 @@ fn refused_memory(rt: HostRuntime) -> Result<(), Fail> {
     let mut made = 0u32;
     for sixteens in 0..100usize {
         let heap = LocalHeap::new(rt.alloc(), sixteens * 16)?;
-        match decode(&heap, b"01", &payload) {
+        match decode(&heap, b"01", &payload_of(rt, &payload)?) {
             Ok(entries) => {
                 assert_eq!(rt; entries.len(), 2);
                 made = made.saturating_add(1);
@@ -298,7 +310,7 @@ fn refused_memory(rt: HostRuntime) -> Result<(), Fail> {
 }
 
 /// How many entries the payload has, if the memory is enough for them.
-fn count_in<H: Allocator + Copy>(alloc: H, payload: &[u8]) -> Option<usize> {
+fn count_in<H: Allocator + Copy>(alloc: H, payload: &Payload) -> Option<usize> {
     let entries = decode(alloc, b"02", payload).ok()?;
     Some(entries.len())
 }
@@ -322,6 +334,7 @@ fn manifests_and_files_take_no_memory(rt: HostRuntime) -> Result<(), Fail> {
     ];
     let frames = joined(rt.alloc(), &frames)?;
     let full = joined(rt.alloc(), &[root.as_slice(), EMPTY, frames.as_slice()])?;
+    let (bare, full) = (payload_of(rt, &bare)?, payload_of(rt, &full)?);
     let mut refused = 0u32;
     let mut made = 0u32;
     for sixteens in 0..100usize {
@@ -356,7 +369,9 @@ fn many_changesets_over_an_ample_heap(rt: HostRuntime) -> Result<(), Fail> {
             payload.extend_from_slice(&root)?;
         }
         payload.extend_from_slice(&[0; 12])?;
-        let entries = decode(&heap, b"02", &payload).ok().ok_or("entries")?;
+        let entries = decode(&heap, b"02", &payload_of(rt, &payload)?)
+            .ok()
+            .ok_or("entries")?;
         assert_eq!(rt; entries.len(), count);
         assert!(rt; heap.used() <= payload.len().saturating_mul(4).saturating_add(256));
     }
@@ -375,14 +390,24 @@ fn the_greatest_payloads_over_an_ample_heap(rt: HostRuntime) -> Result<(), Fail>
         payload.extend_from_slice(&root)?;
     }
     payload.extend_from_slice(&[0; 12])?;
-    assert!(rt; payload.len() == 67_108_820 && count_in(&heap, &payload) == Some(645_277));
+    assert!(rt;
+        payload.len() == 67_108_820 && count_in(&heap, &payload_of(rt, &payload)?) == Some(645_277)
+    );
     payload.clear();
     payload.extend_from_slice(&67_108_852u32.to_be_bytes())?;
     let rest = vec![in rt.alloc(); 0u8; 67_108_860]?;
     payload.extend_from_slice(&rest)?;
-    let entries = decode(&heap, b"02", &payload).ok().ok_or("an entry")?;
+    let entries = decode(&heap, b"02", &payload_of(rt, &payload)?)
+        .ok()
+        .ok_or("an entry")?;
     assert_eq!(rt; entries.len(), 1);
-    let delta = entries.as_slice().first().ok_or("an entry")?.delta.len();
+    let delta = entries
+        .as_slice()
+        .first()
+        .ok_or("an entry")?
+        .delta
+        .as_slice()
+        .len();
     assert_eq!(rt; delta, 67_108_852 - 104);
     Ok(())
 }

@@ -1,7 +1,7 @@
 //! Changesets whose text is whatever a test says.
 
 use hg_log::{Added, Changelog, node_id};
-use hg_types::{Entry, Node, Seq};
+use hg_types::{Delta, Entry, Node, Seq};
 use std::alloc::{AllocError, Allocator};
 
 /// Adds a changeset with that text, and gives its id.
@@ -21,7 +21,7 @@ pub fn put_text<A: Allocator + Copy>(
         p1,
         p2,
         base: Node::NULL,
-        delta: Seq::from_vec(delta),
+        delta: Delta::of(Seq::from_vec(delta)),
     };
     match log.add(&entry) {
         Ok(Added::New(_)) => Some(node),

@@ -3,7 +3,7 @@
 ghost use Rattle.std.specs.Prelude.{◌≤◌};
 ghost use Rattle.hg_types.specs.Limits.{IsAllowed};
 
-use hg_types::{Limits, NoMemory, Param, Part, Seq, Settings};
+use hg_types::{Limits, NoMemory, Param, Part, Payload, Seq, Settings};
 use std::alloc::Allocator;
 
 /// A server that does not publish, with room for so many changesets, whose pushes begin at that number.
@@ -31,7 +31,7 @@ pub fn part_of<A: Allocator + Copy>(
         kind: Seq::copy_of(alloc, kind)?,
         id,
         params: Seq::new(alloc),
-        payload: Seq::copy_of(alloc, payload)?,
+        payload: Payload::of(Seq::copy_of(alloc, payload)?),
     })
 }
 

@@ -8,7 +8,7 @@ use hg_keys::*;
 use hg_log::{Added, Changelog};
 use hg_obs::{MarkerFault, Markers};
 use hg_phases::Phases;
-use hg_types::{Entry, Limits, NoMemory, Node, Phase, Seq};
+use hg_types::{Delta, Entry, Limits, NoMemory, Node, Phase, Seq};
 use linked_list_allocator::LocalHeap;
 use std::alloc::{Allocator, Global};
 use std::hash::RandomState;
@@ -71,7 +71,7 @@ fn put_root<A: Allocator + Copy>(alloc: A, log: &mut Changelog<A>) -> bool {
         p1: Node::NULL,
         p2: Node::NULL,
         base: Node::NULL,
-        delta: Seq::new(alloc),
+        delta: Delta::of(Seq::new(alloc)),
     };
     log.add(&entry) == Ok(Added::New(0))
 }

@@ -13,7 +13,7 @@ use hg_queue::{PartQueue, Taker};
 use hg_repo::Repo;
 use hg_serve::{Client, Closed, Naming, NoGate, Server};
 use hg_store::Log;
-use hg_types::{Part, Seq};
+use hg_types::{Part, Payload, Seq};
 use linked_list_allocator::LocalHeap;
 use std::alloc::{AllocFailed, Allocator, Global};
 use std::marker::Brand;
@@ -42,7 +42,7 @@ fn part<R: Abort>(rt: &R, alloc: Global, payload: &[u8]) -> Part<Global> {
         kind: bytes(rt, alloc, b"OBSMARKERS"),
         id: 0,
         params: Seq::new(alloc),
-        payload: bytes(rt, alloc, payload),
+        payload: Payload::of(bytes(rt, alloc, payload)),
     }
 }
 

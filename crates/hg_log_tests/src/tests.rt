@@ -4,7 +4,7 @@ mod memory;
 
 use hg_delta::DeltaFault;
 use hg_log::*;
-use hg_types::{Entry, Limits, NoMemory, Node, Seq, TryClone};
+use hg_types::{Delta, Entry, Limits, NoMemory, Node, Seq, TryClone};
 use std::alloc::{AllocError, Allocator, Global};
 use std::hash::RandomState;
 use std::test::*;
@@ -143,7 +143,7 @@ fn put<A: Allocator + Copy>(
         p1: given.p1,
         p2: given.p2,
         base: NULL,
-        delta,
+        delta: Delta::of(delta),
     })
 }
 
@@ -300,7 +300,7 @@ fn put_on_r(alloc: Global, log: &mut Changelog) -> Result<Added, AddFault> {
         p1: ROOT,
         p2: NULL,
         base: ROOT_R,
-        delta,
+        delta: Delta::of(delta),
     })
 }
 
@@ -558,7 +558,7 @@ fn put_short(
         p1,
         p2,
         base,
-        delta,
+        delta: Delta::of(delta),
     })
 }
 

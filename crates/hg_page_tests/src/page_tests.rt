@@ -5,7 +5,7 @@ use hg_log::{Added, Changelog, node_id};
 use hg_obs::Markers;
 use hg_page::*;
 use hg_phases::Phases;
-use hg_types::{Entry, Limits, NoMemory, Node, Phase, Seq};
+use hg_types::{Delta, Entry, Limits, NoMemory, Node, Phase, Seq};
 use linked_list_allocator::LocalHeap;
 use std::alloc::{Allocator, Global};
 use std::hash::RandomState;
@@ -43,7 +43,7 @@ fn put<A: Allocator + Copy>(alloc: A, parts: &mut Parts<A>, text: &[u8]) -> Resu
         p1: NULL,
         p2: NULL,
         base: NULL,
-        delta: Seq::from_vec(delta),
+        delta: Delta::of(Seq::from_vec(delta)),
     };
     match parts.log.add(&entry) {
         Ok(Added::New(rev)) => {

@@ -1,7 +1,7 @@
 //! Worked examples, and memory that is refused at each growth.
 
 use hg_params::*;
-use hg_types::{NoMemory, Param, Part, Seq};
+use hg_types::{NoMemory, Param, Part, Payload, Seq};
 use linked_list_allocator::LocalHeap;
 use std::alloc::Allocator;
 use std::test::*;
@@ -28,7 +28,7 @@ fn part_of<A: Allocator + Copy>(alloc: A, head: Head<A>) -> Part<A> {
         kind: head.kind,
         id: head.id,
         params: head.params,
-        payload: Seq::new(alloc),
+        payload: Payload::new(alloc),
     }
 }
 
@@ -191,7 +191,7 @@ fn part_with<A: Allocator + Copy>(
         kind: Seq::copy_of(alloc, kind)?,
         id: 7,
         params: list,
-        payload: Seq::new(alloc),
+        payload: Payload::new(alloc),
     })
 }
 

@@ -10,7 +10,7 @@ use hg_parts::laws::marks_keep_stores_sound;
 use hg_parts::{
     RaceText, Refusal, Source, Store, Turn, handle_part, handle_prepared, prepare, starts_replies,
 };
-use hg_types::{Limits, NoMemory, Node, Param, Part, Phase, Seq, Settings};
+use hg_types::{Limits, NoMemory, Node, Param, Part, Payload, Phase, Seq, Settings};
 use linked_list_allocator::LocalHeap;
 use std::alloc::{Allocator, Global};
 use std::hash::RandomState;
@@ -123,7 +123,7 @@ fn part<A: Allocator + Copy>(
         kind: Seq::copy_of(alloc, kind)?,
         id: 1,
         params,
-        payload: Seq::copy_of(alloc, payload)?,
+        payload: Payload::of(Seq::copy_of(alloc, payload)?),
     })
 }
 

@@ -11,7 +11,7 @@ ghost use Rattle.std.specs.Prelude.{◌≤◌};
 use hg_help_tests::parts::{part_of, settings};
 use hg_push::{Book, Outcome, Reason};
 use hg_repo::{Done, Refusal, Repo};
-use hg_types::{CutReason, Item, NoMemory, Param, Part, Seq, What};
+use hg_types::{CutReason, Item, NoMemory, Param, Part, Payload, Seq, What};
 use std::alloc::Allocator;
 use std::hash::RandomState;
 

@@ -7,7 +7,7 @@ ghost use Rattle.hg_queue.specs.Words.{putter_view, taker_view, history, seen, t
 ghost use Rattle.hg_queue.specs.Words.{IsTakerOf, IsPutterOf, IsMarkedOf, IsVisitorOf};
 
 use hg_queue::{Full, Mark, Marked, PartQueue, Putter, Taker, Visitor};
-use hg_types::{CutReason, Item, Part, Seq, What};
+use hg_types::{CutReason, Item, Part, Payload, Seq, What};
 use linked_list_allocator::LocalHeap;
 use std::alloc::{Allocator, Global};
 use std::sync::Wait;
@@ -24,7 +24,7 @@ fn part<A: Allocator + Copy>(alloc: A, id: u32) -> Part<A> {
         kind: Seq::new(alloc),
         id,
         params: Seq::new(alloc),
-        payload: Seq::new(alloc),
+        payload: Payload::new(alloc),
     }
 }
 

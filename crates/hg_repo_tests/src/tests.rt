@@ -11,7 +11,7 @@ ghost use Rattle.hg_types.specs.Limits.{IsAllowed};
 
 use hg_help_tests::parts::part_of as part;
 use hg_repo::{Done, RaceText, Refusal, Repo, Source};
-use hg_types::{Limits, NoMemory, Node, Param, Part, Seq, Settings, TryClone};
+use hg_types::{Limits, NoMemory, Node, Param, Part, Payload, Seq, Settings, TryClone};
 use linked_list_allocator::LocalHeap;
 use std::alloc::{AllocError, Allocator, Global};
 use std::hash::RandomState;
@@ -436,7 +436,7 @@ fn many_names<A: Allocator + Copy>(alloc: A) -> Result<Seq<Part<A>, A>, NoMemory
 
 fn many_heads<A: Allocator + Copy>(alloc: A) -> Result<Seq<Part<A>, A>, NoMemory> {
     let mut heads = part(alloc, b"CHECK:HEADS", 0, b"")?;
-    heads.payload = Seq::from_vec(vec![in alloc; 0; 80_000]?);
+    heads.payload = Payload::of(Seq::from_vec(vec![in alloc; 0; 80_000]?));
     list(alloc, heads, None)
 }
 

@@ -3,7 +3,7 @@
 mod ample;
 
 use hg_types::{
-    CutReason, Item, Limits, NoMemory, Node, Param, Part, Phase, Seq, TryClone, What,
+    CutReason, Item, Limits, NoMemory, Node, Param, Part, Payload, Phase, Seq, TryClone, What,
     try_clone_each,
 };
 use linked_list_allocator::LocalHeap;
@@ -32,7 +32,7 @@ fn part<A: Allocator + Copy>(alloc: A, kind: &[u8]) -> Result<Part<A>, NoMemory>
     params.push(param(alloc, true, b"version", b"02")?)?;
     params.push(param(alloc, false, b"x", b"1")?)?;
     params.push(param(alloc, false, b"x", b"2")?)?;
-    let payload = Seq::copy_of(alloc, b"payload")?;
+    let payload = Payload::of(Seq::copy_of(alloc, b"payload")?);
     Ok(Part {
         kind,
         id: 7,

@@ -75,7 +75,7 @@ fn part_of<A: Allocator + Copy>(alloc: A, step: &Step) -> Result<Part<A>, NoMemo
         kind: Seq::copy_of(alloc, step.0)?,
         id: 1,
         params,
-        payload: Seq::from_vec(payload),
+        payload: Payload::of(Seq::from_vec(payload)),
     })
 }
 
@@ -434,7 +434,7 @@ fn key_part<A: Allocator + Copy>(
         kind: Seq::copy_of(alloc, kind)?,
         id: 1,
         params,
-        payload: Seq::new(alloc),
+        payload: Payload::new(alloc),
     })
 }
 

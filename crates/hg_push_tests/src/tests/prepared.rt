@@ -42,7 +42,7 @@ fn front_of_group<A: Allocator + Copy>(alloc: A, size: usize) -> Result<Part<A>,
     put_root(&mut bytes)?;
     bytes.extend_from_slice(&[0; 4])?;
     bytes.truncate(size);
-    group.payload = Seq::from_vec(bytes);
+    group.payload = Payload::of(Seq::from_vec(bytes));
     Ok(group)
 }
 
@@ -112,7 +112,7 @@ fn large_group<A: Allocator + Copy>(alloc: A) -> Result<Part<A>, NoMemory> {
     let mut bytes = Vec::with_capacity(alloc, CONTENT + 1_024)?;
     put_root(&mut bytes)?;
     put_file(&mut bytes)?;
-    group.payload = Seq::from_vec(bytes);
+    group.payload = Payload::of(Seq::from_vec(bytes));
     Ok(group)
 }
 

@@ -79,7 +79,7 @@ fn many_changesets<A: Allocator + Copy>(alloc: A) -> Result<Part<A>, NoMemory> {
         key: Seq::copy_of(alloc, b"version")?,
         value: Seq::copy_of(alloc, b"02")?,
     })?;
-    group.payload = Seq::from_vec(bytes);
+    group.payload = Payload::of(Seq::from_vec(bytes));
     Ok(group)
 }
 
@@ -92,7 +92,7 @@ fn many_bookmarks<A: Allocator + Copy>(alloc: A) -> Result<Part<A>, NoMemory> {
         bytes.extend_from_slice(&number.to_be_bytes())?;
     }
     let mut bookmarks = part(alloc, b"BOOKMARKS", 1, b"")?;
-    bookmarks.payload = Seq::from_vec(bytes);
+    bookmarks.payload = Payload::of(Seq::from_vec(bytes));
     Ok(bookmarks)
 }
 
@@ -106,7 +106,7 @@ fn many_markers<A: Allocator + Copy>(alloc: A) -> Result<Part<A>, NoMemory> {
         bytes.extend_from_slice(&number.to_be_bytes())?;
     }
     let mut markers = part(alloc, b"OBSMARKERS", 2, b"")?;
-    markers.payload = Seq::from_vec(bytes);
+    markers.payload = Payload::of(Seq::from_vec(bytes));
     Ok(markers)
 }
 

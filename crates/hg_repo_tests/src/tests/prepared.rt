@@ -147,7 +147,7 @@ fn large_group<A: Allocator + Copy>(alloc: A, content: &[u8]) -> Result<Part<A>,
     bytes.extend_from_slice(content)?;
     bytes.extend_from_slice(&[0; 8])?;
     let mut group = group(alloc, b"")?;
-    group.payload = Seq::from_vec(bytes);
+    group.payload = Payload::of(Seq::from_vec(bytes));
     Ok(group)
 }
 

@@ -155,7 +155,7 @@ fn made<A: Allocator + Copy>(alloc: A, id: u32, recipe: &Recipe) -> Result<Part<
         kind: Seq::copy_of(alloc, recipe.0)?,
         id,
         params,
-        payload: Seq::from_vec(payload),
+        payload: Payload::of(Seq::from_vec(payload)),
     })
 }
 

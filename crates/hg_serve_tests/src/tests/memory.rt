@@ -4,7 +4,7 @@ ghost use Rattle.hg_serve.specs.Desks.{OpensWith};
 
 use super::*;
 use hg_serve::Awaiting;
-use hg_types::{Node, Param};
+use hg_types::{Node, Param, Payload};
 use linked_list_allocator::LocalHeap;
 
 /// Takes all memory that is left, in blocks of 16 bytes, and gives some of them back, or all. A call can pick
@@ -78,7 +78,7 @@ fn try_changegroup<A: Allocator + Copy>(
         kind: Seq::copy_of(alloc, b"CHANGEGROUP")?,
         id: 0,
         params: version(alloc)?,
-        payload: Seq::copy_of(alloc, &changeset(node, parent))?,
+        payload: Payload::of(Seq::copy_of(alloc, &changeset(node, parent))?),
     })
 }
 

@@ -16,7 +16,7 @@ fn greatest_part<A: Allocator + Copy>(alloc: A) -> Result<Part<A>, NoMemory> {
         kind: Seq::copy_of(alloc, &[b'A'; 255])?,
         id: 7,
         params,
-        payload: Seq::from_vec(vec![in alloc; 7u8; 67_108_864]?),
+        payload: Payload::of(Seq::from_vec(vec![in alloc; 7u8; 67_108_864]?)),
     })
 }
 
