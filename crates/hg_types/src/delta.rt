@@ -81,7 +81,7 @@ impl<A: Allocator> Delta<A> {
         let Some(tail) = &self.tail else {
             return None;
         };
-        if tail.hash.is_of(first, second) && ends_so(self.bytes.as_slice(), tail.head, text) {
+        if tail.hash.is_of(first, second) && ends_so(self.as_slice(), tail.head, text) {
             return Some(tail.hash.digest);
         }
         None

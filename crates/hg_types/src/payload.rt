@@ -92,7 +92,7 @@ impl<A: Allocator> Payload<A> {
     pub fn as_slice(&self) -> &[u8]
         ensures { result.now ≡ self.now }
     {
-        self.bytes.as_slice()
+        &self.bytes
     }
 
     /// How many bytes there are.
