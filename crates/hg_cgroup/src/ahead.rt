@@ -73,22 +73,25 @@ fn whole_text(content: &[u8]) -> Option<Whole> {
     let (p1, rest) = split_id(rest);
     let (p2, rest) = split_id(rest);
     let (base, rest) = split_id(rest);
-    let (_link, delta) = split_id(rest);
-    let (hunk, text) = delta.split_first_chunk::<HUNK>()?;
-    let size = u32::try_from(text.len()).ok()?;
-    if base != Node::NULL || !is_whole(hunk, size) {
+    if base != Node::NULL {
         return None;
     }
+    let (_link, delta) = split_id(rest);
     Some(Whole {
-        size,
+        size: whole_size(delta)?,
         is_ordered: p1 <= p2,
     })
 }
 
-/// Whether a hunk puts a text of so many bytes in the place of nothing.
-fn is_whole(hunk: &[u8; HUNK], size: u32) -> bool {
+/// The length of the text that a delta makes of nothing: it has no hunk, or one that ends with all of the text.
+fn whole_size(delta: &[u8]) -> Option<u32> {
+    if delta.is_empty() {
+        return Some(0);
+    }
+    let (hunk, text) = delta.split_first_chunk::<HUNK>()?;
     let [0, 0, 0, 0, 0, 0, 0, 0, a, b, c, d] = *hunk else {
-        return false;
+        return None;
     };
-    u32::from_be_bytes([a, b, c, d]) == size
+    let size = u32::from_be_bytes([a, b, c, d]);
+    (size as usize == text.len()).then_some(size)
 }

@@ -70,7 +70,10 @@ fn delta_of<A: Allocator>(
     ensures { result ≡ bytes }
 {
     match hashed {
-        Some((hash, text)) => Delta::with_hash(alloc, bytes, HUNK, hash, text),
+        Some((hash, text)) => {
+            let head = HUNK.min(bytes.len());
+            Delta::with_hash(alloc, bytes, head, hash, text)
+        }
         None => Delta::of(bytes),
     }
 }

@@ -411,3 +411,121 @@ fn the_greatest_payloads_over_an_ample_heap(rt: HostRuntime) -> Result<(), Fail>
     assert_eq!(rt; delta, 67_108_852 - 104);
     Ok(())
 }
+
+/// The id of the text `whole` with the parent R, and that of the text `both` with the parents R and it.
+const S: &[u8; 20] =
+    b"\x5a\x70\x15\x79\x4b\x07\x13\xb4\xb0\xc9\x0b\xd0\xef\xde\x03\xdc\x87\xcc\x55\x68";
+
+const M: &[u8; 20] =
+    b"\xb0\xc6\xcd\x2f\x96\xa0\xbc\x00\x67\x6c\xf3\xd8\x68\x53\xb4\x49\x08\xe0\x33\xce";
+
+/// In version 02: A, whose delta is empty; R and S, carried whole; B, as a delta on A; and M, carried whole.
+fn some_carried_whole(alloc: Global) -> Result<Vec<u8>, AllocError> {
+    let whole = b"\0\0\0\0\0\0\0\0\0\0\0\x05whole".as_slice();
+    let both = b"\0\0\0\0\0\0\0\0\0\0\0\x04both".as_slice();
+    let root = root(alloc)?;
+    joined(
+        alloc,
+        &[
+            root.as_slice(),
+            b"\0\0\0\x75",
+            R,
+            Z,
+            Z,
+            Z,
+            R,
+            ADD_R,
+            b"\0\0\0\x79",
+            S,
+            R,
+            Z,
+            Z,
+            S,
+            whole,
+            b"\0\0\0\x75",
+            B,
+            A,
+            Z,
+            A,
+            B,
+            SET_B,
+            b"\0\0\0\x78",
+            M,
+            R,
+            S,
+            Z,
+            M,
+            both,
+            EMPTY,
+            EMPTY,
+            EMPTY,
+        ],
+    )
+}
+
+// In version 02 A, R, S, B as a delta on A, and M. Result: the hashes of A, R, S and M are found by their parents, the
+// lesser first, and their texts, and are their ids; B has none. The entries are those without hashes.
+#[test]
+fn texts_that_are_carried_whole_are_hashed(rt: HostRuntime) -> Result<(), Fail> {
+    let bytes = some_carried_whole(rt.alloc())?;
+    let mut payload = payload_of(rt, &bytes)?;
+    hash_texts(&mut payload);
+    let entries = decode(rt.alloc(), b"02", &payload).ok().ok_or("entries")?;
+    let wanted = [
+        (A, Z, Z, b"".as_slice(), true),
+        (R, Z, Z, b"r".as_slice(), true),
+        (S, Z, R, b"whole".as_slice(), true),
+        (B, Z, A, b"b".as_slice(), false),
+        (M, S, R, b"both".as_slice(), true),
+    ];
+    assert_eq!(rt; entries.len(), wanted.len());
+    for (entry, (node, lesser, greater, text, is_hashed)) in entries
+        .as_slice()
+        .iter()
+        .zip(wanted.iter())
+    {
+        assert!(rt; entry.node == Node(**node));
+        let found = entry
+            .delta
+            .digest_of(&Node(**lesser), &Node(**greater), text);
+        assert_eq!(rt; found, is_hashed.then_some(Node(**node)));
+    }
+    Ok(())
+}
+
+// The same bytes, cut at each place. Result: what is decoded, or the fault, is what it is without hashes.
+#[test]
+fn bytes_that_are_cut_are_hashed_as_far_as_they_go(rt: HostRuntime) -> Result<(), Fail> {
+    let bytes = some_carried_whole(rt.alloc())?;
+    for length in 0..bytes.len() {
+        let mut payload = payload_of(rt, &bytes[..length])?;
+        hash_texts(&mut payload);
+        assert_eq!(rt;
+            decode(rt.alloc(), b"02", &payload).err(),
+            fault_of(rt, b"02", &bytes[..length])
+        );
+    }
+    Ok(())
+}
+
+// One changeset with the hunk (0, 0, 2) and one byte, (0, 1, 1) and (1, 1, 1), and one on another base. Result: none has a
+// hash.
+#[test]
+fn other_deltas_are_not_hashed(rt: HostRuntime) -> Result<(), Fail> {
+    for (base, hunk) in [
+        (Z, b"\0\0\0\0\0\0\0\0\0\0\0\x02r".as_slice()),
+        (Z, b"\0\0\0\0\0\0\0\x01\0\0\0\x01r".as_slice()),
+        (Z, b"\0\0\0\x01\0\0\0\x01\0\0\0\x01r".as_slice()),
+        (A, ADD_R),
+    ] {
+        let size = b"\0\0\0\x75".as_slice();
+        let bytes = joined(
+            rt.alloc(),
+            &[size, R, Z, Z, base, R, hunk, EMPTY, EMPTY, EMPTY],
+        )?;
+        let mut payload = payload_of(rt, &bytes)?;
+        hash_texts(&mut payload);
+        assert!(rt; payload.hashed(0).is_none());
+    }
+    Ok(())
+}

@@ -1,6 +1,7 @@
 //! Clones, parameters and limits, and memory refused at one growth after another.
 
 mod ample;
+mod hashes;
 
 use hg_types::{
     CutReason, Item, Limits, NoMemory, Node, Param, Part, Payload, Phase, Seq, TryClone, What,

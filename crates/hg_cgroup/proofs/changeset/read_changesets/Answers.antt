@@ -1,5 +1,9 @@
-use Rattle.hg_cgroup.proofs.Entries.{took_more}
+use Rattle.hg_cgroup.proofs.Entries.{took_more, took_none}
 use Rattle.hg_cgroup.proofs.changeset.read_changesets.Goals as goal
+
+pub loop-entries-init : goal.loop-entries-init
+loop-entries-init g c =
+    rw c.new-entries.ensures.items (rw c.as_slice-rest.ensures (took_none c.args.version c.args.payload.now))
 
 pub loop-entries-preserved : goal.loop-entries-preserved
 loop-entries-preserved g c =

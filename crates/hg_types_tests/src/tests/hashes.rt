@@ -1,0 +1,116 @@
+//! Hashes that stand beside a payload and a delta. The digests are those of `sha1sum`.
+
+use super::*;
+use hg_types::{Delta, TextHash};
+use std::alloc::Global;
+
+/// The bytes 0 to 39, as two ids, and after them `text`.
+const BYTES: [u8; 44] = [
+    0, 1, 2, 3, 4, 5, 6, 7, 8, 9, 10, 11, 12, 13, 14, 15, 16, 17, 18, 19, 20, 21, 22, 23, 24, 25,
+    26, 27, 28, 29, 30, 31, 32, 33, 34, 35, 36, 37, 38, 39, b't', b'e', b'x', b't',
+];
+
+/// SHA-1 of these bytes, and of the same with the second id first.
+const IN_ORDER: [u8; 20] = [
+    0x4f, 0xf1, 0x67, 0xd8, 0x7b, 0x3b, 0xd3, 0x95, 0x6e, 0xb3, 0xcf, 0xdd, 0x32, 0xbe, 0x32, 0x33,
+    0xf6, 0x63, 0xc2, 0x2e,
+];
+
+const TURNED: [u8; 20] = [
+    0x58, 0xb5, 0x6b, 0x85, 0x50, 0x83, 0x50, 0xf8, 0xfc, 0x74, 0xc1, 0xac, 0x40, 0xe1, 0x5b, 0x65,
+    0xd9, 0x7a, 0xb2, 0xc7,
+];
+
+fn payload<A: Allocator + Copy>(alloc: A) -> Result<Payload<A>, NoMemory> {
+    Ok(Payload::of(Seq::copy_of(alloc, &BYTES)?))
+}
+
+/// The hash of the bytes in that order, and the one of the ids turned round.
+fn both(alloc: Global) -> Result<Payload, NoMemory> {
+    let mut payload = payload(alloc)?;
+    payload.hash(0, 20, 40, 44);
+    payload.hash(20, 0, 40, 44);
+    Ok(payload)
+}
+
+// The ids at 0 and 20 and the text at 40 to 44, and the same with the ids at 20 and 0. Result: the two digests, in
+// this order, of the text `text`, and no third; the bytes as before. A copy has the bytes and no hash.
+#[test]
+fn stretches_are_hashed(rt: HostRuntime) -> Result<(), Fail> {
+    let payload = both(rt.alloc())?;
+    for (number, digest) in [IN_ORDER, TURNED].iter().enumerate() {
+        let (hash, text) = payload.hashed(number).ok_or("a hash")?;
+        assert!(rt; hash.digest.0 == *digest && text == b"text".as_slice());
+    }
+    assert!(rt; payload.hashed(2).is_none());
+    assert!(rt; payload.as_slice() == BYTES.as_slice() && payload.len() == 44);
+    let copy = payload.try_clone(rt.alloc())?;
+    assert!(rt; copy.as_slice() == BYTES.as_slice() && copy.hashed(0).is_none());
+    assert_eq!(rt; Payload::new(rt.alloc()).len(), 0);
+    Ok(())
+}
+
+// Each place from 0 to 50, and the greatest, as a first id, a second id, a text's begin and its end. Result: a hash is
+// kept just where all of it is there.
+#[test]
+fn what_is_not_there_is_not_hashed(rt: HostRuntime) -> Result<(), Fail> {
+    for at in (0..=50u32).chain([u32::MAX]) {
+        let is_id = at <= 24;
+        let mut payload = payload(rt.alloc())?;
+        payload.hash(at, 0, 0, 44);
+        assert_eq!(rt; payload.hashed(0).is_some(), is_id);
+        payload.hash(0, at, 0, 44);
+        assert_eq!(rt; payload.hashed(1).is_some(), is_id);
+        let kept = if is_id { 2 } else { 0 };
+        payload.hash(0, 0, at, 44);
+        assert_eq!(rt; payload.hashed(kept).is_some(), at <= 44);
+        let kept = kept + usize::from(at <= 44);
+        payload.hash(0, 0, 3, at);
+        assert_eq!(rt; payload.hashed(kept).is_some(), at >= 3 && at <= 44);
+        assert!(rt; payload.as_slice() == BYTES.as_slice());
+    }
+    Ok(())
+}
+
+// A heap that holds the payload and nothing more. Result: no hash, and the bytes as before.
+#[test]
+fn memory_is_refused_for_a_hash(rt: HostRuntime) -> Result<(), Fail> {
+    let heap = LocalHeap::new(rt.alloc(), 64)?;
+    let mut payload = payload(&heap)?;
+    payload.hash(0, 20, 40, 44);
+    assert!(rt; payload.hashed(0).is_none() && payload.as_slice() == BYTES.as_slice());
+    Ok(())
+}
+
+/// The hash of the bytes, and their text.
+fn text_hash(alloc: Global) -> Result<TextHash, Fail> {
+    let payload = both(alloc)?;
+    let (hash, _) = payload.hashed(0).ok_or("a hash")?;
+    Ok(hash)
+}
+
+// `xy` and `text`, with the hash of `text`, after two bytes; after one; and `texts`, after none. Result: the digest
+// for the two ids and `text` in the first alone, and not for the ids turned round nor for another text.
+#[test]
+fn a_delta_has_the_hash_of_its_end(rt: HostRuntime) -> Result<(), Fail> {
+    let hash = text_hash(rt.alloc())?;
+    let (first, second) = (hash.first, hash.second);
+    for (bytes, head, is_kept) in [
+        (b"xytext".as_slice(), 2usize, true),
+        (b"xytext".as_slice(), 1, false),
+        (b"texts".as_slice(), 0, false),
+        (b"text".as_slice(), 5, false),
+    ] {
+        let bytes = Seq::copy_of(rt.alloc(), bytes)?;
+        let delta = Delta::with_hash(rt.alloc(), bytes, head, hash, b"text");
+        assert_eq!(rt; delta.is_hashed(), is_kept);
+        let found = delta.digest_of(&first, &second, b"text");
+        assert_eq!(rt; found, is_kept.then_some(Node(IN_ORDER)));
+        assert_eq!(rt; delta.digest_of(&second, &first, b"text"), None);
+        assert_eq!(rt; delta.digest_of(&first, &second, b"texts"), None);
+    }
+    let plain = Delta::of(Seq::copy_of(rt.alloc(), b"text")?);
+    assert!(rt; !plain.is_hashed() && plain.as_slice() == b"text".as_slice());
+    assert_eq!(rt; plain.digest_of(&first, &second, b"text"), None);
+    Ok(())
+}
