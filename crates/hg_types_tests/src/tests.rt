@@ -263,7 +263,7 @@ fn large_part<A: Allocator + Copy>(alloc: A) -> Result<Part<A>, NoMemory> {
     for _ in 0..1_000u32 {
         params.push(param(alloc, false, b"key", b"value")?)?;
     }
-    let payload = Seq::copy_of(alloc, &[7; 70_000])?;
+    let payload = Payload::of(Seq::copy_of(alloc, &[7; 70_000])?);
     Ok(Part {
         kind,
         id: 7,

@@ -1,4 +1,5 @@
-use Rattle.std.proofs.Common.{rules, ◌≡◌, ◌∙◌, length, inl, inr, Err, sym, subst, arith}
+use Rattle.std.proofs.Common.{◌≡◌, ◌∙◌, length, inl, inr, Err, sym, subst, arith}
+use Rattle.std.proofs.lemmas.Result.{err_from_is_err_and}
 use Rattle.hg_parts.specs.parts.Changegroup.{Grown, add_each, grown_of, AddGives}
 use Rattle.hg_parts.proofs.Growing.{grown_on}
 use Rattle.hg_parts.proofs.Adding.{add_step, add_fault, add_all}
@@ -35,7 +36,8 @@ returns-in_err-add_one-clause-gives g c =
     let start : Grown = grown_of c.args.store.now in
     let now : Grown = grown_of c.add_one.new.store in
     let fault = c.in_err-add_one.field-0.0 in
-    let told : c.from_residual.result ≡ Err fault = search rules in
+    let p = err_from_is_err_and c.from_residual.result c.from_residual.ensures.1 in
+    let told : c.from_residual.result ≡ Err fault = cc in
     subst (λ result. AddGives (add_each c.args.settings.now.limits c.args.t c.args.entries.now start) now
     result) (sym told)
     (elim c.in_err-add_one.ensures.gives [

@@ -11,8 +11,15 @@ returns g c =
     let turn = c.args.turn in
     let repo : Repository g.row.A.Denot = repository_of turn.settings c.args.store.now in
     let added = c.add_each.new.store in
+    let sound = c.in-Ok.ensures.sound in
     record {
-      sound = search rules;
+      sound = record {
+        fits = c.advance_group.ensures.fits;
+        count = c.in_ok-advance_group.ensures.count;
+        limits = sound.limits;
+        markers = sound.markers;
+        bookmarks = sound.bookmarks;
+      };
       grown = search rules;
       reply = c.in_ok-reply.ensures.reply;
       gives = rw (← c.phase_for-t.ensures)
