@@ -174,30 +174,30 @@ module _ {K X : Type 0} (f : K → List ℕ) (g : X → List ℕ) where
 
 -- ---- row by row
 
-module _ (rows : List Changeset) (hidden : List Bool) where
-  members_more : (n : ℕ) (name : List ℕ) → members rows hidden (n + 1) name
-      ≡ members rows hidden n name ++ cond (is_member rows hidden name n) (n ∷ []) []
+module _ (rows : List Changeset) (out : List Bool) where
+  members_more : (n : ℕ) (name : List ℕ) → members rows out (n + 1) name
+      ≡ members rows out n name ++ cond (is_member rows out name n) (n ∷ []) []
   members_more n name =
-      ap (filter (is_member rows hidden name)) (range_more n)
-      ∙ filter-append (is_member rows hidden name) (range_with_len 0 n) (n ∷ [])
+      ap (filter (is_member rows out name)) (range_more n)
+      ∙ filter-append (is_member rows out name) (range_with_len 0 n) (n ∷ [])
 
-  members_with : (n : ℕ) (name : List ℕ) → is_member rows hidden name n ≡ true
-      → members rows hidden (n + 1) name ≡ members rows hidden n name ++ n ∷ []
+  members_with : (n : ℕ) (name : List ℕ) → is_member rows out name n ≡ true
+      → members rows out (n + 1) name ≡ members rows out n name ++ n ∷ []
   members_with n name is =
-      members_more n name ∙ ap (λ (b : Bool). members rows hidden n name ++ cond b (n ∷ []) []) is
+      members_more n name ∙ ap (λ (b : Bool). members rows out n name ++ cond b (n ∷ []) []) is
 
-  members_without : (n : ℕ) (name : List ℕ) → is_member rows hidden name n ≡ false
-      → members rows hidden (n + 1) name ≡ members rows hidden n name
+  members_without : (n : ℕ) (name : List ℕ) → is_member rows out name n ≡ false
+      → members rows out (n + 1) name ≡ members rows out n name
   members_without n name is =
-      members_more n name ∙ ap (λ (b : Bool). members rows hidden n name ++ cond b (n ∷ []) []) is
-      ∙ append-nil (members rows hidden n name)
+      members_more n name ∙ ap (λ (b : Bool). members rows out n name ++ cond b (n ∷ []) []) is
+      ∙ append-nil (members rows out n name)
 
-  pub branches_none : AreBranches rows hidden 0 []
+  pub branches_none : AreBranches rows out 0 []
   unfolding IsStrictlySortedBy
   branches_none = record { ascending = tt; each = λ name. refl }
 
-  pub branches_skip : (n : ℕ) (branches : List (List ℕ × List ℕ)) → slice_index_or hidden n false ≡ true
-      → AreBranches rows hidden n branches → AreBranches rows hidden (n + 1) branches
+  pub branches_skip : (n : ℕ) (branches : List (List ℕ × List ℕ)) → slice_index_or out n false ≡ true
+      → AreBranches rows out n branches → AreBranches rows out (n + 1) branches
   branches_skip n branches is held = record {
     ascending = held.ascending;
     each = λ name. held.each name ∙ ap if_any (sym (members_without n name
@@ -212,9 +212,9 @@ module _ (rows : List Changeset) (hidden : List Bool) where
   any_or [] = refl
   any_or (x ∷ xs) = refl
 
-  pub branches_more : (n : ℕ) (old new : List (List ℕ × List ℕ)) → slice_index_or hidden n false ≡ false
-      → AreBranches rows hidden n old → IsKept (branch_at rows n) n old new
-      → AreBranches rows hidden (n + 1) new
+  pub branches_more : (n : ℕ) (old new : List (List ℕ × List ℕ)) → slice_index_or out n false ≡ false
+      → AreBranches rows out n old → IsKept (branch_at rows n) n old new
+      → AreBranches rows out (n + 1) new
   branches_more n old new is held kept = record {
     ascending = kept.ascending;
     each = λ name. kept.each name ∙ by name (is_name name (branch_at rows n)) refl;
@@ -222,16 +222,16 @@ module _ (rows : List Changeset) (hidden : List Bool) where
     where
       by : (name : List ℕ) (b : Bool) → is_name name (branch_at rows n) ≡ b
           → (if b then Some (unwrap_or (kept_at (branch_at rows n) old) [] ++ n ∷ []) else kept_at name old)
-          ≡ if_any (members rows hidden (n + 1) name)
+          ≡ if_any (members rows out (n + 1) name)
       by name true e =
-          let is_in : is_member rows hidden name n ≡ true =
+          let is_in : is_member rows out name n ≡ true =
           ap (λ (b : Bool). not b && is_name name (branch_at rows n)) is ∙ e in
           ap (λ (o : Option (List ℕ)). Some (unwrap_or o [] ++ n ∷ []))
           (ap (λ (other : List ℕ). kept_at other old) (sym (same_name name (branch_at rows n) e)) ∙ held.each name)
-          ∙ ap (λ (rs : List ℕ). Some (rs ++ n ∷ [])) (any_or (members rows hidden n name))
-          ∙ any_push (members rows hidden n name) n
+          ∙ ap (λ (rs : List ℕ). Some (rs ++ n ∷ [])) (any_or (members rows out n name))
+          ∙ any_push (members rows out n name) n
           ∙ ap if_any (sym (members_with n name is_in))
       by name false e =
-          let is_out : is_member rows hidden name n ≡ false =
+          let is_out : is_member rows out name n ≡ false =
           ap (λ (b : Bool). not b && is_name name (branch_at rows n)) is ∙ e in
           held.each name ∙ ap if_any (sym (members_without n name is_out))

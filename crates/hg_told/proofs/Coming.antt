@@ -1,7 +1,7 @@
 -- What came to changesets and markers.
-use Rattle.std.proofs.Common.{◌≡◌, ◌≢◌, ◌⊎◌, ℕ, zero, suc, ◌+◌, ◌-◌, ◌<◌, ◌≤◌, List, [], ◌∷◌, ◌++◌, length, get_or, set, take}
+use Rattle.std.proofs.Common.{◌≡◌, ◌≢◌, ◌⊎◌, ◌↔◌, ℕ, zero, suc, ◌+◌, ◌-◌, ◌<◌, ◌≤◌, List, [], ◌∷◌, ◌++◌, length, get_or, set, take}
 use Rattle.std.proofs.Common.{Option, Some, None, slice_get, refl, sym, ap, ◌∙◌, subst, inl, inr, arith}
-use Rattle.std.specs.Prelude.{◌^◌, All, AllPairs, Any, Contains, IfSome}
+use Rattle.std.specs.Prelude.{All, Contains}
 use Rattle.std.specs.Int.{bit_at}
 use Rattle.std.proofs.lemmas.Bool.{cases_eq, cases_lt, cases_order}
 use Rattle.std.proofs.lemmas.List.{get_or-append_right, get_or-set_other, get_or-set_same, get_or-take, get_or_append_left, get_or_read}
@@ -11,7 +11,6 @@ use Rattle.std.proofs.lemmas.Option.{get_or_from_slice_get, slice_get-get_or, sl
 use Rattle.hg_types.specs.declared.node.Node.{Node}
 use Rattle.hg_log.specs.Changeset.{Changeset}
 use Rattle.hg_log.specs.HeadCount.{id_at, id_of}
-use Rattle.hg_log.specs.Parents.{parents_of}
 use Rattle.hg_log.specs.Rows.{AreLawful, HasNode}
 use Rattle.hg_log.proofs.CallerLemmas.{parents_kept}
 use Rattle.hg_obs.specs.declared.marker.Marker.{Marker}
@@ -21,7 +20,7 @@ use Rattle.hg_told.specs.declared.since.Entry.{Entry}
 use Rattle.hg_told.specs.code.Branches.{branch_at, text_of}
 use Rattle.hg_told.specs.Branch.{branch_of}
 use Rattle.hg_told.specs.code.Hiding.{TellsKept}
-use Rattle.hg_told.specs.code.Viewed.{AreEntries, AreEntriesFrom, AreKeptFrom, AreListed, AreNames, AreNamesFrom}
+use Rattle.hg_told.specs.code.Viewed.{AreEntries, AreListed, AreNames}
 use Rattle.hg_told.specs.code.Viewed.{IsEntry, IsKeptOf, IsSinceOf}
 
 -- ---- changesets that are made obsolete
@@ -214,7 +213,7 @@ no_row rows b id lacks within same =
 
 -- ---- a view goes on
 
-slice_get_taken : {X : Type 0} (xs : List X) (n i : ℕ) → i < n → slice_get (take n xs) i ≡ slice_get xs i
+pub slice_get_taken : {X : Type 0} (xs : List X) (n i : ℕ) → i < n → slice_get (take n xs) i ≡ slice_get xs i
 slice_get_taken xs zero i low = absurd (omega (arith, low))
 slice_get_taken [] (suc n) i low = refl
 slice_get_taken (x ∷ xs) (suc n) zero low = refl
@@ -252,6 +251,18 @@ predecessor_stays : {A : Type 0} (markers : List (Marker A)) (n : ℕ) (node : N
 predecessor_stays markers n node within is =
     let low : is.0 < n = omega (arith, length-take-le n markers within, is.2) in
     (is.0, is.1, omega (arith, low, within), sym (get_or-take n markers is.0 is.1 low) ∙ is.3, is.4)
+
+-- the first rows are obsolete by the first markers as they are by all
+pub obsolete_taken : {A : Type 0} (rows : List Changeset) (markers : List (Marker A)) (first known r : ℕ)
+    → known ≤ length markers → r < first
+    → (IsObsolete rows markers r → IsObsolete rows (take known markers) r)
+    → IsObsolete (take first rows) (take known markers) r ↔ IsObsolete rows markers r
+obsolete_taken {A} rows markers first known r known_within low stays =
+    let same : id_at (take first rows) r ≡ id_at rows r = ap id_of (slice_get_taken rows first r low) in
+    let id = λ (id : List ℕ). let made : Node = record { 0 = id } in made in (
+      λ is. predecessor_stays markers known _ known_within (subst (λ i. IsPredecessor (take known markers) (id i)) same is),
+      λ is. subst (λ i. IsPredecessor (take known markers) (id i)) (sym same) (stays is),
+    )
 
 -- whether a changeset is kept is said once more markers came
 kept_on : {A : Type 0} (rows : List Changeset) (markers : List (Marker A)) (first known r : ℕ)

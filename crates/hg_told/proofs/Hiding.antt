@@ -71,6 +71,10 @@ kept_tells rows markers r node has none =
       kept = λ e is. none (subst (IsPredecessor markers) same is);
     }
 
+-- the lowest bit is read
+pub one_kept : (set : ℕ) → nat_eq (bit_and set 1) 1 ≡ true → bit_at set 0 ≡ 1
+one_kept set is = omega (arith, and_pow set 0, eqb-true (bit_and set 1) 1 is)
+
 pub neither : (kept behind : ℕ) (b : Bool) → b ≡ nat_eq (bit_and (bit_or kept behind) 1) 0
     → (b ≡ true) ↔ ((bit_at kept 0 ≡ 0) × (bit_at behind 0 ≡ 0))
 neither kept behind b same =

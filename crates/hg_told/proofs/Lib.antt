@@ -16,3 +16,5 @@ mod BranchLines
 mod Mapping
 mod Viewing
 mod Coming
+mod Covering
+mod Uncovering

@@ -1,16 +1,16 @@
--- The branches that are kept are those of the changesets that are not hidden, and their last rows the heads.
-use Rattle.std.proofs.Common.{◌≡◌, ℕ, ◌+◌, ◌<◌, Bool, true, false, List, [], ◌∷◌, length, map, get_or, filter}
+-- The heads of branches, found anew, and the lines that are printed of them.
+use Rattle.std.proofs.Common.{◌≡◌, ◌↔◌, ◌⊎◌, ℕ, zero, suc, ◌+◌, ◌<◌, ◌≤◌, Bool, true, false, List, [], ◌∷◌, length, map, get_or, filter}
 use Rattle.std.proofs.Common.{Some, refl, sym, ap, ◌∙◌, subst, inl, inr, arith}
-use Rattle.std.specs.Prelude.{All, Contains, cond, not, ◌&&◌, ◌==◌, slice_index_or}
+use Rattle.std.specs.Prelude.{All, Contains, cond, not, ◌&&◌, ◌==◌}
 use Rattle.std.specs.Cmp.Lexicographic.{slice_cmp}
-use Rattle.std.specs.List.{join_with_byte, list_any, range_with_len}
+use Rattle.std.specs.List.{flat_map, join_with_byte, list_any, range_with_len}
 use Rattle.std.specs.List.Sorted.{IsStrictlySortedBy}
 use Rattle.std.specs.Map.{keys_of}
 use Rattle.std.specs.Ordering.{nat_cmp}
 use Rattle.std.proofs.lemmas.Bool.{cases_eq}
 use Rattle.std.proofs.lemmas.Cmp.{eq_by_cmp_equiv, nat_list_cmp_total}
 use Rattle.std.proofs.lemmas.List.{get_or-map, get_or_default, length-map}
-use Rattle.std.proofs.lemmas.List.Elements.{All-contains, All-contains_itself, All-filter, All-map, Contains-append_cases}
+use Rattle.std.proofs.lemmas.List.Elements.{All-contains, All-contains_itself, All-filter, Contains-append_cases}
 use Rattle.std.proofs.lemmas.List.Elements.{Contains-append_left, Contains-append_right, Contains-push}
 use Rattle.std.proofs.lemmas.List.Elements.{Contains-push_cases, filter_passes}
 use Rattle.std.proofs.lemmas.List.FromFn.{get_or-range_with_len, length-range_with_len}
@@ -20,16 +20,17 @@ use Rattle.std.proofs.lemmas.Map.Keys.{IsDistinct-from_sorted, sorted_from_stric
 use Rattle.std.proofs.lemmas.Option.{get_or_from_slice_get, slice_get-get_or, slice_get-map, slice_get_within}
 use Rattle.std.specs.Option.{option_map}
 use Rattle.hg_log.specs.Changeset.{Changeset}
-use Rattle.hg_log.specs.Parents.{is_ancestor}
+use Rattle.hg_log.specs.Parents.{is_ancestor, parents_of}
 use Rattle.hg_log.specs.Rows.{AreLawful}
-use Rattle.hg_log.proofs.CallerLemmas.{ancestor_test}
+use Rattle.hg_log.proofs.CallerLemmas.{ancestor_leads, ancestor_test, not_later, ordered}
 use Rattle.hg_obs.specs.declared.marker.Marker.{Marker}
-use Rattle.hg_told.specs.Branch.{branch_of}
-use Rattle.hg_told.specs.BranchMap.{branch_line, AreBranchHeads, AreBranchNames, IsBranchMap, IsOfBranch}
+use Rattle.hg_told.specs.BranchMap.{branch_line, AreBranchHeads, IsBranchHead, IsBranchMap, IsOfBranch}
 use Rattle.hg_told.specs.Hidden.{AreHidden}
-use Rattle.hg_told.specs.code.Branches.{branch_at, heads_in, if_any, is_last_in, is_member, is_name, kept_line, members}
-use Rattle.hg_told.specs.code.Branches.{text_of, AreBranches}
+use Rattle.hg_told.specs.code.Branches.{branch_at, heads_in, if_any, is_last_in, is_member, is_name, members}
+use Rattle.hg_told.specs.code.Branches.{AreBranches}
+use Rattle.hg_told.specs.code.Covered.{AreCovered}
 use Rattle.hg_told.proofs.Branching.{name_same, same_name}
+use Rattle.hg_told.proofs.Covering.{branch_is, is_of}
 use Rattle.hg_told.proofs.BranchSets.{any_found, any_holds, both_true, eq_not, not_eq, true_both}
 
 -- ---- lists
@@ -97,124 +98,220 @@ not_true : (b : Bool) → not b ≡ true → b ≡ false
 not_true true e = cc
 not_true false e = refl
 
-module _ (rows : List Changeset) (hidden : List Bool) (n : ℕ) (es : List (List ℕ × List ℕ))
-    (kept : AreBranches rows hidden n es) where
+-- what is in one of the lists is in all of them together
+flat_has : {X : Type 0} (f : X → List ℕ) (xs : List X) (i : ℕ) (d : X) (r : ℕ) → i < length xs
+    → Contains (f (get_or xs i d)) r → Contains (flat_map f xs) r
+flat_has f [] i d r low has = absurd (omega (arith, low))
+flat_has f (x ∷ xs) zero d r low has = Contains-append_left (f x) (flat_map f xs) r has
+flat_has f (x ∷ xs) (suc i) d r low has =
+    Contains-append_right (f x) (flat_map f xs) r (flat_has f xs i d r (omega (arith, low)) has)
+
+has_flat : {X : Type 0} (f : X → List ℕ) (xs : List X) (r : ℕ) → Contains (flat_map f xs) r
+    → (i : ℕ) × (d : X) × (i < length xs) × Contains (f (get_or xs i d)) r
+has_flat f [] r has = absurd (omega (arith, has.1))
+has_flat f (x ∷ xs) r has = elim (Contains-append_cases (f x) (flat_map f xs) r has) [
+  | inl here ↦ (0, x, omega arith, here)
+  | inr later ↦
+      let more = has_flat f xs r later in (suc more.0, more.1, omega (arith, more.2), more.3)
+]
+
+module _ (rows : List Changeset) (out : List Bool) (n : ℕ) (es : List (List ℕ × List ℕ))
+    (kept : AreBranches rows out n es) where
   entry_is : (i : ℕ) (d : List ℕ × List ℕ) → i < length es
-      → Some (get_or es i d).1 ≡ if_any (members rows hidden n (get_or es i d).0)
+      → Some (get_or es i d).1 ≡ if_any (members rows out n (get_or es i d).0)
   entry_is i d low =
       let e = get_or es i d in
       sym (lookup_from_place (eq_by_cmp_equiv nat_list_cmp_total) es i e.0 e.1
       (IsDistinct-from_sorted (slice_cmp nat_cmp) (keys_of es) kept.ascending) (slice_get-get_or es i d low))
       ∙ kept.each e.0
 
-  pub rows_within : All (λ e. All (λ r. r < n) e.1) es
+  rows_within : All (λ e. All (λ r. r < n) e.1) es
   rows_within i d low k r' under =
       let e = get_or es i d in
-      let same = some_any e.1 (members rows hidden n e.0) (entry_is i d low) in
+      let same = some_any e.1 (members rows out n e.0) (entry_is i d low) in
       let has : Contains e.1 (get_or e.1 k r') =
       (k, under, default_same e.1 k (get_or e.1 k r') r' under) in
-      has_range n (get_or e.1 k r') (filter_has (is_member rows hidden e.0) (range_with_len 0 n) _
+      has_range n (get_or e.1 k r') (filter_has (is_member rows out e.0) (range_with_len 0 n) _
       (subst (λ (rs : List ℕ). Contains rs (get_or e.1 k r')) same has)).0
     where
       default_same : (xs : List ℕ) (k d e : ℕ) → k < length xs → get_or xs k d ≡ get_or xs k e
       default_same xs k d e low = get_or_default xs k d e low
 
+-- the same of branches as the code keeps them
+pub revs_within : {X : Type 0} (rows : List Changeset) (out : List Bool) (n : ℕ) (seen : X → List ℕ × List ℕ)
+    (bs : List X) → AreBranches rows out n (map seen bs) → All (λ b. All (λ r. r < n) (seen b).1) bs
+revs_within rows out n seen bs kept k d low =
+    subst (λ (e : List ℕ × List ℕ). All (λ r. r < n) e.1) (get_or-map seen bs k d (seen d) low)
+    (rows_within rows out n (map seen bs) kept k (seen d) (subst (λ m. k < m) (sym (length-map bs seen)) low))
+
+-- the rows of a branch that are not left out
+module _ (rows : List Changeset) (out : List Bool) (n : ℕ) (name : List ℕ) where
+  has_member : (r : ℕ) → r < n → get_or out r false ≡ false → branch_at rows r ≡ name
+      → Contains (members rows out n name) r
+  has_member r low is named =
+      has_filter (is_member rows out name) (range_with_len 0 n) r (range_has n r low)
+      (true_both (not (get_or out r false)) (is_name name (branch_at rows r)) (ap not is)
+      (ap (is_name name) named ∙ name_same name))
+
+  in_members : (r : ℕ) → Contains (members rows out n name) r
+      → (r < n) × (get_or out r false ≡ false) × (branch_at rows r ≡ name)
+  in_members r has =
+      let f = filter_has (is_member rows out name) (range_with_len 0 n) r has in
+      let parts = both_true (not (get_or out r false)) (is_name name (branch_at rows r)) f.1 in (
+        has_range n r f.0,
+        not_true (get_or out r false) parts.0,
+        sym (same_name name (branch_at rows r) parts.1),
+      )
+
+  members_sorted : IsStrictlySortedBy nat_cmp (members rows out n name)
+  members_sorted = IsStrictlySortedBy-filter nat_cmp (is_member rows out name) (range_with_len 0 n) (range_sorted n)
+
+never_true : (b : Bool) → (b ≡ true → ⊥) → b ≡ false
+never_true true never = absurd (never refl)
+never_true false never = refl
+
+-- ---- heads found anew
+
 module _ {A : Type 0} (rows : List Changeset) (markers : List (Marker A)) (hidden : List Bool)
-    (told : AreHidden rows markers hidden) where
-  member_of : (name : List ℕ) (r : ℕ) → r < length rows → is_member rows hidden name r ≡ true
+    (told : AreHidden rows markers hidden) (lawful : AreLawful rows) where
+  shown_member : (name : List ℕ) (r : ℕ) → Contains (members rows hidden (length rows) name) r
       → IsOfBranch rows markers name r
-  member_of name r within is =
-      let none : Changeset = record { node = []; p1 = []; p2 = []; text = [] } in
-      let at = slice_get-get_or rows r none within in
-      let parts = both_true (not (slice_index_or hidden r false)) (is_name name (branch_at rows r)) is in
+  shown_member name r has =
+      let is = in_members rows hidden (length rows) name r has in
+      is_of rows markers name r is.0 is.2 (λ hid. let f = sym is.1 ∙ (told.each r is.0).1 hid in cc)
+
+  member_shown : (name : List ℕ) (r : ℕ) → IsOfBranch rows markers name r
+      → Contains (members rows hidden (length rows) name) r
+  member_shown name r of =
+      let at = branch_is rows markers name r of in
+      has_member rows hidden (length rows) name r at.0
+      (never_true (get_or hidden r false) (λ e. of.shown ((told.each r at.0).0 e))) at.1
+
+  head_in : (name : List ℕ) (r : ℕ) → Contains (heads_in rows (members rows hidden (length rows) name)) r
+      → IsBranchHead rows markers name r
+  head_in name r has =
+      let revs = members rows hidden (length rows) name in
+      let f = filter_has (is_last_in rows revs) revs r has in
       record {
-        text = (get_or rows r none).text;
-        has_text = record { row = get_or rows r none; row_at = at; text_is = refl };
-        named = ap (λ o. branch_of (text_of o)) (sym at) ∙ sym (same_name name (branch_at rows r) parts.1);
-        shown = λ hid. let shows = (told.each r within).1 hid in
-            let f = sym parts.0 ∙ ap not shows in cc;
+        of_branch = shown_member name r f.0;
+        last = λ d of leads. elim (cases_eq d r) [
+          | inl e ↦ e
+          | inr ne ↦ absurd (
+              let test = λ (d : ℕ). is_ancestor rows r d && not (d == r) in
+              let yes = any_holds test revs d (member_shown name d of)
+              (true_both (is_ancestor rows r d) (not (d == r))
+              ((ancestor_test rows lawful r d).1 leads) (eq_not d r ne)) in
+              let f2 = sym f.1 ∙ ap not yes in cc)
+        ];
       }
 
-  of_member : (name : List ℕ) (r : ℕ) → IsOfBranch rows markers name r
-      → (r < length rows) × (is_member rows hidden name r ≡ true)
-  of_member name r of =
-      let within = slice_get_within rows r of.has_text.row of.has_text.row_at in
-      let named : branch_at rows r ≡ name = ap (λ o. branch_of (text_of o)) of.has_text.row_at
-      ∙ ap branch_of of.has_text.text_is ∙ of.named in (
-        within,
-        true_both (not (slice_index_or hidden r false)) (is_name name (branch_at rows r))
-            (by (slice_index_or hidden r false) (λ e. of.shown ((told.each r within).0 e)))
-            (ap (is_name name) named ∙ name_same name),
-      )
-    where
-      by : (b : Bool) → (b ≡ true → ⊥) → not b ≡ true
-      by true never = absurd (never refl)
-      by false never = refl
+  in_heads : (name : List ℕ) (r : ℕ) → IsBranchHead rows markers name r
+      → Contains (heads_in rows (members rows hidden (length rows) name)) r
+  in_heads name r head =
+      let revs = members rows hidden (length rows) name in
+      has_filter (is_last_in rows revs) revs r (member_shown name r head.of_branch)
+      (ap not (never_true (list_any (λ d. is_ancestor rows r d && not (d == r)) revs) (λ is.
+      let f = any_found (λ d. is_ancestor rows r d && not (d == r)) revs is in
+      let parts = both_true (is_ancestor rows r f.0) (not (f.0 == r)) f.2 in
+      not_eq f.0 r parts.1
+      (head.last f.0 (shown_member name f.0 f.1) ((ancestor_test rows lawful r f.0).0 parts.0)))))
 
-  in_members : (name : List ℕ) (r : ℕ) → Contains (members rows hidden (length rows) name) r
-      → IsOfBranch rows markers name r
-  in_members name r has =
-      let f = filter_has (is_member rows hidden name) (range_with_len 0 (length rows)) r has in
-      member_of name r (has_range (length rows) r f.0) f.1
+  module _ (es : List (List ℕ × List ℕ)) (kept : AreBranches rows hidden (length rows) es) where
+    head_listed : (r : ℕ) → Contains (flat_map (λ e. heads_in rows e.1) es) r
+        → (r < length rows) × IsBranchHead rows markers (branch_at rows r) r
+    head_listed r has =
+        let f = has_flat (λ (e : List ℕ × List ℕ). heads_in rows e.1) es r has in
+        let e = get_or es f.0 f.1 in
+        let head = head_in e.0 r (subst (λ rs. Contains (heads_in rows rs) r)
+        (some_any e.1 _ (entry_is rows hidden (length rows) es kept f.0 f.1 f.2)) f.3) in
+        let at = branch_is rows markers e.0 r head.of_branch in
+        (at.0, subst (λ name. IsBranchHead rows markers name r) (sym at.1) head)
 
-  members_in : (name : List ℕ) (r : ℕ) → IsOfBranch rows markers name r
-      → Contains (members rows hidden (length rows) name) r
-  members_in name r of =
-      let f = of_member name r of in
-      has_filter (is_member rows hidden name) (range_with_len 0 (length rows)) r (range_has (length rows) r f.0) f.1
+    listed_head : (r : ℕ) → IsBranchHead rows markers (branch_at rows r) r
+        → Contains (flat_map (λ e. heads_in rows e.1) es) r
+    listed_head r head =
+        let name = branch_at rows r in
+        let found = kept.each name ∙ any_some _ r (member_shown name r head.of_branch) in
+        let place = place_from_lookup (is_name name) es _ found in
+        let d : List ℕ × List ℕ = (place.1, members rows hidden (length rows) name) in
+        let low = slice_get_within es place.0 d place.2 in
+        let at : get_or es place.0 d ≡ d = get_or_from_slice_get es place.0 d d place.2 in
+        flat_has (λ (e : List ℕ × List ℕ). heads_in rows e.1) es place.0 d r low
+        (subst (λ (e : List ℕ × List ℕ). Contains (heads_in rows e.1) r) (sym at) (in_heads name r head))
+
+    pub listed_within : (heads : List ℕ) (n : ℕ) → heads ≡ flat_map (λ e. heads_in rows e.1) es → n ≡ length rows
+        → All (λ r. r < n) heads
+    listed_within heads n are long k d low =
+        let r = get_or heads k d in
+        let has : Contains heads r = (k, low, get_or_default heads k r d low) in
+        let within = (head_listed r (subst (λ (hs : List ℕ). Contains hs r) are has)).0 in
+        omega (arith, within, long)
+
+    pub covered_by : (heads : List ℕ) (all covered : List Bool)
+        → heads ≡ flat_map (λ e. heads_in rows e.1) es → length all ≡ length rows
+        → ((r : ℕ) → r < length rows → get_or all r false ≡ false → ⊥) → length covered ≡ length all
+        → ((r : ℕ) → (get_or covered r false ≡ false) ↔ ((get_or all r false ≡ false) ⊎ Contains heads r))
+        → AreCovered rows markers covered
+    covered_by heads all covered are long whole size each = record {
+      as_long = size ∙ long;
+      each = λ r low. (
+        λ is. elim ((each r).0 is) [
+          | inl e ↦ absurd (whole r low e)
+          | inr has ↦ (head_listed r (subst (λ (hs : List ℕ). Contains hs r) are has)).1
+        ],
+        λ head. (each r).1 (inr (subst (λ (hs : List ℕ). Contains hs r) (sym are) (listed_head r head))),
+      );
+    }
+
+-- ---- the lines
+
+module _ {A : Type 0} (rows : List Changeset) (markers : List (Marker A)) (covered : List Bool)
+    (told : AreCovered rows markers covered) where
+  member_head : (name : List ℕ) (r : ℕ) → Contains (members rows covered (length rows) name) r
+      → IsBranchHead rows markers name r
+  member_head name r has =
+      let is = in_members rows covered (length rows) name r has in
+      subst (λ other. IsBranchHead rows markers other r) is.2 ((told.each r is.0).0 is.1)
+
+  head_member : (name : List ℕ) (r : ℕ) → IsBranchHead rows markers name r
+      → Contains (members rows covered (length rows) name) r
+  head_member name r head =
+      let at = branch_is rows markers name r head.of_branch in
+      has_member rows covered (length rows) name r at.0
+      ((told.each r at.0).1 (subst (λ other. IsBranchHead rows markers other r) (sym at.1) head)) at.1
+
+  are_heads : (name : List ℕ) → AreBranchHeads rows markers name (members rows covered (length rows) name)
+  are_heads name = record {
+    each = λ r. (member_head name r, head_member name r);
+    ascending = members_sorted rows covered (length rows) name;
+  }
 
   module _ (lawful : AreLawful rows) where
-    are_heads : (name : List ℕ)
-        → AreBranchHeads rows markers name (heads_in rows (members rows hidden (length rows) name))
-    are_heads name =
-        let revs = members rows hidden (length rows) name in
-        record {
-          each = λ r. (
-            λ has.
-                let f = filter_has (is_last_in rows revs) revs r has in
-                record {
-                  of_branch = in_members name r f.0;
-                  last = λ d of leads. elim (cases_eq d r) [
-                    | inl e ↦ e
-                    | inr ne ↦ absurd (
-                        let test = λ (d : ℕ). is_ancestor rows r d && not (d == r) in
-                        let yes = any_holds test revs d (members_in name d of)
-                        (true_both (is_ancestor rows r d) (not (d == r))
-                        ((ancestor_test rows lawful r d).1 leads) (eq_not d r ne)) in
-                        let f2 = sym f.1 ∙ ap not yes in cc)
-                  ];
-                },
-            λ head. has_filter (is_last_in rows revs) revs r (members_in name r head.of_branch)
-                (by (list_any (λ d. is_ancestor rows r d && not (d == r)) revs) (λ is.
-                let f = any_found (λ d. is_ancestor rows r d && not (d == r)) revs is in
-                let parts = both_true (is_ancestor rows r f.0) (not (f.0 == r)) f.2 in
-                not_eq f.0 r parts.1
-                (head.last f.0 (in_members name f.0 f.1) ((ancestor_test rows lawful r f.0).0 parts.0)))),
-          );
-          ascending = IsStrictlySortedBy-filter nat_cmp (is_last_in rows revs) revs
-              (IsStrictlySortedBy-filter nat_cmp (is_member rows hidden name) (range_with_len 0 (length rows))
-              (range_sorted (length rows)));
-        }
+    -- a branch without heads has no changeset that is not hidden: its last one would be a head
+    none_shown : (name : List ℕ) → ((r : ℕ) → ¬ (IsBranchHead rows markers name r)) → (m r : ℕ)
+        → length rows ≤ r + m → ¬ (IsOfBranch rows markers name r)
+    none_shown name none zero r past of =
+        let at = branch_is rows markers name r of in omega (arith, past, at.0)
+    none_shown name none (suc m) r past of = none r (record {
+      of_branch = of;
+      last = λ d other leads. elim (cases_eq d r) [
+        | inl e ↦ e
+        | inr ne ↦
+            let later = not_later (parents_of rows) (ordered rows lawful) r d (ancestor_leads rows lawful r d leads) in
+            absurd (none_shown name none m d (omega (arith, past, later, ne)) other)
+      ];
+    })
+
+    some_member : (name : List ℕ) (r : ℕ) → IsOfBranch rows markers name r
+        → if_any (members rows covered (length rows) name) ≡ Some (members rows covered (length rows) name)
+    some_member name r of = by (members rows covered (length rows) name) refl
       where
-        by : (b : Bool) → (b ≡ true → ⊥) → not b ≡ true
-        by true never = absurd (never refl)
-        by false never = refl
+        by : (rs : List ℕ) → members rows covered (length rows) name ≡ rs → if_any rs ≡ Some rs
+        by [] e = absurd (none_shown name (λ h head. let has = subst (λ (rs : List ℕ). Contains rs h) e (head_member name h head) in
+            omega (arith, has.1)) (length rows) r (omega arith) of)
+        by (x ∷ xs) e = refl
 
-    module _ (es : List (List ℕ × List ℕ)) (kept : AreBranches rows hidden (length rows) es) where
-      with_heads : List ℕ × List ℕ → List ℕ × List ℕ
-      with_heads e = (e.0, heads_in rows e.1)
-
-      same_keys : (xs : List (List ℕ × List ℕ)) → map (λ b. b.0) (map with_heads xs) ≡ keys_of xs
-      unfolding with_heads
-      same_keys [] = refl
-      same_keys (x ∷ xs) = ap (λ ks. x.0 ∷ ks) (same_keys xs)
-
-      same_lines : (xs : List (List ℕ × List ℕ))
-          → map (kept_line rows) xs ≡ map (branch_line rows) (map with_heads xs)
-      unfolding with_heads
-      same_lines [] = refl
-      same_lines (x ∷ xs) = ap (λ ls. kept_line rows x ∷ ls) (same_lines xs)
-
+    module _ (es : List (List ℕ × List ℕ)) (kept : AreBranches rows covered (length rows) es) where
       key_member : (name : List ℕ) → Contains (keys_of es) name → (r : ℕ) × IsOfBranch rows markers name r
       key_member name has =
           let i = has.0 in
@@ -222,12 +319,14 @@ module _ {A : Type 0} (rows : List Changeset) (markers : List (Marker A)) (hidde
           let low : i < length es = omega (arith, has.1, length-map es (λ (e : List ℕ × List ℕ). e.0)) in
           let same : (get_or es i d).0 ≡ name =
           sym (get_or-map (λ (e : List ℕ × List ℕ). e.0) es i d name low) ∙ has.2 in
-          let first = some_first _ _ (entry_is rows hidden (length rows) es kept i d low) in
-          (first.0, subst (λ m. IsOfBranch rows markers m first.0) same (in_members _ first.0 first.1))
+          let first = some_first _ _ (entry_is rows covered (length rows) es kept i d low) in (
+            first.0,
+            subst (λ m. IsOfBranch rows markers m first.0) same (member_head _ first.0 first.1).of_branch,
+          )
 
       member_key : (name : List ℕ) → ((r : ℕ) × IsOfBranch rows markers name r) → Contains (keys_of es) name
       member_key name of =
-          let found = kept.each name ∙ any_some _ of.0 (members_in name of.0 of.1) in
+          let found = kept.each name ∙ some_member name of.0 of.1 in
           let place = place_from_lookup (is_name name) es _ found in
           let at = slice_get-map (λ (e : List ℕ × List ℕ). e.0) es place.0
           ∙ ap (option_map (λ (e : List ℕ × List ℕ). e.0)) place.2 in
@@ -238,18 +337,14 @@ module _ {A : Type 0} (rows : List Changeset) (markers : List (Marker A)) (hidde
           ) in
           subst (Contains (keys_of es)) (sym (same_name name place.1 place.3)) has
 
-      pub map_told : (text : List ℕ) → text ≡ join_with_byte 10 (map (kept_line rows) es)
+      pub map_told : (text : List ℕ) → text ≡ join_with_byte 10 (map (branch_line rows) es)
           → IsBranchMap rows markers text
-      unfolding with_heads
       map_told text says = record {
-        branches = map with_heads es;
-        names = subst (AreBranchNames rows markers) (sym (same_keys es)) (record {
-          each = λ name. (key_member name, member_key name);
-          ascending = kept.ascending;
-        });
-        heads = All-map (λ b. AreBranchHeads rows markers b.0 b.1) with_heads es (λ i d low.
+        branches = es;
+        names = record { each = λ name. (key_member name, member_key name); ascending = kept.ascending };
+        heads = λ i d low.
             let e = get_or es i d in
-            subst (λ rs. AreBranchHeads rows markers e.0 (heads_in rows rs))
-            (sym (some_any e.1 _ (entry_is rows hidden (length rows) es kept i d low))) (are_heads e.0));
-        says = says ∙ ap (join_with_byte 10) (same_lines es);
+            subst (λ rs. AreBranchHeads rows markers e.0 rs)
+            (sym (some_any e.1 _ (entry_is rows covered (length rows) es kept i d low))) (are_heads e.0);
+        says = says;
       }

@@ -1,9 +1,8 @@
 -- What is kept of changesets and markers.
-use Rattle.std.proofs.Common.{◌≡◌, ℕ, ◌+◌, ◌<◌, ◌≤◌, List, [], ◌∷◌, ◌++◌, length, get_or, refl, sym, ap, ◌∙◌, arith, subst}
+use Rattle.std.proofs.Common.{◌≡◌, ℕ, ◌+◌, List, [], ◌∷◌, ◌++◌, length, sym, ap, ◌∙◌, arith}
 use Rattle.std.proofs.lemmas.List.{length_push}
 use Rattle.hg_log.specs.Changeset.{Changeset, Log}
-use Rattle.hg_log.specs.Parents.{parents_of}
-use Rattle.hg_log.specs.Rows.{AreLawful, HasNode, HasText}
+use Rattle.hg_log.specs.Rows.{HasText}
 use Rattle.hg_obs.specs.declared.marker.Marker.{Marker}
 use Rattle.hg_told.specs.Branch.{branch_of}
 use Rattle.hg_told.specs.declared.since.Entry.{Entry}

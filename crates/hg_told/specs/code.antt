@@ -2,3 +2,4 @@ pub mod Behind
 pub mod Hiding
 pub mod Branches
 pub mod Viewed
+pub mod Covered

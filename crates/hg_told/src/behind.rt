@@ -3,7 +3,7 @@
 ghost use Rattle.std.specs.Prelude.{◌≡◌, ℕ, ◌<◌, length, slice_index, IfOk, IfSome};
 ghost use Rattle.hg_told.specs.code.Behind.{AreAdded, AreBehind};
 
-use crate::viewed::View;
+use crate::copied::Copied;
 use hg_types::NoMemory;
 use std::alloc::Allocator;
 
@@ -12,16 +12,16 @@ use std::alloc::Allocator;
 /// the changesets.
 pub fn sets_behind<A: Allocator + Copy>(
     alloc: A,
-    view: &View<A>,
+    copied: &Copied<A>,
     sets: &[u64],
 ) -> Result<Vec<u64, A>, NoMemory>
-    requires { length sets.now ≡ length view.now.rows }
-    ensures { IfOk result (λ behind. AreBehind view.now.rows sets.now behind.items) }
+    requires { length sets.now ≡ length copied.now.rows }
+    ensures { IfOk result (λ behind. AreBehind copied.now.rows sets.now behind.items) }
 {
-    let mut behind = no_sets(alloc, view.len())?;
-    for rev in (0..view.len()).rev() {
+    let mut behind = no_sets(alloc, copied.len())?;
+    for rev in (0..copied.len()).rev() {
         let own = sets[rev] | behind[rev];
-        let (p1, p2) = view.parent_revs(rev as u32);
+        let (p1, p2) = copied.parent_revs(rev as u32);
         add_sets(&mut behind, p1, own);
         add_sets(&mut behind, p2, own);
     }

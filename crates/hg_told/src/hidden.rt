@@ -6,6 +6,7 @@ ghost use Rattle.hg_told.specs.Hidden.{AreHidden};
 ghost use Rattle.hg_told.specs.code.Hiding.{TellsKept};
 
 use crate::behind::sets_behind;
+use crate::copied::Copied;
 use crate::viewed::View;
 use hg_log::Changelog;
 use hg_obs::Markers;
@@ -21,10 +22,20 @@ pub fn hidden_changesets<A: Allocator + Copy>(
 ) -> Result<Seq<bool, A>, NoMemory>
     ensures { IfOk result (λ hidden. AreHidden view.now.rows view.now.markers hidden) }
 {
-    let kept = view.kept();
-    let behind = sets_behind(alloc, view, kept)?;
+    hidden_in(alloc, view.copied())
+}
+
+/// The same, of what was copied.
+pub fn hidden_in<A: Allocator + Copy>(
+    alloc: A,
+    copied: &Copied<A>,
+) -> Result<Seq<bool, A>, NoMemory>
+    ensures { IfOk result (λ hidden. AreHidden copied.now.rows copied.now.markers hidden) }
+{
+    let kept = copied.kept();
+    let behind = sets_behind(alloc, copied, kept)?;
     let mut hidden = Vec::new(alloc);
-    for rev in 0..view.len() {
+    for rev in 0..copied.len() {
         hidden.push(is_hidden(kept[rev], behind[rev]))?;
     }
     Ok(Seq::from_vec(hidden))

@@ -1,8 +1,9 @@
 //! What came to changesets and markers since a view was made of them.
 
-ghost use Rattle.std.specs.Prelude.{◌≡◌, ◌<◌, ◌≤◌, ◌^◌, ◌-◌, ℕ, Some, length, min, IfOk, IfSome, OnOk};
+ghost use Rattle.std.specs.Prelude.{◌≡◌, ◌<◌, ◌≤◌, ◌^◌, ◌-◌, ℕ, Some, length, min, take, IfOk, IfSome, IsTrue, OnOk};
 ghost use Rattle.hg_log.specs.HeadCount.{id_at};
 ghost use Rattle.hg_log.specs.Rows.{AreLawful};
+ghost use Rattle.hg_told.specs.Hidden.{IsObsolete};
 ghost use Rattle.hg_told.specs.code.Viewed.{AreEntriesFrom, AreKeptFrom, AreListed, AreNamesFrom};
 
 use crate::branch::branch_of;
@@ -93,6 +94,18 @@ impl<A: Allocator + Copy> Since<A> {
             markers: count,
             made_of: Log::new().and(log, markers),
         })
+    }
+}
+
+impl<A: Allocator> Since<A> {
+    /// Whether no changeset that was there before became obsolete by a marker that came.
+    pub(crate) fn leaves_kept(&self) -> bool
+        ensures first { self.now.first ≤ length self.now.rows }
+        ensures known { self.now.known ≤ length self.now.markers }
+        ensures kept { IsTrue result → (r : ℕ) → r < self.now.first → IsObsolete self.now.rows self.now.markers r
+            → IsObsolete self.now.rows (take self.now.known self.now.markers) r }
+    {
+        self.obsolete.as_slice().is_empty()
     }
 }
 

@@ -1,51 +1,43 @@
 //! What is kept of a repository's changesets and markers, to answer from when it is out of reach.
 
-ghost use Rattle.std.specs.Prelude.{◌≡◌, ◌<◌, ◌^◌, ◌++◌, ℕ, [], All, Contains, length, slice_index, IfOk, IfSome};
-ghost use Rattle.std.specs.Prelude.{OnOk, ◌⊎◌};
-ghost use Rattle.hg_log.specs.Parents.{parents_of};
-ghost use Rattle.hg_log.specs.Rows.{AreLawful, HasNode};
+ghost use Rattle.std.specs.Prelude.{◌≡◌, ◌≤◌, [], length, IfOk};
 ghost use Rattle.hg_told.specs.Viewed.{IsBefore};
-ghost use Rattle.hg_told.specs.code.Branches.{branch_at};
-ghost use Rattle.hg_told.specs.code.Hiding.{TellsKept};
+ghost use Rattle.hg_told.specs.code.Covered.{AreCovered, AreCoveredTo};
 
-use crate::since::{Entry, Since};
+use crate::copied::Copied;
+use crate::covered::covered_changesets;
+use crate::plain::cover_came;
+use crate::since::Since;
 use hg_log::Changelog;
 use hg_obs::Markers;
-use hg_types::{NoMemory, Node, Seq};
-use http_server::Log;
+use hg_types::NoMemory;
 use std::alloc::{Allocator, Global};
 use std::marker::Model;
 
-/// What is kept of changesets and of markers: of each changeset its id, its parents, the name of its branch, and
-/// whether it is obsolete. Contracts see the changesets and the markers of which it was made.
+/// What is kept of changesets and of markers: of each changeset its id, its parents, the name of its branch, whether
+/// it is obsolete, and whether it is a head of its branch. Contracts see the changesets and the markers of which it
+/// was made.
 #[derive(Drop)]
 pub struct View<A: Allocator = Global> {
-    entries: Vec<Entry, A>,
-    branches: Vec<Seq<u8, A>, A>,
-    /// Numbers whose lowest bit says whether the changeset is not obsolete.
-    kept: Vec<u64, A>,
-    /// How many markers it was made of.
-    known: usize,
-    /// What it was made of, which takes no memory.
-    made_of: Log<Changelog<A>, Markers<A>>,
+    copied: Copied<A>,
+    /// For each changeset, whether it is no head of its branch.
+    covered: Vec<bool, A>,
 }
 
 impl<A: Allocator> Model for View<A> {
-    ghost use Rattle.std.specs.Prelude.{◌≡◌, length};
     ghost use Rattle.hg_told.specs.Viewed.{Viewed};
-    ghost use Rattle.hg_told.specs.code.Viewed.{markers_in, rows_in, IsKeptOf};
+    ghost use Rattle.hg_told.specs.code.Covered.{AreCovered};
 
     ghost Value = { Viewed A };
 
-    ghost view = { λ v. record { rows = rows_in v.made_of.items; markers = markers_in v.made_of.items } };
+    ghost view = { λ v. v.copied };
 
-    ghost invariant = { λ v. IsKeptOf (rows_in v.made_of.items) (markers_in v.made_of.items)
-        v.entries.items v.branches.items v.kept.items × (v.known ≡ length (markers_in v.made_of.items)) };
+    ghost invariant = { λ v. AreCovered v.copied.rows v.copied.markers v.covered.items };
 }
 
 impl<A: Allocator + Copy> View<A> {
     /// A view of these changesets and markers. It is one pass over the changesets, which reads the branch in the text
-    /// of each and looks it up among the markers.
+    /// of each and looks it up among the markers, beside what [`View::with`] costs for all of them.
     pub fn of(alloc: A, log: &Changelog<A>, markers: &Markers<A>) -> Result<View<A>, NoMemory>
         ensures { IfOk result (λ view. view ≡ record { rows = log.now.rows; markers = markers.now }) }
     {
@@ -61,11 +53,8 @@ impl<A: Allocator> View<A> {
         ensures { result ≡ record { rows = []; markers = [] } }
     {
         View {
-            entries: Vec::new(alloc),
-            branches: Vec::new(alloc),
-            kept: Vec::new(alloc),
-            known: 0,
-            made_of: Log::new(),
+            copied: Copied::new(alloc),
+            covered: Vec::new(alloc),
         }
     }
 
@@ -74,114 +63,65 @@ impl<A: Allocator> View<A> {
         ensures changesets { result.0 ≡ length self.now.rows }
         ensures markers { result.1 ≡ length self.now.markers }
     {
-        (self.entries.len(), self.known)
+        self.copied.counts()
     }
 
-    /// The view with what came to its changesets and markers. It costs by what came, and not by what it was made of.
-    /// Where memory is refused, it is gone.
+    /// The view with what came to its changesets and markers. Where memory is refused, it is gone.
+    ///
+    /// It costs by what came, and not by what it was made of, where no changeset that was there became obsolete, and
+    /// each that came is plain: neither it nor a parent of it is obsolete, and its parents are of its branch. A
+    /// changeset with a parent of another branch is plain too, where all heads of its own branch are parents of it;
+    /// to see that is a pass over the changesets, which is made for eight of those that came at most. Where one is
+    /// not plain, the heads of all branches are found anew, once: it is one pass over the changesets for each 64
+    /// branches, beside five.
     pub fn with(self, came: Since<A>) -> Result<View<A>, NoMemory>
+    where
+        A: Copy,
         requires { IsBefore self came }
         ensures { IfOk result (λ view. view ≡ record { rows = came.rows; markers = came.markers }) }
     {
-        let View {
-            mut entries,
-            mut branches,
-            mut kept,
-            known: _,
-            made_of: _,
-        } = self;
-        let Since {
-            first: _,
-            known: _,
-            entries: more,
-            branches: names,
-            kept: sets,
-            obsolete,
-            markers,
-            made_of,
-        } = came;
-        entries.extend_from_slice(more.as_slice())?;
-        add_names(&mut branches, names)?;
-        forget(&mut kept, obsolete.as_slice());
-        kept.extend_from_slice(sets.as_slice())?;
-        Ok(View {
-            entries,
-            branches,
-            kept,
-            known: markers,
-            made_of,
-        })
+        let View { copied, covered } = self;
+        copied.len();
+        let alloc = *covered.allocator();
+        let stays = came.leaves_kept();
+        let copied = copied.with(came)?;
+        copied.len();
+        let covered = if stays {
+            covered_with(alloc, covered, &copied)?
+        } else {
+            covered_changesets(alloc, &copied)?
+        };
+        Ok(View { copied, covered })
     }
 
-    /// The number of changesets.
-    pub(crate) fn len(&self) -> usize
-        ensures len { result ≡ length self.now.rows }
-        ensures lawful { AreLawful self.now.rows }
-        ensures few { length self.now.rows < 2 ^ 31 }
+    /// What the view was copied of.
+    pub(crate) fn copied(&self) -> &Copied<A>
+        ensures { result.now ≡ self.now }
     {
-        self.entries.len()
+        &self.copied
     }
 
-    /// The id of the changeset of that number.
-    pub(crate) fn node(&self, rev: u32) -> Node
-        requires { rev < length self.now.rows }
-        ensures { HasNode self.now.rows rev result.0 }
+    /// For each changeset, whether it is no head of its branch.
+    pub(crate) fn covered(&self) -> &[bool]
+        ensures { AreCovered self.now.rows self.now.markers result.now }
     {
-        self.entries[rev as usize].node
-    }
-
-    /// The numbers of the parents of the changeset of that number. A parent that is null has none.
-    pub(crate) fn parent_revs(&self, rev: u32) -> (Option<u32>, Option<u32>)
-        requires { rev < length self.now.rows }
-        ensures first { result.0 ≡ (parents_of self.now.rows rev).0 }
-        ensures second { result.1 ≡ (parents_of self.now.rows rev).1 }
-        ensures first_earlier { IfSome result.0 (λ p. p < rev) }
-        ensures second_earlier { IfSome result.1 (λ p. p < rev) }
-    {
-        let entry = self.entries[rev as usize];
-        (entry.p1, entry.p2)
-    }
-
-    /// The name of the branch of the changeset of that number.
-    pub(crate) fn branch(&self, rev: u32) -> &[u8]
-        requires { rev < length self.now.rows }
-        ensures { result.now ≡ branch_at self.now.rows rev }
-    {
-        self.branches[rev as usize].as_slice()
-    }
-
-    /// For each changeset a number, whose lowest bit says whether it is not obsolete.
-    pub(crate) fn kept(&self) -> &[u64]
-        ensures len { length result.now ≡ length self.now.rows }
-        ensures each { (r : ℕ) → r < length self.now.rows
-            → TellsKept self.now.rows self.now.markers r (slice_index result.now r) }
-    {
-        self.kept.as_slice()
+        self.covered.as_slice()
     }
 }
 
-/// Adds names to others.
-fn add_names<A: Allocator>(
-    names: &mut Vec<Seq<u8, A>, A>,
-    more: Vec<Seq<u8, A>, A>,
-) -> Result<(), NoMemory>
-    ensures { OnOk result (names.new.items ≡ names.old.items ++ more.items) }
+/// What is said of the first changesets, brought up to all.
+fn covered_with<A: Allocator + Copy>(
+    alloc: A,
+    covered: Vec<bool, A>,
+    copied: &Copied<A>,
+) -> Result<Vec<bool, A>, NoMemory>
+    requires within { length covered.items ≤ length copied.now.rows }
+    requires told { AreCoveredTo copied.now.rows copied.now.markers (length covered.items) covered.items }
+    ensures { IfOk result (λ all. AreCovered copied.now.rows copied.now.markers all.items) }
 {
-    for name in more {
-        names.push(name)?;
+    let mut covered = covered;
+    if cover_came(&mut covered, copied)? {
+        return Ok(covered);
     }
-    Ok(())
-}
-
-/// Says of these changesets that they are obsolete.
-fn forget<A: Allocator>(kept: &mut Vec<u64, A>, revs: &[u32])
-    requires { All (λ r. r < length kept.old.items) revs.now }
-    ensures as_long { length kept.new.items ≡ length kept.old.items }
-    ensures listed { (r : ℕ) → Contains revs.now r → slice_index kept.new.items r ≡ 0 }
-    ensures others { (r : ℕ) → (slice_index kept.new.items r ≡ slice_index kept.old.items r)
-        ⊎ Contains revs.now r }
-{
-    for rev in revs {
-        kept[*rev as usize] = 0;
-    }
+    covered_changesets(alloc, copied)
 }

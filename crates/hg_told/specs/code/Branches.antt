@@ -1,4 +1,4 @@
--- How the code keeps branches: names with the numbers of the changesets that are not hidden.
+-- How the code keeps branches: names with the numbers of changesets. Some changesets are left out.
 use Rattle.std.specs.Prelude.{◌≡◌, ◌↔◌, ℕ, ◌<◌, ◌==◌, Bool, false, not, ◌&&◌, List, [], ◌∷◌, ◌++◌, length}
 use Rattle.std.specs.Prelude.{filter, Option, Some, None, Contains, slice_get, slice_index_or, unwrap_or}
 use Rattle.std.specs.Prelude.{if◌then◌else◌}
@@ -10,7 +10,6 @@ use Rattle.std.specs.Ordering.{is_eq, nat_cmp}
 use Rattle.hg_log.specs.Changeset.{Changeset}
 use Rattle.hg_log.specs.Parents.{is_ancestor}
 use Rattle.hg_told.specs.Branch.{branch_of}
-use Rattle.hg_told.specs.BranchMap.{branch_line}
 use Rattle.hg_told.specs.code.Behind.{IsIn}
 
 abbrev pub text_of : Option Changeset → List ℕ
@@ -24,13 +23,13 @@ branch_at rows r = branch_of (text_of (slice_get rows r))
 abbrev pub is_name : List ℕ → List ℕ → Bool
 is_name name other = is_eq (slice_cmp nat_cmp name other)
 
--- the row is of that branch, and is not hidden
+-- the row is of that branch, and is not left out
 abbrev pub is_member : List Changeset → List Bool → List ℕ → ℕ → Bool
-is_member rows hidden name r = not (slice_index_or hidden r false) && is_name name (branch_at rows r)
+is_member rows out name r = not (slice_index_or out r false) && is_name name (branch_at rows r)
 
 -- those of the first n rows
 abbrev pub members : List Changeset → List Bool → ℕ → List ℕ → List ℕ
-members rows hidden n name = filter (is_member rows hidden name) (range_with_len 0 n)
+members rows out n name = filter (is_member rows out name) (range_with_len 0 n)
 
 abbrev pub if_any : List ℕ → Option (List ℕ)
 if_any [] = None
@@ -41,10 +40,10 @@ abbrev pub kept_at : List ℕ → List (List ℕ × List ℕ) → Option (List �
 kept_at name branches = lookup (is_name name) branches
 
 -- each branch of the first n rows, with its rows
-pub record AreBranches (rows : List Changeset) (hidden : List Bool) (n : ℕ)
+pub record AreBranches (rows : List Changeset) (out : List Bool) (n : ℕ)
     (branches : List (List ℕ × List ℕ)) : Type 0 where
   pub ascending : IsStrictlySortedBy (slice_cmp nat_cmp) (keys_of branches)
-  pub each : (name : List ℕ) → kept_at name branches ≡ if_any (members rows hidden n name)
+  pub each : (name : List ℕ) → kept_at name branches ≡ if_any (members rows out n name)
 
 -- one row more is kept with that name
 pub record IsKept (name : List ℕ) (r : ℕ) (old new : List (List ℕ × List ℕ)) : Type 0 where
@@ -58,10 +57,6 @@ is_last_in rows revs r = not (list_any (λ d. is_ancestor rows r d && not (d == 
 
 abbrev pub heads_in : List Changeset → List ℕ → List ℕ
 heads_in rows revs = filter (is_last_in rows revs) revs
-
--- the line of a branch with its rows
-abbrev pub kept_line : List Changeset → List ℕ × List ℕ → List ℕ
-kept_line rows branch = branch_line rows (branch.0, heads_in rows branch.1)
 
 -- the row is in the list of that number
 pub record IsListed (lists : List (List ℕ)) (r k : ℕ) : Type 0 where

@@ -7,7 +7,7 @@ use Rattle.hg_told.proofs.behind.sets_behind.Goals as goal
 
 pub loop-rev-preserved : goal.loop-rev-preserved
 loop-rev-preserved g c =
-    let rows = c.args.view.now.rows in
+    let rows = c.args.copied.now.rows in
     let sets = c.args.sets.now in
     let rev = c.loop-rev.rev in
     let old = c.loop-rev.behind.items in
@@ -26,7 +26,7 @@ loop-rev-preserved g c =
 
 pub returns : goal.returns
 returns g c =
-    let rows = c.args.view.now.rows in
+    let rows = c.args.copied.now.rows in
     let sets = c.args.sets.now in
     let old = c.loop-rev.behind.items in
     let none : c.loop-rev.rev ≡ 0 = omega (arith, c.loop-rev-test.false) in

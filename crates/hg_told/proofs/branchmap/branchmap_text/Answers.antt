@@ -1,34 +1,51 @@
-use Rattle.std.proofs.Common.{◌∙◌, ◌<◌, ap, length, List, map, subst, sym, ℕ}
+use Rattle.std.proofs.Common.{◌≡◌, ◌∙◌, ◌++◌, ◌<◌, ap, length, List, map, subst, sym, ℕ}
 use Rattle.std.specs.Prelude.{All}
-use Rattle.std.specs.List.{join_with_byte}
-use Rattle.std.proofs.lemmas.List.{get_or-map, length-map}
-use Rattle.hg_told.specs.code.Branches.{kept_line}
-use Rattle.hg_told.specs.declared.branchmap.Branch.{Branch}
-use Rattle.hg_told.specs.Hidden.{AreHidden}
+use Rattle.std.specs.List.{flat_map, join_with_byte}
+use Rattle.std.proofs.lemmas.List.Folds.{flat_map-map}
+use Rattle.hg_log.specs.Rows.{AreLawful}
+use Rattle.hg_told.specs.BranchMap.{branch_line}
+use Rattle.hg_told.specs.Text.{ended}
+use Rattle.hg_told.specs.Viewed.{Viewed}
+use Rattle.hg_told.specs.code.Branches.{AreBranches}
+use Rattle.hg_told.specs.declared.branches.Branch.{Branch}
 use Rattle.hg_told.proofs.Lines.{lines_joined}
-use Rattle.hg_told.proofs.Mapping.{map_told, map_twice, rows_within}
+use Rattle.hg_told.proofs.Mapping.{map_told, map_twice, revs_within}
 use Rattle.hg_told.proofs.branchmap.branchmap_text.Goals as goal
+
+pub branches_of-requires : goal.branches_of-requires
+branches_of-requires g c =
+    c.covered.ensures.as_long ∙ ap (λ (v : Viewed g.row.A.Denot). length v.rows) (sym c.copied.ensures)
 
 pub push_lines-requires : goal.push_lines-requires
 push_lines-requires g c =
-    let rows = c.args.view.now.rows in
     let seen = λ (b : Branch g.row.A.Denot). let pair : List ℕ × List ℕ = (b.name.items, b.revs.items) in pair in
     let bs = c.in_ok-branches.branches.items in
-    subst (λ bs. All (λ (b : Branch g.row.A.Denot). All (λ r. r < length rows) b.revs.items) bs)
-    (sym c.as_slice-2.ensures.value) (λ k d low.
-    subst (λ (e : List ℕ × List ℕ). All (λ r. r < length rows) e.1) (get_or-map seen bs k d (seen d) low)
-    (rows_within rows c.as_slice.result.now (length rows) (map seen bs) c.in_ok-branches.ensures.branches k (seen d)
-    (subst (λ n. k < n) (sym (length-map bs seen)) low)))
+    let rows = c.copied.result.now.rows in
+    subst (λ (v : Viewed g.row.A.Denot). All (λ (b : Branch g.row.A.Denot). All (λ r. r < length v.rows) b.revs.items)
+    c.as_slice.result.now) (c.copied.ensures ∙ sym c.copied-2.ensures)
+    (subst (λ xs. All (λ (b : Branch g.row.A.Denot). All (λ r. r < length rows) b.revs.items) xs)
+    (sym c.as_slice.ensures.value)
+    (revs_within rows c.covered.result.now (length rows) seen bs c.in_ok-branches.ensures.branches))
 
 pub returns : goal.returns
 returns g c =
-    let rows = c.args.view.now.rows in
+    let view = c.args.view.now in
     let seen = λ (b : Branch g.row.A.Denot). let pair : List ℕ × List ℕ = (b.name.items, b.revs.items) in pair in
     let bs = c.in_ok-branches.branches.items in
-    map_told rows c.args.view.now.markers c.as_slice.result.now
-    (subst (AreHidden rows c.args.view.now.markers) (sym c.as_slice.ensures) c.in_ok-hidden.ensures)
-    c.in_ok-branches.ensures.lawful (map seen bs) c.in_ok-branches.ensures.branches _
+    let line = λ (v : Viewed g.row.A.Denot) (b : Branch g.row.A.Denot). branch_line v.rows (seen b) in
+    let said : c.push_lines.new.lines.items
+    ≡ c.new-lines.result.items ++ flat_map (ended 10) (map (line view) bs) =
+    c.in_ok-push_lines.ensures
+    ∙ ap (λ (v : Viewed g.row.A.Denot). c.new-lines.result.items
+    ++ flat_map (λ (b : Branch g.row.A.Denot). ended 10 (line v b)) c.as_slice.result.now) c.copied-2.ensures
+    ∙ ap (λ (xs : List (Branch g.row.A.Denot)). c.new-lines.result.items
+    ++ flat_map (λ (b : Branch g.row.A.Denot). ended 10 (line view b)) xs) c.as_slice.ensures.value
+    ∙ ap (λ (t : List ℕ). c.new-lines.result.items ++ t) (sym (flat_map-map (ended 10) (line view) bs)) in
+    map_told view.rows view.markers c.covered.result.now c.covered.ensures
+    (subst (λ (v : Viewed g.row.A.Denot). AreLawful v.rows) c.copied.ensures c.in_ok-branches.ensures.lawful)
+    (map seen bs)
+    (subst (λ (v : Viewed g.row.A.Denot). AreBranches v.rows c.covered.result.now (length v.rows) (map seen bs))
+    c.copied.ensures c.in_ok-branches.ensures.branches) _
     (c.joined.ensures
-    ∙ lines_joined _ _ _ c.new-lines.ensures.items c.in_ok-push_lines.ensures
-    ∙ ap (join_with_byte 10) (ap (map (λ (b : Branch g.row.A.Denot). kept_line rows (seen b))) c.as_slice-2.ensures.value
-    ∙ map_twice (kept_line rows) seen bs))
+    ∙ lines_joined c.new-lines.result.items _ (map (line view) bs) c.new-lines.ensures.items said
+    ∙ ap (join_with_byte 10) (map_twice (branch_line view.rows) seen bs))

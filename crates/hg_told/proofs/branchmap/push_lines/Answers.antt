@@ -1,35 +1,22 @@
-use Rattle.std.proofs.Common.{◌<◌, length, refl, subst, sym}
-use Rattle.std.specs.Prelude.{All}
-use Rattle.std.proofs.Common.{eqb-true}
-use Rattle.std.proofs.lemmas.List.Elements.{All-drop, All-take}
-use Rattle.hg_told.specs.code.Branches.{kept_line}
-use Rattle.hg_told.specs.declared.branchmap.Branch.{Branch}
-use Rattle.hg_told.proofs.BranchLines.{lines_done, lines_left}
+use Rattle.hg_told.specs.BranchMap.{branch_line}
+use Rattle.hg_told.specs.Text.{ended}
+use Rattle.hg_told.specs.declared.branches.Branch.{Branch}
+use Rattle.hg_told.proofs.BranchLines.{lines_all, lines_more, lines_none}
 use Rattle.hg_told.proofs.branchmap.push_lines.Goals as goal
 
-pub loop-rest-init : goal.loop-rest-init
-loop-rest-init g c = (refl, c.requires)
+pub loop-branch-init : goal.loop-branch-init
+loop-branch-init g c =
+    lines_none (λ (b : Branch g.row.A.Denot). ended 10 (branch_line c.args.copied.now.rows (b.name.items, b.revs.items)))
+    c.args.branches.now c.args.lines.now.items
 
-pub push_some_lines-requires-clause-within : goal.push_some_lines-requires-clause-within
-push_some_lines-requires-clause-within g c =
-    subst (λ bs. All (λ (b : Branch g.row.A.Denot). All (λ r. r < length c.args.view.now.rows) b.revs.items) bs)
-    (sym c.split_at.ensures.front)
-    (All-take (λ (b : Branch g.row.A.Denot). All (λ r. r < length c.args.view.now.rows) b.revs.items) _
-    c.loop-rest.rest.now c.loop-rest.invariant.1)
-
-pub loop-rest-preserved : goal.loop-rest-preserved
-loop-rest-preserved g c = (
-  lines_left (λ (b : Branch g.row.A.Denot). kept_line c.args.view.now.rows (b.name.items, b.revs.items))
-      c.loop-rest.rest.now c.split_at.result.0.now c.split_at.result.1.now _ c.loop-rest.lines.items _ _
-      c.split_at.ensures.front c.split_at.ensures.back c.loop-rest.invariant.0 c.in_ok-push_some_lines.ensures,
-  subst (λ bs. All (λ (b : Branch g.row.A.Denot). All (λ r. r < length c.args.view.now.rows) b.revs.items) bs)
-      (sym c.split_at.ensures.back)
-      (All-drop (λ (b : Branch g.row.A.Denot). All (λ r. r < length c.args.view.now.rows) b.revs.items) _
-      c.loop-rest.rest.now c.loop-rest.invariant.1),
-)
+pub loop-branch-preserved : goal.loop-branch-preserved
+loop-branch-preserved g c =
+    lines_more (λ (b : Branch g.row.A.Denot). ended 10 (branch_line c.args.copied.now.rows (b.name.items, b.revs.items)))
+    c.args.branches.now c.loop-branch.branch-index c.branch-item.result c.args.lines.now.items c.loop-branch.lines.items _
+    c.loop-branch-test.true c.branch-item.is c.loop-branch.invariant c.in_ok-push_line.ensures
 
 pub returns : goal.returns
 returns g c =
-    lines_done (λ (b : Branch g.row.A.Denot). kept_line c.args.view.now.rows (b.name.items, b.revs.items))
-    c.loop-rest.rest.now _ _ (eqb-true (length c.loop-rest.rest.now) 0 (sym c.loop-rest-test.ensures))
-    c.loop-rest.invariant.0
+    lines_all (λ (b : Branch g.row.A.Denot). ended 10 (branch_line c.args.copied.now.rows (b.name.items, b.revs.items)))
+    c.args.branches.now c.loop-branch.branch-index c.args.lines.now.items c.loop-branch.lines.items
+    c.loop-branch-test.false c.loop-branch.invariant

@@ -1,39 +1,32 @@
-use Rattle.std.proofs.Common.{◌≡◌, ◌∙◌, ap, sym, subst, take, List, ℕ, ◌++◌}
-use Rattle.hg_log.specs.Changeset.{Changeset}
-use Rattle.hg_obs.specs.declared.marker.Marker.{Marker}
-use Rattle.hg_told.specs.Viewed.{Since, Viewed}
-use Rattle.hg_told.specs.code.Viewed.{markers_in, rows_in, IsKeptOf}
-use Rattle.hg_told.proofs.Coming.{view_on, AreForgotten}
+use Rattle.std.proofs.Common.{◌∙◌, ap, length, sym, subst}
+use Rattle.hg_log.specs.Rows.{AreLawful}
+use Rattle.hg_told.specs.Viewed.{Viewed}
+use Rattle.hg_told.specs.code.Covered.{AreCovered, AreCoveredTo}
+use Rattle.hg_told.proofs.Covering.{covered_on}
 use Rattle.hg_told.proofs.viewed.View.with.Goals as goal
+use Rattle.hg_told.proofs.viewed.View.with.Goals.{then-stays+in_ok-covered, else-stays+in_ok-covered-2}
+
+pub covered_with-requires-clause-told : goal.covered_with-requires-clause-told
+covered_with-requires-clause-told g c =
+    let came = c.args.came in
+    let old = c.self.inside.copied in
+    let covered = c.self.inside.covered.items in
+    let lawful : AreLawful came.rows =
+    subst (λ (v : Viewed g.row.A.Denot). AreLawful v.rows) c.in_ok-copied.ensures c.len-2.ensures.lawful in
+    subst (λ (v : Viewed g.row.A.Denot). AreCoveredTo v.rows v.markers (length covered) covered)
+    (sym c.in_ok-copied.ensures)
+    (covered_on came.rows old.rows came.markers old.markers came.first came.known covered lawful c.len.ensures.lawful
+    c.leaves_kept-stays.ensures.first c.leaves_kept-stays.ensures.known
+    (ap (λ (v : Viewed g.row.A.Denot). v.rows) c.self.view_is ∙ c.requires.rows)
+    (ap (λ (v : Viewed g.row.A.Denot). v.markers) c.self.view_is ∙ c.requires.markers)
+    (c.leaves_kept-stays.ensures.kept c.if-stays.true) c.self.invariant)
 
 pub invariant_of-result : goal.invariant_of-result
 invariant_of-result g c =
-    let old = c.self.inside in
-    let came = c.came.inside in
-    let rows = rows_in came.made_of.items in
-    let markers = markers_in came.made_of.items in
-    let rows_same : rows_in old.made_of.items ≡ take came.first rows =
-    ap (λ (v : Viewed g.row.A.Denot). v.rows) c.self.view_is ∙ c.requires.rows
-    ∙ ap (λ (s : Since g.row.A.Denot). take s.first s.rows) (sym c.came.view_is) in
-    let markers_same : markers_in old.made_of.items ≡ take came.known markers =
-    ap (λ (v : Viewed g.row.A.Denot). v.markers) c.self.view_is ∙ c.requires.markers
-    ∙ ap (λ (s : Since g.row.A.Denot). take s.known s.markers) (sym c.came.view_is) in
-    let was = subst (λ ms. IsKeptOf (take came.first rows) ms old.entries.items old.branches.items old.kept.items)
-    markers_same (subst (λ rs. IsKeptOf rs (markers_in old.made_of.items) old.entries.items old.branches.items
-    old.kept.items) rows_same c.self.invariant.0) in
-    let gone : AreForgotten came.obsolete.items old.kept.items c.forget.new.kept.items =
-    subst (λ (revs : List ℕ). AreForgotten revs old.kept.items c.forget.new.kept.items) c.as_slice-2.ensures.value
-    (record {
-      as_long = c.forget.ensures.as_long;
-      listed = c.forget.ensures.listed;
-      others = c.forget.ensures.others;
-    }) in (
-      view_on rows markers came.first came.known old.entries.items came.entries.items _ old.branches.items
-          came.branches.items _ old.kept.items c.forget.new.kept.items came.kept.items _ came.obsolete.items was
-          c.came.invariant.0 gone
-          (c.in_ok-extend_from_slice.ensures.items ∙ ap (λ es. old.entries.items ++ es) c.as_slice.ensures.value)
-          c.in_ok-add_names.ensures
-          (c.in_ok-extend_from_slice-2.ensures.items
-          ∙ ap (λ (ks : List ℕ). c.forget.new.kept.items ++ ks) c.as_slice-3.ensures.value),
-      c.came.invariant.1,
-    )
+    let copied = c.in_ok-copied.copied in
+    elim c.if-stays.branch [
+      | then-stays+in_ok-covered w ↦
+          subst (λ v. AreCovered copied.rows copied.markers v.items) (sym w.covered2-is) w.in_ok-covered.ensures
+      | else-stays+in_ok-covered-2 w ↦
+          subst (λ v. AreCovered copied.rows copied.markers v.items) (sym w.covered2-is) w.in_ok-covered-2.ensures
+    ]
