@@ -1,6 +1,6 @@
 -- What proofs of other crates may cite of the phases of rows.
 use Rattle.std.proofs.Common.{◌≡◌, ◌≢◌, ◌↔◌, ℕ, ◌+◌, ◌<◌, ◌≤◌, List, [], ◌++◌, length, take, Option, refl, sym, ap, ◌∙◌}
-use Rattle.std.proofs.Common.{arith}
+use Rattle.std.proofs.Common.{Contains, arith}
 use Rattle.std.proofs.lemmas.List.{length_push}
 use Rattle.std.proofs.lemmas.List.FromFn.{length-map-range_with_len}
 use Rattle.hg_types.specs.declared.phase.Phase.{Phase}
@@ -18,7 +18,7 @@ use Rattle.hg_phases.specs.Phases.{AreForSame}
 use Rattle.hg_phases.proofs.Ranges.{filter_same}
 use Rattle.hg_phases.proofs.Rising.{rises, registered_lawful, advanced_lawful}
 use Rattle.hg_phases.proofs.Joining as joining
-use Rattle.hg_phases.proofs.RootLaws.{root_tells}
+use Rattle.hg_phases.proofs.RootLaws.{kept_passes, root_tells}
 
 above_kept : (old new : List Changeset) (phases : List Phase) (r : ℕ) → AreLawfulRows new →
     length old ≤ length new → take (length old) new ≡ old → r < length old →
@@ -87,6 +87,13 @@ pub roots_tell : (rows : List Changeset) (kept : Phasing) (target : Phase) (r : 
 roots_tell rows kept target r lawful fits not within =
     root_tells (parents_of rows) (ordered rows lawful) kept.phases target
     (above_public target not) fits.lawful r within
+
+-- each root is a row that has a phase
+pub root_within : (parents : ℕ → Option ℕ × Option ℕ) (phases : List Phase) (target : Phase) (r : ℕ)
+    → Contains (roots parents phases target) r → r < length phases
+unfolding roots_from
+root_within parents phases target r is =
+    omega (arith, (kept_passes (is_root parents phases target) 0 (length phases) r is).0)
 
 -- no rows have phases
 pub for_none : (rows : List Changeset) → AreFor rows no_rows

@@ -9,6 +9,7 @@ mod Restood
 mod Steps
 mod RootLaws
 mod Told
+mod Passing
 mod Soundness
 mod Undoing
 mod EntryLemmas

@@ -33,7 +33,8 @@ in_rest : (x r : ℕ) (xs : List ℕ) → Contains (x ∷ xs) r → (x ≡ r) �
 in_rest x r xs (zero, low, is) = inl is
 in_rest x r xs (suc k, low, is) = inr (k, omega (arith, low), is)
 
-kept_passes : (p : ℕ → Bool) (a n r : ℕ) → Contains (filter p (range_with_len a n)) r → (r < a + n)
+-- and what it keeps is of the range, and passes
+pub kept_passes : (p : ℕ → Bool) (a n r : ℕ) → Contains (filter p (range_with_len a n)) r → (r < a + n)
     × (p r ≡ true)
 kept_passes p a zero r = λ c. absurd (omega (arith, c.1))
 kept_passes p a (suc n) r =

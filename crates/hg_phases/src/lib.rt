@@ -20,6 +20,7 @@ mod fault;
 mod laws;
 mod order;
 mod phases;
+mod roots;
 mod standing;
 mod tape;
 mod walk;

@@ -6,6 +6,7 @@ ghost use Rattle.hg_phases.specs.Order.{phase_at};
 ghost use Rattle.hg_phases.specs.Phases.{registered, advanced, no_rows, AreFor, AreForSame};
 
 use crate::order::greater;
+use crate::roots::draft_roots;
 use crate::standing::{Standing, are_same, phase_at, phase_of};
 use crate::tape::Tape;
 use crate::walk::advance_rows;
@@ -142,6 +143,14 @@ impl<A: Allocator> Phases<A> {
         ensures { result ≡ phase_at self.now.current.phases rev }
     {
         phase_at(self.index.rows.as_slice(), rev as usize)
+    }
+
+    /// The rows that are roots of draft, in ascending order. It takes memory for these alone, and passes over
+    /// 64 rows without a root in the time of a few.
+    pub fn draft_roots(&self, alloc: A) -> Result<Vec<u32, A>, NoMemory>
+        ensures { IfOk result (λ roots. roots.items ≡ self.now.current.draft) }
+    {
+        Ok(draft_roots(alloc, self.index.rows.as_slice())?)
     }
 
     /// Whether both have the same phases, where both are for the same rows.

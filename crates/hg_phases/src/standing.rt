@@ -2,7 +2,7 @@
 
 ghost use Rattle.std.specs.Prelude.{◌≡◌, ◌↔◌, ◌<◌, IfSome, IsTrue, length};
 ghost use Rattle.hg_phases.specs.Order.{phase_at, phase_of};
-ghost use Rattle.hg_phases.specs.Standing.{phase_told, phases_told, is_told, standing_of};
+ghost use Rattle.hg_phases.specs.Standing.{is_draft_root, phase_told, phases_told, standing_of};
 
 use hg_types::Phase;
 
@@ -51,15 +51,12 @@ impl Standing {
         }
     }
 
-    /// Whether the row is a root of a phase.
-    pub fn is_root(self, target: Phase) -> bool
-        ensures { result ≡ is_told target self }
+    /// Whether the row is a root of draft. These are two comparisons without a branch, so that the compiler
+    /// can make a pass over many rows that looks at several at once.
+    pub fn is_draft_root(self) -> bool
+        ensures { result ≡ is_draft_root self }
     {
-        match target {
-            Phase::Public => false,
-            Phase::Draft => matches!(self, Standing::DraftOnPublic | Standing::SecretOnPublic),
-            Phase::Secret => matches!(self, Standing::SecretOnPublic | Standing::SecretOnDraft),
-        }
+        (self == Standing::DraftOnPublic) | (self == Standing::SecretOnPublic)
     }
 
     /// Whether both are the same.

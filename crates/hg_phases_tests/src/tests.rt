@@ -408,6 +408,20 @@ fn many_are_copied<'h>(
     }
 }
 
+/// Whether so many roots are listed, which takes at most so many bytes.
+fn are_rooted<'h>(
+    heap: &'h LocalHeap,
+    phases: &Phases<&'h LocalHeap>,
+    wanted: usize,
+    most: usize,
+) -> bool {
+    let before = heap.used();
+    match phases.draft_roots(heap) {
+        Ok(roots) => roots.len() == wanted && heap.used().saturating_sub(before) <= most,
+        Err(_) => false,
+    }
+}
+
 /// The same phases in a heap: nothing is refused, the memory is in proportion to the rows, an advance of the
 /// last of them and one of the first keep little for the way back, and the calls that take none take none.
 fn many_are_told<'h>(heap: &'h LocalHeap, log: &Changelog<&'h LocalHeap>, heads: &[u32]) -> bool {
@@ -417,6 +431,7 @@ fn many_are_told<'h>(heap: &'h LocalHeap, log: &Changelog<&'h LocalHeap>, heads:
     let is_registered = register_many(&mut phases, log, MANY, D);
     let registered = heap.used().saturating_sub(before);
     let is_copied = many_are_copied(heap, &phases, D, registered);
+    let are_listed = are_rooted(heap, &phases, MANY / 2, 8 * MANY);
     let marked = mark(&mut phases, log);
     let is_marked = heap.used().saturating_sub(before) == registered;
     let is_lowered = advance(heap, &mut phases, log, P, &[LAST]);
@@ -424,7 +439,7 @@ fn many_are_told<'h>(heap: &'h LocalHeap, log: &Changelog<&'h LocalHeap>, heads:
     let is_first = advance(heap, &mut phases, log, P, &[0]);
     let first = heap.used().saturating_sub(before);
     let is_advanced = advance(heap, &mut phases, log, P, heads);
-    let are_public = are_all(&phases, P);
+    let are_public = are_all(&phases, P) & are_rooted(heap, &phases, 0, 0);
     let advanced = heap.used().saturating_sub(before);
     let is_itself = is_same(log, &phases, &phases);
     phases.back_to(marked);
@@ -436,7 +451,7 @@ fn many_are_told<'h>(heap: &'h LocalHeap, log: &Changelog<&'h LocalHeap>, heads:
     let takes_none = is_new & is_marked & is_back;
     let is_lowered = is_lowered & is_first;
     let is_done = is_registered & is_lowered & is_advanced & are_public & is_itself & are_draft;
-    is_done & is_copied & is_small & is_little & takes_none
+    is_done & is_copied & are_listed & is_small & is_little & takes_none
 }
 
 /// Over an ample heap, with thousands of rows, roots and heads.
@@ -462,8 +477,9 @@ fn many_are_read(alloc: Global) -> bool {
 // 10,000 rows, each second one the child of the row before it, over an ample heap: registered at D;
 // a mark; advances of the last row to P, of the first, and of 5,000 heads; back; 10,000 entries.
 // Result: nothing is refused; at most 16 and 48 bytes a row, and 256 bytes more for the last row
-// and the first together; `new`, `mark`, `phase`, `len`, `is_same` and `back_to` leave the heap's
-// bytes in use as they were.
+// and the first together; 5,000 roots of draft in at most 16 bytes each, and none in no bytes once
+// all are public; `new`, `mark`, `phase`, `len`, `is_same` and `back_to` leave the heap's bytes in
+// use as they were.
 #[test]
 fn many_rows(rt: HostRuntime) -> Result<(), Fail> {
     let state = RandomState::new(&rt)?;
@@ -471,6 +487,75 @@ fn many_rows(rt: HostRuntime) -> Result<(), Fail> {
     let heap = LocalHeap::new(rt.alloc(), 16 * 1024 * 1024)?;
     assert!(rt; many_over(&heap, &heads, state));
     assert!(rt; many_are_read(rt.alloc()));
+    Ok(())
+}
+
+/// How many rows the log of several roots has: two pieces of 64, and three rows.
+const ROWS: u32 = 131;
+
+/// The rows without parents, at the ends of pieces and of all rows.
+const WITHOUT_PARENTS: [u32; 6] = [0, 63, 64, 100, 127, 130];
+
+/// Rows of which all but those are children of the row before them.
+fn put_lines<A: Allocator + Copy>(alloc: A, log: &mut Changelog<A>) -> Option<()> {
+    let mut last = NULL;
+    for number in 0..ROWS {
+        let parent = if WITHOUT_PARENTS.contains(&number) {
+            NULL
+        } else {
+            last
+        };
+        last = put(alloc, log, parent, NULL, number as u16)?;
+    }
+    Some(())
+}
+
+/// Whether the roots of draft are those of these rows that are registered.
+fn roots_are<A: Allocator>(alloc: A, phases: &Phases<A>, wanted: &[u32]) -> bool {
+    let len = phases.len();
+    match phases.draft_roots(alloc) {
+        Ok(roots) => {
+            let below = wanted.iter().filter(|row| (**row as usize) < len).count();
+            roots.as_slice() == &wanted[..below.min(wanted.len())]
+        }
+        Err(_) => false,
+    }
+}
+
+/// Registers the rows, row 127 as secret, and compares the roots after each.
+fn roots_of_each_length(alloc: Global, phases: &mut Phases, log: &Changelog) -> bool
+    requires { AreFor log.now.rows phases.old.current }
+    ensures fits { AreFor log.now.rows phases.new.current }
+{
+    let mut all = roots_are(alloc, phases, &[]);
+    for row in 0..ROWS {
+        let target = if row == 127 { S } else { D };
+        all = all & register_next(phases, log, target);
+        all = all & roots_are(alloc, phases, &WITHOUT_PARENTS);
+    }
+    all
+}
+
+/// The roots of these rows, also where rows at the ends of pieces are lowered, and where all are public.
+fn roots_are_told(alloc: Global, log: &mut Changelog) -> bool {
+    let is_put = put_lines(alloc, log).is_some();
+    let mut phases = no_phases(alloc, log);
+    let are_listed = roots_of_each_length(alloc, &mut phases, log);
+    let is_lowered = advance(alloc, &mut phases, log, P, &[0, 62, 64]);
+    let are_fewer = roots_are(alloc, &phases, &[63, 65, 100, 127, 130]);
+    let is_public = advance(alloc, &mut phases, log, P, &[63, 99, 126, 129, 130]);
+    let are_none = roots_are(alloc, &phases, &[]);
+    is_put & are_listed & is_lowered & are_fewer & is_public & are_none
+}
+
+// 131 rows: 0, 63, 64, 100, 127 and 130 have no parents, each other one is the child of the row
+// before it. Registered one by one, 127 at S and the others at D; advances to P of rows 0, 62 and
+// 64, and of the last row of each line. Result: after each row those of the six that are there;
+// 63, 65, 100, 127 and 130; none.
+#[test]
+fn roots_at_the_ends_of_pieces(rt: HostRuntime) -> Result<(), Fail> {
+    let mut log = new_log(rt)?;
+    assert!(rt; roots_are_told(rt.alloc(), &mut log));
     Ok(())
 }
 
@@ -514,6 +599,14 @@ fn copying<A: Allocator + Copy>(alloc: A, phases: &Phases<A>) -> Outcome {
     outcome_of(copied != Some(false), copied == Some(true))
 }
 
+/// Lists the roots of the six rows.
+fn listing<A: Allocator>(alloc: A, phases: &Phases<A>) -> Outcome {
+    match phases.draft_roots(alloc) {
+        Ok(roots) => outcome_of(roots.as_slice() == [0u32].as_slice(), true),
+        Err(_) => outcome_of(are(phases, &REGISTERED), false),
+    }
+}
+
 /// Reads the two entries.
 fn reading<A: Allocator + Copy>(alloc: A) -> Outcome {
     let read = count(alloc, &TWO);
@@ -538,29 +631,37 @@ fn advancing<A: Allocator + Copy>(alloc: A, phases: &mut Phases<A>, log: &Change
     outcome_of(is_right && is_back, is_done)
 }
 
-/// What becomes of registering, copying, reading and advancing. A block is taken first, so that the smallest
-/// heap has room for none of them.
-fn steps<'h>(heap: &'h LocalHeap, log: &Changelog<&'h LocalHeap>) -> [Outcome; 4] {
+/// What becomes of registering, copying, listing, reading and advancing. A block is taken first, so that the
+/// smallest heap has room for none of them.
+fn steps<'h>(heap: &'h LocalHeap, log: &Changelog<&'h LocalHeap>) -> [Outcome; 5] {
     match Vec::from_slice(heap, &[0u8; 16]) {
         Ok(taken) => {
             let outcomes = steps_behind(heap, log);
             drop(taken);
             outcomes
         }
-        Err(_) => [Outcome::NotTried; 4],
+        Err(_) => [Outcome::NotTried; 5],
     }
 }
 
-fn steps_behind<'h>(heap: &'h LocalHeap, log: &Changelog<&'h LocalHeap>) -> [Outcome; 4] {
+fn steps_behind<'h>(heap: &'h LocalHeap, log: &Changelog<&'h LocalHeap>) -> [Outcome; 5] {
     let mut phases = no_phases(heap, log);
     let registered = registering(&mut phases, log);
     if registered == Outcome::Done {
         let copied = copying(heap, &phases);
+        let listed = listing(heap, &phases);
         let read = reading(heap);
-        [registered, copied, read, advancing(heap, &mut phases, log)]
+        [
+            registered,
+            copied,
+            listed,
+            read,
+            advancing(heap, &mut phases, log),
+        ]
     } else {
         [
             registered,
+            Outcome::NotTried,
             Outcome::NotTried,
             Outcome::NotTried,
             Outcome::NotTried,
@@ -569,38 +670,38 @@ fn steps_behind<'h>(heap: &'h LocalHeap, log: &Changelog<&'h LocalHeap>) -> [Out
 }
 
 /// The same over a heap of that size, with the six rows in a heap of their own.
-fn steps_over(alloc: Global, size: usize, rows: &LocalHeap, state: RandomState) -> [Outcome; 4] {
+fn steps_over(alloc: Global, size: usize, rows: &LocalHeap, state: RandomState) -> [Outcome; 5] {
     match LocalHeap::new(alloc, size) {
         Ok(heap) => steps_of_new(&heap, rows, state),
-        Err(_) => [Outcome::Wrong; 4],
+        Err(_) => [Outcome::Wrong; 5],
     }
 }
 
-fn steps_of_new<'h>(heap: &'h LocalHeap, rows: &'h LocalHeap, state: RandomState) -> [Outcome; 4] {
+fn steps_of_new<'h>(heap: &'h LocalHeap, rows: &'h LocalHeap, state: RandomState) -> [Outcome; 5] {
     let mut log = Changelog::new(rows, state, Limits::standard());
     match put_merged(rows, &mut log) {
         Some(()) => steps(heap, &log),
-        None => [Outcome::Wrong; 4],
+        None => [Outcome::Wrong; 5],
     }
 }
 
 /// Over heaps of each multiple of 16 bytes, so that each growth is refused in turn.
-/// Six rows registered; where they all are, each for itself, a copy, entries, and a mark, an
-/// advance and back; over heaps of 0 to 1,520 bytes. Result: out of memory with all as before, or
-/// the answer; each of the four is refused somewhere and succeeds somewhere.
+/// Six rows registered; where they all are, each for itself, a copy, the roots of draft, entries,
+/// and a mark, an advance and back; over heaps of 0 to 1,520 bytes. Result: out of memory with all
+/// as before, or the answer; each of the five is refused somewhere and succeeds somewhere.
 #[test]
 fn each_growth_refused(rt: HostRuntime) -> Result<(), Fail> {
     let state = RandomState::new(&rt)?;
     let rows = LocalHeap::new(rt.alloc(), 65536)?;
-    let (mut refused, mut done, mut right) = ([false; 4], [false; 4], true);
+    let (mut refused, mut done, mut right) = ([false; 5], [false; 5], true);
     for sixteens in 0..96usize {
         let outcomes = steps_over(rt.alloc(), sixteens * 16, &rows, state);
-        for step in 0..4usize {
+        for step in 0..5usize {
             refused[step] = refused[step] || outcomes[step] == Outcome::Refused;
             done[step] = done[step] || outcomes[step] == Outcome::Done;
             right = right && outcomes[step] != Outcome::Wrong;
         }
     }
-    assert!(rt; right && refused == [true; 4] && done == [true; 4]);
+    assert!(rt; right && refused == [true; 5] && done == [true; 5]);
     Ok(())
 }

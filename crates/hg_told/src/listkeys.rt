@@ -1,11 +1,12 @@
 //! The answer to `listkeys`: the keys of a namespace with their values.
 
-ghost use Rattle.std.specs.Prelude.{◌≡◌, ◌<◌, ◌≤◌, ◌++◌, length, IfOk, IfSome, OnOk};
+ghost use Rattle.std.specs.Prelude.{◌≡◌, ◌<◌, ◌≤◌, ◌++◌, length, IfOk, OnOk};
 ghost use Rattle.std.specs.List.{flat_map, list_any};
-ghost use Rattle.hg_phases.specs.Order.{phase_of as parent_phase};
+ghost use Rattle.hg_phases.specs.Order.{phase_at};
+ghost use Rattle.hg_phases.specs.Phases.{AreFor};
 ghost use Rattle.hg_told.specs.Text.{ended, lines_if};
 ghost use Rattle.hg_told.specs.ListKeys.{bookmark_line, bookmark_lines, breaks_lines, draft_line, key_line};
-ghost use Rattle.hg_told.specs.ListKeys.{draft_lines, is_draft, is_draft_root as root_test};
+ghost use Rattle.hg_told.specs.ListKeys.{draft_lines, is_draft};
 ghost use Rattle.hg_told.specs.ListKeys.{is_told as told_test, listkeys_lines, listkeys_text as told_keys};
 ghost use Rattle.hg_told.specs.ListKeys.{namespace_lines, publishing_lines};
 
@@ -25,8 +26,8 @@ use std::alloc::Allocator;
 ///   break its line.
 /// - `namespaces`: the names of the namespaces, with empty values.
 ///
-/// Any other has no keys. `phases` is one pass over the phases, which looks at the parents and the ids of draft
-/// changesets alone. `bookmarks` is one pass over the bookmarks.
+/// Any other has no keys. `phases` looks up the roots of draft alone, and takes a number for each: the other
+/// changesets are passed over, many at once. `bookmarks` is one pass over the bookmarks.
 pub fn listkeys_text<A: Allocator + Copy>(
     alloc: A,
     log: &Changelog<A>,
@@ -35,31 +36,36 @@ pub fn listkeys_text<A: Allocator + Copy>(
     publishing: bool,
     namespace: &[u8],
 ) -> Result<Seq<u8, A>, NoMemory>
-    requires { length log.now.rows ≤ length phases.now.current.phases }
+    requires count { length log.now.rows ≤ length phases.now.current.phases }
+    requires fits { AreFor log.now.rows phases.now.current }
     ensures { IfOk result (λ text. text ≡ told_keys log.now.rows phases.now.current.phases
         bookmarks.now.current publishing namespace.now) }
 {
     let mut lines = Vec::new(alloc);
-    push_lines(&mut lines, log, phases, bookmarks, publishing, namespace)?;
+    push_lines(
+        &mut lines, alloc, log, phases, bookmarks, publishing, namespace,
+    )?;
     Ok(joined(lines))
 }
 
 #[tactic(auto, unfolding(crate::specs::ListKeys::listkeys_lines))]
 fn push_lines<A: Allocator>(
     lines: &mut Vec<u8, A>,
+    alloc: A,
     log: &Changelog<A>,
     phases: &Phases<A>,
     bookmarks: &Bookmarks<A>,
     publishing: bool,
     namespace: &[u8],
 ) -> Result<(), NoMemory>
-    requires { length log.now.rows ≤ length phases.now.current.phases }
+    requires count { length log.now.rows ≤ length phases.now.current.phases }
+    requires fits { AreFor log.now.rows phases.now.current }
     ensures { OnOk result (lines.new.items ≡ lines.old.items ++ flat_map (ended 10)
         (listkeys_lines log.now.rows phases.now.current.phases bookmarks.now.current publishing
         namespace.now)) }
 {
     if namespace == b"phases".as_slice() {
-        return push_phases(lines, log, phases, publishing);
+        return push_phases(lines, alloc, log, phases, publishing);
     }
     if namespace == b"bookmarks".as_slice() {
         return push_bookmarks(lines, bookmarks);
@@ -72,73 +78,65 @@ fn push_lines<A: Allocator>(
 
 fn push_phases<A: Allocator>(
     lines: &mut Vec<u8, A>,
+    alloc: A,
     log: &Changelog<A>,
     phases: &Phases<A>,
     publishing: bool,
 ) -> Result<(), NoMemory>
-    requires { length log.now.rows ≤ length phases.now.current.phases }
+    requires count { length log.now.rows ≤ length phases.now.current.phases }
+    requires fits { AreFor log.now.rows phases.now.current }
     ensures { OnOk result (lines.new.items ≡ lines.old.items ++ flat_map (ended 10)
         (draft_lines log.now.rows phases.now.current.phases ++ publishing_lines publishing)) }
 {
-    push_drafts(lines, log, phases)?;
+    push_drafts(lines, alloc, log, phases)?;
     push_publishing(lines, publishing)?;
     Ok(())
 }
 
+/// Adds the lines of the draft changesets of which no parent is draft. No changeset is in a lower phase than
+/// a parent, so these are the roots of draft that are not secret.
 fn push_drafts<A: Allocator>(
     lines: &mut Vec<u8, A>,
+    alloc: A,
     log: &Changelog<A>,
     phases: &Phases<A>,
 ) -> Result<(), NoMemory>
-    requires { length log.now.rows ≤ length phases.now.current.phases }
+    requires count { length log.now.rows ≤ length phases.now.current.phases }
+    requires fits { AreFor log.now.rows phases.now.current }
     ensures { OnOk result (lines.new.items ≡ lines.old.items
         ++ flat_map (ended 10) (draft_lines log.now.rows phases.now.current.phases)) }
 {
-    for rev in 0..log.len() {
-        push_draft(lines, log, phases, rev as u32)?;
+    let roots = phases.draft_roots(alloc)?;
+    for rev in roots.as_slice() {
+        push_draft(lines, log, phases, *rev)?;
     }
     Ok(())
 }
 
+/// Adds the line of a root of draft, where it is draft and not secret.
 fn push_draft<A: Allocator>(
     lines: &mut Vec<u8, A>,
     log: &Changelog<A>,
     phases: &Phases<A>,
     rev: u32,
 ) -> Result<(), NoMemory>
-    requires phases { length log.now.rows ≤ length phases.now.current.phases }
+    requires count { length log.now.rows ≤ length phases.now.current.phases }
     requires row { rev < length log.now.rows }
     ensures { OnOk result (lines.new.items ≡ lines.old.items ++ flat_map (ended 10)
-        (lines_if (root_test log.now.rows phases.now.current.phases) (draft_line log.now.rows) rev)) }
+        (lines_if (λ r. is_draft (phase_at phases.now.current.phases r)) (draft_line log.now.rows) rev)) }
 {
-    if is_draft_root(log, phases, rev) {
+    if is_draft_at(phases, rev) {
         let node = log.node(rev);
         push_line(lines, digits_of(&node).as_slice(), b"1".as_slice())?;
     }
     Ok(())
 }
 
-#[tactic(auto, unfolding(crate::specs::ListKeys::is_draft_root))]
-fn is_draft_root<A: Allocator>(log: &Changelog<A>, phases: &Phases<A>, rev: u32) -> bool
-    requires phases { length log.now.rows ≤ length phases.now.current.phases }
-    requires row { rev < length log.now.rows }
-    ensures { result ≡ root_test log.now.rows phases.now.current.phases rev }
+fn is_draft_at<A: Allocator>(phases: &Phases<A>, rev: u32) -> bool
+    requires { rev < length phases.now.current.phases }
+    ensures { result ≡ is_draft (phase_at phases.now.current.phases rev) }
 {
-    if !is_draft_at(phases, Some(rev)) {
-        return false;
-    }
-    let (p1, p2) = log.parent_revs(rev);
-    !is_draft_at(phases, p1) && !is_draft_at(phases, p2)
-}
-
-fn is_draft_at<A: Allocator>(phases: &Phases<A>, rev: Option<u32>) -> bool
-    requires { IfSome rev (λ r. r < length phases.now.current.phases) }
-    ensures { result ≡ is_draft (parent_phase phases.now.current.phases rev) }
-{
-    match rev {
-        Some(rev) => matches!(phases.phase(rev), Phase::Draft),
-        None => false,
-    }
+    matches!(phases.phase(rev), Phase::Draft)
 }
 
 fn push_publishing<A: Allocator>(lines: &mut Vec<u8, A>, publishing: bool) -> Result<(), NoMemory>
