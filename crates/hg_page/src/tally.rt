@@ -3,7 +3,7 @@
 ghost use Rattle.std.specs.Prelude.{◌≡◌, ◌≤◌, [], vec_capacity, IfOk};
 ghost use Rattle.hg_page.specs.Tally.{counted, kept, no_pushes};
 
-use crate::push::{Ending, Push, REASONS};
+use crate::push::{Push, REASONS, ShownOutcome};
 use hg_types::{NoMemory, Seq};
 use std::alloc::{Allocator, Global};
 
@@ -102,9 +102,9 @@ fn with_push(counters: Counters, push: &Push) -> Counters
     ensures { result ≡ counted counters push.now }
 {
     let mut counters = counters;
-    match push.ending {
-        Ending::Done(_) => counters.done = counters.done.saturating_add(1),
-        Ending::Aborted(reason) => {
+    match push.outcome {
+        ShownOutcome::Done(_) => counters.done = counters.done.saturating_add(1),
+        ShownOutcome::Aborted(reason) => {
             let place = reason.place();
             counters.aborted[place] = counters.aborted[place].saturating_add(1);
         }
