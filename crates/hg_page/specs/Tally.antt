@@ -46,5 +46,5 @@ counted counters push = record {
 }
 
 -- the last hundred with one more
-unfoldable pub kept : List Push → Push → List Push
-kept recent push = (if nat_lt (length recent) 100 then recent else drop 1 recent) ++ push ∷ []
+unfoldable pub recent_with : List Push → Push → List Push
+recent_with recent push = (if nat_lt (length recent) 100 then recent else drop 1 recent) ++ push ∷ []
