@@ -146,8 +146,8 @@ pub fn serve_connection<J: Naming<A>, A: Allocator + Copy, R: Wait, I: Reader, W
     'bundles: for number in 0..most {
         match next_bundle(number, &mut inbox, reader) {
             Next::Comes => {}
-            Next::Ends => return (client, served),
-            Next::Fails => return (client, served.failed(ConnFault::ReadFailed)),
+            Next::InputEnded => return (client, served),
+            Next::ReadFailed => return (client, served.failed(ConnFault::ReadFailed)),
         }
         let sender = match server.open(rt, client) {
             Ok(sender) => sender,

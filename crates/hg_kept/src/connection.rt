@@ -236,8 +236,8 @@ pub fn serve_connection_kept<
     'bundles: for number in 0..most {
         match next_bundle(number, &mut inbox, reader) {
             Next::Comes => {}
-            Next::Ends => return (client, served),
-            Next::Fails => return (client, served.failed(ConnFault::ReadFailed)),
+            Next::InputEnded => return (client, served),
+            Next::ReadFailed => return (client, served.failed(ConnFault::ReadFailed)),
         }
         let opened = match open_kept(server, ledger, rt, client) {
             Ok(opened) => opened,
