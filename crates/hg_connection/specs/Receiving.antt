@@ -22,8 +22,8 @@ pub record IsFresh {A : Type 0} (limits : Limits) (u : Unbundler A) : Type 0 whe
   pub ready : ready_of u ≡ []
 
 -- these parts were put, after those that were put before
-abbrev pub Puts : {A : Type 0} → SenderView A → SenderView A → List (Part A) → Type 0
-Puts old new parts = GoesOn old new (old.putter.put
+abbrev pub PutsParts : {A : Type 0} → SenderView A → SenderView A → List (Part A) → Type 0
+PutsParts old new parts = GoesOn old new (old.putter.put
     ++ part_items old.putter.push (length old.putter.put) parts)
 
 -- what was read to see whether a next bundle comes

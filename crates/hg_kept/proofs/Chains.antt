@@ -31,7 +31,7 @@ use Rattle.hg_connection.specs.declared.coming.Next.TheVariants.{ReadFailed as n
 use Rattle.hg_connection.specs.declared.served.ConnFault.TheVariants.{Open, ReadFailed as read_failed}
 use Rattle.hg_receiving.specs.Receiving.{IsPiece, Ran, state_at}
 use Rattle.hg_connection.specs.Receiving.{IsNext}
-use Rattle.hg_connection.specs.Connections.{AreAllWhole, TellsLast, TellsOf, bytes_of, reads_of, uses_of}
+use Rattle.hg_connection.specs.Connections.{AreAllWhole, IsLastAnswer, IsReported, bytes_of, reads_of, uses_of}
 use Rattle.hg_connection.specs.Connections.{replies_of, gone_of}
 use Rattle.hg_connection.proofs.Joins.{last_rest, chain_more, whole_more, last_more, bytes_more, reads_more}
 use Rattle.hg_connection.proofs.Joins.{uses_more, gone_more, replies_more, rest_waits, gone_whole as sent_gone}
@@ -61,7 +61,7 @@ pub record Goes {A D : Type 0} (seen : D → List ℕ) (may_leave : D → List �
   pub ends : AreAllWhole IsSentWhole whole
   pub count : number ≡ length whole
   pub counted : served.bundles ≡ number
-  pub tells : TellsLast served.last whole
+  pub tells : IsLastAnswer served.last whole
   pub read : Consumes input.left left.left (bytes_of whole ++ waiting)
   pub reads : TellsMore input.reads left.reads (reads_of whole)
   pub uses : TellsMore out.uses sent.uses (uses_of whole)
@@ -103,7 +103,7 @@ pub can_add : {A D : Type 0} {seen : D → List ℕ} {may_leave : D → List ℕ
     (how : Outcome (Done A) (Refusal A)) (takes : ℕ) (reply : KeptReply) (written : ℕ)
     → Goes seen may_leave moment head stored limits capacity first input mid out way before now waiting served number
     → ServesKept seen may_leave moment head stored limits capacity first waited waits begun left way sent had x
-    → TellsOf x ending how takes reply written after → number < 10000
+    → IsReported x ending how takes reply written after → number < 10000
     → served.written + written < 2 ^ 64
 can_add {seen = seen} {may_leave = may_leave} {moment = moment} {head = head} {stored = stored} limits capacity
     first input mid
@@ -134,7 +134,7 @@ starts {A = A} limits capacity first input out before waiting served none s = re
   ends = tt;
   count = refl;
   counted = s.0;
-  tells = subst (λ (o : Option (Answer A)). TellsLast {A = A} {S = KeptReply} {H = KeptSeen A} o []) (sym s.1) refl;
+  tells = subst (λ (o : Option (Answer A)). IsLastAnswer {A = A} {S = KeptReply} {H = KeptSeen A} o []) (sym s.1) refl;
   read = subst (λ (l : List ℕ). Consumes input.left input.left l) (sym none) (Consumes-nil input.left);
   reads = Adds-nil input.reads;
   uses = Adds-nil out.uses;
@@ -183,7 +183,7 @@ module _ {A D : Type 0} {seen : D → List ℕ} {may_leave : D → List ℕ → 
         joined = record {
           count = count' ∙ ap (λ (l : List (KeptExchange A)). length l) (sym e);
           few = subst (λ (l : List (KeptExchange A)). length l ≤ most) (sym e) few';
-          tells = subst (λ (y : Option (Answer A) × List (KeptExchange A)). TellsLast y.0 y.1)
+          tells = subst (λ (y : Option (Answer A) × List (KeptExchange A)). IsLastAnswer y.0 y.1)
               (λ i. (sym is.1 i, sym e i)) g.tells;
           final = final;
           reads = subst (λ (l : List (KeptExchange A)). TellsMore input.reads left.reads (reads_of l ++ final))
@@ -292,8 +292,8 @@ gone_whole seen may_leave moment head stored first after rests reply gone uses N
 -- what is told of a bundle is told of it with other reads as well
 pub tells_own : {A : Type 0} (x own : KeptExchange A) (ending : BundleEnd) (how : Outcome (Done A) (Refusal A))
     (takes : ℕ) (reply : KeptReply) (written : ℕ) (after : KeptSeen A)
-    → own ≡ record x { reads = own.reads } → TellsOf x ending how takes reply written after
-    → TellsOf own ending how takes reply written after
+    → own ≡ record x { reads = own.reads } → IsReported x ending how takes reply written after
+    → IsReported own ending how takes reply written after
 tells_own {A} x own ending how takes reply written after same t = record {
   ending_is = ap (λ (y : KeptExchange A). y.ending) same ∙ t.ending_is;
   how_is = ap (λ (y : KeptExchange A). y.how) same ∙ t.how_is;
@@ -314,7 +314,7 @@ module _ {A D : Type 0} {seen : D → List ℕ} {may_leave : D → List ℕ → 
     (same : had ≡ now)
     (x : KeptExchange A)
     (v : ServesKept seen may_leave moment head stored limits capacity first waiting waits mid left way sent had x)
-    (t : TellsOf x ending answer.outcome answer.takes reply written now')
+    (t : IsReported x ending answer.outcome answer.takes reply written now')
     (s : (told.bundles ≡ number + 1) × (told.last ≡ Some answer) × (told.written ≡ served.written + written)
     × (told.fault ≡ kept_fault_of ending reply.replied)) where
   chained : AreKeptExchanges seen may_leave moment head stored limits capacity first before [] (g.whole ++ x ∷ []) now'
@@ -375,8 +375,8 @@ module _ {A D : Type 0} {seen : D → List ℕ} {may_leave : D → List ℕ → 
   counted_one : told.bundles ≡ length (g.whole ++ x ∷ [])
   counted_one = let a = s.0 in let c = g.count in omega (arith, a, c, length-append g.whole (x ∷ []))
 
-  tells_it : TellsLast told.last (g.whole ++ x ∷ [])
-  tells_it = subst (λ (o : Option (Answer A)). TellsLast o (g.whole ++ x ∷ [])) (sym s.1)
+  tells_it : IsLastAnswer told.last (g.whole ++ x ∷ [])
+  tells_it = subst (λ (o : Option (Answer A)). IsLastAnswer o (g.whole ++ x ∷ [])) (sym s.1)
       (g.whole, x, refl, sym t.how_is, sym t.takes_are)
 
   its_fault : kept_fault_of x.ending x.sending.replied ≡ told.fault

@@ -16,7 +16,7 @@ use Rattle.hg_receiving.specs.declared.ending.BundleEnd.TheVariants.{InputEnded,
 use Rattle.hg_receiving.specs.Receiving.{IsReceived, last_read, Ran, StopsBundle}
 use Rattle.hg_store.specs.declared.head.Head.{Head}
 use Rattle.hg_ledger.specs.Clients.{IsCovered, IsLater, KeptSeen}
-use Rattle.hg_connection.specs.Connections.{TellsOf}
+use Rattle.hg_connection.specs.Connections.{IsReported}
 use Rattle.hg_kept.specs.Kept.{KeptExchange, KeptReply, Replies, ServesKept}
 use Rattle.hg_kept.specs.declared.served.Replied.{Replied}
 use Rattle.hg_kept.specs.declared.served.Replied.TheVariants.{Sent, NotStored}
@@ -146,7 +146,7 @@ module _ {A D : Type 0} (seen : D → List ℕ) (may_leave : D → List ℕ → 
     )
 
     pub pushed : {E : Type 0} (ending : BundleEnd) (how : How A) (takes rests written : ℕ) (replied : Replied) →
-        TellsOf x ending how takes (record { rests = rests; replied = replied }) written after →
+        IsReported x ending how takes (record { rests = rests; replied = replied }) written after →
         (told : Result (Option (Told A)) E) → TellsRound how reply replied told →
         Pushed capacity first kept before body told after
     pushed ending how takes rests written replied o told t =
