@@ -4,7 +4,8 @@
 ghost use Rattle.std.specs.Prelude.{◌≡◌, Some, map};
 ghost use Rattle.hg_listener.specs.Doors.{Accepted, AllOver, Started};
 ghost use Rattle.hg_listener.specs.declared.tests.telling.Use.TheVariants.{Accepted as an_accept};
-ghost use Rattle.hg_listener.specs.declared.tests.telling.Use.TheVariants.{Started as a_start, AllOver as an_end};
+ghost use Rattle.hg_listener.specs.declared.tests.telling.Use.TheVariants.{Started as a_start};
+ghost use Rattle.hg_listener.specs.declared.tests.telling.Use.TheVariants.{AllOver as an_end};
 
 use super::*;
 use std::process::Abort;
