@@ -41,7 +41,7 @@ use Rattle.hg_kept.specs.declared.served.Replied.TheVariants.{Sent, NotStored}
 use Rattle.hg_kept.specs.declared.served.KeptFault.{KeptFault}
 use Rattle.hg_kept.specs.declared.served.KeptFault.TheVariants.{Connection}
 use Rattle.hg_kept.specs.declared.served.KeptServed.{KeptServed}
-use Rattle.hg_kept.specs.Kept.{KeptExchange, KeptReply, IsKeptExchange, Replies, ServesKept, kept_fault_of}
+use Rattle.hg_kept.specs.Kept.{IsKeptExchange, IsReplied, KeptExchange, KeptReply, ServesKept, kept_fault_of}
 use Rattle.hg_kept.specs.Connections.{AreKeptExchanges, ConnectsKept, EndsKeptBy, IsSentWhole}
 
 -- what a client had that was taken apart is what it was
@@ -87,7 +87,7 @@ no_fault ending NotStored e = absurd cc
 rest_of : {A D : Type 0} (seen : D → List ℕ) (may_leave : D → List ℕ → Type 0) (moment : D → ℕ) (head : Head)
     (stored : List (List ℕ)) (first : RepositoryOf A) (after : KeptSeen A) (rests : ℕ)
     (reply gone : List ℕ) (uses : List WriteAnswer) (replied : Replied)
-    → Replies seen may_leave moment head stored first after rests reply gone uses replied
+    → IsReplied seen may_leave moment head stored first after rests reply gone uses replied
     → (rest : List ℕ) × (reply ≡ gone ++ rest)
 rest_of seen may_leave moment head stored first after rests reply gone uses (Sent sending) is =
     (is.1.rest, is.1.reply_is)
@@ -284,7 +284,7 @@ ended_whole ending replied fault is none = (no_fault ending replied (is ∙ none
 gone_whole : {A D : Type 0} (seen : D → List ℕ) (may_leave : D → List ℕ → Type 0) (moment : D → ℕ) (head : Head)
     (stored : List (List ℕ)) (first : RepositoryOf A) (after : KeptSeen A) (rests : ℕ)
     (reply gone : List ℕ) (uses : List WriteAnswer) (replied : Replied) → replied ≡ Sent sent_whole
-    → Replies seen may_leave moment head stored first after rests reply gone uses replied → gone ≡ reply
+    → IsReplied seen may_leave moment head stored first after rests reply gone uses replied → gone ≡ reply
 gone_whole seen may_leave moment head stored first after rests reply gone uses (Sent sending) is r =
     let whole : sending ≡ sent_whole = cc in sent_gone sending gone uses reply whole r.1
 gone_whole seen may_leave moment head stored first after rests reply gone uses NotStored is r = absurd cc

@@ -17,7 +17,7 @@ use Rattle.hg_receiving.specs.Receiving.{IsReceived, last_read, Ran, StopsBundle
 use Rattle.hg_store.specs.declared.head.Head.{Head}
 use Rattle.hg_ledger.specs.Clients.{IsCovered, IsLater, KeptSeen}
 use Rattle.hg_connection.specs.Connections.{IsReported}
-use Rattle.hg_kept.specs.Kept.{KeptExchange, KeptReply, Replies, ServesKept}
+use Rattle.hg_kept.specs.Kept.{IsReplied, KeptExchange, KeptReply, ServesKept}
 use Rattle.hg_kept.specs.declared.served.Replied.{Replied}
 use Rattle.hg_kept.specs.declared.served.Replied.TheVariants.{Sent, NotStored}
 use Rattle.hg_http.specs.Bodies.{BodyView, given, told_of}
@@ -128,7 +128,7 @@ module _ {A D : Type 0} (seen : D → List ℕ) (may_leave : D → List ℕ → 
         (subst (λ s. IsSent s x.gone x.uses (reply_of how)) h.1 sent)))
 
     tells : {E : Type 0} (how : How A) (replied : Replied) → x.how ≡ how → x.after ≡ after →
-        Replies seen may_leave moment head stored first x.after x.sending.rests (reply_of x.how) x.gone x.uses replied →
+        IsReplied seen may_leave moment head stored first x.after x.sending.rests (reply_of x.how) x.gone x.uses replied →
         (told : Result (Option (Told A)) E) → TellsRound how reply replied told →
         Pushed capacity first kept before body told after
     tells how NotStored is then replies (Ok told) t = absurd t
@@ -150,6 +150,6 @@ module _ {A D : Type 0} (seen : D → List ℕ) (may_leave : D → List ℕ → 
         (told : Result (Option (Told A)) E) → TellsRound how reply replied told →
         Pushed capacity first kept before body told after
     pushed ending how takes rests written replied o told t =
-        tells how replied o.how_is o.after_is (subst (λ r. Replies seen may_leave moment head stored first x.after
+        tells how replied o.how_is o.after_is (subst (λ r. IsReplied seen may_leave moment head stored first x.after
         x.sending.rests (reply_of x.how) x.gone x.uses r) (ap (λ (s : KeptReply). s.replied) o.sending_is) v.is.replies)
         told t
