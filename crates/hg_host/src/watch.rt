@@ -5,7 +5,7 @@ use hg_ended::{brought_by, shown_outcome};
 use hg_page::{Push, ShownOutcome, log_line};
 use hg_serve::{Gate, Point};
 use hg_slots::{Over, Slots};
-use hg_wire::{Pushed, Watch};
+use hg_wire::{Watch, WatchedPush};
 use std::alloc::Global;
 use std::str;
 use std::sync::Wait;
@@ -76,7 +76,7 @@ impl<R: Wait + Clock + Eprint> Gate for Watcher<'_, R> {
 }
 
 impl<R: Wait + Clock + Eprint> Watch<Global> for Watcher<'_, R> {
-    fn pushed(&mut self, pushed: &Pushed<'_>) {
+    fn pushed(&mut self, pushed: &WatchedPush<'_>) {
         let count = (pushed.rests as u64).saturating_add(self.stored as u64);
         let outcome = shown_outcome(pushed.outcome, count);
         let is_done = matches!(outcome, ShownOutcome::Done(_));

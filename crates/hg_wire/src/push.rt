@@ -12,7 +12,7 @@ use hg_http::{Answer, Body, Refusal};
 use hg_kept::{KeptRound, Replied, open_kept, serve_bundle_kept};
 use hg_ledger::{KeptClient, NotStored, Storing};
 use hg_push::Outcome;
-use hg_reading::{Pushed, Watch};
+use hg_reading::{Watch, WatchedPush};
 use hg_receiving::Inbox;
 use hg_repo::{Done, Refusal as RunRefusal};
 use hg_serve::Answer as Awaiting;
@@ -71,7 +71,7 @@ fn tell_watch<A: Allocator, V: Watch<A>>(watch: &mut V, round: &KeptRound<A>, bu
         Replied::Sent(_) => true,
         Replied::NotStored => false,
     };
-    watch.pushed(&Pushed {
+    watch.pushed(&WatchedPush {
         outcome: &round.answer.outcome,
         rests: round.rests,
         is_kept,

@@ -26,7 +26,7 @@ use hg_restore::replay_records;
 use hg_serve::{Gate, Point, Server};
 use hg_store::{Log, recover};
 use hg_types::{NoMemory, Seq};
-use hg_wire::{Budget, Finish, Pushed, Shelf, Shown, Terms, Watch, serve_http};
+use hg_wire::{Budget, Finish, Shelf, Shown, Terms, Watch, WatchedPush, serve_http};
 use std::alloc::{AllocFailed, Allocator, Global};
 use std::io::{BufReader, Read};
 use std::marker::Brand;
@@ -89,7 +89,7 @@ impl Gate for Tally {
 }
 
 impl<A: Allocator> Watch<A> for Tally {
-    fn pushed(&mut self, pushed: &Pushed<'_, A>) {
+    fn pushed(&mut self, pushed: &WatchedPush<'_, A>) {
         if pushed.is_kept {
             self.kept = self.kept.saturating_add(1);
         } else {
