@@ -21,8 +21,8 @@ use Rattle.hg_wire.specs.Serving.{calls_of, Converses, Ends, IsRefused, IsTold, 
 use Rattle.hg_follow.specs.declared.follow.Follower.{Follower}
 use Rattle.hg_follow.specs.Following.{FollowsAt, KeepsUp, limits_of}
 use Rattle.hg_wire.specs.code.Following.{IsHeld, Passes}
-use Rattle.hg_wire.specs.declared.serve.Finish.{Finish}
-use Rattle.hg_wire.specs.declared.serve.Finish.TheVariants.{NotStored}
+use Rattle.hg_wire.specs.declared.serve.ConnectionEnd.{ConnectionEnd}
+use Rattle.hg_wire.specs.declared.serve.ConnectionEnd.TheVariants.{NotStored}
 
 -- what holds of each holds with one more
 each_more : {X : Type 0} (P : X → Type 0) (xs : List X) (x : X) → AllByRecursion P xs → P x →
@@ -238,10 +238,10 @@ is_held config h f rests none more limits follows =
     )
 
 -- what is told where the store did not fail
-pub not_failed : (failed : Bool) (finish : Finish) → (failed ≡ true → finish ≡ NotStored) →
-    finish ≢ NotStored → failed ≡ false
-not_failed true finish told other = absurd (other (told refl))
-not_failed false finish told other = refl
+pub not_failed : (failed : Bool) (end : ConnectionEnd) → (failed ≡ true → end ≡ NotStored) →
+    end ≢ NotStored → failed ≡ false
+not_failed true end told other = absurd (other (told refl))
+not_failed false end told other = refl
 
 -- what waits to be sent where nothing wants to be written
 pub nothing_waits : (wants : Bool) (pending : List ℕ) → (0 < length pending → IsTrue wants) → wants ≡ false →

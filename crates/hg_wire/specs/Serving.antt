@@ -16,8 +16,8 @@ use Rattle.hg_push.specs.declared.outcome.Reason.TheVariants.{NoMemory}
 use Rattle.hg_push.specs.Reply.{reply_of}
 use Rattle.hg_push.specs.Run.{RepositoryOf}
 use Rattle.hg_ledger.specs.Clients.{IsLater, KeptSeen}
-use Rattle.hg_wire.specs.declared.serve.Finish.{Finish}
-use Rattle.hg_wire.specs.declared.serve.Finish.TheVariants.{Done, NotStored}
+use Rattle.hg_wire.specs.declared.serve.ConnectionEnd.{ConnectionEnd}
+use Rattle.hg_wire.specs.declared.serve.ConnectionEnd.TheVariants.{Done, NotStored}
 use Rattle.hg_wire.specs.declared.terms.Terms.{Terms}
 use Rattle.hg_wire.specs.Answering.{Responds, WireView}
 
@@ -100,13 +100,13 @@ pub record Converses {V : Type 0} (breaks : Type 0) (config : Config)
 -- ended since the store failed.
 pub record ServesHttp {A S : Type 0} (capacity : ℕ) (first : RepositoryOf A)
     (kept : KeptSeen A → ℕ → Type 0) (page metrics : S → Repository A → List ℕ → Type 0)
-    (terms : Terms S) (before : KeptSeen A) (input left out sent : Option (List ℕ)) (finish : Finish)
+    (terms : Terms S) (before : KeptSeen A) (input left out sent : Option (List ℕ)) (end : ConnectionEnd)
     (after : KeptSeen A) : Type 0 where
   pub config : Config
   pub room : config.max_body_len ≡ first.settings.limits.stream
   pub last : WireView A S
-  pub converses : Converses (finish ≢ Done) config
+  pub converses : Converses (end ≢ Done) config
       (λ old r response new. Responds capacity first kept page metrics old r response new)
       (record { told = before; terms = terms }) last input left out sent
   pub seen : IsLater last.told after
-  pub all : finish ≢ NotStored → after ≡ last.told
+  pub all : end ≢ NotStored → after ≡ last.told

@@ -27,6 +27,6 @@ mod wire;
 pub use answering::answer_request;
 pub use budget::Budget;
 pub use hg_reading::{Shelf, Shown, Watch, WatchedPush};
-pub use serve::{Finish, serve_http};
+pub use serve::{ConnectionEnd, serve_http};
 pub use terms::{Host, Terms};
 pub use wire::Wire;
