@@ -8,7 +8,7 @@ ghost use Rattle.http_server.specs.Exchange.{Calls};
 ghost use Rattle.http_server.specs.History.{after_read, IsQuiet, Rests, new_history};
 ghost use Rattle.hg_ledger.specs.Clients.{IsCovered};
 ghost use Rattle.hg_wire.specs.Answering.{Responds};
-ghost use Rattle.hg_wire.specs.Serving.{Converses, IsTold, no_room_text, ServesHttp};
+ghost use Rattle.hg_wire.specs.Serving.{Converses, IsNoRoomAnswer, no_room_text, ServesHttp};
 ghost use Rattle.hg_follow.specs.Following.{FollowsAt, FollowsOn, limits_of};
 ghost use Rattle.hg_wire.specs.code.Following.{IsHeld, Passes};
 
@@ -168,10 +168,10 @@ fn refuse<I: BufRead, W: Write>(
     reader: &mut I,
     writer: &mut W,
 ) -> io::Result<bool>
-    ensures { (dropped told : List ℕ) × Consumes (I.remaining reader.old) (I.remaining reader.new) dropped
-        × Appends (W.contents writer.old) (W.contents writer.new) told
-        × MatchResult result (λ is_last. Passes follower.old dropped × (told ≡ no_room_text is_last))
-        (λ _. (told ≡ []) ⊎ (Passes follower.old dropped × ((is_last : Bool) × IsPrefix told
+    ensures { (dropped answer : List ℕ) × Consumes (I.remaining reader.old) (I.remaining reader.new) dropped
+        × Appends (W.contents writer.old) (W.contents writer.new) answer
+        × MatchResult result (λ is_last. Passes follower.old dropped × (answer ≡ no_room_text is_last))
+        (λ _. (answer ≡ []) ⊎ (Passes follower.old dropped × ((is_last : Bool) × IsPrefix answer
         (no_room_text is_last)))) }
 {
     pass_over(follower, reader)?;
