@@ -187,7 +187,7 @@ AnswersRequest {A} capacity first around r before answer after =
 -- what contracts see of a connection's service: what its client had seen when the last request was answered, and
 -- the terms
 pub record WireView (A S : Type 0) : Type 0 where
-  pub told : KeptSeen A
+  pub seen : KeptSeen A
   pub terms : Terms S
 
 -- The response reports the answer. Its client has seen no less than before, and has all promises that it had.
@@ -195,7 +195,7 @@ pub record Responds {A S : Type 0} (capacity : ℕ) (first : RepositoryOf A)
     (kept : KeptSeen A → ℕ → Type 0) (page metrics : S → Repository A → List ℕ → Type 0)
     (old : WireView A S) (r : Request (List ℕ)) (response : Response) (new : WireView A S) : Type 0 where
   pub answer : Answer A
-  pub answers : AnswersRequest capacity first (around_of kept page metrics old.terms) r old.told answer new.told
-  pub later : IsLater old.told new.told
+  pub answers : AnswersRequest capacity first (around_of kept page metrics old.terms) r old.seen answer new.seen
+  pub later : IsLater old.seen new.seen
   pub tells : Tells answer response
   pub same : new.terms ≡ old.terms

@@ -108,6 +108,6 @@ pub record ServesHttp {A S : Type 0} (capacity : ℕ) (first : RepositoryOf A)
   pub last : WireView A S
   pub converses : Converses (end ≢ Done) config
       (λ old r response new. Responds capacity first kept page metrics old r response new)
-      (record { told = before; terms = terms }) last input left out sent
-  pub seen : IsLater last.told after
-  pub all : end ≢ NotStored → after ≡ last.told
+      (record { seen = before; terms = terms }) last input left out sent
+  pub seen : IsLater last.seen after
+  pub all : end ≢ NotStored → after ≡ last.seen
