@@ -18,7 +18,7 @@ use Rattle.hg_wire.specs.Answering.{AnswersAsked, AnswersBatch, AnswersCommand, 
 use Rattle.hg_wire.specs.Answering.{AnswersView, Around, IfFromClient, IsSaid, IsSaidAt}
 use Rattle.hg_wire.specs.Looking.{LooksKept}
 use Rattle.hg_wire.specs.Pushes.{How, IsPushAnswered, Pushes}
-use Rattle.hg_wire.specs.declared.push.Told.{Told as ToldPush}
+use Rattle.hg_wire.specs.declared.push.KeptPush.{KeptPush}
 
 -- a client has seen what it has seen
 pub is_as_late : {A : Type 0} (client : KeptSeen A) → IsLater client client
@@ -44,7 +44,7 @@ module _ {A : Type 0} (capacity : ℕ) (first : RepositoryOf A) (kept : KeptSeen
     said_at_later says IsText is =
         looked_later first kept before after (λ repo. IsText repo is.text) is.looks
 
-    pushes_later : (body : List ℕ) (ended : Option (ToldPush A)) →
+    pushes_later : (body : List ℕ) (ended : Option (KeptPush A)) →
         Pushes capacity first kept before body ended after → IsLater before after
     pushes_later body None is = same_later before after is
     pushes_later body (Some told) is =

@@ -21,9 +21,9 @@ use Rattle.hg_kept.specs.Kept.{IsReplied, KeptExchange, KeptReply, ServesKept}
 use Rattle.hg_kept.specs.declared.served.Replied.{Replied}
 use Rattle.hg_kept.specs.declared.served.Replied.TheVariants.{Sent, NotStored}
 use Rattle.hg_http.specs.Bodies.{BodyView, given, told_of}
-use Rattle.hg_wire.specs.code.Rounds.{TellsRound}
-use Rattle.hg_wire.specs.Pushes.{How, IsPush, Pushed}
-use Rattle.hg_wire.specs.declared.push.Told.{Told}
+use Rattle.hg_wire.specs.code.Rounds.{IsOfRound}
+use Rattle.hg_wire.specs.Pushes.{How, IsPush, PushesOrFails}
+use Rattle.hg_wire.specs.declared.push.KeptPush.{KeptPush}
 
 -- no read failed
 abbrev AllGave : List ReadAnswer → Type 0
@@ -129,8 +129,8 @@ module _ {A D : Type 0} (seen : D → List ℕ) (may_leave : D → List ℕ → 
 
     tells : {E : Type 0} (how : How A) (replied : Replied) → x.how ≡ how → x.after ≡ after →
         IsReplied seen may_leave moment head stored first x.after x.sending.rests (reply_of x.how) x.gone x.uses replied →
-        (told : Result (Option (Told A)) E) → TellsRound how reply replied told →
-        Pushed capacity first kept before body told after
+        (told : Result (Option (KeptPush A)) E) → IsOfRound how reply replied told →
+        PushesOrFails capacity first kept before body told after
     tells how NotStored is then replies (Ok told) t = absurd t
     tells how NotStored is then replies (Err e) t =
         subst (λ h. IsLater before h) then (record { seen = v.is.answers.earlier; grows = v.is.grows })
@@ -147,8 +147,8 @@ module _ {A D : Type 0} (seen : D → List ℕ) (may_leave : D → List ℕ → 
 
     pub pushed : {E : Type 0} (ending : BundleEnd) (how : How A) (takes rests written : ℕ) (replied : Replied) →
         IsReported x ending how takes (record { rests = rests; replied = replied }) written after →
-        (told : Result (Option (Told A)) E) → TellsRound how reply replied told →
-        Pushed capacity first kept before body told after
+        (told : Result (Option (KeptPush A)) E) → IsOfRound how reply replied told →
+        PushesOrFails capacity first kept before body told after
     pushed ending how takes rests written replied o told t =
         tells how replied o.how_is o.after_is (subst (λ r. IsReplied seen may_leave moment head stored first x.after
         x.sending.rests (reply_of x.how) x.gone x.uses r) (ap (λ (s : KeptReply). s.replied) o.sending_is) v.is.replies)

@@ -80,16 +80,16 @@ pub record IsSaidAt {A : Type 0} (first : RepositoryOf A) (kept : KeptSeen A →
   pub looks : LooksKept first kept before after (λ repo. IsText repo text)
   pub answer_is : answer ≡ says text
 
-abbrev pub IsToldAt : {A : Type 0} → RepositoryOf A → (KeptSeen A → ℕ → Type 0) →
+abbrev pub IsTextAt : {A : Type 0} → RepositoryOf A → (KeptSeen A → ℕ → Type 0) →
     (Repository A → List ℕ → Type 0) → KeptSeen A → Answer A → KeptSeen A → Type 0
-IsToldAt first kept IsText before answer after = IsSaidAt first kept Told IsText before answer after
+IsTextAt first kept IsText before answer after = IsSaidAt first kept Told IsText before answer after
 
 -- a batch that is not refused is answered from one repository
 abbrev pub AnswersBatch : {A : Type 0} → RepositoryOf A → (KeptSeen A → ℕ → Type 0) → List (Asked A) →
     Option Refusal → KeptSeen A → Answer A → KeptSeen A → Type 0
 AnswersBatch first kept commands (Some why) before answer after = IsSaid (Refused why) before answer after
 AnswersBatch first kept commands None before answer after =
-    IsToldAt first kept (λ repo text. IsBatchText repo commands text) before answer after
+    IsTextAt first kept (λ repo text. IsBatchText repo commands text) before answer after
 
 -- a push of the body, where its heads are forced: `force` in hexadecimal digits
 abbrev pub AnswersForced : {A : Type 0} → ℕ → RepositoryOf A → (KeptSeen A → ℕ → Type 0) → List ℕ → Bool →
@@ -148,7 +148,7 @@ AnswersCommand capacity first kept pull Capabilities fields r before answer afte
 AnswersCommand capacity first kept pull GetBundle fields r before answer after =
     IsSaid (pull_answer pull r) before answer after
 AnswersCommand capacity first kept pull (Tell read) fields r before answer after =
-    IsToldAt first kept (λ repo text. IsTextOf repo read (argument_in fields (subject_of read)) text)
+    IsTextAt first kept (λ repo text. IsTextOf repo read (argument_in fields (subject_of read)) text)
     before answer after
 AnswersCommand capacity first kept pull Batch fields r before answer after =
     let commands = commands_of (argument_in fields (codes "cmds")) in
@@ -195,7 +195,8 @@ pub record Responds {A S : Type 0} (capacity : ℕ) (first : RepositoryOf A)
     (kept : KeptSeen A → ℕ → Type 0) (page metrics : S → Repository A → List ℕ → Type 0)
     (old : WireView A S) (r : Request (List ℕ)) (response : Response) (new : WireView A S) : Type 0 where
   pub answer : Answer A
-  pub answers : AnswersRequest capacity first (around_of kept page metrics old.terms) r old.seen answer new.seen
+  pub answers : AnswersRequest capacity first (around_of kept page metrics old.terms) r old.seen answer
+      new.seen
   pub later : IsLater old.seen new.seen
   pub tells : Tells answer response
   pub same : new.terms ≡ old.terms
