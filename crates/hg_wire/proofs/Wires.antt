@@ -7,7 +7,7 @@ use Rattle.hg_parts.specs.Repository.{Repository}
 use Rattle.hg_push.specs.Run.{RepositoryOf}
 use Rattle.hg_ledger.specs.Clients.{IsLater, KeptSeen}
 use Rattle.hg_http.specs.declared.answer.Answer.{Answer}
-use Rattle.hg_http.specs.Tellings.{Tells}
+use Rattle.hg_http.specs.Responses.{CarriesAnswer}
 use Rattle.hg_wire.specs.Answering.{around_of, AnswersRequest, Responds, WireView}
 use Rattle.hg_wire.specs.code.Wires.{seen_by, seen_last}
 use Rattle.hg_wire.specs.declared.terms.Terms.{Terms}
@@ -39,7 +39,7 @@ module _ {A S : Type 0} (capacity : ℕ) (first : RepositoryOf A) (kept : KeptSe
         record { seen = told; terms = terms } ≡ old → new ≡ record { seen = seen; terms = terms } →
         client ≡ told → seen ≡ after →
         AnswersRequest capacity first (around_of kept page metrics terms) request client answer after →
-        Tells answer response → Responds capacity first kept page metrics old request response new
+        CarriesAnswer answer response → Responds capacity first kept page metrics old request response new
     responds old new request response answer terms told client after seen was is same last answers tells =
         subst (λ (o : WireView A S). Responds capacity first kept page metrics o request response new) was
         (subst (λ (n : WireView A S). Responds capacity first kept page metrics

@@ -20,7 +20,7 @@ use Rattle.hg_receiving.specs.Receiving.{IsReceived, mark_of, push_items}
 use Rattle.hg_ledger.specs.Clients.{IsLater, KeptSeen}
 use Rattle.hg_kept.specs.Kept.{IsRecorded, KeptExchange}
 use Rattle.hg_http.specs.declared.answer.Answer.{Answer}
-use Rattle.hg_http.specs.declared.answer.Answer.TheVariants.{Told, Refused}
+use Rattle.hg_http.specs.declared.answer.Answer.TheVariants.{Text, Refused}
 use Rattle.hg_http.specs.declared.answer.Refusal.TheVariants.{NotOpened, NoAnswer}
 use Rattle.hg_wire.specs.declared.push.KeptPush.{KeptPush}
 
@@ -73,7 +73,7 @@ PushesOrFails capacity first kept before body (Err e) after = IsLater before aft
 
 -- a push that ended so is answered by this text, or there was no memory for the answer
 abbrev pub IsReplyTo : {A : Type 0} → (How A → List ℕ) → How A → Answer A → Type 0
-IsReplyTo reply how answer = (answer ≡ Told (reply how)) ⊎ (answer ≡ Refused NoAnswer)
+IsReplyTo reply how answer = (answer ≡ Text (reply how)) ⊎ (answer ≡ Refused NoAnswer)
 
 -- the answer is the reply to how the push ended; where none was opened, the refusal that says so
 abbrev pub IsReply : {A : Type 0} → (How A → List ℕ) → Option (KeptPush A) → Answer A → Type 0

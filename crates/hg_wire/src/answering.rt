@@ -114,7 +114,7 @@ fn answer_command<J: Storing<A>, D: Device, A: Allocator + Copy, R: Wait, V: Wat
         request.now)) client result.1 result.0 }
 {
     match command {
-        Command::Tell(read) => answer_read(host, client, read, fields),
+        Command::ReadOnly(read) => answer_read(host, client, read, fields),
         Command::Capabilities => (client, Ok(capabilities(host.alloc))),
         Command::Batch => answer_batch(host, client, fields),
         Command::Unbundle => answer_unbundle(host, client, fields, request, watch),
@@ -143,10 +143,10 @@ fn answer_pull<A: Allocator + Copy>(
 
 /// The answer that holds a text, or that there was no memory for it.
 fn text_answer<A: Allocator>(text: Result<Seq<u8, A>, NoMemory>) -> Answer<A>
-    ensures { MatchResult text (λ t. result ≡ Answer.Told t) (λ _. result ≡ Answer.Refused Refusal.NoMemory) }
+    ensures { MatchResult text (λ t. result ≡ Answer.Text t) (λ _. result ≡ Answer.Refused Refusal.NoMemory) }
 {
     match text {
-        Ok(text) => Answer::Told(text),
+        Ok(text) => Answer::Text(text),
         Err(_) => Answer::Refused(Refusal::NoMemory),
     }
 }
@@ -201,7 +201,7 @@ fn answer_long<J: Storing<A>, D: Device, A: Allocator + Copy, R: Wait>(
 
 /// Answers the capabilities.
 fn capabilities<A: Allocator + Copy>(alloc: A) -> Answer<A>
-    ensures { (result ≡ Answer.Told capabilities_told) ⊎ (result ≡ Answer.Refused Refusal.NoMemory) }
+    ensures { (result ≡ Answer.Text capabilities_told) ⊎ (result ≡ Answer.Refused Refusal.NoMemory) }
 {
     text_answer(Seq::copy_of(alloc, capabilities_text()))
 }

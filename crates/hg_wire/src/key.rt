@@ -102,14 +102,14 @@ fn reply_to<A: Allocator + Copy>(alloc: A, pushed: &Option<KeptPush<A>>) -> Answ
 
 /// The line that says whether a key was set; the refusal where there is no memory for it.
 fn line_of<A: Allocator + Copy>(alloc: A, is_set: bool, refusal: Refusal) -> Answer<A>
-    ensures { (result ≡ Answer.Told (set_line is_set)) ⊎ (result ≡ Answer.Refused refusal) }
+    ensures { (result ≡ Answer.Text (set_line is_set)) ⊎ (result ≡ Answer.Refused refusal) }
 {
     let line = match is_set {
         true => b"1\n".as_slice(),
         false => b"0\n".as_slice(),
     };
     match Seq::copy_of(alloc, line) {
-        Ok(line) => Answer::Told(line),
+        Ok(line) => Answer::Text(line),
         Err(_) => Answer::Refused(refusal),
     }
 }

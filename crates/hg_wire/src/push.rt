@@ -133,7 +133,7 @@ fn reply_to<A: Allocator>(pushed: Option<KeptPush<A>>) -> Answer<A>
     match pushed {
         None => Answer::Refused(Refusal::NotOpened),
         Some(KeptPush { outcome: _, reply }) => match reply {
-            Some(reply) => Answer::Told(reply),
+            Some(reply) => Answer::Text(reply),
             None => Answer::Refused(Refusal::NoAnswer),
         },
     }
