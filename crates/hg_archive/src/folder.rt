@@ -94,7 +94,7 @@ pub fn file_log<'a, R: Files<File = File>, A: Allocator + Copy>(
 
 /// Ends the store in a folder before a place, as [`cut_of`] and [`put_cut`] say. What it leaves out is kept
 /// in the file `pushes.cut-N` of the folder, where N is the place; one that is there is not written over. A
-/// store that another process holds is refused. Of an `Err` the store is as it was, but where the new file
+/// store that another process holds is refused. Of an `Err` the store is as it was, except where the new file
 /// failed: then the old store is there, or the new one is.
 pub fn cut_store<'a, R: Files<File = File>, A: Allocator + Copy>(
     files: &R,

@@ -19,7 +19,7 @@ pub trait Shown<A: Allocator> {
     ghost are_metrics: { Self → Repository A → List ℕ → Type 0 };
 
     /// The page at `/`: a document in HTML. It is sent as `text/html; charset=utf-8`, with a policy that lets
-    /// nothing in but its own styles.
+    /// nothing in except its own styles.
     fn page(&self, alloc: A, repo: &Repo<A>) -> Result<Seq<u8, A>, NoMemory>
         ensures { IfOk result (λ text. is_page self.now repo.now text) };
 

@@ -6,7 +6,7 @@
 //! on a [`Shelf`]: [`LongBatch`] brings what came to it, and [`long_text`] and [`batch_text`] make the
 //! texts when the lock is given back. [`refusal_of`] says which batches are refused, and [`shown_answer`]
 //! which answer shows a view. [`Shown`] and [`Watch`] are what stands around the commands: who shows the
-//! page and the counters, and who hears of pushes. Nothing waits but a [`Shelf`].
+//! page and the counters, and who hears of pushes. Nothing waits except a [`Shelf`].
 //!
 //! The commands are those of Mercurial's `internals.wireprotocol`, "Commands".
 #![tactic(auto)]
