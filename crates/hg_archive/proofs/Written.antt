@@ -11,7 +11,7 @@ use Rattle.hg_devices.specs.Sent.{Sends}
 use Rattle.hg_devices.proofs.CallerLemmas.{Adds-trans}
 use Rattle.hg_archive.specs.declared.fault.Fault.{Fault}
 use Rattle.hg_archive.specs.declared.fault.Fault.TheVariants.{NoMemory as out_of_memory, Unsent}
-use Rattle.hg_archive.specs.Logging.{TakesFront, placed}
+use Rattle.hg_archive.specs.Logging.{TakesFront, with_places}
 use Rattle.hg_archive.specs.Reporting.{sending_fault}
 
 concat-push : (rs : List (List ℕ)) (r : List ℕ) → concat (rs ++ r ∷ []) ≡ concat rs ++ r
@@ -73,27 +73,27 @@ front_sent a b c rs i r shown fault sending count lt is same so_far fault_is sen
   fault_is = subst (λ (f : Fault). (f ≡ Unsent) ⊎ (f ≡ out_of_memory)) (sym fault_is) (fault_told sending);
 }
 
-placed-push : (place : ℕ) (rs : List (List ℕ)) (r : List ℕ) → placed place (rs ++ r ∷ [])
-    ≡ placed place rs ++ (place + length rs, r) ∷ []
-placed-push place [] r = ap (λ (n : ℕ). (n, r) ∷ []) (omega arith)
-placed-push place (q ∷ rs) r =
+with_places-push : (place : ℕ) (rs : List (List ℕ)) (r : List ℕ) → with_places place (rs ++ r ∷ [])
+    ≡ with_places place rs ++ (place + length rs, r) ∷ []
+with_places-push place [] r = ap (λ (n : ℕ). (n, r) ∷ []) (omega arith)
+with_places-push place (q ∷ rs) r =
     let e : place + 1 + length rs ≡ place + suc (length rs) = omega arith in
-    ap (λ (l : List (ℕ × List ℕ)). (place, q) ∷ l) (placed-push (place + 1) rs r
-    ∙ ap (λ (n : ℕ). placed (place + 1) rs ++ (n, r) ∷ []) e)
+    ap (λ (l : List (ℕ × List ℕ)). (place, q) ∷ l) (with_places-push (place + 1) rs r
+    ∙ ap (λ (n : ℕ). with_places (place + 1) rs ++ (n, r) ∷ []) e)
 
 -- one bundle more was put
 pub one_put : (a b c : Option (List (ℕ × List ℕ))) (rs : List (List ℕ)) (first i place : ℕ) (r shown : List ℕ)
     → i < length rs → r ≡ get_or rs i r → shown ≡ r → place ≡ first + i
-    → TellsMore a b (placed first (take i rs)) → TellsMore b c ((place, shown) ∷ [])
-    → TellsMore a c (placed first (take (i + 1) rs))
+    → TellsMore a b (with_places first (take i rs)) → TellsMore b c ((place, shown) ∷ [])
+    → TellsMore a c (with_places first (take (i + 1) rs))
 one_put a b c rs first i place r shown lt is same place_is so_far more =
     let len : length (take i rs) ≡ i = omega (arith, length-take i rs, lt) in
-    let e : placed first (take (i + 1) rs) ≡ placed first (take i rs) ++ (place, shown) ∷ [] =
-    ap (placed first) (take_next rs i r lt is) ∙ placed-push first (take i rs) r
-    ∙ ap (λ (n : ℕ). placed first (take i rs) ++ (n, r) ∷ []) (ap (λ (n : ℕ). first + n) len ∙ sym place_is)
-    ∙ ap (λ (x : List ℕ). placed first (take i rs) ++ (place, x) ∷ []) (sym same) in
+    let e : with_places first (take (i + 1) rs) ≡ with_places first (take i rs) ++ (place, shown) ∷ [] =
+    ap (with_places first) (take_next rs i r lt is) ∙ with_places-push first (take i rs) r
+    ∙ ap (λ (n : ℕ). with_places first (take i rs) ++ (n, r) ∷ []) (ap (λ (n : ℕ). first + n) len ∙ sym place_is)
+    ∙ ap (λ (x : List ℕ). with_places first (take i rs) ++ (place, x) ∷ []) (sym same) in
     subst (λ (l : List (ℕ × List ℕ)). TellsMore a c l) (sym e)
-    (Adds-trans a b c (placed first (take i rs)) ((place, shown) ∷ []) so_far more)
+    (Adds-trans a b c (with_places first (take i rs)) ((place, shown) ∷ []) so_far more)
 
 -- one record more was joined
 pub joined_more : (rs : List (List ℕ)) (i : ℕ) (r shown now next : List ℕ) → i < length rs → r ≡ get_or rs i r

@@ -10,9 +10,9 @@ use Rattle.hg_archive.specs.declared.fault.Fault.TheVariants.{NoMemory, Unsent}
 use Rattle.hg_archive.specs.Reading.{IsRead, IsUnread}
 
 -- bundles with their places, the first of which is this one
-abbrev pub placed : ℕ → List (List ℕ) → List (ℕ × List ℕ)
-placed place [] = []
-placed place (first ∷ others) = (place, first) ∷ placed (place + 1) others
+abbrev pub with_places : ℕ → List (List ℕ) → List (ℕ × List ℕ)
+with_places place [] = []
+with_places place (first ∷ others) = (place, first) ∷ with_places (place + 1) others
 
 -- The file is a store, whose bundles from a place on were written, one after the other.
 pub record IsLogged (file : List ℕ) (from : ℕ) (ending : StoreEnd) (before after : Option (List ℕ)) : Type 0
@@ -43,4 +43,4 @@ pub record IsShelved (file : List ℕ) (from : ℕ) (ending : StoreEnd)
   pub head : Head
   pub records : List (List ℕ)
   pub read : IsRead file head records ending
-  pub put : TellsMore before after (placed from (drop from records))
+  pub put : TellsMore before after (with_places from (drop from records))

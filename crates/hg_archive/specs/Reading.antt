@@ -9,9 +9,9 @@ use Rattle.hg_archive.specs.declared.fault.StoreEnd.TheVariants.{Whole, Torn}
 use Rattle.hg_archive.specs.declared.fault.Fault.{Fault}
 use Rattle.hg_archive.specs.declared.fault.Fault.TheVariants.{Head as HasNoHead, Damaged, NoMemory}
 
-abbrev pub ending_of : Bool → ℕ → StoreEnd
-ending_of true whole = Torn whole
-ending_of false whole = Whole
+abbrev pub store_end : Bool → ℕ → StoreEnd
+store_end true whole = Torn whole
+store_end false whole = Whole
 
 -- how so many whole records end, after which this stands
 abbrev pub EndsSo : StoreEnd → ℕ → List ℕ → Type 0

@@ -5,7 +5,7 @@ ghost use Rattle.std.specs.Prelude.{drop, length};
 ghost use Rattle.std.specs.List.{concat};
 ghost use Rattle.std.specs.Io.KnownBytes.{Appends};
 ghost use Rattle.hg_devices.specs.Devices.{TellsMore};
-ghost use Rattle.hg_archive.specs.Logging.{IsLogged, IsShelved, IsUnlogged, TakesFront, placed};
+ghost use Rattle.hg_archive.specs.Logging.{IsLogged, IsShelved, IsUnlogged, TakesFront, with_places};
 
 use crate::fault::{Fault, StoreEnd};
 use crate::read::read_whole;
@@ -108,7 +108,7 @@ fn put_each<A: Allocator + Copy, S: Shelf>(
     first: usize,
 ) -> Result<(), Fault>
     requires { first + length records.now < 2 ^ 64 }
-    ensures { OnOk result (TellsMore (S.has shelf.old) (S.has shelf.new) (placed first records.now)) }
+    ensures { OnOk result (TellsMore (S.has shelf.old) (S.has shelf.new) (with_places first records.now)) }
 {
     for (count, record) in records.iter().enumerate() {
         match shelf.put(first + count, record.as_slice()) {

@@ -18,7 +18,7 @@ use std::alloc::{Allocator, Global};
 
 /// What a cut makes of the bytes of a store.
 #[derive(Drop)]
-pub struct Cut<A: Allocator = Global> {
+pub struct StoreCut<A: Allocator = Global> {
     /// The records from the place on, one after the other.
     pub kept: Vec<u8, A>,
     /// The new store: the head, the records before the place, and a shut gate.
@@ -27,7 +27,7 @@ pub struct Cut<A: Allocator = Global> {
 
 /// What a cut before a place makes of these bytes of a store. Where no record stands there, and no torn or
 /// damaged one, it is refused. What stands after the whole records is not kept.
-pub fn cut_of<A: Allocator + Copy>(alloc: A, file: &[u8], at: usize) -> Result<Cut<A>, Fault>
+pub fn cut_of<A: Allocator + Copy>(alloc: A, file: &[u8], at: usize) -> Result<StoreCut<A>, Fault>
     ensures cut { IfOk result (λ cut. IsCutOf file.now at cut.kept.items cut.left.items) }
     ensures no_place { (count : ℕ) → IsErrOf result (no_place count) → HasNoPlace file.now at count }
 {
@@ -62,7 +62,11 @@ fn has_place(at: usize, count: usize, stop: NoRecord) -> bool
 }
 
 /// What a cut before one of the records, or after them, makes of a store.
-fn cut_at<A: Allocator + Copy>(alloc: A, front: &Front<A>, at: usize) -> Result<Cut<A>, NoMemory>
+fn cut_at<A: Allocator + Copy>(
+    alloc: A,
+    front: &Front<A>,
+    at: usize,
+) -> Result<StoreCut<A>, NoMemory>
     requires within { at ≤ length front.now.records }
     requires each { AllByRecursion IsRecord front.now.records }
     ensures kept { IfOk result (λ cut. cut.kept.items ≡ concat (drop at front.now.records)) }
@@ -71,7 +75,7 @@ fn cut_at<A: Allocator + Copy>(alloc: A, front: &Front<A>, at: usize) -> Result<
     let (before, behind) = front.records.as_slice().split_at(at);
     let kept = joined(alloc, behind)?;
     let left = bytes_at_rest(alloc, &front.head, before)?;
-    Ok(Cut { kept, left })
+    Ok(StoreCut { kept, left })
 }
 
 /// The records, one after the other.
@@ -89,7 +93,7 @@ fn joined<A: Allocator + Copy>(alloc: A, records: &[Seq<u8, A>]) -> Result<Vec<u
 /// it is on the disk: so at any moment the old store or the new one is there, and the new one not before what
 /// it leaves out is kept.
 pub fn put_cut<K: NewFile, N: NewFile, A: Allocator + Copy>(
-    cut: &Cut<A>,
+    cut: &StoreCut<A>,
     kept: &mut K,
     new: &mut N,
 ) -> Result<(), CutFault>

@@ -78,7 +78,7 @@ impl From<AllocError> for Fault {
 
 /// The file that a fault is about.
 #[derive(Clone, Copy, Debug, PartialEq, Eq)]
-pub enum Named<'a> {
+pub enum NamedFile<'a> {
     /// The file of the store in this folder.
     Store(&'a str),
     /// The file of the store in this folder while it is made.
@@ -93,15 +93,15 @@ pub enum Named<'a> {
     Output,
 }
 
-impl fmt::Display for Named<'_> {
+impl fmt::Display for NamedFile<'_> {
     fn fmt<W: fmt::Write>(&self, f: &mut fmt::Formatter<W>) -> fmt::Result {
         match self {
-            Named::Store(folder) => write!(f, "{folder}/pushes"),
-            Named::New(folder) => write!(f, "{folder}/pushes.new"),
-            Named::Kept(folder, place) => write!(f, "{folder}/pushes.cut-{place}"),
-            Named::Push(folder, place) => write!(f, "{folder}/{place:010}"),
-            Named::Folder(folder) => write!(f, "{folder}"),
-            Named::Output => write!(f, "standard output"),
+            NamedFile::Store(folder) => write!(f, "{folder}/pushes"),
+            NamedFile::New(folder) => write!(f, "{folder}/pushes.new"),
+            NamedFile::Kept(folder, place) => write!(f, "{folder}/pushes.cut-{place}"),
+            NamedFile::Push(folder, place) => write!(f, "{folder}/{place:010}"),
+            NamedFile::Folder(folder) => write!(f, "{folder}"),
+            NamedFile::Output => write!(f, "standard output"),
         }
     }
 }
@@ -110,7 +110,7 @@ impl fmt::Display for Named<'_> {
 #[derive(Clone, Copy, Debug, PartialEq, Eq, Error)]
 #[error("{file}: {fault}")]
 pub struct ArchiveFault<'a> {
-    pub file: Named<'a>,
+    pub file: NamedFile<'a>,
     pub fault: Fault,
 }
 

@@ -7,8 +7,8 @@ ghost use Rattle.hg_archive.specs.Logging.{IsLogged};
 ghost use Rattle.hg_archive.specs.Reporting.{Reports};
 
 use crate::bundles::{put_log, send_log};
-use crate::cut::{Cut, CutFault, cut_of, put_cut};
-use crate::fault::{ArchiveFault, Fault, Named, StoreEnd};
+use crate::cut::{CutFault, StoreCut, cut_of, put_cut};
+use crate::fault::{ArchiveFault, Fault, NamedFile, StoreEnd};
 use crate::host::{FolderShelf, fault_of, opening_fault};
 use crate::report::send_report;
 use hg_devices::Writer;
@@ -81,7 +81,7 @@ pub fn file_log<'a, R: Files<File = File>, A: Allocator + Copy>(
     to: &'a str,
 ) -> Result<StoreEnd, ArchiveFault<'a>> {
     let file = store_bytes(files, alloc, folder)?;
-    about(make_folder(files, to), Named::Folder(to))?;
+    about(make_folder(files, to), NamedFile::Folder(to))?;
     let mut shelf = FolderShelf::of(files, alloc, to);
     match put_log(alloc, file, from, &mut shelf) {
         Ok(ending) => Ok(ending),
@@ -94,7 +94,7 @@ pub fn file_log<'a, R: Files<File = File>, A: Allocator + Copy>(
 
 /// Ends the store in a folder before a place, as [`cut_of`] and [`put_cut`] say. What it leaves out is kept
 /// in the file `pushes.cut-N` of the folder, where N is the place; one that is there is not written over. A
-/// store that another process holds is refused. Of an `Err` the store is as it was, but where the new file
+/// store that another process holds is refused. Of an `Err` the store is as it was, except where the new file
 /// failed: then the old store is there, or the new one is.
 pub fn cut_store<'a, R: Files<File = File>, A: Allocator + Copy>(
     files: &R,
@@ -102,8 +102,8 @@ pub fn cut_store<'a, R: Files<File = File>, A: Allocator + Copy>(
     folder: &'a str,
     at: usize,
 ) -> Result<(), ArchiveFault<'a>> {
-    let mut old = about(open_held(files, alloc, folder), Named::Store(folder))?;
-    let cut = about(cut_held(alloc, &mut old, at), Named::Store(folder))?;
+    let mut old = about(open_held(files, alloc, folder), NamedFile::Store(folder))?;
+    let cut = about(cut_held(alloc, &mut old, at), NamedFile::Store(folder))?;
     place_cut(files, alloc, folder, at, &cut)
 }
 
@@ -113,7 +113,7 @@ fn store_bytes<'a, R: Files<File = File>, A: Allocator + Copy>(
     alloc: A,
     folder: &'a str,
 ) -> Result<Vec<u8, A>, ArchiveFault<'a>> {
-    about(read_store(files, alloc, folder), Named::Store(folder))
+    about(read_store(files, alloc, folder), NamedFile::Store(folder))
 }
 
 fn read_store<R: Files<File = File>, A: Allocator + Copy>(
@@ -133,7 +133,7 @@ fn read_store<R: Files<File = File>, A: Allocator + Copy>(
 }
 
 /// The same outcome; a fault with the file that it is about.
-fn about<'a, T>(outcome: Result<T, Fault>, file: Named<'a>) -> Result<T, ArchiveFault<'a>> {
+fn about<'a, T>(outcome: Result<T, Fault>, file: NamedFile<'a>) -> Result<T, ArchiveFault<'a>> {
     match outcome {
         Ok(value) => Ok(value),
         Err(fault) => Err(ArchiveFault { file, fault }),
@@ -143,17 +143,17 @@ fn about<'a, T>(outcome: Result<T, Fault>, file: Named<'a>) -> Result<T, Archive
 /// A fault where bytes of a store were sent.
 fn sending_fault(folder: &str, fault: Fault) -> ArchiveFault<'_> {
     let file = match fault {
-        Fault::Unsent => Named::Output,
-        _ => Named::Store(folder),
+        Fault::Unsent => NamedFile::Output,
+        _ => NamedFile::Store(folder),
     };
     ArchiveFault { file, fault }
 }
 
 /// The file that a fault is about where bundles of a store were put on a shelf, the last at that place.
-fn shelf_name<'a>(folder: &'a str, to: &'a str, place: usize, fault: Fault) -> Named<'a> {
+fn shelf_name<'a>(folder: &'a str, to: &'a str, place: usize, fault: Fault) -> NamedFile<'a> {
     match fault {
-        Fault::Exists | Fault::Failed => Named::Push(to, place),
-        _ => Named::Store(folder),
+        Fault::Exists | Fault::Failed => NamedFile::Push(to, place),
+        _ => NamedFile::Store(folder),
     }
 }
 
@@ -188,7 +188,11 @@ fn open_held<R: Files<File = File>, A: Allocator + Copy>(
 }
 
 /// What a cut before a place makes of a file.
-fn cut_held<A: Allocator + Copy>(alloc: A, file: &mut File, at: usize) -> Result<Cut<A>, Fault> {
+fn cut_held<A: Allocator + Copy>(
+    alloc: A,
+    file: &mut File,
+    at: usize,
+) -> Result<StoreCut<A>, Fault> {
     match read_all(alloc, file) {
         Ok(bytes) => cut_of(alloc, &bytes, at),
         Err(error) => Err(fault_of(error)),
@@ -201,13 +205,13 @@ fn place_cut<'a, R: Files<File = File>, A: Allocator + Copy>(
     alloc: A,
     folder: &'a str,
     at: usize,
-    cut: &Cut<A>,
+    cut: &StoreCut<A>,
 ) -> Result<(), ArchiveFault<'a>> {
     let mut kept = match kept_file(files, alloc, folder, at) {
         Ok(file) => file,
         Err(fault) => {
             return Err(ArchiveFault {
-                file: Named::Kept(folder, at),
+                file: NamedFile::Kept(folder, at),
                 fault,
             });
         }
@@ -216,7 +220,7 @@ fn place_cut<'a, R: Files<File = File>, A: Allocator + Copy>(
         Ok(file) => file,
         Err(fault) => {
             return Err(ArchiveFault {
-                file: Named::New(folder),
+                file: NamedFile::New(folder),
                 fault,
             });
         }
@@ -229,11 +233,11 @@ fn place_cut<'a, R: Files<File = File>, A: Allocator + Copy>(
     match result {
         Ok(()) => Ok(()),
         Err(CutFault::Kept) => Err(ArchiveFault {
-            file: Named::Kept(folder, at),
+            file: NamedFile::Kept(folder, at),
             fault: Fault::Failed,
         }),
         Err(CutFault::New) => Err(ArchiveFault {
-            file: Named::New(folder),
+            file: NamedFile::New(folder),
             fault: Fault::Failed,
         }),
     }

@@ -16,8 +16,8 @@ mod read;
 mod report;
 
 pub use bundles::{Shelf, put_log, send_log};
-pub use cut::{Cut, CutFault, cut_of, put_cut};
-pub use fault::{ArchiveFault, Fault, Named, StoreEnd, TornNote};
+pub use cut::{CutFault, StoreCut, cut_of, put_cut};
+pub use fault::{ArchiveFault, Fault, NamedFile, StoreEnd, TornNote};
 pub use folder::{cut_store, file_log, log_store, report_store};
 pub use front::{Front, read_front};
 pub use report::send_report;

@@ -1,7 +1,7 @@
 //! The records of the bytes of a store.
 
 ghost use Rattle.std.specs.Prelude.{◌≡◌, IfErr, IfOk, length};
-ghost use Rattle.hg_archive.specs.Reading.{IsRead, IsUnread, ending_of};
+ghost use Rattle.hg_archive.specs.Reading.{IsRead, IsUnread, store_end};
 
 use crate::fault::{Fault, StoreEnd};
 use hg_store::{Found, Head, ReadFault, read_records};
@@ -33,7 +33,7 @@ pub fn read_whole<A: Allocator + Copy>(alloc: A, file: Vec<u8, A>) -> Result<Who
 fn whole_of<A: Allocator + Copy>(found: Found<A>) -> Whole<A>
     ensures head { result.head ≡ found.head }
     ensures records { result.records ≡ found.records }
-    ensures ending { result.ending ≡ ending_of found.is_torn (length found.records) }
+    ensures ending { result.ending ≡ store_end found.is_torn (length found.records) }
 {
     let Found {
         head,
@@ -41,7 +41,7 @@ fn whole_of<A: Allocator + Copy>(found: Found<A>) -> Whole<A>
         is_torn,
         ..
     } = found;
-    let ending = ending_of(is_torn, records.len());
+    let ending = store_end(is_torn, records.len());
     Whole {
         head,
         records,
@@ -50,8 +50,8 @@ fn whole_of<A: Allocator + Copy>(found: Found<A>) -> Whole<A>
 }
 
 /// How so many whole records end.
-fn ending_of(is_torn: bool, whole: usize) -> StoreEnd
-    ensures { result ≡ ending_of is_torn whole }
+fn store_end(is_torn: bool, whole: usize) -> StoreEnd
+    ensures { result ≡ store_end is_torn whole }
 {
     if is_torn {
         StoreEnd::Torn(whole)

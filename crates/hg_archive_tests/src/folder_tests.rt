@@ -70,7 +70,7 @@ fn beside_a_server(rt: HostRuntime) -> Result<(), Fail> {
     assert!(rt; log_store(&rt, alloc, folder, 1, &mut log) == Ok(StoreEnd::Whole));
     assert!(rt; log.len() == 80 && &log.as_slice()[12..] == TWO.as_slice());
     let held = ArchiveFault {
-        file: Named::Store(folder),
+        file: NamedFile::Store(folder),
         fault: Fault::Held,
     };
     assert!(rt; cut_store(&rt, alloc, folder, 1) == Err(held));
@@ -136,7 +136,7 @@ fn a_cut_in_a_folder(rt: HostRuntime) -> Result<(), Fail> {
     fill(&rt, folder)?;
     let file = fs::read(&rt, name)?;
     let no_place = ArchiveFault {
-        file: Named::Store(folder),
+        file: NamedFile::Store(folder),
         fault: Fault::NoPlace(3),
     };
     assert!(rt; cut_store(&rt, alloc, folder, 3) == Err(no_place));
@@ -150,7 +150,7 @@ fn a_cut_in_a_folder(rt: HostRuntime) -> Result<(), Fail> {
     assert!(rt; cut_store(&rt, alloc, folder, 1).is_err());
     fs::write(&rt, name, file.as_slice())?;
     let exists = ArchiveFault {
-        file: Named::Kept(folder, 1),
+        file: NamedFile::Kept(folder, 1),
         fault: Fault::Exists,
     };
     assert!(rt; cut_store(&rt, alloc, folder, 1) == Err(exists));

@@ -76,7 +76,7 @@ impl<'a, R: Wait + Clock> Board<'a, R> {
         self.connections.fetch_sub(1, Ordering::SeqCst);
     }
 
-    /// Counts a push, of any ending. A done one is in the store.
+    /// Counts a push, of any outcome. A done one is in the store.
     pub fn add(&self, push: Push, is_done: bool) {
         self.tally.lock(self.rt).add(push);
         if is_done {

@@ -24,14 +24,15 @@ use Rattle.hg_devices.specs.declared.sending.Sending.{Sending}
 use Rattle.hg_devices.specs.declared.sending.Sending.TheVariants.{Whole as sent_whole, Broken, NoMemory}
 use Rattle.hg_receiving.specs.declared.ending.BundleEnd.{BundleEnd}
 use Rattle.hg_receiving.specs.declared.ending.BundleEnd.TheVariants.{Whole, Fault, InputEnded, ReadFailed}
-use Rattle.hg_connection.specs.declared.coming.Next.TheVariants.{Comes, Ends as comes_no_more, Fails}
+use Rattle.hg_connection.specs.declared.coming.Next.TheVariants.{Comes, InputEnded as comes_no_more}
+use Rattle.hg_connection.specs.declared.coming.Next.TheVariants.{ReadFailed as next_fails}
 use Rattle.hg_connection.specs.declared.served.ConnFault.{ConnFault}
 use Rattle.hg_connection.specs.declared.served.ConnFault.TheVariants.{Open, ReadFailed as read_failed}
 use Rattle.hg_connection.specs.declared.served.Served.{Served}
 use Rattle.hg_receiving.specs.Receiving.{IsPiece, Ran, state_at}
 use Rattle.hg_connection.specs.Receiving.{IsNext}
 use Rattle.hg_connection.specs.Connections.{Exchange, IsExchange, AreExchanges, AreWhole, Connects, EndsBy}
-use Rattle.hg_connection.specs.Connections.{Serves, TellsLast, TellsOf, bytes_of, reads_of, uses_of}
+use Rattle.hg_connection.specs.Connections.{IsLastAnswer, IsReported, ServesBundle, bytes_of, reads_of, uses_of}
 use Rattle.hg_connection.specs.Connections.{replies_of, gone_of, fault_of}
 use Rattle.hg_connection.proofs.Joins.{last_rest, chain_more, whole_more, last_more, bytes_more, reads_more}
 use Rattle.hg_connection.proofs.Joins.{uses_more, gone_more, replies_more, rest_waits, gone_whole, none_of}
@@ -47,7 +48,7 @@ pub record Goes {A : Type 0} (limits : Limits) (capacity : ℕ) (first : Reposit
   pub ends : AreWhole whole
   pub count : number ≡ length whole
   pub counted : served.bundles ≡ number
-  pub tells : TellsLast served.last whole
+  pub tells : IsLastAnswer served.last whole
   pub read : Consumes input.left left.left (bytes_of whole ++ waiting)
   pub reads : TellsMore input.reads left.reads (reads_of whole)
   pub uses : TellsMore out.uses sent.uses (uses_of whole)
@@ -74,8 +75,8 @@ pub can_add : {A : Type 0} (limits : Limits) (capacity : ℕ) (first : Repositor
     (waiting waited waits : List ℕ) (served : Served A) (number : ℕ) (x : Exchange A) (ending : BundleEnd)
     (how : Outcome (Done A) (Refusal A)) (takes : ℕ) (sending : Sending) (written : ℕ)
     → Goes limits capacity first input mid out way before now waiting served number
-    → Serves limits capacity first waited waits begun left way sent history x
-    → TellsOf x ending how takes sending written after → number < 10000
+    → ServesBundle limits capacity first waited waits begun left way sent history x
+    → IsReported x ending how takes sending written after → number < 10000
     → served.written + written < 2 ^ 64
 can_add limits capacity first input mid begun left out way sent before now history after waiting waited
     waits served number x ending how takes sending written g v t less =
@@ -100,7 +101,7 @@ starts {A} limits capacity first input out before waiting served none s = record
   ends = tt;
   count = refl;
   counted = s.0;
-  tells = subst (λ (o : Option (Answer A)). TellsLast {A = A} {S = Sending} {H = List (Taken A)} o [])
+  tells = subst (λ (o : Option (Answer A)). IsLastAnswer {A = A} {S = Sending} {H = List (Taken A)} o [])
       (sym s.1) refl;
   read = subst (λ (l : List ℕ). Consumes input.left input.left l) (sym none) (Consumes-nil input.left);
   reads = Adds-nil input.reads;
@@ -147,7 +148,7 @@ module _ {A : Type 0} (limits : Limits) (capacity : ℕ) (first : RepositoryOf A
         joined = record {
           count = count' ∙ ap (λ (l : List (Exchange A)). length l) (sym e);
           few = subst (λ (l : List (Exchange A)). length l ≤ most) (sym e) few';
-          tells = subst (λ (y : Option (Answer A) × List (Exchange A)). TellsLast y.0 y.1)
+          tells = subst (λ (y : Option (Answer A) × List (Exchange A)). IsLastAnswer y.0 y.1)
               (λ i. (sym is.1 i, sym e i)) g.tells;
           final = final;
           reads = subst (λ (l : List (Exchange A)). TellsMore input.reads left.reads (reads_of l ++ final))
@@ -186,7 +187,7 @@ module _ {A : Type 0} (limits : Limits) (capacity : ℕ) (first : RepositoryOf A
       (omega arith) (is.0, is.1, is.2, is.3 ∙ g.fault) (inr (refl, refl, n.2))
 
   -- a read failed between two bundles
-  pub at_failure : IsNext number waiting after mid left Fails → SameBut served told (Some read_failed)
+  pub at_failure : IsNext number waiting after mid left next_fails → SameBut served told (Some read_failed)
       → Connects limits capacity first most input left out sent before now told
   at_failure n is = closes now [] (Failed ∷ []) (Some read_failed) refl (read_nothing Failed n.0 n.1.bytes)
       (Adds-trans input.reads mid.reads left.reads (reads_of g.whole) (Failed ∷ []) g.reads n.1.told)
@@ -247,7 +248,8 @@ ended_whole ending sending fault is none = (no_fault ending sending (is ∙ none
 pub tells_own : {A : Type 0} (x own : Exchange A) (ending : BundleEnd) (how : Outcome (Done A) (Refusal A))
     (takes : ℕ) (sending : Sending) (written : ℕ) (after : List (Taken A))
     → own ≡ record x { reads = own.reads }
-    → TellsOf x ending how takes sending written after → TellsOf own ending how takes sending written after
+    → IsReported x ending how takes sending written after
+    → IsReported own ending how takes sending written after
 tells_own {A} x own ending how takes sending written after same t = record {
   ending_is = ap (λ (y : Exchange A). y.ending) same ∙ t.ending_is;
   how_is = ap (λ (y : Exchange A). y.how) same ∙ t.how_is;
@@ -263,8 +265,8 @@ module _ {A : Type 0} (limits : Limits) (capacity : ℕ) (first : RepositoryOf A
     (written : ℕ)
     (g : Goes limits capacity first input mid out way before now waiting served number) (same : history ≡ now)
     (x : Exchange A)
-    (v : Serves limits capacity first waiting waits mid left way sent history x)
-    (t : TellsOf x ending answer.outcome answer.takes sending written now')
+    (v : ServesBundle limits capacity first waiting waits mid left way sent history x)
+    (t : IsReported x ending answer.outcome answer.takes sending written now')
     (s : (told.bundles ≡ number + 1) × (told.last ≡ Some answer) × (told.written ≡ served.written + written)
     × (told.fault ≡ fault_of ending sending)) where
   chained : AreExchanges limits capacity first before [] (g.whole ++ x ∷ []) now'
@@ -322,8 +324,8 @@ module _ {A : Type 0} (limits : Limits) (capacity : ℕ) (first : RepositoryOf A
   counted_one : told.bundles ≡ length (g.whole ++ x ∷ [])
   counted_one = let a = s.0 in let c = g.count in omega (arith, a, c, length-append g.whole (x ∷ []))
 
-  tells_it : TellsLast told.last (g.whole ++ x ∷ [])
-  tells_it = subst (λ (o : Option (Answer A)). TellsLast o (g.whole ++ x ∷ [])) (sym s.1)
+  tells_it : IsLastAnswer told.last (g.whole ++ x ∷ [])
+  tells_it = subst (λ (o : Option (Answer A)). IsLastAnswer o (g.whole ++ x ∷ [])) (sym s.1)
       (g.whole, x, refl, sym t.how_is, sym t.takes_are)
 
   its_fault : fault_of x.ending x.sending ≡ told.fault

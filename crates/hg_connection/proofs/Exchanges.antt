@@ -25,7 +25,7 @@ use Rattle.hg_receiving.specs.declared.ending.BundleEnd.TheVariants.{Whole, Faul
 use Rattle.hg_receiving.specs.Receiving.{IsPiece, IsReceived, StopsBundle, StopsIn, mark_of}
 use Rattle.hg_connection.specs.Receiving.{Arrives, Receives}
 use Rattle.hg_receiving.specs.Receiving.{push_items}
-use Rattle.hg_connection.specs.Connections.{Exchange, Serves}
+use Rattle.hg_connection.specs.Connections.{Exchange, ServesBundle}
 use Rattle.hg_receiving.proofs.CallerLemmas.{AbortedAreShort, DoneAreShort, PartsAreFew, items_length}
 use Rattle.hg_connection.proofs.Shortness.{reply_short}
 
@@ -56,7 +56,7 @@ module _ {A : Type 0} (limits : Limits) (capacity : ℕ) (first : RepositoryOf A
 
   pub serves : of s.putter.push (items_of s.history) ≡ [] → DoneAreShort A → AbortedAreShort A → PartsAreFew A
       → IsAllowed limits
-      → Serves limits capacity first waited waiting input left out sent s.history
+      → ServesBundle limits capacity first waited waiting input left out sent s.history
       (record {
         reads = r.bundle.reads;
         consumed = r.bundle.consumed;
@@ -134,25 +134,25 @@ pub record Comes {A : Type 0} (limits : Limits) (capacity : ℕ) (first : Reposi
     (waited waiting : List ℕ) (input left : Input) (out sent : Output) (before : List (Taken A))
     (x : Exchange A) : Type 0 where
   pub own : Exchange A
-  pub served : Serves limits capacity first waited waiting input left out sent before own
+  pub served : ServesBundle limits capacity first waited waiting input left out sent before own
   pub same : own ≡ record x { reads = own.reads }
 
 pub comes : {A : Type 0} (limits : Limits) (capacity : ℕ) (first : RepositoryOf A)
     (waited piece waiting : List ℕ) (input mid left : Input) (out sent : Output) (before : List (Taken A))
     (x : Exchange A) → Arrives waited piece input mid
-    → Serves limits capacity first piece waiting mid left out sent before x
+    → ServesBundle limits capacity first piece waiting mid left out sent before x
     → Comes limits capacity first waited waiting input left out sent before x
 comes {A} limits capacity first waited piece waiting input mid left out sent before x arrives v =
     elim arrives [
       | inl there ↦ record {
         own = x;
-        served = subst (λ (y : List ℕ × Input). Serves limits capacity first y.0 waiting y.1 left out sent before
+        served = subst (λ (y : List ℕ × Input). ServesBundle limits capacity first y.0 waiting y.1 left out sent before
             x) (λ i. (there.0 i, there.1 i)) v;
         same = refl;
       }
       | inr read ↦ record {
         own = record x { reads = Gave piece ∷ x.reads };
-        served = subst (λ (l : List ℕ). Serves limits capacity first l waiting input left out sent before
+        served = subst (λ (l : List ℕ). ServesBundle limits capacity first l waiting input left out sent before
             (record x { reads = Gave piece ∷ x.reads })) (sym read.0) (record {
               is = record {
                 received = received_read limits piece x.reads x.ending x.parts x.consumed x.rest read.2

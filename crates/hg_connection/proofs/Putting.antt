@@ -11,10 +11,10 @@ use Rattle.hg_stream.specs.Unbundler.{HoldsBundle}
 use Rattle.hg_serve.specs.Clients.{SenderView, GoesOn, PutsNext}
 use Rattle.hg_receiving.specs.Receiving.{part_items}
 use Rattle.hg_receiving.proofs.CallerLemmas.{items_append, items_length, items_more}
-use Rattle.hg_connection.specs.Receiving.{Puts}
+use Rattle.hg_connection.specs.Receiving.{PutsParts}
 
 -- none was put yet
-pub puts_none : {A : Type 0} (s : SenderView A) → Puts s s []
+pub puts_none : {A : Type 0} (s : SenderView A) → PutsParts s s []
 puts_none s = record {
   push = refl;
   put_is = sym (append-nil s.putter.put);
@@ -32,7 +32,7 @@ holds_more {A} u given taken more bytes holds =
     subst (λ (l : List (Part A)). HoldsBundle u l bytes) (append_assoc given taken more) holds
 
 -- so many were put
-pub puts_count : {A : Type 0} (old s : SenderView A) (taken : List (Part A)) → Puts old s taken
+pub puts_count : {A : Type 0} (old s : SenderView A) (taken : List (Part A)) → PutsParts old s taken
     → length s.putter.put ≡ length old.putter.put + length taken
 puts_count {A} old s taken p =
     let e : length s.putter.put ≡ length (old.putter.put
@@ -43,7 +43,7 @@ puts_count {A} old s taken p =
 
 -- one part more was put
 pub puts_more : {A : Type 0} (old s new : SenderView A) (taken : List (Part A)) (part : Part A)
-    → Puts old s taken → PutsNext s (a_part part) new → Puts old new (taken ++ part ∷ [])
+    → PutsParts old s taken → PutsNext s (a_part part) new → PutsParts old new (taken ++ part ∷ [])
 puts_more {A} old s new taken part p adds =
     let before = length old.putter.put in
     let f = p.fulls in
@@ -70,7 +70,7 @@ puts_more {A} old s new taken part p adds =
 
 -- there is room for each part
 pub has_room : {A : Type 0} (old s : SenderView A) (ready taken left : List (Part A)) (part : Part A)
-    → Puts old s taken → ready ≡ taken ++ part ∷ left → length old.putter.put + length ready ≤ 10000
+    → PutsParts old s taken → ready ≡ taken ++ part ∷ left → length old.putter.put + length ready ≤ 10000
     → length s.putter.put < 10000
 has_room {A} old s ready taken left part p spelled few =
     let count = puts_count old s taken p in
@@ -85,7 +85,7 @@ all_taken {X} ready taken left spelled none =
 
 -- more parts were put of a push that had put these
 pub put_more : {A : Type 0} (first s new : SenderView A) (given more : List (Part A))
-    → GoesOn first s (part_items first.putter.push 0 given) → Puts s new more
+    → GoesOn first s (part_items first.putter.push 0 given) → PutsParts s new more
     → GoesOn first new (part_items first.putter.push 0 (given ++ more))
 put_more {A} first s new given more g p =
     let count : length s.putter.put ≡ 0 + length given =

@@ -75,14 +75,14 @@ pub record Flows {A S H : Type 0} (waited waiting : List ℕ) (input left : Inpu
   pub short : length (reply_of x.how) ≤ greatest_reply
 
 -- one bundle was served by that reader and that writer
-pub record Serves {A : Type 0} (limits : Limits) (capacity : ℕ) (first : RepositoryOf A)
+pub record ServesBundle {A : Type 0} (limits : Limits) (capacity : ℕ) (first : RepositoryOf A)
     (waited waiting : List ℕ) (input left : Input) (out sent : Output) (before : List (Taken A))
     (x : Exchange A) : Type 0 where
   pub is : IsExchange limits capacity first before waited x
   pub flows : Flows waited waiting input left out sent x
 
 -- what the call reports of the bundle
-pub record TellsOf {A S H : Type 0} (x : ExchangeOf A S H) (ending : BundleEnd)
+pub record IsReported {A S H : Type 0} (x : ExchangeOf A S H) (ending : BundleEnd)
     (how : Outcome (Done A) (Refusal A)) (takes : ℕ) (sending : S) (written : ℕ) (after : H) : Type 0 where
   pub ending_is : x.ending ≡ ending
   pub how_is : x.how ≡ how
@@ -143,9 +143,9 @@ abbrev pub gone_of : {A S H : Type 0} → List (ExchangeOf A S H) → List ℕ
 gone_of xs = flat_map (λ x. x.gone) xs
 
 -- the answer that is reported is that of the last bundle
-abbrev pub TellsLast : {A S H : Type 0} → Option (Answer A) → List (ExchangeOf A S H) → Type 0
-TellsLast {A} {S} {H} None xs = xs ≡ []
-TellsLast {A} {S} {H} (Some answer) xs = (front : List (ExchangeOf A S H)) × (x : ExchangeOf A S H)
+abbrev pub IsLastAnswer : {A S H : Type 0} → Option (Answer A) → List (ExchangeOf A S H) → Type 0
+IsLastAnswer {A} {S} {H} None xs = xs ≡ []
+IsLastAnswer {A} {S} {H} (Some answer) xs = (front : List (ExchangeOf A S H)) × (x : ExchangeOf A S H)
     × (xs ≡ front ++ x ∷ []) × (answer.outcome ≡ x.how) × (answer.takes ≡ x.takes)
 
 -- Why a connection ended between two bundles, after these whole ones, and by which read. Without a fault: so
@@ -177,7 +177,7 @@ pub record AreJoined {A S H : Type 0} (limits : Limits) (most : ℕ) (input left
     (xs : List (ExchangeOf A S H)) (bundles : ℕ) (last : Option (Answer A)) (written : ℕ) : Type 0 where
   pub count : bundles ≡ length xs
   pub few : length xs ≤ most
-  pub tells : TellsLast last xs
+  pub tells : IsLastAnswer last xs
   pub final : List ReadAnswer
   pub reads : TellsMore input.reads left.reads (reads_of xs ++ final)
   pub uses : TellsMore out.uses sent.uses (uses_of xs)

@@ -11,7 +11,8 @@ use Rattle.hg_devices.specs.Devices.{Input, Gave, Failed, ReadsOnce}
 use Rattle.hg_receiving.specs.declared.ending.BundleEnd.{BundleEnd}
 use Rattle.hg_receiving.specs.Receiving.{IsPiece, IsReceivedFrom, greatest_piece, part_items}
 use Rattle.hg_connection.specs.declared.coming.Next.{Next}
-use Rattle.hg_connection.specs.declared.coming.Next.TheVariants.{Comes, Ends as at_end, Fails}
+use Rattle.hg_connection.specs.declared.coming.Next.TheVariants.{Comes, InputEnded as at_end}
+use Rattle.hg_connection.specs.declared.coming.Next.TheVariants.{ReadFailed as next_fails}
 
 -- a reader of bundles that was fed nothing
 pub record IsFresh {A : Type 0} (limits : Limits) (u : Unbundler A) : Type 0 where
@@ -21,8 +22,8 @@ pub record IsFresh {A : Type 0} (limits : Limits) (u : Unbundler A) : Type 0 whe
   pub ready : ready_of u ≡ []
 
 -- these parts were put, after those that were put before
-abbrev pub Puts : {A : Type 0} → SenderView A → SenderView A → List (Part A) → Type 0
-Puts old new parts = GoesOn old new (old.putter.put
+abbrev pub PutsParts : {A : Type 0} → SenderView A → SenderView A → List (Part A) → Type 0
+PutsParts old new parts = GoesOn old new (old.putter.put
     ++ part_items old.putter.push (length old.putter.put) parts)
 
 -- what was read to see whether a next bundle comes
@@ -37,7 +38,7 @@ IsNext number before after input left Comes =
     Arrives before after input left × (number ≡ 0 → (after ≡ before) × (left ≡ input))
     × (1 ≤ number → after ≢ []) × (length after ≤ greatest_piece)
 IsNext number before after input left at_end = (before ≡ []) × ReadsOnce input left (Gave []) × IsAtEnd left.left
-IsNext number before after input left Fails = (before ≡ []) × ReadsOnce input left Failed
+IsNext number before after input left next_fails = (before ≡ []) × ReadsOnce input left Failed
 
 -- A bundle was received from that reader, and its parts were put.
 pub record Receives {A : Type 0} (limits : Limits) (waited waiting : List ℕ) (input left : Input)

@@ -11,9 +11,9 @@ pub enum Next {
     /// A bundle, or the first one.
     Comes,
     /// The end of the input.
-    Ends,
+    InputEnded,
     /// A read that failed.
-    Fails,
+    ReadFailed,
 }
 
 /// Looks for a byte of the next bundle. For the first one, nothing is read.
@@ -29,7 +29,7 @@ pub fn next_bundle<I: Reader>(number: u32, inbox: &mut Inbox, reader: &mut I) ->
             let _waiting = inbox.pending();
             Next::Comes
         }
-        Some(BundleEnd::InputEnded) => Next::Ends,
-        Some(_) => Next::Fails,
+        Some(BundleEnd::InputEnded) => Next::InputEnded,
+        Some(_) => Next::ReadFailed,
     }
 }

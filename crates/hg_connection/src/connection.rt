@@ -6,8 +6,8 @@ ghost use Rattle.hg_stream.specs.Unbundler.{HoldsBundle, limits_of, ready_of, st
 ghost use Rattle.hg_stream.specs.declared.state.State.TheVariants.{Ended as at_end_mark};
 ghost use Rattle.hg_queue.specs.History.{of, items_of};
 ghost use Rattle.hg_receiving.specs.declared.ending.BundleEnd.TheVariants.{Whole};
-ghost use Rattle.hg_connection.specs.Receiving.{IsFresh, Puts, Receives};
-ghost use Rattle.hg_connection.specs.Connections.{Connects, Exchange, Serves, TellsOf};
+ghost use Rattle.hg_connection.specs.Receiving.{IsFresh, PutsParts, Receives};
+ghost use Rattle.hg_connection.specs.Connections.{Connects, Exchange, IsReported, ServesBundle};
 
 use crate::coming::{Next, next_bundle};
 use crate::ending::mark;
@@ -31,7 +31,7 @@ pub(crate) fn put_ready<J: Naming<A>, A: Allocator + Copy, R: Wait, G: Gate>(
     gate: &mut G,
 )
     requires { length sender.old.putter.put + length (ready_of bundle.old) ≤ 10000 }
-    ensures put { Puts sender.old sender.new (ready_of bundle.old) }
+    ensures put { PutsParts sender.old sender.new (ready_of bundle.old) }
     ensures holds { (given : List (AnyPart A)) (bytes : List ℕ) → HoldsBundle bundle.old given bytes →
         HoldsBundle bundle.new (given ++ ready_of bundle.old) bytes }
     ensures bundle { (state_of bundle.new ≡ state_of bundle.old) × (ready_of bundle.new ≡ []) }
@@ -93,9 +93,9 @@ fn serve_bundle<J: Naming<A>, A: Allocator + Copy, R: Wait, I: Reader, W: Writer
     requires bundle { IsFresh server.now bundle.old }
     requires sender { (sender.putter.put ≡ []) × (of sender.putter.push (items_of sender.history) ≡ []) }
     ensures served { (x : Exchange A)
-        × Serves server.now J.capacity J.first inbox.old inbox.new (I.told reader.old) (I.told reader.new)
-        (W.told writer.old) (W.told writer.new) sender.history x
-        × TellsOf x result.1.ending result.1.answer.outcome result.1.answer.takes result.1.sending
+        × ServesBundle server.now J.capacity J.first inbox.old inbox.new (I.told reader.old)
+        (I.told reader.new) (W.told writer.old) (W.told writer.new) sender.history x
+        × IsReported x result.1.ending result.1.answer.outcome result.1.answer.takes result.1.sending
         result.1.written result.0 }
     ensures whole { result.1.ending ≡ Whole
         → (state_of bundle.new ≡ at_end_mark) × (ready_of bundle.new ≡ []) }
@@ -147,8 +147,8 @@ pub fn serve_connection<J: Naming<A>, A: Allocator + Copy, R: Wait, I: Reader, W
     'bundles: for number in 0..most {
         match next_bundle(number, &mut inbox, reader) {
             Next::Comes => {}
-            Next::Ends => return (client, served),
-            Next::Fails => return (client, served.failed(ConnFault::ReadFailed)),
+            Next::InputEnded => return (client, served),
+            Next::ReadFailed => return (client, served.failed(ConnFault::ReadFailed)),
         }
         let sender = match server.open(rt, client) {
             Ok(sender) => sender,

@@ -84,7 +84,7 @@ payload_read (suc steps) counts payload bytes = elim (next_payload counts payloa
   | Some next ↦ payload_read steps counts next (next_bytes bytes)
 ]
 
--- how many changesets a payload has; each step but the last takes four bytes, so there are enough of them
+-- how many changesets a payload has; each step except the last takes four bytes, so there are enough of them
 abbrev pub changesets_of : Bool → List ℕ → ℕ
 changesets_of counts bytes =
     (payload_read (length bytes) counts (record { group = new_group; is_inside = false }) bytes).0.count

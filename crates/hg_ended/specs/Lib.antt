@@ -1,2 +1,2 @@
 pub mod Brought
-pub mod Endings
+pub mod Outcomes

@@ -1,21 +1,21 @@
 //! How a push ended, as it is shown.
 
 ghost use Rattle.std.specs.Prelude.{◌≡◌};
-ghost use Rattle.hg_ended.specs.Endings.{cut_shown, ending_shown, race_shown, reason_shown, refusal_shown};
+ghost use Rattle.hg_ended.specs.Outcomes.{cut_shown, outcome_shown, race_shown, reason_shown, refusal_shown};
 
-use hg_page::{Ending, Reason};
+use hg_page::{Reason, ShownOutcome};
 use hg_parts::RaceText;
 use hg_push::{Outcome, Reason as PushReason};
 use hg_repo::{Done, Refusal};
 use hg_types::CutReason;
 
 /// How a push ended, as it is shown. A done one is the last of so many.
-pub fn ending_of(outcome: &Outcome<Done, Refusal>, count: u64) -> Ending
-    ensures { result ≡ ending_shown outcome.now count }
+pub fn shown_outcome(outcome: &Outcome<Done, Refusal>, count: u64) -> ShownOutcome
+    ensures { result ≡ outcome_shown outcome.now count }
 {
     match outcome {
-        Outcome::Done(_) => Ending::Done(count.saturating_sub(1)),
-        Outcome::Aborted(reason) => Ending::Aborted(reason_of(reason)),
+        Outcome::Done(_) => ShownOutcome::Done(count.saturating_sub(1)),
+        Outcome::Aborted(reason) => ShownOutcome::Aborted(reason_of(reason)),
     }
 }
 

@@ -4,7 +4,7 @@ use Rattle.hg_parts.specs.Repository.{Repository}
 use Rattle.hg_push.specs.Run.{RepositoryOf}
 use Rattle.hg_store.specs.declared.head.Head.{Head}
 use Rattle.hg_ledger.specs.Clients.{KeptSeen}
-use Rattle.hg_wire.specs.declared.serve.Finish.{Finish}
+use Rattle.hg_wire.specs.declared.serve.ConnectionEnd.{ConnectionEnd}
 use Rattle.hg_wire.specs.declared.terms.Terms.{Terms}
 use Rattle.hg_wire.specs.Serving.{ServesHttp}
 use Rattle.hg_opening.specs.Opening.{IsRecovered}
@@ -19,8 +19,8 @@ pub record HostView : Type 0 where
 pub record HostsHttp {A S : Type 0} (capacity : ℕ) (first : RepositoryOf A) (head : Head)
     (stored : List (List ℕ)) (kept : KeptSeen A → ℕ → Type 0)
     (page metrics : S → Repository A → List ℕ → Type 0) (view : HostView) (before : KeptSeen A)
-    (input left out sent : Option (List ℕ)) (finish : Finish) (after : KeptSeen A) : Type 0 where
+    (input left out sent : Option (List ℕ)) (end : ConnectionEnd) (after : KeptSeen A) : Type 0 where
   pub recovered : IsRecovered view.publishing head stored first
   pub terms : Terms S
   pub count : terms.stored ≡ view.stored
-  pub serves : ServesHttp capacity first kept page metrics terms before input left out sent finish after
+  pub serves : ServesHttp capacity first kept page metrics terms before input left out sent end after

@@ -100,7 +100,7 @@ where
     }
 }
 
-/// Serves as [`host`] does, on a server of that name, with a new tally.
+/// Serves as [`serve_store`] does, on a server of that name, with a new tally.
 fn host_named<J, D, R>(
     rt: &R,
     alloc: Global,
@@ -144,7 +144,7 @@ where
 /// Serves the repository of a store to connections, and adds the pushes that are done to the store. It ends where
 /// the store failed, where there is no memory to begin with, or where the numbers of pushes come to their end.
 /// Then the store is closed, and all that was answered is in it.
-pub fn host<D, R>(
+pub fn serve_store<D, R>(
     rt: &R,
     alloc: Global,
     terms: HostTerms<'_>,

@@ -27,7 +27,7 @@ use hg_serve::{Client, Server};
 use hg_slots::{Line, Over, Patience, Sent, Slots, set_up};
 use hg_store::Device;
 use hg_types::NoMemory;
-use hg_wire::{Budget, Finish, Shelf, Shown, Terms, serve_http};
+use hg_wire::{Budget, ConnectionEnd, Shelf, Shown, Terms, serve_http};
 use std::alloc::{AllocFailed, Global};
 use std::hash::RandomState;
 use std::io;
@@ -170,7 +170,7 @@ where
         client: KeptClient<J>,
         reader: &mut I,
         writer: &mut W,
-    ) -> (KeptClient<J>, Finish)
+    ) -> (KeptClient<J>, ConnectionEnd)
         ensures { HostsHttp J.capacity J.first J.head J.stored
             (IsCovered D.seen D.may_leave D.moment J.head J.stored J.first)
             ⟦<Board<'a, R> as Shown<Global>>⟧.is_page ⟦<Board<'a, R> as Shown<Global>>⟧.are_metrics
@@ -242,7 +242,7 @@ where
     /// Serves a connection over a socket, and gives its place back. Where the store failed, serving is over.
     pub(crate) fn connect(&self, rt: &R, alloc: Global, stream: TcpStream) {
         self.board.connect();
-        if let Ok(Finish::NotStored) = self.attend(rt, alloc, &stream) {
+        if let Ok(ConnectionEnd::NotStored) = self.attend(rt, alloc, &stream) {
             self.slots.end(rt, Over::StoreFailed);
         }
         self.board.disconnect();
@@ -251,7 +251,7 @@ where
 
     /// Serves a connection over a socket. An error of the socket, of the clock or of the random bytes, and memory
     /// that is refused for what is read, ends it before it is served.
-    fn attend(&self, rt: &R, alloc: Global, stream: &TcpStream) -> io::Result<Finish> {
+    fn attend(&self, rt: &R, alloc: Global, stream: &TcpStream) -> io::Result<ConnectionEnd> {
         set_up(stream)?;
         let keys = RandomState::new(rt)?;
         let patience = Patience::new(rt, Duration::from_secs(self.terms.idle))?;
@@ -269,13 +269,13 @@ where
             },
         };
         let client = self.free_client(rt);
-        let (client, finish) = self.serve(rt, alloc, keys, client, &mut reader, &mut writer);
+        let (client, end) = self.serve(rt, alloc, keys, client, &mut reader, &mut writer);
         self.leave(rt, client);
         // where an answer was the last, the client may still send what nobody reads
-        if finish == Finish::Done {
+        if end == ConnectionEnd::Done {
             drain(rt, stream);
         }
-        Ok(finish)
+        Ok(end)
     }
 }
 

@@ -1,11 +1,11 @@
 //! Who watches a connection: how long each push took, and a line for it.
 
 use hg_board::{Board, seconds_now};
-use hg_ended::{brought_by, ending_of};
-use hg_page::{Ending, Push, log_line};
+use hg_ended::{brought_by, shown_outcome};
+use hg_page::{Push, ShownOutcome, log_line};
 use hg_serve::{Gate, Point};
 use hg_slots::{Over, Slots};
-use hg_wire::{Pushed, Watch};
+use hg_wire::{Watch, WatchedPush};
 use std::alloc::Global;
 use std::str;
 use std::sync::Wait;
@@ -76,13 +76,13 @@ impl<R: Wait + Clock + Eprint> Gate for Watcher<'_, R> {
 }
 
 impl<R: Wait + Clock + Eprint> Watch<Global> for Watcher<'_, R> {
-    fn pushed(&mut self, pushed: &Pushed<'_>) {
+    fn pushed(&mut self, pushed: &WatchedPush<'_>) {
         let count = (pushed.rests as u64).saturating_add(self.stored as u64);
-        let ending = ending_of(pushed.outcome, count);
-        let is_done = matches!(ending, Ending::Done(_));
+        let outcome = shown_outcome(pushed.outcome, count);
+        let is_done = matches!(outcome, ShownOutcome::Done(_));
         let push = Push {
             time: seconds_now(self.rt),
-            ending,
+            outcome,
             changesets: if is_done {
                 brought_by(pushed.bundle)
             } else {

@@ -4,7 +4,7 @@ use Rattle.std.proofs.Common.{length, map, ◌-◌}
 use Rattle.std.proofs.lemmas.List.{drop-drop, length-drop, map-append}
 use Rattle.std.proofs.Math.Seq.{take-length}
 use Rattle.hg_devices.specs.Devices.{ReadsOnce, Gave}
-use Rattle.hg_http.specs.Bodies.{BodyView, given, told_of}
+use Rattle.hg_http.specs.Bodies.{BodyView, given, input_of}
 
 -- what a slice from a place on has at its front
 pub front_from : (n at : ℕ) (xs : List ℕ) →
@@ -14,7 +14,7 @@ front_from n at xs =
 
 -- one read of it
 pub reads_on : (b : BodyView) (count : ℕ) (front : List ℕ) → front ≡ take count (drop b.at b.bytes) →
-    ReadsOnce (told_of b) (told_of (record b { at = b.at + count; reads = b.reads ++ (b.at, count) ∷ [] }))
+    ReadsOnce (input_of b) (input_of (record b { at = b.at + count; reads = b.reads ++ (b.at, count) ∷ [] }))
     (Gave front)
 reads_on b count front is = record {
   bytes = sym (take-append-drop count (drop b.at b.bytes))

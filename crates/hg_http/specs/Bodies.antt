@@ -11,5 +11,5 @@ pub record BodyView : Type 0 where
 abbrev pub given : List ℕ → ℕ × ℕ → ReadAnswer
 given bytes read = Gave (take read.1 (drop read.0 bytes))
 
-abbrev pub told_of : BodyView → Input
-told_of b = record { left = Some (drop b.at b.bytes); reads = Some (map (given b.bytes) b.reads) }
+abbrev pub input_of : BodyView → Input
+input_of b = record { left = Some (drop b.at b.bytes); reads = Some (map (given b.bytes) b.reads) }

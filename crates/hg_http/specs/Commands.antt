@@ -3,8 +3,8 @@ use Rattle.std.specs.Prelude.{ℕ, List, Option, Some, None, codes, bytes_eq, if
 use Rattle.hg_http.specs.declared.command.Read.{Read}
 use Rattle.hg_http.specs.declared.command.Read.TheVariants.{Heads, Known, ListKeys, Lookup, BranchMap}
 use Rattle.hg_http.specs.declared.command.Command.{Command}
-use Rattle.hg_http.specs.declared.command.Command.TheVariants.{Tell, Capabilities, Batch, Unbundle, PushKey}
-use Rattle.hg_http.specs.declared.command.Command.TheVariants.{GetBundle}
+use Rattle.hg_http.specs.declared.command.Command.TheVariants.{ReadOnly, Capabilities, Batch, Unbundle}
+use Rattle.hg_http.specs.declared.command.Command.TheVariants.{GetBundle, PushKey}
 
 -- the commands that only read
 unfoldable pub read_of : List ℕ → Option Read
@@ -36,10 +36,10 @@ other_of name =
     else None
 
 -- a command that reads, or else that other one
-abbrev pub told_or : Option Read → Option Command → Option Command
-told_or None other = other
-told_or (Some read) other = Some (Tell read)
+abbrev pub read_or : Option Read → Option Command → Option Command
+read_or None other = other
+read_or (Some read) other = Some (ReadOnly read)
 
 -- the command of that name, if it is one
 unfoldable pub command_of : List ℕ → Option Command
-command_of name = told_or (read_of name) (other_of name)
+command_of name = read_or (read_of name) (other_of name)

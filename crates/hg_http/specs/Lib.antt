@@ -1,6 +1,6 @@
 pub mod Commands
 pub mod Requests
 pub mod Views
-pub mod Tellings
+pub mod Responses
 pub mod Keys
 pub mod Bodies

@@ -2,8 +2,8 @@
 
 ghost use Rattle.std.specs.Prelude.{◌≡◌, OnOk, codes, []};
 ghost use Rattle.http_server.specs.Response.{IsBlank, IsResponse};
-ghost use Rattle.hg_http.specs.Tellings.{location_of, of_type, refusal_text, Says, SaysNothing, Tells};
-ghost use Rattle.hg_http.specs.Tellings.{view_fields};
+ghost use Rattle.hg_http.specs.Responses.{CarriesAnswer, location_of, of_type, refusal_text, Says};
+ghost use Rattle.hg_http.specs.Responses.{SaysNothing, view_fields};
 
 use crate::view::View;
 use bytes::BufMut;
@@ -53,7 +53,7 @@ impl Refusal {
 #[derive(Drop)]
 pub enum Answer<A: Allocator = Global> {
     /// The text of a command, or the reply to a push.
-    Told(Seq<u8, A>),
+    Text(Seq<u8, A>),
     /// A refusal, by a line that says why.
     Refused(Refusal),
     /// A command that changes something came in a form that a page in a browser could send.
@@ -70,7 +70,7 @@ pub enum Answer<A: Allocator = Global> {
 /// or by its status where memory is refused for that as well.
 pub fn respond<A: Allocator>(alloc: Global, answer: &Answer<A>, response: &mut Response)
     requires { IsBlank response.old }
-    ensures { Tells answer.now response.new }
+    ensures { CarriesAnswer answer.now response.new }
 {
     if try_respond(alloc, answer, response).is_err() {
         respond_nothing(response);
@@ -96,7 +96,7 @@ fn try_respond<A: Allocator>(
     ensures { OnOk result (Says answer.now response.new) }
 {
     match answer {
-        Answer::Told(text) => tell(response, text.as_slice()),
+        Answer::Text(text) => put_text(response, text.as_slice()),
         Answer::Refused(why) => refuse(response, *why),
         Answer::Forbidden => {
             response.status = StatusCode::FORBIDDEN;
@@ -156,7 +156,7 @@ fn move_to(alloc: Global, response: &mut Response, address: &[u8]) -> Result<(),
     }
 }
 
-fn tell(response: &mut Response, text: &[u8]) -> Result<(), AllocError>
+fn put_text(response: &mut Response, text: &[u8]) -> Result<(), AllocError>
     requires { IsBlank response.old }
     ensures { OnOk result (IsResponse 200 (of_type (codes "application/mercurial-0.1")) text.now
         response.new) }

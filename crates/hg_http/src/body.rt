@@ -41,9 +41,9 @@ impl<'a> Body<'a> {
 }
 
 impl Reader for Body<'_> {
-    ghost use Rattle.hg_http.specs.Bodies.{told_of};
+    ghost use Rattle.hg_http.specs.Bodies.{input_of};
 
-    ghost told = { told_of };
+    ghost told = { input_of };
 
     fn read(&mut self, buffer: &mut [u8]) -> Result<usize> {
         let count = copy_front(&self.bytes[self.at..], buffer);

@@ -27,7 +27,7 @@ pub enum Read {
 #[derive(Clone, Copy, Debug, PartialEq, Eq)]
 pub enum Command {
     /// One that only reads.
-    Tell(Read),
+    ReadOnly(Read),
     Capabilities,
     /// Several that only read.
     Batch,
@@ -119,7 +119,7 @@ pub fn command_of(name: &[u8]) -> Option<Command>
     ensures { result ≡ command_named name.now }
 {
     match read_of(name) {
-        Some(read) => Some(Command::Tell(read)),
+        Some(read) => Some(Command::ReadOnly(read)),
         None => other_of(name),
     }
 }

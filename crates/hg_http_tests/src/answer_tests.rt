@@ -44,7 +44,7 @@ fn responses_of_answers(rt: HostRuntime) -> Result<(), Fail> {
     let alloc = rt.alloc();
     let heads = b"0000000000000000000000000000000000000000\n".as_slice();
     for text in [heads, b""] {
-        let told = Answer::Told(Seq::copy_of(alloc, text)?);
+        let told = Answer::Text(Seq::copy_of(alloc, text)?);
         assert!(rt; is_told(alloc, &told, StatusCode::OK, Some(ANSWER), text));
     }
     let refusals = [

@@ -26,7 +26,7 @@ fn commands_by_their_names(rt: HostRuntime) {
     ];
     for (name, command, subject) in read {
         assert!(rt;
-            command_of(name) == Some(Command::Tell(command)) && read_of(name) == Some(command)
+            command_of(name) == Some(Command::ReadOnly(command)) && read_of(name) == Some(command)
         );
         assert!(rt; subject_of(command) == subject);
     }

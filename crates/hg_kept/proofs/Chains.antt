@@ -26,11 +26,12 @@ use Rattle.hg_devices.proofs.CallerLemmas.{Adds-nil, Adds-trans}
 use Rattle.hg_devices.specs.declared.sending.Sending.TheVariants.{Whole as sent_whole, Broken, NoMemory}
 use Rattle.hg_receiving.specs.declared.ending.BundleEnd.{BundleEnd}
 use Rattle.hg_receiving.specs.declared.ending.BundleEnd.TheVariants.{Whole, Fault, InputEnded, ReadFailed}
-use Rattle.hg_connection.specs.declared.coming.Next.TheVariants.{Comes, Ends as comes_no_more, Fails}
+use Rattle.hg_connection.specs.declared.coming.Next.TheVariants.{Comes, InputEnded as comes_no_more}
+use Rattle.hg_connection.specs.declared.coming.Next.TheVariants.{ReadFailed as next_fails}
 use Rattle.hg_connection.specs.declared.served.ConnFault.TheVariants.{Open, ReadFailed as read_failed}
 use Rattle.hg_receiving.specs.Receiving.{IsPiece, Ran, state_at}
 use Rattle.hg_connection.specs.Receiving.{IsNext}
-use Rattle.hg_connection.specs.Connections.{AreAllWhole, TellsLast, TellsOf, bytes_of, reads_of, uses_of}
+use Rattle.hg_connection.specs.Connections.{AreAllWhole, IsLastAnswer, IsReported, bytes_of, reads_of, uses_of}
 use Rattle.hg_connection.specs.Connections.{replies_of, gone_of}
 use Rattle.hg_connection.proofs.Joins.{last_rest, chain_more, whole_more, last_more, bytes_more, reads_more}
 use Rattle.hg_connection.proofs.Joins.{uses_more, gone_more, replies_more, rest_waits, gone_whole as sent_gone}
@@ -40,7 +41,7 @@ use Rattle.hg_kept.specs.declared.served.Replied.TheVariants.{Sent, NotStored}
 use Rattle.hg_kept.specs.declared.served.KeptFault.{KeptFault}
 use Rattle.hg_kept.specs.declared.served.KeptFault.TheVariants.{Connection}
 use Rattle.hg_kept.specs.declared.served.KeptServed.{KeptServed}
-use Rattle.hg_kept.specs.Kept.{KeptExchange, KeptReply, IsKeptExchange, Replies, ServesKept, kept_fault_of}
+use Rattle.hg_kept.specs.Kept.{IsKeptExchange, IsReplied, KeptExchange, KeptReply, ServesKept, kept_fault_of}
 use Rattle.hg_kept.specs.Connections.{AreKeptExchanges, ConnectsKept, EndsKeptBy, IsSentWhole}
 
 -- what a client had that was taken apart is what it was
@@ -60,7 +61,7 @@ pub record Goes {A D : Type 0} (seen : D → List ℕ) (may_leave : D → List �
   pub ends : AreAllWhole IsSentWhole whole
   pub count : number ≡ length whole
   pub counted : served.bundles ≡ number
-  pub tells : TellsLast served.last whole
+  pub tells : IsLastAnswer served.last whole
   pub read : Consumes input.left left.left (bytes_of whole ++ waiting)
   pub reads : TellsMore input.reads left.reads (reads_of whole)
   pub uses : TellsMore out.uses sent.uses (uses_of whole)
@@ -86,7 +87,7 @@ no_fault ending NotStored e = absurd cc
 rest_of : {A D : Type 0} (seen : D → List ℕ) (may_leave : D → List ℕ → Type 0) (moment : D → ℕ) (head : Head)
     (stored : List (List ℕ)) (first : RepositoryOf A) (after : KeptSeen A) (rests : ℕ)
     (reply gone : List ℕ) (uses : List WriteAnswer) (replied : Replied)
-    → Replies seen may_leave moment head stored first after rests reply gone uses replied
+    → IsReplied seen may_leave moment head stored first after rests reply gone uses replied
     → (rest : List ℕ) × (reply ≡ gone ++ rest)
 rest_of seen may_leave moment head stored first after rests reply gone uses (Sent sending) is =
     (is.1.rest, is.1.reply_is)
@@ -102,7 +103,7 @@ pub can_add : {A D : Type 0} {seen : D → List ℕ} {may_leave : D → List ℕ
     (how : Outcome (Done A) (Refusal A)) (takes : ℕ) (reply : KeptReply) (written : ℕ)
     → Goes seen may_leave moment head stored limits capacity first input mid out way before now waiting served number
     → ServesKept seen may_leave moment head stored limits capacity first waited waits begun left way sent had x
-    → TellsOf x ending how takes reply written after → number < 10000
+    → IsReported x ending how takes reply written after → number < 10000
     → served.written + written < 2 ^ 64
 can_add {seen = seen} {may_leave = may_leave} {moment = moment} {head = head} {stored = stored} limits capacity
     first input mid
@@ -133,7 +134,7 @@ starts {A = A} limits capacity first input out before waiting served none s = re
   ends = tt;
   count = refl;
   counted = s.0;
-  tells = subst (λ (o : Option (Answer A)). TellsLast {A = A} {S = KeptReply} {H = KeptSeen A} o []) (sym s.1) refl;
+  tells = subst (λ (o : Option (Answer A)). IsLastAnswer {A = A} {S = KeptReply} {H = KeptSeen A} o []) (sym s.1) refl;
   read = subst (λ (l : List ℕ). Consumes input.left input.left l) (sym none) (Consumes-nil input.left);
   reads = Adds-nil input.reads;
   uses = Adds-nil out.uses;
@@ -182,7 +183,7 @@ module _ {A D : Type 0} {seen : D → List ℕ} {may_leave : D → List ℕ → 
         joined = record {
           count = count' ∙ ap (λ (l : List (KeptExchange A)). length l) (sym e);
           few = subst (λ (l : List (KeptExchange A)). length l ≤ most) (sym e) few';
-          tells = subst (λ (y : Option (Answer A) × List (KeptExchange A)). TellsLast y.0 y.1)
+          tells = subst (λ (y : Option (Answer A) × List (KeptExchange A)). IsLastAnswer y.0 y.1)
               (λ i. (sym is.1 i, sym e i)) g.tells;
           final = final;
           reads = subst (λ (l : List (KeptExchange A)). TellsMore input.reads left.reads (reads_of l ++ final))
@@ -221,7 +222,7 @@ module _ {A D : Type 0} {seen : D → List ℕ} {may_leave : D → List ℕ → 
       (omega arith) (is.0, is.1, is.2, is.3 ∙ g.fault) (inr (refl, refl, n.2))
 
   -- a read failed between two bundles
-  pub at_failure : IsNext number waiting after mid left Fails → SameBut served told (Some (Connection read_failed))
+  pub at_failure : IsNext number waiting after mid left next_fails → SameBut served told (Some (Connection read_failed))
       → ConnectsKept seen may_leave moment head stored limits capacity first most input left out sent before now told
   at_failure n is = closes now [] (Failed ∷ []) (Some (Connection read_failed)) refl
       (read_nothing Failed n.0 n.1.bytes)
@@ -283,7 +284,7 @@ ended_whole ending replied fault is none = (no_fault ending replied (is ∙ none
 gone_whole : {A D : Type 0} (seen : D → List ℕ) (may_leave : D → List ℕ → Type 0) (moment : D → ℕ) (head : Head)
     (stored : List (List ℕ)) (first : RepositoryOf A) (after : KeptSeen A) (rests : ℕ)
     (reply gone : List ℕ) (uses : List WriteAnswer) (replied : Replied) → replied ≡ Sent sent_whole
-    → Replies seen may_leave moment head stored first after rests reply gone uses replied → gone ≡ reply
+    → IsReplied seen may_leave moment head stored first after rests reply gone uses replied → gone ≡ reply
 gone_whole seen may_leave moment head stored first after rests reply gone uses (Sent sending) is r =
     let whole : sending ≡ sent_whole = cc in sent_gone sending gone uses reply whole r.1
 gone_whole seen may_leave moment head stored first after rests reply gone uses NotStored is r = absurd cc
@@ -291,8 +292,8 @@ gone_whole seen may_leave moment head stored first after rests reply gone uses N
 -- what is told of a bundle is told of it with other reads as well
 pub tells_own : {A : Type 0} (x own : KeptExchange A) (ending : BundleEnd) (how : Outcome (Done A) (Refusal A))
     (takes : ℕ) (reply : KeptReply) (written : ℕ) (after : KeptSeen A)
-    → own ≡ record x { reads = own.reads } → TellsOf x ending how takes reply written after
-    → TellsOf own ending how takes reply written after
+    → own ≡ record x { reads = own.reads } → IsReported x ending how takes reply written after
+    → IsReported own ending how takes reply written after
 tells_own {A} x own ending how takes reply written after same t = record {
   ending_is = ap (λ (y : KeptExchange A). y.ending) same ∙ t.ending_is;
   how_is = ap (λ (y : KeptExchange A). y.how) same ∙ t.how_is;
@@ -313,7 +314,7 @@ module _ {A D : Type 0} {seen : D → List ℕ} {may_leave : D → List ℕ → 
     (same : had ≡ now)
     (x : KeptExchange A)
     (v : ServesKept seen may_leave moment head stored limits capacity first waiting waits mid left way sent had x)
-    (t : TellsOf x ending answer.outcome answer.takes reply written now')
+    (t : IsReported x ending answer.outcome answer.takes reply written now')
     (s : (told.bundles ≡ number + 1) × (told.last ≡ Some answer) × (told.written ≡ served.written + written)
     × (told.fault ≡ kept_fault_of ending reply.replied)) where
   chained : AreKeptExchanges seen may_leave moment head stored limits capacity first before [] (g.whole ++ x ∷ []) now'
@@ -374,8 +375,8 @@ module _ {A D : Type 0} {seen : D → List ℕ} {may_leave : D → List ℕ → 
   counted_one : told.bundles ≡ length (g.whole ++ x ∷ [])
   counted_one = let a = s.0 in let c = g.count in omega (arith, a, c, length-append g.whole (x ∷ []))
 
-  tells_it : TellsLast told.last (g.whole ++ x ∷ [])
-  tells_it = subst (λ (o : Option (Answer A)). TellsLast o (g.whole ++ x ∷ [])) (sym s.1)
+  tells_it : IsLastAnswer told.last (g.whole ++ x ∷ [])
+  tells_it = subst (λ (o : Option (Answer A)). IsLastAnswer o (g.whole ++ x ∷ [])) (sym s.1)
       (g.whole, x, refl, sym t.how_is, sym t.takes_are)
 
   its_fault : kept_fault_of x.ending x.sending.replied ≡ told.fault

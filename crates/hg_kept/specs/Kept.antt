@@ -53,11 +53,12 @@ KeptExchange A = ExchangeOf A KeptReply (KeptSeen A)
 
 -- A reply that was sent is true: all that it rests on was on the device, so many done pushes, and the client's receipt
 -- has a promise of them. Where the store failed, the writer was not used.
-abbrev pub Replies : {A D : Type 0} → (D → List ℕ) → (D → List ℕ → Type 0) → (D → ℕ) → Head → List (List ℕ) →
-    RepositoryOf A → KeptSeen A → ℕ → List ℕ → List ℕ → List WriteAnswer → Replied → Type 0
-Replies seen may_leave moment head stored first after rests reply gone uses (Sent sending) =
+abbrev pub IsReplied : {A D : Type 0} → (D → List ℕ) → (D → List ℕ → Type 0) → (D → ℕ) → Head →
+    List (List ℕ) → RepositoryOf A → KeptSeen A → ℕ → List ℕ → List ℕ → List WriteAnswer → Replied → Type 0
+IsReplied seen may_leave moment head stored first after rests reply gone uses (Sent sending) =
     IsCovered seen may_leave moment head stored first after rests × IsSent sending gone uses reply
-Replies seen may_leave moment head stored first after rests reply gone uses NotStored = (gone ≡ []) × (uses ≡ [])
+IsReplied seen may_leave moment head stored first after rests reply gone uses NotStored =
+    (gone ≡ []) × (uses ≡ [])
 
 -- this became of a reply at a writer, which took so many bytes of it
 pub record RepliesBy {A D : Type 0} (seen : D → List ℕ) (may_leave : D → List ℕ → Type 0) (moment : D → ℕ) (head : Head)
@@ -65,7 +66,7 @@ pub record RepliesBy {A D : Type 0} (seen : D → List ℕ) (may_leave : D → L
     (out sent : Output) (replied : Replied) (written : ℕ) : Type 0 where
   pub gone : List ℕ
   pub uses : List WriteAnswer
-  pub is : Replies seen may_leave moment head stored first after rests reply gone uses replied
+  pub is : IsReplied seen may_leave moment head stored first after rests reply gone uses replied
   pub written_is : written ≡ length gone
   pub went : Appends out.taken sent.taken gone
   pub used : TellsMore out.uses sent.uses uses
@@ -92,8 +93,8 @@ pub record IsKeptExchange {A D : Type 0} (seen : D → List ℕ) (may_leave : D 
   pub rests_on : RestsOn run_push first (newest_first x.after.history) x.push x.how x.sending.rests
   pub recorded : IsRecorded first x.after.history x.sending.rests x.consumed x.how
   pub grows : IsPrefix before.receipt x.after.receipt
-  pub replies : Replies seen may_leave moment head stored first x.after x.sending.rests (reply_of x.how) x.gone x.uses
-      x.sending.replied
+  pub replies : IsReplied seen may_leave moment head stored first x.after x.sending.rests (reply_of x.how)
+      x.gone x.uses x.sending.replied
 
 -- one bundle was served by that reader and that writer
 pub record ServesKept {A D : Type 0} (seen : D → List ℕ) (may_leave : D → List ℕ → Type 0) (moment : D → ℕ)

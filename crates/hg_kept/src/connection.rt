@@ -10,7 +10,7 @@ ghost use Rattle.hg_connection.specs.Receiving.{IsFresh};
 ghost use Rattle.hg_push.specs.Reply.{CanBeTold, reply_of};
 ghost use Rattle.hg_ledger.specs.Clients.{promised};
 ghost use Rattle.hg_ledger.specs.Records.{IsRecordOf, done_in};
-ghost use Rattle.hg_connection.specs.Connections.{TellsOf};
+ghost use Rattle.hg_connection.specs.Connections.{IsReported};
 ghost use Rattle.hg_kept.specs.Kept.{KeptExchange, RepliesBy, ServesKept, record_of};
 ghost use Rattle.hg_kept.specs.Connections.{ConnectsKept};
 
@@ -146,7 +146,7 @@ pub fn serve_bundle_kept<
         × ServesKept D.seen D.may_leave D.moment J.head J.stored server.now J.capacity J.first inbox.old inbox.new
         (I.told reader.old) (I.told reader.new) (W.told writer.old) (W.told writer.new)
         (record { history = opened.sender.history; receipt = promised opened.receipt }) x
-        × TellsOf x result.1.ending result.1.answer.outcome result.1.answer.takes
+        × IsReported x result.1.ending result.1.answer.outcome result.1.answer.takes
         (record { rests = result.1.rests; replied = result.1.replied }) result.1.written result.0 }
     ensures whole { result.1.ending ≡ Whole
         → (state_of bundle.new ≡ at_end_mark) × (ready_of bundle.new ≡ []) }
@@ -236,8 +236,8 @@ pub fn serve_connection_kept<
     'bundles: for number in 0..most {
         match next_bundle(number, &mut inbox, reader) {
             Next::Comes => {}
-            Next::Ends => return (client, served),
-            Next::Fails => return (client, served.failed(ConnFault::ReadFailed)),
+            Next::InputEnded => return (client, served),
+            Next::ReadFailed => return (client, served.failed(ConnFault::ReadFailed)),
         }
         let opened = match open_kept(server, ledger, rt, client) {
             Ok(opened) => opened,

@@ -10,7 +10,7 @@ use Rattle.atomic_table.specs.Table.{Me, step, keeps, opening, Allows, Splits, J
 use Rattle.atomic_table.proofs.Lists.{at_set, at_snoc, set_again}
 use Rattle.hg_ledger.specs.declared.known.Known.{Known}
 use Rattle.hg_ledger.specs.Promises.{Promise}
-use Rattle.hg_ledger.specs.code.Tallies.{AreAmong, IsTallied, KnownFits, keeper, told, one_more}
+use Rattle.hg_ledger.specs.code.Tallies.{AreAmong, IsTallied, KnownFits, keeper, one_more, seat_with}
 use Rattle.hg_ledger.specs.code.Tallies.{raised, heard_from, united, compared}
 
 off : false ≡ true → ⊥
@@ -47,7 +47,7 @@ fits_set seat now views id w others mine j u e =
     (at_set views id j w u e)
 
 -- one that knows nothing
-spent_fits : (seat : ℕ) (all : List Promise) (at : ℕ) → KnownFits seat all at (told [])
+spent_fits : (seat : ℕ) (all : List Promise) (at : ℕ) → KnownFits seat all at (seat_with [])
 spent_fits seat all at =
     record { kept = λ k. absurd (off k); low = none_among all; heard = none_among all }
 
@@ -79,19 +79,19 @@ raises moment slots id me new keeps_it s r homes at small =
       refl,
     )
 
-pub copies : (id : ℕ) (v : Known) → Splits IsTallied id v v (told v.promises)
+pub copies : (id : ℕ) (v : Known) → Splits IsTallied id v v (seat_with v.promises)
 copies id v s r at =
     let mine = r.2 id v at in (
       r.0,
       r.1,
       λ j u e. ⊎_elim
           (λ was. r.2 j u (subst (λ l. get_elem? l j ≡ some u) (set_again s.views id v at) was))
-          (λ (same : told v.promises ≡ u). subst (KnownFits r.0 r.1 j) same
+          (λ (same : seat_with v.promises ≡ u). subst (KnownFits r.0 r.1 j) same
           (record { kept = λ k. absurd (off k); low = mine.low; heard = none_among r.1 }))
-          (at_snoc (set s.views id v) (told v.promises) u j e),
+          (at_snoc (set s.views id v) (seat_with v.promises) u j e),
     )
 
-pub hears : (id : ℕ) (v : Known) (other : ℕ) (w : Known) → Joins IsTallied id v other w (heard_from v w) (told [])
+pub hears : (id : ℕ) (v : Known) (other : ℕ) (w : Known) → Joins IsTallied id v other w (heard_from v w) (seat_with [])
 hears id v other w s r at apart there =
     let mine = r.2 id v at in
     let both : Known = heard_from v w in
@@ -101,13 +101,13 @@ hears id v other w s r at apart there =
     (at_set s.views id other both w there) in (
       r.0,
       r.1,
-      fits_set r.0 r.1 (set s.views id both) other (told [])
+      fits_set r.0 r.1 (set s.views id both) other (seat_with [])
           (λ j u _ e. fits_set r.0 r.1 s.views id both (λ i y _ e'. r.2 i y e')
           (record { kept = mine.kept; low = mine.low; heard = theirs.low }) j u e)
           (spent_fits r.0 r.1 other),
     )
 
-pub unites : (id : ℕ) (v : Known) (other : ℕ) (w : Known) → Joins IsTallied id v other w (united v w) (told [])
+pub unites : (id : ℕ) (v : Known) (other : ℕ) (w : Known) → Joins IsTallied id v other w (united v w) (seat_with [])
 unites id v other w s r at apart there =
     let mine = r.2 id v at in
     let both : Known = united v w in
@@ -117,7 +117,7 @@ unites id v other w s r at apart there =
     (at_set s.views id other both w there) in (
       r.0,
       r.1,
-      fits_set r.0 r.1 (set s.views id both) other (told [])
+      fits_set r.0 r.1 (set s.views id both) other (seat_with [])
           (λ j u _ e. fits_set r.0 r.1 s.views id both (λ i y _ e'. r.2 i y e')
           (record {
             kept = λ k. absurd (off k);

@@ -135,7 +135,7 @@ impl<J: Storing<A>, D: Device, A: Allocator + Copy> Disk<J, D, A> {
     }
 
     /// Another client sees all that the witness has seen.
-    pub fn tell<R: Wait>(&mut self, rt: &R, server: &Server<J, A>, client: &mut Client<J, A>)
+    pub fn show<R: Wait>(&mut self, rt: &R, server: &Server<J, A>, client: &mut Client<J, A>)
         ensures same { self.new ≡ self.old }
         ensures all { IsPrefix self.old.history client.new }
         ensures later { IsPrefix client.old client.new }

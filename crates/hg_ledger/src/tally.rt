@@ -56,11 +56,11 @@ impl<M: Moment> Play<(), Known> for Raises<M> {
 struct Copies;
 
 impl Split<Known> for Copies {
-    ghost use Rattle.hg_ledger.specs.code.Tallies.{told};
+    ghost use Rattle.hg_ledger.specs.code.Tallies.{seat_with};
 
     ghost left = { λ v. v };
 
-    ghost right = { λ v. told v.promises };
+    ghost right = { λ v. seat_with v.promises };
 }
 
 /// The keeper hears what a seat knows, which is used no more.
@@ -68,11 +68,11 @@ struct Hears;
 
 impl Join<Known> for Hears {
     ghost use Rattle.std.specs.Prelude.{[]};
-    ghost use Rattle.hg_ledger.specs.code.Tallies.{heard_from, told};
+    ghost use Rattle.hg_ledger.specs.code.Tallies.{heard_from, seat_with};
 
     ghost both = { heard_from };
 
-    ghost spent = { told [] };
+    ghost spent = { seat_with [] };
 }
 
 /// A seat knows what it knew and what another does, which is used no more.
@@ -80,11 +80,11 @@ struct Unites;
 
 impl Join<Known> for Unites {
     ghost use Rattle.std.specs.Prelude.{[]};
-    ghost use Rattle.hg_ledger.specs.code.Tallies.{told, united};
+    ghost use Rattle.hg_ledger.specs.code.Tallies.{seat_with, united};
 
     ghost both = { united };
 
-    ghost spent = { told [] };
+    ghost spent = { seat_with [] };
 }
 
 /// The keeper compares what it heard of with all that was promised.

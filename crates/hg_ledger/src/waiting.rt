@@ -221,7 +221,7 @@ impl<J: Storing<A>, D: Device, A: Allocator + Copy> Waiting<J, D, A> {
         }
         self.count = disk.count();
         self.counted = disk.counted(tally);
-        disk.tell(rt, server, &mut self.witness);
+        disk.show(rt, server, &mut self.witness);
     }
 
     /// The client that has seen the history of the records. Those that wait are dropped.

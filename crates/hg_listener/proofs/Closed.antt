@@ -16,7 +16,7 @@ use Rattle.hg_devices.specs.declared.sending.Sending.{Sending}
 use Rattle.hg_devices.specs.declared.sending.Sending.TheVariants.{NoMemory}
 use Rattle.hg_devices.proofs.CallerLemmas.{Adds-nil, Adds-trans}
 use Rattle.hg_listener.specs.declared.terms.Terms.{Terms}
-use Rattle.hg_listener.specs.Doors.{AdmitsAll, DoorUse, Ended}
+use Rattle.hg_listener.specs.Doors.{AdmitsAll, AllOver, DoorUse}
 use Rattle.hg_listener.specs.Closing.{EndsOn, closing_text, status_of}
 
 pub closes : {A : Type 0} (first named repo : Repository A) (terms : Terms) (capacity : ℕ)
@@ -29,7 +29,7 @@ pub closes : {A : Type 0} (first named repo : Repository A) (terms : Terms) (cap
     → (clients : List (List (Taken A))) × (length clients ≡ left) × All (λ c. IsPrefix c (history taker)) clients
     → no_memory ≡ (missed || nat_lt left terms.connections)
     → at ≡ terms → AdmitsAll door mid at failed
-    → TellsMore mid shut (Ended missed ∷ [])
+    → TellsMore mid shut (AllOver missed ∷ [])
     → EndsOn first terms door shut before after status
 closes {A} first named repo terms capacity door mid shut before after status count table taker at journal shown
     sending failed missed no_memory left same room run all sent is of handed lacks on admits last =
@@ -49,7 +49,7 @@ closes {A} first named repo terms capacity door mid shut before after status cou
       asked = asks.0;
       asks = asks.2;
       missed = missed;
-      uses = Adds-trans door mid shut asks.0 (Ended missed ∷ []) asks.1 last;
+      uses = Adds-trans door mid shut asks.0 (AllOver missed ∷ []) asks.1 last;
       clients = handed.0;
       earlier = handed.2;
       memory = subst (λ (n : ℕ). no_memory ≡ (missed || nat_lt n terms.connections)) (sym handed.1) lacks;

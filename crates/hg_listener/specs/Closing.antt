@@ -15,7 +15,7 @@ use Rattle.hg_devices.specs.declared.sending.Sending.{Sending}
 use Rattle.hg_devices.specs.declared.sending.Sending.TheVariants.{Whole, Broken, NoMemory}
 use Rattle.hg_repo.specs.Report.{journal_line, report_of}
 use Rattle.hg_listener.specs.declared.terms.Terms.{Terms}
-use Rattle.hg_listener.specs.Doors.{AsksFor, DoorUse, Ended, IsBounded}
+use Rattle.hg_listener.specs.Doors.{AllOver, AsksFor, DoorUse, IsBounded}
 
 -- The report of the repository, and after it a line for each push of the journal, in its order.
 abbrev pub closing_text : {A : Type 0} → Repository A → List ℕ → List ℕ
@@ -51,7 +51,7 @@ pub record Closes {A : Type 0} (first : Repository A) (terms : Terms) (door shut
   pub asked : List DoorUse
   pub asks : AsksFor terms failed asked
   pub missed : Bool
-  pub uses : TellsMore door shut (asked ++ Ended missed ∷ [])
+  pub uses : TellsMore door shut (asked ++ AllOver missed ∷ [])
   pub clients : List (List (Taken A))
   pub earlier : All (λ c. IsPrefix c history) clients
   pub memory : no_memory ≡ (missed || nat_lt (length clients) terms.connections)

@@ -9,7 +9,7 @@ use Rattle.hg_listener.specs.declared.terms.Terms.{Terms}
 pub data DoorUse : Type 0 where
   Accepted : Bool → DoorUse
   Started : Terms → Bool → DoorUse
-  Ended : Bool → DoorUse
+  AllOver : Bool → DoorUse
 
 -- the nearest number to the one asked for, of 1 to the greatest
 pub record IsNearest (greatest asked used : ℕ) : Type 0 where
@@ -39,9 +39,9 @@ Admits before after terms true = TellsMore before after (Accepted true ∷ Start
 Admits before after terms false = (last : List DoorUse) × TellsMore before after last × ConnectionFails terms last
 
 -- Without a failure as many were served as were asked for. With one, fewer were, and one more failed.
-abbrev pub EndsAt : Terms → Bool → ℕ → List DoorUse → Type 0
-EndsAt terms false count last = (count ≡ terms.connections) × (last ≡ [])
-EndsAt terms true count last = (count < terms.connections) × ConnectionFails terms last
+abbrev pub AsksUpTo : Terms → Bool → ℕ → List DoorUse → Type 0
+AsksUpTo terms false count last = (count ≡ terms.connections) × (last ≡ [])
+AsksUpTo terms true count last = (count < terms.connections) × ConnectionFails terms last
 
 -- A door was asked for the connections of a service of these terms, one after another, and after one that
 -- failed no more.
@@ -49,7 +49,7 @@ pub record AsksFor (terms : Terms) (failed : Bool) (uses : List DoorUse) : Type 
   pub count : ℕ
   pub last : List DoorUse
   pub uses_are : uses ≡ served count terms ++ last
-  pub ends : EndsAt terms failed count last
+  pub ends : AsksUpTo terms failed count last
 
 -- the same, as the door reports it
 abbrev pub AdmitsAll : Option (List DoorUse) → Option (List DoorUse) → Terms → Bool → Type 0

@@ -13,7 +13,7 @@ use std::alloc::Allocator;
 
 /// Writes the report of the repository, and after it a line `J n` for each push of the journal. Says what
 /// became of it, and how many bytes the writer took.
-pub fn tell_closing<A: Allocator + Copy, W: Writer>(
+pub fn send_closing<A: Allocator + Copy, W: Writer>(
     alloc: A,
     repo: &Repo<A>,
     journal: &[u32],

@@ -2,7 +2,7 @@
 
 ghost use Rattle.std.specs.Prelude.{◌∷◌, [], List, Option, None, is_some};
 ghost use Rattle.hg_devices.specs.Devices.{TellsMore};
-ghost use Rattle.hg_listener.specs.Doors.{DoorUse, Accepted, Started, Ended};
+ghost use Rattle.hg_listener.specs.Doors.{DoorUse, Accepted, AllOver, Started};
 
 use crate::terms::Terms;
 use std::net::{TcpListener, TcpStream};
@@ -22,7 +22,7 @@ pub trait Door {
 
     /// Hears, when all connections are over, whether memory was refused for one.
     fn hear_end(&mut self, no_memory: bool)
-        ensures { TellsMore (told self.old) (told self.new) (Ended no_memory ∷ []) };
+        ensures { TellsMore (told self.old) (told self.new) (AllOver no_memory ∷ []) };
 }
 
 /// A listener does not say how it was used.

@@ -7,7 +7,7 @@ ghost use Rattle.hg_serve.specs.Desks.{OpensWith};
 ghost use Rattle.hg_listener.specs.Closing.{EndsService, EndsOn, status_of};
 ghost use Rattle.hg_listener.specs.Doors.{Started, Admits, AdmitsAll};
 
-use crate::closing::tell_closing;
+use crate::closing::send_closing;
 use crate::door::Door;
 use crate::service::Service;
 use crate::terms::Terms;
@@ -126,7 +126,7 @@ where
     door.hear_end(missed);
     let (closed, clients) = service.close();
     let no_memory = lacks_memory(missed, clients, terms.connections);
-    let (sending, _) = tell_closing(alloc, &closed.repo, closed.journal.as_slice(), report);
+    let (sending, _) = send_closing(alloc, &closed.repo, closed.journal.as_slice(), report);
     (status_of(failed, no_memory, sending), door)
 }
 

@@ -6,7 +6,7 @@ use Rattle.std.specs.Fmt.{digit_glyph, digits, digits_onto}
 use Rattle.std.specs.List.{list_any}
 use Rattle.std.specs.Str.Lossy.{utf8_lossy}
 use Rattle.std.proofs.lemmas.Bool.Decides.{nat_tests}
-use Rattle.hg_page.specs.Shown.{character_number, escaped_char, escaped, is_harmful, is_hidden, shown}
+use Rattle.hg_page.specs.Shown.{character_number, escaped_char, html_escaped, is_harmful, is_hidden, shown}
 
 or_none : (x y z : Bool) → (x || y) ≡ false → (y ≡ false → z ≡ false) → (x || z) ≡ false
 or_none true y z e f = e
@@ -126,5 +126,5 @@ all_none [] = refl
 all_none (c ∷ cs) = none_append (escaped_char c) (flat_map escaped_char cs) (char_none c) (all_none cs)
 
 pub shown_none : (name : List ℕ) → list_any is_harmful (shown name) ≡ false
-unfolding escaped
+unfolding html_escaped
 shown_none name = all_none (chars (utf8_lossy name))

@@ -1,7 +1,7 @@
 -- The line of a push.
 use Rattle.std.specs.Prelude.{◌≡◌, ℕ, List, [], ◌++◌, codes, decimal}
-use Rattle.hg_page.specs.declared.push.Ending.{Ending}
-use Rattle.hg_page.specs.declared.push.Ending.TheVariants.{Done, Aborted}
+use Rattle.hg_page.specs.declared.push.ShownOutcome.{ShownOutcome}
+use Rattle.hg_page.specs.declared.push.ShownOutcome.TheVariants.{Done, Aborted}
 use Rattle.hg_page.specs.declared.push.Push.{Push}
 use Rattle.hg_page.specs.declared.push.Reason.{Reason}
 use Rattle.hg_page.specs.declared.push.Reason.TheVariants.{StreamFault}
@@ -17,9 +17,9 @@ abbrev pub reason_text : Reason → List ℕ
 reason_text reason = name_of_reason reason ++ fault_number reason
 
 -- how a push ended: its place, or the reason
-abbrev pub ending_text : Ending → List ℕ
-ending_text (Done place) = codes "push " ++ (decimal place ++ codes " done")
-ending_text (Aborted reason) = codes "aborted, " ++ reason_text reason
+abbrev pub outcome_text : ShownOutcome → List ℕ
+outcome_text (Done place) = codes "push " ++ (decimal place ++ codes " done")
+outcome_text (Aborted reason) = codes "aborted, " ++ reason_text reason
 
 -- what it brought, and what it cost
 unfoldable pub cost_text : Push → List ℕ
@@ -30,4 +30,4 @@ cost_text push = codes ": " ++ (decimal push.changesets ++ (codes " changesets, 
 -- the line: a date, how the push ended, and what it brought and cost
 pub record IsLine (push : Push) (line : List ℕ) : Type 0 where
   pub date : List ℕ
-  pub says : line ≡ date ++ (codes "Z " ++ (ending_text push.ending ++ cost_text push))
+  pub says : line ≡ date ++ (codes "Z " ++ (outcome_text push.outcome ++ cost_text push))

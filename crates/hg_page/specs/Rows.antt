@@ -48,7 +48,7 @@ unfoldable pub bookmark_cell : {A : Type 0} → List (Name A) → ℕ → List �
 bookmark_cell bookmarks more =
     codes "<td>" ++ (flat_map bookmark_text bookmarks ++ (more_text more ++ codes "\n"))
 
--- its row: nothing of a name stands in it but what is shown of it
+-- its row: nothing of a name stands in it except what is shown of it
 unfoldable pub row_of : {A : Type 0} → Head A → List ℕ
 row_of head = id_cell head.node.0 ++ (phase_cell head.phase
     ++ (branch_cell head.branch ++ bookmark_cell head.bookmarks head.more))

@@ -22,13 +22,13 @@ escaped_char c =
     else if c == 34 then codes "&quot;" else if c == 39 then codes "&#39;"
     else if is_hidden c then character_number c else encode_utf8 c
 
--- a text with each character escaped
-unfoldable pub escaped : List ℕ → List ℕ
-escaped text = flat_map escaped_char (chars text)
+-- a text with each character escaped, as HTML has it
+unfoldable pub html_escaped : List ℕ → List ℕ
+html_escaped text = flat_map escaped_char (chars text)
 
 -- a name as it is shown: bytes that are no UTF-8 are the replacement character
 abbrev pub shown : List ℕ → List ℕ
-shown name = escaped (utf8_lossy name)
+shown name = html_escaped (utf8_lossy name)
 
 -- a byte that begins or ends a tag or a value, or a control byte: `<`, `>`, quotes, those below 32, and 127
 abbrev pub is_harmful : ℕ → Bool

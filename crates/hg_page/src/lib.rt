@@ -32,6 +32,6 @@ pub use metrics::metrics_text;
 pub use name::{Name, first_of, push_shown};
 pub use page::page_text;
 pub use phases::{PhaseCounts, count_phases};
-pub use push::{Ending, Push, REASONS, Reason};
+pub use push::{Push, REASONS, Reason, ShownOutcome};
 pub use summary::Summary;
 pub use tally::{Counters, Tally};

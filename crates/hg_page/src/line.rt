@@ -1,11 +1,11 @@
 //! The line of a push.
 
 ghost use Rattle.std.specs.Prelude.{◌≡◌, ◌++◌, IfOk, OnOk, string_bytes};
-ghost use Rattle.hg_page.specs.Line.{cost_text, ending_text, reason_text, IsLine};
+ghost use Rattle.hg_page.specs.Line.{cost_text, outcome_text, reason_text, IsLine};
 
 use crate::date::{date_of, push_day, push_time};
 use crate::numbers::push_millis;
-use crate::push::{Ending, Push, Reason};
+use crate::push::{Push, Reason, ShownOutcome};
 use hg_types::{NoMemory, Seq};
 use std::alloc::Allocator;
 
@@ -20,7 +20,7 @@ pub fn log_line<A: Allocator + Copy>(alloc: A, push: &Push) -> Result<Seq<u8, A>
     line.push('T')?;
     push_time(&mut line, &date)?;
     line.push_str("Z ")?;
-    push_ending(&mut line, push.ending)?;
+    push_outcome(&mut line, push.outcome)?;
     push_cost(&mut line, push)?;
     Ok(Seq::from_vec(line.into_bytes()))
 }
@@ -41,12 +41,12 @@ fn push_cost<A: Allocator>(line: &mut String<A>, push: &Push) -> Result<(), NoMe
 }
 
 /// Adds how a push ended: its place, or the reason.
-fn push_ending<A: Allocator>(line: &mut String<A>, ending: Ending) -> Result<(), NoMemory>
-    ensures { OnOk result (string_bytes line.new ≡ string_bytes line.old ++ ending_text ending) }
+fn push_outcome<A: Allocator>(line: &mut String<A>, outcome: ShownOutcome) -> Result<(), NoMemory>
+    ensures { OnOk result (string_bytes line.new ≡ string_bytes line.old ++ outcome_text outcome) }
 {
-    match ending {
-        Ending::Done(place) => write!(line, "push {place} done")?,
-        Ending::Aborted(reason) => {
+    match outcome {
+        ShownOutcome::Done(place) => write!(line, "push {place} done")?,
+        ShownOutcome::Aborted(reason) => {
             line.push_str("aborted, ")?;
             push_reason(line, reason)?;
         }

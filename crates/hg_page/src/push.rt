@@ -91,7 +91,7 @@ impl Reason {
 
 /// How a push ended.
 #[derive(Clone, Copy, Debug, PartialEq, Eq)]
-pub enum Ending {
+pub enum ShownOutcome {
     /// It was done, and its place in the journal, which begins with 0.
     Done(u64),
     /// It was aborted and changed nothing.
@@ -103,7 +103,7 @@ pub enum Ending {
 pub struct Push {
     /// When it was answered: seconds since the beginning of 1970.
     pub time: u64,
-    pub ending: Ending,
+    pub outcome: ShownOutcome,
     /// How many changesets it added.
     pub changesets: u64,
     /// How many bytes its bundle had.

@@ -9,7 +9,7 @@ use crate::holdings::Head;
 use crate::line::push_reason;
 use crate::name::{Name, push_shown};
 use crate::numbers::push_millis;
-use crate::push::{Ending, Push};
+use crate::push::{Push, ShownOutcome};
 use hg_types::{NoMemory, Node, Phase};
 use std::alloc::Allocator;
 
@@ -180,7 +180,7 @@ pub fn push_row<A: Allocator + Copy>(alloc: A, push: &Push) -> Result<String<A>,
     push_day(&mut row, &date)?;
     row.push_str("</i> ")?;
     push_time(&mut row, &date)?;
-    push_ending(&mut row, push.ending)?;
+    push_outcome(&mut row, push.outcome)?;
     let changesets = push.changesets;
     let bytes = push.bytes;
     write!(row, "<td>{changesets}<td>{bytes}<td>")?;
@@ -192,10 +192,10 @@ pub fn push_row<A: Allocator + Copy>(alloc: A, push: &Push) -> Result<String<A>,
 }
 
 /// Adds the cell that says how a push ended.
-fn push_ending<A: Allocator>(row: &mut String<A>, ending: Ending) -> Result<(), NoMemory> {
-    match ending {
-        Ending::Done(place) => write!(row, "<td>{place}")?,
-        Ending::Aborted(reason) => {
+fn push_outcome<A: Allocator>(row: &mut String<A>, outcome: ShownOutcome) -> Result<(), NoMemory> {
+    match outcome {
+        ShownOutcome::Done(place) => write!(row, "<td>{place}")?,
+        ShownOutcome::Aborted(reason) => {
             row.push_str("<td class=no>")?;
             push_reason(row, reason)?;
         }

@@ -1,9 +1,9 @@
 //! The pushes since a start, counted, and the last of them.
 
 ghost use Rattle.std.specs.Prelude.{◌≡◌, ◌≤◌, [], vec_capacity, IfOk};
-ghost use Rattle.hg_page.specs.Tally.{counted, kept, no_pushes};
+ghost use Rattle.hg_page.specs.Tally.{counted, no_pushes, recent_with};
 
-use crate::push::{Ending, Push, REASONS};
+use crate::push::{Push, REASONS, ShownOutcome};
 use hg_types::{NoMemory, Seq};
 use std::alloc::{Allocator, Global};
 
@@ -74,7 +74,7 @@ impl<A: Allocator> Tally<A> {
     /// Counts a push, and keeps it in the place of the oldest that is kept.
     pub fn add(&mut self, push: Push)
         ensures counters { self.new.counters ≡ counted self.old.counters push }
-        ensures recent { self.new.recent.items ≡ kept self.old.recent.items push }
+        ensures recent { self.new.recent.items ≡ recent_with self.old.recent.items push }
     {
         self.counters = with_push(self.counters, &push);
         keep(&mut self.recent, push);
@@ -82,10 +82,10 @@ impl<A: Allocator> Tally<A> {
 }
 
 /// Keeps a push, in the place of the oldest where there are a hundred.
-#[tactic(auto, unfolding(crate::specs::Tally::kept))]
+#[tactic(auto, unfolding(crate::specs::Tally::recent_with))]
 fn keep<A: Allocator>(recent: &mut Vec<Push, A>, push: Push)
     requires { 100 ≤ vec_capacity recent.old }
-    ensures items { recent.new.items ≡ kept recent.old.items push }
+    ensures items { recent.new.items ≡ recent_with recent.old.items push }
     ensures room { 100 ≤ vec_capacity recent.new }
 {
     if recent.len() < RECENT {
@@ -102,9 +102,9 @@ fn with_push(counters: Counters, push: &Push) -> Counters
     ensures { result ≡ counted counters push.now }
 {
     let mut counters = counters;
-    match push.ending {
-        Ending::Done(_) => counters.done = counters.done.saturating_add(1),
-        Ending::Aborted(reason) => {
+    match push.outcome {
+        ShownOutcome::Done(_) => counters.done = counters.done.saturating_add(1),
+        ShownOutcome::Aborted(reason) => {
             let place = reason.place();
             counters.aborted[place] = counters.aborted[place].saturating_add(1);
         }

@@ -220,7 +220,7 @@ fn ten_thousand_heads_and_bookmarks(rt: HostRuntime) -> Result<(), Fail> {
     for number in 0..150u64 {
         tally.add(Push {
             time: u64::MAX,
-            ending: Ending::Done(number),
+            outcome: ShownOutcome::Done(number),
             changesets: u64::MAX,
             bytes: u64::MAX,
             locked: u64::MAX,
@@ -259,7 +259,7 @@ fn show_all<A: Allocator + Copy>(alloc: A, state: RandomState) -> Result<(), NoM
     parts.bookmarks.set(alloc, b"name", Some(node))?;
     let push = Push {
         time: 0,
-        ending: Ending::Aborted(Reason::NoMemory),
+        outcome: ShownOutcome::Aborted(Reason::NoMemory),
         changesets: 0,
         bytes: 12,
         locked: 1,
@@ -303,14 +303,14 @@ fn the_numbers(rt: HostRuntime) -> Result<(), Fail> {
     parts.bookmarks.set(alloc, b"@", Some(node))?;
     let mut push = Push {
         time: 1_795_500_001,
-        ending: Ending::Done(0),
+        outcome: ShownOutcome::Done(0),
         changesets: 1,
         bytes: 400,
         locked: 1_500_000,
         synced: 2_000_001,
     };
     tally.add(push);
-    push.ending = Ending::Aborted(Reason::HeadsChanged);
+    push.outcome = ShownOutcome::Aborted(Reason::HeadsChanged);
     push.changesets = 0;
     tally.add(push);
     let summary = summary(alloc, &parts, &tally)?;

@@ -10,10 +10,10 @@ fn is_text<A: Allocator>(told: Result<Seq<u8, A>, NoMemory>, wanted: &[u8]) -> b
 }
 
 /// A push of 2026-11-25 06:12:03.
-fn push(ending: Ending) -> Push {
+fn push(outcome: ShownOutcome) -> Push {
     Push {
         time: 1_795_587_123,
-        ending,
+        outcome,
         changesets: 3,
         bytes: 1627,
         locked: 412,
@@ -25,13 +25,16 @@ fn push(ending: Ending) -> Push {
 fn the_line_of_a_push(rt: HostRuntime) {
     assert!(rt;
         is_text(
-            log_line(rt.alloc(), &push(Ending::Done(17))),
+            log_line(rt.alloc(), &push(ShownOutcome::Done(17))),
             b"2026-11-25T06:12:03Z push 17 done: 3 changesets, 1627 bytes, 0.412 ms in the lock, 3.100 ms for the disk\n"
         )
     );
     assert!(rt;
         is_text(
-            log_line(rt.alloc(), &push(Ending::Aborted(Reason::StreamFault(4)))),
+            log_line(
+                rt.alloc(),
+                &push(ShownOutcome::Aborted(Reason::StreamFault(4)))
+            ),
             b"2026-11-25T06:12:03Z aborted, stream fault 4: 3 changesets, 1627 bytes, 0.412 ms in the lock, 3.100 ms for the disk\n"
         )
     );

@@ -11,9 +11,9 @@ use Rattle.hg_replay.specs.Answering.{empty_repository}
 use Rattle.hg_replay.specs.Seeding.{Seeds}
 
 -- the repository before the first connection: the one that the seed gives, or the empty one
-abbrev pub Begins : {A : Type 0} → Bool → Option Input → Result (Repository A) SeedFault → Type 0
-Begins publishing None first = first ≡ Ok (empty_repository publishing)
-Begins publishing (Some input) first = (left : Input) × Seeds publishing input left first
+abbrev pub IsFirstRepository : {A : Type 0} → Bool → Option Input → Result (Repository A) SeedFault → Type 0
+IsFirstRepository publishing None first = first ≡ Ok (empty_repository publishing)
+IsFirstRepository publishing (Some input) first = (left : Input) × Seeds publishing input left first
 
 -- the status where there is no repository to begin with
 abbrev pub fault_status : SeedFault → ℕ
@@ -34,5 +34,5 @@ EndsFrom (Err fault) terms door shut before after status = (shut ≡ door) × (a
 pub record Serves (A : Type 0) (publishing : Bool) (seed : Option Input) (terms : Terms)
     (door shut : Option (List DoorUse)) (before after : Output) (status : ℕ) : Type 0 where
   pub first : Result (Repository A) SeedFault
-  pub begins : Begins publishing seed first
+  pub begins : IsFirstRepository publishing seed first
   pub ends : EndsFrom first terms door shut before after status

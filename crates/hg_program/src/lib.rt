@@ -1,4 +1,5 @@
-//! The commands of `hg_pushd`, as functions that give a status: all but `host` and the command line itself.
+//! The commands of `hg_pushd`, as functions that give a status: all except `host` and the command line
+//! itself.
 //!
 //! [`one`] runs a bundle from standard input, [`replay`] the bundles of files, and [`serve`] the bundles of
 //! connections. [`hg_replay::run_one`] and [`hg_replay::run_replay`] are the first two from any readers to any

@@ -3,7 +3,7 @@
 ghost use Rattle.std.specs.Prelude.{◌≡◌, IfOk};
 ghost use Rattle.std.specs.Option.{option_map};
 ghost use Rattle.hg_types.specs.Limits.{IsAllowed};
-ghost use Rattle.hg_program.specs.Serving.{Begins, Serves, fault_status};
+ghost use Rattle.hg_program.specs.Serving.{IsFirstRepository, Serves, fault_status};
 
 use hg_devices::{Reader, Writer};
 use hg_listener::{Door, Terms, serve_repository};
@@ -58,7 +58,7 @@ fn first_repository<S: Reader>(
     publishing: bool,
     seed: Option<&mut S>,
 ) -> Result<Repo, SeedFault>
-    ensures begins { Begins publishing (option_map (λ s. S.told s.now) seed.entry) result }
+    ensures begins { IsFirstRepository publishing (option_map (λ s. S.told s.now) seed.entry) result }
     ensures limits { IfOk result (λ repo. IsAllowed repo.settings.limits) }
 {
     match seed {

@@ -4,7 +4,7 @@ ghost use Rattle.hg_opening.specs.Opening.{IsOpened};
 
 use hg_archive::TornNote;
 use hg_command::{Hosting, tell};
-use hg_host::{HostTerms, HostingRuntime, Over, host as serve_store};
+use hg_host::{HostTerms, HostingRuntime, Over, serve_store};
 use hg_opening::{OpeningFault, Recovered, recover_store};
 use hg_program::device_status;
 use hg_store::{Device, HostFile, StoreFile};

@@ -19,7 +19,7 @@ pub trait Shown<A: Allocator> {
     ghost are_metrics: { Self → Repository A → List ℕ → Type 0 };
 
     /// The page at `/`: a document in HTML. It is sent as `text/html; charset=utf-8`, with a policy that lets
-    /// nothing in but its own styles.
+    /// nothing in except its own styles.
     fn page(&self, alloc: A, repo: &Repo<A>) -> Result<Seq<u8, A>, NoMemory>
         ensures { IfOk result (λ text. is_page self.now repo.now text) };
 
@@ -30,7 +30,7 @@ pub trait Shown<A: Allocator> {
 
 /// How a push ended that came over HTTP.
 #[derive(Drop)]
-pub struct Pushed<'a, A: Allocator = Global> {
+pub struct WatchedPush<'a, A: Allocator = Global> {
     /// Why it was aborted, or that it is done.
     pub outcome: &'a Outcome<Done<A>, Refusal<A>>,
     /// How many done pushes its answer rests on, since the server was made. The place of a done push is one less.
@@ -45,5 +45,5 @@ pub struct Pushed<'a, A: Allocator = Global> {
 /// (after `Marked` it waits for the lock, after `Answered` for the device), and of each push that ended, before
 /// its answer is sent.
 pub trait Watch<A: Allocator>: Gate {
-    fn pushed(&mut self, pushed: &Pushed<'_, A>);
+    fn pushed(&mut self, pushed: &WatchedPush<'_, A>);
 }

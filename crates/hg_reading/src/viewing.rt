@@ -38,7 +38,7 @@ impl<S: Shown<A>, A: Allocator + Copy> Question<A, Result<Seq<u8, A>, NoMemory>>
 
 /// The answer that shows a view: after a report stands a line for each push that the store had and for each that
 /// was done here. Or that there was no memory for it.
-pub fn shown<A: Allocator + Copy>(
+pub fn shown_answer<A: Allocator + Copy>(
     alloc: A,
     view: View,
     text: Result<Seq<u8, A>, NoMemory>,

@@ -4,7 +4,8 @@ ghost use Rattle.hg_types.specs.Limits.{IsAllowed};
 
 use hg_http::{Answer, Read, Refusal, View};
 use hg_reading::{
-    Batch, LongBatch, Reading, Shown, Viewing, batch_text, have_long, is_long, refusal_of, shown,
+    Batch, LongBatch, Reading, Shown, Viewing, batch_text, have_long, is_long, refusal_of,
+    shown_answer,
 };
 use hg_repo::Repo;
 use hg_serve::Question;
@@ -220,7 +221,7 @@ fn shows<A: Allocator + Copy>(alloc: A, repo: &Repo<A>, view: View, wanted: &[u8
         shown: &Words,
         view,
     };
-    match shown(alloc, view, question.ask(repo), 1, 2) {
+    match shown_answer(alloc, view, question.ask(repo), 1, 2) {
         Answer::Shown(_, text) => text.as_slice() == wanted,
         _ => false,
     }

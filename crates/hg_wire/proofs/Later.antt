@@ -9,8 +9,8 @@ use Rattle.hg_told.specs.declared.form.Field.{Field}
 use Rattle.hg_http.specs.declared.answer.Answer.{Answer}
 use Rattle.hg_http.specs.declared.answer.Refusal.{Refusal}
 use Rattle.hg_http.specs.declared.command.Command.{Command}
-use Rattle.hg_http.specs.declared.command.Command.TheVariants.{Tell, Capabilities, Batch, Unbundle, PushKey}
-use Rattle.hg_http.specs.declared.command.Command.TheVariants.{GetBundle}
+use Rattle.hg_http.specs.declared.command.Command.TheVariants.{ReadOnly, Capabilities, Batch, Unbundle}
+use Rattle.hg_http.specs.declared.command.Command.TheVariants.{GetBundle, PushKey}
 use Rattle.hg_http.specs.declared.view.View.{View}
 use Rattle.hg_http.specs.Commands.{command_of}
 use Rattle.hg_http.specs.Requests.{arguments_of, is_from_client, name_of}
@@ -18,7 +18,7 @@ use Rattle.hg_wire.specs.Answering.{AnswersAsked, AnswersBatch, AnswersCommand, 
 use Rattle.hg_wire.specs.Answering.{AnswersView, Around, IfFromClient, IsSaid, IsSaidAt}
 use Rattle.hg_wire.specs.Looking.{LooksKept}
 use Rattle.hg_wire.specs.Pushes.{How, IsPushAnswered, Pushes}
-use Rattle.hg_wire.specs.declared.push.Told.{Told as ToldPush}
+use Rattle.hg_wire.specs.declared.push.KeptPush.{KeptPush}
 
 -- a client has seen what it has seen
 pub is_as_late : {A : Type 0} (client : KeptSeen A) → IsLater client client
@@ -29,9 +29,9 @@ same_later before after is = subst (λ c. IsLater before c) (sym is) (is_as_late
 
 -- whoever looked has seen what it had seen, or more
 pub looked_later : {A : Type 0} (first : RepositoryOf A) (kept : KeptSeen A → ℕ → Type 0)
-    (before after : KeptSeen A) (Tells : Repository A → Type 0) → LooksKept first kept before after Tells →
+    (before after : KeptSeen A) (Answers : Repository A → Type 0) → LooksKept first kept before after Answers →
     IsLater before after
-looked_later first kept before after Tells look = record { seen = look.looks.earlier; grows = look.grows }
+looked_later first kept before after Answers look = record { seen = look.looks.earlier; grows = look.grows }
 
 module _ {A : Type 0} (capacity : ℕ) (first : RepositoryOf A) (kept : KeptSeen A → ℕ → Type 0)
     (before : KeptSeen A) (answer : Answer A) (after : KeptSeen A)
@@ -44,7 +44,7 @@ module _ {A : Type 0} (capacity : ℕ) (first : RepositoryOf A) (kept : KeptSeen
     said_at_later says IsText is =
         looked_later first kept before after (λ repo. IsText repo is.text) is.looks
 
-    pushes_later : (body : List ℕ) (ended : Option (ToldPush A)) →
+    pushes_later : (body : List ℕ) (ended : Option (KeptPush A)) →
         Pushes capacity first kept before body ended after → IsLater before after
     pushes_later body None is = same_later before after is
     pushes_later body (Some told) is =
@@ -80,7 +80,7 @@ module _ {A : Type 0} (capacity : ℕ) (first : RepositoryOf A) (kept : KeptSeen
         IsLater before after
     command_later pull Capabilities fields r is = said_later _ is
     command_later pull GetBundle fields r is = said_later _ is
-    command_later pull (Tell read) fields r is = said_at_later _ _ is
+    command_later pull (ReadOnly read) fields r is = said_at_later _ _ is
     command_later pull Batch fields r is = batch_later _ _ is
     command_later pull Unbundle fields r is = from_later (is_from_client r) _ (forced_later _ _) is
     command_later pull PushKey fields r is = from_later (is_from_client r) _ (key_later _ _ _ _ _) is

@@ -16,14 +16,14 @@ use Rattle.hg_receiving.specs.declared.ending.BundleEnd.TheVariants.{InputEnded,
 use Rattle.hg_receiving.specs.Receiving.{IsReceived, last_read, Ran, StopsBundle}
 use Rattle.hg_store.specs.declared.head.Head.{Head}
 use Rattle.hg_ledger.specs.Clients.{IsCovered, IsLater, KeptSeen}
-use Rattle.hg_connection.specs.Connections.{TellsOf}
-use Rattle.hg_kept.specs.Kept.{KeptExchange, KeptReply, Replies, ServesKept}
+use Rattle.hg_connection.specs.Connections.{IsReported}
+use Rattle.hg_kept.specs.Kept.{IsReplied, KeptExchange, KeptReply, ServesKept}
 use Rattle.hg_kept.specs.declared.served.Replied.{Replied}
 use Rattle.hg_kept.specs.declared.served.Replied.TheVariants.{Sent, NotStored}
-use Rattle.hg_http.specs.Bodies.{BodyView, given, told_of}
-use Rattle.hg_wire.specs.code.Rounds.{TellsRound}
-use Rattle.hg_wire.specs.Pushes.{How, IsPush, Pushed}
-use Rattle.hg_wire.specs.declared.push.Told.{Told}
+use Rattle.hg_http.specs.Bodies.{BodyView, given, input_of}
+use Rattle.hg_wire.specs.code.Rounds.{IsOfRound}
+use Rattle.hg_wire.specs.Pushes.{How, IsPush, PushesOrFails}
+use Rattle.hg_wire.specs.declared.push.KeptPush.{KeptPush}
 
 -- no read failed
 abbrev AllGave : List ReadAnswer → Type 0
@@ -69,7 +69,7 @@ module _ {A D : Type 0} (seen : D → List ℕ) (may_leave : D → List ℕ → 
   where
     abbrev Serves : List ℕ → BodyView → List ℕ → KeptSeen A → Type 0
     Serves waited start out before = ServesKept seen may_leave moment head stored limits capacity first waited waiting
-        (told_of start) (told_of left) (has out) (has reply) before x
+        (input_of start) (input_of left) (has out) (has reply) before x
 
     pub begun : (waited waited_at : List ℕ) (start start_at : BodyView) (out out_at : List ℕ)
         (before before_at : KeptSeen A) → waited ≡ waited_at → start ≡ start_at → out ≡ out_at →
@@ -85,7 +85,7 @@ module _ {A D : Type 0} (seen : D → List ℕ) (may_leave : D → List ℕ → 
     (before after : KeptSeen A) (body waiting : List ℕ) (left : BodyView) (reply : List ℕ)
     (x : KeptExchange A)
     (v : ServesKept seen may_leave moment head stored limits capacity first [] waiting
-    (told_of (record { bytes = body; at = 0; reads = [] })) (told_of left)
+    (input_of (record { bytes = body; at = 0; reads = [] })) (input_of left)
     (record { taken = Some []; uses = None }) (record { taken = Some reply; uses = None }) before x)
     (same : limits ≡ first.settings.limits)
   where
@@ -100,7 +100,7 @@ module _ {A D : Type 0} (seen : D → List ℕ) (may_leave : D → List ℕ → 
     took_all ended =
         let none : x.rest ≡ [] = subst (λ e. StopsBundle A e limits [] v.is.received.pieces x.consumed x.rest) ended
         v.is.received.stops in
-        let at_end : rest ≡ [] = subst (λ e. Ran e (told_of left)) ended v.flows.ran in
+        let at_end : rest ≡ [] = subst (λ e. Ran e (input_of left)) ended v.flows.ran in
         ap (λ l. l ++ rest) none ∙ at_end
 
     is_push : kept x.after x.sending.rests → IsPush capacity first kept before body x
@@ -128,9 +128,9 @@ module _ {A D : Type 0} (seen : D → List ℕ) (may_leave : D → List ℕ → 
         (subst (λ s. IsSent s x.gone x.uses (reply_of how)) h.1 sent)))
 
     tells : {E : Type 0} (how : How A) (replied : Replied) → x.how ≡ how → x.after ≡ after →
-        Replies seen may_leave moment head stored first x.after x.sending.rests (reply_of x.how) x.gone x.uses replied →
-        (told : Result (Option (Told A)) E) → TellsRound how reply replied told →
-        Pushed capacity first kept before body told after
+        IsReplied seen may_leave moment head stored first x.after x.sending.rests (reply_of x.how) x.gone x.uses replied →
+        (told : Result (Option (KeptPush A)) E) → IsOfRound how reply replied told →
+        PushesOrFails capacity first kept before body told after
     tells how NotStored is then replies (Ok told) t = absurd t
     tells how NotStored is then replies (Err e) t =
         subst (λ h. IsLater before h) then (record { seen = v.is.answers.earlier; grows = v.is.grows })
@@ -146,10 +146,10 @@ module _ {A D : Type 0} (seen : D → List ℕ) (may_leave : D → List ℕ → 
     )
 
     pub pushed : {E : Type 0} (ending : BundleEnd) (how : How A) (takes rests written : ℕ) (replied : Replied) →
-        TellsOf x ending how takes (record { rests = rests; replied = replied }) written after →
-        (told : Result (Option (Told A)) E) → TellsRound how reply replied told →
-        Pushed capacity first kept before body told after
+        IsReported x ending how takes (record { rests = rests; replied = replied }) written after →
+        (told : Result (Option (KeptPush A)) E) → IsOfRound how reply replied told →
+        PushesOrFails capacity first kept before body told after
     pushed ending how takes rests written replied o told t =
-        tells how replied o.how_is o.after_is (subst (λ r. Replies seen may_leave moment head stored first x.after
+        tells how replied o.how_is o.after_is (subst (λ r. IsReplied seen may_leave moment head stored first x.after
         x.sending.rests (reply_of x.how) x.gone x.uses r) (ap (λ (s : KeptReply). s.replied) o.sending_is) v.is.replies)
         told t

@@ -17,12 +17,13 @@ use Rattle.http_server.specs.History.{History, IsDone, IsServed, Rests, WantsRea
 use Rattle.http_server.proofs.KnownLemmas.{Appends-then, Consumes-then}
 use Rattle.http_server.proofs.StreamLemmas.{Chain-append}
 use Rattle.http_server.proofs.Theorems.{never_stalls}
-use Rattle.hg_wire.specs.Serving.{calls_of, Converses, Ends, IsRefused, IsTold, no_room_text, read_of, Refused, sent_of}
+use Rattle.hg_wire.specs.Serving.{calls_of, Converses, EndsConnection, IsNoRoomAnswer, IsRefused}
+use Rattle.hg_wire.specs.Serving.{no_room_text, read_of, Refused, sent_of}
 use Rattle.hg_follow.specs.declared.follow.Follower.{Follower}
 use Rattle.hg_follow.specs.Following.{FollowsAt, KeepsUp, limits_of}
 use Rattle.hg_wire.specs.code.Following.{IsHeld, Passes}
-use Rattle.hg_wire.specs.declared.serve.Finish.{Finish}
-use Rattle.hg_wire.specs.declared.serve.Finish.TheVariants.{NotStored}
+use Rattle.hg_wire.specs.declared.serve.ConnectionEnd.{ConnectionEnd}
+use Rattle.hg_wire.specs.declared.serve.ConnectionEnd.TheVariants.{NotStored}
 
 -- what holds of each holds with one more
 each_more : {X : Type 0} (P : X → Type 0) (xs : List X) (x : X) → AllByRecursion P xs → P x →
@@ -86,7 +87,7 @@ module _ {V : Type 0} (config : Config) (answers : V → Asked (List ℕ) → Re
       Consumes left middle h.received → Consumes middle rest dropped → Appends sent between h.sent →
       Appends between wrote (no_room_text false) → SoFar config answers old new input rest out wrote
   one_refused old now new input left middle rest out sent between wrote h dropped x is calls read passed written
-      told =
+      answer =
       let last : Refused = record { history = h; dropped = dropped } in
       record {
         refused = x.refused ++ last ∷ [];
@@ -98,16 +99,16 @@ module _ {V : Type 0} (config : Config) (answers : V → Asked (List ℕ) → Re
             (Consumes-then left middle rest h.received dropped read passed));
         written = subst (λ bytes. Appends out wrote bytes) (sym (one_more sent_of x.refused last))
             (Appends-then out sent wrote (flat_map sent_of x.refused) (h.sent ++ no_room_text false) x.written
-            (Appends-then sent between wrote h.sent (no_room_text false) written told));
+            (Appends-then sent between wrote h.sent (no_room_text false) written answer));
       }
 
   pub ends_with : (breaks : Type 0) (old now new : V)
-      (input left middle rest out sent between wrote : Option (List ℕ)) (h : History) (passed told : List ℕ) →
+      (input left middle rest out sent between wrote : Option (List ℕ)) (h : History) (passed answer : List ℕ) →
       SoFar config answers old now input left out sent → ∥ IsServed config h ∥₁ → Chain answers now h.calls new →
       Consumes left middle h.received → Consumes middle rest passed → Appends sent between h.sent →
-      Appends between wrote told → Ends breaks config h passed told →
+      Appends between wrote answer → EndsConnection breaks config h passed answer →
       Converses breaks config answers old new input rest out wrote
-  ends_with breaks old now new input left middle rest out sent between wrote h passed told x served calls read
+  ends_with breaks old now new input left middle rest out sent between wrote h passed answer x served calls read
       dropped written last ends =
       record {
         refused = x.refused;
@@ -116,12 +117,12 @@ module _ {V : Type 0} (config : Config) (answers : V → Asked (List ℕ) → Re
         served = served;
         calls = Chain-append answers (flat_map calls_of x.refused) h.calls old now new x.calls calls;
         passed = passed;
-        told = told;
+        answer = answer;
         ends = ends;
         read = Consumes-then input left rest (flat_map read_of x.refused) (h.received ++ passed) x.read
             (Consumes-then left middle rest h.received passed read dropped);
-        written = Appends-then out sent wrote (flat_map sent_of x.refused) (h.sent ++ told) x.written
-            (Appends-then sent between wrote h.sent told written last);
+        written = Appends-then out sent wrote (flat_map sent_of x.refused) (h.sent ++ answer) x.written
+            (Appends-then sent between wrote h.sent answer written last);
       }
 
   -- where no body was refused in the last stretch
@@ -150,19 +151,19 @@ is_refused config h f dropped served held passes =
     }
 
 -- how a refused request ends a connection
-pub ends_refused : (breaks : Type 0) (config : Config) (h : History) (f : Follower) (dropped told : List ℕ) →
+pub ends_refused : (breaks : Type 0) (config : Config) (h : History) (f : Follower) (dropped answer : List ℕ) →
     breaks → ∥ IsServed config h ∥₁ → IsHeld config h f →
-    (told ≡ []) ⊎ (Passes f dropped × ((is_last : Bool) × IsPrefix told (no_room_text is_last))) →
-    Ends breaks config h dropped told
-ends_refused breaks config h f dropped told broke served held (inl none) =
+    (answer ≡ []) ⊎ (Passes f dropped × ((is_last : Bool) × IsPrefix answer (no_room_text is_last))) →
+    EndsConnection breaks config h dropped answer
+ends_refused breaks config h f dropped answer broke served held (inl none) =
     inr (inl (broke, held.0, held.1, none))
-ends_refused breaks config h f dropped told broke served held (inr front) =
+ends_refused breaks config h f dropped answer broke served held (inr front) =
     inr (inr (is_refused config h f dropped served held front.0, inr (broke, front.1)))
 
-pub ends_last : (breaks : Type 0) (config : Config) (h : History) (f : Follower) (dropped told : List ℕ) →
-    ∥ IsServed config h ∥₁ → IsHeld config h f → Passes f dropped → told ≡ no_room_text true →
-    Ends breaks config h dropped told
-ends_last breaks config h f dropped told served held passes is =
+pub ends_last : (breaks : Type 0) (config : Config) (h : History) (f : Follower) (dropped answer : List ℕ) →
+    ∥ IsServed config h ∥₁ → IsHeld config h f → Passes f dropped → answer ≡ no_room_text true →
+    EndsConnection breaks config h dropped answer
+ends_last breaks config h f dropped answer served held passes is =
     inr (inr (is_refused config h f dropped served held passes, inl is))
 
 -- a failure is no success
@@ -170,15 +171,15 @@ pub is_broken : {T E : Type 0} (result : Result T E) (error : E) (value : T) →
 is_broken result error value is = λ done. let clash = sym is ∙ done in cc
 
 -- another word for a connection that breaks off
-told_as : (A B : Type 0) (told : List ℕ) → (A → B) → IsTold A told → IsTold B told
-told_as A B told f (inl is) = inl is
-told_as A B told f (inr front) = inr (f front.0, front.1)
+answer_as : (A B : Type 0) (answer : List ℕ) → (A → B) → IsNoRoomAnswer A answer → IsNoRoomAnswer B answer
+answer_as A B answer f (inl is) = inl is
+answer_as A B answer f (inr front) = inr (f front.0, front.1)
 
-ends_as : (A B : Type 0) (config : Config) (h : History) (passed told : List ℕ) → (A → B) →
-    Ends A config h passed told → Ends B config h passed told
-ends_as A B config h passed told f (inl none) = inl none
-ends_as A B config h passed told f (inr (inl broke)) = inr (inl (f broke.0, broke.1, broke.2, broke.3))
-ends_as A B config h passed told f (inr (inr refused)) = inr (inr (refused.0, told_as A B told f refused.1))
+ends_as : (A B : Type 0) (config : Config) (h : History) (passed answer : List ℕ) → (A → B) →
+    EndsConnection A config h passed answer → EndsConnection B config h passed answer
+ends_as A B config h passed answer f (inl none) = inl none
+ends_as A B config h passed answer f (inr (inl broke)) = inr (inl (f broke.0, broke.1, broke.2, broke.3))
+ends_as A B config h passed answer f (inr (inr refused)) = inr (inr (refused.0, answer_as A B answer f refused.1))
 
 pub converses_as : {V : Type 0} (A B : Type 0) (config : Config)
     (answers : V → Asked (List ℕ) → Response → V → Type 0) (old new : V) (input left out sent : Option (List ℕ)) →
@@ -191,8 +192,8 @@ converses_as A B config answers old new input left out sent f x = record {
   served = x.served;
   calls = x.calls;
   passed = x.passed;
-  told = x.told;
-  ends = ends_as A B config x.history x.passed x.told f x.ends;
+  answer = x.answer;
+  ends = ends_as A B config x.history x.passed x.answer f x.ends;
   read = x.read;
   written = x.written;
 }
@@ -238,10 +239,10 @@ is_held config h f rests none more limits follows =
     )
 
 -- what is told where the store did not fail
-pub not_failed : (failed : Bool) (finish : Finish) → (failed ≡ true → finish ≡ NotStored) →
-    finish ≢ NotStored → failed ≡ false
-not_failed true finish told other = absurd (other (told refl))
-not_failed false finish told other = refl
+pub not_failed : (failed : Bool) (end : ConnectionEnd) → (failed ≡ true → end ≡ NotStored) →
+    end ≢ NotStored → failed ≡ false
+not_failed true end says other = absurd (other (says refl))
+not_failed false end says other = refl
 
 -- what waits to be sent where nothing wants to be written
 pub nothing_waits : (wants : Bool) (pending : List ℕ) → (0 < length pending → IsTrue wants) → wants ≡ false →

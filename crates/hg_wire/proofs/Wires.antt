@@ -7,17 +7,17 @@ use Rattle.hg_parts.specs.Repository.{Repository}
 use Rattle.hg_push.specs.Run.{RepositoryOf}
 use Rattle.hg_ledger.specs.Clients.{IsLater, KeptSeen}
 use Rattle.hg_http.specs.declared.answer.Answer.{Answer}
-use Rattle.hg_http.specs.Tellings.{Tells}
+use Rattle.hg_http.specs.Responses.{CarriesAnswer}
 use Rattle.hg_wire.specs.Answering.{around_of, AnswersRequest, Responds, WireView}
-use Rattle.hg_wire.specs.code.Wires.{seen_by, told_last}
+use Rattle.hg_wire.specs.code.Wires.{seen_by, seen_last}
 use Rattle.hg_wire.specs.declared.terms.Terms.{Terms}
 use Rattle.hg_wire.proofs.Later.{answered_later, is_as_late}
 
 -- what is noted in an empty log is what was told last
 pub last_noted : {A : Type 0} (empty items : List (KeptSeen A × ℕ)) (client : KeptSeen A) (number : ℕ) →
-    empty ≡ [] → items ≡ empty ++ (client, number) ∷ [] → told_last items ≡ client
+    empty ≡ [] → items ≡ empty ++ (client, number) ∷ [] → seen_last items ≡ client
 last_noted empty items client number none noted =
-    ap told_last (noted ∙ ap (λ l. l ++ (client, number) ∷ []) none)
+    ap seen_last (noted ∙ ap (λ l. l ++ (client, number) ∷ []) none)
 
 -- what its client has seen was told
 pub told_all : {A : Type 0} (place : Option (KeptSeen A)) (told client : KeptSeen A) (failed : Bool) →
@@ -36,14 +36,14 @@ module _ {A S : Type 0} (capacity : ℕ) (first : RepositoryOf A) (kept : KeptSe
     -- the answer to a request tells on from what was told last
     pub responds : (old new : WireView A S) (request : Request (List ℕ)) (response : Response)
         (answer : Answer A) (terms : Terms S) (told client after seen : KeptSeen A) →
-        record { told = told; terms = terms } ≡ old → new ≡ record { told = seen; terms = terms } →
+        record { seen = told; terms = terms } ≡ old → new ≡ record { seen = seen; terms = terms } →
         client ≡ told → seen ≡ after →
         AnswersRequest capacity first (around_of kept page metrics terms) request client answer after →
-        Tells answer response → Responds capacity first kept page metrics old request response new
+        CarriesAnswer answer response → Responds capacity first kept page metrics old request response new
     responds old new request response answer terms told client after seen was is same last answers tells =
         subst (λ (o : WireView A S). Responds capacity first kept page metrics o request response new) was
         (subst (λ (n : WireView A S). Responds capacity first kept page metrics
-        (record { told = told; terms = terms }) request response n) (sym is) (record {
+        (record { seen = told; terms = terms }) request response n) (sym is) (record {
           answer = answer;
           answers = subst (λ c. AnswersRequest capacity first (around_of kept page metrics terms) request c answer seen)
               same (subst (λ s. AnswersRequest capacity first (around_of kept page metrics terms) request client answer s)

@@ -16,7 +16,7 @@ use Rattle.hg_told.specs.declared.form.Field.{Field}
 use Rattle.hg_told.specs.Batch.{commands_of}
 use Rattle.hg_told.specs.Capabilities.{capabilities_told}
 use Rattle.hg_http.specs.declared.answer.Answer.{Answer}
-use Rattle.hg_http.specs.declared.answer.Answer.TheVariants.{Told, Refused, Forbidden, NotFound}
+use Rattle.hg_http.specs.declared.answer.Answer.TheVariants.{Text, Refused, Forbidden, NotFound}
 use Rattle.hg_http.specs.declared.answer.Answer.TheVariants.{Shown, Moved}
 use Rattle.hg_http.specs.declared.view.View.{View}
 use Rattle.hg_http.specs.Views.{moved_to, view_of}
@@ -24,12 +24,12 @@ use Rattle.hg_http.specs.declared.answer.Refusal.{Refusal}
 use Rattle.hg_http.specs.declared.answer.Refusal.TheVariants.{NotForced, PushesAlone}
 use Rattle.hg_http.specs.declared.answer.Refusal.TheVariants.{NoMemory}
 use Rattle.hg_http.specs.declared.command.Command.{Command}
-use Rattle.hg_http.specs.declared.command.Command.TheVariants.{Tell, Capabilities, Batch, Unbundle, PushKey}
-use Rattle.hg_http.specs.declared.command.Command.TheVariants.{GetBundle}
+use Rattle.hg_http.specs.declared.command.Command.TheVariants.{ReadOnly, Capabilities, Batch, Unbundle}
+use Rattle.hg_http.specs.declared.command.Command.TheVariants.{GetBundle, PushKey}
 use Rattle.hg_http.specs.Commands.{command_of, subject_of}
 use Rattle.hg_http.specs.Keys.{fits, key_parts}
 use Rattle.hg_http.specs.Requests.{argument_in, arguments_of, is_from_client, name_of}
-use Rattle.hg_http.specs.Tellings.{Tells}
+use Rattle.hg_http.specs.Responses.{CarriesAnswer}
 use Rattle.hg_reading.specs.Texts.{refusal_of, IsBatchText, IsTextOf}
 use Rattle.hg_reading.specs.Views.{finished, IsViewed}
 use Rattle.hg_wire.specs.Pushes.{IsPushAnswered, key_line, set_line}
@@ -80,16 +80,16 @@ pub record IsSaidAt {A : Type 0} (first : RepositoryOf A) (kept : KeptSeen A →
   pub looks : LooksKept first kept before after (λ repo. IsText repo text)
   pub answer_is : answer ≡ says text
 
-abbrev pub IsToldAt : {A : Type 0} → RepositoryOf A → (KeptSeen A → ℕ → Type 0) →
+abbrev pub IsTextAt : {A : Type 0} → RepositoryOf A → (KeptSeen A → ℕ → Type 0) →
     (Repository A → List ℕ → Type 0) → KeptSeen A → Answer A → KeptSeen A → Type 0
-IsToldAt first kept IsText before answer after = IsSaidAt first kept Told IsText before answer after
+IsTextAt first kept IsText before answer after = IsSaidAt first kept Text IsText before answer after
 
 -- a batch that is not refused is answered from one repository
 abbrev pub AnswersBatch : {A : Type 0} → RepositoryOf A → (KeptSeen A → ℕ → Type 0) → List (Asked A) →
     Option Refusal → KeptSeen A → Answer A → KeptSeen A → Type 0
 AnswersBatch first kept commands (Some why) before answer after = IsSaid (Refused why) before answer after
 AnswersBatch first kept commands None before answer after =
-    IsToldAt first kept (λ repo text. IsBatchText repo commands text) before answer after
+    IsTextAt first kept (λ repo text. IsBatchText repo commands text) before answer after
 
 -- a push of the body, where its heads are forced: `force` in hexadecimal digits
 abbrev pub AnswersForced : {A : Type 0} → ℕ → RepositoryOf A → (KeptSeen A → ℕ → Type 0) → List ℕ → Bool →
@@ -110,7 +110,7 @@ AnswersFitting {A} capacity first kept namespace key old new before answer after
 abbrev pub AnswersKey : {A : Type 0} → ℕ → RepositoryOf A → (KeptSeen A → ℕ → Type 0) → List ℕ → List ℕ →
     List ℕ → List ℕ → Bool → KeptSeen A → Answer A → KeptSeen A → Type 0
 AnswersKey capacity first kept namespace key old new false before answer after =
-    IsSaid (Told (set_line false)) before answer after
+    IsSaid (Text (set_line false)) before answer after
 AnswersKey capacity first kept namespace key old new true before answer after =
     AnswersFitting capacity first kept namespace key old new before answer after
 
@@ -144,11 +144,11 @@ abbrev pub AnswersCommand : {A : Type 0} → ℕ → RepositoryOf A → (KeptSee
     Option (List ℕ) → Command → List (Field A) → Request (List ℕ) → KeptSeen A → Answer A →
     KeptSeen A → Type 0
 AnswersCommand capacity first kept pull Capabilities fields r before answer after =
-    IsSaid (Told capabilities_told) before answer after
+    IsSaid (Text capabilities_told) before answer after
 AnswersCommand capacity first kept pull GetBundle fields r before answer after =
     IsSaid (pull_answer pull r) before answer after
-AnswersCommand capacity first kept pull (Tell read) fields r before answer after =
-    IsToldAt first kept (λ repo text. IsTextOf repo read (argument_in fields (subject_of read)) text)
+AnswersCommand capacity first kept pull (ReadOnly read) fields r before answer after =
+    IsTextAt first kept (λ repo text. IsTextOf repo read (argument_in fields (subject_of read)) text)
     before answer after
 AnswersCommand capacity first kept pull Batch fields r before answer after =
     let commands = commands_of (argument_in fields (codes "cmds")) in
@@ -187,7 +187,7 @@ AnswersRequest {A} capacity first around r before answer after =
 -- what contracts see of a connection's service: what its client had seen when the last request was answered, and
 -- the terms
 pub record WireView (A S : Type 0) : Type 0 where
-  pub told : KeptSeen A
+  pub seen : KeptSeen A
   pub terms : Terms S
 
 -- The response reports the answer. Its client has seen no less than before, and has all promises that it had.
@@ -195,7 +195,8 @@ pub record Responds {A S : Type 0} (capacity : ℕ) (first : RepositoryOf A)
     (kept : KeptSeen A → ℕ → Type 0) (page metrics : S → Repository A → List ℕ → Type 0)
     (old : WireView A S) (r : Request (List ℕ)) (response : Response) (new : WireView A S) : Type 0 where
   pub answer : Answer A
-  pub answers : AnswersRequest capacity first (around_of kept page metrics old.terms) r old.told answer new.told
-  pub later : IsLater old.told new.told
-  pub tells : Tells answer response
+  pub answers : AnswersRequest capacity first (around_of kept page metrics old.terms) r old.seen answer
+      new.seen
+  pub later : IsLater old.seen new.seen
+  pub tells : CarriesAnswer answer response
   pub same : new.terms ≡ old.terms

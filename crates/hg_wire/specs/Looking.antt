@@ -10,9 +10,9 @@ use Rattle.hg_serve.specs.Answers.{Looks}
 -- The repository at one point of the serial order was looked at, and not before what the client was answered. All
 -- pushes that are done by then were on the device, and its receipt has a promise of them.
 pub record LooksKept {A : Type 0} (first : RepositoryOf A) (kept : KeptSeen A → ℕ → Type 0)
-    (before after : KeptSeen A) (Tells : Repository A → Type 0) : Type 0 where
+    (before after : KeptSeen A) (Answers : Repository A → Type 0) : Type 0 where
   pub repo : Repository A
   pub looks : Looks first before.history after.history repo
   pub grows : IsPrefix before.receipt after.receipt
   pub is_kept : kept after (done_in first after.history)
-  pub told : Tells repo
+  pub answers : Answers repo

@@ -20,9 +20,9 @@ use Rattle.hg_receiving.specs.Receiving.{IsReceived, mark_of, push_items}
 use Rattle.hg_ledger.specs.Clients.{IsLater, KeptSeen}
 use Rattle.hg_kept.specs.Kept.{IsRecorded, KeptExchange}
 use Rattle.hg_http.specs.declared.answer.Answer.{Answer}
-use Rattle.hg_http.specs.declared.answer.Answer.TheVariants.{Told, Refused}
+use Rattle.hg_http.specs.declared.answer.Answer.TheVariants.{Text, Refused}
 use Rattle.hg_http.specs.declared.answer.Refusal.TheVariants.{NotOpened, NoAnswer}
-use Rattle.hg_wire.specs.declared.push.Told.{Told as ToldPush}
+use Rattle.hg_wire.specs.declared.push.KeptPush.{KeptPush}
 
 -- how a push ended
 abbrev pub How : Type 0 → Type 0
@@ -58,33 +58,34 @@ pub record IsPush {A : Type 0} (capacity : ℕ) (first : RepositoryOf A)
 -- No push was opened, and nothing changed; or one was, and ended so. Its reply was made, if there was memory for
 -- it.
 abbrev pub Pushes : {A : Type 0} → ℕ → RepositoryOf A → (KeptSeen A → ℕ → Type 0) → KeptSeen A →
-    List ℕ → Option (ToldPush A) → KeptSeen A → Type 0
+    List ℕ → Option (KeptPush A) → KeptSeen A → Type 0
 Pushes capacity first kept before body None after = after ≡ before
-Pushes {A} capacity first kept before body (Some told) after =
-    (x : KeptExchange A) × IsPush capacity first kept before body x × (x.how ≡ told.outcome)
-    × (x.after ≡ after) × IfSome told.reply (λ reply. reply ≡ reply_of told.outcome)
+Pushes {A} capacity first kept before body (Some push) after =
+    (x : KeptExchange A) × IsPush capacity first kept before body x × (x.how ≡ push.outcome)
+    × (x.after ≡ after) × IfSome push.reply (λ reply. reply ≡ reply_of push.outcome)
 
 -- the same; where the store failed, nothing is answered
-abbrev pub Pushed : {A E : Type 0} → ℕ → RepositoryOf A → (KeptSeen A → ℕ → Type 0) → KeptSeen A →
-    List ℕ → Result (Option (ToldPush A)) E → KeptSeen A → Type 0
-Pushed capacity first kept before body (Ok told) after = Pushes capacity first kept before body told after
-Pushed capacity first kept before body (Err e) after = IsLater before after
+abbrev pub PushesOrFails : {A E : Type 0} → ℕ → RepositoryOf A → (KeptSeen A → ℕ → Type 0) → KeptSeen A →
+    List ℕ → Result (Option (KeptPush A)) E → KeptSeen A → Type 0
+PushesOrFails capacity first kept before body (Ok pushed) after =
+    Pushes capacity first kept before body pushed after
+PushesOrFails capacity first kept before body (Err e) after = IsLater before after
 
 -- a push that ended so is answered by this text, or there was no memory for the answer
 abbrev pub IsReplyTo : {A : Type 0} → (How A → List ℕ) → How A → Answer A → Type 0
-IsReplyTo reply how answer = (answer ≡ Told (reply how)) ⊎ (answer ≡ Refused NoAnswer)
+IsReplyTo reply how answer = (answer ≡ Text (reply how)) ⊎ (answer ≡ Refused NoAnswer)
 
 -- the answer is the reply to how the push ended; where none was opened, the refusal that says so
-abbrev pub IsReply : {A : Type 0} → (How A → List ℕ) → Option (ToldPush A) → Answer A → Type 0
+abbrev pub IsReply : {A : Type 0} → (How A → List ℕ) → Option (KeptPush A) → Answer A → Type 0
 IsReply reply None answer = answer ≡ Refused NotOpened
-IsReply reply (Some told) answer = IsReplyTo reply told.outcome answer
+IsReply reply (Some push) answer = IsReplyTo reply push.outcome answer
 
 -- A push of that bundle was answered: it was not opened, and nothing changed; or it was, and the answer reports
 -- how it ended.
 pub record IsPushAnswered {A : Type 0} (capacity : ℕ) (first : RepositoryOf A)
     (kept : KeptSeen A → ℕ → Type 0) (body : List ℕ) (reply : How A → List ℕ) (before : KeptSeen A)
     (answer : Answer A) (after : KeptSeen A) : Type 0 where
-  pub ended : Option (ToldPush A)
+  pub ended : Option (KeptPush A)
   pub pushes : Pushes capacity first kept before body ended after
   pub answer_is : IsReply reply ended answer
 

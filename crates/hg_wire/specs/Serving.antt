@@ -16,8 +16,8 @@ use Rattle.hg_push.specs.declared.outcome.Reason.TheVariants.{NoMemory}
 use Rattle.hg_push.specs.Reply.{reply_of}
 use Rattle.hg_push.specs.Run.{RepositoryOf}
 use Rattle.hg_ledger.specs.Clients.{IsLater, KeptSeen}
-use Rattle.hg_wire.specs.declared.serve.Finish.{Finish}
-use Rattle.hg_wire.specs.declared.serve.Finish.TheVariants.{Done, NotStored}
+use Rattle.hg_wire.specs.declared.serve.ConnectionEnd.{ConnectionEnd}
+use Rattle.hg_wire.specs.declared.serve.ConnectionEnd.TheVariants.{Done, NotStored}
 use Rattle.hg_wire.specs.declared.terms.Terms.{Terms}
 use Rattle.hg_wire.specs.Answering.{Responds, WireView}
 
@@ -65,16 +65,17 @@ pub record IsRefused (config : Config) (r : Refused) : Type 0 where
 
 -- what was sent to the last request, where that was refused: all of the answer, or a front of it where the
 -- connection broke off
-abbrev pub IsTold : Type 0 → List ℕ → Type 0
-IsTold breaks told = (told ≡ no_room_text true) ⊎ (breaks × ((is_last : Bool) × IsPrefix told (no_room_text is_last)))
+abbrev pub IsNoRoomAnswer : Type 0 → List ℕ → Type 0
+IsNoRoomAnswer breaks answer = (answer ≡ no_room_text true)
+    ⊎ (breaks × ((is_last : Bool) × IsPrefix answer (no_room_text is_last)))
 
 -- How a connection ends, with the bytes that were dropped and those that were sent after the last stretch. There
 -- are none; or its body found no room, and the connection broke off within it; or that request was refused.
-abbrev pub Ends : Type 0 → Config → History → List ℕ → List ℕ → Type 0
-Ends breaks config history passed told =
-    ((passed ≡ []) × (told ≡ []))
-    ⊎ (breaks × (history.state ≡ Open) × (history.pending ≡ []) × (told ≡ []))
-    ⊎ (IsRefused config (record { history = history; dropped = passed }) × IsTold breaks told)
+abbrev pub EndsConnection : Type 0 → Config → History → List ℕ → List ℕ → Type 0
+EndsConnection breaks config history passed answer =
+    ((passed ≡ []) × (answer ≡ []))
+    ⊎ (breaks × (history.state ≡ Open) × (history.pending ≡ []) × (answer ≡ []))
+    ⊎ (IsRefused config (record { history = history; dropped = passed }) × IsNoRoomAnswer breaks answer)
 
 -- A connection: stretches that end with a refused request, and a last one. What was read are the bytes of these,
 -- in order, and what was written is what was sent in them, in order, and each call goes on from the one before.
@@ -87,10 +88,10 @@ pub record Converses {V : Type 0} (breaks : Type 0) (config : Config)
   pub served : ∥ IsServed config history ∥₁
   pub calls : Chain answers old (flat_map calls_of refused ++ history.calls) new
   pub passed : List ℕ
-  pub told : List ℕ
-  pub ends : Ends breaks config history passed told
+  pub answer : List ℕ
+  pub ends : EndsConnection breaks config history passed answer
   pub read : Consumes input left (flat_map read_of refused ++ (history.received ++ passed))
-  pub written : Appends out sent (flat_map sent_of refused ++ (history.sent ++ told))
+  pub written : Appends out sent (flat_map sent_of refused ++ (history.sent ++ answer))
 
 -- What was received begins with requests of HTTP's grammar, and what was sent, or waits, is in order the
 -- responses to them: each reports the answer to its request, and each goes on from what the client had seen
@@ -100,13 +101,13 @@ pub record Converses {V : Type 0} (breaks : Type 0) (config : Config)
 -- ended since the store failed.
 pub record ServesHttp {A S : Type 0} (capacity : ℕ) (first : RepositoryOf A)
     (kept : KeptSeen A → ℕ → Type 0) (page metrics : S → Repository A → List ℕ → Type 0)
-    (terms : Terms S) (before : KeptSeen A) (input left out sent : Option (List ℕ)) (finish : Finish)
+    (terms : Terms S) (before : KeptSeen A) (input left out sent : Option (List ℕ)) (end : ConnectionEnd)
     (after : KeptSeen A) : Type 0 where
   pub config : Config
   pub room : config.max_body_len ≡ first.settings.limits.stream
   pub last : WireView A S
-  pub converses : Converses (finish ≢ Done) config
+  pub converses : Converses (end ≢ Done) config
       (λ old r response new. Responds capacity first kept page metrics old r response new)
-      (record { told = before; terms = terms }) last input left out sent
-  pub seen : IsLater last.told after
-  pub all : finish ≢ NotStored → after ≡ last.told
+      (record { seen = before; terms = terms }) last input left out sent
+  pub seen : IsLater last.seen after
+  pub all : end ≢ NotStored → after ≡ last.seen

@@ -13,7 +13,7 @@ ghost use Rattle.hg_reading.specs.Copied.{is_long as goes_long};
 ghost use Rattle.hg_reading.specs.Texts.{refusal_of as why_refused, IsBatchText, IsTextOf};
 ghost use Rattle.hg_ledger.specs.Clients.{IsCovered};
 ghost use Rattle.hg_wire.specs.Answering.{AnswersRequest, AnswersAsked, AnswersBatch, AnswersCommand, AnswersForced};
-ghost use Rattle.hg_wire.specs.Answering.{AnswersPushKey, around_of, IfFromClient, IsSaid, IsToldAt, OrLacks};
+ghost use Rattle.hg_wire.specs.Answering.{AnswersPushKey, around_of, IfFromClient, IsSaid, IsTextAt, OrLacks};
 ghost use Rattle.hg_wire.specs.Answering.{pull_answer};
 ghost use Rattle.hg_wire.specs.Pushes.{Answered};
 
@@ -114,7 +114,7 @@ fn answer_command<J: Storing<A>, D: Device, A: Allocator + Copy, R: Wait, V: Wat
         request.now)) client result.1 result.0 }
 {
     match command {
-        Command::Tell(read) => tell(host, client, read, fields),
+        Command::ReadOnly(read) => answer_read(host, client, read, fields),
         Command::Capabilities => (client, Ok(capabilities(host.alloc))),
         Command::Batch => answer_batch(host, client, fields),
         Command::Unbundle => answer_unbundle(host, client, fields, request, watch),
@@ -142,30 +142,30 @@ fn answer_pull<A: Allocator + Copy>(
 }
 
 /// The answer that holds a text, or that there was no memory for it.
-fn told<A: Allocator>(text: Result<Seq<u8, A>, NoMemory>) -> Answer<A>
-    ensures { MatchResult text (λ t. result ≡ Answer.Told t) (λ _. result ≡ Answer.Refused Refusal.NoMemory) }
+fn text_answer<A: Allocator>(text: Result<Seq<u8, A>, NoMemory>) -> Answer<A>
+    ensures { MatchResult text (λ t. result ≡ Answer.Text t) (λ _. result ≡ Answer.Refused Refusal.NoMemory) }
 {
     match text {
-        Ok(text) => Answer::Told(text),
+        Ok(text) => Answer::Text(text),
         Err(_) => Answer::Refused(Refusal::NoMemory),
     }
 }
 
 /// Answers a command that only reads, by one look.
-fn tell<J: Storing<A>, D: Device, A: Allocator + Copy, R: Wait>(
+fn answer_read<J: Storing<A>, D: Device, A: Allocator + Copy, R: Wait>(
     host: &Host<'_, J, D, R, A>,
     client: KeptClient<J, A>,
     read: Read,
     fields: &[Field<A>],
 ) -> (KeptClient<J, A>, Result<Answer<A>, NotStored>)
-    ensures { Answered (OrLacks (IsToldAt J.first
+    ensures { Answered (OrLacks (IsTextAt J.first
         (IsCovered D.seen D.may_leave D.moment J.head J.stored J.first)
         (λ repo text. IsTextOf repo read (argument_in fields.now (subject read)) text)))
         client result.1 result.0 }
 {
     let about = argument(fields, subject_of(read));
     if is_long(read) {
-        return tell_long(host, client, read, about);
+        return answer_long(host, client, read, about);
     }
     let question = Reading {
         alloc: host.alloc,
@@ -174,36 +174,36 @@ fn tell<J: Storing<A>, D: Device, A: Allocator + Copy, R: Wait>(
     };
     let (client, looked) = look(host, client, &question);
     match looked {
-        Ok((text, _rests)) => (client, Ok(told(text))),
+        Ok((text, _rests)) => (client, Ok(text_answer(text))),
         Err(fault) => (client, Err(fault)),
     }
 }
 
 /// Answers a command that goes through all changesets, by one look that brings up the view which all share.
-fn tell_long<J: Storing<A>, D: Device, A: Allocator + Copy, R: Wait>(
+fn answer_long<J: Storing<A>, D: Device, A: Allocator + Copy, R: Wait>(
     host: &Host<'_, J, D, R, A>,
     client: KeptClient<J, A>,
     read: Read,
     about: &[u8],
 ) -> (KeptClient<J, A>, Result<Answer<A>, NotStored>)
     requires { goes_long read ≡ true }
-    ensures { Answered (OrLacks (IsToldAt J.first
+    ensures { Answered (OrLacks (IsTextAt J.first
         (IsCovered D.seen D.may_leave D.moment J.head J.stored J.first)
         (λ repo text. IsTextOf repo read about.now text)))
         client result.1 result.0 }
 {
     let (client, looked) = look_long(host, client, read, about);
     match looked {
-        Ok(text) => (client, Ok(told(text))),
+        Ok(text) => (client, Ok(text_answer(text))),
         Err(fault) => (client, Err(fault)),
     }
 }
 
 /// Answers the capabilities.
 fn capabilities<A: Allocator + Copy>(alloc: A) -> Answer<A>
-    ensures { (result ≡ Answer.Told capabilities_told) ⊎ (result ≡ Answer.Refused Refusal.NoMemory) }
+    ensures { (result ≡ Answer.Text capabilities_told) ⊎ (result ≡ Answer.Refused Refusal.NoMemory) }
 {
-    told(Seq::copy_of(alloc, capabilities_text()))
+    text_answer(Seq::copy_of(alloc, capabilities_text()))
 }
 
 /// Answers a batch: all of it by one look.
@@ -217,13 +217,13 @@ fn answer_batch<J: Storing<A>, D: Device, A: Allocator + Copy, R: Wait>(
         (why_refused commands))) client result.1 result.0 }
 {
     match read_batch(host.alloc, argument(fields, b"cmds".as_slice())) {
-        Ok(commands) => tell_all(host, client, commands.as_slice()),
+        Ok(commands) => answer_commands(host, client, commands.as_slice()),
         Err(_) => (client, Ok(Answer::Refused(Refusal::NoMemory))),
     }
 }
 
 /// Answers the commands of a batch.
-fn tell_all<J: Storing<A>, D: Device, A: Allocator + Copy, R: Wait>(
+fn answer_commands<J: Storing<A>, D: Device, A: Allocator + Copy, R: Wait>(
     host: &Host<'_, J, D, R, A>,
     client: KeptClient<J, A>,
     commands: &[hg_told::Command<A>],
@@ -235,7 +235,7 @@ fn tell_all<J: Storing<A>, D: Device, A: Allocator + Copy, R: Wait>(
         return (client, Ok(Answer::Refused(why)));
     }
     if have_long(commands) {
-        return tell_all_long(host, client, commands);
+        return answer_commands_long(host, client, commands);
     }
     let question = Batch {
         alloc: host.alloc,
@@ -243,24 +243,25 @@ fn tell_all<J: Storing<A>, D: Device, A: Allocator + Copy, R: Wait>(
     };
     let (client, looked) = look(host, client, &question);
     match looked {
-        Ok((text, _rests)) => (client, Ok(told(text))),
+        Ok((text, _rests)) => (client, Ok(text_answer(text))),
         Err(fault) => (client, Err(fault)),
     }
 }
 
 /// Answers the commands of a batch of which some go through all changesets, by one look that brings up the view
 /// which all share.
-fn tell_all_long<J: Storing<A>, D: Device, A: Allocator + Copy, R: Wait>(
+fn answer_commands_long<J: Storing<A>, D: Device, A: Allocator + Copy, R: Wait>(
     host: &Host<'_, J, D, R, A>,
     client: KeptClient<J, A>,
     commands: &[hg_told::Command<A>],
 ) -> (KeptClient<J, A>, Result<Answer<A>, NotStored>)
-    ensures { Answered (OrLacks (IsToldAt J.first (IsCovered D.seen D.may_leave D.moment J.head J.stored J.first)
+    ensures { Answered (OrLacks (IsTextAt J.first
+        (IsCovered D.seen D.may_leave D.moment J.head J.stored J.first)
         (λ repo text. IsBatchText repo commands.now text))) client result.1 result.0 }
 {
     let (client, looked) = look_long_batch(host, client, commands);
     match looked {
-        Ok(text) => (client, Ok(told(text))),
+        Ok(text) => (client, Ok(text_answer(text))),
         Err(fault) => (client, Err(fault)),
     }
 }

@@ -9,7 +9,7 @@ ghost use Rattle.hg_wire.specs.Pushes.{Answered, IsPushAnswered, IsReply, is_one
 ghost use Rattle.hg_wire.specs.Pushes.{is_set as key_is_set, key_line, set_line};
 ghost use Rattle.hg_wire.specs.Pushes.{says_one as part_says_one};
 
-use crate::push::{Told, push_bundle};
+use crate::push::{KeptPush, push_bundle};
 use crate::terms::Host;
 use hg_http::{Answer, KeyChange, Refusal, fits, key_bundle, read_change};
 use hg_ledger::{KeptClient, NotStored, Storing};
@@ -83,33 +83,33 @@ fn push_for_key<J: Storing<A>, D: Device, A: Allocator + Copy, R: Wait, V: Watch
         (IsCovered D.seen D.may_leave D.moment J.head J.stored J.first) bundle.now key_line)
         client result.1 result.0 }
 {
-    let (client, told) = push_bundle(host, client, bundle, watch);
-    match told {
-        Ok(told) => (client, Ok(reply_to(host.alloc, &told))),
+    let (client, pushed) = push_bundle(host, client, bundle, watch);
+    match pushed {
+        Ok(pushed) => (client, Ok(reply_to(host.alloc, &pushed))),
         Err(fault) => (client, Err(fault)),
     }
 }
 
 /// What a push that sets a key is answered.
-fn reply_to<A: Allocator + Copy>(alloc: A, told: &Option<Told<A>>) -> Answer<A>
-    ensures { IsReply key_line told.now result }
+fn reply_to<A: Allocator + Copy>(alloc: A, pushed: &Option<KeptPush<A>>) -> Answer<A>
+    ensures { IsReply key_line pushed.now result }
 {
-    match told {
+    match pushed {
         None => Answer::Refused(Refusal::NotOpened),
-        Some(told) => line_of(alloc, is_set(&told.outcome), Refusal::NoAnswer),
+        Some(pushed) => line_of(alloc, is_set(&pushed.outcome), Refusal::NoAnswer),
     }
 }
 
 /// The line that says whether a key was set; the refusal where there is no memory for it.
 fn line_of<A: Allocator + Copy>(alloc: A, is_set: bool, refusal: Refusal) -> Answer<A>
-    ensures { (result ≡ Answer.Told (set_line is_set)) ⊎ (result ≡ Answer.Refused refusal) }
+    ensures { (result ≡ Answer.Text (set_line is_set)) ⊎ (result ≡ Answer.Refused refusal) }
 {
     let line = match is_set {
         true => b"1\n".as_slice(),
         false => b"0\n".as_slice(),
     };
     match Seq::copy_of(alloc, line) {
-        Ok(line) => Answer::Told(line),
+        Ok(line) => Answer::Text(line),
         Err(_) => Answer::Refused(refusal),
     }
 }

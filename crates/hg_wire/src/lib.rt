@@ -26,7 +26,7 @@ mod wire;
 
 pub use answering::answer_request;
 pub use budget::Budget;
-pub use hg_reading::{Pushed, Shelf, Shown, Watch};
-pub use serve::{Finish, serve_http};
+pub use hg_reading::{Shelf, Shown, Watch, WatchedPush};
+pub use serve::{ConnectionEnd, serve_http};
 pub use terms::{Host, Terms};
 pub use wire::Wire;

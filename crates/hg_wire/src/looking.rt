@@ -20,18 +20,18 @@ pub fn look<J: Storing<A>, D: Device, A: Allocator + Copy, R: Wait, T: Drop, Q: 
     question: &Q,
 ) -> (KeptClient<J, A>, Result<(T, usize), NotStored>)
     ensures { MatchResult result.1
-        (λ told. LooksKept J.first (IsCovered D.seen D.may_leave D.moment J.head J.stored J.first) client result.0
-        (λ repo. Q.tells question.now repo told.0) × (told.1 ≡ done_in J.first result.0.history))
+        (λ found. LooksKept J.first (IsCovered D.seen D.may_leave D.moment J.head J.stored J.first) client
+        result.0 (λ repo. Q.tells question.now repo found.0) × (found.1 ≡ done_in J.first result.0.history))
         (λ _. IsLater client result.0) }
 {
     let (mut client, receipt) = client.into_parts();
-    let (told, rests) = host.server.look_resting(host.rt, &mut client, question);
+    let (found, rests) = host.server.look_resting(host.rt, &mut client, question);
     let mut client = KeptClient::of(client, receipt);
     match host
         .ledger
         .receipt(host.rt, host.server, &mut client, rests)
     {
-        Ok(()) => (client, Ok((told, rests))),
+        Ok(()) => (client, Ok((found, rests))),
         Err(fault) => (client, Err(fault)),
     }
 }

@@ -3,8 +3,8 @@
 ghost use Rattle.std.specs.Prelude.{◌≡◌, IfSome};
 ghost use Rattle.hg_push.specs.Reply.{reply_of};
 ghost use Rattle.hg_ledger.specs.Clients.{IsCovered};
-ghost use Rattle.hg_wire.specs.Pushes.{Answered, IsPushAnswered, IsReply, Pushed as EndsOrFails};
-ghost use Rattle.hg_wire.specs.code.Rounds.{TellsRound};
+ghost use Rattle.hg_wire.specs.Pushes.{Answered, IsPushAnswered, IsReply, PushesOrFails};
+ghost use Rattle.hg_wire.specs.code.Rounds.{IsOfRound};
 
 use crate::terms::Host;
 use hg_devices::Sending;
@@ -12,7 +12,7 @@ use hg_http::{Answer, Body, Refusal};
 use hg_kept::{KeptRound, Replied, open_kept, serve_bundle_kept};
 use hg_ledger::{KeptClient, NotStored, Storing};
 use hg_push::Outcome;
-use hg_reading::{Pushed, Watch};
+use hg_reading::{Watch, WatchedPush};
 use hg_receiving::Inbox;
 use hg_repo::{Done, Refusal as RunRefusal};
 use hg_serve::Answer as Awaiting;
@@ -24,7 +24,7 @@ use std::sync::Wait;
 
 /// A push that ended, and all that its answer rests on is on the device.
 #[derive(Drop)]
-pub struct Told<A: Allocator = Global> {
+pub struct KeptPush<A: Allocator = Global> {
     pub outcome: Outcome<Done<A>, RunRefusal<A>>,
     /// Its reply. `None` where there was no memory for it.
     pub reply: Option<Seq<u8, A>>,
@@ -36,9 +36,9 @@ pub fn push_bundle<J: Storing<A>, D: Device, A: Allocator + Copy, R: Wait, V: Wa
     client: KeptClient<J, A>,
     bundle: &[u8],
     watch: &mut V,
-) -> (KeptClient<J, A>, Result<Option<Told<A>>, NotStored>)
-    ensures { EndsOrFails J.capacity J.first (IsCovered D.seen D.may_leave D.moment J.head J.stored J.first) client
-        bundle.now result.1 result.0 }
+) -> (KeptClient<J, A>, Result<Option<KeptPush<A>>, NotStored>)
+    ensures { PushesOrFails J.capacity J.first
+        (IsCovered D.seen D.may_leave D.moment J.head J.stored J.first) client bundle.now result.1 result.0 }
 {
     let limits = *host.server.limits();
     let opened = match open_kept(host.server, host.ledger, host.rt, client) {
@@ -61,17 +61,17 @@ pub fn push_bundle<J: Storing<A>, D: Device, A: Allocator + Copy, R: Wait, V: Wa
         &mut reply,
         watch,
     );
-    tell_watch(watch, &round, bundle);
-    (client, told_of(round, reply))
+    inform_watch(watch, &round, bundle);
+    (client, kept_push(round, reply))
 }
 
 /// Informs who watches the connection.
-fn tell_watch<A: Allocator, V: Watch<A>>(watch: &mut V, round: &KeptRound<A>, bundle: &[u8]) {
+fn inform_watch<A: Allocator, V: Watch<A>>(watch: &mut V, round: &KeptRound<A>, bundle: &[u8]) {
     let is_kept = match round.replied {
         Replied::Sent(_) => true,
         Replied::NotStored => false,
     };
-    watch.pushed(&Pushed {
+    watch.pushed(&WatchedPush {
         outcome: &round.answer.outcome,
         rests: round.rests,
         is_kept,
@@ -80,11 +80,11 @@ fn tell_watch<A: Allocator, V: Watch<A>>(watch: &mut V, round: &KeptRound<A>, bu
 }
 
 /// What is answered to a push that ended so, whose reply was made there.
-fn told_of<A: Allocator>(
+fn kept_push<A: Allocator>(
     round: KeptRound<A>,
     reply: Vec<u8, A>,
-) -> Result<Option<Told<A>>, NotStored>
-    ensures { TellsRound round.answer.outcome reply.items round.replied result }
+) -> Result<Option<KeptPush<A>>, NotStored>
+    ensures { IsOfRound round.answer.outcome reply.items round.replied result }
 {
     let KeptRound {
         answer,
@@ -96,11 +96,11 @@ fn told_of<A: Allocator>(
     let Awaiting { outcome, takes: _ } = answer;
     match replied {
         Replied::NotStored => Err(NotStored),
-        Replied::Sent(Sending::Whole) => Ok(Some(Told {
+        Replied::Sent(Sending::Whole) => Ok(Some(KeptPush {
             outcome,
             reply: Some(Seq::from_vec(reply)),
         })),
-        Replied::Sent(Sending::Broken | Sending::NoMemory) => Ok(Some(Told {
+        Replied::Sent(Sending::Broken | Sending::NoMemory) => Ok(Some(KeptPush {
             outcome,
             reply: None,
         })),
@@ -118,22 +118,22 @@ pub fn unbundle<J: Storing<A>, D: Device, A: Allocator + Copy, R: Wait, V: Watch
         (IsCovered D.seen D.may_leave D.moment J.head J.stored J.first) bundle.now reply_of)
         client result.1 result.0 }
 {
-    let (client, told) = push_bundle(host, client, bundle, watch);
-    match told {
-        Ok(told) => (client, Ok(reply_to(told))),
+    let (client, pushed) = push_bundle(host, client, bundle, watch);
+    match pushed {
+        Ok(pushed) => (client, Ok(reply_to(pushed))),
         Err(fault) => (client, Err(fault)),
     }
 }
 
 /// The reply to a push, or why there is none.
-fn reply_to<A: Allocator>(told: Option<Told<A>>) -> Answer<A>
-    requires { IfSome told (λ t. IfSome t.reply (λ reply. reply ≡ reply_of t.outcome)) }
-    ensures { IsReply reply_of told result }
+fn reply_to<A: Allocator>(pushed: Option<KeptPush<A>>) -> Answer<A>
+    requires { IfSome pushed (λ t. IfSome t.reply (λ reply. reply ≡ reply_of t.outcome)) }
+    ensures { IsReply reply_of pushed result }
 {
-    match told {
+    match pushed {
         None => Answer::Refused(Refusal::NotOpened),
-        Some(Told { outcome: _, reply }) => match reply {
-            Some(reply) => Answer::Told(reply),
+        Some(KeptPush { outcome: _, reply }) => match reply {
+            Some(reply) => Answer::Text(reply),
             None => Answer::Refused(Refusal::NoAnswer),
         },
     }

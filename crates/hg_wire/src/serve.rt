@@ -8,7 +8,7 @@ ghost use Rattle.http_server.specs.Exchange.{Calls};
 ghost use Rattle.http_server.specs.History.{after_read, IsQuiet, Rests, new_history};
 ghost use Rattle.hg_ledger.specs.Clients.{IsCovered};
 ghost use Rattle.hg_wire.specs.Answering.{Responds};
-ghost use Rattle.hg_wire.specs.Serving.{Converses, IsTold, no_room_text, ServesHttp};
+ghost use Rattle.hg_wire.specs.Serving.{Converses, IsNoRoomAnswer, no_room_text, ServesHttp};
 ghost use Rattle.hg_follow.specs.Following.{FollowsAt, FollowsOn, limits_of};
 ghost use Rattle.hg_wire.specs.code.Following.{IsHeld, Passes};
 
@@ -30,7 +30,7 @@ use std::sync::{Mutex, Wait};
 
 /// How a connection ended.
 #[derive(Clone, Copy, Debug, PartialEq, Eq)]
-pub enum Finish {
+pub enum ConnectionEnd {
     /// HTTP has nothing more to do.
     Done,
     /// A read or a write failed, or memory was refused for one.
@@ -63,7 +63,7 @@ pub fn serve_http<
     watch: &mut V,
     reader: &mut I,
     writer: &mut W,
-) -> (KeptClient<J>, Finish)
+) -> (KeptClient<J>, ConnectionEnd)
     ensures { ServesHttp J.capacity J.first (IsCovered D.seen D.may_leave D.moment J.head J.stored J.first) S.is_page
         S.are_metrics terms.now client (I.remaining reader.old) (I.remaining reader.new)
         (W.contents writer.old) (W.contents writer.new) result.1 result.0 }
@@ -88,16 +88,16 @@ pub fn serve_http<
 }
 
 /// How the conversation ended.
-fn end_of(ended: io::Result<()>, has_failed: bool) -> Finish
-    ensures failed { has_failed ≡ true → result ≡ Finish.NotStored }
-    ensures done { result ≡ Finish.Done → ended ≡ Ok tt }
+fn end_of(ended: io::Result<()>, has_failed: bool) -> ConnectionEnd
+    ensures failed { has_failed ≡ true → result ≡ ConnectionEnd.NotStored }
+    ensures done { result ≡ ConnectionEnd.Done → ended ≡ Ok tt }
 {
     if has_failed {
-        return Finish::NotStored;
+        return ConnectionEnd::NotStored;
     }
     match ended {
-        Ok(()) => Finish::Done,
-        Err(error) => Finish::Failed(error.kind()),
+        Ok(()) => ConnectionEnd::Done,
+        Err(error) => ConnectionEnd::Failed(error.kind()),
     }
 }
 
@@ -168,10 +168,10 @@ fn refuse<I: BufRead, W: Write>(
     reader: &mut I,
     writer: &mut W,
 ) -> io::Result<bool>
-    ensures { (dropped told : List ℕ) × Consumes (I.remaining reader.old) (I.remaining reader.new) dropped
-        × Appends (W.contents writer.old) (W.contents writer.new) told
-        × MatchResult result (λ is_last. Passes follower.old dropped × (told ≡ no_room_text is_last))
-        (λ _. (told ≡ []) ⊎ (Passes follower.old dropped × ((is_last : Bool) × IsPrefix told
+    ensures { (dropped answer : List ℕ) × Consumes (I.remaining reader.old) (I.remaining reader.new) dropped
+        × Appends (W.contents writer.old) (W.contents writer.new) answer
+        × MatchResult result (λ is_last. Passes follower.old dropped × (answer ≡ no_room_text is_last))
+        (λ _. (answer ≡ []) ⊎ (Passes follower.old dropped × ((is_last : Bool) × IsPrefix answer
         (no_room_text is_last)))) }
 {
     pass_over(follower, reader)?;

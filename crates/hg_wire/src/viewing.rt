@@ -8,7 +8,7 @@ use crate::looking::look;
 use crate::terms::{Host, Terms};
 use hg_http::{Answer, View};
 use hg_ledger::{KeptClient, NotStored, Storing};
-use hg_reading::{Shown, Viewing, shown};
+use hg_reading::{Shown, Viewing, shown_answer};
 use hg_store::Device;
 use std::alloc::Allocator;
 use std::sync::Wait;
@@ -36,7 +36,7 @@ pub fn answer_view<J: Storing<A>, D: Device, A: Allocator + Copy, R: Wait, S: Sh
     match looked {
         Ok((text, rests)) => (
             client,
-            Ok(shown(host.alloc, view, text, terms.stored, rests)),
+            Ok(shown_answer(host.alloc, view, text, terms.stored, rests)),
         ),
         Err(fault) => (client, Err(fault)),
     }

@@ -36,7 +36,7 @@ pub struct Wire<
     /// Whether the store failed before a request was answered.
     has_failed: bool,
     /// What the client had seen when the last request was answered.
-    told: Log<KeptClient<J, A>, u64>,
+    seen: Log<KeptClient<J, A>, u64>,
 }
 
 impl<'a, J: Storing<A>, D: Device, R: Wait, S: Shown<A>, V: Watch<A>, A: Allocator> Model
@@ -44,14 +44,14 @@ impl<'a, J: Storing<A>, D: Device, R: Wait, S: Shown<A>, V: Watch<A>, A: Allocat
     ghost use Rattle.std.specs.Prelude.{◌≡◌, IsSome, false};
     ghost use Rattle.hg_ledger.specs.Clients.{IsLater};
     ghost use Rattle.hg_wire.specs.Answering.{WireView};
-    ghost use Rattle.hg_wire.specs.code.Wires.{seen_by, told_last};
+    ghost use Rattle.hg_wire.specs.code.Wires.{seen_by, seen_last};
 
     ghost Value = { WireView A S };
 
-    ghost view = { λ w. record { told = told_last w.told.items; terms = w.terms.now } };
+    ghost view = { λ w. record { seen = seen_last w.seen.items; terms = w.terms.now } };
 
-    ghost invariant = { λ w. IsSome w.client × IsLater (told_last w.told.items) (seen_by w.client)
-        × (w.has_failed ≡ false → seen_by w.client ≡ told_last w.told.items) };
+    ghost invariant = { λ w. IsSome w.client × IsLater (seen_last w.seen.items) (seen_by w.client)
+        × (w.has_failed ≡ false → seen_by w.client ≡ seen_last w.seen.items) };
 }
 
 impl<'a, J: Storing<A>, D: Device, R: Wait, S: Shown<A>, V: Watch<A>, A: Allocator + Copy> Wire<
@@ -71,9 +71,9 @@ impl<'a, J: Storing<A>, D: Device, R: Wait, S: Shown<A>, V: Watch<A>, A: Allocat
         client: KeptClient<J, A>,
         watch: &'a mut V,
     ) -> Self
-        ensures { result ≡ record { told = client; terms = terms.now } }
+        ensures { result ≡ record { seen = client; terms = terms.now } }
     {
-        let told = Log::new().and(&client, &0);
+        let seen = Log::new().and(&client, &0);
         Wire {
             host,
             terms,
@@ -82,7 +82,7 @@ impl<'a, J: Storing<A>, D: Device, R: Wait, S: Shown<A>, V: Watch<A>, A: Allocat
             client: Some(client),
             answered: 0,
             has_failed: false,
-            told,
+            seen,
         }
     }
 
@@ -93,8 +93,8 @@ impl<'a, J: Storing<A>, D: Device, R: Wait, S: Shown<A>, V: Watch<A>, A: Allocat
 
     /// Its client, and whether the store failed before a request was answered.
     pub fn into_client(self) -> (KeptClient<J, A>, bool)
-        ensures later { IsLater self.entry.told result.0 }
-        ensures same { result.1 ≡ false → result.0 ≡ self.entry.told }
+        ensures later { IsLater self.entry.seen result.0 }
+        ensures same { result.1 ≡ false → result.0 ≡ self.entry.seen }
     {
         let Wire {
             host: _,
@@ -104,7 +104,7 @@ impl<'a, J: Storing<A>, D: Device, R: Wait, S: Shown<A>, V: Watch<A>, A: Allocat
             client,
             answered: _,
             has_failed,
-            told: _,
+            seen: _,
         } = self;
         match client {
             Some(client) => (client, has_failed),
@@ -144,7 +144,7 @@ impl<J: Storing<A>, D: Device, R: Wait, S: Shown<A>, V: Watch<A>, A: Allocator +
         );
         match answer {
             Ok(answer) => {
-                self.told = Log::new().and(&client, &self.answered);
+                self.seen = Log::new().and(&client, &self.answered);
                 put_back(&mut self.client, client);
                 self.answered = self.answered.saturating_add(1);
                 respond(self.global, &answer, response);

@@ -26,7 +26,7 @@ use hg_restore::replay_records;
 use hg_serve::{Gate, Point, Server};
 use hg_store::{Log, recover};
 use hg_types::{NoMemory, Seq};
-use hg_wire::{Budget, Finish, Pushed, Shelf, Shown, Terms, Watch, serve_http};
+use hg_wire::{Budget, ConnectionEnd, Shelf, Shown, Terms, Watch, WatchedPush, serve_http};
 use std::alloc::{AllocFailed, Allocator, Global};
 use std::io::{BufReader, Read};
 use std::marker::Brand;
@@ -89,7 +89,7 @@ impl Gate for Tally {
 }
 
 impl<A: Allocator> Watch<A> for Tally {
-    fn pushed(&mut self, pushed: &Pushed<'_, A>) {
+    fn pushed(&mut self, pushed: &WatchedPush<'_, A>) {
         if pushed.is_kept {
             self.kept = self.kept.saturating_add(1);
         } else {
@@ -141,7 +141,7 @@ const PLAIN: Way<'static> = Way {
 struct Left {
     /// What was answered on the last one.
     told: Vec<u8>,
-    finish: Finish,
+    end: ConnectionEnd,
     tally: Tally,
     journal: usize,
     /// How many pushes the device has.
@@ -219,7 +219,7 @@ fn play<J: Storing<Global>, R: RandomSource + Wait + Abort>(
     let mut tally = Tally::new();
     let shelf = Mutex::new(Shelf::new(alloc, client_of(rt, &server)));
     let mut client = KeptClient::new(client_of(rt, &server));
-    let mut finish = Finish::Done;
+    let mut end = ConnectionEnd::Done;
     let mut told = Vec::new(alloc);
     for asked in said {
         let source = Source {
@@ -246,7 +246,7 @@ fn play<J: Storing<Global>, R: RandomSource + Wait + Abort>(
             &mut told,
         );
         client = back;
-        finish = ended;
+        end = ended;
     }
     add(rt, &mut clients, client);
     let witness = shelf.into_inner().into_witness();
@@ -258,7 +258,7 @@ fn play<J: Storing<Global>, R: RandomSource + Wait + Abort>(
     } = close_kept(rt, alloc, server, ledger, clients);
     Left {
         told,
-        finish,
+        end,
         tally,
         journal: closed.journal.len(),
         kept: kept_on(rt, alloc, &device),
@@ -292,7 +292,7 @@ fn conversed<R: RandomSource + Wait + Abort>(
     for (more, told) in said {
         assert!(rt; asked.push(*more).is_ok(), "there is memory");
         let left = served(rt, alloc, asked.as_slice(), PLAIN);
-        assert!(rt; left.finish == Finish::Done, "the connection is done");
+        assert!(rt; left.end == ConnectionEnd::Done, "the connection is done");
         assert!(rt; left.told.as_slice() == *told, "the answers are those");
         assert_eq!(rt; left.kept, left.journal);
         pushes = left.journal;
@@ -365,7 +365,7 @@ fn a_store_that_fails_is_no_answer(rt: HostRuntime) {
     let mut failed = 0usize;
     for calls in 3..20usize {
         let left = served(&rt, alloc, &said, Way { calls, ..PLAIN });
-        if left.finish == Finish::NotStored {
+        if left.end == ConnectionEnd::NotStored {
             failed = failed.saturating_add(1);
             // the push and what comes after it were not answered
             assert!(rt; TOLD_0.starts_with(left.told.as_slice()));

@@ -92,10 +92,16 @@ fn what_comes_after_a_bundle(rt: HostRuntime) {
         assert_eq!(rt; next_bundle(number, &mut inbox, &mut failing), Next::Comes);
         assert_eq!(rt; (failing.reads(), inbox.pending()), (1, b"H".as_slice()));
         assert!(rt; drops(&mut inbox, 1));
-        assert_eq!(rt; next_bundle(number, &mut inbox, &mut failing), Next::Fails);
+        assert_eq!(rt;
+            next_bundle(number, &mut inbox, &mut failing),
+            Next::ReadFailed
+        );
         assert_eq!(rt; (failing.reads(), inbox.is_empty()), (2, true));
         let mut ended = Source::new(b"");
-        assert_eq!(rt; next_bundle(number, &mut inbox, &mut ended), Next::Ends);
+        assert_eq!(rt;
+            next_bundle(number, &mut inbox, &mut ended),
+            Next::InputEnded
+        );
         assert_eq!(rt; (ended.reads(), inbox.is_empty()), (1, true));
     }
 }

@@ -17,8 +17,8 @@ abbrev pub keeper : List Promise → Known
 keeper promises = record { is_keeper = true; promises = promises; heard = [] }
 
 -- another seat knows these
-abbrev pub told : List Promise → Known
-told promises = record { is_keeper = false; promises = promises; heard = [] }
+abbrev pub seat_with : List Promise → Known
+seat_with promises = record { is_keeper = false; promises = promises; heard = [] }
 
 -- what one seat knows, by all promises and by the seat of the keeper
 pub record KnownFits (seat : ℕ) (all : List Promise) (at : ℕ) (v : Known) : Type 0 where

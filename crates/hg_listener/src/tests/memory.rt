@@ -4,7 +4,7 @@ ghost use Rattle.std.specs.Prelude.{◌≡◌, ◌≤◌};
 ghost use Rattle.hg_serve.specs.Desks.{OpensWith};
 
 use super::*;
-use crate::closing::tell_closing;
+use crate::closing::send_closing;
 use crate::service::Service;
 use hg_devices::Sending;
 use hg_queue::{PartQueue, Taker};
@@ -135,7 +135,7 @@ fn memory_is_refused_for_a_connection(rt: HostRuntime) -> Result<(), Fail> {
 /// What is told of an empty repository and a done push, over a heap.
 fn told_over<R: RandomSource + Abort>(rt: &R, alloc: Global, heap: &LocalHeap) -> Told {
     let mut report = Vec::new(alloc);
-    match tell_closing(heap, &empty_repository(rt, heap), &[7], &mut report) {
+    match send_closing(heap, &empty_repository(rt, heap), &[7], &mut report) {
         (Sending::NoMemory, 0) if report.is_empty() => Told::Refused,
         (Sending::Whole, 4) if report.as_slice() == b"J 7\n".as_slice() => Told::Done,
         _ => Told::Wrong,
@@ -164,7 +164,7 @@ fn a_long_journal(rt: HostRuntime) -> Result<(), Fail> {
     let journal = vec![in rt.alloc(); 7u32; 200_000]?;
     let repo = empty_repository(&rt, rt.alloc());
     let mut report = Vec::new(rt.alloc());
-    let told = tell_closing(rt.alloc(), &repo, &journal, &mut report);
+    let told = send_closing(rt.alloc(), &repo, &journal, &mut report);
     assert!(rt; told == (Sending::Whole, 800_000) && report.ends_with(b"J 7\nJ 7\n"));
     Ok(())
 }

@@ -2,9 +2,10 @@
 //! doors is said of this one. Where memory for what it tells is refused, the process ends.
 
 ghost use Rattle.std.specs.Prelude.{◌≡◌, Some, map};
-ghost use Rattle.hg_listener.specs.Doors.{Accepted, Started, Ended};
+ghost use Rattle.hg_listener.specs.Doors.{Accepted, AllOver, Started};
 ghost use Rattle.hg_listener.specs.declared.tests.telling.Use.TheVariants.{Accepted as an_accept};
-ghost use Rattle.hg_listener.specs.declared.tests.telling.Use.TheVariants.{Started as a_start, Ended as an_end};
+ghost use Rattle.hg_listener.specs.declared.tests.telling.Use.TheVariants.{Started as a_start};
+ghost use Rattle.hg_listener.specs.declared.tests.telling.Use.TheVariants.{AllOver as an_end};
 
 use super::*;
 use std::process::Abort;
@@ -14,7 +15,7 @@ use std::process::Abort;
 pub enum Use {
     Accepted(bool),
     Started(Terms, bool),
-    Ended(bool),
+    AllOver(bool),
 }
 
 /// Accepts so many connections to a listener; the accepts after them fail.
@@ -46,7 +47,7 @@ impl<'a, R: Abort> Door for TellingDoor<'a, R> {
     ghost told = { λ d. Some (map (λ made. elim made [
       | an_accept done ↦ Accepted done
       | a_start terms started ↦ Started terms started
-      | an_end refused ↦ Ended refused
+      | an_end refused ↦ AllOver refused
     ]) d.uses.items) };
 
     fn accept(&mut self) -> Option<TcpStream> {
@@ -77,7 +78,7 @@ impl<'a, R: Abort> Door for TellingDoor<'a, R> {
 
     fn hear_end(&mut self, no_memory: bool) {
         let rt = self.rt;
-        self.uses.push(Use::Ended(no_memory)).expect(rt, "memory");
+        self.uses.push(Use::AllOver(no_memory)).expect(rt, "memory");
     }
 }
 
@@ -111,7 +112,7 @@ fn a_door_hears_each_start(rt: HostRuntime) {
                     Use::Started(used, true),
                     Use::Accepted(true),
                     Use::Started(used, true),
-                    Use::Ended(false),
+                    Use::AllOver(false),
                 ]
                 .as_slice()
     );
@@ -135,7 +136,7 @@ fn a_door_that_fails_is_asked_no_more(rt: HostRuntime) {
                     Use::Accepted(true),
                     Use::Started(asked, true),
                     Use::Accepted(false),
-                    Use::Ended(false),
+                    Use::AllOver(false),
                 ]
                 .as_slice()
     );

@@ -10,6 +10,6 @@ seen_by None = nothing_seen
 seen_by (Some client) = client
 
 -- what it had seen when the last request was answered, which is noted alone
-abbrev pub told_last : {A : Type 0} → List (KeptSeen A × ℕ) → KeptSeen A
-told_last [] = nothing_seen
-told_last (noted ∷ more) = noted.0
+abbrev pub seen_last : {A : Type 0} → List (KeptSeen A × ℕ) → KeptSeen A
+seen_last [] = nothing_seen
+seen_last (noted ∷ more) = noted.0

@@ -47,7 +47,7 @@ fn a_conversation_is_cut_at_many_bytes(rt: HostRuntime) {
         }
         let step = 1 + count % 97;
         let left = served(&rt, alloc, &[&ASKED_0[..count]], Way { step, ..PLAIN });
-        assert!(rt; left.finish == Finish::Done, "{count}");
+        assert!(rt; left.end == ConnectionEnd::Done, "{count}");
         assert!(rt; left.told == wanted, "{count}");
         // the push is the sixth request
         assert_eq!(rt; left.kept, whole / 6, "{count}");
@@ -70,7 +70,7 @@ fn a_push_is_cut_at_each_byte(rt: HostRuntime) {
     };
     for count in 1..push.len() {
         let left = served(&rt, alloc, &[&push[..count]], PLAIN);
-        assert!(rt; left.finish == Finish::Done, "{count}");
+        assert!(rt; left.end == ConnectionEnd::Done, "{count}");
         assert!(rt; left.told.as_slice() == TRUNCATED, "{count}");
         assert_eq!(rt; left.journal, 0, "{count}");
         assert_eq!(rt; left.kept, 0, "{count}");
@@ -91,14 +91,14 @@ fn a_conversation_is_damaged(rt: HostRuntime) {
         let value = values[place % 13];
         asked[place] = value;
         let left = served(&rt, alloc, &[asked.as_slice()], PLAIN);
-        assert!(rt; left.finish == Finish::Done, "{place}");
+        assert!(rt; left.end == ConnectionEnd::Done, "{place}");
         assert!(rt; left.told.starts_with(b"HTTP/1.1 "), "{place}");
         assert!(rt; left.journal <= 1, "{place}");
         assert_eq!(rt; left.kept, left.journal, "{place}");
         if place % 60 == 0 {
             let more = b"GET /?cmd=known&nodes= HTTP/1.1\r\nhost: a\r\n\r\n";
             let left = served(&rt, alloc, &[asked.as_slice(), more], PLAIN);
-            assert!(rt; left.finish == Finish::Done);
+            assert!(rt; left.end == ConnectionEnd::Done);
             assert!(rt; left.told.starts_with(b"HTTP/1.1 200 OK\r\n"), "{place}");
             assert_eq!(rt; left.kept, left.journal);
         }

@@ -15,7 +15,7 @@ const NULL: &str = "0000000000000000000000000000000000000000";
 /// Asks this after a first push: the answer is that text.
 fn assert_told<R: RandomSource + Wait + Abort>(rt: &R, alloc: Global, asked: &str, text: &str) {
     let left = served(rt, alloc, &[ASKED_0, asked.as_bytes()], PLAIN);
-    assert!(rt; left.finish == Finish::Done, "{asked}");
+    assert!(rt; left.end == ConnectionEnd::Done, "{asked}");
     assert!(rt; left.told == said(rt, alloc, TOLD, text), "{asked}");
     assert_eq!(rt; left.kept, 1);
 }
@@ -226,7 +226,7 @@ fn a_real_bundle_is_chunked(rt: HostRuntime) {
         assert!(rt; asked.extend_from_slice(more).is_ok());
         for step in [1, 2, 4_096] {
             let left = served(&rt, alloc, &[asked.as_slice()], Way { step, ..PLAIN });
-            assert!(rt; left.finish == Finish::Done);
+            assert!(rt; left.end == ConnectionEnd::Done);
             assert!(rt; left.told == told, "{size} {step}");
             assert_eq!(rt; left.kept, 1);
         }
@@ -271,7 +271,7 @@ fn a_connection_is_closed_where_a_client_asks(rt: HostRuntime) {
     ] {
         let asked = joined(&rt, alloc, &[first, more]);
         let left = served(&rt, alloc, &[asked.as_slice()], PLAIN);
-        assert!(rt; left.finish == Finish::Done);
+        assert!(rt; left.end == ConnectionEnd::Done);
         assert!(rt; left.told.ends_with(b"\r\n\r\n0"));
         assert!(rt; left.told.starts_with(b"HTTP/1."));
         let answers = left

@@ -83,7 +83,7 @@ fn told_behind<R: RandomSource + Wait + Abort>(
     asked: &[u8],
 ) -> Vec<u8> {
     let left = served(rt, alloc, &[pushed, asked], PLAIN);
-    assert!(rt; left.finish == Finish::Done);
+    assert!(rt; left.end == ConnectionEnd::Done);
     assert_eq!(rt; left.kept, 1);
     left.told
 }

@@ -39,7 +39,7 @@ fn a_conversation_comes_in_pieces(rt: HostRuntime) {
     let alloc = rt.alloc();
     for step in [1, 2, 4_096] {
         let left = served(&rt, alloc, &[ASKED_0, ASKED_1], Way { step, ..PLAIN });
-        assert!(rt; left.finish == Finish::Done);
+        assert!(rt; left.end == ConnectionEnd::Done);
         assert!(rt; left.told.as_slice() == TOLD_1);
         assert_eq!(rt; left.kept, 2);
     }
@@ -123,7 +123,7 @@ fn a_bundle_is_cut_at_each_byte(rt: HostRuntime) {
         }
         let asked = push_with_length(&rt, alloc, count, &bundle[..count]);
         let left = served(&rt, alloc, &[asked.as_slice()], PLAIN);
-        assert!(rt; left.finish == Finish::Done);
+        assert!(rt; left.end == ConnectionEnd::Done);
         assert!(rt;
             left.told
                 .ends_with(b"messagestream fault 10\0\0\0\0\0\0\0\0"),
@@ -222,7 +222,7 @@ fn a_body_finds_no_room(rt: HostRuntime) {
                 &[NO_HEADS, NO_ROOM, NO_HEADS, NO_ROOM, NO_ROOM, DONE],
             );
             let left = served(&rt, alloc, &[said.as_slice()], narrow(step));
-            assert!(rt; left.finish == Finish::Done);
+            assert!(rt; left.end == ConnectionEnd::Done);
             assert!(rt; left.told.as_slice() == told.as_slice());
             assert_eq!(rt; left.kept, 1);
         }
@@ -236,7 +236,7 @@ fn a_body_finds_no_room(rt: HostRuntime) {
                 ..narrow(4_096)
             },
         );
-        assert!(rt; left.finish == Finish::Done);
+        assert!(rt; left.end == ConnectionEnd::Done);
         assert!(rt;
             left.told
                 .ends_with(b"messagestream fault 1\0\0\0\0\0\0\0\0")
@@ -251,7 +251,7 @@ fn a_body_without_room_ends_early(rt: HostRuntime) {
     let body = long_body(&rt, alloc, 60_000);
     let asked = push_with_length(&rt, alloc, 60_001, body.as_slice());
     let left = served(&rt, alloc, &[asked.as_slice()], narrow(4_096));
-    assert!(rt; left.finish == Finish::Failed(ErrorKind::UnexpectedEof));
+    assert!(rt; left.end == ConnectionEnd::Failed(ErrorKind::UnexpectedEof));
     assert_eq!(rt; left.told.len(), 0);
     // what it held was given back, and others go on
     let whole = push_with_length(&rt, alloc, 12, EMPTY);
@@ -261,7 +261,7 @@ fn a_body_without_room_ends_early(rt: HostRuntime) {
         &[asked.as_slice(), whole.as_slice()],
         narrow(100),
     );
-    assert!(rt; left.finish == Finish::Done);
+    assert!(rt; left.end == ConnectionEnd::Done);
     assert!(rt; left.told.as_slice() == DONE);
 }
 
@@ -274,6 +274,6 @@ fn a_body_without_room_is_the_last(rt: HostRuntime) {
     let asked = push_of(&rt, alloc, fields, body.as_slice());
     let said = joined(&rt, alloc, &[asked.as_slice(), HEADS]);
     let left = served(&rt, alloc, &[said.as_slice()], narrow(4_096));
-    assert!(rt; left.finish == Finish::Done);
+    assert!(rt; left.end == ConnectionEnd::Done);
     assert!(rt; left.told.as_slice() == NO_ROOM_LAST);
 }

@@ -77,7 +77,7 @@ fn assert_refused<R: RandomSource + Wait + Abort>(
     let asked = joined(rt, alloc, &[asked, AFTER]);
     let told = joined(rt, alloc, &[told, TOLD_AFTER]);
     let left = served(rt, alloc, &[ASKED_0, asked.as_slice()], PLAIN);
-    assert!(rt; left.finish == Finish::Done);
+    assert!(rt; left.end == ConnectionEnd::Done);
     assert!(rt; left.told == told);
     assert_eq!(rt; left.journal, 1);
     assert_eq!(rt; left.kept, 1);
@@ -453,7 +453,7 @@ fn assert_closed<R: RandomSource + Wait + Abort>(
     );
     let told = joined(rt, alloc, &[TOLD_AFTER, last.as_bytes()]);
     let left = served(rt, alloc, &[ASKED_0, talk.as_slice()], PLAIN);
-    assert!(rt; left.finish == Finish::Done);
+    assert!(rt; left.end == ConnectionEnd::Done);
     assert!(rt; left.told == told, "{status}");
     assert_eq!(rt; left.kept, 1);
     let left = served(rt, alloc, &[asked, ASKED_0], PLAIN);

@@ -5,16 +5,16 @@ use Rattle.hg_connection.proofs.Chains.{goes_on, tells_own, ended_whole}
 use Rattle.hg_connection.proofs.Receivings.{fresh}
 use Rattle.hg_connection.proofs.connection.serve_connection.Goals as goal
 
-pub returns-in-Ends : goal.returns-in-Ends
-returns-in-Ends g c = at_end c.args.server.now g.J.Naming.capacity g.J.Naming.first c.args.most _ _ _ _ _
+pub returns-in-InputEnded : goal.returns-in-InputEnded
+returns-in-InputEnded g c = at_end c.args.server.now g.J.Naming.capacity g.J.Naming.first c.args.most _ _ _ _ _
     c.args.client c.bundles.client c.bundles.inbox c.next_bundle.new.inbox c.bundles.served c.bundles.served
-    c.bundles.number c.bundles.invariant.goes c.bundles.auto.number-end c.in-Ends.ensures
+    c.bundles.number c.bundles.invariant.goes c.bundles.auto.number-end c.in-InputEnded.ensures
     (refl, refl, refl, refl)
 
-pub returns-in-Fails : goal.returns-in-Fails
-returns-in-Fails g c = at_failure c.args.server.now g.J.Naming.capacity g.J.Naming.first c.args.most _ _ _ _ _
+pub returns-in-ReadFailed : goal.returns-in-ReadFailed
+returns-in-ReadFailed g c = at_failure c.args.server.now g.J.Naming.capacity g.J.Naming.first c.args.most _ _ _ _ _
     c.args.client c.bundles.client c.bundles.inbox c.next_bundle.new.inbox c.bundles.served c.failed.result
-    c.bundles.number c.bundles.invariant.goes c.bundles.auto.number-end c.in-Fails.ensures c.failed.ensures
+    c.bundles.number c.bundles.invariant.goes c.bundles.auto.number-end c.in-ReadFailed.ensures c.failed.ensures
 
 pub returns-in-Err : goal.returns-in-Err
 returns-in-Err g c = at_opening c.args.server.now g.J.Naming.capacity g.J.Naming.first c.args.most _ _ _ _ _

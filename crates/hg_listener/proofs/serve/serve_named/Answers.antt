@@ -6,6 +6,6 @@ returns g c =
     closes c.args.repo _ _ c.args.terms _ _ _ _ _ _ _ _ _ c.close-closed.result.0.taker
     c.new-service.result _ _ _ c.accept_all-failed.result.0 c.missed_memory-missed.result
     c.lacks_memory-no_memory.result c.close-closed.result.1 c.requires.begins.named c.requires.terms.0
-    c.close-closed.ensures.serial c.as_slice.ensures.value c.tell_closing-sending.ensures c.status_of.ensures
+    c.close-closed.ensures.serial c.as_slice.ensures.value c.send_closing-sending.ensures c.status_of.ensures
     c.close-closed.ensures.taker c.close-closed.ensures.clients c.lacks_memory-no_memory.ensures
     c.new-service.ensures c.accept_all-failed.ensures c.hear_end.ensures

@@ -20,4 +20,4 @@ returns g c =
     c.new-reply.result.items [] (record { history = opened.sender.history; receipt = promised opened.receipt })
     c.args.client c.new-inbox.ensures c.new-body.ensures c.new-reply.ensures.items
     (same_client opened.sender.history (promised opened.receipt) c.args.client ok.1 ok.3) s.1)
-    c.limits-limits.ensures.first _ _ _ _ _ _ s.2 _ c.told_of.ensures
+    c.limits-limits.ensures.first _ _ _ _ _ _ s.2 _ c.kept_push.ensures

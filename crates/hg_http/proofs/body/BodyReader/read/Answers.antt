@@ -1,6 +1,6 @@
 use Rattle.std.proofs.Common.{◌+◌, ◌∙◌, subst, sym, take}
 use Rattle.hg_devices.specs.Devices.{Gave, ReadsOnce}
-use Rattle.hg_http.specs.Bodies.{BodyView, told_of}
+use Rattle.hg_http.specs.Bodies.{BodyView, input_of}
 use Rattle.hg_http.proofs.Bodies.{front_from, reads_on}
 use Rattle.hg_http.proofs.body.BodyReader.read.Goals as goal
 
@@ -11,9 +11,9 @@ returns-clause-read c =
     let front = take count c.copy_front-count.new.buffer in
     let bytes = inside.bytes.now in
     let after : BodyView = record { bytes = bytes; at = inside.at + count; reads = c.and-self-inside.result.items } in
-    subst (λ b. ReadsOnce (told_of b) (told_of after) (Gave front)) c.self.view_is
-    (subst (λ reads. ReadsOnce (told_of (record { bytes = bytes; at = inside.at; reads = inside.reads.items }))
-    (told_of (record { bytes = bytes; at = inside.at + count; reads = reads })) (Gave front))
+    subst (λ b. ReadsOnce (input_of b) (input_of after) (Gave front)) c.self.view_is
+    (subst (λ reads. ReadsOnce (input_of (record { bytes = bytes; at = inside.at; reads = inside.reads.items }))
+    (input_of (record { bytes = bytes; at = inside.at + count; reads = reads })) (Gave front))
     (sym c.and-self-inside.ensures)
     (reads_on (record { bytes = bytes; at = inside.at; reads = inside.reads.items }) count front
     (c.copy_front-count.ensures.front ∙ front_from count inside.at bytes)))

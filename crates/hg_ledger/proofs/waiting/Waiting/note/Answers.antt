@@ -14,14 +14,14 @@ invariant_of-self-2 g c =
     let w = c.self.inside in
     let i = c.self.invariant in
     let first = g.J.Naming.first in
-    let new = c.tell.new.client in
+    let new = c.show.new.client in
     let there = c.args.disk.now.history in
     let all = subst (λ (v : DiskView g.row.A.Denot g.row.D.Denot). IsPrefix v.history new) c.counted.ensures.same
-    c.tell.ensures.all in
+    c.show.ensures.all in
     let count : c.args.disk.now.count ≡ c.count-self-inside.result = sym c.count-self-inside.ensures in (
       All-weaker (λ (r : Record g.row.A.Denot). IsRecordOf first w.witness r.place r.bytes)
           (λ r. IsRecordOf first new r.place r.bytes)
-          (λ r p. c.records_stay.ensures.later first w.witness new r.place r.bytes c.tell.ensures.later p)
+          (λ r p. c.records_stay.ensures.later first w.witness new r.place r.bytes c.show.ensures.later p)
           w.records.items i.0,
       λ b. subst (λ (n : ℕ). IsCovered g.D.Device.seen g.D.Device.may_leave g.D.Device.moment g.J.Storing.head
           g.J.Storing.stored first (record { history = new; receipt = c.counted.result }) n) count

@@ -4,7 +4,7 @@ use Rattle.hg_wire.specs.Answering.{around_of, AnswersRequest}
 use Rattle.hg_wire.specs.Pushes.{Answered}
 use Rattle.hg_wire.specs.code.Wires.{seen_by}
 use Rattle.hg_wire.proofs.Wires.{last_noted, responds, told_all}
-use Rattle.hg_wire.proofs.wire.WireService.call.Goals.{in-Told-1, in-Shown-1, in-Moved-1, in-Refused-1}
+use Rattle.hg_wire.proofs.wire.WireService.call.Goals.{in-Text-1, in-Shown-1, in-Moved-1, in-Refused-1}
 use Rattle.hg_wire.proofs.wire.WireService.call.Goals as goal
 
 pub invariant_of-self-in-Ok-4 : goal.invariant_of-self-in-Ok-4
@@ -27,7 +27,7 @@ returns-in-Ok-clause-ok g c =
     c.args.self.now c.match-answer-2.self c.args.request.now c.respond.new.response c.in-Ok.answer
     inside.terms.now _ before after _ c.self.view_is
     (elim c.match-answer-2.branch [
-      | in-Told-1 w ↦ w.self-is
+      | in-Text-1 w ↦ w.self-is
       | in-Shown-1 w ↦ w.self-is
       | in-Moved-1 w ↦ w.self-is
       | in-Refused-1 w ↦ w.self-is

@@ -15,8 +15,8 @@ use Rattle.hg_page.specs.declared.push.Reason.TheVariants.{HeadsChanged, PhasesC
 use Rattle.hg_page.specs.declared.push.Reason.TheVariants.{Unsupported, KeyFailed, BadPart, BadChangeset}
 use Rattle.hg_page.specs.declared.push.Reason.TheVariants.{UnknownNode, ClientAborted, BadEnd, StreamFault}
 use Rattle.hg_page.specs.declared.push.Reason.TheVariants.{ConnectionLost, Dropped, NoMemory}
-use Rattle.hg_page.specs.declared.push.Ending.{Ending}
-use Rattle.hg_page.specs.declared.push.Ending.TheVariants.{Done, Aborted}
+use Rattle.hg_page.specs.declared.push.ShownOutcome.{ShownOutcome}
+use Rattle.hg_page.specs.declared.push.ShownOutcome.TheVariants.{Done, Aborted}
 
 -- what was not as the client saw it
 abbrev pub race_shown : RaceText → Reason
@@ -49,6 +49,6 @@ reason_shown push.WrongIndex = BadEnd
 reason_shown push.NoMemory = NoMemory
 
 -- how a push ended: a done one with its place, where it is the last of so many
-abbrev pub ending_shown : {A D : Type 0} → Outcome D (Refusal A) → ℕ → Ending
-ending_shown (outcome.Done done) count = Done (count - 1)
-ending_shown (outcome.Aborted reason) count = Aborted (reason_shown reason)
+abbrev pub outcome_shown : {A D : Type 0} → Outcome D (Refusal A) → ℕ → ShownOutcome
+outcome_shown (outcome.Done done) count = Done (count - 1)
+outcome_shown (outcome.Aborted reason) count = Aborted (reason_shown reason)

@@ -4,7 +4,7 @@ use Rattle.http1.specs.Fields.{Header}
 use Rattle.http_server.specs.declared.response.Response.{Response}
 use Rattle.http_server.specs.Response.{IsResponse}
 use Rattle.hg_http.specs.declared.answer.Answer.{Answer}
-use Rattle.hg_http.specs.declared.answer.Answer.TheVariants.{Told, Refused, Forbidden, NotFound}
+use Rattle.hg_http.specs.declared.answer.Answer.TheVariants.{Text, Refused, Forbidden, NotFound}
 use Rattle.hg_http.specs.declared.answer.Answer.TheVariants.{Shown, Moved}
 use Rattle.hg_http.specs.declared.view.View.{View}
 use Rattle.hg_http.specs.declared.view.View.TheVariants.{Page, Report, Metrics}
@@ -42,7 +42,7 @@ location_of address = (codes "location", address) ∷ []
 
 -- the status, the fields and the body that report an answer
 abbrev pub Says : {A : Type 0} → Answer A → Response → Type 0
-Says (Told text) response = IsResponse 200 (of_type (codes "application/mercurial-0.1")) text response
+Says (Text text) response = IsResponse 200 (of_type (codes "application/mercurial-0.1")) text response
 Says (Refused why) response =
     IsResponse 200 (of_type (codes "application/hg-error")) (refusal_text why) response
 Says Forbidden response = IsResponse 403 [] [] response
@@ -57,5 +57,5 @@ SaysNothing response =
     ⊎ IsResponse 500 [] [] response
 
 -- a response says this answer, or that memory was refused for it
-abbrev pub Tells : {A : Type 0} → Answer A → Response → Type 0
-Tells answer response = Says answer response ⊎ SaysNothing response
+abbrev pub CarriesAnswer : {A : Type 0} → Answer A → Response → Type 0
+CarriesAnswer answer response = Says answer response ⊎ SaysNothing response
