@@ -68,8 +68,8 @@ def compiled():
     """What the program says that is compiled once, without proofs, and run on all words that are asked here.
     The names of its commands are those of its sources."""
     source = "".join(read(path) for path in glob.glob(f"{ROOT}/crates/hg_command/src/*.rt"))
-    names = re.findall(r'Command::new\(\s*alloc,\s*"(\w+)"', source)
-    asked = [("--version",), ("--help",), *((it, "--help") for it in names if it != NAME)]
+    names = re.findall(r'= CommandRow \{\s*name: "(\w+)"', source)
+    asked = [("--version",), ("--help",), *((it, "--help") for it in names)]
     with tempfile.TemporaryDirectory() as cases:
         for number, words in enumerate(asked):
             write(f"{cases}/{number:02}", "")

@@ -1,58 +1,64 @@
 //! The words after `report`, `log` and `cut`, the commands that look at a store or end it.
 
 use crate::command::Job;
-use crate::options::{number, store, word, word_of};
-use clap::{ArgMatches, Command, value_parser};
-use std::alloc::{AllocError, Global};
-
-/// What the option `--store` is.
-const STORE: &str = "The folder of the store";
+use crate::options::{CommandRow, Kind, OptionRow, STORE, word_of};
+use clap::ArgMatches;
+use clap::builder::ValueParser;
 
 /// The command `report`.
-pub fn report<'a>(alloc: Global) -> Result<Command<'a>, AllocError> {
-    Command::new(alloc, "report")
-        .about("Reports what a store holds, and the places of its pushes")
-        .after_help("Example: hg_pushd report --store /var/lib/deqtorap/store > report.txt")
-        .arg(store(alloc, STORE))
-}
+pub const REPORT: CommandRow<'static> = CommandRow {
+    name: "report",
+    about: "Reports what a store holds, and the places of its pushes",
+    after: "Example: hg_pushd report --store /var/lib/deqtorap/store > report.txt",
+    options: &[STORE],
+};
 
 /// The command `log`.
-pub fn log<'a>(alloc: Global) -> Result<Command<'a>, AllocError> {
-    let from = number(
-        alloc,
-        "from",
-        "N",
-        "The place of the first push that is written",
-        value_parser!(usize),
-    );
-    Command::new(alloc, "log")
-        .about("Writes the pushes of a store as bundles, one after the other")
-        .after_help("Example: hg_pushd log --store /var/lib/deqtorap/store --to bundles")
-        .arg(store(alloc, STORE))?
-        .arg(from.default_value("0"))?
-        .arg(word(
-            alloc,
-            "to",
-            "FOLDER",
-            "Where each push gets a file of its own, named by its place; made if it is not there",
-        ))
-}
+pub const LOG: CommandRow<'static> = CommandRow {
+    name: "log",
+    about: "Writes the pushes of a store as bundles, one after the other",
+    after: "Example: hg_pushd log --store /var/lib/deqtorap/store --to bundles",
+    options: &[
+        STORE,
+        OptionRow {
+            name: "from",
+            kind: PLACE,
+            value: "N",
+            is_required: false,
+            default: &["0"],
+            help: "The place of the first push that is written",
+        },
+        OptionRow {
+            name: "to",
+            kind: Kind::Word,
+            value: "FOLDER",
+            is_required: false,
+            default: &[],
+            help: "Where each push gets a file of its own, named by its place; made if it is not there",
+        },
+    ],
+};
 
 /// The command `cut`.
-pub fn cut<'a>(alloc: Global) -> Result<Command<'a>, AllocError> {
-    let at = number(
-        alloc,
-        "at",
-        "N",
-        "The place of the first push that is cut off, from 0",
-        value_parser!(usize),
-    );
-    Command::new(alloc, "cut")
-        .about("Ends a store before one of its pushes, and keeps what it cuts off beside it")
-        .after_help("Example: hg_pushd cut --store /var/lib/deqtorap/store --at 5")
-        .arg(store(alloc, STORE))?
-        .arg(at.required(true))
-}
+pub const CUT: CommandRow<'static> = CommandRow {
+    name: "cut",
+    about: "Ends a store before one of its pushes, and keeps what it cuts off beside it",
+    after: "Example: hg_pushd cut --store /var/lib/deqtorap/store --at 5",
+    options: &[
+        STORE,
+        OptionRow {
+            name: "at",
+            kind: PLACE,
+            value: "N",
+            is_required: true,
+            default: &[],
+            help: "The place of the first push that is cut off, from 0",
+        },
+    ],
+};
+
+/// The number of a push in its store.
+const PLACE: Kind = Kind::Number(ValueParser::Unsigned(0, u64::MAX));
 
 /// Reads what stands after `report`.
 pub fn read_report<'a>(matches: &ArgMatches<'a>) -> Job<'a> {

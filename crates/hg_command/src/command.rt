@@ -1,11 +1,11 @@
 //! The command line.
 
-use crate::archive::{cut, log, read_cut, read_log, read_report, report};
-use crate::hosting::{Hosting, host, read_hosting};
-use crate::options::publishing;
-use crate::serving::{Serving, read_serving, serve};
+use crate::archive::{CUT, LOG, REPORT, read_cut, read_log, read_report};
+use crate::hosting::{HOST, Hosting, read_hosting};
+use crate::options::{CommandRow, Kind, OptionRow, PUBLISHING, command_of};
+use crate::serving::{SERVE, Serving, read_serving};
 use clap::error::ErrorKind;
-use clap::{Arg, ArgAction, ArgMatches, Command, Error};
+use clap::{ArgMatches, Command, Error};
 use std::alloc::{AllocError, Global};
 use std::io;
 
@@ -42,25 +42,34 @@ pub enum Job<'a> {
     },
 }
 
-fn one<'a>(alloc: Global) -> Result<Command<'a>, AllocError> {
-    Command::new(alloc, "one")
-        .about("Runs a bundle from standard input on the empty repository, and writes its reply")
-        .after_help("Example: hg_pushd one < push.hg20 > reply.hg20")
-        .arg(publishing(alloc))
-}
+/// The command `one`.
+const ONE: CommandRow<'static> = CommandRow {
+    name: "one",
+    about: "Runs a bundle from standard input on the empty repository, and writes its reply",
+    after: "Example: hg_pushd one < push.hg20 > reply.hg20",
+    options: &[PUBLISHING],
+};
 
-fn replay<'a>(alloc: Global) -> Result<Command<'a>, AllocError> {
-    let files = Arg::new(alloc, "FILES")
-        .required(true)
-        .num_args(1..)
-        .help("Bundles, in the order in which they are pushed")
-        .action(ArgAction::Append);
-    let command = Command::new(alloc, "replay")
-        .about("Runs bundles from files onto the empty repository, and reports what it then holds")
-        .after_help("Example: hg_pushd replay first.hg20 second.hg20 > report.txt")
-        .arg(publishing(alloc))?;
-    command.arg(files)
-}
+/// The command `replay`.
+const REPLAY: CommandRow<'static> = CommandRow {
+    name: "replay",
+    about: "Runs bundles from files onto the empty repository, and reports what it then holds",
+    after: "Example: hg_pushd replay first.hg20 second.hg20 > report.txt",
+    options: &[
+        PUBLISHING,
+        OptionRow {
+            name: "FILES",
+            kind: Kind::Words,
+            value: "",
+            is_required: true,
+            default: &[],
+            help: "Bundles, in the order in which they are pushed",
+        },
+    ],
+};
+
+/// The commands, in the order in which help has them.
+const COMMANDS: [CommandRow<'static>; 7] = [ONE, REPLAY, SERVE, HOST, REPORT, LOG, CUT];
 
 /// How the program ends.
 const STATUSES: &str =
@@ -68,24 +77,24 @@ const STATUSES: &str =
 3 where a device failed or the store cannot be had, 4 where memory was refused.";
 
 fn command<'a>(alloc: Global) -> Result<Command<'a>, AllocError> {
-    let command = Command::new(alloc, "hg_pushd")
+    let mut command = Command::new(alloc, "hg_pushd")
         .version("0.1.0")
         .about("Takes pushes in Mercurial's bundle2 format onto a repository in memory")
         .after_help(STATUSES)
-        .subcommand_required(true)
-        .subcommand(one(alloc)?)?;
-    command
-        .subcommand(replay(alloc)?)?
-        .subcommand(serve(alloc)?)?
-        .subcommand(host(alloc)?)?
-        .subcommand(report(alloc)?)?
-        .subcommand(log(alloc)?)?
-        .subcommand(cut(alloc)?)
+        .subcommand_required(true);
+    for row in &COMMANDS {
+        command = command.subcommand(command_of(alloc, row)?)?;
+    }
+    Ok(command)
 }
 
 /// The files that are named.
 fn files_of<'a>(alloc: Global, matches: &ArgMatches<'a>) -> Result<Vec<&'a str>, AllocError> {
-    match matches.get_strs("FILES") {
+    listed(alloc, matches.get_strs("FILES"))
+}
+
+fn listed<'a>(alloc: Global, files: Option<&[&'a str]>) -> Result<Vec<&'a str>, AllocError> {
+    match files {
         Some(files) => Vec::from_slice(alloc, files),
         None => Ok(Vec::new(alloc)),
     }
@@ -127,10 +136,13 @@ pub fn unreadable(alloc: Global, error: &io::Error) -> Error {
 }
 
 fn not_text(alloc: Global) -> Result<Error, AllocError> {
-    command(alloc)?.error(
+    let mut command = command(alloc)?;
+    let fault = command.error(
         ErrorKind::InvalidValue,
         "a word of the command line is not UTF-8",
-    )
+    );
+    drop(command);
+    fault
 }
 
 /// 4 where memory is refused, 0 for help or the version that was asked for, and else 2.

@@ -1,8 +1,10 @@
 //! The words after `host`.
 
-use crate::options::{capacity, flag, number, number_of, publishing, store, word, word_of};
-use clap::{Arg, ArgMatches, Command, value_parser};
-use std::alloc::{AllocError, Global};
+use crate::options::{
+    CAPACITY, CommandRow, Kind, OptionRow, PUBLISHING, STORE, number_of, word_of,
+};
+use clap::ArgMatches;
+use clap::builder::ValueParser;
 
 /// What `host` is asked for.
 #[derive(Clone, Copy, Debug)]
@@ -26,56 +28,75 @@ pub struct Hosting<'a> {
     pub log: bool,
 }
 
-/// The fewest bytes that all open pushes may hold: 1 MiB.
-const LEAST_MEMORY: i64 = 1_048_576;
-
 /// An example.
 const AFTER: &str =
     "Example: hg_pushd host --store /var/lib/deqtorap/store --listen 127.0.0.1:8000";
 
 /// The command `host`.
-pub fn host<'a>(alloc: Global) -> Result<Command<'a>, AllocError> {
-    let command = Command::new(alloc, "host")
-        .about("Answers hg push over HTTP, and keeps each push in a store before it is answered")
-        .after_help(AFTER)
-        .arg(store(alloc, "The folder of the store, made if it is not there"))?;
-    command
-        .arg(listen(alloc))?
-        .arg(connections(alloc))?
-        .arg(capacity(alloc, "C"))?
-        .arg(publishing(alloc))?
-        .arg(idle(alloc))?
-        .arg(memory(alloc))?
-        .arg(word(alloc, "pull", "URL", "Where who pulls is sent on to"))?
-        .arg(flag(
-            alloc,
-            "log",
-            "Writes a line to standard error for each push",
-        ))
-}
-
-fn listen<'a>(alloc: Global) -> Arg<'a> {
-    let help = "Where connections are accepted";
-    word(alloc, "listen", "ADDR", help).default_value("127.0.0.1:8000")
-}
-
-fn connections<'a>(alloc: Global) -> Arg<'a> {
-    let help = "How many connections are served at one time, 1 to 1024";
-    let range = value_parser!(u32).range(1..=1024);
-    number(alloc, "connections", "N", help, range).default_value("100")
-}
-
-fn idle<'a>(alloc: Global) -> Arg<'a> {
-    let help = "How long a connection may be silent before it is closed, 1 to 86400";
-    let range = value_parser!(u64).range(1..=86_400);
-    number(alloc, "idle", "SECONDS", help, range).default_value("300")
-}
-
-fn memory<'a>(alloc: Global) -> Arg<'a> {
-    let help = "How much the bodies of all open pushes hold together at most, 1048576 or more";
-    let range = value_parser!(u64).range(LEAST_MEMORY..);
-    number(alloc, "memory", "BYTES", help, range).default_value("1073741824")
-}
+pub const HOST: CommandRow<'static> = CommandRow {
+    name: "host",
+    about: "Answers hg push over HTTP, and keeps each push in a store before it is answered",
+    after: AFTER,
+    options: &[
+        OptionRow {
+            help: "The folder of the store, made if it is not there",
+            ..STORE
+        },
+        OptionRow {
+            name: "listen",
+            kind: Kind::Word,
+            value: "ADDR",
+            is_required: false,
+            default: &["127.0.0.1:8000"],
+            help: "Where connections are accepted",
+        },
+        OptionRow {
+            name: "connections",
+            kind: Kind::Number(ValueParser::Signed(1, 1024)),
+            value: "N",
+            is_required: false,
+            default: &["100"],
+            help: "How many connections are served at one time, 1 to 1024",
+        },
+        OptionRow {
+            value: "C",
+            ..CAPACITY
+        },
+        PUBLISHING,
+        OptionRow {
+            name: "idle",
+            kind: Kind::Number(ValueParser::Unsigned(1, 86_400)),
+            value: "SECONDS",
+            is_required: false,
+            default: &["300"],
+            help: "How long a connection may be silent before it is closed, 1 to 86400",
+        },
+        OptionRow {
+            name: "memory",
+            kind: Kind::Number(ValueParser::Unsigned(1_048_576, u64::MAX)),
+            value: "BYTES",
+            is_required: false,
+            default: &["1073741824"],
+            help: "How much the bodies of all open pushes hold together at most, 1048576 or more",
+        },
+        OptionRow {
+            name: "pull",
+            kind: Kind::Word,
+            value: "URL",
+            is_required: false,
+            default: &[],
+            help: "Where who pulls is sent on to",
+        },
+        OptionRow {
+            name: "log",
+            kind: Kind::Flag,
+            value: "",
+            is_required: false,
+            default: &[],
+            help: "Writes a line to standard error for each push",
+        },
+    ],
+};
 
 /// Reads what stands after `host`.
 pub fn read_hosting<'a>(matches: &ArgMatches<'a>) -> Hosting<'a> {

@@ -1,8 +1,8 @@
 //! The words after `serve`.
 
-use crate::options::{capacity, number, number_of, publishing, word, word_of};
-use clap::{ArgMatches, Command, value_parser};
-use std::alloc::{AllocError, Global};
+use crate::options::{CAPACITY, CommandRow, Kind, OptionRow, PUBLISHING, number_of, word_of};
+use clap::ArgMatches;
+use clap::builder::ValueParser;
 
 /// What `serve` is asked for.
 #[derive(Clone, Copy, Debug)]
@@ -33,38 +33,56 @@ impl Serving<'_> {
 }
 
 /// The command `serve`.
-pub fn serve<'a>(alloc: Global) -> Result<Command<'a>, AllocError> {
-    let connections = number(
-        alloc,
-        "connections",
-        "N",
-        "How many connections are accepted, 1 to 1024; the server ends after the last",
-        value_parser!(u32).range(1..=1024),
-    );
-    let bundles = number(
-        alloc,
-        "bundles",
-        "N",
-        "How many bundles a connection may send, 1 to 10000",
-        value_parser!(u32).range(1..=10_000),
-    );
-    Command::new(alloc, "serve")
-        .about("Serves TCP connections, and writes the report and the journal at the end")
-        .after_help(AFTER)
-        .arg(word(
-            alloc,
-            "listen",
-            "ADDR",
-            "Where connections are accepted, as 127.0.0.1:8090; with port 0 on a free port, which is told",
-        )
-        .required(true))?
-        .arg(connections.required(true))?
-        .arg(capacity(alloc, "N"))?
-        .arg(bundles.default_value("1"))?
-        .arg(publishing(alloc))?
-        .arg(word(alloc, "seed", "FILE", "A bundle that is run first"))?
-        .arg(word(alloc, "report", "FILE", "Where the report is written").required(true))
-}
+pub const SERVE: CommandRow<'static> = CommandRow {
+    name: "serve",
+    about: "Serves TCP connections, and writes the report and the journal at the end",
+    after: AFTER,
+    options: &[
+        OptionRow {
+            name: "listen",
+            kind: Kind::Word,
+            value: "ADDR",
+            is_required: true,
+            default: &[],
+            help: "Where connections are accepted, as 127.0.0.1:8090; with port 0 on a free port, \
+                which is told",
+        },
+        OptionRow {
+            name: "connections",
+            kind: Kind::Number(ValueParser::Signed(1, 1024)),
+            value: "N",
+            is_required: true,
+            default: &[],
+            help: "How many connections are accepted, 1 to 1024; the server ends after the last",
+        },
+        CAPACITY,
+        OptionRow {
+            name: "bundles",
+            kind: Kind::Number(ValueParser::Signed(1, 10_000)),
+            value: "N",
+            is_required: false,
+            default: &["1"],
+            help: "How many bundles a connection may send, 1 to 10000",
+        },
+        PUBLISHING,
+        OptionRow {
+            name: "seed",
+            kind: Kind::Word,
+            value: "FILE",
+            is_required: false,
+            default: &[],
+            help: "A bundle that is run first",
+        },
+        OptionRow {
+            name: "report",
+            kind: Kind::Word,
+            value: "FILE",
+            is_required: true,
+            default: &[],
+            help: "Where the report is written",
+        },
+    ],
+};
 
 /// An example, and what becomes of a connection after its last reply.
 const AFTER: &str =
