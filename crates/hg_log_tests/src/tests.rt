@@ -1,5 +1,6 @@
 //! Changesets that Mercurial made, by their bytes; the faults in their order.
 
+mod hashed;
 mod memory;
 
 use hg_delta::DeltaFault;

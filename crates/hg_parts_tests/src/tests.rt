@@ -1,6 +1,7 @@
 //! Worked examples of parts on a store, one part after another, and memory refused at one growth after
 //! another.
 
+mod ahead;
 mod ample;
 mod heads;
 mod steps;

@@ -22,7 +22,7 @@ fn is_prepared(alloc: Global, kind: &[u8], payload: Seq<u8>, length: usize) -> b
                 kind,
                 id: 1,
                 params: Seq::new(alloc),
-                payload,
+                payload: Payload::of(payload),
             };
             prepare(alloc, part).is_ok() && is_long
         }

@@ -1,0 +1,60 @@
+//! Parts whose texts are hashed before their turn.
+
+use super::*;
+use hg_parts::hash_ahead;
+
+/// What comes of a part on a store, when its texts were hashed ahead.
+fn run_ahead(alloc: Global, held: &mut Held<Global>, part: Part<Global>) -> Result<Came, NoMemory> {
+    let turn = Turn {
+        settings: held.settings,
+        source: Source::Push,
+        replying: true,
+        place: 0,
+    };
+    let prepared = prepare(alloc, hash_ahead(part))?;
+    Ok(came_of(&handle_prepared(alloc, &mut held.store, turn, prepared)))
+}
+
+/// A root, its children and their merge, then a wrong hash after a good one.
+fn as_without(alloc: Global, state: RandomState) -> Result<bool, NoMemory> {
+    let (one, two) = (child(ROOT, NULL, b'1'), child(ROOT, NULL, b'2'));
+    let merged = child(one.node, two.node, b'm');
+    let good = group(alloc, &[root(ROOT), one, two, merged])?;
+    let bad = group(alloc, &[child(ROOT, NULL, b'b'), root(WRONG)])?;
+    let mut held = empty(alloc, state, false);
+    let first = run_ahead(alloc, &mut held, good)?;
+    let rows = held.store.log.len();
+    let wrong = run_ahead(alloc, &mut held, bad)?;
+    drop(held);
+    Ok((first, wrong) == (Came::Told(false, b'2'), Came::Refused(5)) && rows == 4)
+}
+
+// A, two children and their merge; a child and a root with a wrong hash. The texts of each part are hashed ahead.
+// Result: `return` 2 and four rows; refused as without.
+#[test]
+fn parts_that_were_hashed_ahead(rt: HostRuntime) -> Result<(), Fail> {
+    assert!(rt; as_without(rt.alloc(), RandomState::new(&rt)?)?);
+    Ok(())
+}
+
+/// Whether the part is as it was.
+fn is_kept(alloc: Global, kind: &[u8], payload: &[u8]) -> Result<bool, NoMemory> {
+    let (key, value) = (b"version".as_slice(), b"02".as_slice());
+    let kept = hash_ahead(part(alloc, kind, key, value, payload)?);
+    Ok(kept.kind.as_slice() == kind && kept.id == 1 && kept.payload.as_slice() == payload)
+}
+
+// Parts of other types, and changegroups that are none. Result: each is as it was.
+#[test]
+fn other_parts_stay_as_they_are(rt: HostRuntime) -> Result<(), Fail> {
+    for kind in [
+        b"CHANGEGROUP".as_slice(),
+        b"output",
+        b"bookmarks",
+        b"unheard-of",
+    ] {
+        assert!(rt; is_kept(rt.alloc(), kind, b"\0\0\0\x68 short")?);
+        assert!(rt; is_kept(rt.alloc(), kind, b"")?);
+    }
+    Ok(())
+}
