@@ -25,7 +25,7 @@ use Rattle.hg_devices.specs.declared.sending.Sending.TheVariants.{Whole as sent_
 use Rattle.hg_receiving.specs.declared.ending.BundleEnd.{BundleEnd}
 use Rattle.hg_receiving.specs.declared.ending.BundleEnd.TheVariants.{Whole, Fault, InputEnded, ReadFailed}
 use Rattle.hg_connection.specs.declared.coming.Next.TheVariants.{Comes, InputEnded as comes_no_more}
-use Rattle.hg_connection.specs.declared.coming.Next.TheVariants.{ReadFailed as next_fails}
+use Rattle.hg_connection.specs.declared.coming.Next.TheVariants.{ReadFailed as comes_broken}
 use Rattle.hg_connection.specs.declared.served.ConnFault.{ConnFault}
 use Rattle.hg_connection.specs.declared.served.ConnFault.TheVariants.{Open, ReadFailed as read_failed}
 use Rattle.hg_connection.specs.declared.served.Served.{Served}
@@ -187,7 +187,7 @@ module _ {A : Type 0} (limits : Limits) (capacity : ℕ) (first : RepositoryOf A
       (omega arith) (is.0, is.1, is.2, is.3 ∙ g.fault) (inr (refl, refl, n.2))
 
   -- a read failed between two bundles
-  pub at_failure : IsNext number waiting after mid left next_fails → SameBut served told (Some read_failed)
+  pub at_failure : IsNext number waiting after mid left comes_broken → SameBut served told (Some read_failed)
       → Connects limits capacity first most input left out sent before now told
   at_failure n is = closes now [] (Failed ∷ []) (Some read_failed) refl (read_nothing Failed n.0 n.1.bytes)
       (Adds-trans input.reads mid.reads left.reads (reads_of g.whole) (Failed ∷ []) g.reads n.1.told)

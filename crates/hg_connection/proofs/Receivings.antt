@@ -19,7 +19,7 @@ use Rattle.hg_receiving.specs.Receiving.{KeepsWaiting, part_items}
 use Rattle.hg_receiving.specs.Turns.{FeedsFront, Fills, IsReceiving, ended_at}
 use Rattle.hg_receiving.proofs.CallerLemmas.{ends, nothing_waits}
 use Rattle.hg_connection.specs.declared.coming.Next.TheVariants.{Comes, InputEnded as comes_no_more}
-use Rattle.hg_connection.specs.declared.coming.Next.TheVariants.{ReadFailed as next_fails}
+use Rattle.hg_connection.specs.declared.coming.Next.TheVariants.{ReadFailed as comes_broken}
 use Rattle.hg_connection.specs.Receiving.{IsFresh, IsNext}
 use Rattle.hg_connection.specs.Keeping.{ReceivesKept}
 
@@ -73,7 +73,7 @@ next_ends before after input left number f =
 
 pub next_fails : (before after : List ℕ) (input left : Input) (number : ℕ) (ending : BundleEnd)
     → Fills before after input left (Some ending) → ending ≢ InputEnded
-    → IsNext number before after input left next_fails
+    → IsNext number before after input left comes_broken
 next_fails before after input left number Whole f other = absurd (nothing_waits before after input left Whole f).1
 next_fails before after input left number (Fault fault) f other =
     absurd (nothing_waits before after input left (Fault fault) f).1
