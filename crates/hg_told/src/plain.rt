@@ -13,8 +13,8 @@ use std::alloc::Allocator;
 /// How many of the changesets that came may cost a pass over all.
 const PASSES: usize = 8;
 
-/// Says of each changeset that came whether it is no head of its branch, and of those before it what became of them.
-/// It stops at one that is not plain, and what is said then is of no use.
+/// Says of each changeset that came whether it is no head of its branch, and of each before it whether it still is
+/// one. It stops at a changeset that is not plain, and what is said then is of no use.
 pub fn cover_came<A: Allocator>(
     covered: &mut Vec<bool, A>,
     copied: &Copied<A>,
@@ -35,8 +35,9 @@ pub fn cover_came<A: Allocator>(
     Ok(true)
 }
 
-/// Whether the changeset is plain: neither it nor a parent of it is obsolete, and each head of its branch that it may
-/// descend from is a parent of it. Where the passes over all are used up, it is not told of a changeset that needs one.
+/// Whether the changeset is plain: neither it nor a parent of it is obsolete, and where a parent is of another branch,
+/// each head of its own branch is a parent of it. To see this of heads is a pass over those before it. Where no pass
+/// is left, the answer is no.
 fn is_plain<A: Allocator>(
     covered: &[bool],
     copied: &Copied<A>,

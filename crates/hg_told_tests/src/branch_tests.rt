@@ -32,7 +32,7 @@ fn hidden_of<A: Allocator + Copy>(
 
 /// A changeset: the places of its parents, its text, and its branch.
 #[derive(Clone, Copy)]
-struct Row {
+pub struct Row {
     p1: Option<usize>,
     p2: Option<usize>,
     text: &'static [u8],
@@ -50,7 +50,7 @@ fn row_of(p1: Option<usize>, p2: Option<usize>, text: &'static [u8], branch: &'s
 
 /// What `hg debugdata -c` showed of each changeset of a repository, and `hg log` of its branch. The 14th, the
 /// 17th and the 18th are obsolete.
-fn rows(alloc: Global) -> Result<Vec<Row>, Fail> {
+pub fn rows(alloc: Global) -> Result<Vec<Row>, Fail> {
     let mut rows = Vec::new(alloc);
     rows.push(row_of(
         None,
@@ -179,7 +179,7 @@ fn rows(alloc: Global) -> Result<Vec<Row>, Fail> {
 }
 
 /// The lines that `hg serve` told of it, in the order of the names.
-const BRANCHES: &[u8] = b"a%3Bb%26c/d~e 70a5d81ecbe10d9b153929e68025e7d8a239a848\n\
+pub const BRANCHES: &[u8] = b"a%3Bb%26c/d~e 70a5d81ecbe10d9b153929e68025e7d8a239a848\n\
       back%5Cslash%5Cn 0e917427aa5cbdaebacf90d3ad37950586643fa6\n\
       closed 6784354509b00fc8601dc5b08acd2a3251cfb79e\n\
       default 80aa4f416dac12d1779f0629205257ab15cea27c 7c0d2ea3012aa7d788cca3538c09b9b1f5282c0d\n\
@@ -189,7 +189,7 @@ const BRANCHES: &[u8] = b"a%3Bb%26c/d~e 70a5d81ecbe10d9b153929e68025e7d8a239a848
       %C3%BC 86e2ba5d97ff7a840c25c6d106bcd258ea0676ab 5f97498b2b6357f8f2a45e1de6b10bb27899cf03";
 
 /// Makes a changeset obsolete, without a successor.
-fn prune<A: Allocator + Copy>(
+pub fn prune<A: Allocator + Copy>(
     alloc: A,
     markers: &mut Markers<A>,
     node: Node,
@@ -205,12 +205,12 @@ fn prune<A: Allocator + Copy>(
     Ok(())
 }
 
-fn is_text<A: Allocator>(told: Result<Seq<u8, A>, NoMemory>, wanted: &[u8]) -> bool {
+pub fn is_text<A: Allocator>(told: Result<Seq<u8, A>, NoMemory>, wanted: &[u8]) -> bool {
     told.is_ok_and(|text| text.as_slice() == wanted)
 }
 
 /// The ids of the changesets, put in their order.
-fn put_all(alloc: Global, log: &mut Changelog, rows: &[Row]) -> Result<Vec<Node>, Fail> {
+pub fn put_all(alloc: Global, log: &mut Changelog, rows: &[Row]) -> Result<Vec<Node>, Fail> {
     let mut nodes: Vec<Node> = Vec::new(alloc);
     for row in rows {
         let p1 = row
@@ -266,7 +266,7 @@ fn the_branch_map_of_mercurial(rt: HostRuntime) -> Result<(), Fail> {
 }
 
 /// The view, brought up to these.
-fn brought_up(
+pub fn brought_up(
     view: View,
     alloc: Global,
     log: &Changelog,
@@ -449,12 +449,20 @@ fn three_hundred_heads_of_a_branch(rt: HostRuntime) -> Result<(), Fail> {
     Ok(())
 }
 
-/// Two branches in the memory of an allocator: whether both are told, or nothing where memory is refused.
-fn tell_branches<A: Allocator + Copy>(alloc: A, state: RandomState) -> Option<bool> {
+/// Two branches in the memory of an allocator: whether both are told, or nothing where memory is refused. The first
+/// changeset may be obsolete, so that the heads are found anew.
+fn tell_branches<A: Allocator + Copy>(
+    alloc: A,
+    state: RandomState,
+    is_obsolete: bool,
+) -> Option<bool> {
     let mut log = Changelog::new(alloc, state, Limits::standard());
-    let markers = Markers::new(alloc, state);
+    let mut markers = Markers::new(alloc, state);
     let root = put_text(alloc, &mut log, Node::NULL, Node::NULL, b"m\nu\n0 0\n")?;
     let _child = put_text(alloc, &mut log, root, Node::NULL, b"m\nu\n0 0 branch:x\n")?;
+    if is_obsolete {
+        prune(alloc, &mut markers, root).ok()?;
+    }
     let name = branch_of(alloc, log.text(0)).ok()?;
     let hidden = hidden_of(alloc, &log, &markers).ok()?;
     let text = map_of(alloc, &log, &markers).ok()?;
@@ -465,17 +473,19 @@ fn tell_branches<A: Allocator + Copy>(alloc: A, state: RandomState) -> Option<bo
 #[test]
 fn each_growth_of_a_branch_map_refused(rt: HostRuntime) -> Result<(), Fail> {
     let state = RandomState::new(&rt)?;
-    let (mut refused, mut done) = (0u32, 0u32);
-    for sixteens in 1..200usize {
-        let heap = LocalHeap::new(rt.alloc(), sixteens * 16)?;
-        match tell_branches(&heap, state) {
-            Some(is_whole) => {
-                assert!(rt; is_whole);
-                done = done.saturating_add(1);
+    for is_obsolete in [false, true] {
+        let (mut refused, mut done) = (0u32, 0u32);
+        for sixteens in 1..400usize {
+            let heap = LocalHeap::new(rt.alloc(), sixteens * 16)?;
+            match tell_branches(&heap, state, is_obsolete) {
+                Some(is_whole) => {
+                    assert!(rt; is_whole);
+                    done = done.saturating_add(1);
+                }
+                None => refused = refused.saturating_add(1),
             }
-            None => refused = refused.saturating_add(1),
         }
+        assert!(rt; refused > 0 && done > 0);
     }
-    assert!(rt; refused > 0 && done > 0);
     Ok(())
 }

@@ -7,3 +7,5 @@ mod argument_tests;
 mod branch_tests;
 #[cfg(test)]
 mod repository_tests;
+#[cfg(test)]
+mod view_tests;
