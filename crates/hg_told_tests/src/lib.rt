@@ -6,4 +6,6 @@ mod argument_tests;
 #[cfg(test)]
 mod branch_tests;
 #[cfg(test)]
+mod listkeys_tests;
+#[cfg(test)]
 mod repository_tests;
