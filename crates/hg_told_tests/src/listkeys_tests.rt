@@ -23,8 +23,8 @@ const WITHOUT_PARENTS: [u32; 6] = [0, 63, 64, 100, 127, 130];
 /// The one of them that is secret.
 const SECRET: u32 = 100;
 
-/// Adds the changesets, of which all others are children of the one before, and gives the ids of those without
-/// parents.
+/// Adds the changesets, of which all others are children of the one before, and gives the ids of those
+/// without parents.
 fn put_lines<A: Allocator + Copy>(alloc: A, log: &mut Changelog<A>) -> Result<Vec<Node, A>, Fail> {
     let mut roots = Vec::new(alloc);
     let mut last = Node::NULL;
