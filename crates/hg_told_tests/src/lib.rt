@@ -6,6 +6,8 @@ mod argument_tests;
 #[cfg(test)]
 mod branch_tests;
 #[cfg(test)]
+mod listkeys_tests;
+#[cfg(test)]
 mod repository_tests;
 #[cfg(test)]
 mod view_tests;

@@ -1,0 +1,146 @@
+//! The keys of phases: of 131 changesets, some of them without parents, and memory refused in turn.
+
+ghost use Rattle.std.specs.Prelude.{◌≤◌, length};
+ghost use Rattle.hg_phases.specs.Phases.{AreFor};
+
+use hg_help_tests::changelog::put;
+use hg_keys::Bookmarks;
+use hg_log::Changelog;
+use hg_phases::Phases;
+use hg_told::listkeys_text;
+use hg_types::{Limits, NoMemory, Node, Phase, Seq};
+use linked_list_allocator::LocalHeap;
+use std::alloc::Allocator;
+use std::hash::RandomState;
+use std::test::*;
+
+/// How many changesets there are: two pieces of 64, and three.
+const ROWS: u32 = 131;
+
+/// The changesets without parents.
+const WITHOUT_PARENTS: [u32; 6] = [0, 63, 64, 100, 127, 130];
+
+/// The one of them that is secret.
+const SECRET: u32 = 100;
+
+/// Adds the changesets, of which all others are children of the one before, and gives the ids of those
+/// without parents.
+fn put_lines<A: Allocator + Copy>(alloc: A, log: &mut Changelog<A>) -> Result<Vec<Node, A>, Fail> {
+    let mut roots = Vec::new(alloc);
+    let mut last = Node::NULL;
+    for number in 0..ROWS {
+        let has_none = WITHOUT_PARENTS.contains(&number);
+        let parent = if has_none { Node::NULL } else { last };
+        last = put(alloc, log, parent, Node::NULL, number as u16).ok_or("not added")?;
+        if has_none {
+            roots.push(last)?;
+        }
+    }
+    Ok(roots)
+}
+
+/// Registers them as draft, and those after the secret one with it.
+fn register_lines<A: Allocator + Copy>(
+    phases: &mut Phases<A>,
+    log: &Changelog<A>,
+) -> Result<(), NoMemory>
+    requires { AreFor log.now.rows phases.old.current }
+    ensures { AreFor log.now.rows phases.new.current }
+{
+    for rev in 0..ROWS {
+        let phase = if rev == SECRET {
+            Phase::Secret
+        } else {
+            Phase::Draft
+        };
+        phases.register(log, rev, phase)?;
+    }
+    Ok(())
+}
+
+/// The keys of phases, where each changeset has one.
+fn keys_of<A: Allocator + Copy>(
+    alloc: A,
+    log: &Changelog<A>,
+    phases: &Phases<A>,
+) -> Result<Seq<u8, A>, NoMemory>
+    requires count { length log.now.rows ≤ length phases.now.current.phases }
+    requires fits { AreFor log.now.rows phases.now.current }
+{
+    listkeys_text(alloc, log, phases, &Bookmarks::new(alloc), false, b"phases")
+}
+
+/// The lines of those of these changesets that are draft, with a line feed between.
+fn lines_of<A: Allocator + Copy>(alloc: A, roots: &[Node]) -> Result<Vec<u8, A>, Fail> {
+    let mut lines = Vec::new(alloc);
+    for (place, node) in roots.iter().enumerate() {
+        if WITHOUT_PARENTS[place] != SECRET {
+            if !lines.is_empty() {
+                lines.push(b'\n')?;
+            }
+            let digits = hex::encode(alloc, node.0.as_slice())?;
+            lines.extend_from_slice(digits.as_str().as_bytes())?;
+            lines.extend_from_slice(b"\t1")?;
+        }
+    }
+    Ok(lines)
+}
+
+// 131 changesets: 0, 63, 64, 100, 127 and 130 have no parents, each other one is the child of the
+// one before it. All are draft, except 100 to 126, which are secret. Result: five lines, without
+// one for 100.
+#[test]
+fn keys_of_many_changesets(rt: HostRuntime) -> Result<(), Fail> {
+    let alloc = rt.alloc();
+    let mut log = Changelog::new(alloc, RandomState::new(&rt)?, Limits::standard());
+    let roots = put_lines(alloc, &mut log)?;
+    let mut phases = Phases::new(alloc);
+    register_lines(&mut phases, &log)?;
+    let wanted = lines_of(alloc, roots.as_slice())?;
+    let told = keys_of(alloc, &log, &phases)?;
+    assert!(rt; told.as_slice() == wanted.as_slice());
+    assert_eq!(rt; told.len(), 5 * 43 - 1);
+    Ok(())
+}
+
+/// Whether the keys of the same changesets, which are in a heap of their own, are told over that heap.
+fn are_told<'h>(
+    heap: &'h LocalHeap,
+    rows: &'h LocalHeap,
+    state: RandomState,
+) -> Result<bool, Fail> {
+    let mut log = Changelog::new(rows, state, Limits::standard());
+    let roots = put_lines(rows, &mut log)?;
+    let mut phases = Phases::new(rows);
+    register_lines(&mut phases, &log)?;
+    let wanted = lines_of(rows, roots.as_slice())?;
+    match keys_of(heap, &log, &phases) {
+        Ok(told) => {
+            if told.as_slice() == wanted.as_slice() {
+                Ok(true)
+            } else {
+                Err("other lines".into())
+            }
+        }
+        Err(_) => Ok(false),
+    }
+}
+
+// The same changesets, and their keys over heaps of each multiple of 16 bytes up to 1,520. Result: out
+// of memory, or the same five lines; both.
+#[test]
+fn each_growth_of_keys_refused(rt: HostRuntime) -> Result<(), Fail> {
+    let state = RandomState::new(&rt)?;
+    let rows = LocalHeap::new(rt.alloc(), 262_144)?;
+    let (mut refused, mut done) = (0u32, 0u32);
+    for sixteens in 1..96usize {
+        let heap = LocalHeap::new(rt.alloc(), sixteens * 16)?;
+        if are_told(&heap, &rows, state)? {
+            done = done.saturating_add(1);
+        } else {
+            refused = refused.saturating_add(1);
+        }
+    }
+    assert!(rt; refused > 0 && done > 0);
+    Ok(())
+}
