@@ -36,8 +36,8 @@ fn read_words<R: Env + AllocGlobal>(rt: &R) -> Result<Vec<String>, Error> {
     }
 }
 
-/// What the words ask for. Where they ask for nothing, help, the version or what is wrong with them is printed,
-/// and the error is the status.
+/// What the words ask for. Where they ask for nothing, help, the version or what is wrong with them is
+/// printed, and the error is the status.
 pub fn asked_for<'a, R>(rt: &R, words: &'a [String]) -> Result<Job<'a>, u8>
 where
     R: Print + Eprint + AllocGlobal,
