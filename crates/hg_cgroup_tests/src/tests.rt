@@ -383,7 +383,7 @@ fn many_changesets_over_an_ample_heap(rt: HostRuntime) -> Result<(), Fail> {
 // whose delta takes all of it.
 #[test]
 fn the_greatest_payloads_over_an_ample_heap(rt: HostRuntime) -> Result<(), Fail> {
-    let heap = LocalHeap::new(rt.alloc(), 1 << 28)?;
+    let heap = LocalHeap::new(rt.alloc(), 5 << 26)?;
     let root = root(rt.alloc())?;
     let mut payload = Vec::with_capacity(rt.alloc(), 67_108_864)?;
     for _ in 0..645_277usize {

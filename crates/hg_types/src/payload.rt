@@ -4,7 +4,7 @@
 //! have its texts hashed before the part's turn comes ([`Payload::hash`]). What is kept is true of the bytes
 //! alone, whatever they mean: who reads them finds the hash of just the bytes that it has, or makes it.
 
-ghost use Rattle.std.specs.Prelude.{◌≡◌, [], ◌++◌, length, IfSome, IsTrue};
+ghost use Rattle.std.specs.Prelude.{◌≡◌, [], ◌∷◌, ◌++◌, length, IfSome, IsTrue};
 ghost use Rattle.sha1.specs.Sha1.{sha1};
 ghost use Rattle.hg_types.specs.Hashes.{IsHashOf};
 ghost use Rattle.hg_types.specs.code.Stretches.{id_in, text_in, IsOfStretch};
@@ -50,18 +50,19 @@ struct Stretch {
 #[derive(Drop)]
 pub struct Payload<A: Allocator = Global> {
     bytes: Vec<u8, A>,
-    stretches: Vec<Stretch, A>,
+    /// Behind a pointer, since most parts have none and a part is to be small.
+    stretches: Option<Box<Vec<Stretch, A>, A>>,
 }
 
 impl<A: Allocator> Model for Payload<A> {
-    ghost use Rattle.std.specs.Prelude.{ℕ, List, All};
+    ghost use Rattle.std.specs.Prelude.{ℕ, List, All, IfSome};
     ghost use Rattle.hg_types.specs.code.Stretches.{IsOfStretch};
 
     ghost Value = { List ℕ };
 
     ghost view = { λ p. p.bytes.items };
 
-    ghost invariant = { λ p. All (IsOfStretch p.bytes.items) p.stretches.items };
+    ghost invariant = { λ p. IfSome p.stretches (λ s. All (IsOfStretch p.bytes.items) s.value.items) };
 }
 
 impl<A: Allocator> Payload<A> {
@@ -73,19 +74,19 @@ impl<A: Allocator> Payload<A> {
     {
         Payload {
             bytes: Vec::new(alloc),
-            stretches: Vec::new(alloc),
+            stretches: None,
         }
     }
 
     /// These bytes, without a hash. It takes no memory.
     pub fn of(bytes: Seq<u8, A>) -> Self
-    where
-        A: Copy,
         ensures { result ≡ bytes }
     {
         let bytes = bytes.into_vec();
-        let stretches = Vec::new(*bytes.allocator());
-        Payload { bytes, stretches }
+        Payload {
+            bytes,
+            stretches: None,
+        }
     }
 
     /// The bytes.
@@ -105,10 +106,18 @@ impl<A: Allocator> Payload<A> {
     /// Hashes the ids at two places and the bytes between two others, and keeps that for [`Payload::hashed`]. Where
     /// there are no such bytes, or memory is refused, nothing is kept.
     pub fn hash(&mut self, first: u32, second: u32, from: u32, to: u32)
+    where
+        A: Copy,
         ensures { self.new ≡ self.old }
     {
-        if let Some(stretch) = hash_at(self.bytes.as_slice(), first, second, from, to) {
-            let _is_kept = self.stretches.push(stretch);
+        let Some(stretch) = hash_at(self.bytes.as_slice(), first, second, from, to) else {
+            return;
+        };
+        match &mut self.stretches {
+            Some(stretches) => {
+                let _is_kept = stretches.push(stretch);
+            }
+            None => self.stretches = alone(*self.bytes.allocator(), stretch),
         }
     }
 
@@ -116,7 +125,10 @@ impl<A: Allocator> Payload<A> {
     pub fn hashed(&self, number: usize) -> Option<(TextHash, &[u8])>
         ensures { IfSome result (λ found. IsHashOf found.1.now found.0) }
     {
-        let stretch = *self.stretches.get(number)?;
+        let Some(stretches) = &self.stretches else {
+            return None;
+        };
+        let stretch = *stretches.get(number)?;
         let bytes = self.bytes.as_slice();
         let hash = TextHash {
             first: id_at(bytes, stretch.first)?,
@@ -141,6 +153,14 @@ fn hash_at(bytes: &[u8], first: u32, second: u32, from: u32, to: u32) -> Option<
         to,
         digest,
     })
+}
+
+/// A list of that one stretch, if there is memory for it.
+fn alone<A: Allocator + Copy>(alloc: A, stretch: Stretch) -> Option<Box<Vec<Stretch, A>, A>>
+    ensures { IfSome result (λ list. list.value.items ≡ stretch ∷ []) }
+{
+    let stretches = Vec::from_slice(alloc, &[stretch]).ok()?;
+    Box::new(alloc, stretches).ok()
 }
 
 /// The id at a place.
