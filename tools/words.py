@@ -32,7 +32,7 @@ WIDTH = 110
 
 # a word, and the plain one; what may stay: a place, as in front of a proxy
 PLAIN = [
-    (r"\bbehind\b(?! (?:a|the) (?:proxy|lock)\b)", "after"),
+    (r"\bbehind\b(?! (?:a|the) (?:proxy|lock|pointer)\b)", "after"),
     (r"\b(?:tell|tells|told|telling)\b", "report, say, name"),
     (r"\bwant of memory\b", "out of memory, refused memory"),
     (r"\bbut for\b", "except, except for"),

@@ -1,10 +1,11 @@
 // Clients that push to a server, each on a connection and a thread of its own, and wait for each reply.
 //
-//   load PORT CONNECTIONS PUSHES CHANGESETS
+//   load PORT CONNECTIONS PUSHES CHANGESETS [HUNKS]
 //
 // Each connection sends PUSHES bundles. With 0 changesets a bundle has `REPLYCAPS` and a `CHECK:HEADS` that
 // the empty repository is content with, 86 bytes in all. With more it brings so many new changesets, each
-// the child of the one before. All bundles are made before the clock starts. Written: pushes a second, and
+// the child of the one before, with its text in so many hunks (1): in one, the server hashes it before the lock,
+// in 2 under it. All bundles are made before the clock starts. Written: pushes a second, and
 // the 50th, the 99th and the slowest of 100 replies, in microseconds.
 #include <arpa/inet.h>
 #include <netinet/in.h>
@@ -64,6 +65,7 @@ static void sha1(const uint8_t *text, size_t len, uint8_t out[20]) {
 }
 
 static const uint8_t ZERO[20];
+static size_t hunks = 1;
 
 // One changeset, the child of `tip`, which becomes the new tip.
 static void add_changeset(Bytes *b, uint8_t tip[20], const char *text) {
@@ -73,10 +75,13 @@ static void add_changeset(Bytes *b, uint8_t tip[20], const char *text) {
     memcpy(whole + 20, tip, 20);
     memcpy(whole + 40, text, len);
     sha1(whole, 40 + len, node);
-    add_number(b, (uint32_t)(104 + 12 + len));
+    add_number(b, (uint32_t)(104 + 12 * hunks + len));
     add(b, node, 20); add(b, tip, 20); add(b, ZERO, 20); add(b, ZERO, 20); add(b, node, 20);
-    add_number(b, 0); add_number(b, 0); add_number(b, (uint32_t)len);
-    add(b, text, len);
+    for (size_t h = 0; h < hunks; h++) {
+        size_t from = h * (len / hunks), to = h + 1 == hunks ? len : from + len / hunks;
+        add_number(b, 0); add_number(b, 0); add_number(b, (uint32_t)(to - from));
+        add(b, text + from, to - from);
+    }
     memcpy(tip, node, 20);
 }
 
@@ -153,7 +158,8 @@ static int by_time(const void *a, const void *b) {
 }
 
 int main(int argc, char **argv) {
-    if (argc != 5) fail("PORT CONNECTIONS PUSHES CHANGESETS");
+    if (argc != 5 && argc != 6) fail("PORT CONNECTIONS PUSHES CHANGESETS [HUNKS]");
+    if (argc == 6) hunks = (size_t)atoi(argv[5]);
     int port = atoi(argv[1]), connections = atoi(argv[2]), pushes = atoi(argv[3]), changesets = atoi(argv[4]);
     Client *clients = calloc((size_t)connections, sizeof *clients);
     pthread_t *threads = calloc((size_t)connections, sizeof *threads);
