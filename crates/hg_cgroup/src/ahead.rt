@@ -34,7 +34,7 @@ struct Whole {
 /// It ends at the first byte that is no changeset's. Where memory is refused, the rest have no hashes.
 ///
 /// [`decode`]: crate::decode
-pub fn hash_texts<A: Allocator + Copy>(payload: &mut Payload<A>)
+pub fn hash_texts<A: Allocator>(payload: &mut Payload<A>)
     ensures { payload.new ≡ payload.old }
 {
     let mut at = 0;

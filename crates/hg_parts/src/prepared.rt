@@ -64,7 +64,7 @@ pub fn prepare<A: Allocator + Copy>(alloc: A, part: Part<A>) -> Result<Prepared<
 
 /// Hashes the texts that a part's payload carries whole, before the part's turn comes. The part is as it was:
 /// [`prepare`] takes these hashes over, so that they are not made where others wait.
-pub fn hash_ahead<A: Allocator + Copy>(mut part: Part<A>) -> Part<A>
+pub fn hash_ahead<A: Allocator>(mut part: Part<A>) -> Part<A>
     ensures { result ≡ part }
 {
     if is_group_with_bases(&part) {

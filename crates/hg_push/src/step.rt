@@ -142,10 +142,10 @@ fn close<D: Drop, E: Drop, A: Allocator>(row: &mut Row<D, E, A>, outcome: Outcom
 }
 
 /// How many parts a staged list asks for room for with its first one: about as many as most pushes have, so
-/// that their lists are moved seldom while they grow. A part takes 112 bytes there. So little room is given
-/// back fast, and with what the C library adds the lists stand 912 bytes apart: at a power of two, as with room
+/// that their lists are moved seldom while they grow. A part takes 136 bytes there. So little room is given
+/// back fast, and with what the C library adds the lists stand 968 bytes apart: at a power of two, as with room
 /// for 9, those of many pushes would share few lines of the cache.
-const FIRST_ROOM: usize = 8;
+const FIRST_ROOM: usize = 7;
 
 /// Prepares a part and adds it to an open push, or aborts the push where memory is refused for either.
 #[inline(always)]

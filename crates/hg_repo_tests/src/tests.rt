@@ -314,7 +314,7 @@ fn count_answers(alloc: Global, state: RandomState, example: Example) -> Result<
         refused: 0,
         same: true,
     };
-    for sixteens in 1..64usize {
+    for sixteens in 1..96usize {
         let heap = LocalHeap::new(alloc, sixteens * 16)?;
         match run_in(&heap, state, example) {
             Some(Some(same)) => {

@@ -28,7 +28,7 @@ pub fn header_room(parts_left: u32) -> u32
 }
 
 /// The part of a header and its payload.
-pub fn make_part<A: Allocator>(head: Head<A>, payload: Seq<u8, A>) -> Part<A>
+pub fn make_part<A: Allocator + Copy>(head: Head<A>, payload: Seq<u8, A>) -> Part<A>
     ensures { result ≡ part_of head payload }
 {
     let Head { kind, id, params } = head;

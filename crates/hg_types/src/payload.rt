@@ -4,7 +4,7 @@
 //! have its texts hashed before the part's turn comes ([`Payload::hash`]). What is kept is true of the bytes
 //! alone, whatever they mean: who reads them finds the hash of just the bytes that it has, or makes it.
 
-ghost use Rattle.std.specs.Prelude.{◌≡◌, [], ◌∷◌, ◌++◌, length, IfSome, IsTrue};
+ghost use Rattle.std.specs.Prelude.{◌≡◌, [], ◌++◌, length, IfSome, IsTrue};
 ghost use Rattle.sha1.specs.Sha1.{sha1};
 ghost use Rattle.hg_types.specs.Hashes.{IsHashOf};
 ghost use Rattle.hg_types.specs.code.Stretches.{id_in, text_in, IsOfStretch};
@@ -50,19 +50,18 @@ struct Stretch {
 #[derive(Drop)]
 pub struct Payload<A: Allocator = Global> {
     bytes: Vec<u8, A>,
-    /// Behind a pointer, since most parts have none and a part is to be small.
-    stretches: Option<Box<Vec<Stretch, A>, A>>,
+    stretches: Vec<Stretch, A>,
 }
 
 impl<A: Allocator> Model for Payload<A> {
-    ghost use Rattle.std.specs.Prelude.{ℕ, List, All, IfSome};
+    ghost use Rattle.std.specs.Prelude.{ℕ, List, All};
     ghost use Rattle.hg_types.specs.code.Stretches.{IsOfStretch};
 
     ghost Value = { List ℕ };
 
     ghost view = { λ p. p.bytes.items };
 
-    ghost invariant = { λ p. IfSome p.stretches (λ s. All (IsOfStretch p.bytes.items) s.value.items) };
+    ghost invariant = { λ p. All (IsOfStretch p.bytes.items) p.stretches.items };
 }
 
 impl<A: Allocator> Payload<A> {
@@ -74,19 +73,19 @@ impl<A: Allocator> Payload<A> {
     {
         Payload {
             bytes: Vec::new(alloc),
-            stretches: None,
+            stretches: Vec::new(alloc),
         }
     }
 
     /// These bytes, without a hash. It takes no memory.
     pub fn of(bytes: Seq<u8, A>) -> Self
+    where
+        A: Copy,
         ensures { result ≡ bytes }
     {
         let bytes = bytes.into_vec();
-        Payload {
-            bytes,
-            stretches: None,
-        }
+        let stretches = Vec::new(*bytes.allocator());
+        Payload { bytes, stretches }
     }
 
     /// The bytes.
@@ -106,18 +105,10 @@ impl<A: Allocator> Payload<A> {
     /// Hashes the ids at two places and the bytes between two others, and keeps that for [`Payload::hashed`]. Where
     /// there are no such bytes, or memory is refused, nothing is kept.
     pub fn hash(&mut self, first: u32, second: u32, from: u32, to: u32)
-    where
-        A: Copy,
         ensures { self.new ≡ self.old }
     {
-        let Some(stretch) = hash_at(self.bytes.as_slice(), first, second, from, to) else {
-            return;
-        };
-        match &mut self.stretches {
-            Some(stretches) => {
-                let _is_kept = stretches.push(stretch);
-            }
-            None => self.stretches = alone(*self.bytes.allocator(), stretch),
+        if let Some(stretch) = hash_at(self.bytes.as_slice(), first, second, from, to) {
+            let _is_kept = self.stretches.push(stretch);
         }
     }
 
@@ -125,10 +116,7 @@ impl<A: Allocator> Payload<A> {
     pub fn hashed(&self, number: usize) -> Option<(TextHash, &[u8])>
         ensures { IfSome result (λ found. IsHashOf found.1.now found.0) }
     {
-        let Some(stretches) = &self.stretches else {
-            return None;
-        };
-        let stretch = *stretches.get(number)?;
+        let stretch = *self.stretches.get(number)?;
         let bytes = self.bytes.as_slice();
         let hash = TextHash {
             first: id_at(bytes, stretch.first)?,
@@ -153,14 +141,6 @@ fn hash_at(bytes: &[u8], first: u32, second: u32, from: u32, to: u32) -> Option<
         to,
         digest,
     })
-}
-
-/// A list of that one stretch, if there is memory for it.
-fn alone<A: Allocator + Copy>(alloc: A, stretch: Stretch) -> Option<Box<Vec<Stretch, A>, A>>
-    ensures { IfSome result (λ list. list.value.items ≡ stretch ∷ []) }
-{
-    let stretches = Vec::from_slice(alloc, &[stretch]).ok()?;
-    Box::new(alloc, stretches).ok()
 }
 
 /// The id at a place.
