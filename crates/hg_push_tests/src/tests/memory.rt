@@ -271,14 +271,14 @@ fn open_all<A: Allocator + Copy>(book: &mut Book<A>) -> bool {
     all && book.open() == Err(OpenFault::TooManyOpen)
 }
 
-/// Puts 1,000 parts into a push. A staged part takes less than twice its 144 bytes, with those of its own.
+/// Puts 1,000 parts into a push. A staged part takes less than twice its 176 bytes, and those of its own.
 fn put_many<'a>(book: &mut Book<&'a LocalHeap>, heap: &'a LocalHeap, push: u32) -> bool {
     let free = heap.free();
     let mut all = true;
     for index in 0..1_000 {
         all = put(book, push, index, output(heap)) && all;
     }
-    all && free.saturating_sub(heap.free()) <= 224_000
+    all && free.saturating_sub(heap.free()) <= 384_000
 }
 
 /// Whether as many pushes as the limit allows are opened, and one of them is done with 1,000 parts.
@@ -293,7 +293,7 @@ fn all_are_put(heap: &LocalHeap, state: RandomState) -> bool {
 /// As many open pushes as the limit allows, and one of them with 1,000 parts, over a heap of which half is
 /// never used: no growth is refused, so none is told.
 /// Over 2 MiB, half of it never used: 1,024 openings, one more, 1,000 parts of push 7, its end
-/// mark. Result: 0 to 1,023; TooManyOpen; no refusal, at most 224 bytes a part; done.
+/// mark. Result: 0 to 1,023; TooManyOpen; no refusal, at most 384 bytes a part; done.
 #[test]
 fn near_the_limits(rt: HostRuntime) -> Result<(), Fail> {
     let state = RandomState::new(&rt)?;
