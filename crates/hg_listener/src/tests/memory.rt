@@ -119,7 +119,7 @@ fn is_refusal(alloc: Global, stream: &TcpStream) -> bool {
 fn memory_is_refused_for_a_connection(rt: HostRuntime) -> Result<(), Fail> {
     let listener = listener(&rt);
     let (mut refused, mut done, mut wrong) = (false, false, false);
-    for sixteens in 64..192usize {
+    for sixteens in 64..256usize {
         let heap = LocalHeap::new(rt.alloc(), sixteens * 16)?;
         match pushed(&rt, rt.alloc(), &heap, &listener) {
             Told::Nothing | Told::Aborted => {}
