@@ -30,6 +30,7 @@ pub enum CheckFault {
     NoMemory,
 }
 
+/// For `NoMemory` alone: beside the impls for faults of other crates, the compiler refuses a general one.
 impl From<NoMemory> for CheckFault {
     ghost from_gives = { λ _ fault. fault ≡ Refused };
 

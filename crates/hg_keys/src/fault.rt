@@ -42,6 +42,7 @@ pub enum KeyFault {
     NoMemory,
 }
 
+/// For `NoMemory` alone: beside the impls for faults of other crates, the compiler refuses a general one.
 impl From<NoMemory> for KeyFault {
     ghost use Rattle.std.specs.Prelude.{◌≡◌};
     ghost use Rattle.hg_keys.specs.declared.fault.KeyFault.TheVariants.{NoMemory as Refused};
