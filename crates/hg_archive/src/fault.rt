@@ -2,7 +2,6 @@
 
 use hg_store::HeadFault;
 use hg_types::NoMemory;
-use std::alloc::AllocError;
 use std::fmt;
 use thiserror::Error;
 
@@ -54,24 +53,14 @@ pub enum Fault {
     NoMemory,
 }
 
-impl From<NoMemory> for Fault {
+/// Whatever says that memory was refused.
+impl<E: Into<NoMemory> + Drop> From<E> for Fault {
     ghost use Rattle.std.specs.Prelude.{◌≡◌};
     ghost use Rattle.hg_archive.specs.declared.fault.Fault.TheVariants.{NoMemory as out_of_memory};
 
     ghost from_gives = { λ _ told. told ≡ out_of_memory };
 
-    fn from(_: NoMemory) -> Self {
-        Fault::NoMemory
-    }
-}
-
-impl From<AllocError> for Fault {
-    ghost use Rattle.std.specs.Prelude.{◌≡◌};
-    ghost use Rattle.hg_archive.specs.declared.fault.Fault.TheVariants.{NoMemory as out_of_memory};
-
-    ghost from_gives = { λ _ told. told ≡ out_of_memory };
-
-    fn from(_: AllocError) -> Self {
+    fn from(_refused: E) -> Self {
         Fault::NoMemory
     }
 }

@@ -1,6 +1,6 @@
 //! What can be wrong with base-85 text.
 
-use std::alloc::AllocError;
+use hg_types::NoMemory;
 use thiserror::Error;
 
 /// Why a text is not base-85. The digits of the whole text are looked at first, then its length, and
@@ -21,13 +21,14 @@ pub enum Base85Fault {
     NoMemory,
 }
 
-impl From<AllocError> for Base85Fault {
+/// Whatever says that memory was refused.
+impl<E: Into<NoMemory> + Drop> From<E> for Base85Fault {
     ghost use Rattle.std.specs.Prelude.{◌≡◌};
     ghost use Rattle.hg_base85.specs.declared.fault.Base85Fault.TheVariants.{NoMemory as Refused};
 
     ghost from_gives = { λ _ fault. fault ≡ Refused };
 
-    fn from(_refused: AllocError) -> Self {
+    fn from(_refused: E) -> Self {
         Base85Fault::NoMemory
     }
 }

@@ -1,9 +1,12 @@
 //! Why a check part refuses its push.
 
+ghost use Rattle.std.specs.Prelude.{◌≡◌};
+ghost use Rattle.hg_checks.specs.CheckFaults.{told_bookmarks, told_entries};
+ghost use Rattle.hg_checks.specs.declared.fault.CheckFault.TheVariants.{NoMemory as Refused};
+
 use hg_keys::BookmarkFault;
 use hg_phases::EntryFault;
 use hg_types::NoMemory;
-use std::alloc::AllocError;
 use thiserror::Error;
 
 /// Why a check part refuses its push. `Short` comes before `BadPhase`, and both before the rest; then the
@@ -27,10 +30,8 @@ pub enum CheckFault {
     NoMemory,
 }
 
+/// For `NoMemory` alone: beside the impls for faults of other crates, the compiler refuses a general one.
 impl From<NoMemory> for CheckFault {
-    ghost use Rattle.std.specs.Prelude.{◌≡◌};
-    ghost use Rattle.hg_checks.specs.declared.fault.CheckFault.TheVariants.{NoMemory as Refused};
-
     ghost from_gives = { λ _ fault. fault ≡ Refused };
 
     fn from(_refused: NoMemory) -> Self {
@@ -38,22 +39,8 @@ impl From<NoMemory> for CheckFault {
     }
 }
 
-impl From<AllocError> for CheckFault {
-    ghost use Rattle.std.specs.Prelude.{◌≡◌};
-    ghost use Rattle.hg_checks.specs.declared.fault.CheckFault.TheVariants.{NoMemory as Refused};
-
-    ghost from_gives = { λ _ fault. fault ≡ Refused };
-
-    fn from(_refused: AllocError) -> Self {
-        CheckFault::NoMemory
-    }
-}
-
 /// Out of memory is reported as such.
 impl From<EntryFault> for CheckFault {
-    ghost use Rattle.std.specs.Prelude.{◌≡◌};
-    ghost use Rattle.hg_checks.specs.CheckFaults.{told_entries};
-
     ghost from_gives = { λ fault told. told ≡ told_entries fault };
 
     fn from(fault: EntryFault) -> Self {
@@ -67,9 +54,6 @@ impl From<EntryFault> for CheckFault {
 
 /// Out of memory is reported as such.
 impl From<BookmarkFault> for CheckFault {
-    ghost use Rattle.std.specs.Prelude.{◌≡◌};
-    ghost use Rattle.hg_checks.specs.CheckFaults.{told_bookmarks};
-
     ghost from_gives = { λ fault told. told ≡ told_bookmarks fault };
 
     fn from(fault: BookmarkFault) -> Self {

@@ -16,13 +16,14 @@ pub enum BookmarkFault {
     NoMemory,
 }
 
-impl From<NoMemory> for BookmarkFault {
+/// Whatever says that memory was refused.
+impl<E: Into<NoMemory> + Drop> From<E> for BookmarkFault {
     ghost use Rattle.std.specs.Prelude.{◌≡◌};
     ghost use Rattle.hg_keys.specs.declared.fault.BookmarkFault.TheVariants.{NoMemory as Refused};
 
     ghost from_gives = { λ _ fault. fault ≡ Refused };
 
-    fn from(_refused: NoMemory) -> Self {
+    fn from(_refused: E) -> Self {
         BookmarkFault::NoMemory
     }
 }
@@ -41,6 +42,7 @@ pub enum KeyFault {
     NoMemory,
 }
 
+/// For `NoMemory` alone: beside the impls for faults of other crates, the compiler refuses a general one.
 impl From<NoMemory> for KeyFault {
     ghost use Rattle.std.specs.Prelude.{◌≡◌};
     ghost use Rattle.hg_keys.specs.declared.fault.KeyFault.TheVariants.{NoMemory as Refused};

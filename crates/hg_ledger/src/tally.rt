@@ -146,6 +146,13 @@ pub struct Keeper<J: Storing<A>, A: Allocator = Global> {
     of: PhantomData<(J, A)>,
 }
 
+/// Promises of the ledger of that name: each was made. Contracts see them. Only this crate makes one.
+#[derive(Drop)]
+pub struct Receipt<J: Storing<A>, A: Allocator = Global> {
+    seat: Seat<(), Known>,
+    of: PhantomData<(J, A)>,
+}
+
 impl<J: Storing<A>, A: Allocator> Model for Keeper<J, A> {
     ghost use Rattle.std.specs.Prelude.{List};
     ghost use Rattle.hg_ledger.specs.code.Tallies.{IsKeeperAt};
@@ -156,13 +163,6 @@ impl<J: Storing<A>, A: Allocator> Model for Keeper<J, A> {
     ghost view = { λ k. k.seat.me.0.promises };
 
     ghost invariant = { λ k. IsKeeperAt J.tally k.seat };
-}
-
-/// Promises of the ledger of that name: each was made. Contracts see them. Only this crate makes one.
-#[derive(Drop)]
-pub struct Receipt<J: Storing<A>, A: Allocator = Global> {
-    seat: Seat<(), Known>,
-    of: PhantomData<(J, A)>,
 }
 
 impl<J: Storing<A>, A: Allocator> Model for Receipt<J, A> {

@@ -81,12 +81,13 @@ pub enum Refusal<A: Allocator = Global> {
     NoMemory,
 }
 
-impl<A: Allocator> From<NoMemory> for Refusal<A> {
+/// Whatever says that memory was refused.
+impl<E: Into<NoMemory> + Drop, A: Allocator> From<E> for Refusal<A> {
     ghost use Rattle.hg_parts.specs.declared.refusal.Refusal.TheVariants.{NoMemory as OutOfMemory};
 
     ghost from_gives = { λ _ refusal. refusal ≡ OutOfMemory };
 
-    fn from(_e: NoMemory) -> Self {
+    fn from(_refused: E) -> Self {
         Refusal::NoMemory
     }
 }

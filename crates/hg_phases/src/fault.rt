@@ -4,7 +4,6 @@ ghost use Rattle.std.specs.Prelude.{◌≡◌};
 ghost use Rattle.hg_phases.specs.declared.fault.EntryFault.TheVariants.{NoMemory as Refused};
 
 use hg_types::NoMemory;
-use std::alloc::AllocError;
 use thiserror::Error;
 
 /// Why a payload gives no entries. `Short` comes before `BadPhase`.
@@ -21,18 +20,11 @@ pub enum EntryFault {
     NoMemory,
 }
 
-impl From<NoMemory> for EntryFault {
+/// Whatever says that memory was refused.
+impl<E: Into<NoMemory> + Drop> From<E> for EntryFault {
     ghost from_gives = { λ _ fault. fault ≡ Refused };
 
-    fn from(_refused: NoMemory) -> Self {
-        EntryFault::NoMemory
-    }
-}
-
-impl From<AllocError> for EntryFault {
-    ghost from_gives = { λ _ fault. fault ≡ Refused };
-
-    fn from(_refused: AllocError) -> Self {
+    fn from(_refused: E) -> Self {
         EntryFault::NoMemory
     }
 }

@@ -33,10 +33,11 @@ pub enum RestoreFault {
     NoMemory,
 }
 
-impl From<NoMemory> for RestoreFault {
+/// Whatever says that memory was refused.
+impl<E: Into<NoMemory> + Drop> From<E> for RestoreFault {
     ghost from_gives = { λ _ told. told ≡ OutOfMemory };
 
-    fn from(_: NoMemory) -> Self {
+    fn from(_refused: E) -> Self {
         RestoreFault::NoMemory
     }
 }

@@ -5,7 +5,7 @@ ghost use Rattle.hg_store.specs.declared.device.DeviceError.TheVariants.{Memory}
 ghost use Rattle.hg_store.specs.Device.{Only, CrashesFollow, Torn, Cut, Overwrites, Elapses, HasCause};
 
 use hg_types::NoMemory;
-use std::alloc::{AllocError, AllocFailed, Allocator};
+use std::alloc::Allocator;
 use thiserror::Error;
 
 /// Why a call of a device failed.
@@ -22,26 +22,11 @@ pub enum DeviceError {
     Full = 3,
 }
 
-impl From<NoMemory> for DeviceError {
+/// Whatever says that memory was refused.
+impl<E: Into<NoMemory> + Drop> From<E> for DeviceError {
     ghost from_gives = { λ _ e. e ≡ Memory };
 
-    fn from(_: NoMemory) -> Self {
-        DeviceError::Memory
-    }
-}
-
-impl From<AllocError> for DeviceError {
-    ghost from_gives = { λ _ e. e ≡ Memory };
-
-    fn from(_: AllocError) -> Self {
-        DeviceError::Memory
-    }
-}
-
-impl<T: Drop> From<AllocFailed<T>> for DeviceError {
-    ghost from_gives = { λ _ e. e ≡ Memory };
-
-    fn from(_: AllocFailed<T>) -> Self {
+    fn from(_refused: E) -> Self {
         DeviceError::Memory
     }
 }

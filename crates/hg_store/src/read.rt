@@ -43,13 +43,14 @@ impl From<HeadFault> for ReadFault {
     }
 }
 
-impl From<NoMemory> for ReadFault {
+/// Whatever says that memory was refused.
+impl<E: Into<NoMemory> + Drop> From<E> for ReadFault {
     ghost use Rattle.std.specs.Prelude.{◌≡◌};
     ghost use Rattle.hg_store.specs.declared.read.ReadFault.TheVariants.{NoMemory as no_memory};
 
     ghost from_gives = { λ _ told. told ≡ no_memory };
 
-    fn from(_refused: NoMemory) -> Self {
+    fn from(_refused: E) -> Self {
         ReadFault::NoMemory
     }
 }

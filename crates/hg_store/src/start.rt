@@ -14,7 +14,7 @@ use crate::log::Log;
 use crate::opening::{RecoverFault, recover};
 use crate::read::ReadFault;
 use hg_types::{NoMemory, Seq};
-use std::alloc::{AllocError, Allocator, Global};
+use std::alloc::{Allocator, Global};
 use thiserror::Error;
 
 /// Why a store is not made, opened, read or cut.
@@ -78,7 +78,8 @@ impl From<DeviceError> for StoreFault {
     }
 }
 
-impl From<NoMemory> for StoreFault {
+/// Whatever says that memory was refused.
+impl<E: Into<NoMemory> + Drop> From<E> for StoreFault {
     ghost use Rattle.std.specs.Prelude.{◌≡◌};
     ghost use Rattle.hg_store.specs.declared.start.StoreFault.TheVariants.{Recover};
     ghost use Rattle.hg_store.specs.declared.opening.RecoverFault.TheVariants.{Device as device_fault};
@@ -86,20 +87,7 @@ impl From<NoMemory> for StoreFault {
 
     ghost from_gives = { λ _ told. told ≡ Recover (device_fault Memory) };
 
-    fn from(_: NoMemory) -> Self {
-        StoreFault::Recover(RecoverFault::Device(DeviceError::Memory))
-    }
-}
-
-impl From<AllocError> for StoreFault {
-    ghost use Rattle.std.specs.Prelude.{◌≡◌};
-    ghost use Rattle.hg_store.specs.declared.start.StoreFault.TheVariants.{Recover};
-    ghost use Rattle.hg_store.specs.declared.opening.RecoverFault.TheVariants.{Device as device_fault};
-    ghost use Rattle.hg_store.specs.declared.device.DeviceError.TheVariants.{Memory};
-
-    ghost from_gives = { λ _ told. told ≡ Recover (device_fault Memory) };
-
-    fn from(_: AllocError) -> Self {
+    fn from(_refused: E) -> Self {
         StoreFault::Recover(RecoverFault::Device(DeviceError::Memory))
     }
 }
