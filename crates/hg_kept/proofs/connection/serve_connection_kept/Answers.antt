@@ -7,18 +7,21 @@ use Rattle.hg_connection.proofs.Receivings.{fresh}
 use Rattle.hg_kept.proofs.connection.serve_connection_kept.Goals as goal
 
 pub returns-in-InputEnded : goal.returns-in-InputEnded
-returns-in-InputEnded g c = at_end c.args.server.now g.J.Naming.capacity g.J.Naming.first c.args.most _ _ _ _ _
+returns-in-InputEnded g c = at_end c.args.keeping.now.server.now g.J.Naming.capacity g.J.Naming.first
+    c.args.most _ _ _ _ _
     c.args.client c.bundles.client c.bundles.inbox c.next_bundle.new.inbox c.bundles.served c.bundles.served
     c.bundles.number c.bundles.invariant.goes c.bundles.auto.number-end c.in-InputEnded.ensures
     (refl, refl, refl, refl)
 
 pub returns-in-ReadFailed : goal.returns-in-ReadFailed
-returns-in-ReadFailed g c = at_failure c.args.server.now g.J.Naming.capacity g.J.Naming.first c.args.most _ _ _ _ _
+returns-in-ReadFailed g c = at_failure c.args.keeping.now.server.now g.J.Naming.capacity g.J.Naming.first
+    c.args.most _ _ _ _ _
     c.args.client c.bundles.client c.bundles.inbox c.next_bundle.new.inbox c.bundles.served c.failed.result
     c.bundles.number c.bundles.invariant.goes c.bundles.auto.number-end c.in-ReadFailed.ensures c.failed.ensures
 
 pub returns-in-Err : goal.returns-in-Err
-returns-in-Err g c = at_opening c.args.server.now g.J.Naming.capacity g.J.Naming.first c.args.most _ _ _ _ _
+returns-in-Err g c = at_opening c.args.keeping.now.server.now g.J.Naming.capacity g.J.Naming.first
+    c.args.most _ _ _ _ _
     c.args.client c.bundles.client c.bundles.inbox c.next_bundle.new.inbox c.bundles.served
     c.failed-in-Err.result c.bundles.number c.bundles.invariant.goes c.bundles.auto.number-end c.in-Err.back
     c.in-Err.fault c.in-Comes.ensures c.in-Err.ensures.err c.failed-in-Err.ensures
@@ -31,10 +34,10 @@ returns-then-is_some g c =
     let had : KeptSeen g.row.A.Denot = record { history = o.sender.history; receipt = promised o.receipt } in
     let is = c.in-Ok.ensures.ok in
     let same : had ≡ c.bundles.client = as_was o.sender.history (promised o.receipt) c.bundles.client is.1 is.3 in
-    let own = comes c.args.server.now g.J.Naming.capacity g.J.Naming.first c.bundles.inbox
+    let own = comes c.args.keeping.now.server.now g.J.Naming.capacity g.J.Naming.first c.bundles.inbox
     c.next_bundle.new.inbox c.serve_bundle_kept-seen.new.inbox _ _ _ _ _ had e.0
     c.in-Comes.ensures.0 e.1 in
-    at_fault c.args.server.now g.J.Naming.capacity g.J.Naming.first _ _ _ _ _ _ c.args.client c.bundles.client
+    at_fault c.args.keeping.now.server.now g.J.Naming.capacity g.J.Naming.first _ _ _ _ _ _ c.args.client c.bundles.client
     had c.serve_bundle_kept-seen.result.0 c.bundles.inbox c.serve_bundle_kept-seen.new.inbox
     c.bundles.served c.more-served.result c.bundles.number r.answer r.ending
     (record { rests = r.rests; replied = r.replied }) r.written
@@ -50,11 +53,11 @@ bundles-preserved g c =
     let had : KeptSeen g.row.A.Denot = record { history = o.sender.history; receipt = promised o.receipt } in
     let is = c.in-Ok.ensures.ok in
     let same : had ≡ c.bundles.client = as_was o.sender.history (promised o.receipt) c.bundles.client is.1 is.3 in
-    let own = comes c.args.server.now g.J.Naming.capacity g.J.Naming.first c.bundles.inbox
+    let own = comes c.args.keeping.now.server.now g.J.Naming.capacity g.J.Naming.first c.bundles.inbox
     c.next_bundle.new.inbox c.serve_bundle_kept-seen.new.inbox _ _ _ _ _ had e.0
     c.in-Comes.ensures.0 e.1 in
     record {
-      goes = goes_on c.args.server.now g.J.Naming.capacity g.J.Naming.first _ _ _ _ _ _ c.args.client
+      goes = goes_on c.args.keeping.now.server.now g.J.Naming.capacity g.J.Naming.first _ _ _ _ _ _ c.args.client
           c.bundles.client had c.serve_bundle_kept-seen.result.0 c.bundles.inbox
           c.serve_bundle_kept-seen.new.inbox c.bundles.served c.more-served.result c.bundles.number r.answer
           r.ending (record { rests = r.rests; replied = r.replied }) r.written
@@ -72,15 +75,16 @@ bundles-preserved g c =
 
 pub bundles-init : goal.bundles-init
 bundles-init g c = record {
-  goes = starts c.args.server.now g.J.Naming.capacity g.J.Naming.first _ _ c.args.client c.new-inbox.result
+  goes = starts c.args.keeping.now.server.now g.J.Naming.capacity g.J.Naming.first _ _ c.args.client c.new-inbox.result
       c.new-served.result c.new-inbox.ensures c.new-served.ensures;
-  bundle = fresh c.streams_are_settled_once.ensures c.args.server.now c.new-bundle.result
+  bundle = fresh c.streams_are_settled_once.ensures c.args.keeping.now.server.now c.new-bundle.result
       c.new-bundle.ensures.empty c.new-bundle.ensures.state (c.new-bundle.ensures.limits
       ∙ c.limits.ensures.value);
 }
 
 pub returns : goal.returns
-returns g c = at_most c.args.server.now g.J.Naming.capacity g.J.Naming.first c.args.most _ _ _ _ _
+returns g c = at_most c.args.keeping.now.server.now g.J.Naming.capacity g.J.Naming.first
+    c.args.most _ _ _ _ _
     c.args.client c.bundles.client c.bundles.inbox c.bundles.inbox c.bundles.served c.bundles.served
     c.bundles.number c.bundles.invariant.goes (omega (arith, c.bundles.auto.number-end)) refl
     (omega (arith, c.bundles-test.false, c.bundles.auto.number-end)) c.pending-waiting.ensures.few
@@ -105,7 +109,7 @@ more-served-requires-clause-fits g c =
     let e = c.serve_bundle_kept-seen.ensures.served in
     let o = c.in-Ok.opened in
     let had : KeptSeen g.row.A.Denot = record { history = o.sender.history; receipt = promised o.receipt } in
-    can_add c.args.server.now g.J.Naming.capacity g.J.Naming.first _ _ _ _ _ _ _ c.args.client
+    can_add c.args.keeping.now.server.now g.J.Naming.capacity g.J.Naming.first _ _ _ _ _ _ _ c.args.client
     c.bundles.client
     had c.serve_bundle_kept-seen.result.0 c.bundles.inbox c.next_bundle.new.inbox
     c.serve_bundle_kept-seen.new.inbox c.bundles.served c.bundles.number e.0 _ _ _ _ _ c.bundles.invariant.goes e.1
