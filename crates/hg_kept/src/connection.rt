@@ -238,20 +238,21 @@ pub fn serve_connection_kept<
             Next::InputEnded => return (client, served),
             Next::ReadFailed => return (client, served.failed(ConnFault::ReadFailed)),
         }
-        let opened = match open_kept(keeping, client) {
-            Ok(opened) => opened,
+        let (seen, round) = match open_kept(keeping, client) {
+            Ok(opened) => {
+                gate.at(Point::Opened);
+                serve_bundle_kept(
+                    keeping,
+                    opened,
+                    &mut bundle,
+                    &mut inbox,
+                    reader,
+                    writer,
+                    gate,
+                )
+            }
             Err((back, fault)) => return (back, served.failed(ConnFault::Open(fault))),
         };
-        gate.at(Point::Opened);
-        let (seen, round) = serve_bundle_kept(
-            keeping,
-            opened,
-            &mut bundle,
-            &mut inbox,
-            reader,
-            writer,
-            gate,
-        );
         client = seen;
         served = served.more(number, round);
         if served.fault.is_some() {
