@@ -30,6 +30,15 @@ use hg_types::Seq;
 use std::alloc::{Allocator, Global};
 use std::sync::Wait;
 
+/// What a kept push needs beside its client: a server, and the ledger that keeps its pushes.
+#[derive(Drop)]
+pub struct Keeping<'a, J: Storing<A>, D: Device, R: Wait, A: Allocator = Global> {
+    pub server: &'a Server<J, A>,
+    pub ledger: &'a Ledger<J, D, A>,
+    pub rt: &'a R,
+    pub alloc: A,
+}
+
 /// A push that was opened, with room for its record, and the receipt that its client had.
 pub struct OpenedKept<J: Storing<A>, A: Allocator = Global> {
     pub room: Room<J, A>,
@@ -53,9 +62,7 @@ fn record_of<A: Allocator>(
 /// Opens a push with room for its record, which is taken first. Where either is refused, the client comes
 /// back, and nothing is taken.
 pub fn open_kept<J: Storing<A>, D: Device, A: Allocator + Copy, R: Wait>(
-    server: &Server<J, A>,
-    ledger: &Ledger<J, D, A>,
-    rt: &R,
+    keeping: &Keeping<'_, J, D, R, A>,
     client: KeptClient<J, A>,
 ) -> Result<OpenedKept<J, A>, (KeptClient<J, A>, OpenFault)>
     ensures ok { IfOk result (λ opened. (opened.sender.putter.put ≡ [])
@@ -64,19 +71,19 @@ pub fn open_kept<J: Storing<A>, D: Device, A: Allocator + Copy, R: Wait>(
         × (promised opened.receipt ≡ client.receipt)) }
     ensures err { IfErr result (λ back. back.0 ≡ client) }
 {
-    let room = match ledger.room(rt) {
+    let room = match keeping.ledger.room(keeping.rt) {
         Ok(room) => room,
         Err(_) => return Err((client, OpenFault::NoMemory)),
     };
     let (client, receipt) = client.into_parts();
-    match server.open(rt, client) {
+    match keeping.server.open(keeping.rt, client) {
         Ok(sender) => Ok(OpenedKept {
             room,
             sender,
             receipt,
         }),
         Err((client, fault)) => {
-            ledger.give_back(rt, room);
+            keeping.ledger.give_back(keeping.rt, room);
             Err((KeptClient::of(client, receipt), fault))
         }
     }
@@ -85,10 +92,7 @@ pub fn open_kept<J: Storing<A>, D: Device, A: Allocator + Copy, R: Wait>(
 /// Hands in the record of a push that is done, waits until so many done pushes are on the device, and sends
 /// the reply. The client has a receipt for them then. Where the store failed, the writer is not used.
 fn reply_kept<J: Storing<A>, D: Device, A: Allocator + Copy, R: Wait, W: Writer>(
-    server: &Server<J, A>,
-    ledger: &Ledger<J, D, A>,
-    rt: &R,
-    alloc: A,
+    keeping: &Keeping<'_, J, D, R, A>,
     client: &mut KeptClient<J, A>,
     room: Room<J, A>,
     rests: usize,
@@ -105,9 +109,12 @@ fn reply_kept<J: Storing<A>, D: Device, A: Allocator + Copy, R: Wait, W: Writer>
     ensures replied { RepliesBy D.seen D.may_leave D.moment J.head J.stored J.first client.new rests
         (reply_of outcome.now) (W.told writer.old) (W.told writer.new) result.0 result.1 }
 {
-    match ledger.keep(rt, server, client, room, rests, bundle) {
+    let kept = keeping
+        .ledger
+        .keep(keeping.rt, keeping.server, client, room, rests, bundle);
+    match kept {
         Ok(()) => {
-            let (sending, written) = send_reply(alloc, writer, outcome);
+            let (sending, written) = send_reply(keeping.alloc, writer, outcome);
             (Replied::Sent(sending), written)
         }
         Err(_) => (Replied::NotStored, 0),
@@ -128,10 +135,7 @@ pub fn serve_bundle_kept<
     W: Writer,
     G: Gate,
 >(
-    server: &Server<J, A>,
-    ledger: &Ledger<J, D, A>,
-    rt: &R,
-    alloc: A,
+    keeping: &Keeping<'_, J, D, R, A>,
     opened: OpenedKept<J, A>,
     bundle: &mut Unbundler<A>,
     inbox: &mut Inbox,
@@ -139,12 +143,12 @@ pub fn serve_bundle_kept<
     writer: &mut W,
     gate: &mut G,
 ) -> (KeptClient<J, A>, KeptRound<A>)
-    requires bundle { IsFresh server.now bundle.old }
+    requires bundle { IsFresh keeping.now.server.now bundle.old }
     requires sender { (opened.sender.putter.put ≡ [])
         × (of opened.sender.putter.push (items_of opened.sender.history) ≡ []) }
     ensures served { (x : KeptExchange A)
-        × ServesKept D.seen D.may_leave D.moment J.head J.stored server.now J.capacity J.first inbox.old inbox.new
-        (I.told reader.old) (I.told reader.new) (W.told writer.old) (W.told writer.new)
+        × ServesKept D.seen D.may_leave D.moment J.head J.stored keeping.now.server.now J.capacity J.first
+        inbox.old inbox.new (I.told reader.old) (I.told reader.new) (W.told writer.old) (W.told writer.new)
         (record { history = opened.sender.history; receipt = promised opened.receipt }) x
         × IsReported x result.1.ending result.1.answer.outcome result.1.answer.takes
         (record { rests = result.1.rests; replied = result.1.replied }) result.1.written result.0 }
@@ -155,16 +159,16 @@ pub fn serve_bundle_kept<
     parts_are_few::<A>();
     replies_are_short::<A>();
     journals_grow::<A>();
-    let _limits = server.limits();
+    let _limits = keeping.server.limits();
     let OpenedKept {
         room,
         mut sender,
         receipt,
     } = opened;
-    let mut kept = Vec::new(alloc);
+    let mut kept = Vec::new(keeping.alloc);
     let ending = receive_kept(
-        server,
-        rt,
+        keeping.server,
+        keeping.rt,
         &mut sender,
         bundle,
         inbox,
@@ -172,15 +176,12 @@ pub fn serve_bundle_kept<
         &mut kept,
         gate,
     );
-    let ended = mark(server, rt, sender, ending, gate);
-    let (answer, rests, client) = server.answer_resting(rt, ended, gate);
+    let ended = mark(keeping.server, keeping.rt, sender, ending, gate);
+    let (answer, rests, client) = keeping.server.answer_resting(keeping.rt, ended, gate);
     let mut client = KeptClient::of(client, receipt);
     let record = record_of(&answer.outcome, kept);
     let (replied, written) = reply_kept(
-        server,
-        ledger,
-        rt,
-        alloc,
+        keeping,
         &mut client,
         room,
         rests,
@@ -213,10 +214,7 @@ pub fn serve_connection_kept<
     W: Writer,
     G: Gate,
 >(
-    server: &Server<J, A>,
-    ledger: &Ledger<J, D, A>,
-    rt: &R,
-    alloc: A,
+    keeping: &Keeping<'_, J, D, R, A>,
     client: KeptClient<J, A>,
     reader: &mut I,
     writer: &mut W,
@@ -224,12 +222,13 @@ pub fn serve_connection_kept<
     gate: &mut G,
 ) -> (KeptClient<J, A>, KeptServed<A>)
     requires { (1 ≤ most) × (most ≤ 10000) }
-    ensures { ConnectsKept D.seen D.may_leave D.moment J.head J.stored server.now J.capacity J.first most
-        (I.told reader.old) (I.told reader.new) (W.told writer.old) (W.told writer.new) client result.0 result.1 }
+    ensures { ConnectsKept D.seen D.may_leave D.moment J.head J.stored keeping.now.server.now J.capacity J.first
+        most (I.told reader.old) (I.told reader.new) (W.told writer.old) (W.told writer.new) client result.0
+        result.1 }
 {
     streams_are_settled_once::<A>();
     replies_are_short::<A>();
-    let mut bundle = Unbundler::new(alloc, *server.limits());
+    let mut bundle = Unbundler::new(keeping.alloc, *keeping.server.limits());
     let mut client = client;
     let mut served = KeptServed::new();
     let mut inbox = Inbox::new();
@@ -239,23 +238,21 @@ pub fn serve_connection_kept<
             Next::InputEnded => return (client, served),
             Next::ReadFailed => return (client, served.failed(ConnFault::ReadFailed)),
         }
-        let opened = match open_kept(server, ledger, rt, client) {
-            Ok(opened) => opened,
+        let (seen, round) = match open_kept(keeping, client) {
+            Ok(opened) => {
+                gate.at(Point::Opened);
+                serve_bundle_kept(
+                    keeping,
+                    opened,
+                    &mut bundle,
+                    &mut inbox,
+                    reader,
+                    writer,
+                    gate,
+                )
+            }
             Err((back, fault)) => return (back, served.failed(ConnFault::Open(fault))),
         };
-        gate.at(Point::Opened);
-        let (seen, round) = serve_bundle_kept(
-            server,
-            ledger,
-            rt,
-            alloc,
-            opened,
-            &mut bundle,
-            &mut inbox,
-            reader,
-            writer,
-            gate,
-        );
         client = seen;
         served = served.more(number, round);
         if served.fault.is_some() {

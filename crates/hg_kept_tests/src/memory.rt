@@ -6,7 +6,7 @@ use crate::tests::Source;
 use hg_connection::ConnFault;
 use hg_help_serve_tests::{client_of, marker, new_log, one_part, settings, state};
 use hg_help_tests::device::Memory;
-use hg_kept::{KeptFault, serve_connection_kept};
+use hg_kept::{Keeping, KeptFault, serve_connection_kept};
 use hg_ledger::{KeptClient, Ledger, Parts, Storing, Tally};
 use hg_push::OpenFault;
 use hg_queue::{PartQueue, Taker};
@@ -87,11 +87,14 @@ fn connected<'h, J: Storing<&'h LocalHeap>, R: Wait + Abort, G: Gate>(
                 step: 40,
             };
             let mut writer: Vec<u8> = Vec::new(alloc);
-            let (client, served) = serve_connection_kept(
-                &server,
-                &ledger,
+            let keeping = Keeping {
+                server: &server,
+                ledger: &ledger,
                 rt,
-                heap,
+                alloc: heap,
+            };
+            let (client, served) = serve_connection_kept(
+                &keeping,
                 KeptClient::new(client_of(rt, &server)),
                 &mut reader,
                 &mut writer,

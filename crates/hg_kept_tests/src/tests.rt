@@ -6,7 +6,7 @@ ghost use Rattle.hg_ledger.specs.Clients.{promised};
 
 use hg_help_serve_tests::{client_of, marker, new_log, one_part, settings, starts_again, state};
 use hg_help_tests::device::Memory;
-use hg_kept::{KeptFault, serve_connection_kept};
+use hg_kept::{Keeping, KeptFault, serve_connection_kept};
 use hg_ledger::{KeptClient, Ledger, Parts, Receipt, Storing, Tally};
 use hg_queue::{PartQueue, Taker};
 use hg_repo::Repo;
@@ -101,11 +101,14 @@ fn connect<J: Storing<Global>, R: Wait + Abort>(
         step: 1 + 13 * thread as usize,
     };
     let mut writer: Vec<u8> = Vec::new(alloc);
-    let (client, served) = serve_connection_kept(
+    let keeping = Keeping {
         server,
         ledger,
         rt,
         alloc,
+    };
+    let (client, served) = serve_connection_kept(
+        &keeping,
         client,
         &mut reader,
         &mut writer,
@@ -197,11 +200,14 @@ fn push_twice<J: Storing<Global>, R: Wait + Abort>(
         step: 40,
     };
     let mut writer: Vec<u8> = Vec::new(alloc);
-    let (client, _served) = serve_connection_kept(
+    let keeping = Keeping {
         server,
         ledger,
         rt,
         alloc,
+    };
+    let (client, _served) = serve_connection_kept(
+        &keeping,
         client,
         &mut reader,
         &mut writer,

@@ -57,7 +57,7 @@ pub fn answer_request<
         (around_of (IsCovered D.seen D.may_leave D.moment J.head J.stored J.first) S.is_page S.are_metrics terms.now)
         request.now) client result.1 result.0 }
 {
-    match read_request(host.alloc, request) {
+    match read_request(host.keeping.alloc, request) {
         Ok((command, fields)) => {
             let fields = fields.as_slice();
             answer_asked(host, terms, client, command, fields, request, watch)
@@ -95,7 +95,7 @@ fn answer_asked<J: Storing<A>, D: Device, A: Allocator + Copy, R: Wait, S: Shown
 {
     match command {
         Some(command) => answer_command(host, terms.pull, client, command, fields, request, watch),
-        None => answer_view(host, terms, client, view_of(request)),
+        None => answer_view(&host.keeping, terms, client, view_of(request)),
     }
 }
 
@@ -115,11 +115,11 @@ fn answer_command<J: Storing<A>, D: Device, A: Allocator + Copy, R: Wait, V: Wat
 {
     match command {
         Command::ReadOnly(read) => answer_read(host, client, read, fields),
-        Command::Capabilities => (client, Ok(capabilities(host.alloc))),
+        Command::Capabilities => (client, Ok(capabilities(host.keeping.alloc))),
         Command::Batch => answer_batch(host, client, fields),
         Command::Unbundle => answer_unbundle(host, client, fields, request, watch),
         Command::PushKey => answer_pushkey(host, client, fields, request, watch),
-        Command::GetBundle => (client, Ok(answer_pull(host.alloc, pull, request))),
+        Command::GetBundle => (client, Ok(answer_pull(host.keeping.alloc, pull, request))),
     }
 }
 
@@ -168,11 +168,11 @@ fn answer_read<J: Storing<A>, D: Device, A: Allocator + Copy, R: Wait>(
         return answer_long(host, client, read, about);
     }
     let question = Reading {
-        alloc: host.alloc,
+        alloc: host.keeping.alloc,
         read,
         about,
     };
-    let (client, looked) = look(host, client, &question);
+    let (client, looked) = look(&host.keeping, client, &question);
     match looked {
         Ok((text, _rests)) => (client, Ok(text_answer(text))),
         Err(fault) => (client, Err(fault)),
@@ -216,7 +216,7 @@ fn answer_batch<J: Storing<A>, D: Device, A: Allocator + Copy, R: Wait>(
         Answered (OrLacks (AnswersBatch J.first (IsCovered D.seen D.may_leave D.moment J.head J.stored J.first) commands
         (why_refused commands))) client result.1 result.0 }
 {
-    match read_batch(host.alloc, argument(fields, b"cmds".as_slice())) {
+    match read_batch(host.keeping.alloc, argument(fields, b"cmds".as_slice())) {
         Ok(commands) => answer_commands(host, client, commands.as_slice()),
         Err(_) => (client, Ok(Answer::Refused(Refusal::NoMemory))),
     }
@@ -238,10 +238,10 @@ fn answer_commands<J: Storing<A>, D: Device, A: Allocator + Copy, R: Wait>(
         return answer_commands_long(host, client, commands);
     }
     let question = Batch {
-        alloc: host.alloc,
+        alloc: host.keeping.alloc,
         commands,
     };
-    let (client, looked) = look(host, client, &question);
+    let (client, looked) = look(&host.keeping, client, &question);
     match looked {
         Ok((text, _rests)) => (client, Ok(text_answer(text))),
         Err(fault) => (client, Err(fault)),
@@ -286,7 +286,7 @@ fn answer_unbundle<J: Storing<A>, D: Device, A: Allocator + Copy, R: Wait, V: Wa
         return (client, Ok(Answer::Refused(Refusal::NotForced)));
     }
     let body = request.body();
-    unbundle(host, client, body, watch)
+    unbundle(&host.keeping, client, body, watch)
 }
 
 /// Whether the heads of a push are forced: `force` in hexadecimal digits.
@@ -310,5 +310,5 @@ fn answer_pushkey<J: Storing<A>, D: Device, A: Allocator + Copy, R: Wait, V: Wat
     if !is_from_client(request) {
         return (client, Ok(Answer::Forbidden));
     }
-    push_key(host, client, fields, watch)
+    push_key(&host.keeping, client, fields, watch)
 }

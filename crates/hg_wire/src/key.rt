@@ -10,8 +10,8 @@ ghost use Rattle.hg_wire.specs.Pushes.{is_set as key_is_set, key_line, set_line}
 ghost use Rattle.hg_wire.specs.Pushes.{says_one as part_says_one};
 
 use crate::push::{KeptPush, push_bundle};
-use crate::terms::Host;
 use hg_http::{Answer, KeyChange, Refusal, fits, key_bundle, read_change};
+use hg_kept::Keeping;
 use hg_ledger::{KeptClient, NotStored, Storing};
 use hg_push::Outcome;
 use hg_reading::Watch;
@@ -24,7 +24,7 @@ use std::sync::Wait;
 
 /// Sets a key by a push of its own, and says whether it was set.
 pub fn push_key<J: Storing<A>, D: Device, A: Allocator + Copy, R: Wait, V: Watch<A>>(
-    host: &Host<'_, J, D, R, A>,
+    keeping: &Keeping<'_, J, D, R, A>,
     client: KeptClient<J, A>,
     fields: &[Field<A>],
     watch: &mut V,
@@ -33,12 +33,12 @@ pub fn push_key<J: Storing<A>, D: Device, A: Allocator + Copy, R: Wait, V: Watch
         (IsCovered D.seen D.may_leave D.moment J.head J.stored J.first) fields.now)) client result.1 result.0 }
 {
     let change = read_change(fields);
-    push_change(host, client, &change, watch)
+    push_change(keeping, client, &change, watch)
 }
 
 /// Asks for a change by a push of its own, where a part can hold its values.
 fn push_change<J: Storing<A>, D: Device, A: Allocator + Copy, R: Wait, V: Watch<A>>(
-    host: &Host<'_, J, D, R, A>,
+    keeping: &Keeping<'_, J, D, R, A>,
     client: KeptClient<J, A>,
     change: &KeyChange<'_>,
     watch: &mut V,
@@ -48,14 +48,14 @@ fn push_change<J: Storing<A>, D: Device, A: Allocator + Copy, R: Wait, V: Watch<
         change.now.key.now change.now.old.now change.now.new.now)) client result.1 result.0 }
 {
     if !fits(change) {
-        return (client, Ok(line_of(host.alloc, false, Refusal::NoMemory)));
+        return (client, Ok(line_of(keeping.alloc, false, Refusal::NoMemory)));
     }
-    set_key(host, client, change, watch)
+    set_key(keeping, client, change, watch)
 }
 
 /// Pushes the bundle that asks for a change.
 fn set_key<J: Storing<A>, D: Device, A: Allocator + Copy, R: Wait, V: Watch<A>>(
-    host: &Host<'_, J, D, R, A>,
+    keeping: &Keeping<'_, J, D, R, A>,
     client: KeptClient<J, A>,
     change: &KeyChange<'_>,
     watch: &mut V,
@@ -66,15 +66,15 @@ fn set_key<J: Storing<A>, D: Device, A: Allocator + Copy, R: Wait, V: Watch<A>>(
         (IsCovered D.seen D.may_leave D.moment J.head J.stored J.first) change.now.namespace.now
         change.now.key.now change.now.old.now change.now.new.now)) client result.1 result.0 }
 {
-    match key_bundle(host.alloc, change) {
-        Ok(bundle) => push_for_key(host, client, bundle.as_slice(), watch),
+    match key_bundle(keeping.alloc, change) {
+        Ok(bundle) => push_for_key(keeping, client, bundle.as_slice(), watch),
         Err(_) => (client, Ok(Answer::Refused(Refusal::NoMemory))),
     }
 }
 
 /// Pushes a bundle, and says whether it set its key.
 fn push_for_key<J: Storing<A>, D: Device, A: Allocator + Copy, R: Wait, V: Watch<A>>(
-    host: &Host<'_, J, D, R, A>,
+    keeping: &Keeping<'_, J, D, R, A>,
     client: KeptClient<J, A>,
     bundle: &[u8],
     watch: &mut V,
@@ -83,9 +83,9 @@ fn push_for_key<J: Storing<A>, D: Device, A: Allocator + Copy, R: Wait, V: Watch
         (IsCovered D.seen D.may_leave D.moment J.head J.stored J.first) bundle.now key_line)
         client result.1 result.0 }
 {
-    let (client, pushed) = push_bundle(host, client, bundle, watch);
+    let (client, pushed) = push_bundle(keeping, client, bundle, watch);
     match pushed {
-        Ok(pushed) => (client, Ok(reply_to(host.alloc, &pushed))),
+        Ok(pushed) => (client, Ok(reply_to(keeping.alloc, &pushed))),
         Err(fault) => (client, Err(fault)),
     }
 }

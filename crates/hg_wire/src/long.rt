@@ -32,15 +32,20 @@ pub fn look_long<J: Storing<A>, D: Device, A: Allocator + Copy, R: Wait>(
         (λ repo. IfOk text (λ t. IsTextOf repo read about.now t)))
         (λ _. IsLater client result.0) }
 {
+    let keeping = &host.keeping;
     let (mut client, receipt) = client.into_parts();
-    let (text, rests) = host
-        .shelf
-        .lock(host.rt)
-        .text(host.rt, host.server, host.alloc, &mut client, read, about);
+    let (text, rests) = host.shelf.lock(keeping.rt).text(
+        keeping.rt,
+        keeping.server,
+        keeping.alloc,
+        &mut client,
+        read,
+        about,
+    );
     let mut client = KeptClient::of(client, receipt);
-    match host
+    match keeping
         .ledger
-        .receipt(host.rt, host.server, &mut client, rests)
+        .receipt(keeping.rt, keeping.server, &mut client, rests)
     {
         Ok(()) => (client, Ok(text)),
         Err(fault) => (client, Err(fault)),
@@ -61,15 +66,19 @@ pub fn look_long_batch<J: Storing<A>, D: Device, A: Allocator + Copy, R: Wait>(
         (λ repo. IfOk text (λ t. IsBatchText repo commands.now t)))
         (λ _. IsLater client result.0) }
 {
+    let keeping = &host.keeping;
     let (mut client, receipt) = client.into_parts();
-    let (text, rests) = host
-        .shelf
-        .lock(host.rt)
-        .batch(host.rt, host.server, host.alloc, &mut client, commands);
+    let (text, rests) = host.shelf.lock(keeping.rt).batch(
+        keeping.rt,
+        keeping.server,
+        keeping.alloc,
+        &mut client,
+        commands,
+    );
     let mut client = KeptClient::of(client, receipt);
-    match host
+    match keeping
         .ledger
-        .receipt(host.rt, host.server, &mut client, rests)
+        .receipt(keeping.rt, keeping.server, &mut client, rests)
     {
         Ok(()) => (client, Ok(text)),
         Err(fault) => (client, Err(fault)),

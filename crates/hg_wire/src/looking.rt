@@ -5,7 +5,7 @@ ghost use Rattle.hg_ledger.specs.Clients.{IsCovered, IsLater};
 ghost use Rattle.hg_ledger.specs.Records.{done_in};
 ghost use Rattle.hg_wire.specs.Looking.{LooksKept};
 
-use crate::terms::Host;
+use hg_kept::Keeping;
 use hg_ledger::{KeptClient, NotStored, Storing};
 use hg_serve::Question;
 use hg_store::Device;
@@ -15,7 +15,7 @@ use std::sync::Wait;
 /// Asks the question by one look, and waits until all pushes that were done then are on the device. Says how
 /// many these are. Where the store failed, nothing is answered.
 pub fn look<J: Storing<A>, D: Device, A: Allocator + Copy, R: Wait, T: Drop, Q: Question<A, T>>(
-    host: &Host<'_, J, D, R, A>,
+    keeping: &Keeping<'_, J, D, R, A>,
     client: KeptClient<J, A>,
     question: &Q,
 ) -> (KeptClient<J, A>, Result<(T, usize), NotStored>)
@@ -25,11 +25,13 @@ pub fn look<J: Storing<A>, D: Device, A: Allocator + Copy, R: Wait, T: Drop, Q: 
         (λ _. IsLater client result.0) }
 {
     let (mut client, receipt) = client.into_parts();
-    let (found, rests) = host.server.look_resting(host.rt, &mut client, question);
+    let (found, rests) = keeping
+        .server
+        .look_resting(keeping.rt, &mut client, question);
     let mut client = KeptClient::of(client, receipt);
-    match host
+    match keeping
         .ledger
-        .receipt(host.rt, host.server, &mut client, rests)
+        .receipt(keeping.rt, keeping.server, &mut client, rests)
     {
         Ok(()) => (client, Ok((found, rests))),
         Err(fault) => (client, Err(fault)),

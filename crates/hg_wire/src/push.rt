@@ -6,10 +6,9 @@ ghost use Rattle.hg_ledger.specs.Clients.{IsCovered};
 ghost use Rattle.hg_wire.specs.Pushes.{Answered, IsPushAnswered, IsReply, PushesOrFails};
 ghost use Rattle.hg_wire.specs.code.Rounds.{IsOfRound};
 
-use crate::terms::Host;
 use hg_devices::Sending;
 use hg_http::{Answer, Body, Refusal};
-use hg_kept::{KeptRound, Replied, open_kept, serve_bundle_kept};
+use hg_kept::{Keeping, KeptRound, Replied, open_kept, serve_bundle_kept};
 use hg_ledger::{KeptClient, NotStored, Storing};
 use hg_push::Outcome;
 use hg_reading::{Watch, WatchedPush};
@@ -32,7 +31,7 @@ pub struct KeptPush<A: Allocator = Global> {
 
 /// Pushes a bundle. Says how the push ended, if one was opened; the store may have failed.
 pub fn push_bundle<J: Storing<A>, D: Device, A: Allocator + Copy, R: Wait, V: Watch<A>>(
-    host: &Host<'_, J, D, R, A>,
+    keeping: &Keeping<'_, J, D, R, A>,
     client: KeptClient<J, A>,
     bundle: &[u8],
     watch: &mut V,
@@ -40,20 +39,17 @@ pub fn push_bundle<J: Storing<A>, D: Device, A: Allocator + Copy, R: Wait, V: Wa
     ensures { PushesOrFails J.capacity J.first
         (IsCovered D.seen D.may_leave D.moment J.head J.stored J.first) client bundle.now result.1 result.0 }
 {
-    let limits = *host.server.limits();
-    let opened = match open_kept(host.server, host.ledger, host.rt, client) {
+    let limits = *keeping.server.limits();
+    let opened = match open_kept(keeping, client) {
         Ok(opened) => opened,
         Err((client, _fault)) => return (client, Ok(None)),
     };
-    let mut unbundler = Unbundler::new(host.alloc, limits);
+    let mut unbundler = Unbundler::new(keeping.alloc, limits);
     let mut inbox = Inbox::new();
     let mut body = Body::new(bundle);
-    let mut reply = Vec::new(host.alloc);
+    let mut reply = Vec::new(keeping.alloc);
     let (client, round) = serve_bundle_kept(
-        host.server,
-        host.ledger,
-        host.rt,
-        host.alloc,
+        keeping,
         opened,
         &mut unbundler,
         &mut inbox,
@@ -109,7 +105,7 @@ fn kept_push<A: Allocator>(
 
 /// Pushes the bundle that is the body of a request, and gives its reply.
 pub fn unbundle<J: Storing<A>, D: Device, A: Allocator + Copy, R: Wait, V: Watch<A>>(
-    host: &Host<'_, J, D, R, A>,
+    keeping: &Keeping<'_, J, D, R, A>,
     client: KeptClient<J, A>,
     bundle: &[u8],
     watch: &mut V,
@@ -118,7 +114,7 @@ pub fn unbundle<J: Storing<A>, D: Device, A: Allocator + Copy, R: Wait, V: Watch
         (IsCovered D.seen D.may_leave D.moment J.head J.stored J.first) bundle.now reply_of)
         client result.1 result.0 }
 {
-    let (client, pushed) = push_bundle(host, client, bundle, watch);
+    let (client, pushed) = push_bundle(keeping, client, bundle, watch);
     match pushed {
         Ok(pushed) => (client, Ok(reply_to(pushed))),
         Err(fault) => (client, Err(fault)),

@@ -17,6 +17,7 @@ use crate::terms::{Host, Terms};
 use crate::wire::Wire;
 use hg_devices::{Sending, send};
 use hg_follow::{Follower, Found};
+use hg_kept::Keeping;
 use hg_ledger::{KeptClient, Ledger, Storing};
 use hg_reading::{Shelf, Shown, Watch};
 use hg_serve::Server;
@@ -70,13 +71,13 @@ pub fn serve_http<
 {
     let mut config = Config::default();
     config.max_body_len = server.limits().stream as usize;
-    let host = Host {
+    let keeping = Keeping {
         server,
         ledger,
-        shelf,
         rt,
         alloc,
     };
+    let host = Host { keeping, shelf };
     let mut wire = Wire::new(host, terms, alloc, client, watch);
     let mut share = Share::new(terms.budget);
     let ended = serve_stretches(

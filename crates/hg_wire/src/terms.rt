@@ -1,9 +1,9 @@
 //! What a connection is served by, and the terms of it.
 
 use crate::budget::Budget;
-use hg_ledger::{Ledger, Storing};
+use hg_kept::Keeping;
+use hg_ledger::Storing;
 use hg_reading::Shelf;
-use hg_serve::Server;
 use hg_store::Device;
 use std::alloc::{Allocator, Global};
 use std::sync::{Mutex, Wait};
@@ -21,12 +21,9 @@ pub struct Terms<'a, S> {
     pub stored: usize,
 }
 
-/// A server, the ledger that keeps its pushes, and the view that all who read share.
+/// What keeps the pushes of a server, and the view that all who read share.
 #[derive(Drop)]
 pub struct Host<'a, J: Storing<A>, D: Device, R: Wait, A: Allocator = Global> {
-    pub server: &'a Server<J, A>,
-    pub ledger: &'a Ledger<J, D, A>,
+    pub keeping: Keeping<'a, J, D, R, A>,
     pub shelf: &'a Mutex<Shelf<J, A>>,
-    pub rt: &'a R,
-    pub alloc: A,
 }

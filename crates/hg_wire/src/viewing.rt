@@ -5,8 +5,9 @@ ghost use Rattle.hg_wire.specs.Answering.{AnswersView, around_of, OrLacks};
 ghost use Rattle.hg_wire.specs.Pushes.{Answered};
 
 use crate::looking::look;
-use crate::terms::{Host, Terms};
+use crate::terms::Terms;
 use hg_http::{Answer, View};
+use hg_kept::Keeping;
 use hg_ledger::{KeptClient, NotStored, Storing};
 use hg_reading::{Shown, Viewing, shown_answer};
 use hg_store::Device;
@@ -15,7 +16,7 @@ use std::sync::Wait;
 
 /// Answers what was asked for without a command.
 pub fn answer_view<J: Storing<A>, D: Device, A: Allocator + Copy, R: Wait, S: Shown<A>>(
-    host: &Host<'_, J, D, R, A>,
+    keeping: &Keeping<'_, J, D, R, A>,
     terms: &Terms<'_, S>,
     client: KeptClient<J, A>,
     view: Option<View>,
@@ -28,15 +29,15 @@ pub fn answer_view<J: Storing<A>, D: Device, A: Allocator + Copy, R: Wait, S: Sh
         return (client, Ok(Answer::NotFound));
     };
     let question = Viewing {
-        alloc: host.alloc,
+        alloc: keeping.alloc,
         shown: terms.shown,
         view,
     };
-    let (client, looked) = look(host, client, &question);
+    let (client, looked) = look(keeping, client, &question);
     match looked {
         Ok((text, rests)) => (
             client,
-            Ok(shown_answer(host.alloc, view, text, terms.stored, rests)),
+            Ok(shown_answer(keeping.alloc, view, text, terms.stored, rests)),
         ),
         Err(fault) => (client, Err(fault)),
     }

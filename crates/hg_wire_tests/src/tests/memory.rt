@@ -2,6 +2,7 @@
 //! connection goes on.
 
 use super::*;
+use hg_kept::Keeping;
 use hg_wire::{Host, Wire};
 use http_server::{Config, Connection, serve};
 use linked_list_allocator::LocalHeap;
@@ -38,6 +39,23 @@ struct Talk<'a> {
     after: &'a [u8],
 }
 
+/// What a connection is served by.
+fn host_over<'a, J: Storing<A>, A: Allocator, R: Wait>(
+    server: &'a Server<J, A>,
+    ledger: &'a Ledger<J, Memory, A>,
+    shelf: &'a Mutex<Shelf<J, A>>,
+    rt: &'a R,
+    alloc: A,
+) -> Host<'a, J, Memory, R, A> {
+    let keeping = Keeping {
+        server,
+        ledger,
+        rt,
+        alloc,
+    };
+    Host { keeping, shelf }
+}
+
 /// Serves one connection, and says whether all went well.
 fn converse<J: Storing<A>, A: Allocator + Copy, R: RandomSource + Wait + Abort>(
     global: Global,
@@ -47,7 +65,7 @@ fn converse<J: Storing<A>, A: Allocator + Copy, R: RandomSource + Wait + Abort>(
     asked: &[u8],
     told: &mut Vec<u8>,
 ) -> (KeptClient<J, A>, Result<(), Came>) {
-    let mut connection = Connection::new(global, state(host.rt), Config::default());
+    let mut connection = Connection::new(global, state(host.keeping.rt), Config::default());
     let mut tally = Tally::new();
     let mut wire = Wire::new(host, terms, global, client, &mut tally);
     let mut reader = asked;
@@ -128,34 +146,16 @@ fn converse_over<J: Storing<A>, A: Allocator + Copy, R: RandomSource + Wait + Ab
     };
     let shelf = Mutex::new(Shelf::new(alloc, client_of(rt, &server)));
     let client = KeptClient::new(client_of(rt, &server));
-    let host = Host {
-        server: &server,
-        ledger: &ledger,
-        shelf: &shelf,
-        rt,
-        alloc,
-    };
+    let host = host_over(&server, &ledger, &shelf, rt, alloc);
     let mut first_told = Vec::new(global);
     let (client, first) = converse(global, host, &terms, client, talk.before, &mut first_told);
     let mut told = Vec::new(global);
     let ballast = taken(rt, global, alloc, talk.left);
-    let host = Host {
-        server: &server,
-        ledger: &ledger,
-        shelf: &shelf,
-        rt,
-        alloc,
-    };
+    let host = host_over(&server, &ledger, &shelf, rt, alloc);
     let (client, second) = converse(global, host, &terms, client, talk.asked, &mut told);
     drop(ballast);
     let mut after = Vec::new(global);
-    let host = Host {
-        server: &server,
-        ledger: &ledger,
-        shelf: &shelf,
-        rt,
-        alloc,
-    };
+    let host = host_over(&server, &ledger, &shelf, rt, alloc);
     let (client, third) = converse(global, host, &terms, client, talk.after, &mut after);
     let (client, _receipt) = client.into_parts();
     add(rt, &mut clients, client);

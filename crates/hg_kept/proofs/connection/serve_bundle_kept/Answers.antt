@@ -14,6 +14,7 @@ use Rattle.hg_kept.proofs.connection.serve_bundle_kept.Goals as goal
 
 pub reply_kept-replied-requires-clause-bundle : goal.reply_kept-replied-requires-clause-bundle
 reply_kept-replied-requires-clause-bundle g c =
+    let server = c.args.keeping.now.server.now in
     let r = c.receive_kept-ending.ensures.received in
     let m = c.mark-ended.ensures in
     let a = c.answer_resting-answer.ensures in
@@ -24,13 +25,14 @@ reply_kept-replied-requires-clause-bundle g c =
     c.of-client.ensures) in
     subst (λ (y : Option (List ℕ) × List (Taken g.row.A.Denot)). IfSome y.0 (λ bytes. (1 ≤ rests)
     × IsRecordOf first y.1 (rests - 1) bytes)) (λ i. (sym c.record_of-record.ensures i, seen i))
-    (handed c.args.server.now g.J.Naming.capacity first c.args.inbox.now c.receive_kept-ending.new.inbox _ _
+    (handed server g.J.Naming.capacity first c.args.inbox.now c.receive_kept-ending.new.inbox _ _
     c.args.opened.sender c.receive_kept-ending.new.sender c.receive_kept-ending.result
     c.receive_kept-ending.new.kept.items c.mark-ended.result c.answer_resting-answer.result.0.takes after rests r m
     c.limits-limits.ensures.first c.answer_resting-answer.result.0.outcome a.answers a.rests)
 
 pub returns-clause-served : goal.returns-clause-served
 returns-clause-served g c =
+    let server = c.args.keeping.now.server.now in
     let r = c.receive_kept-ending.ensures.received in
     let m = c.mark-ended.ensures in
     let a = c.answer_resting-answer.ensures in
@@ -49,7 +51,7 @@ returns-clause-served g c =
     seen a.answers in
     let on = subst (λ (h : List (Taken g.row.A.Denot)). RestsOn run_push first (newest_first h) e.push how rests) seen
     a.rests in
-    let put = answered c.args.server.now capacity first c.args.inbox.now c.receive_kept-ending.new.inbox _ _
+    let put = answered server capacity first c.args.inbox.now c.receive_kept-ending.new.inbox _ _
     c.args.opened.sender c.receive_kept-ending.new.sender c.receive_kept-ending.result
     c.receive_kept-ending.new.kept.items e takes after.history rests r m c.limits-limits.ensures.first how answers in (
       record {
@@ -71,10 +73,10 @@ returns-clause-served g c =
           received = r.is.bundle.received;
           fresh = c.requires.sender.1;
           answers = put;
-          rests_on = rested c.args.server.now capacity first c.args.inbox.now c.receive_kept-ending.new.inbox _ _
+          rests_on = rested server capacity first c.args.inbox.now c.receive_kept-ending.new.inbox _ _
               c.args.opened.sender c.receive_kept-ending.new.sender c.receive_kept-ending.result
               c.receive_kept-ending.new.kept.items e takes after.history rests r m c.limits-limits.ensures.first how on;
-          recorded = recorded c.args.server.now capacity first c.args.inbox.now c.receive_kept-ending.new.inbox
+          recorded = recorded server capacity first c.args.inbox.now c.receive_kept-ending.new.inbox
               _ _ c.args.opened.sender c.receive_kept-ending.new.sender c.receive_kept-ending.result
               c.receive_kept-ending.new.kept.items e takes after.history rests r m c.limits-limits.ensures.first how
               answers on;
@@ -92,7 +94,7 @@ returns-clause-served g c =
           went = w.went;
           used = w.used;
           short = bundle_reply_short c.replies_are_short.ensures.done c.replies_are_short.ensures.aborted
-              c.parts_are_few.ensures c.args.server.now capacity first c.args.inbox.now r.is.bundle.reads
+              c.parts_are_few.ensures server capacity first c.args.inbox.now r.is.bundle.reads
               c.receive_kept-ending.result r.is.parts r.is.bundle.consumed r.is.bundle.rest
               c.args.opened.sender.putter.push c.args.opened.sender.history how takes after.history
               c.limits-limits.ensures.allowed r.is.bundle.received put;

@@ -10,11 +10,11 @@ returns g c =
     let opened = c.in-Ok.opened in
     let ok = c.in-Ok.ensures.ok in
     pushed g.D.Device.seen g.D.Device.may_leave g.D.Device.moment g.J.Storing.head g.J.Storing.stored
-    c.args.host.now.server.now
+    c.args.keeping.now.server.now
     g.J.Naming.capacity g.J.Naming.first c.args.client round.result.0 c.args.bundle.now round.new.inbox
     round.new.reader round.new.writer.items s.0
     (begun g.D.Device.seen g.D.Device.may_leave g.D.Device.moment g.J.Storing.head g.J.Storing.stored
-    c.args.host.now.server.now
+    c.args.keeping.now.server.now
     g.J.Naming.capacity g.J.Naming.first s.0 round.new.inbox round.new.reader round.new.writer.items
     c.new-inbox.result [] c.new-body.result (record { bytes = c.args.bundle.now; at = 0; reads = [] })
     c.new-reply.result.items [] (record { history = opened.sender.history; receipt = promised opened.receipt })
