@@ -17,7 +17,7 @@ They stand in crates/NAME/wrong/*.edit:
 Many are tried at once, in one check of a copy of the crate. There each wrong body stands beside the function that
 it turns, as a function of its own with the same contract and proof; every function that is not tried has a hole in
 the place of its proof, and no body. A method of a trait, or a function that calls itself, is turned in its place,
-once in a check; what changes no function, or several, is tried by itself. Where a head has the goal, that goal alone
+once in a check; what changes no function is tried by itself. Where a head has the goal, that goal alone
 is asked for: by the answer that the function's proof has, or else by each tactic that the prover would try. All other
 goals of that function are left. Where a head has none, a check before lists the goals that are the clause it names.
 
