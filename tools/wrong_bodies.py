@@ -17,7 +17,7 @@ They stand in crates/NAME/wrong/*.edit:
 Many are tried at once, in one check of a copy of the crate. There each wrong body stands beside the function that
 it turns, as a function of its own with the same contract and proof; every function that is not tried has a hole in
 the place of its proof, and no body. A method of a trait, or a function that calls itself, is turned in its place,
-once in a check; what changes no function, or several, is tried by itself. Where a head has the goal, that goal alone
+once in a check; what changes no function is tried by itself. Where a head has the goal, that goal alone
 is asked for: by the answer that the function's proof has, or else by each tactic that the prover would try. All other
 goals of that function are left. Where a head has none, a check before lists the goals that are the clause it names.
 
@@ -56,7 +56,7 @@ FOUND_NOTHING = re.compile(r"`(search|grind)`")
 # the attribute of a function that says which lemmas and definitions its goals want
 LISTS = re.compile(r"#\[tactic\(((?:[^\[\]])*?)\)\]\s*(?:#\[[^\n]*\]\s*|///[^\n]*\n\s*)*$")
 # the most wrong bodies that stand beside each other in one check
-MOST = 40
+MOST = 60
 
 
 def toolchain():
@@ -191,17 +191,26 @@ class Crate:
             return name, True
         return None if edit.has_all_asked() or self.tactics(name) else (name, False)
 
-    def chunks(self, edits):
-        """Edits for one check each: those that stand beside their functions, and then those that take their places,
-        each function once in a check."""
-        beside = [it for it in edits if it.place[1]]
-        for at in range(0, len(beside), MOST):
-            yield beside[at : at + MOST]
-        left = [it for it in edits if it not in beside]
-        while left:
-            chosen = list({it.place[0]: it for it in reversed(left)}.values())
-            yield chosen
-            left = [it for it in left if it not in chosen]
+    def next_round(self, left):
+        """Edits for one check: as many as may stand beside their functions, and with them those that are turned in
+        their place, each function at most once. What changes no function is tried alone."""
+        beside = [it for it in left if it.place and it.place[1]][:MOST]
+        copied = {it.place[0] for it in beside}
+        taken, chosen, texts = set(), list(beside), {}
+        for edit in left:
+            if edit.place and edit.place[1]:
+                continue
+            asked, made = self.asked(edit), edit.apply(self.folder, texts)
+            if not edit.turned(self.folder, self.functions):
+                if not chosen:
+                    return [edit]
+                continue
+            if made is None or asked & (taken | copied):
+                continue
+            taken |= asked
+            texts = made
+            chosen.append(edit)
+        return chosen
 
     def text_of(self, name):
         fn = self.functions[name]
@@ -213,44 +222,27 @@ class Crate:
         found = LISTS.search(sources.read(fn.path)[: fn.start].rstrip() + "\n")
         return found[1] if found else ""
 
-    def next_round(self, left):
-        """Edits for one check that are turned in their place, each function at most once, and what changes no
-        function alone."""
-        taken, chosen, texts = set(), [], {}
-        for edit in left:
-            turned = edit.turned(self.folder, self.functions)
-            if not turned and chosen:
-                continue
-            asked = self.asked(edit)
-            made = None if asked & taken else edit.apply(self.folder, texts)
-            if made is None:
-                continue
-            taken |= asked
-            texts = made
-            chosen.append(edit)
-            if not turned:
-                break
-        return chosen
-
     def made(self, edits, alone=False):
         """The copy of the crate in which these edits are tried."""
         room = Room()
-        if alone or not all(it.place for it in edits):
-            for edit in edits:
-                room.texts = edit.apply(self.folder, room.texts)
-                room.names[edit] = {it: it for it in self.asked(edit)}
-            return room
+        whole = [it for it in edits if alone or not it.place]
         for edit in edits:
-            self.put(room, edit, *edit.place)
-        asked = {it for names in room.names.values() for it in names.values()}
-        for name, fn in self.functions.items():
-            if self.has_hole(name, asked):
-                self.empty(room, fn)
+            if edit in whole:
+                room.names[edit] = {it: it for it in self.asked(edit)}
+            else:
+                self.put(room, edit, *edit.place)
+        if room.pieces:
+            asked = {it for names in room.names.values() for it in names.values()}
+            for name, fn in self.functions.items():
+                if self.has_hole(name, asked):
+                    self.empty(room, fn)
         for path, pieces in room.pieces.items():
             text = sources.read(path)
             for start, end, piece in sorted(pieces, reverse=True):
                 text = f"{text[:start]}{piece}{text[end:]}"
             room.texts[os.path.relpath(path, self.folder)] = text
+        for edit in whole:
+            room.texts = edit.apply(self.folder, room.texts)
         return room
 
     def put(self, room, edit, name, is_beside):
@@ -266,6 +258,7 @@ class Crate:
             text = f"{text[: len(text) - len(text.lstrip())]}#[tactic({attribute})]\n{text}"
         full = f"{name.rpartition('::')[0]}::{made}".removeprefix("::")
         room.names[edit] = {name: full}
+        room.put.append(edit)
         piece = (fn.end, fn.end, f"\n{text}") if is_beside else (fn.start, fn.end, text)
         room.pieces.setdefault(fn.path, []).append(piece)
         proofs = {}
@@ -403,12 +396,18 @@ class Crate:
             (name, there), *_ = names.items()
             if edit in made.tactics:
                 judge_asked(edit, name, there, made.tactics[edit], said)
-            elif made.pieces and not edit.has_all_asked():
+            elif edit in made.put and not edit.has_all_asked():
                 edit.asks = [f"{it} {self.arguments(name)}" for it in left_goals(self.name, there, said)
                              if spoken(it) == edit.goal]
                 edit.why = edit.asked_why = "" if edit.asks else f"it has no goal that is {edit.goal}"
             else:
                 judge(edit, names, goals, said)
+
+    def try_rounds(self, left, kept):
+        while left:
+            chosen = self.next_round(left)
+            self.try_round(chosen, kept)
+            left = [it for it in left if it not in chosen]
 
     def try_all(self, edits):
         """Tries edits: in rounds, and each that was not refused once more alone. What is then not refused has a
@@ -425,17 +424,9 @@ class Crate:
                     left.append(edit)
             for number, edit in enumerate(left):
                 edit.number, edit.place = number, self.placed(edit)
-            placed = [it for it in left if it.place]
             # the goals of those without one are listed first; of those without a head all are asked for
-            for chosen in self.chunks([it for it in placed if not it.asks]):
-                self.try_round(chosen, kept)
-            for chosen in self.chunks([it for it in placed if it.asks]):
-                self.try_round(chosen, kept)
-            left = [it for it in left if it not in placed]
-            while left:
-                chosen = self.next_round(left)
-                self.try_round(chosen, kept)
-                left = [it for it in left if it not in chosen]
+            self.try_rounds([it for it in left if it.place and not it.asks], kept)
+            self.try_rounds([it for it in left if it.asks or not it.place], kept)
             for edit in edits:
                 if edit.why and self.asked(edit) and edit.apply(self.folder, {}):
                     edit.why = ""
@@ -446,12 +437,13 @@ class Crate:
 
 
 class Room:
-    """A copy of a crate: the texts that differ there, the functions that stand beside others, by the file that they
-    stand in, with their proofs; for each edit the names that its functions have there, and how many tactics are
-    tried on its goal."""
+    """A copy of a crate: the texts that differ there, the functions that were put there, beside others or in their
+    place, by the file that they stand in, with their proofs and the edits that they are of; for each edit the names
+    that its functions have there, and how many tactics are tried on its goal."""
 
     def __init__(self):
         self.texts, self.pieces, self.proofs, self.names, self.tactics = {}, {}, {}, {}, {}
+        self.put = []
 
 
     def named_by(self, said):
