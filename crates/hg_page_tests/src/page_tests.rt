@@ -325,7 +325,7 @@ fn put_on_one(alloc: Global, parts: &mut Parts<Global>, node: Node) -> Result<()
     Ok(())
 }
 
-/// Two pages of ten thousand heads, and the last of these: with a bookmark on each, and with all bookmarks on one.
+/// Two pages of ten thousand heads: with a bookmark on each, and with all on the last, which is given.
 fn large_pages(
     alloc: Global,
     parts: &mut Parts<Global>,
