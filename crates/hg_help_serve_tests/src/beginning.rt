@@ -47,10 +47,13 @@ pub fn new_log<R: Abort>(rt: &R, alloc: Global, calls: usize) -> Log<Memory> {
         Ok(found) => found,
         Err(_) => panic!(rt; "no store"),
     };
+    let end = found.end;
+    let digest = found.digest;
+    drop(found);
     Log {
         device,
-        end: found.end,
-        digest: found.digest,
+        end,
+        digest,
     }
 }
 

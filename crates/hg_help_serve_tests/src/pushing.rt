@@ -21,7 +21,7 @@ pub fn marker<R: Abort>(rt: &R, alloc: Global, thread: u8, turn: u8) -> Vec<u8> 
 
 /// Adds the bundle of a push whose only part is `obsmarkers`, with that payload.
 pub fn one_part<R: Abort>(rt: &R, made: &mut Vec<u8>, payload: &[u8]) {
-    let size = payload.len() as u32;
+    let size = u32::try_from(payload.len()).unwrap_or(u32::MAX);
     let ok = made
         .extend_from_slice(b"HG20\0\0\0\0\0\0\0\x11\x0aOBSMARKERS\0\0\0\0\0\0")
         .is_ok()

@@ -1,9 +1,12 @@
 //! A device in memory that knows what was synced, and the writes after that. It fails when its calls are
 //! used up.
 
+ghost use Rattle.std.specs.Prelude.{◌≡◌, ◌≤◌, ◌++◌, ◌+◌, length, take, drop, IfOk};
+ghost use Rattle.hg_store.specs.Device.{HasCause};
+
 use crate::paper::overwrite;
-use hg_store::{Device, DeviceError};
-use std::alloc::{Allocator, Global};
+use hg_store::{Call, Device, DeviceError, History};
+use std::alloc::{AllocError, Allocator, Global};
 
 /// A write that is not synced.
 #[derive(Drop)]
@@ -22,6 +25,8 @@ pub struct Memory {
     /// Whether it was cut since the last sync.
     is_cut: bool,
     pub syncs: usize,
+    /// One call for each that failed. Contracts alone see it.
+    failed: History,
 }
 
 impl Memory {
@@ -34,11 +39,16 @@ impl Memory {
             calls,
             is_cut: false,
             syncs: 0,
+            failed: History::new(),
         })
     }
 
-    fn call(&mut self) -> Result<(), DeviceError> {
+    fn call(&mut self) -> Result<(), DeviceError>
+        ensures same { self.new.bytes.items ≡ self.old.bytes.items }
+        ensures cause { HasCause (length self.old.failed.events) (length self.new.failed.events) result }
+    {
         if self.calls == 0 {
+            self.failed = self.failed.and(&Call::GaveUp);
             return Err(DeviceError::Failed);
         }
         self.calls -= 1;
@@ -55,31 +65,30 @@ impl Memory {
             if write.bytes.len() == 1 && kept == 0 {
                 continue;
             }
-            while bytes.len() < write.bytes.len() {
-                bytes.push(0)?;
-            }
+            bytes.resize(write.bytes.len(), 0)?;
             overwrite(&mut file, write.at, &bytes)?;
         }
         Ok(file)
     }
 }
 
+/// To contracts it is a file that no crash ever meets. What one leaves, tests ask of `crashed`.
 impl Device for Memory {
-    ghost use Rattle.std.specs.Prelude.{◌≡◌};
+    ghost use Rattle.std.specs.Prelude.{length};
 
     ghost seen = { λ m. m.bytes.items };
 
-    ghost may_leave = { λ m c. c ≡ m.bytes.items };
+    ghost may_leave = { λ _ _. ⊥ };
 
-    ghost moment = { λ m. 0 };
+    ghost moment = { λ _. 0 };
 
-    ghost left_since = { λ m t c. c ≡ m.bytes.items };
+    ghost left_since = { λ _ _ _. ⊥ };
 
-    ghost faults = { λ m. 0 };
+    ghost faults = { λ m. length m.failed.events };
 
-    ghost counts_now = { λ m t c le now. now };
+    ghost counts_now = { λ _ _ _ _ none. none };
 
-    ghost only_now = { λ m c left. left };
+    ghost only_now = { λ _ _ none. none };
 
     fn read<A: Allocator + Copy>(&mut self, alloc: A) -> Result<Vec<u8, A>, DeviceError> {
         self.call()?;
@@ -87,13 +96,15 @@ impl Device for Memory {
     }
 
     fn write_at(&mut self, at: usize, bytes: &[u8]) -> Result<(), DeviceError> {
+        let whole = overwritten(self.alloc, self.bytes.as_slice(), at, bytes)?;
         let write = Write {
             at,
             bytes: bytes.to_vec(self.alloc)?,
         };
         self.writes.push(write)?;
         self.call()?;
-        Ok(overwrite(&mut self.bytes, at, bytes)?)
+        self.bytes = whole;
+        Ok(())
     }
 
     fn cut(&mut self, len: usize) -> Result<(), DeviceError> {
@@ -117,4 +128,18 @@ impl Device for Memory {
         self.syncs = self.syncs.saturating_add(1);
         Ok(())
     }
+}
+
+/// A file with these bytes over those from a place on, and past its end.
+fn overwritten(alloc: Global, file: &[u8], at: usize, bytes: &[u8]) -> Result<Vec<u8>, AllocError>
+    requires { at ≤ length file.now }
+    ensures { IfOk result (λ whole. whole.items ≡
+        take at file.now ++ bytes.now ++ drop (at + length bytes.now) file.now) }
+{
+    let mut whole = Vec::from_slice(alloc, &file[..at])?;
+    whole.extend_from_slice(bytes)?;
+    if bytes.len() < file.len() - at {
+        whole.extend_from_slice(&file[at + bytes.len()..])?;
+    }
+    Ok(whole)
 }

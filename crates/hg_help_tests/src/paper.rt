@@ -46,7 +46,9 @@ impl Paper {
     }
 
     /// Whether one call more succeeds.
-    fn call(&mut self) -> io::Result<()> {
+    fn call(&mut self) -> io::Result<()>
+        ensures { self.new.history ≡ self.old.history }
+    {
         if self.calls == 0 {
             return Err(io::Error::from(io::ErrorKind::Other));
         }

@@ -8,6 +8,8 @@ mod branch_tests;
 #[cfg(test)]
 mod listkeys_tests;
 #[cfg(test)]
+mod phased;
+#[cfg(test)]
 mod repository_tests;
 #[cfg(test)]
 mod view_tests;

@@ -3,6 +3,7 @@
 ghost use Rattle.std.specs.Prelude.{◌≤◌, length};
 ghost use Rattle.hg_phases.specs.Phases.{AreFor};
 
+use crate::phased::phased;
 use hg_help_tests::changelog::put;
 use hg_keys::Bookmarks;
 use hg_log::Changelog;
@@ -39,23 +40,11 @@ fn put_lines<A: Allocator + Copy>(alloc: A, log: &mut Changelog<A>) -> Result<Ve
     Ok(roots)
 }
 
-/// Registers them as draft, and those after the secret one with it.
-fn register_lines<A: Allocator + Copy>(
-    phases: &mut Phases<A>,
-    log: &Changelog<A>,
-) -> Result<(), NoMemory>
-    requires { AreFor log.now.rows phases.old.current }
-    ensures { AreFor log.now.rows phases.new.current }
-{
-    for rev in 0..ROWS {
-        let phase = if rev == SECRET {
-            Phase::Secret
-        } else {
-            Phase::Draft
-        };
-        phases.register(log, rev, phase)?;
-    }
-    Ok(())
+/// The phases of them: all draft but the secret one, and so those after it too.
+fn phases_of_lines() -> [Phase; 131] {
+    let mut phases = [Phase::Draft; 131];
+    phases[SECRET as usize] = Phase::Secret;
+    phases
 }
 
 /// The keys of phases, where each changeset has one.
@@ -73,8 +62,8 @@ fn keys_of<A: Allocator + Copy>(
 /// The lines of those of these changesets that are draft, with a line feed between.
 fn lines_of<A: Allocator + Copy>(alloc: A, roots: &[Node]) -> Result<Vec<u8, A>, Fail> {
     let mut lines = Vec::new(alloc);
-    for (place, node) in roots.iter().enumerate() {
-        if WITHOUT_PARENTS[place] != SECRET {
+    for (number, node) in WITHOUT_PARENTS.iter().zip(roots) {
+        if *number != SECRET {
             if !lines.is_empty() {
                 lines.push(b'\n')?;
             }
@@ -94,8 +83,7 @@ fn keys_of_many_changesets(rt: HostRuntime) -> Result<(), Fail> {
     let alloc = rt.alloc();
     let mut log = Changelog::new(alloc, RandomState::new(&rt)?, Limits::standard());
     let roots = put_lines(alloc, &mut log)?;
-    let mut phases = Phases::new(alloc);
-    register_lines(&mut phases, &log)?;
+    let phases = phased(alloc, &log, &phases_of_lines())?;
     let wanted = lines_of(alloc, roots.as_slice())?;
     let told = keys_of(alloc, &log, &phases)?;
     assert!(rt; told.as_slice() == wanted.as_slice());
@@ -111,8 +99,7 @@ fn are_told<'h>(
 ) -> Result<bool, Fail> {
     let mut log = Changelog::new(rows, state, Limits::standard());
     let roots = put_lines(rows, &mut log)?;
-    let mut phases = Phases::new(rows);
-    register_lines(&mut phases, &log)?;
+    let phases = phased(rows, &log, &phases_of_lines())?;
     let wanted = lines_of(rows, roots.as_slice())?;
     match keys_of(heap, &log, &phases) {
         Ok(told) => {

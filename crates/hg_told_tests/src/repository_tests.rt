@@ -1,7 +1,9 @@
 //! What is told of a repository: of none, of a few changesets, of 300 heads, and memory refused in turn.
 
 ghost use Rattle.std.specs.Prelude.{◌≤◌, length};
+ghost use Rattle.hg_phases.specs.Phases.{AreFor};
 
+use crate::phased::{no_phases, phased};
 use hg_help_tests::changelog::put;
 use hg_keys::Bookmarks;
 use hg_log::Changelog;
@@ -23,7 +25,8 @@ fn phases_of<A: Allocator + Copy>(
     bookmarks: &Bookmarks<A>,
     publishing: bool,
 ) -> Result<Seq<u8, A>, NoMemory>
-    requires { length log.now.rows ≤ length phases.now.current.phases }
+    requires count { length log.now.rows ≤ length phases.now.current.phases }
+    requires fits { AreFor log.now.rows phases.now.current }
 {
     listkeys_text(alloc, log, phases, bookmarks, publishing, b"phases")
 }
@@ -141,25 +144,23 @@ fn three_hundred_heads(rt: HostRuntime) -> Result<(), Fail> {
 fn keys_of_namespaces(rt: HostRuntime) -> Result<(), Fail> {
     let alloc = rt.alloc();
     let mut log = Changelog::new(alloc, RandomState::new(&rt)?, Limits::standard());
-    let mut phases = Phases::new(alloc);
     let mut bookmarks = Bookmarks::new(alloc);
     let root = put(alloc, &mut log, NULL, NULL, 0).ok_or("not added")?;
     let draft = put(alloc, &mut log, root, NULL, 1).ok_or("not added")?;
     let _child = put(alloc, &mut log, draft, NULL, 2).ok_or("not added")?;
     let other = put(alloc, &mut log, root, NULL, 3).ok_or("not added")?;
     let _secret = put(alloc, &mut log, root, NULL, 4).ok_or("not added")?;
-    for (rev, phase) in [
-        Phase::Public,
-        Phase::Draft,
-        Phase::Draft,
-        Phase::Draft,
-        Phase::Secret,
-    ]
-    .iter()
-    .enumerate()
-    {
-        phases.register(&log, rev as u32, *phase)?;
-    }
+    let phases = phased(
+        alloc,
+        &log,
+        &[
+            Phase::Public,
+            Phase::Draft,
+            Phase::Draft,
+            Phase::Draft,
+            Phase::Secret,
+        ],
+    )?;
     let (draft, other) = (
         hex::encode(alloc, draft.0.as_slice())?,
         hex::encode(alloc, other.0.as_slice())?,
@@ -197,7 +198,7 @@ fn keys_of_namespaces(rt: HostRuntime) -> Result<(), Fail> {
 fn keys_of_an_empty_repository(rt: HostRuntime) -> Result<(), Fail> {
     let alloc = rt.alloc();
     let log = Changelog::new(alloc, RandomState::new(&rt)?, Limits::standard());
-    let phases = Phases::new(alloc);
+    let phases = phased(alloc, &log, &[])?;
     let bookmarks = Bookmarks::new(alloc);
     let told = phases_of(alloc, &log, &phases, &bookmarks, false);
     assert!(rt; is_text(told, b""));
@@ -209,7 +210,7 @@ fn keys_of_an_empty_repository(rt: HostRuntime) -> Result<(), Fail> {
 }
 
 fn tell_all<A: Allocator + Copy>(alloc: A, log: &Changelog<A>) -> Result<(), NoMemory> {
-    let phases = Phases::new(alloc);
+    let phases = no_phases(alloc, log);
     let bookmarks = Bookmarks::new(alloc);
     drop(heads_text(alloc, log)?);
     drop(known_text(alloc, log, NULL_DIGITS)?);

@@ -49,7 +49,8 @@ fn name_of(branch: usize) -> &'static [u8] {
 }
 
 fn is_in(set: u64, place: usize) -> bool {
-    set.unbounded_shr(place as u32) & 1 == 1
+    let place = u32::try_from(place).unwrap_or(u32::MAX);
+    set.unbounded_shr(place) & 1 == 1
 }
 
 /// Whether the changeset of that place is obsolete, and all of its descendants are.
@@ -158,11 +159,12 @@ impl History {
             prune(alloc, &mut self.markers, node)?;
         }
         put_text(alloc, &mut self.log, n1, n2, text.as_str().as_bytes()).ok_or("not added")?;
+        let bit = u32::try_from(place).unwrap_or(u32::MAX);
         let above = p1.map_or(0, |made| made.ancestors) | p2.map_or(0, |made| made.ancestors);
         self.all.push(Made {
             node,
             branch,
-            ancestors: above | 1u64.unbounded_shl(place as u32),
+            ancestors: above | 1u64.unbounded_shl(bit),
             is_obsolete,
         })?;
         Ok(())

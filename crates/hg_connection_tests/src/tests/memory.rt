@@ -272,6 +272,18 @@ fn is_answered<J: Naming<A>, A: Allocator + Copy, R: Wait, G: Gate>(
     (is_whole && writer.bytes() == reply, client)
 }
 
+/// Adds a client to a list that has room for it.
+fn add<J: Naming<A>, A: Allocator + Copy, R: Abort>(
+    rt: &R,
+    clients: &mut Vec<Client<J, A>, A>,
+    client: Client<J, A>,
+) {
+    match clients.push(client) {
+        Ok(()) => {}
+        Err(AllocFailed { value: _client, .. }) => panic!(rt; "no memory for a client"),
+    }
+}
+
 /// Three connections on a server of that name: the first, of three parts, is refused memory at a take. The client
 /// of the second serves the third. How many pushes were done, and how long the report is; `None` where one was
 /// not answered so.
@@ -292,11 +304,27 @@ fn three_connections<J: Naming<A>, A: Allocator + Copy, R: Wait + Abort, G: Gate
     let (is_told, a) = is_answered(rt, alloc, &server, a, &three_parts(), REFUSED_REPLY, gate);
     let (is_done, b) = is_answered(rt, alloc, &server, b, ROOT, ROOT_REPLY, &mut NoGate);
     let (is_child_done, b) = is_answered(rt, alloc, &server, b, &child(), ROOT_REPLY, &mut NoGate);
-    clients.push_reserved(a);
-    clients.push_reserved(b);
+    add(rt, &mut clients, a);
+    add(rt, &mut clients, b);
     let closed = server.close(clients);
     let told = (closed.journal.len(), report_of(&closed.repo));
+    drop(closed);
     (is_told && is_done && is_child_done).then_some(told)
+}
+
+/// The same on a new server over a heap. `None` also where memory was refused for its queue.
+fn connected_thrice<R: RandomSource + Wait + Abort, G: Gate>(
+    rt: &R,
+    heap: &LocalHeap,
+    gate: &mut G,
+) -> Option<(usize, usize)> {
+    match PartQueue::new(heap, 8) {
+        Ok((queue, taker)) => {
+            let repo = Repo::new(heap, settings(0), state(rt));
+            three_connections::<Brand, _, R, G>(rt, heap, queue, taker, repo, gate)
+        }
+        Err(_) => None,
+    }
 }
 
 /// Memory is refused at the take of A's second part, in reading it; the queue has room for all items. A is told
@@ -311,13 +339,9 @@ fn memory_is_refused_at_a_take(rt: HostRuntime) -> Result<(), Fail> {
         before: 2,
         takes: 0,
     };
-    let told = match PartQueue::new(&heap, 8) {
-        Ok((queue, taker)) => {
-            let repo = Repo::new(&heap, settings(0), state(&rt));
-            three_connections::<Brand, _, _, _>(&rt, &heap, queue, taker, repo, &mut gate)
-        }
-        Err(_) => None,
-    };
-    assert_eq!(rt; (told, gate.takes), (Some((2, 2 * ROOT_REPORT)), 2));
+    let told = connected_thrice(&rt, &heap, &mut gate);
+    let takes = gate.takes;
+    drop(gate);
+    assert_eq!(rt; (told, takes), (Some((2, 2 * ROOT_REPORT)), 2));
     Ok(())
 }

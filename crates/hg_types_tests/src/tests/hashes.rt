@@ -1,7 +1,7 @@
 //! Hashes that stand beside a payload and a delta. The digests are those of `sha1sum`.
 
 use super::*;
-use hg_types::{Delta, TextHash};
+use hg_types::Delta;
 use std::alloc::Global;
 
 /// The bytes 0 to 39, as two ids, and after them `text`.
@@ -82,18 +82,13 @@ fn memory_is_refused_for_a_hash(rt: HostRuntime) -> Result<(), Fail> {
     Ok(())
 }
 
-/// The hash of the bytes, and their text.
-fn text_hash(alloc: Global) -> Result<TextHash, Fail> {
-    let payload = both(alloc)?;
-    let (hash, _) = payload.hashed(0).ok_or("a hash")?;
-    Ok(hash)
-}
-
 // `xy` and `text`, with the hash of `text`, after two bytes; after one; and `texts`, after none. Result: the digest
 // for the two ids and `text` in the first alone, and not for the ids turned round nor for another text.
 #[test]
 fn a_delta_has_the_hash_of_its_end(rt: HostRuntime) -> Result<(), Fail> {
-    let hash = text_hash(rt.alloc())?;
+    let payload = both(rt.alloc())?;
+    let (hash, text) = payload.hashed(0).ok_or("a hash")?;
+    assert!(rt; text == b"text".as_slice());
     let (first, second) = (hash.first, hash.second);
     for (bytes, head, is_kept) in [
         (b"xytext".as_slice(), 2usize, true),
@@ -102,7 +97,7 @@ fn a_delta_has_the_hash_of_its_end(rt: HostRuntime) -> Result<(), Fail> {
         (b"text".as_slice(), 5, false),
     ] {
         let bytes = Seq::copy_of(rt.alloc(), bytes)?;
-        let delta = Delta::with_hash(rt.alloc(), bytes, head, hash, b"text");
+        let delta = Delta::with_hash(rt.alloc(), bytes, head, hash, text);
         assert_eq!(rt; delta.is_hashed(), is_kept);
         let found = delta.digest_of(&first, &second, b"text");
         assert_eq!(rt; found, is_kept.then_some(Node(IN_ORDER)));
