@@ -1,6 +1,7 @@
 //! The three values that a connection has in turn. Each has to be spent, and none can be copied.
 
 use crate::naming::Naming;
+use crate::pauses::Pauses;
 use hg_queue::{Marked, Putter, Visitor};
 use std::alloc::{Allocator, Global};
 use std::marker::{Model, PhantomData};
@@ -9,6 +10,7 @@ use std::marker::{Model, PhantomData};
 /// server's end.
 pub struct Client<J: Naming<A>, A: Allocator = Global> {
     pub(crate) visitor: Visitor<A>,
+    pub(crate) pauses: Pauses,
     pub(crate) of: PhantomData<J>,
 }
 
@@ -29,6 +31,7 @@ impl<J: Naming<A>, A: Allocator> Model for Client<J, A> {
 pub struct Sender<J: Naming<A>, A: Allocator = Global> {
     pub(crate) putter: Putter<A>,
     pub(crate) visitor: Visitor<A>,
+    pub(crate) pauses: Pauses,
     pub(crate) of: PhantomData<J>,
 }
 
@@ -49,6 +52,7 @@ pub struct Awaiting<J: Naming<A>, A: Allocator = Global> {
     pub(crate) marked: Marked<A>,
     pub(crate) visitor: Visitor<A>,
     pub(crate) push: u32,
+    pub(crate) pauses: Pauses,
     pub(crate) of: PhantomData<J>,
 }
 

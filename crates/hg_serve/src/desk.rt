@@ -287,6 +287,7 @@ impl<J: Naming<A>, A: Allocator + Copy> Desk<J, A> {
             marked,
             mut visitor,
             push,
+            pauses,
             of,
         } = ended;
         closed_pushes_have_ended::<A>();
@@ -295,7 +296,12 @@ impl<J: Naming<A>, A: Allocator + Copy> Desk<J, A> {
         let takes = self.finish(rt, queue, push, gate);
         let outcome = self.reply(push);
         self.show(queue, &mut visitor);
-        (Answer { outcome, takes }, Client { visitor, of })
+        let client = Client {
+            visitor,
+            pauses,
+            of,
+        };
+        (Answer { outcome, takes }, client)
     }
 
     /// Asks the question of the repository as it is. Its visitor has then seen the whole history, which goes
@@ -372,7 +378,11 @@ impl<J: Naming<A>, A: Allocator + Copy> Desk<J, A> {
             of: _,
         } = self;
         'spending: while let Some(client) = clients.pop() {
-            let Client { mut visitor, of: _ } = client;
+            let Client {
+                mut visitor,
+                pauses: _,
+                of: _,
+            } = client;
             queue.hear(&mut taker, &mut visitor);
             queue.dismiss(&mut taker, visitor);
         }

@@ -12,6 +12,7 @@ mod client;
 mod desk;
 mod gate;
 mod naming;
+mod pauses;
 mod question;
 mod server;
 

@@ -20,6 +20,7 @@ use crate::client::{Awaiting, Client, Sender};
 use crate::desk::{Answer, Closed, Desk};
 use crate::gate::{Gate, Point};
 use crate::naming::Naming;
+use crate::pauses::Pauses;
 use crate::question::Question;
 use hg_push::OpenFault;
 use hg_queue::{Full, Mark, PartQueue, Taker};
@@ -27,7 +28,6 @@ use hg_repo::Repo;
 use hg_types::{CutReason, Limits, NoMemory, Part};
 use std::alloc::{Allocator, Global};
 use std::fmt;
-use std::hint::spin_loop;
 use std::marker::{Model, PhantomData};
 use std::sync::{Mutex, MutexGuard, Wait};
 use thiserror::Error;
@@ -36,7 +36,7 @@ use thiserror::Error;
 const MOST_PARTS: u32 = 10_000;
 
 /// How often a thread looks at the lock before it sleeps.
-const LOOKS: u32 = 100;
+const LOOKS: u32 = 12;
 
 /// Why a part was not put. The part comes back.
 #[derive(Drop, Error)]
@@ -110,13 +110,15 @@ impl<J: Naming<A>, A: Allocator + Copy> Server<J, A> {
         &self.limits
     }
 
-    /// The lock. A thread looks at it a while before it sleeps, since it is held for short.
-    fn lock<R: Wait>(&self, rt: &R) -> MutexGuard<'_, Desk<J, A>> {
+    /// The lock. A thread looks at it a while before it sleeps, since it is held for short. Between its looks
+    /// it stays away for as long as its connection has learned.
+    fn lock<R: Wait>(&self, rt: &R, pauses: &mut Pauses) -> MutexGuard<'_, Desk<J, A>> {
         for _ in 0..LOOKS {
             if let Some(desk) = self.desk.try_lock() {
+                pauses.come_closer();
                 return desk;
             }
-            spin_loop();
+            pauses.stay_away();
         }
         self.desk.lock(rt)
     }
@@ -126,9 +128,11 @@ impl<J: Naming<A>, A: Allocator + Copy> Server<J, A> {
         ensures made { IsOk result }
         ensures empty { IfOk result (λ client. client ≡ []) }
     {
-        let visitor = self.lock(rt).client(&self.queue)?;
+        let mut pauses = Pauses::none();
+        let visitor = self.lock(rt, &mut pauses).client(&self.queue)?;
         Ok(Client {
             visitor,
+            pauses,
             of: PhantomData,
         })
     }
@@ -143,14 +147,29 @@ impl<J: Naming<A>, A: Allocator + Copy> Server<J, A> {
             × (sender.history ≡ client) × (of sender.putter.push (items_of client) ≡ [])) }
         ensures err { IfErr result (λ back. back.0 ≡ client) }
     {
-        let Client { mut visitor, of } = client;
-        match self.lock(rt).open_for(&self.queue, &mut visitor) {
+        let Client {
+            mut visitor,
+            mut pauses,
+            of,
+        } = client;
+        match self
+            .lock(rt, &mut pauses)
+            .open_for(&self.queue, &mut visitor)
+        {
             Ok(putter) => Ok(Sender {
                 putter,
                 visitor,
+                pauses,
                 of,
             }),
-            Err(fault) => Err((Client { visitor, of }, fault)),
+            Err(fault) => {
+                let client = Client {
+                    visitor,
+                    pauses,
+                    of,
+                };
+                Err((client, fault))
+            }
         }
     }
 
@@ -197,7 +216,7 @@ impl<J: Naming<A>, A: Allocator + Copy> Server<J, A> {
                 Err(PutFault::TooMany(back)) => return Err(back),
                 Err(PutFault::Full(back)) => {
                     part = back;
-                    self.turn(rt, gate);
+                    self.turn_for(rt, &mut sender.pauses, gate);
                 }
             }
         }
@@ -241,6 +260,7 @@ impl<J: Naming<A>, A: Allocator + Copy> Server<J, A> {
         let Sender {
             mut putter,
             visitor,
+            mut pauses,
             of,
         } = sender;
         let push = putter.push();
@@ -252,12 +272,13 @@ impl<J: Naming<A>, A: Allocator + Copy> Server<J, A> {
                         marked,
                         visitor,
                         push,
+                        pauses,
                         of,
                     };
                 }
                 Err((back, _)) => {
                     putter = back;
-                    self.turn(rt, gate);
+                    self.turn_for(rt, &mut pauses, gate);
                 }
             }
         }
@@ -269,13 +290,15 @@ impl<J: Naming<A>, A: Allocator + Copy> Server<J, A> {
     pub fn answer<R: Wait, G: Gate>(
         &self,
         rt: &R,
-        ended: Awaiting<J, A>,
+        mut ended: Awaiting<J, A>,
         gate: &mut G,
     ) -> (Answer<A>, Client<J, A>)
         ensures { Answers J.capacity J.first ended.push ended.put ended.history
             result.0.outcome result.0.takes result.1 }
     {
-        let answered = self.lock(rt).answer(rt, &self.queue, ended, gate);
+        let answered = self
+            .lock(rt, &mut ended.pauses)
+            .answer(rt, &self.queue, ended, gate);
         gate.at(Point::Answered);
         answered
     }
@@ -293,13 +316,18 @@ impl<J: Naming<A>, A: Allocator + Copy> Server<J, A> {
         ensures { (repo : RepositoryOf A) × Looks J.first client.old client.new repo
             × Q.tells question.now repo result }
     {
-        let mut desk = self.lock(rt);
+        let mut desk = self.lock(rt, &mut client.pauses);
         desk.look(&self.queue, &mut client.visitor, question)
     }
 
     /// Takes one item under the lock, and steps. It is false where there was none.
     pub fn turn<R: Wait, G: Gate>(&self, rt: &R, gate: &mut G) -> bool {
-        let mut desk = self.lock(rt);
+        self.turn_for(rt, &mut Pauses::none(), gate)
+    }
+
+    /// The same, for a connection that has learned so many pauses.
+    fn turn_for<R: Wait, G: Gate>(&self, rt: &R, pauses: &mut Pauses, gate: &mut G) -> bool {
+        let mut desk = self.lock(rt, pauses);
         gate.at(Point::Locked);
         desk.turn(rt, &self.queue)
     }

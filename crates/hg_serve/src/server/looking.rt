@@ -33,7 +33,7 @@ impl<J: Naming<A>, A: Allocator + Copy> Server<J, A> {
             × Looks J.first witness.old witness.new repo
             × Q.tells keeper.old keeper.new repo result }
     {
-        let mut desk = self.lock(rt);
+        let mut desk = self.lock(rt, &mut client.pauses);
         desk.look_both(
             &self.queue,
             &mut client.visitor,

@@ -22,7 +22,7 @@ impl<J: Naming<A>, A: Allocator + Copy> Server<J, A> {
     pub fn answer_resting<R: Wait, G: Gate>(
         &self,
         rt: &R,
-        ended: Awaiting<J, A>,
+        mut ended: Awaiting<J, A>,
         gate: &mut G,
     ) -> (Answer<A>, usize, Client<J, A>)
         ensures answers { Answers J.capacity J.first ended.push ended.put ended.history
@@ -30,7 +30,9 @@ impl<J: Naming<A>, A: Allocator + Copy> Server<J, A> {
         ensures rests { RestsOn run_push J.first (newest_first result.2) ended.push result.0.outcome
             result.1 }
     {
-        let answered = self.lock(rt).answer_resting(rt, &self.queue, ended, gate);
+        let answered = self
+            .lock(rt, &mut ended.pauses)
+            .answer_resting(rt, &self.queue, ended, gate);
         gate.at(Point::Answered);
         answered
     }
@@ -47,7 +49,7 @@ impl<J: Naming<A>, A: Allocator + Copy> Server<J, A> {
             × Q.tells question.now repo result.0 }
         ensures rests { result.1 ≡ length (serial_run J.first client.new).journal }
     {
-        let mut desk = self.lock(rt);
+        let mut desk = self.lock(rt, &mut client.pauses);
         desk.look_resting(&self.queue, &mut client.visitor, question)
     }
 
@@ -57,7 +59,7 @@ impl<J: Naming<A>, A: Allocator + Copy> Server<J, A> {
         ensures later { IsPrefix witness.old witness.new }
         ensures one { IsPrefix client.old witness.new }
     {
-        let mut desk = self.lock(rt);
+        let mut desk = self.lock(rt, &mut client.pauses);
         desk.introduce(&self.queue, &mut client.visitor, &mut witness.visitor);
     }
 }
