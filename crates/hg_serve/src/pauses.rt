@@ -3,7 +3,7 @@
 use std::hint::spin_loop;
 
 /// How many pauses are made at most before the lock is looked at again.
-const MOST_PAUSES: u32 = 2_000;
+const MOST_PAUSES: u32 = 500;
 
 /// How many pauses a connection makes before it looks at a held lock again. It learns that: a lock that others
 /// want all the time is held most of the time, and then it is better for one connection to make several pushes

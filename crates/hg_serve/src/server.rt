@@ -36,7 +36,7 @@ use thiserror::Error;
 const MOST_PARTS: u32 = 10_000;
 
 /// How often a thread looks at the lock before it sleeps.
-const LOOKS: u32 = 12;
+const LOOKS: u32 = 8;
 
 /// Why a part was not put. The part comes back.
 #[derive(Drop, Error)]
