@@ -1,18 +1,18 @@
 //! What no contract says: that many connections over one server and one ledger are all kept, and that after a stop
 //! at any call of the device what was answered is there again.
 
-ghost use Rattle.std.specs.Prelude.{◌≡◌, All, Contains};
-ghost use Rattle.hg_ledger.specs.Clients.{promised};
-
-use hg_help_serve_tests::{client_of, marker, new_log, one_part, settings, starts_again, state};
+use hg_help_serve_tests::{
+    add, client_of, close_all, has_receipt, marker, new_log, one_part, settings, starts_again,
+    state,
+};
 use hg_help_tests::device::Memory;
 use hg_kept::{Keeping, KeptFault, serve_connection_kept};
 use hg_ledger::{KeptClient, Ledger, Parts, Receipt, Storing, Tally};
 use hg_queue::{PartQueue, Taker};
 use hg_repo::Repo;
-use hg_serve::{Client, Closed, Naming, NoGate, Server};
+use hg_serve::{Client, Closed, NoGate, Server};
 use hg_store::Log;
-use std::alloc::{AllocFailed, Allocator, Global};
+use std::alloc::Global;
 use std::io::Read;
 use std::marker::Brand;
 use std::process::Abort;
@@ -134,41 +134,6 @@ fn connect<J: Storing<Global>, R: Wait + Abort>(
     add(rt, &mut *clients.lock(rt), client);
     if let Some(receipt) = receipt {
         assert!(rt; receipts.lock(rt).push(receipt).is_ok());
-    }
-}
-
-fn add<J: Naming<Global>, R: Abort>(rt: &R, clients: &mut Vec<Client<J>>, client: Client<J>) {
-    match clients.push(client) {
-        Ok(()) => {}
-        Err(AllocFailed { value: _client, .. }) => panic!(rt; "no memory for a client"),
-    }
-}
-
-/// Compares a receipt with the tally of its ledger.
-fn compare<J: Storing<A>, A: Allocator>(tally: &mut Tally<A>, receipt: Receipt<J, A>)
-    requires { tally.old.id ≡ J.tally }
-    ensures same { tally.new ≡ tally.old }
-    ensures promised { All (Contains tally.old.promises) receipt }
-{
-    let mut receipt = receipt;
-    tally.compare(&mut receipt);
-}
-
-/// Compares the receipt of a client, where it has one. Says whether it has.
-fn has_receipt<J: Storing<A>, A: Allocator>(
-    tally: &mut Tally<A>,
-    receipt: Option<Receipt<J, A>>,
-) -> bool
-    requires { tally.old.id ≡ J.tally }
-    ensures same { tally.new ≡ tally.old }
-    ensures promised { All (Contains tally.old.promises) (promised receipt) }
-{
-    match receipt {
-        Some(receipt) => {
-            compare(tally, receipt);
-            true
-        }
-        None => false,
     }
 }
 
@@ -317,27 +282,20 @@ fn play<J: Storing<Global> + Send + Sync, R: Threads + Wait + Abort + Sync>(
             assert!(rt; started.is_ok());
         }
     });
-    let mut clients = clients.into_inner();
-    let Parts {
-        log,
-        kept: _,
-        is_broken: _,
-        witnesses: (first, second),
-        mut tally,
-    } = ledger.into_parts();
-    for receipt in receipts.into_inner() {
-        compare(&mut tally, receipt);
-    }
-    add(rt, &mut clients, first);
-    add(rt, &mut clients, second);
-    let Log { device, .. } = log;
+    let (closed, device) = close_all(
+        rt,
+        server,
+        ledger,
+        clients.into_inner(),
+        receipts.into_inner(),
+    );
     let Told {
         done,
         replies,
         refused,
     } = told;
     Left {
-        closed: server.close(clients),
+        closed,
         device,
         done: done.into_inner(),
         replies: replies.into_inner(),

@@ -1,21 +1,22 @@
 //! What no contract says: that many threads push at one server and one ledger, and that after a stop at any
 //! call of the device what was answered is there again.
 
-ghost use Rattle.std.specs.Prelude.{◌≡◌, All, Contains};
 ghost use mathlib.Core.List.{IsPrefix};
-ghost use Rattle.hg_ledger.specs.Clients.{promised};
 
-use hg_help_serve_tests::{client_of, marker, new_log, one_part, settings, starts_again, state};
+use hg_help_serve_tests::{
+    add, client_of, close_all, has_receipt, marker, new_log, one_part, settings, starts_again,
+    state,
+};
 use hg_help_tests::device::Memory;
 use hg_ledger::{KeptClient, Ledger, NotStored, Parts, Receipt, Storing, Tally};
 use hg_push::Outcome;
 use hg_queue::{PartQueue, Taker};
 use hg_repo::Repo;
-use hg_serve::{Client, Closed, Naming, NoGate, Server};
+use hg_serve::{Client, Closed, NoGate, Server};
 use hg_store::Log;
 use hg_types::{Part, Payload, Seq};
 use linked_list_allocator::LocalHeap;
-use std::alloc::{AllocFailed, Allocator, Global};
+use std::alloc::{Allocator, Global};
 use std::marker::Brand;
 use std::process::Abort;
 use std::random::RandomSource;
@@ -152,27 +153,6 @@ fn push_all<J: Storing<Global>, R: Wait + Abort>(
     }
 }
 
-/// Compares a receipt with the tally of its ledger.
-fn compare<J: Storing<A>, A: Allocator>(tally: &mut Tally<A>, receipt: Receipt<J, A>)
-    requires { tally.old.id ≡ J.tally }
-    ensures same { tally.new ≡ tally.old }
-    ensures promised { All (Contains tally.old.promises) receipt }
-{
-    let mut receipt = receipt;
-    tally.compare(&mut receipt);
-}
-
-fn add<J: Naming<A>, A: Allocator + Copy, R: Abort>(
-    rt: &R,
-    clients: &mut Vec<Client<J, A>, A>,
-    client: Client<J, A>,
-) {
-    match clients.push(client) {
-        Ok(()) => {}
-        Err(AllocFailed { value: _client, .. }) => panic!(rt; "no memory for a client"),
-    }
-}
-
 /// What is left after a run.
 #[derive(Drop)]
 struct Left {
@@ -226,23 +206,16 @@ fn play<J: Storing<Global> + Send + Sync, R: Threads + Wait + Abort + Sync>(
             assert!(rt; started.is_ok());
         }
     });
-    let mut clients = clients.into_inner();
-    let Parts {
-        log,
-        kept: _,
-        is_broken: _,
-        witnesses: (first, second),
-        mut tally,
-    } = ledger.into_parts();
-    for receipt in receipts.into_inner() {
-        compare(&mut tally, receipt);
-    }
-    add(rt, &mut clients, first);
-    add(rt, &mut clients, second);
-    let Log { device, .. } = log;
+    let (closed, device) = close_all(
+        rt,
+        server,
+        ledger,
+        clients.into_inner(),
+        receipts.into_inner(),
+    );
     let Told { kept, refused } = told;
     Left {
-        closed: server.close(clients),
+        closed,
         device,
         kept: kept.into_inner(),
         refused: refused.into_inner(),
@@ -411,24 +384,6 @@ struct Turns {
     has_first: bool,
     has_second: bool,
     kept: usize,
-}
-
-/// Compares the receipt of a client, where it has one. Says whether it has.
-fn has_receipt<J: Storing<A>, A: Allocator>(
-    tally: &mut Tally<A>,
-    receipt: Option<Receipt<J, A>>,
-) -> bool
-    requires { tally.old.id ≡ J.tally }
-    ensures same { tally.new ≡ tally.old }
-    ensures promised { All (Contains tally.old.promises) (promised receipt) }
-{
-    match receipt {
-        Some(receipt) => {
-            compare(tally, receipt);
-            true
-        }
-        None => false,
-    }
 }
 
 /// Two clients push three times each, in turn.
