@@ -4,11 +4,12 @@ ghost use Rattle.std.specs.Prelude.{◌≡◌, All, Contains};
 ghost use Rattle.hg_ledger.specs.Clients.{promised};
 
 use hg_help_tests::device::Memory;
-use hg_ledger::{Ledger, Parts, Receipt, Storing, Tally};
+use hg_ledger::{KeptClient, Ledger, Parts, Receipt, Storing, Tally};
 use hg_serve::{Client, Closed, Naming, Server};
 use hg_store::Log;
 use std::alloc::{AllocFailed, Allocator, Global};
 use std::process::Abort;
+use std::sync::{Mutex, Wait};
 use std::test::*;
 
 /// Adds a client to others.
@@ -51,27 +52,99 @@ pub fn has_receipt<J: Storing<A>, A: Allocator>(
     }
 }
 
-/// Compares the receipts with the tally of the ledger, and closes the server with its clients, those of the ledger
-/// among them. What the server held, and the ledger's device.
-pub fn close_all<J: Storing<Global>, R: Abort>(
+/// What came of two clients: whether each has a receipt, how many records were kept, and what the server held.
+#[derive(Drop)]
+pub struct ClosedTwo {
+    pub has_first: bool,
+    pub has_second: bool,
+    pub kept: usize,
+    pub closed: Closed,
+}
+
+/// Compares the receipts of two clients with the tally of the ledger, and closes the server with them.
+pub fn close_two<J: Storing<Global>, R: Abort>(
     rt: &R,
     server: Server<J>,
     ledger: Ledger<J, Memory>,
+    first: KeptClient<J>,
+    second: KeptClient<J>,
     mut clients: Vec<Client<J>>,
-    receipts: Vec<Receipt<J>>,
-) -> (Closed, Memory) {
+) -> ClosedTwo {
     let Parts {
-        log,
-        kept: _,
+        log: _,
+        kept,
         is_broken: _,
-        witnesses: (first, second),
+        witnesses: (before, after),
         mut tally,
     } = ledger.into_parts();
-    'comparing: for receipt in receipts {
-        compare(&mut tally, receipt);
-    }
+    let (first, receipt) = first.into_parts();
+    let has_first = has_receipt(&mut tally, receipt);
+    let (second, receipt) = second.into_parts();
+    let has_second = has_receipt(&mut tally, receipt);
+    add(rt, &mut clients, before);
+    add(rt, &mut clients, after);
     add(rt, &mut clients, first);
     add(rt, &mut clients, second);
-    let Log { device, .. } = log;
-    (server.close(clients), device)
+    ClosedTwo {
+        has_first,
+        has_second,
+        kept,
+        closed: server.close(clients),
+    }
+}
+
+/// A server and its ledger, and what the clients of their connections leave.
+pub struct Open<J: Storing<Global>> {
+    pub server: Server<J>,
+    pub ledger: Ledger<J, Memory>,
+    clients: Mutex<Vec<Client<J>>>,
+    receipts: Mutex<Vec<Receipt<J>>>,
+}
+
+impl<J: Storing<Global>> Open<J> {
+    /// A server and its ledger, before any client left.
+    pub fn new(alloc: Global, server: Server<J>, ledger: Ledger<J, Memory>) -> Open<J> {
+        Open {
+            server,
+            ledger,
+            clients: Mutex::new(Vec::new(alloc)),
+            receipts: Mutex::new(Vec::new(alloc)),
+        }
+    }
+
+    /// A client leaves, with its receipt where it has one.
+    pub fn leave<R: Wait + Abort>(&self, rt: &R, client: KeptClient<J>) {
+        let (client, receipt) = client.into_parts();
+        add(rt, &mut *self.clients.lock(rt), client);
+        if let Some(receipt) = receipt {
+            let is_added = self.receipts.lock(rt).push(receipt).is_ok();
+            assert!(rt; is_added);
+        }
+    }
+
+    /// Compares the receipts with the tally of the ledger, and closes the server with all clients, those of the ledger
+    /// among them. What the server held, and the ledger's device.
+    pub fn close<R: Abort>(self, rt: &R) -> (Closed, Memory) {
+        let Open {
+            server,
+            ledger,
+            clients,
+            receipts,
+        } = self;
+        let mut clients = clients.into_inner();
+        let Parts {
+            log,
+            kept: _,
+            is_broken: _,
+            witnesses: (first, second),
+            mut tally,
+        } = ledger.into_parts();
+        'comparing: for receipt in receipts.into_inner() {
+            compare(&mut tally, receipt);
+        }
+        add(rt, &mut clients, first);
+        add(rt, &mut clients, second);
+        let Log { device, .. } = log;
+        (server.close(clients), device)
+    }
 }

@@ -7,5 +7,5 @@ mod closing;
 mod pushing;
 
 pub use beginning::{new_log, settings, starts_again, state};
-pub use closing::{add, close_all, compare, has_receipt};
+pub use closing::{ClosedTwo, Open, add, close_two, compare, has_receipt};
 pub use pushing::{client_of, marker, one_part};

@@ -2,15 +2,14 @@
 //! at any call of the device what was answered is there again.
 
 use hg_help_serve_tests::{
-    add, client_of, close_all, has_receipt, marker, new_log, one_part, settings, starts_again,
-    state,
+    Open, client_of, close_two, marker, new_log, one_part, settings, starts_again, state,
 };
 use hg_help_tests::device::Memory;
 use hg_kept::{Keeping, KeptFault, serve_connection_kept};
-use hg_ledger::{KeptClient, Ledger, Parts, Receipt, Storing, Tally};
+use hg_ledger::{KeptClient, Ledger, Storing, Tally};
 use hg_queue::{PartQueue, Taker};
 use hg_repo::Repo;
-use hg_serve::{Client, Closed, NoGate, Server};
+use hg_serve::{Closed, NoGate, Server};
 use hg_store::Log;
 use std::alloc::Global;
 use std::io::Read;
@@ -76,15 +75,12 @@ fn done_replies(bytes: &[u8]) -> usize {
 fn connect<J: Storing<Global>, R: Wait + Abort>(
     rt: &R,
     alloc: Global,
-    server: &Server<J>,
-    ledger: &Ledger<J, Memory>,
-    clients: &Mutex<Vec<Client<J>>>,
-    receipts: &Mutex<Vec<Receipt<J>>>,
+    open: &Open<J>,
     told: &Told,
     thread: u8,
     pushes: u8,
 ) {
-    let client = KeptClient::new(client_of(rt, server));
+    let client = KeptClient::new(client_of(rt, &open.server));
     let mut input = Vec::new(alloc);
     for turn in 0..pushes {
         // every third push is malformed, and so aborted
@@ -102,8 +98,8 @@ fn connect<J: Storing<Global>, R: Wait + Abort>(
     };
     let mut writer: Vec<u8> = Vec::new(alloc);
     let keeping = Keeping {
-        server,
-        ledger,
+        server: &open.server,
+        ledger: &open.ledger,
         rt,
         alloc,
     };
@@ -130,11 +126,7 @@ fn connect<J: Storing<Global>, R: Wait + Abort>(
         }
         Some(KeptFault::Connection(_)) => panic!(rt; "the connection failed"),
     }
-    let (client, receipt) = client.into_parts();
-    add(rt, &mut *clients.lock(rt), client);
-    if let Some(receipt) = receipt {
-        assert!(rt; receipts.lock(rt).push(receipt).is_ok());
-    }
+    open.leave(rt, client);
 }
 
 /// What came of connections of two clients in turn: whether each has a receipt, how many replies of each said that a
@@ -204,28 +196,12 @@ fn push_in_turn<J: Storing<Global>, R: Wait + Abort>(
         second = seen;
         done.1 = done.1.saturating_add(count);
     }
-    let Parts {
-        log: _,
-        kept,
-        is_broken: _,
-        witnesses: (before, after),
-        mut tally,
-    } = ledger.into_parts();
-    let (first, receipt) = first.into_parts();
-    let has_first = has_receipt(&mut tally, receipt);
-    let (second, receipt) = second.into_parts();
-    let has_second = has_receipt(&mut tally, receipt);
-    let mut clients = Vec::new(alloc);
-    add(rt, &mut clients, before);
-    add(rt, &mut clients, after);
-    add(rt, &mut clients, first);
-    add(rt, &mut clients, second);
-    let _closed = server.close(clients);
+    let closed = close_two(rt, server, ledger, first, second, Vec::new(alloc));
     Turns {
-        has_first,
-        has_second,
+        has_first: closed.has_first,
+        has_second: closed.has_second,
         done,
-        kept,
+        kept: closed.kept,
     }
 }
 
@@ -257,38 +233,20 @@ fn play<J: Storing<Global> + Send + Sync, R: Threads + Wait + Abort + Sync>(
 ) -> Left {
     let server = Server::<J>::new(alloc, repo, queue, taker);
     let ledger = ledger_over(rt, alloc, &server, log);
-    let clients = Mutex::new(Vec::new(alloc));
-    let receipts = Mutex::new(Vec::new(alloc));
+    let open = Open::new(alloc, server, ledger);
     let told = Told {
         done: Mutex::new(0),
         replies: Mutex::new(0),
         refused: Mutex::new(0),
     };
-    let (list, its_receipts, lent) = (&clients, &receipts, &ledger);
-    let (server_lent, told_lent) = (&server, &told);
+    let (lent, told_lent) = (&open, &told);
     thread::scope(thread::scope_env(), rt, |scope| {
         for thread in 0..THREADS {
-            let started = scope.spawn(move || connect(
-                rt,
-                alloc,
-                server_lent,
-                lent,
-                list,
-                its_receipts,
-                told_lent,
-                thread,
-                pushes,
-            ));
+            let started = scope.spawn(move || connect(rt, alloc, lent, told_lent, thread, pushes));
             assert!(rt; started.is_ok());
         }
     });
-    let (closed, device) = close_all(
-        rt,
-        server,
-        ledger,
-        clients.into_inner(),
-        receipts.into_inner(),
-    );
+    let (closed, device) = open.close(rt);
     let Told {
         done,
         replies,

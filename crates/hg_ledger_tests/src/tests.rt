@@ -4,15 +4,15 @@
 ghost use mathlib.Core.List.{IsPrefix};
 
 use hg_help_serve_tests::{
-    add, client_of, close_all, has_receipt, marker, new_log, one_part, settings, starts_again,
-    state,
+    Open, add, client_of, close_two, has_receipt, marker, new_log, one_part, settings,
+    starts_again, state,
 };
 use hg_help_tests::device::Memory;
-use hg_ledger::{KeptClient, Ledger, NotStored, Parts, Receipt, Storing, Tally};
+use hg_ledger::{KeptClient, Ledger, NotStored, Parts, Storing, Tally};
 use hg_push::Outcome;
 use hg_queue::{PartQueue, Taker};
 use hg_repo::Repo;
-use hg_serve::{Client, Closed, NoGate, Server};
+use hg_serve::{Closed, NoGate, Server};
 use hg_store::Log;
 use hg_types::{Part, Payload, Seq};
 use linked_list_allocator::LocalHeap;
@@ -128,14 +128,11 @@ fn push_once<J: Storing<Global>, R: Wait + Abort>(
 fn push_all<J: Storing<Global>, R: Wait + Abort>(
     rt: &R,
     alloc: Global,
-    server: &Server<J>,
-    ledger: &Ledger<J, Memory>,
-    clients: &Mutex<Vec<Client<J>>>,
-    receipts: &Mutex<Vec<Receipt<J>>>,
+    open: &Open<J>,
     told: &Told,
     thread: u8,
 ) {
-    let mut mine = KeptClient::new(client_of(rt, server));
+    let mut mine = KeptClient::new(client_of(rt, &open.server));
     for turn in 0..PUSHES {
         // every third push is malformed, and so aborted
         let payload = marker(rt, alloc, thread, turn);
@@ -144,29 +141,9 @@ fn push_all<J: Storing<Global>, R: Wait + Abort>(
         } else {
             &payload[..]
         };
-        mine = push_once(rt, alloc, server, ledger, mine, told, payload);
+        mine = push_once(rt, alloc, &open.server, &open.ledger, mine, told, payload);
     }
-    let (mine, receipt) = mine.into_parts();
-    add(rt, &mut *clients.lock(rt), mine);
-    if let Some(receipt) = receipt {
-        assert!(rt; receipts.lock(rt).push(receipt).is_ok());
-    }
-}
-
-/// What is left after a run.
-#[derive(Drop)]
-struct Left {
-    closed: Closed,
-    device: Memory,
-    kept: usize,
-    refused: usize,
-}
-
-impl Left {
-    /// Starts again from what a crash leaves: what every reply rested on is there, in the order of the journal.
-    fn starts_again<R: RandomSource + Abort>(&self, rt: &R, alloc: Global, part: usize) -> usize {
-        starts_again(rt, alloc, &self.device, part, &self.closed, self.kept)
-    }
+    open.leave(rt, mine);
 }
 
 fn play<J: Storing<Global> + Send + Sync, R: Threads + Wait + Abort + Sync>(
@@ -183,36 +160,19 @@ fn play<J: Storing<Global> + Send + Sync, R: Threads + Wait + Abort + Sync>(
         Ok(ledger) => ledger,
         Err(_parts) => panic!(rt; "no memory for a ledger"),
     };
-    let clients = Mutex::new(Vec::new(alloc));
-    let receipts = Mutex::new(Vec::new(alloc));
+    let open = Open::new(alloc, server, ledger);
     let told = Told {
         kept: Mutex::new(0),
         refused: Mutex::new(0),
     };
-    let (list, its_receipts, lent) = (&clients, &receipts, &ledger);
-    let (server_lent, told_lent) = (&server, &told);
+    let (lent, told_lent) = (&open, &told);
     thread::scope(thread::scope_env(), rt, |scope| {
         for thread in 0..THREADS {
-            let started = scope.spawn(move || push_all(
-                rt,
-                alloc,
-                server_lent,
-                lent,
-                list,
-                its_receipts,
-                told_lent,
-                thread,
-            ));
+            let started = scope.spawn(move || push_all(rt, alloc, lent, told_lent, thread));
             assert!(rt; started.is_ok());
         }
     });
-    let (closed, device) = close_all(
-        rt,
-        server,
-        ledger,
-        clients.into_inner(),
-        receipts.into_inner(),
-    );
+    let (closed, device) = open.close(rt);
     let Told { kept, refused } = told;
     Left {
         closed,
@@ -228,19 +188,28 @@ fn run<R: Threads + Wait + RandomSource + Abort + Sync>(
     alloc: Global,
     calls: usize,
 ) -> Left {
-    let log = new_log(rt, alloc, calls);
     match PartQueue::new(alloc, 8) {
         Ok((queue, taker)) => {
-            play::<Brand, R>(
-                rt,
-                alloc,
-                queue,
-                taker,
-                Repo::new(alloc, settings(), state(rt)),
-                log,
-            )
+            let repo = Repo::new(alloc, settings(), state(rt));
+            play::<Brand, R>(rt, alloc, queue, taker, repo, new_log(rt, alloc, calls))
         }
         Err(_) => panic!(rt; "no memory for a queue"),
+    }
+}
+
+/// What is left after a run.
+#[derive(Drop)]
+struct Left {
+    closed: Closed,
+    device: Memory,
+    kept: usize,
+    refused: usize,
+}
+
+impl Left {
+    /// Starts again from what a crash leaves: what every reply rested on is there, in the order of the journal.
+    fn starts_again<R: RandomSource + Abort>(&self, rt: &R, alloc: Global, part: usize) -> usize {
+        starts_again(rt, alloc, &self.device, part, &self.closed, self.kept)
     }
 }
 
@@ -423,28 +392,23 @@ fn push_in_turn<J: Storing<Global>, R: Wait + Abort>(
         );
         second = seen;
     }
-    let Parts {
-        log: _,
-        kept,
-        is_broken: _,
-        witnesses: (before, after),
-        mut tally,
-    } = ledger.into_parts();
-    let (first, receipt) = first.into_parts();
-    let has_first = has_receipt(&mut tally, receipt);
-    let (second, receipt) = second.into_parts();
-    let has_second = has_receipt(&mut tally, receipt);
-    let mut clients = Vec::new(alloc);
-    add(rt, &mut clients, before);
-    add(rt, &mut clients, after);
-    add(rt, &mut clients, first);
-    add(rt, &mut clients, second);
-    let closed = server.close(clients);
-    assert!(rt; closed.journal.len() == 6);
+    let closed = close_two(rt, server, ledger, first, second, Vec::new(alloc));
+    assert!(rt; closed.closed.journal.len() == 6);
     Turns {
-        has_first,
-        has_second,
-        kept,
+        has_first: closed.has_first,
+        has_second: closed.has_second,
+        kept: closed.kept,
+    }
+}
+
+/// The same, on a device that fails after so many calls.
+fn turned<R: Wait + RandomSource + Abort>(rt: &R, alloc: Global, calls: usize) -> Turns {
+    match PartQueue::new(alloc, 8) {
+        Ok((queue, taker)) => {
+            let repo = Repo::new(alloc, settings(), state(rt));
+            push_in_turn::<Brand, R>(rt, alloc, queue, taker, repo, new_log(rt, alloc, calls))
+        }
+        Err(_) => panic!(rt; "no memory for a queue"),
     }
 }
 
@@ -468,18 +432,7 @@ fn receipts_of_two_clients_grow(rt: HostRuntime) {
             has_second,
             kept,
         };
-        match PartQueue::new(alloc, 8) {
-            Ok((queue, taker)) => {
-                let repo = Repo::new(alloc, settings(), state(&rt));
-                let log = new_log(&rt, alloc, calls);
-                assert_eq!(rt;
-                    push_in_turn::<Brand, _>(&rt, alloc, queue, taker, repo, log),
-                    turns,
-                    "{calls} calls"
-                );
-            }
-            Err(_) => assert!(rt; false, "no memory for a queue"),
-        }
+        assert_eq!(rt; turned(&rt, alloc, calls), turns, "{calls} calls");
     }
 }
 

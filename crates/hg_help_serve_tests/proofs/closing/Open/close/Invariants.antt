@@ -1,5 +1,5 @@
 use Rattle.std.proofs.Common.{◌≡◌}
-use Rattle.hg_help_serve_tests.proofs.closing.close_all.Given as goal
+use Rattle.hg_help_serve_tests.proofs.closing.Open.close.Given as goal
 
 abbrev pub invariant-comparing : goal.invariant-comparing
 invariant-comparing g l = l.tally.id ≡ g.J.Storing.tally
