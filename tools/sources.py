@@ -13,6 +13,15 @@ TYPE = re.compile(r"^(?:pub(?:\([a-z]+\))? )?(?:struct|enum|trait|type) (\w+)", 
 IMPL = re.compile(r"(?:unsafe )?impl\b")
 
 
+def shows_usage(page, words, known):
+    """Prints what a script says of itself, where it is asked for that, or was given a word that is none of those it knows
+    and no crate. Whether it did."""
+    strange = [it for it in words if it not in known and not (it[:1].isalpha() and os.path.isdir(f"{ROOT}/crates/{it}"))]
+    if strange:
+        print(page.strip())
+    return bool(strange)
+
+
 def read(path):
     with open(path, encoding="utf-8") as file:
         return file.read()

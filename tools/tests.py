@@ -105,6 +105,8 @@ def main(words):
     if words == ["--list"]:
         print("\n".join(made))
         return 0
+    if sources.shows_usage(__doc__, words, made):
+        return 2
     passed = failed = 0
     for name in words or made:
         done, missed = run(name, made.get(name, [name]))

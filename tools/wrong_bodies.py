@@ -632,6 +632,8 @@ def main(words):
         at = words.index("--built")
         built = os.path.abspath(words[at + 1])
         del words[at : at + 2]
+    if sources.shows_usage(__doc__, words, ("--write", "--take")):
+        return 2
     names = [it for it in words if not it.startswith("--")]
     names = names or [it for it in sources.rows() if os.path.isdir(f"{sources.ROOT}/crates/{it}/wrong")]
     if "--take" in words:
