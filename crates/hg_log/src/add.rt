@@ -123,7 +123,7 @@ impl<A: Allocator + Copy> Changelog<A> {
         if *node == Node::NULL {
             return Some(None);
         }
-        match self.rev(node) {
+        match self.rev_of_parent(node) {
             Some(rev) => Some(Some(rev)),
             None => None,
         }
@@ -137,7 +137,7 @@ impl<A: Allocator + Copy> Changelog<A> {
         if *node == Node::NULL {
             return Some(&[]);
         }
-        match self.rev(node) {
+        match self.rev_of_parent(node) {
             Some(rev) => Some(self.text(rev)),
             None => None,
         }

@@ -87,6 +87,30 @@ impl<A: Allocator> Changelog<A> {
         }
     }
 
+    /// The number of the changeset with that id, as [`Changelog::rev`] gives it. The newest is looked at first: so
+    /// mostly is what the next one stands on, and its id need not be hashed then.
+    pub(crate) fn rev_of_parent(&self, node: &Node) -> Option<u32>
+        ensures found { IfSome result (λ rev. HasNode self.now.rows rev node.now.0) }
+        ensures none { IfNone result (LacksNode self.now.rows node.now.0) }
+    {
+        match self.newest_with(node) {
+            Some(newest) => Some(newest),
+            None => self.rev(node),
+        }
+    }
+
+    /// The number of the newest changeset, where that is the one with the id.
+    fn newest_with(&self, node: &Node) -> Option<u32>
+        ensures { IfSome result (λ rev. HasNode self.now.rows rev node.now.0) }
+    {
+        let newest = self.rows.len().checked_sub(1)?;
+        let (id, _) = self.rows.get_index(newest)?;
+        if id == node {
+            return Some(newest as u32);
+        }
+        None
+    }
+
     /// The id of the changeset of that number.
     pub fn node(&self, rev: u32) -> Node
         requires { rev < length self.now.rows }

@@ -1,16 +1,21 @@
 -- The numbers of a changegroup's changesets, and the text of its reply.
 use Rattle.std.proofs.Common.{◌≡◌, ◌≢◌, ℕ, ◌+◌, ◌-◌, ◌<◌, ◌≤◌, ◌^◌, List, [], ◌∷◌, ◌++◌, length, take}
 use Rattle.std.proofs.Common.{get_or, All, Option, Some, None, IfSome, inl, inr, Bool, true, false, nat_le}
+use Rattle.std.proofs.Common.{cond}
 use Rattle.std.proofs.Common.{codes, decimal, refl, sym, ap, ◌∙◌, subst, arith}
-use Rattle.std.proofs.lemmas.Bool.{cases_lt, cond_both}
+use Rattle.std.specs.Prelude.{bytes_eq, nat_lt}
+use Rattle.std.specs.List.{position_or_len}
+use Rattle.std.proofs.lemmas.Bool.{cases_lt, cond_both, cond-true, lt-ltb}
 use Rattle.std.proofs.lemmas.Fmt.{length-decimal-le}
 use Rattle.std.proofs.lemmas.List.{length_push, take_more, append-nil, get_or_append_left, get_or_push}
 use Rattle.std.proofs.lemmas.List.Elements.{filter_map-append}
-use Rattle.std.proofs.lemmas.Option.{slice_get_within}
+use Rattle.std.proofs.lemmas.List.Sums.{position_or_len_is}
+use Rattle.std.proofs.lemmas.Option.{slice_get_within, get_or_from_slice_get}
+use Rattle.std.proofs.lemmas.Slice.Eq.{bytes_eq-Decides}
 use Rattle.std.specs.List.{filter_map, cons_option}
 use Rattle.std.specs.Option.{option_to_list}
 use Rattle.hg_types.specs.declared.entry.Entry.{Entry}
-use Rattle.hg_log.specs.Rows.{HasNode}
+use Rattle.hg_log.specs.Rows.{AreLawful, HasNode}
 use Rattle.hg_log.specs.Changeset.{Changeset}
 use Rattle.hg_log.specs.Parents.{rev_of}
 use Rattle.hg_types.specs.declared.part.Part.{Part}
@@ -58,6 +63,30 @@ rev_within rows node (Some r) found x is =
 pub some_within : (n : ℕ) (o : Option ℕ) → IfSome o (λ x. x < n) → (x : ℕ) → o ≡ Some x → x < n
 some_within n None low x is = absurd cc
 some_within n (Some y) low x is = let same : y ≡ x = cc in omega (arith, low)
+
+differ : (a b : List ℕ) → a ≢ b → bytes_eq a b ≡ false
+differ a b other = by (bytes_eq a b) refl
+  where
+    by : (v : Bool) → bytes_eq a b ≡ v → bytes_eq a b ≡ false
+    by true is = absurd (other ((bytes_eq-Decides a b).0 is))
+    by false is = is
+
+-- where the row of a number has an id, that is the number of the id
+pub rev_at : (rows : List Changeset) (p : ℕ) (node : List ℕ) → AreLawful rows → HasNode rows p node
+    → Some p ≡ rev_of rows node
+unfolding rev_of
+rev_at rows p node lawful has =
+    let within : p < length rows = slice_get_within rows p has.row has.row_at in
+    let here : (get_or rows p has.row).node ≡ node = ap (λ (x : Changeset). x.node)
+    (get_or_from_slice_get rows p has.row has.row has.row_at) ∙ has.node_is in
+    let before : (k : ℕ) → k < p → bytes_eq (get_or rows k has.row).node node ≡ false =
+    λ k low. differ (get_or rows k has.row).node node
+    (λ same. lawful.distinct k p has.row low within (same ∙ sym here)) in
+    let found : position_or_len (λ row. bytes_eq row.node node) rows ≡ p =
+    position_or_len_is (λ row. bytes_eq row.node node) rows p has.row (omega arith) before
+    (λ _. (bytes_eq-Decides (get_or rows p has.row).node node).1 here) in
+    sym (ap (λ n. cond (nat_lt n (length rows)) (Some n) None) found
+    ∙ cond-true (nat_lt p (length rows)) (Some p) None (lt-ltb p (length rows) within))
 
 -- ---- the reply
 

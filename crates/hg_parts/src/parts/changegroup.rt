@@ -15,9 +15,11 @@
 //! than the heads that came, or, where heads went, one less than their number below zero (Mercurial's
 //! `internals.wireprotocol`, "Commands", "unbundle").
 
-ghost use Rattle.std.specs.Prelude.{◌≡◌, ◌<◌, ◌^◌, ◌++◌, All, length, string_bytes, IfOk, IfSome, OnOk};
+ghost use Rattle.std.specs.Prelude.{◌≡◌, ◌<◌, ◌^◌, ◌++◌, All, length, string_bytes, IfOk, IfSome, IsTrue, OnOk};
 ghost use Rattle.std.specs.Option.{option_to_list};
 ghost use Rattle.hg_log.specs.Answer.{answer_of};
+ghost use Rattle.hg_log.specs.Parents.{rev_of};
+ghost use Rattle.hg_log.specs.Rows.{AreLawful, HasNode};
 ghost use Rattle.hg_phases.specs.Phases.{AreFor};
 ghost use Rattle.hg_parts.specs.Handled.{Handles};
 ghost use Rattle.hg_parts.specs.Replies.{IsReply};
@@ -37,7 +39,7 @@ use crate::turn::Turn;
 use hg_cgroup::{GroupFault, decode};
 use hg_log::{AddFault, Added, Changelog};
 use hg_phases::Phases;
-use hg_types::{Entry, NoMemory, Param, Part, Phase, Settings};
+use hg_types::{Entry, NoMemory, Node, Param, Part, Phase, Settings};
 use std::alloc::Allocator;
 
 /// Reads the payload and the parameters. Faults of the format are another version, another `targetphase` and
@@ -186,7 +188,7 @@ fn add_one<A: Allocator + Copy>(
     }
 }
 
-/// The numbers of the changesets of a group.
+/// The numbers of the changesets of a group, which was added before: where all of it is new, its rows are the last.
 #[tactic(auto, unfolding(crate::specs::parts::Changegroup::revs_of))]
 fn revs_of<A: Allocator + Copy>(
     alloc: A,
@@ -197,11 +199,34 @@ fn revs_of<A: Allocator + Copy>(
     ensures within { IfOk result (λ revs. All (λ rev. rev < length log.now.rows) revs.items) }
 {
     let mut revs = Vec::new(alloc);
+    revs.reserve(entries.len())?;
+    let mut likely = log.len().saturating_sub(entries.len());
     for entry in entries {
-        let rev = log.rev(&entry.node);
+        let rev = rev_of(log, &entry.node, likely);
         push_some(&mut revs, rev)?;
+        likely = likely.saturating_add(1);
     }
     Ok(revs)
+}
+
+/// The number of a changeset, which is looked for at a likely one first: its id need not be hashed then.
+fn rev_of<A: Allocator>(log: &Changelog<A>, node: &Node, likely: usize) -> Option<u32>
+    ensures found { IfSome result (λ rev. HasNode log.now.rows rev node.now.0) }
+    ensures value { result ≡ rev_of log.now.rows node.now.0 }
+{
+    if has_at(log, node, likely) {
+        return Some(likely as u32);
+    }
+    log.rev(node)
+}
+
+/// Whether the changeset of that number is there and has that id.
+fn has_at<A: Allocator>(log: &Changelog<A>, node: &Node, rev: usize) -> bool
+    ensures has { IsTrue result → HasNode log.now.rows rev node.now.0 }
+    ensures few { IsTrue result → rev < 2 ^ 32 }
+    ensures lawful { AreLawful log.now.rows }
+{
+    rev < log.len() && log.node(rev as u32) == *node
 }
 
 /// Adds a number, where there is one.

@@ -12,10 +12,10 @@ loop-entry-preserved g c =
     let entry = c.entry-item.result in
     record {
       made = c.in_ok-push_some.ensures
-          ∙ ap (λ xs. xs ++ option_to_list c.rev-rev.result) c.loop-entry.invariant.made
-          ∙ ap (λ o. revs_of rows (take i entries) ++ option_to_list o) c.rev-rev.ensures.value
+          ∙ ap (λ xs. xs ++ option_to_list c.rev_of-rev.result) c.loop-entry.invariant.made
+          ∙ ap (λ o. revs_of rows (take i entries) ++ option_to_list o) c.rev_of-rev.ensures.value
           ∙ sym (revs_more rows entries i entry c.loop-entry-test.true c.entry-item.is);
       within = subst (λ xs. All (λ rev. rev < length rows) xs) (sym c.in_ok-push_some.ensures)
-          (within_more (length rows) c.loop-entry.revs.items c.rev-rev.result c.loop-entry.invariant.within
-          (rev_within rows entry.node.0 c.rev-rev.result c.rev-rev.ensures.found));
+          (within_more (length rows) c.loop-entry.revs.items c.rev_of-rev.result c.loop-entry.invariant.within
+          (rev_within rows entry.node.0 c.rev_of-rev.result c.rev_of-rev.ensures.found));
     }
