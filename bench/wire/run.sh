@@ -14,7 +14,7 @@ work=$(mktemp -d ${STORES:+-p "$STORES"})
 trap 'rm -rf "$work"' EXIT
 cc -O2 -D_GNU_SOURCE -pthread -o "$work/load" bench/wire/load.c
 columns='changesets  heads  clients   runs  runs a second  processor ms  50th ms  99th ms  slowest'
-columns="$columns  capabilities   batch  phases  bookmarks  branches   push"
+columns="$columns  capabilities   batch  phases  bookmarks  branches   push   first run"
 
 # started STORE: a server on that store; sets `server` and `port`
 started() {
@@ -57,15 +57,18 @@ ticks() {
     sed 's/.*) //' "/proc/$1/stat" | awk '{ print $12 + $13 }'
 }
 
-# measured CHANGESETS HEADS CLIENTS PID SALT: at most 1,000 runs, so that a small repository stays small
+# measured CHANGESETS HEADS CLIENTS PID SALT: at most 1,000 runs, so that a small repository stays small. One run comes
+# before, and is told at the end in milliseconds: in it `host` looks at all changesets once, and `hg serve` loads modules
+# and fails where such requests come at once.
 measured() {
-    local before figures
+    local before figures first
+    first=$("$work/load" "$port" 1 1 1 "first $5" "$work/$1.$2/heads" | awk '{ print $4 }')
     before=$(ticks "$4")
     figures=$("$work/load" "$port" "$3" 1000 "$seconds" "$5" "$work/$1.$2/heads")
-    echo "$1 $2 $3 $(($(ticks "$4") - before)) $figures" | awk '{
+    echo "$1 $2 $3 $(($(ticks "$4") - before)) $figures $first" | awk '{
         printf "%10s  %5s  %7s  %5s  %13s  %12.2f", $1, $2, $3, $5, $7, 10 * $4 / $5
         printf "  %7s  %7s  %7s", $8, $9, $10
-        printf "  %12s  %6s  %6s  %9s  %8s  %5s\n", $11, $12, $13, $14, $15, $16 }'
+        printf "  %12s  %6s  %6s  %9s  %8s  %5s  %10s\n", $11, $12, $13, $14, $15, $16, $17 }'
 }
 
 made() {
@@ -104,8 +107,6 @@ for size in 1001 200000; do
             cp -r "$work/first" "$work/copy"
             hg -R "$work/copy" serve -a 127.0.0.1 -p 0 -d --pid-file "$work/pid" > "$work/told"
             port=$(sed -n 's|.*127\.0\.0\.1:\([0-9]*\).*|\1|p' "$work/told")
-            # its first requests load modules, and fail where they come at once
-            "$work/load" "$port" 1 1 1 first "$work/$size.$heads/heads" > "$work/told"
             measured $size $heads $clients "$(cat "$work/pid")" "h$clients"
             kill "$(cat "$work/pid")"
             sleep 0.3

@@ -1,17 +1,17 @@
 -- Branches kept by name, row by row.
 use Rattle.std.proofs.Common.{◌≡◌, ℕ, ◌+◌, Bool, true, false, List, [], ◌∷◌, ◌++◌, map, Option, Some, None, refl, sym}
-use Rattle.std.proofs.Common.{ap, ◌∙◌, filter}
+use Rattle.std.proofs.Common.{ap, ◌∙◌, filter, zero, suc, ◌<◌, ◌≤◌, length, take, drop, subst, arith}
 use Rattle.std.specs.Prelude.{◌&&◌, cond, not, slice_index_or, unwrap_or, if◌then◌else◌}
 use Rattle.std.specs.BTreeMap.{insert_entry}
 use Rattle.std.specs.Cmp.Lexicographic.{slice_cmp}
-use Rattle.std.specs.List.{AllByRecursion, range_with_len}
+use Rattle.std.specs.List.{list_any, AllByRecursion, range_with_len}
 use Rattle.std.specs.List.Sorted.{IsStrictlySortedBy}
 use Rattle.std.specs.Map.{keys_of, lookup, set_value}
 use Rattle.std.specs.Option.{option_map}
 use Rattle.std.specs.Ordering.{is_eq, match_ordering, nat_cmp}
 use Rattle.std.specs.declared.cmp.Ordering.{Ordering}
 use Rattle.std.specs.declared.cmp.Ordering.TheVariants.{Less, Equal, Greater}
-use Rattle.std.proofs.lemmas.List.{append-nil}
+use Rattle.std.proofs.lemmas.List.{append-nil, get_or-drop, get_or-take, length-drop, length-take-le}
 use Rattle.std.proofs.lemmas.List.Elements.{filter-append}
 use Rattle.std.proofs.lemmas.Map.Text.{is_eq-slice_cmp}
 use Rattle.std.proofs.lemmas.Slice.Eq.{bytes_eq-Decides}
@@ -172,6 +172,15 @@ module _ {K X : Type 0} (f : K → List ℕ) (g : X → List ℕ) where
       both false true s g w rest text e o h = cc
       both false false s g w rest text e o h = h
 
+-- none of these is not left out
+all_out : (out : List Bool) (i : ℕ) (other : Bool) → list_any not out ≡ false → i < length out
+    → slice_index_or out i other ≡ true
+all_out [] i other none low = absurd (omega (arith, low))
+all_out (true ∷ out) zero other none low = refl
+all_out (false ∷ out) zero other none low = cc
+all_out (true ∷ out) (suc i) other none low = all_out out i other none (omega (arith, low))
+all_out (false ∷ out) (suc i) other none low = cc
+
 -- ---- row by row
 
 module _ (rows : List Changeset) (out : List Bool) where
@@ -235,3 +244,26 @@ module _ (rows : List Changeset) (out : List Bool) where
           let is_out : is_member rows out name n ≡ false =
           ap (λ (b : Bool). not b && is_name name (branch_at rows n)) is ∙ e in
           held.each name ∙ ap if_any (sym (members_without n name is_out))
+
+  -- several rows that are left out
+  pub branches_pass : (k n : ℕ) (branches : List (List ℕ × List ℕ))
+      → ((i : ℕ) → i < k → slice_index_or out (n + i) false ≡ true)
+      → AreBranches rows out n branches → AreBranches rows out (n + k) branches
+  branches_pass zero n branches all held =
+      let same : n ≡ n + 0 = omega arith in subst (λ (m : ℕ). AreBranches rows out m branches) same held
+  branches_pass (suc k) n branches all held =
+      let next : n + k + 1 ≡ n + suc k = omega arith in
+      subst (λ (m : ℕ). AreBranches rows out m branches) next
+      (branches_skip (n + k) branches (all k (omega arith))
+      (branches_pass k n branches (λ i low. all i (omega (arith, low))) held))
+
+  -- a piece of rows that are all left out
+  pub branches_piece : (k n : ℕ) (branches : List (List ℕ × List ℕ)) → n + k ≤ length out
+      → list_any not (take k (drop n out)) ≡ false
+      → AreBranches rows out n branches → AreBranches rows out (n + k) branches
+  branches_piece k n branches within none held =
+      branches_pass k n branches (λ i low.
+      let long : length (take k (drop n out)) ≡ k =
+      length-take-le k (drop n out) (omega (arith, within, length-drop n out)) in
+      sym (get_or-take k (drop n out) i false low ∙ get_or-drop n out i false)
+      ∙ all_out (take k (drop n out)) i false none (omega (arith, low, long))) held

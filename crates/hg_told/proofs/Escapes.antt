@@ -1,11 +1,11 @@
 -- The escapes of a batch: what is read of the front of a text, and what is written of one.
 use Rattle.std.proofs.Common.{◌≡◌, ◌≢◌, ℕ, ◌+◌, ◌<◌, ◌≤◌, Bool, true, false, ltb, List, [], ◌∷◌, ◌++◌, length}
 use Rattle.std.proofs.Common.{take, drop, get_or, All, Option, Some, None, refl, sym, ap, ◌∙◌, arith}
-use Rattle.std.specs.Prelude.{is_some, unwrap_or, if◌then◌else◌, ◌==◌}
-use Rattle.std.specs.List.{position, position_or_len}
+use Rattle.std.specs.Prelude.{is_some, unwrap_or, if◌then◌else◌, ◌==◌, ◌||◌}
+use Rattle.std.specs.List.{list_any, position, position_or_len}
 use Rattle.std.proofs.lemmas.Bool.{ltb-true, ltb-false}
 use Rattle.std.proofs.lemmas.Bool.Decides.{nat_tests}
-use Rattle.std.proofs.lemmas.List.{append-nil, append_assoc, drop_all, length-take, take_all}
+use Rattle.std.proofs.lemmas.List.{append-nil, append_assoc, drop_all, length-take, take_all, take-append-drop}
 use Rattle.std.proofs.lemmas.List.Concat.{flat_map-append}
 use Rattle.std.proofs.lemmas.List.Elements.{All-head, All-tail}
 use Rattle.std.proofs.lemmas.List.Sums.{fails_before_first, passes_at_first, split_at_first}
@@ -168,4 +168,34 @@ chunk_more start all rest front escape letter place is so first second third =
     ∙ ap (λ (t : List ℕ). t ++ (58 ∷ n ∷ tail)) first
     ∙ append_assoc start (take place rest) (58 ∷ n ∷ tail)
     ∙ ap (λ (t : List ℕ). start ++ t) (sym (escape_at rest place is))
+    ∙ so
+
+-- ---- pieces
+
+-- bytes of which none needs an escape
+pub none_escaped : (text : List ℕ) → list_any needs_escape text ≡ false → escaped text ≡ text
+unfolding escaped
+none_escaped [] none = refl
+none_escaped (b ∷ bs) none = by (needs_escape b) refl none (none_escaped bs)
+  where
+    by : (is : Bool) → needs_escape b ≡ is → is || list_any needs_escape bs ≡ false
+        → (list_any needs_escape bs ≡ false → escaped bs ≡ bs) → escaped (b ∷ bs) ≡ b ∷ bs
+    by true e any rest = cc
+    by false e any rest =
+        ap (λ (o : Option ℕ). escape_by b o ++ escaped bs) (letter_none (letter_of b) e)
+        ∙ ap (λ (more : List ℕ). b ∷ more) (rest any)
+
+-- one piece more
+pub piece_escaped : (n : ℕ) (start rest all next piece more : List ℕ) → piece ≡ take n rest → more ≡ drop n rest
+    → next ≡ start ++ escaped piece → start ++ escaped rest ≡ all → next ++ escaped more ≡ all
+unfolding escaped
+piece_escaped n start rest all next piece more first second written so =
+    let by = λ (b : ℕ). escape_by b (letter_of b) in
+    ap (λ (t : List ℕ). t ++ escaped more) written
+    ∙ append_assoc start (escaped piece) (escaped more)
+    ∙ ap (λ (t : List ℕ). start ++ t) (
+    ap (λ (t : List ℕ). escaped t ++ escaped more) first
+    ∙ ap (λ (t : List ℕ). escaped (take n rest) ++ escaped t) second
+    ∙ sym (flat_map-append by (take n rest) (drop n rest))
+    ∙ ap escaped (take-append-drop n rest))
     ∙ so

@@ -1,7 +1,7 @@
 //! Several commands in one: commands between `;`, and their answers between `;`.
 
 ghost use Rattle.std.specs.Prelude.{◌≡◌, ◌<◌, ◌≤◌, ◌++◌, ◌∷◌, drop, length, IfOk, OnOk};
-ghost use Rattle.std.specs.List.{position};
+ghost use Rattle.std.specs.List.{list_any, position};
 ghost use Rattle.hg_told.specs.Batch.{answers_joined, argument_of, arguments_in, arguments_of};
 ghost use Rattle.hg_told.specs.Batch.{byte_of as byte_for, command_of, commands_of, escaped};
 ghost use Rattle.hg_told.specs.Batch.{letter_of as letter_for, needs_escape, unescaped};
@@ -10,6 +10,9 @@ use crate::form::Field;
 use crate::text::{joined, pieces, split_once};
 use hg_types::{NoMemory, Seq};
 use std::alloc::{Allocator, Global};
+
+/// How many bytes are looked at together for escapes.
+const PIECE: usize = 64;
 
 /// A command of a batch: its name, and its arguments.
 #[derive(Drop)]
@@ -142,7 +145,7 @@ pub fn joined_answers<A: Allocator + Copy>(
 ) -> Result<Seq<u8, A>, NoMemory>
     ensures { IfOk result (λ text. text ≡ answers_joined answers.now) }
 {
-    let mut text = Vec::new(alloc);
+    let mut text = Vec::with_capacity(alloc, room_for(answers))?;
     for answer in answers {
         escape(&mut text, answer.as_slice())?;
         text.push(b';')?;
@@ -150,8 +153,62 @@ pub fn joined_answers<A: Allocator + Copy>(
     Ok(joined(text))
 }
 
-/// Adds a text with its `:`, `,`, `;` and `=` escaped. What needs no escape is added at once.
+/// How many bytes the answers take with one after each, where none needs an escape.
+fn room_for<A: Allocator>(answers: &[Seq<u8, A>]) -> usize {
+    let mut room = 0usize;
+    for answer in answers {
+        room = room.saturating_add(answer.len()).saturating_add(1);
+    }
+    room
+}
+
+/// Adds a text with its `:`, `,`, `;` and `=` escaped. What needs no escape is added many bytes at once.
 fn escape<A: Allocator>(text: &mut Vec<u8, A>, bytes: &[u8]) -> Result<(), NoMemory>
+    ensures { OnOk result (text.new.items ≡ text.old.items ++ escaped bytes.now) }
+{
+    let mut rest = bytes;
+    'pieces: while let Some((piece, more)) = rest.split_first_chunk::<PIECE>() {
+        push_piece(text, piece)?;
+        rest = more;
+    }
+    push_escaped(text, rest)?;
+    Ok(())
+}
+
+/// Adds a piece of a text with its escapes.
+fn push_piece<A: Allocator>(text: &mut Vec<u8, A>, piece: &[u8; PIECE]) -> Result<(), NoMemory>
+    ensures { OnOk result (text.new.items ≡ text.old.items ++ escaped piece.now) }
+{
+    if has_escape(piece) {
+        return push_escaped(text, piece.as_slice());
+    }
+    text.extend_from_slice(piece.as_slice())?;
+    Ok(())
+}
+
+/// Whether one of these bytes needs an escape. All are looked at, whatever the first ones are. By itself the compiler
+/// makes a pass of it that looks at several at once, and within its caller it does not.
+#[inline(never)]
+fn has_escape(piece: &[u8; PIECE]) -> bool
+    ensures { result ≡ list_any needs_escape piece.now }
+{
+    let mut has = false;
+    for byte in piece {
+        has |= is_escaped(*byte);
+    }
+    has
+}
+
+/// Whether the byte needs an escape. These are comparisons without a branch, so that the compiler can make a pass
+/// over many bytes that looks at several at once.
+fn is_escaped(byte: u8) -> bool
+    ensures { result ≡ needs_escape byte }
+{
+    (byte == b':') | (byte == b',') | (byte == b';') | (byte == b'=')
+}
+
+/// Adds a text with its escapes, one after the other.
+fn push_escaped<A: Allocator>(text: &mut Vec<u8, A>, bytes: &[u8]) -> Result<(), NoMemory>
     ensures { OnOk result (text.new.items ≡ text.old.items ++ escaped bytes.now) }
 {
     let mut rest = bytes;

@@ -1,6 +1,7 @@
 //! Branches by their names, each with changesets of it.
 
-ghost use Rattle.std.specs.Prelude.{◌≡◌, ◌<◌, length, map, IfOk, OnOk};
+ghost use Rattle.std.specs.Prelude.{◌≡◌, ◌<◌, ◌≤◌, length, map, not, IfOk, OnOk};
+ghost use Rattle.std.specs.List.{list_any};
 ghost use Rattle.hg_log.specs.Rows.{AreLawful};
 ghost use Rattle.hg_told.specs.code.Branches.{branch_at, AreBranches, IsKept};
 
@@ -8,6 +9,9 @@ use crate::copied::Copied;
 use hg_types::NoMemory;
 use std::alloc::{Allocator, Global};
 use std::collections::BTreeMap;
+
+/// How many changesets are passed over together where all are left out.
+const PIECE: usize = 64;
 
 /// A branch: its name, and changesets of it, in the order of the changelog.
 #[derive(Drop)]
@@ -20,7 +24,7 @@ pub struct Branch<A: Allocator = Global> {
 type Members<A> = BTreeMap<Vec<u8, A>, Vec<u32, A>, A>;
 
 /// The branches of the changesets that are not left out, in ascending order of their names. It is one pass over the
-/// changesets, with a look-up of the name for each that is not left out.
+/// changesets, many at once, with a look-up of the name for each that is not left out.
 pub fn branches_of<A: Allocator + Copy>(
     alloc: A,
     copied: &Copied<A>,
@@ -49,13 +53,56 @@ fn members_of<A: Allocator + Copy>(
     ensures members { IfOk result (λ m. AreBranches copied.now.rows out.now (length copied.now.rows)
         (map (λ e. (e.0.items, e.1.items)) m.entries)) }
 {
+    let len = copied.len();
     let mut members = BTreeMap::new(alloc);
-    for rev in 0..copied.len() {
+    let mut first = 0;
+    'pieces: while len - first >= PIECE {
+        let last = first + PIECE;
+        if has_shown(&out[first..last]) {
+            add_members(alloc, &mut members, copied, out, first, last)?;
+        }
+        first = last;
+    }
+    add_members(alloc, &mut members, copied, out, first, len)?;
+    Ok(members)
+}
+
+/// Whether one of these is not left out. All are looked at, whatever the first ones are, so that the compiler can make
+/// a pass that looks at several at once.
+fn has_shown(out: &[bool]) -> bool
+    ensures { result ≡ list_any not out.now }
+{
+    let mut has = false;
+    for is_out in out {
+        has |= !*is_out;
+    }
+    has
+}
+
+/// Adds the changesets of these numbers to those of their branches, except those that are left out.
+fn add_members<A: Allocator + Copy>(
+    alloc: A,
+    members: &mut Members<A>,
+    copied: &Copied<A>,
+    out: &[bool],
+    first: usize,
+    last: usize,
+) -> Result<(), NoMemory>
+    requires as_long { length out.now ≡ length copied.now.rows }
+    requires ordered { first ≤ last }
+    requires within { last ≤ length copied.now.rows }
+    requires before { AreBranches copied.now.rows out.now first
+        (map (λ e. (e.0.items, e.1.items)) members.old.entries) }
+    ensures { OnOk result (AreBranches copied.now.rows out.now last
+        (map (λ e. (e.0.items, e.1.items)) members.new.entries)) }
+{
+    copied.len();
+    for rev in first..last {
         if !out[rev] {
-            add_member(alloc, &mut members, copied, rev as u32)?;
+            add_member(alloc, members, copied, rev as u32)?;
         }
     }
-    Ok(members)
+    Ok(())
 }
 
 /// Adds a changeset to those of its branch.

@@ -7,7 +7,7 @@ ghost use Rattle.hg_told.specs.Text.{ended};
 
 use crate::branches::{Branch, branches_of};
 use crate::copied::Copied;
-use crate::text::{digits_of, joined};
+use crate::text::{WORD, digits_of, joined};
 use crate::viewed::View;
 use hg_types::{NoMemory, Seq};
 use percent_encoding::percent_encode_byte;
@@ -24,9 +24,22 @@ pub fn branchmap_text<A: Allocator + Copy>(alloc: A, view: &View<A>) -> Result<S
     ensures { IfOk result (λ text. IsBranchMap view.now.rows view.now.markers text) }
 {
     let branches = branches_of(alloc, view.copied(), view.covered())?;
-    let mut lines = Vec::new(alloc);
+    let mut lines = Vec::with_capacity(alloc, room_for(branches.as_slice()))?;
     push_lines(&mut lines, view.copied(), branches.as_slice())?;
     Ok(joined(lines))
+}
+
+/// How many bytes the lines of branches take, where no name has to be quoted.
+fn room_for<A: Allocator>(branches: &[Branch<A>]) -> usize {
+    let mut room = 0usize;
+    for branch in branches {
+        let words = branch.revs.len().saturating_mul(WORD);
+        room = room
+            .saturating_add(branch.name.len())
+            .saturating_add(words)
+            .saturating_add(1);
+    }
+    room
 }
 
 /// Adds the lines of branches.

@@ -4,7 +4,7 @@ ghost use Rattle.std.specs.Prelude.{◌≡◌, IfOk};
 ghost use Rattle.hg_told.specs.Heads.{known_digit as digit_of, IsHeadsText};
 ghost use Rattle.hg_told.specs.Heads.{known_text as known_digits};
 
-use crate::text::{joined, node_in_hex, pieces, push_id};
+use crate::text::{WORD, joined, node_in_hex, pieces, push_id};
 use hg_keys::is_known;
 use hg_log::Changelog;
 use hg_types::{NoMemory, Seq};
@@ -17,7 +17,7 @@ pub fn heads_text<A: Allocator + Copy>(alloc: A, log: &Changelog<A>) -> Result<S
     ensures { IfOk result (λ text. IsHeadsText log.now.rows text) }
 {
     let heads = log.heads(alloc)?;
-    let mut words = Vec::new(alloc);
+    let mut words = Vec::with_capacity(alloc, heads.len().saturating_mul(WORD))?;
     for node in heads.as_slice() {
         push_id(&mut words, node, b' ')?;
     }

@@ -10,6 +10,9 @@ ghost use Rattle.hg_told.specs.Text.{behind_first, ended};
 use hg_types::{NoMemory, Node, Seq};
 use std::alloc::Allocator;
 
+/// How long the digits of an id are with the byte that stands before or after them.
+pub const WORD: usize = 41;
+
 /// The pieces of a text that such bytes part. The empty text is one empty piece.
 pub fn pieces<'a, A: Allocator>(
     alloc: A,

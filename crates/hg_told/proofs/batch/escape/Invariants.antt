@@ -3,8 +3,8 @@ use Rattle.hg_told.specs.Batch.{escaped}
 use Rattle.hg_told.proofs.batch.escape.Given as goal
 
 -- what is written so far and the rest, escaped, are all
-abbrev pub invariant-loop-place : goal.invariant-loop-place
-invariant-loop-place g l = l.text.items ++ escaped l.rest ≡ l.fn.text.items ++ escaped l.fn.bytes
+abbrev pub invariant-pieces : goal.invariant-pieces
+invariant-pieces g l = l.text.items ++ escaped l.rest ≡ l.fn.text.items ++ escaped l.fn.bytes
 
-abbrev pub decreases-loop-place : goal.decreases-loop-place
-decreases-loop-place g l = length l.rest
+abbrev pub decreases-pieces : goal.decreases-pieces
+decreases-pieces g l = length l.rest

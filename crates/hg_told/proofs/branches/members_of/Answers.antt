@@ -1,40 +1,34 @@
-use Rattle.std.proofs.Common.{◌≡◌, arith, length, map, ◌+◌, ◌≤◌, subst, sym}
+use Rattle.std.proofs.Common.{◌≡◌, ◌∙◌, ◌+◌, ◌-◌, ◌≤◌, ℕ, arith, length, map, take, drop, subst, sym, ap}
+use Rattle.std.specs.Prelude.{not}
+use Rattle.std.specs.List.{list_any}
 use Rattle.hg_told.specs.code.Branches.{AreBranches}
-use Rattle.hg_told.proofs.Branching.{branches_more, branches_none, branches_skip}
+use Rattle.hg_told.proofs.Branching.{branches_none, branches_piece}
 use Rattle.hg_told.proofs.branches.members_of.Goals as goal
-use Rattle.hg_told.proofs.branches.members_of.Goals.{then-not-out-rev+in_ok-add_member, else-not-out-rev}
 
-pub loop-rev-init : goal.loop-rev-init
-loop-rev-init g c =
+pub pieces-init : goal.pieces-init
+pieces-init g c =
     let rows = c.args.copied.now.rows in (
       omega arith,
       subst (λ es. AreBranches rows c.args.out.now 0 (map (λ e. (e.0.items, e.1.items)) es))
           (sym c.new-members.ensures.empty) (branches_none rows c.args.out.now),
     )
 
-pub loop-rev-preserved : goal.loop-rev-preserved
-loop-rev-preserved g c =
+pub pieces-preserved : goal.pieces-preserved
+pieces-preserved g c =
     let rows = c.args.copied.now.rows in
     let out = c.args.out.now in
-    let n = c.loop-rev.rev in
-    let held = c.loop-rev.invariant.1 in
-    let within : n + 1 ≤ length rows = omega (arith, c.loop-rev-test.true, c.len-rev-end.ensures.len) in
-    elim c.if-not-out-rev.branch [
-      | then-not-out-rev+in_ok-add_member w ↦ (
-        within,
-        subst (λ m. AreBranches rows out (n + 1) (map (λ e. (e.0.items, e.1.items)) m.entries)) (sym w.members-is)
-            (branches_more rows out n _ _ (w.if-not-out-rev.true) held w.in_ok-add_member.ensures),
-      )
-      | else-not-out-rev w ↦ (
-        within,
-        subst (λ m. AreBranches rows out (n + 1) (map (λ e. (e.0.items, e.1.items)) m.entries)) (sym w.members-is)
-            (branches_skip rows out n _ (w.if-not-out-rev.false) held),
-      )
-    ]
+    let n = c.pieces.first in
+    let within : n + 64 ≤ length rows = omega (arith, c.pieces-test.true, c.len-len.ensures.len) in
+    let long : 64 ≡ n + 64 - n = omega arith in (
+      within,
+      branches_piece rows out 64 n (map (λ e. (e.0.items, e.1.items)) c.pieces.members.entries)
+          (omega (arith, within, c.requires))
+          (ap (λ (k : ℕ). list_any not (take k (drop n out))) long ∙ sym c.has_shown.ensures ∙ c.if-has_shown.false)
+          c.pieces.invariant.1,
+    )
 
 pub returns-clause-members : goal.returns-clause-members
 returns-clause-members g c =
     let rows = c.args.copied.now.rows in
-    let last : c.loop-rev.rev ≡ length rows = omega (arith, c.loop-rev.invariant.0, c.loop-rev-test.false) in
-    subst (λ n. AreBranches rows c.args.out.now n (map (λ e. (e.0.items, e.1.items)) c.loop-rev.members.entries)) last
-    c.loop-rev.invariant.1
+    subst (λ n. AreBranches rows c.args.out.now n (map (λ e. (e.0.items, e.1.items)) c.add_members-2.new.members.entries))
+    c.len-len.ensures.len c.in_ok-add_members-2.ensures

@@ -22,9 +22,9 @@ push_lines-requires g c =
     let bs = c.in_ok-branches.branches.items in
     let rows = c.copied.result.now.rows in
     subst (λ (v : Viewed g.row.A.Denot). All (λ (b : Branch g.row.A.Denot). All (λ r. r < length v.rows) b.revs.items)
-    c.as_slice.result.now) (c.copied.ensures ∙ sym c.copied-2.ensures)
+    c.as_slice-2.result.now) (c.copied.ensures ∙ sym c.copied-2.ensures)
     (subst (λ xs. All (λ (b : Branch g.row.A.Denot). All (λ r. r < length rows) b.revs.items) xs)
-    (sym c.as_slice.ensures.value)
+    (sym c.as_slice-2.ensures.value)
     (revs_within rows c.covered.result.now (length rows) seen bs c.in_ok-branches.ensures.branches))
 
 pub returns : goal.returns
@@ -34,18 +34,18 @@ returns g c =
     let bs = c.in_ok-branches.branches.items in
     let line = λ (v : Viewed g.row.A.Denot) (b : Branch g.row.A.Denot). branch_line v.rows (seen b) in
     let said : c.push_lines.new.lines.items
-    ≡ c.new-lines.result.items ++ flat_map (ended 10) (map (line view) bs) =
+    ≡ c.in_ok-lines.lines.items ++ flat_map (ended 10) (map (line view) bs) =
     c.in_ok-push_lines.ensures
-    ∙ ap (λ (v : Viewed g.row.A.Denot). c.new-lines.result.items
-    ++ flat_map (λ (b : Branch g.row.A.Denot). ended 10 (line v b)) c.as_slice.result.now) c.copied-2.ensures
-    ∙ ap (λ (xs : List (Branch g.row.A.Denot)). c.new-lines.result.items
-    ++ flat_map (λ (b : Branch g.row.A.Denot). ended 10 (line view b)) xs) c.as_slice.ensures.value
-    ∙ ap (λ (t : List ℕ). c.new-lines.result.items ++ t) (sym (flat_map-map (ended 10) (line view) bs)) in
+    ∙ ap (λ (v : Viewed g.row.A.Denot). c.in_ok-lines.lines.items
+    ++ flat_map (λ (b : Branch g.row.A.Denot). ended 10 (line v b)) c.as_slice-2.result.now) c.copied-2.ensures
+    ∙ ap (λ (xs : List (Branch g.row.A.Denot)). c.in_ok-lines.lines.items
+    ++ flat_map (λ (b : Branch g.row.A.Denot). ended 10 (line view b)) xs) c.as_slice-2.ensures.value
+    ∙ ap (λ (t : List ℕ). c.in_ok-lines.lines.items ++ t) (sym (flat_map-map (ended 10) (line view) bs)) in
     map_told view.rows view.markers c.covered.result.now c.covered.ensures
     (subst (λ (v : Viewed g.row.A.Denot). AreLawful v.rows) c.copied.ensures c.in_ok-branches.ensures.lawful)
     (map seen bs)
     (subst (λ (v : Viewed g.row.A.Denot). AreBranches v.rows c.covered.result.now (length v.rows) (map seen bs))
     c.copied.ensures c.in_ok-branches.ensures.branches) _
     (c.joined.ensures
-    ∙ lines_joined c.new-lines.result.items _ (map (line view) bs) c.new-lines.ensures.items said
+    ∙ lines_joined c.in_ok-lines.lines.items _ (map (line view) bs) c.in_ok-lines.ensures.items said
     ∙ ap (join_with_byte 10) (map_twice (branch_line view.rows) seen bs))
