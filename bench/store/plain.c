@@ -3,15 +3,17 @@
    batch   the writes and the syncs of a store alone, by one thread: so many records in each batch
    group   the same by so many threads: a record waits until it is on the disk, and whoever finds no other
            writing writes those that wait, up to 64 of them, as one batch
+   digest  as group, and each thread makes the SHA-1 of its record before it hands it in
    lock    so many threads, each of which holds a lock over the writes and the syncs of its own record
    sqlite  so many threads with a connection each, which insert a record in a transaction of its own, with a
            write-ahead log and synchronous=FULL
 
    A batch is written behind a shut gate, each record by two writes, with a shut gate at its end, and is synced;
-   then its first gate is opened by one byte, and synced. The records have no digest. It prints batches and
-   records a second. */
+   then its first gate is opened by one byte, and synced. Each thread writes from memory of its own. No digest is
+   written. It prints batches and records a second. */
 #define _GNU_SOURCE
 #include <fcntl.h>
+#include <openssl/sha.h>
 #include <pthread.h>
 #include <sqlite3.h>
 #include <stdio.h>
@@ -20,12 +22,11 @@
 #include <time.h>
 #include <unistd.h>
 
-enum { HEAD = 25, MOST = 64 };
+enum { HEAD = 25, MOST = 64, PLACES = 4096 };
 
 static int file;
 static size_t size;
 static off_t end = 38;
-static char *bytes;
 static double until;
 
 static double now(void) {
@@ -50,14 +51,25 @@ static void sync_file(void) {
         exit(1);
 }
 
-static void put_batch(long records) {
+static char *new_record(void) {
+    char *bytes = malloc(size);
+    if (bytes == NULL)
+        exit(1);
+    memset(bytes, 'x', size);
+    return bytes;
+}
+
+/* The records that were handed in, each at the place of its number. */
+static const char *handed_in[PLACES];
+
+static void put_batch(long first, long records) {
     char head[HEAD] = {1};
     off_t at = end + 1;
     for (long i = 0; i < records; i++) {
         size_t skipped = i == 0;
         put(head + skipped, HEAD - skipped, at);
         at += HEAD - skipped;
-        put(bytes, size, at);
+        put(handed_in[(first + i) % PLACES], size, at);
         at += size;
     }
     put("\0", 1, at);
@@ -70,38 +82,47 @@ static void put_batch(long records) {
 static pthread_mutex_t lock = PTHREAD_MUTEX_INITIALIZER;
 static pthread_cond_t written = PTHREAD_COND_INITIALIZER;
 static long handed, kept, batches;
-static int is_writing;
+static int is_writing, has_digest;
 
 static void *group(void *unused) {
     (void)unused;
-    pthread_mutex_lock(&lock);
+    char *bytes = new_record();
     while (now() < until) {
-        long mine = ++handed;
-        while (kept < mine) {
+        if (has_digest) {
+            unsigned char digest[SHA_DIGEST_LENGTH];
+            SHA1((unsigned char *)bytes, size, digest);
+            bytes[0] = digest[0];
+        }
+        pthread_mutex_lock(&lock);
+        long mine = handed++;
+        handed_in[mine % PLACES] = bytes;
+        while (kept <= mine) {
             if (is_writing) {
                 pthread_cond_wait(&written, &lock);
                 continue;
             }
-            long records = handed - kept < MOST ? handed - kept : MOST;
+            long first = kept, records = handed - kept < MOST ? handed - kept : MOST;
             is_writing = 1;
             pthread_mutex_unlock(&lock);
-            put_batch(records);
+            put_batch(first, records);
             pthread_mutex_lock(&lock);
             is_writing = 0;
             kept += records;
             batches++;
             pthread_cond_broadcast(&written);
         }
+        pthread_mutex_unlock(&lock);
     }
-    pthread_mutex_unlock(&lock);
     return NULL;
 }
 
 static void *locked(void *unused) {
     (void)unused;
+    char *bytes = new_record();
     while (now() < until) {
         pthread_mutex_lock(&lock);
-        put_batch(1);
+        handed_in[0] = bytes;
+        put_batch(0, 1);
         kept++;
         batches++;
         pthread_mutex_unlock(&lock);
@@ -128,6 +149,7 @@ static sqlite3 *opened(void) {
 
 static void *insert(void *unused) {
     (void)unused;
+    char *bytes = new_record();
     sqlite3 *base = opened();
     sqlite3_stmt *put_one;
     if (sqlite3_prepare_v2(base, "insert into pushes(bundle) values(?)", -1, &put_one, NULL) != SQLITE_OK)
@@ -153,10 +175,9 @@ int main(int count, char **words) {
     const char *way = words[1];
     size = strtoul(words[2], NULL, 10);
     long number = strtol(words[3], NULL, 10);
-    double seconds = 2;
-    bytes = malloc(size);
-    memset(bytes, 'x', size);
-    void *(*each)(void *) = strcmp(way, "group") == 0 ? group : strcmp(way, "lock") == 0 ? locked : insert;
+    double seconds = 1;
+    has_digest = strcmp(way, "digest") == 0;
+    void *(*each)(void *) = strcmp(way, "lock") == 0 ? locked : strcmp(way, "sqlite") == 0 ? insert : group;
     if (strcmp(way, "sqlite") == 0) {
         sqlite3 *base = opened();
         run(base, "create table pushes(place integer primary key, bundle blob)");
@@ -170,8 +191,10 @@ int main(int count, char **words) {
     double start = now();
     until = start + seconds;
     if (strcmp(way, "batch") == 0) {
+        for (long i = 0; i < PLACES; i++)
+            handed_in[i] = i == 0 ? new_record() : handed_in[0];
         for (; now() < until; batches++, kept += number)
-            put_batch(number);
+            put_batch(0, number);
     } else {
         pthread_t threads[number];
         for (long i = 0; i < number; i++)

@@ -98,7 +98,7 @@ int main(int count, char **words) {
     make_request();
     pthread_t threads[number];
     double start = now();
-    until = start + 2;
+    until = start + 1;
     for (long i = 0; i < number; i++)
         if (pthread_create(&threads[i], NULL, push, NULL) != 0)
             fail("no thread");

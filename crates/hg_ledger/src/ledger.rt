@@ -11,6 +11,7 @@ ghost use Rattle.hg_ledger.specs.Records.{IsRecordOf, KeepsRecords, done_in};
 
 use crate::client::KeptClient;
 use crate::disk::Disk;
+use crate::doors::Doors;
 use crate::rooms::{Room, Rooms};
 use crate::storing::Storing;
 use crate::tally::{OpenTally, Receipt, Tally};
@@ -19,7 +20,7 @@ use hg_serve::{Client, Server};
 use hg_store::{Device, Log, Sealed};
 use hg_types::{NoMemory, Seq};
 use std::alloc::{Allocator, Global};
-use std::sync::{Condvar, Mutex, MutexGuard, Wait};
+use std::sync::{Mutex, MutexGuard, Wait};
 use thiserror::Error;
 
 /// A write or a sync failed, now or earlier: whether the push will be there after the next start is not known.
@@ -33,7 +34,7 @@ pub struct NotStored;
 pub struct Ledger<J: Storing<A>, D: Device, A: Allocator = Global> {
     waiting: Mutex<Waiting<J, D, A>>,
     disk: Mutex<Disk<J, D, A>>,
-    written: Condvar,
+    doors: Doors,
     tally: OpenTally<J, A>,
 }
 
@@ -70,7 +71,7 @@ impl<J: Storing<A>, D: Device, A: Allocator + Copy> Ledger<J, D, A> {
                 Ok(Ledger {
                     waiting: Mutex::new(Waiting::new(alloc, second, counted, Rooms::new(rooms))),
                     disk: Mutex::new(disk),
-                    written: Condvar::new(),
+                    doors: Doors::new(),
                     tally,
                 })
             }
@@ -168,7 +169,7 @@ impl<J: Storing<A>, D: Device, A: Allocator + Copy> Ledger<J, D, A> {
             match waiting.step(rt, server, client, &self.tally, rests) {
                 Ok(receipt) => return Ok(receipt),
                 Err(Step::Stop) => return Err(NotStored),
-                Err(Step::Wait) => waiting = self.written.wait(rt, waiting),
+                Err(Step::Wait(door)) => waiting = self.doors.at(door).wait(rt, waiting),
                 Err(Step::Write) => {
                     self.write(rt, server, waiting);
                     waiting = self.waiting.lock(rt);
@@ -189,10 +190,12 @@ impl<J: Storing<A>, D: Device, A: Allocator + Copy> Ledger<J, D, A> {
         waiting.load(rt, server, &mut *disk);
         drop(waiting);
         disk.write(&self.tally);
-        self.waiting
-            .lock(rt)
-            .note(rt, server, &self.tally, &mut *disk);
-        self.written.notify_all();
+        let mut waiting = self.waiting.lock(rt);
+        waiting.note(rt, server, &self.tally, &mut *disk);
+        let door = waiting.opened();
+        drop(waiting);
+        drop(disk);
+        self.doors.open(door);
     }
 
     /// The log, and what is known of it. **Whatever an end might have left at any moment of the ledger's life is a
@@ -210,7 +213,7 @@ impl<J: Storing<A>, D: Device, A: Allocator + Copy> Ledger<J, D, A> {
         let Ledger {
             waiting,
             disk,
-            written: _,
+            doors: _,
             tally,
         } = self;
         let (log, kept, is_broken, first, keeper) = disk.into_inner().into_parts();

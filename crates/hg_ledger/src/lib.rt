@@ -10,6 +10,7 @@
 
 mod client;
 mod disk;
+mod doors;
 mod known;
 pub mod laws;
 mod ledger;

@@ -6,6 +6,7 @@ ghost use mathlib.Core.List.{IsPrefix};
 ghost use Rattle.hg_ledger.specs.Records.{IsRecordOf, done_in};
 
 use crate::disk::{BATCH, Disk};
+use crate::doors::Door;
 use crate::laws::records_stay;
 use crate::rooms::{Room, Rooms};
 use crate::storing::Storing;
@@ -29,20 +30,23 @@ pub struct Record<A: Allocator = Global> {
 pub enum Step {
     /// A write or a sync failed.
     Stop,
-    /// Another thread writes, or the next record was not handed in yet.
-    Wait,
+    /// Another thread writes, or the next record was not handed in yet. It waits at that door.
+    Wait(Door),
     /// It writes. The next record waits here.
     Write,
 }
 
 /// The records that wait, the highest place first, and room for more; how many are on the device, with a receipt
-/// for them; whether a thread writes, and whether a write or a sync failed.
+/// for them; whether a thread writes, how many are on the device after that, and at which door that is waited for;
+/// and whether a write or a sync failed.
 pub struct Waiting<J: Storing<A>, D: Device, A: Allocator = Global> {
     records: Vec<Record<A>, A>,
     rooms: Rooms<J, A>,
     count: usize,
     counted: Receipt<J, A>,
     is_writing: bool,
+    coming: usize,
+    door: Door,
     is_broken: bool,
     witness: Client<J, A>,
     of: PhantomData<D>,
@@ -76,6 +80,8 @@ impl<J: Storing<A>, D: Device, A: Allocator + Copy> Waiting<J, D, A> {
             count: 0,
             counted,
             is_writing: false,
+            coming: 0,
+            door: Door::First,
             is_broken: false,
             witness,
             of: PhantomData,
@@ -142,9 +148,18 @@ impl<J: Storing<A>, D: Device, A: Allocator + Copy> Waiting<J, D, A> {
             return Ok(self.grant(rt, server, client, tally, rests));
         }
         if self.is_writing || !self.has_next() {
-            return Err(Step::Wait);
+            return Err(Step::Wait(self.door_for(rests)));
         }
         Err(Step::Write)
+    }
+
+    /// Where a thread waits whose reply rests on so many done pushes: with those of the batch that is written, if these
+    /// are in it, and else for the next one.
+    fn door_for(&self, rests: usize) -> Door {
+        if self.is_writing && rests <= self.coming {
+            return self.door;
+        }
+        self.door.other()
     }
 
     /// The receipt for so many done pushes, which are on the device.
@@ -176,17 +191,23 @@ impl<J: Storing<A>, D: Device, A: Allocator + Copy> Waiting<J, D, A> {
         }
     }
 
-    /// Moves the records that come next into the batch of a thread that writes.
+    /// Moves the records that come next into the batch of a thread that writes. Those who waited for the next batch wait
+    /// for this one.
     pub fn load<R: Wait>(&mut self, rt: &R, server: &Server<J, A>, disk: &mut Disk<J, D, A>) {
         records_stay::<A>();
         self.is_writing = true;
+        self.coming = self.count;
+        self.door = self.door.other();
         disk.hear(rt, server, &mut self.witness);
         'loading: for _ in 0..BATCH {
             let Some(place) = disk.next_place() else {
                 return;
             };
             match self.pop_at(place) {
-                Some(record) => disk.take_in(record.bytes),
+                Some(record) => {
+                    disk.take_in(record.bytes);
+                    self.coming = place.saturating_add(1);
+                }
                 None => return,
             }
         }
@@ -201,6 +222,14 @@ impl<J: Storing<A>, D: Device, A: Allocator + Copy> Waiting<J, D, A> {
             Some(record) if record.place == place => self.records.pop(),
             _ => None,
         }
+    }
+
+    /// The door at which those wait who may go on after a batch. `None` where a write or a sync failed, and so all may.
+    pub fn opened(&self) -> Option<Door> {
+        if self.is_broken {
+            return None;
+        }
+        Some(self.door)
     }
 
     /// Notes how far a thread came that wrote.
@@ -232,6 +261,8 @@ impl<J: Storing<A>, D: Device, A: Allocator + Copy> Waiting<J, D, A> {
             count: _,
             counted: _,
             is_writing: _,
+            coming: _,
+            door: _,
             is_broken: _,
             witness,
             of: _,
