@@ -419,10 +419,13 @@ const S: &[u8; 20] =
 const M: &[u8; 20] =
     b"\xb0\xc6\xcd\x2f\x96\xa0\xbc\x00\x67\x6c\xf3\xd8\x68\x53\xb4\x49\x08\xe0\x33\xce";
 
+/// The hunks that put `whole` and `both` before all.
+const ADD_WHOLE: &[u8] = b"\0\0\0\0\0\0\0\0\0\0\0\x05whole";
+
+const ADD_BOTH: &[u8] = b"\0\0\0\0\0\0\0\0\0\0\0\x04both";
+
 /// In version 02: A, whose delta is empty; R and S, carried whole; B, as a delta on A; and M, carried whole.
 fn some_carried_whole(alloc: Global) -> Result<Vec<u8>, AllocError> {
-    let whole = b"\0\0\0\0\0\0\0\0\0\0\0\x05whole".as_slice();
-    let both = b"\0\0\0\0\0\0\0\0\0\0\0\x04both".as_slice();
     let root = root(alloc)?;
     joined(
         alloc,
@@ -441,7 +444,7 @@ fn some_carried_whole(alloc: Global) -> Result<Vec<u8>, AllocError> {
             Z,
             Z,
             S,
-            whole,
+            ADD_WHOLE,
             b"\0\0\0\x75",
             B,
             A,
@@ -455,7 +458,7 @@ fn some_carried_whole(alloc: Global) -> Result<Vec<u8>, AllocError> {
             S,
             Z,
             M,
-            both,
+            ADD_BOTH,
             EMPTY,
             EMPTY,
             EMPTY,

@@ -1,12 +1,15 @@
 //! How a server over a store begins, and begins again.
 
+ghost use Rattle.std.specs.Prelude.{[]};
 ghost use Rattle.hg_types.specs.Limits.{IsAllowed};
+ghost use Rattle.hg_store.specs.Log.{IsSettled};
+ghost use Rattle.hg_help_serve_tests.specs.Beginning.{first_head};
 
 use hg_help_tests::device::Memory;
 use hg_repo::Repo;
 use hg_restore::replay_records;
 use hg_serve::Closed;
-use hg_store::{Head, Log, recover};
+use hg_store::{Device, Head, Log, recover};
 use hg_types::{Limits, Settings};
 use std::alloc::Global;
 use std::hash::RandomState;
@@ -32,7 +35,9 @@ pub fn state<R: RandomSource + Abort>(rt: &R) -> RandomState {
 }
 
 /// A log without records, on a device that fails after so many calls.
-pub fn new_log<R: Abort>(rt: &R, alloc: Global, calls: usize) -> Log<Memory> {
+pub fn new_log<R: Abort>(rt: &R, alloc: Global, calls: usize) -> Log<Memory>
+    ensures { IsSettled ⟦<Memory as Device>⟧.seen ⟦<Memory as Device>⟧.may_leave first_head [] result }
+{
     let head = Head {
         publishing: false,
         limits: Limits::standard(),
@@ -47,6 +52,7 @@ pub fn new_log<R: Abort>(rt: &R, alloc: Global, calls: usize) -> Log<Memory> {
         Ok(found) => found,
         Err(_) => panic!(rt; "no store"),
     };
+    assert!(rt; found.head == head && found.records.is_empty());
     let end = found.end;
     let digest = found.digest;
     drop(found);

@@ -6,7 +6,7 @@ ghost use Rattle.hg_ledger.specs.Clients.{promised};
 use hg_help_tests::device::Memory;
 use hg_ledger::{KeptClient, Ledger, Parts, Receipt, Storing, Tally};
 use hg_serve::{Client, Closed, Naming, Server};
-use hg_store::Log;
+use hg_store::{Device, Log};
 use std::alloc::{AllocFailed, Allocator, Global};
 use std::process::Abort;
 use std::sync::{Mutex, Wait};
@@ -94,16 +94,16 @@ pub fn close_two<J: Storing<Global>, R: Abort>(
 }
 
 /// A server and its ledger, and what the clients of their connections leave.
-pub struct Open<J: Storing<Global>> {
+pub struct Open<J: Storing<Global>, D: Device> {
     pub server: Server<J>,
-    pub ledger: Ledger<J, Memory>,
+    pub ledger: Ledger<J, D>,
     clients: Mutex<Vec<Client<J>>>,
     receipts: Mutex<Vec<Receipt<J>>>,
 }
 
-impl<J: Storing<Global>> Open<J> {
+impl<J: Storing<Global>, D: Device + Drop> Open<J, D> {
     /// A server and its ledger, before any client left.
-    pub fn new(alloc: Global, server: Server<J>, ledger: Ledger<J, Memory>) -> Open<J> {
+    pub fn new(alloc: Global, server: Server<J>, ledger: Ledger<J, D>) -> Open<J, D> {
         Open {
             server,
             ledger,
@@ -124,7 +124,7 @@ impl<J: Storing<Global>> Open<J> {
 
     /// Compares the receipts with the tally of the ledger, and closes the server with all clients, those of the ledger
     /// among them. What the server held, and the ledger's device.
-    pub fn close<R: Abort>(self, rt: &R) -> (Closed, Memory) {
+    pub fn close<R: Abort>(self, rt: &R) -> (Closed, D) {
         let Open {
             server,
             ledger,

@@ -1,5 +1,7 @@
 //! What is pushed at a server, and by whom.
 
+ghost use Rattle.std.specs.Prelude.{◌≡◌, length};
+
 use hg_serve::{Client, Naming, Server};
 use std::alloc::{Allocator, Global};
 use std::process::Abort;
@@ -7,7 +9,9 @@ use std::sync::Wait;
 use std::test::*;
 
 /// A marker without successors, on a node that no other push has.
-pub fn marker<R: Abort>(rt: &R, alloc: Global, thread: u8, turn: u8) -> Vec<u8> {
+pub fn marker<R: Abort>(rt: &R, alloc: Global, thread: u8, turn: u8) -> Vec<u8>
+    ensures { length result.items ≡ 27 }
+{
     let mut made = Vec::new(alloc);
     let mut ok = made
         .extend_from_slice(&[0, 0, 0, 0, 0, 0, 0, thread, turn])
@@ -15,7 +19,7 @@ pub fn marker<R: Abort>(rt: &R, alloc: Global, thread: u8, turn: u8) -> Vec<u8> 
     for _ in 0..18 {
         ok = ok && made.push(7).is_ok();
     }
-    assert!(rt; ok);
+    assert!(rt; ok && made.len() == 27);
     made
 }
 

@@ -1,6 +1,6 @@
 //! A file in memory that loses and tears what was not synced.
 
-ghost use Rattle.std.specs.Prelude.{◌≡◌, ◌∷◌};
+ghost use Rattle.std.specs.Prelude.{◌≡◌, [], ◌∷◌, IfOk};
 ghost use Rattle.hg_store.specs.History.{event_of};
 
 use hg_store::{Call, Calls, DeviceError, History, NewFile};
@@ -32,7 +32,9 @@ pub struct Paper {
 
 impl Paper {
     /// A file with these bytes, all of them synced.
-    pub fn new(alloc: Global, file: &[u8], calls: usize) -> Result<Paper, AllocError> {
+    pub fn new(alloc: Global, file: &[u8], calls: usize) -> Result<Paper, AllocError>
+        ensures { IfOk result (λ paper. paper.history.events ≡ []) }
+    {
         Ok(Paper {
             alloc,
             bytes: file.to_vec(alloc)?,

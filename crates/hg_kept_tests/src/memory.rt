@@ -1,10 +1,13 @@
 //! A connection over a heap: what comes of memory that is refused, and that a done push is kept without any.
 
-ghost use Rattle.std.specs.Prelude.{◌≤◌};
+ghost use Rattle.std.specs.Prelude.{◌≡◌, ◌<◌, []};
+ghost use Rattle.hg_store.specs.Log.{IsSettled};
+ghost use Rattle.hg_serve.specs.Desks.{OpensWith};
+ghost use Rattle.hg_ledger.specs.Receipts.{IsTallyOf};
 
 use crate::tests::Source;
 use hg_connection::ConnFault;
-use hg_help_serve_tests::{client_of, marker, new_log, one_part, settings, state};
+use hg_help_serve_tests::{add, client_of, marker, new_log, one_part, settings, state};
 use hg_help_tests::device::Memory;
 use hg_kept::{Keeping, KeptFault, serve_connection_kept};
 use hg_ledger::{KeptClient, Ledger, Parts, Storing, Tally};
@@ -12,10 +15,10 @@ use hg_push::OpenFault;
 use hg_queue::{PartQueue, Taker};
 use hg_repo::Repo;
 use hg_serve::{Client, Gate, NoGate, Point, Server};
-use hg_store::{Log, read_records};
+use hg_store::{Device, Log, read_records};
 use hg_stream::StreamFault;
 use linked_list_allocator::LocalHeap;
-use std::alloc::{AllocFailed, Global};
+use std::alloc::{Allocator, Global};
 use std::marker::Brand;
 use std::process::Abort;
 use std::random::RandomSource;
@@ -63,47 +66,73 @@ struct Told {
     is_broken: bool,
 }
 
-/// Serves one connection over a heap. `None` where no ledger was made.
-fn connected<'h, J: Storing<&'h LocalHeap>, R: Wait + Abort, G: Gate>(
+/// Serves one connection by a new client, and gives that client, how many bundles were answered, and why it ended
+/// early.
+fn serve_one<J: Storing<A>, A: Allocator + Copy, R: Wait + Abort, G: Gate>(
     rt: &R,
-    alloc: Global,
-    heap: &'h LocalHeap,
-    queue: PartQueue<&'h LocalHeap>,
-    taker: Taker<&'h LocalHeap>,
-    repo: Repo<&'h LocalHeap>,
-    log: Log<Memory>,
+    global: Global,
+    alloc: A,
+    server: &Server<J, A>,
+    ledger: &Ledger<J, Memory, A>,
     input: &[u8],
     gate: &mut G,
-) -> Option<Told> {
-    let tally = Tally::new(heap).ok()?;
-    let mut clients = Vec::with_capacity(heap, 3).ok()?;
-    let server = Server::<J, &'h LocalHeap>::new(heap, repo, queue, taker);
+) -> (Client<J, A>, u32, Option<KeptFault>) {
+    let mut reader = Source {
+        bytes: input,
+        step: 40,
+    };
+    let mut writer: Vec<u8> = Vec::new(global);
+    let keeping = Keeping {
+        server,
+        ledger,
+        rt,
+        alloc,
+    };
+    let client = KeptClient::new(client_of(rt, server));
+    let (client, served) = serve_connection_kept(
+        &keeping,
+        client,
+        &mut reader,
+        &mut writer,
+        9,
+        gate,
+    );
+    let (client, _receipt) = client.into_parts();
+    let (bundles, fault) = (served.bundles, served.fault);
+    drop(served);
+    (client, bundles, fault)
+}
+
+/// Serves one connection over a heap. `None` where no ledger was made. A call can pick a name only where no bound
+/// names a lifetime, so what serves under a name knows a heap as an allocator alone.
+fn connected<J: Storing<A>, A: Allocator + Copy, R: Wait + Abort, G: Gate>(
+    rt: &R,
+    global: Global,
+    alloc: A,
+    queue: PartQueue<A>,
+    taker: Taker<A>,
+    repo: Repo<A>,
+    log: Log<Memory>,
+    tally: Tally<A>,
+    input: &[u8],
+    gate: &mut G,
+) -> Option<Told>
+    requires begins { OpensWith J.table J.capacity J.first queue taker repo }
+    requires settled { IsSettled ⟦<Memory as Device>⟧.seen ⟦<Memory as Device>⟧.may_leave J.head J.stored log }
+    requires opened { J.opened ≡ ⟦<Memory as Device>⟧.moment log.device }
+    requires tally { IsTallyOf J.tally J.name J.parts tally × (tally.promises ≡ []) }
+{
+    let mut clients = Vec::with_capacity(alloc, 3).ok()?;
+    let server = Server::<J, A>::new(alloc, repo, queue, taker);
     let witnesses = (client_of(rt, &server), client_of(rt, &server));
     let mut told = None;
-    let parts = match Ledger::new(heap, log, witnesses, tally) {
+    let parts = match Ledger::new(alloc, log, witnesses, tally) {
         Ok(ledger) => {
-            let mut reader = Source {
-                bytes: input,
-                step: 40,
-            };
-            let mut writer: Vec<u8> = Vec::new(alloc);
-            let keeping = Keeping {
-                server: &server,
-                ledger: &ledger,
-                rt,
-                alloc: heap,
-            };
-            let (client, served) = serve_connection_kept(
-                &keeping,
-                KeptClient::new(client_of(rt, &server)),
-                &mut reader,
-                &mut writer,
-                9,
-                gate,
+            let (client, bundles, fault) = serve_one(
+                rt, global, alloc, &server, &ledger, input, gate,
             );
-            let (client, _receipt) = client.into_parts();
             add(rt, &mut clients, client);
-            told = Some((served.bundles, served.fault));
+            told = Some((bundles, fault));
             ledger.into_parts()
         }
         Err(parts) => parts,
@@ -118,28 +147,25 @@ fn connected<'h, J: Storing<&'h LocalHeap>, R: Wait + Abort, G: Gate>(
     add(rt, &mut clients, first);
     add(rt, &mut clients, second);
     let closed = server.close(clients);
-    let kept = match read_records(alloc, &log.device.bytes) {
-        Ok(found) => found.records.len(),
-        Err(_) => panic!(rt; "no store"),
-    };
+    let done = closed.journal.len();
+    drop(closed);
+    let kept = kept_on(rt, global, &log.device);
+    drop(log);
     let (bundles, fault) = told?;
     Some(Told {
         bundles,
         fault,
-        done: closed.journal.len(),
+        done,
         kept,
         is_broken,
     })
 }
 
-fn add<'h, J: Storing<&'h LocalHeap>, R: Abort>(
-    rt: &R,
-    clients: &mut Vec<Client<J, &'h LocalHeap>, &'h LocalHeap>,
-    client: Client<J, &'h LocalHeap>,
-) {
-    match clients.push(client) {
-        Ok(()) => {}
-        Err(AllocFailed { value: _client, .. }) => panic!(rt; "no memory for a client"),
+/// How many records are on a device.
+fn kept_on<R: Abort>(rt: &R, alloc: Global, device: &Memory) -> usize {
+    match read_records(alloc, &device.bytes) {
+        Ok(found) => found.records.len(),
+        Err(_) => panic!(rt; "no store"),
     }
 }
 
@@ -155,10 +181,17 @@ fn told_of<R: Wait + RandomSource + Abort, G: Gate>(
     for turn in 0..pushes {
         one_part(rt, &mut input, &marker(rt, alloc, 1, turn));
     }
-    let log = new_log(rt, alloc, 1_000_000);
-    let (queue, taker) = PartQueue::new(heap, 1).ok()?;
+    let Ok((queue, taker)) = PartQueue::new(heap, 1) else {
+        return None;
+    };
+    let Ok(tally) = Tally::new(heap) else {
+        return None;
+    };
     let repo = Repo::new(heap, settings(), state(rt));
-    connected::<Brand, R, G>(rt, alloc, heap, queue, taker, repo, log, &input, gate)
+    let log = new_log(rt, alloc, 1_000_000);
+    connected::<Brand, _, R, G>(
+        rt, alloc, heap, queue, taker, repo, log, tally, &input, gate,
+    )
 }
 
 /// Whether a connection ended by memory that was refused.
@@ -173,6 +206,16 @@ fn is_refused(fault: Option<KeptFault>) -> bool {
     )
 }
 
+/// Whether so many pushes are done and kept, the store is whole, and memory was refused then.
+fn is_kept(told: Option<Told>, pushes: usize) -> bool {
+    match told {
+        Some(told) => {
+            told.done == pushes && told.kept == pushes && !told.is_broken && is_refused(told.fault)
+        }
+        None => false,
+    }
+}
+
 // Of five pushes, all memory of the heap is taken once the first was answered, or the second, and so on: after a
 // done push, and before its record is handed in. Result: so many pushes are done and kept, the store is whole, and
 // memory is refused for what comes next, the reply or the next push.
@@ -185,22 +228,17 @@ fn a_done_push_is_kept_without_memory(rt: HostRuntime) -> Result<(), Fail> {
             blocks: Vec::new(rt.alloc()),
             answers,
         };
-        match told_of(&rt, rt.alloc(), &heap, 5, &mut gate) {
-            Some(told) => {
-                assert_eq!(rt;
-                    (told.done, told.kept, told.is_broken),
-                    (answers, answers, false)
-                );
-                assert!(rt; is_refused(told.fault), "{answers} answers");
-            }
-            None => assert!(rt; false, "no ledger"),
-        }
+        let told = told_of(&rt, rt.alloc(), &heap, 5, &mut gate);
+        drop(gate);
+        assert!(rt; is_kept(told, answers), "{answers} answers");
     }
     Ok(())
 }
 
 /// What came of one push, by what memory was refused for.
-fn came_of(told: Option<Told>) -> usize {
+fn came_of(told: Option<Told>) -> usize
+    ensures { result < 7 }
+{
     let Some(told) = told else {
         return 0;
     };
@@ -226,7 +264,8 @@ fn each_growth_is_refused(rt: HostRuntime) -> Result<(), Fail> {
     let mut seen = [false; 7];
     for sixteens in 1..1024usize {
         let heap = LocalHeap::new(rt.alloc(), sixteens * 16)?;
-        seen[came_of(told_of(&rt, rt.alloc(), &heap, 1, &mut NoGate))] = true;
+        let told = told_of(&rt, rt.alloc(), &heap, 1, &mut NoGate);
+        seen[came_of(told)] = true;
     }
     assert!(rt;
         seen == [true, true, true, true, true, true, false],

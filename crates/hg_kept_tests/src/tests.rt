@@ -1,6 +1,12 @@
 //! What no contract says: that many connections over one server and one ledger are all kept, and that after a stop
 //! at any call of the device what was answered is there again.
 
+ghost use Rattle.std.specs.Prelude.{◌≡◌, ◌<◌, []};
+ghost use Rattle.hg_types.specs.Limits.{IsAllowed};
+ghost use Rattle.hg_store.specs.Log.{IsSettled};
+ghost use Rattle.hg_serve.specs.Desks.{OpensWith};
+ghost use Rattle.hg_ledger.specs.Receipts.{IsTallyOf};
+
 use hg_help_serve_tests::{
     Open, client_of, close_two, marker, new_log, one_part, settings, starts_again, state,
 };
@@ -10,7 +16,7 @@ use hg_ledger::{KeptClient, Ledger, Storing, Tally};
 use hg_queue::{PartQueue, Taker};
 use hg_repo::Repo;
 use hg_serve::{Closed, NoGate, Server};
-use hg_store::Log;
+use hg_store::{Device, Log};
 use std::alloc::Global;
 use std::io::Read;
 use std::marker::Brand;
@@ -19,7 +25,7 @@ use std::random::RandomSource;
 use std::sync::{Mutex, Wait};
 use std::test::*;
 use std::thread;
-use std::thread::Threads;
+use std::thread::{Scope, Threads};
 
 /// How many threads push.
 const THREADS: u8 = 8;
@@ -72,10 +78,10 @@ fn done_replies(bytes: &[u8]) -> usize {
     count
 }
 
-fn connect<J: Storing<Global>, R: Wait + Abort>(
+fn connect<J: Storing<Global>, D: Device + Drop, R: Wait + Abort>(
     rt: &R,
     alloc: Global,
-    open: &Open<J>,
+    open: &Open<J, D>,
     told: &Told,
     thread: u8,
     pushes: u8,
@@ -148,7 +154,9 @@ fn push_twice<J: Storing<Global>, R: Wait + Abort>(
     client: KeptClient<J>,
     thread: u8,
     turn: u8,
-) -> (KeptClient<J>, usize) {
+) -> (KeptClient<J>, usize)
+    requires { turn < 100 }
+{
     let mut input = Vec::new(alloc);
     one_part(rt, &mut input, &marker(rt, alloc, thread, turn));
     one_part(rt, &mut input, &marker(rt, alloc, thread, 100 + turn));
@@ -182,9 +190,15 @@ fn push_in_turn<J: Storing<Global>, R: Wait + Abort>(
     taker: Taker,
     repo: Repo,
     log: Log<Memory>,
-) -> Turns {
+    tally: Tally,
+) -> Turns
+    requires begins { OpensWith J.table J.capacity J.first queue taker repo }
+    requires settled { IsSettled ⟦<Memory as Device>⟧.seen ⟦<Memory as Device>⟧.may_leave J.head J.stored log }
+    requires opened { J.opened ≡ ⟦<Memory as Device>⟧.moment log.device }
+    requires tally { IsTallyOf J.tally J.name J.parts tally × (tally.promises ≡ []) }
+{
     let server = Server::<J>::new(alloc, repo, queue, taker);
-    let ledger = ledger_over(rt, alloc, &server, log);
+    let ledger = ledger_over(rt, alloc, &server, log, tally);
     let mut first = KeptClient::new(client_of(rt, &server));
     let mut second = KeptClient::new(client_of(rt, &server));
     let mut done = (0usize, 0usize);
@@ -205,6 +219,21 @@ fn push_in_turn<J: Storing<Global>, R: Wait + Abort>(
     }
 }
 
+/// The same, on a device that fails after so many calls.
+fn turned<R: Wait + RandomSource + Abort>(rt: &R, alloc: Global, calls: usize) -> Turns {
+    let log = new_log(rt, alloc, calls);
+    let Ok(tally) = Tally::new(alloc) else {
+        panic!(rt; "no memory for a tally");
+    };
+    match PartQueue::new(alloc, 8) {
+        Ok((queue, taker)) => {
+            let repo = Repo::new(alloc, settings(), state(rt));
+            push_in_turn::<Brand, R>(rt, alloc, queue, taker, repo, log, tally)
+        }
+        Err(_) => panic!(rt; "no memory for a queue"),
+    }
+}
+
 /// What is left after a run.
 #[derive(Drop)]
 struct Left {
@@ -222,6 +251,68 @@ impl Left {
     }
 }
 
+/// What the threads connect to, how often each pushes, and where what comes of it is noted.
+#[derive(Drop)]
+struct Connecting<'s, J: Storing<Global>, D: Device, R: Wait> {
+    rt: &'s R,
+    alloc: Global,
+    open: &'s Open<J, D>,
+    told: &'s Told,
+    pushes: u8,
+}
+
+impl<'s, J, D, R> Connecting<'s, J, D, R>
+where
+    J: Storing<Global> + Send + Sync,
+    D: Device + Drop + Send,
+    R: Threads + Wait + Abort + Sync,
+{
+    /// The connection of the thread of that number.
+    fn connect(&self, thread: u8) {
+        connect(
+            self.rt,
+            self.alloc,
+            self.open,
+            self.told,
+            thread,
+            self.pushes,
+        );
+    }
+
+    /// Starts the threads.
+    fn start<E>(&'s self, scope: &'s Scope<'s, E>) {
+        let rt = self.rt;
+        for thread in 0..THREADS {
+            let started = scope.spawn(move || self.connect(thread));
+            assert!(rt; started.is_ok());
+        }
+    }
+
+    /// Starts the threads, and waits for them.
+    fn connect_by_all(&self) {
+        thread::scope(thread::scope_env(), self.rt, move |scope| {
+            self.start(scope);
+        });
+    }
+}
+
+/// One connection of so many pushes from each thread.
+fn connect_all<J, D, R>(rt: &R, alloc: Global, open: &Open<J, D>, told: &Told, pushes: u8)
+where
+    J: Storing<Global> + Send + Sync,
+    D: Device + Drop + Send,
+    R: Threads + Wait + Abort + Sync,
+{
+    let connecting = Connecting {
+        rt,
+        alloc,
+        open,
+        told,
+        pushes,
+    };
+    connecting.connect_by_all();
+}
+
 fn play<J: Storing<Global> + Send + Sync, R: Threads + Wait + Abort + Sync>(
     rt: &R,
     alloc: Global,
@@ -229,23 +320,23 @@ fn play<J: Storing<Global> + Send + Sync, R: Threads + Wait + Abort + Sync>(
     taker: Taker,
     repo: Repo,
     log: Log<Memory>,
+    tally: Tally,
     pushes: u8,
-) -> Left {
+) -> Left
+    requires begins { OpensWith J.table J.capacity J.first queue taker repo }
+    requires settled { IsSettled ⟦<Memory as Device>⟧.seen ⟦<Memory as Device>⟧.may_leave J.head J.stored log }
+    requires opened { J.opened ≡ ⟦<Memory as Device>⟧.moment log.device }
+    requires tally { IsTallyOf J.tally J.name J.parts tally × (tally.promises ≡ []) }
+{
     let server = Server::<J>::new(alloc, repo, queue, taker);
-    let ledger = ledger_over(rt, alloc, &server, log);
+    let ledger = ledger_over(rt, alloc, &server, log, tally);
     let open = Open::new(alloc, server, ledger);
     let told = Told {
         done: Mutex::new(0),
         replies: Mutex::new(0),
         refused: Mutex::new(0),
     };
-    let (lent, told_lent) = (&open, &told);
-    thread::scope(thread::scope_env(), rt, |scope| {
-        for thread in 0..THREADS {
-            let started = scope.spawn(move || connect(rt, alloc, lent, told_lent, thread, pushes));
-            assert!(rt; started.is_ok());
-        }
-    });
+    connect_all(rt, alloc, &open, &told, pushes);
     let (closed, device) = open.close(rt);
     let Told {
         done,
@@ -261,18 +352,20 @@ fn play<J: Storing<Global> + Send + Sync, R: Threads + Wait + Abort + Sync>(
     }
 }
 
-/// A ledger of that server, over that log, with a tally of its own.
+/// A ledger of that server, over that log, with that tally.
 fn ledger_over<J: Storing<Global>, R: Wait + Abort>(
     rt: &R,
     alloc: Global,
     server: &Server<J>,
     log: Log<Memory>,
-) -> Ledger<J, Memory> {
+    tally: Tally,
+) -> Ledger<J, Memory>
+    requires settled { IsSettled ⟦<Memory as Device>⟧.seen ⟦<Memory as Device>⟧.may_leave J.head J.stored log }
+    requires opened { J.opened ≡ ⟦<Memory as Device>⟧.moment log.device }
+    requires allowed { IsAllowed J.first.settings.limits }
+    requires tally { IsTallyOf J.tally J.name J.parts tally × (tally.promises ≡ []) }
+{
     let witnesses = (client_of(rt, server), client_of(rt, server));
-    let tally = match Tally::new(alloc) {
-        Ok(tally) => tally,
-        Err(_) => panic!(rt; "no memory for a tally"),
-    };
     match Ledger::new(alloc, log, witnesses, tally) {
         Ok(ledger) => ledger,
         Err(_parts) => panic!(rt; "no memory for a ledger"),
@@ -287,17 +380,13 @@ fn run<R: Threads + Wait + RandomSource + Abort + Sync>(
     pushes: u8,
 ) -> Left {
     let log = new_log(rt, alloc, calls);
+    let Ok(tally) = Tally::new(alloc) else {
+        panic!(rt; "no memory for a tally");
+    };
     match PartQueue::new(alloc, 8) {
         Ok((queue, taker)) => {
-            play::<Brand, R>(
-                rt,
-                alloc,
-                queue,
-                taker,
-                Repo::new(alloc, settings(), state(rt)),
-                log,
-                pushes,
-            )
+            let repo = Repo::new(alloc, settings(), state(rt));
+            play::<Brand, R>(rt, alloc, queue, taker, repo, log, tally, pushes)
         }
         Err(_) => panic!(rt; "no memory for a queue"),
     }
@@ -318,7 +407,8 @@ fn eight_connections_are_all_kept(rt: HostRuntime) -> Result<(), Fail> {
     assert!(rt; left.replies == THREADS as usize * FEW as usize);
     assert!(rt; left.starts_again(&rt, alloc, 0) == done_of(FEW));
     // two syncs a batch: some batches had more than one record
-    assert!(rt; left.device.syncs < 2 * done_of(FEW));
+    assert!(rt; left.device.syncs < done_of(FEW).saturating_mul(2));
+    drop(left);
     Ok(())
 }
 
@@ -332,6 +422,7 @@ fn eight_connections_on_a_device_that_stops(rt: HostRuntime) -> Result<(), Fail>
         for part in [0, 1, 30, 100, 100_000] {
             let _count = left.starts_again(&rt, alloc, part);
         }
+        drop(left);
     }
     Ok(())
 }
@@ -354,11 +445,13 @@ fn many_pushes_on_a_device_that_stops_anywhere(rt: HostRuntime) -> Result<(), Fa
         for part in [0, any_number(&rt), 100_000] {
             let _count = left.starts_again(&rt, alloc, part);
         }
+        drop(left);
     }
     let left = run(&rt, alloc, 1_000_000, MANY);
     assert!(rt; left.refused == 0);
     assert!(rt; left.done == done_of(MANY));
     assert!(rt; left.starts_again(&rt, alloc, 0) == done_of(MANY));
+    drop(left);
     Ok(())
 }
 
@@ -384,17 +477,6 @@ fn receipts_of_two_clients_grow(rt: HostRuntime) {
             done,
             kept,
         };
-        match PartQueue::new(alloc, 8) {
-            Ok((queue, taker)) => {
-                let repo = Repo::new(alloc, settings(), state(&rt));
-                let log = new_log(&rt, alloc, calls);
-                assert_eq!(rt;
-                    push_in_turn::<Brand, _>(&rt, alloc, queue, taker, repo, log),
-                    turns,
-                    "{calls} calls"
-                );
-            }
-            Err(_) => assert!(rt; false, "no memory for a queue"),
-        }
+        assert_eq!(rt; turned(&rt, alloc, calls), turns, "{calls} calls");
     }
 }

@@ -1,20 +1,34 @@
 //! What no contract says: that many threads push at one server and one ledger, and that after a stop at any
 //! call of the device what was answered is there again.
 
+ghost use Rattle.std.specs.Prelude.{◌≡◌, ◌≤◌, [], Some, None};
 ghost use mathlib.Core.List.{IsPrefix};
+ghost use Rattle.hg_repo.specs.declared.done.Done.{Done as AnyDone};
+ghost use Rattle.hg_parts.specs.declared.refusal.Refusal.{Refusal as AnyRefusal};
+ghost use Rattle.hg_push.specs.declared.outcome.Reason.{Reason as AnyReason};
+ghost use Rattle.hg_store.specs.Log.{IsSettled};
+ghost use Rattle.hg_serve.specs.Desks.{OpensWith};
+ghost use Rattle.hg_ledger.specs.Receipts.{IsTallyOf};
+ghost use Rattle.hg_ledger.specs.Records.{done_in};
 
+use hg_connection::{mark, receive_kept};
 use hg_help_serve_tests::{
     Open, add, client_of, close_two, has_receipt, marker, new_log, one_part, settings,
     starts_again, state,
 };
 use hg_help_tests::device::Memory;
+use hg_help_tests::devices::Source;
 use hg_ledger::{KeptClient, Ledger, NotStored, Parts, Storing, Tally};
 use hg_push::Outcome;
+use hg_push::laws::journals_grow;
 use hg_queue::{PartQueue, Taker};
-use hg_repo::Repo;
+use hg_receiving::Inbox;
+use hg_repo::{Done, Refusal, Repo};
 use hg_serve::{Closed, NoGate, Server};
-use hg_store::Log;
-use hg_types::{Part, Payload, Seq};
+use hg_store::{Device, Log};
+use hg_stream::Unbundler;
+use hg_stream::laws::streams_are_settled_once;
+use hg_types::Seq;
 use linked_list_allocator::LocalHeap;
 use std::alloc::{Allocator, Global};
 use std::marker::Brand;
@@ -23,34 +37,26 @@ use std::random::RandomSource;
 use std::sync::{Mutex, Wait};
 use std::test::*;
 use std::thread;
-use std::thread::Threads;
+use std::thread::{Scope, Threads};
 
 /// How many threads push, and how often each.
 const THREADS: u8 = 8;
 
 const PUSHES: u8 = 24;
 
-fn bytes<R: Abort>(rt: &R, alloc: Global, bytes: &[u8]) -> Seq<u8> {
-    match Seq::copy_of(alloc, bytes) {
-        Ok(copy) => copy,
-        Err(_) => panic!(rt; "no memory"),
+/// The record of a push that ended so: the bytes of its bundle where it is done, and else none.
+fn record_of<A: Allocator>(
+    outcome: &Outcome<Done<A>, Refusal<A>>,
+    bytes: Vec<u8, A>,
+) -> Option<Seq<u8, A>>
+    ensures done { (done : AnyDone A) → outcome.now ≡ Outcome.Done done → result ≡ Some bytes.items }
+    ensures aborted { (reason : AnyReason (AnyRefusal A)) → outcome.now ≡ Outcome.Aborted reason →
+        result ≡ None }
+{
+    match outcome {
+        Outcome::Done(_) => Some(Seq::from_vec(bytes)),
+        Outcome::Aborted(_) => None,
     }
-}
-
-/// The part of a push, and the bundle that has it.
-fn part<R: Abort>(rt: &R, alloc: Global, payload: &[u8]) -> Part<Global> {
-    Part {
-        kind: bytes(rt, alloc, b"OBSMARKERS"),
-        id: 0,
-        params: Seq::new(alloc),
-        payload: Payload::of(bytes(rt, alloc, payload)),
-    }
-}
-
-fn bundle<R: Abort>(rt: &R, alloc: Global, payload: &[u8]) -> Seq<u8> {
-    let mut made = Vec::new(alloc);
-    one_part(rt, &mut made, payload);
-    Seq::from_vec(made)
 }
 
 /// How many pushes are known to be kept: those that the last receipt rests on, and whether a call was
@@ -61,17 +67,23 @@ struct Told {
     refused: Mutex<usize>,
 }
 
-/// Pushes a part, and says whether it is kept. The promises that the client has it still has.
-fn push_part<J: Storing<Global>, R: Wait + Abort>(
+/// Pushes the bundle of one part with that payload, and says on how many done pushes its answer rests, and whether
+/// they are kept. The promises that the client has it still has.
+fn push_part<J: Storing<Global>, D: Device + Drop, R: Wait + Abort>(
     rt: &R,
     alloc: Global,
     server: &Server<J>,
-    ledger: &Ledger<J, Memory>,
+    ledger: &Ledger<J, D>,
     client: KeptClient<J>,
     payload: &[u8],
 ) -> (KeptClient<J>, usize, Result<(), NotStored>)
-    ensures { IsPrefix client.receipt result.0.receipt }
+    ensures grows { IsPrefix client.receipt result.0.receipt }
+    ensures rests { result.1 ≤ done_in J.first result.0.history }
 {
+    journals_grow::<Global>();
+    streams_are_settled_once::<Global>();
+    let mut input = Vec::new(alloc);
+    one_part(rt, &mut input, payload);
     let (client, receipt) = client.into_parts();
     let room = match ledger.room(rt) {
         Ok(room) => room,
@@ -81,28 +93,34 @@ fn push_part<J: Storing<Global>, R: Wait + Abort>(
         Ok(sender) => sender,
         Err((_client, _)) => panic!(rt; "no opening"),
     };
-    assert!(rt;
-        server
-            .put(rt, &mut sender, part(rt, alloc, payload), &mut NoGate)
-            .is_ok()
+    let mut bundle = Unbundler::new(alloc, *server.limits());
+    let mut inbox = Inbox::new();
+    let mut reader = Source::new(&input);
+    let mut kept = Vec::new(alloc);
+    let ending = receive_kept(
+        server,
+        rt,
+        &mut sender,
+        &mut bundle,
+        &mut inbox,
+        &mut reader,
+        &mut kept,
+        &mut NoGate,
     );
-    let ended = server.end(rt, sender, &mut NoGate);
+    let ended = mark(server, rt, sender, ending, &mut NoGate);
     let (answer, rests, client) = server.answer_resting(rt, ended, &mut NoGate);
     let mut client = KeptClient::of(client, receipt);
-    let record = match &answer.outcome {
-        Outcome::Done(_) => Some(bundle(rt, alloc, payload)),
-        Outcome::Aborted(_) => None,
-    };
+    let record = record_of(&answer.outcome, kept);
     let stored = ledger.keep(rt, server, &mut client, room, rests, record);
     (client, rests, stored)
 }
 
 /// The same, and notes what came of it.
-fn push_once<J: Storing<Global>, R: Wait + Abort>(
+fn push_once<J: Storing<Global>, D: Device + Drop, R: Wait + Abort>(
     rt: &R,
     alloc: Global,
     server: &Server<J>,
-    ledger: &Ledger<J, Memory>,
+    ledger: &Ledger<J, D>,
     client: KeptClient<J>,
     told: &Told,
     payload: &[u8],
@@ -125,10 +143,10 @@ fn push_once<J: Storing<Global>, R: Wait + Abort>(
     client
 }
 
-fn push_all<J: Storing<Global>, R: Wait + Abort>(
+fn push_all<J: Storing<Global>, D: Device + Drop, R: Wait + Abort>(
     rt: &R,
     alloc: Global,
-    open: &Open<J>,
+    open: &Open<J, D>,
     told: &Told,
     thread: u8,
 ) {
@@ -146,6 +164,59 @@ fn push_all<J: Storing<Global>, R: Wait + Abort>(
     open.leave(rt, mine);
 }
 
+/// What the threads push at, and where what comes of it is noted.
+#[derive(Drop)]
+struct Pushing<'s, J: Storing<Global>, D: Device, R: Wait> {
+    rt: &'s R,
+    alloc: Global,
+    open: &'s Open<J, D>,
+    told: &'s Told,
+}
+
+impl<'s, J, D, R> Pushing<'s, J, D, R>
+where
+    J: Storing<Global> + Send + Sync,
+    D: Device + Drop + Send,
+    R: Threads + Wait + Abort + Sync,
+{
+    /// The pushes of the thread of that number.
+    fn push(&self, thread: u8) {
+        push_all(self.rt, self.alloc, self.open, self.told, thread);
+    }
+
+    /// Starts the threads.
+    fn start<E>(&'s self, scope: &'s Scope<'s, E>) {
+        let rt = self.rt;
+        for thread in 0..THREADS {
+            let started = scope.spawn(move || self.push(thread));
+            assert!(rt; started.is_ok());
+        }
+    }
+
+    /// Starts the threads, and waits for them.
+    fn push_by_all(&self) {
+        thread::scope(thread::scope_env(), self.rt, move |scope| {
+            self.start(scope);
+        });
+    }
+}
+
+/// The pushes of all threads.
+fn push_from_threads<J, D, R>(rt: &R, alloc: Global, open: &Open<J, D>, told: &Told)
+where
+    J: Storing<Global> + Send + Sync,
+    D: Device + Drop + Send,
+    R: Threads + Wait + Abort + Sync,
+{
+    let pushing = Pushing {
+        rt,
+        alloc,
+        open,
+        told,
+    };
+    pushing.push_by_all();
+}
+
 fn play<J: Storing<Global> + Send + Sync, R: Threads + Wait + Abort + Sync>(
     rt: &R,
     alloc: Global,
@@ -153,10 +224,16 @@ fn play<J: Storing<Global> + Send + Sync, R: Threads + Wait + Abort + Sync>(
     taker: Taker,
     repo: Repo,
     log: Log<Memory>,
-) -> Left {
+    tally: Tally,
+) -> Left
+    requires begins { OpensWith J.table J.capacity J.first queue taker repo }
+    requires settled { IsSettled ⟦<Memory as Device>⟧.seen ⟦<Memory as Device>⟧.may_leave J.head J.stored log }
+    requires opened { J.opened ≡ ⟦<Memory as Device>⟧.moment log.device }
+    requires tally { IsTallyOf J.tally J.name J.parts tally × (tally.promises ≡ []) }
+{
     let server = Server::<J>::new(alloc, repo, queue, taker);
     let (first, second) = (client_of(rt, &server), client_of(rt, &server));
-    let ledger = match Ledger::new(alloc, log, (first, second), tally_over(rt, alloc)) {
+    let ledger = match Ledger::new(alloc, log, (first, second), tally) {
         Ok(ledger) => ledger,
         Err(_parts) => panic!(rt; "no memory for a ledger"),
     };
@@ -165,13 +242,7 @@ fn play<J: Storing<Global> + Send + Sync, R: Threads + Wait + Abort + Sync>(
         kept: Mutex::new(0),
         refused: Mutex::new(0),
     };
-    let (lent, told_lent) = (&open, &told);
-    thread::scope(thread::scope_env(), rt, |scope| {
-        for thread in 0..THREADS {
-            let started = scope.spawn(move || push_all(rt, alloc, lent, told_lent, thread));
-            assert!(rt; started.is_ok());
-        }
-    });
+    push_from_threads(rt, alloc, &open, &told);
     let (closed, device) = open.close(rt);
     let Told { kept, refused } = told;
     Left {
@@ -188,10 +259,14 @@ fn run<R: Threads + Wait + RandomSource + Abort + Sync>(
     alloc: Global,
     calls: usize,
 ) -> Left {
+    let log = new_log(rt, alloc, calls);
+    let Ok(tally) = Tally::new(alloc) else {
+        panic!(rt; "no memory for a tally");
+    };
     match PartQueue::new(alloc, 8) {
         Ok((queue, taker)) => {
             let repo = Repo::new(alloc, settings(), state(rt));
-            play::<Brand, R>(rt, alloc, queue, taker, repo, new_log(rt, alloc, calls))
+            play::<Brand, R>(rt, alloc, queue, taker, repo, log, tally)
         }
         Err(_) => panic!(rt; "no memory for a queue"),
     }
@@ -225,6 +300,7 @@ fn eight_threads_are_all_kept(rt: HostRuntime) -> Result<(), Fail> {
     assert!(rt; left.starts_again(&rt, alloc, 0) == DONE);
     // two syncs a batch: some batches had more than one record
     assert!(rt; left.device.syncs < 2 * DONE);
+    drop(left);
     Ok(())
 }
 
@@ -237,6 +313,7 @@ fn eight_threads_on_a_device_that_stops(rt: HostRuntime) -> Result<(), Fail> {
         for part in [0, 1, 30, 100, 100_000] {
             let _count = left.starts_again(&rt, alloc, part);
         }
+        drop(left);
     }
     Ok(())
 }
@@ -259,21 +336,24 @@ fn ask<J: Storing<Global>, R: Wait + Abort>(
     taker: Taker,
     repo: Repo,
     log: Log<Memory>,
-) -> Receipts {
+    tally: Tally,
+) -> Receipts
+    requires begins { OpensWith J.table J.capacity J.first queue taker repo }
+    requires settled { IsSettled ⟦<Memory as Device>⟧.seen ⟦<Memory as Device>⟧.may_leave J.head J.stored log }
+    requires opened { J.opened ≡ ⟦<Memory as Device>⟧.moment log.device }
+    requires tally { IsTallyOf J.tally J.name J.parts tally × (tally.promises ≡ []) }
+{
     let server = Server::<J>::new(alloc, repo, queue, taker);
     let (first, second) = (client_of(rt, &server), client_of(rt, &server));
     let mut mine = KeptClient::new(client_of(rt, &server));
-    let ledger = match Ledger::new(alloc, log, (first, second), tally_over(rt, alloc)) {
+    let ledger = match Ledger::new(alloc, log, (first, second), tally) {
         Ok(ledger) => ledger,
         Err(_parts) => panic!(rt; "no memory for a ledger"),
     };
-    let told = Told {
-        kept: Mutex::new(0),
-        refused: Mutex::new(0),
-    };
     let before = ledger.receipt(rt, &server, &mut mine, 0);
     let payload = marker(rt, alloc, 0, 1);
-    let mut mine = push_once(rt, alloc, &server, &ledger, mine, &told, &payload);
+    let (mut mine, rests, _) = push_part(rt, alloc, &server, &ledger, mine, &payload);
+    assert!(rt; rests == 1);
     let of_one = ledger.receipt(rt, &server, &mut mine, 1);
     let of_none = ledger.receipt(rt, &server, &mut mine, 0);
     let parts = ledger.into_parts();
@@ -299,23 +379,22 @@ fn ask<J: Storing<Global>, R: Wait + Abort>(
     add(rt, &mut clients, second);
     add(rt, &mut clients, mine);
     let closed = server.close(clients);
-    assert!(rt; closed.journal.as_slice() == [0].as_slice());
+    let is_first = closed.journal.as_slice() == [0].as_slice();
+    drop(closed);
+    assert!(rt; is_first);
     told
-}
-
-fn tally_over<A: Allocator, R: Abort>(rt: &R, alloc: A) -> Tally<A> {
-    match Tally::new(alloc) {
-        Ok(tally) => tally,
-        Err(_) => panic!(rt; "no memory for a tally"),
-    }
 }
 
 /// The same, on a device that fails after so many calls.
 fn asked<R: Wait + RandomSource + Abort>(rt: &R, alloc: Global, calls: usize) -> Receipts {
+    let log = new_log(rt, alloc, calls);
+    let Ok(tally) = Tally::new(alloc) else {
+        panic!(rt; "no memory for a tally");
+    };
     match PartQueue::new(alloc, 8) {
         Ok((queue, taker)) => {
             let repo = Repo::new(alloc, settings(), state(rt));
-            ask::<Brand, R>(rt, alloc, queue, taker, repo, new_log(rt, alloc, calls))
+            ask::<Brand, R>(rt, alloc, queue, taker, repo, log, tally)
         }
         Err(_) => panic!(rt; "no memory for a queue"),
     }
@@ -363,12 +442,18 @@ fn push_in_turn<J: Storing<Global>, R: Wait + Abort>(
     taker: Taker,
     repo: Repo,
     log: Log<Memory>,
-) -> Turns {
+    tally: Tally,
+) -> Turns
+    requires begins { OpensWith J.table J.capacity J.first queue taker repo }
+    requires settled { IsSettled ⟦<Memory as Device>⟧.seen ⟦<Memory as Device>⟧.may_leave J.head J.stored log }
+    requires opened { J.opened ≡ ⟦<Memory as Device>⟧.moment log.device }
+    requires tally { IsTallyOf J.tally J.name J.parts tally × (tally.promises ≡ []) }
+{
     let server = Server::<J>::new(alloc, repo, queue, taker);
     let witnesses = (client_of(rt, &server), client_of(rt, &server));
     let mut first = KeptClient::new(client_of(rt, &server));
     let mut second = KeptClient::new(client_of(rt, &server));
-    let ledger = match Ledger::new(alloc, log, witnesses, tally_over(rt, alloc)) {
+    let ledger = match Ledger::new(alloc, log, witnesses, tally) {
         Ok(ledger) => ledger,
         Err(_parts) => panic!(rt; "no memory for a ledger"),
     };
@@ -393,20 +478,27 @@ fn push_in_turn<J: Storing<Global>, R: Wait + Abort>(
         second = seen;
     }
     let closed = close_two(rt, server, ledger, first, second, Vec::new(alloc));
-    assert!(rt; closed.closed.journal.len() == 6);
-    Turns {
+    let pushes = closed.closed.journal.len();
+    let turns = Turns {
         has_first: closed.has_first,
         has_second: closed.has_second,
         kept: closed.kept,
-    }
+    };
+    drop(closed);
+    assert!(rt; pushes == 6);
+    turns
 }
 
 /// The same, on a device that fails after so many calls.
 fn turned<R: Wait + RandomSource + Abort>(rt: &R, alloc: Global, calls: usize) -> Turns {
+    let log = new_log(rt, alloc, calls);
+    let Ok(tally) = Tally::new(alloc) else {
+        panic!(rt; "no memory for a tally");
+    };
     match PartQueue::new(alloc, 8) {
         Ok((queue, taker)) => {
             let repo = Repo::new(alloc, settings(), state(rt));
-            push_in_turn::<Brand, R>(rt, alloc, queue, taker, repo, new_log(rt, alloc, calls))
+            push_in_turn::<Brand, R>(rt, alloc, queue, taker, repo, log, tally)
         }
         Err(_) => panic!(rt; "no memory for a queue"),
     }
@@ -436,32 +528,58 @@ fn receipts_of_two_clients_grow(rt: HostRuntime) {
     }
 }
 
-/// How much memory of a heap is used after one room was taken and given back, and after 1,000 more.
-fn used<'h, J: Storing<&'h LocalHeap>, R: Wait + Abort>(
+/// Memory of which it is known how much is used. A call can pick a name only where no bound names a lifetime, so what
+/// plays under a name knows a heap by this and as an allocator alone.
+trait Gauge {
+    fn in_use(&self) -> usize;
+}
+
+impl Gauge for LocalHeap {
+    fn in_use(&self) -> usize {
+        self.used()
+    }
+}
+
+/// Takes a room and gives it back, so often.
+fn take_rooms<J: Storing<A>, A: Allocator + Copy, R: Wait + Abort>(
     rt: &R,
-    heap: &'h LocalHeap,
-    queue: PartQueue<&'h LocalHeap>,
-    taker: Taker<&'h LocalHeap>,
-    repo: Repo<&'h LocalHeap>,
-    log: Log<Memory>,
-) -> (usize, usize) {
-    let server = Server::<J, &'h LocalHeap>::new(heap, repo, queue, taker);
-    let (first, second) = (client_of(rt, &server), client_of(rt, &server));
-    let ledger = match Ledger::new(heap, log, (first, second), tally_over(rt, heap)) {
-        Ok(ledger) => ledger,
-        Err(_parts) => panic!(rt; "no memory for a ledger"),
-    };
-    let mut used = (0, 0);
-    for turn in 0..1_001u32 {
+    ledger: &Ledger<J, Memory, A>,
+    count: u32,
+) {
+    for _ in 0..count {
         match ledger.room(rt) {
             Ok(room) => ledger.give_back(rt, room),
             Err(_) => panic!(rt; "no room"),
         }
-        if turn == 0 {
-            used.0 = heap.used();
-        }
     }
-    used.1 = heap.used();
+}
+
+/// How much memory of a heap is used after one room was taken and given back, and after 1,000 more.
+fn used<J: Storing<A>, A: Allocator + Copy, R: Wait + Abort, G: Gauge>(
+    rt: &R,
+    alloc: A,
+    gauge: &G,
+    queue: PartQueue<A>,
+    taker: Taker<A>,
+    repo: Repo<A>,
+    log: Log<Memory>,
+    tally: Tally<A>,
+) -> (usize, usize)
+    requires begins { OpensWith J.table J.capacity J.first queue taker repo }
+    requires settled { IsSettled ⟦<Memory as Device>⟧.seen ⟦<Memory as Device>⟧.may_leave J.head J.stored log }
+    requires opened { J.opened ≡ ⟦<Memory as Device>⟧.moment log.device }
+    requires tally { IsTallyOf J.tally J.name J.parts tally × (tally.promises ≡ []) }
+{
+    let server = Server::<J, A>::new(alloc, repo, queue, taker);
+    let (first, second) = (client_of(rt, &server), client_of(rt, &server));
+    let ledger = match Ledger::new(alloc, log, (first, second), tally) {
+        Ok(ledger) => ledger,
+        Err(_parts) => panic!(rt; "no memory for a ledger"),
+    };
+    take_rooms(rt, &ledger, 1);
+    let first_used = gauge.in_use();
+    take_rooms(rt, &ledger, 1_000);
+    let last_used = gauge.in_use();
     let Parts {
         log: _,
         kept: _,
@@ -469,11 +587,29 @@ fn used<'h, J: Storing<&'h LocalHeap>, R: Wait + Abort>(
         witnesses: (first, second),
         tally: _,
     } = ledger.into_parts();
-    let mut clients = Vec::new(heap);
+    let mut clients = Vec::new(alloc);
     add(rt, &mut clients, first);
     add(rt, &mut clients, second);
-    let _closed = server.close(clients);
-    used
+    let closed = server.close(clients);
+    drop(closed);
+    (first_used, last_used)
+}
+
+/// The same on a new server over a heap. `None` where memory was refused for it.
+fn used_of<R: Wait + RandomSource + Abort>(
+    rt: &R,
+    alloc: Global,
+    heap: &LocalHeap,
+) -> Option<(usize, usize)> {
+    let Ok((queue, taker)) = PartQueue::new(heap, 8) else {
+        return None;
+    };
+    let Ok(tally) = Tally::new(heap) else {
+        return None;
+    };
+    let repo = Repo::new(heap, settings(), state(rt));
+    let log = new_log(rt, alloc, 1_000);
+    Some(used::<Brand, _, R, LocalHeap>(rt, heap, heap, queue, taker, repo, log, tally))
 }
 
 // Room for a record is taken and given back, once and 1,000 times more, of a ledger over a heap. Result: the
@@ -481,10 +617,9 @@ fn used<'h, J: Storing<&'h LocalHeap>, R: Wait + Abort>(
 #[test]
 fn rooms_that_are_given_back(rt: HostRuntime) -> Result<(), Fail> {
     let heap = LocalHeap::new(rt.alloc(), 1 << 20)?;
-    let (queue, taker) = PartQueue::new(&heap, 8)?;
-    let repo = Repo::new(&heap, settings(), state(&rt));
-    let log = new_log(&rt, rt.alloc(), 1_000);
-    let (first, last) = used::<Brand, _>(&rt, &heap, queue, taker, repo, log);
-    assert!(rt; first > 0 && first == last);
+    match used_of(&rt, rt.alloc(), &heap) {
+        Some((first, last)) => assert!(rt; first > 0 && first == last),
+        None => panic!(rt; "no server"),
+    }
     Ok(())
 }

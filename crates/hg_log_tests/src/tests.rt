@@ -3,6 +3,9 @@
 mod hashed;
 mod memory;
 
+ghost use Rattle.std.specs.Prelude.{◌<◌, IsTrue, length};
+ghost use Rattle.hg_log.specs.Parents.{parents_of, IsParentIn};
+
 use hg_delta::DeltaFault;
 use hg_log::*;
 use hg_types::{Delta, Entry, Limits, NoMemory, Node, Seq, TryClone};
@@ -159,6 +162,11 @@ fn put_all(alloc: Global, log: &mut Changelog, rows: &[Given]) -> bool {
     all
 }
 
+/// The id of a changeset. What it is no clause says, so that no proof goes into its hash.
+fn id_of(p1: &Node, p2: &Node, text: &[u8]) -> Node {
+    node_id(p1, p2, text)
+}
+
 fn new_log(rt: HostRuntime) -> Result<Changelog, Fail> {
     Ok(Changelog::new(rt.alloc(), RandomState::new(&rt)?, Limits::standard()))
 }
@@ -192,7 +200,7 @@ fn has_parent_revs(log: &Changelog, rev: u32, p1: Option<u32>, p2: Option<u32>) 
 fn has_a_root(alloc: Global, log: &mut Changelog) -> bool {
     let added = put(alloc, log, changeset(ROOT, NULL, NULL, b""));
     let is_there = has_text(log, &ROOT, b"") && log.knows(&ROOT) && log.rev(&ROOT) == Some(0);
-    let is_hash = node_id(&NULL, &NULL, b"") == ROOT;
+    let is_hash = id_of(&NULL, &NULL, b"") == ROOT;
     added == Ok(Added::New(0)) && log.len() == 1 && is_there && is_hash
 }
 
@@ -252,8 +260,8 @@ fn changesets_of_mercurial(rt: HostRuntime) -> Result<(), Fail> {
 // The second of these with its parents exchanged. Result: the same id.
 #[test]
 fn parents_in_either_order(rt: HostRuntime) {
-    let first = node_id(&NULL, &ADD_A, TEXT_B);
-    let second = node_id(&ADD_A, &NULL, TEXT_B);
+    let first = id_of(&NULL, &ADD_A, TEXT_B);
+    let second = id_of(&ADD_A, &NULL, TEXT_B);
     assert!(rt; first == ADD_B && second == ADD_B);
 }
 
@@ -469,13 +477,24 @@ fn a_cut_back(rt: HostRuntime) -> Result<(), Fail> {
     Ok(())
 }
 
+/// Whether a row is a parent of another.
+fn is_parent(log: &Changelog, rev: u32, child: u32) -> bool
+    requires { child < length log.now.rows }
+    ensures { IsTrue result → IsParentIn (parents_of log.now.rows) rev child }
+{
+    let (p1, p2) = log.parent_revs(child);
+    if p1 == Some(rev) {
+        return true;
+    }
+    p2 == Some(rev)
+}
+
 /// Whether a row is a child of another, and the last child of that before it is this one.
 fn has_child_before(log: &Changelog, rev: u32, child: u32, before: Option<u32>) -> bool {
     if child as usize >= log.len() {
         return false;
     }
-    let (p1, p2) = log.parent_revs(child);
-    if p1 != Some(rev) && p2 != Some(rev) {
+    if !is_parent(log, rev, child) {
         return false;
     }
     log.child_before(rev, child) == before

@@ -6,10 +6,13 @@ mod ample;
 mod heads;
 mod steps;
 
+ghost use Rattle.hg_parts.specs.Store.{IsSound};
+
 use hg_log::node_id;
 use hg_parts::laws::marks_keep_stores_sound;
 use hg_parts::{
-    RaceText, Refusal, Source, Store, Turn, handle_part, handle_prepared, prepare, starts_replies,
+    Prepared, RaceText, Refusal, Source, Store, Turn, handle_part, handle_prepared, prepare,
+    starts_replies,
 };
 use hg_types::{Limits, NoMemory, Node, Param, Part, Payload, Phase, Seq, Settings};
 use linked_list_allocator::LocalHeap;
@@ -58,10 +61,15 @@ fn root(node: Node) -> Change {
     }
 }
 
+/// The id of a changeset. What it is no clause says, so that no proof goes into its hash.
+fn id_of(p1: &Node, p2: &Node, text: &[u8]) -> Node {
+    node_id(p1, p2, text)
+}
+
 /// A changeset of a text of one byte, as a delta on the empty text.
 fn child(p1: Node, p2: Node, text: u8) -> Change {
     Change {
-        node: node_id(&p1, &p2, &[text]),
+        node: id_of(&p1, &p2, &[text]),
         p1,
         p2,
         base: Some(NULL),
@@ -293,29 +301,55 @@ fn a_root_changeset(rt: HostRuntime) -> Result<(), Fail> {
     Ok(())
 }
 
-/// A root on a store, and a child of it, prepared, on a clone of that store.
-fn cloned(alloc: Global, state: RandomState) -> Result<bool, NoMemory> {
-    marks_keep_stores_sound::<Global>();
-    let mut held = empty(alloc, state, false);
-    let first = run(
-        alloc,
-        &mut held,
-        Source::Push,
-        &group(alloc, &[root(ROOT)])?,
-    );
-    let mut copy = held.store.try_clone(alloc)?;
-    let prepared = prepare(alloc, group(alloc, &[child(ROOT, NULL, b'b')])?)?;
+/// What comes of a prepared part on that store, and how many changesets there are then.
+fn came_on(
+    alloc: Global,
+    store: Store<Global>,
+    settings: Settings,
+    prepared: Prepared<Global>,
+) -> (Came, usize)
+    requires { IsSound settings store }
+{
+    let mut store = store;
     let turn = Turn {
-        settings: held.settings,
+        settings,
         source: Source::Push,
         replying: true,
         place: 0,
     };
-    let answer = handle_prepared(alloc, &mut copy, turn, prepared);
-    let rows = (held.store.log.len(), copy.log.len());
-    let told = Came::Told(false, b'1');
+    let answer = handle_prepared(alloc, &mut store, turn, prepared);
+    let came = came_of(&answer);
+    let rows = store.log.len();
+    drop(answer);
+    drop(store);
+    (came, rows)
+}
+
+/// The same on a clone of a store. `None` where memory was refused for it.
+fn came_on_clone(
+    alloc: Global,
+    held: &Held<Global>,
+    prepared: Prepared<Global>,
+) -> Option<(Came, usize)> {
+    marks_keep_stores_sound::<Global>();
+    match held.store.try_clone(alloc) {
+        Ok(copy) => Some(came_on(alloc, copy, held.settings, prepared)),
+        Err(_) => None,
+    }
+}
+
+/// A root on a store, and a child of it, prepared, on a clone of that store.
+fn cloned(alloc: Global, state: RandomState) -> Result<bool, NoMemory> {
+    let seed = group(alloc, &[root(ROOT)])?;
+    let push = group(alloc, &[child(ROOT, NULL, b'b')])?;
+    let prepared = prepare(alloc, push)?;
+    let mut held = empty(alloc, state, false);
+    let first = run(alloc, &mut held, Source::Push, &seed);
+    let came = came_on_clone(alloc, &held, prepared);
+    let rows = held.store.log.len();
     drop(held);
-    Ok(first == told && came_of(&answer) == told && rows == (1, 2))
+    let told = Came::Told(false, b'1');
+    Ok(first == told && came == Some((told, 2)) && rows == 1)
 }
 
 #[test]

@@ -1,5 +1,7 @@
 //! What a crash may leave of a file in memory.
 
+ghost use Rattle.std.specs.Prelude.{◌<◌, vec_len};
+
 use hg_help_tests::paper::{Paper, Step, overwrite};
 use std::alloc::Global;
 use std::test::Fail;
@@ -14,8 +16,8 @@ pub fn outcomes(alloc: Global, paper: &Paper) -> Result<Vec<Vec<u8>>, Fail> {
         files.push(left_by(alloc, paper, made, None)?)?;
     }
     for at in 0..count {
-        let before = (1usize << at) - 1;
-        let after = (1usize << count) - (2usize << at);
+        let before = (1usize << at).saturating_sub(1);
+        let after = (1usize << count).saturating_sub(2usize << at);
         for made in [0, before, after, before | after] {
             put_torn(alloc, paper, made, at, &mut files)?;
         }
@@ -54,7 +56,9 @@ fn put_torn(
     made: usize,
     at: usize,
     out: &mut Vec<Vec<u8>>,
-) -> Result<(), Fail> {
+) -> Result<(), Fail>
+    requires { at < vec_len paper.now.steps }
+{
     match &paper.steps[at] {
         Step::Cut(len) => {
             let whole = left_by(alloc, paper, made, None)?;
@@ -68,9 +72,7 @@ fn put_torn(
                 out.push(left_by(alloc, paper, made, Some((at, part)))?)?;
                 for filling in [0u8, 1, 255] {
                     let mut torn = part.to_vec(alloc)?;
-                    while torn.len() < bytes.len() {
-                        torn.push(filling)?;
-                    }
+                    torn.resize(bytes.len(), filling)?;
                     out.push(left_by(alloc, paper, made, Some((at, &torn)))?)?;
                 }
             }

@@ -1,6 +1,9 @@
 //! What no contract says: whole conversations of a real client, and that out of memory is reported.
 
-ghost use Rattle.std.specs.Prelude.{◌≡◌, ◌≤◌};
+ghost use Rattle.std.specs.Prelude.{◌≡◌, []};
+ghost use Rattle.hg_store.specs.Log.{IsSettled};
+ghost use Rattle.hg_serve.specs.Desks.{OpensWith};
+ghost use Rattle.hg_ledger.specs.Receipts.{IsTallyOf};
 
 mod conversations;
 mod cuts;
@@ -24,7 +27,7 @@ use hg_queue::{PartQueue, Taker};
 use hg_repo::Repo;
 use hg_restore::replay_records;
 use hg_serve::{Gate, Point, Server};
-use hg_store::{Log, recover};
+use hg_store::{Device, Log, recover};
 use hg_types::{NoMemory, Seq};
 use hg_wire::{Budget, ConnectionEnd, Shelf, Shown, Terms, Watch, WatchedPush, serve_http};
 use std::alloc::{AllocFailed, Allocator, Global};
@@ -194,17 +197,19 @@ fn play<J: Storing<Global>, R: RandomSource + Wait + Abort>(
     queue: PartQueue,
     taker: Taker,
     repo: Repo,
+    log: Log<Memory>,
+    counts: hg_ledger::Tally,
     said: &[&[u8]],
     way: Way<'_>,
-) -> Left {
+) -> Left
+    requires begins { OpensWith J.table J.capacity J.first queue taker repo }
+    requires settled { IsSettled ⟦<Memory as Device>⟧.seen ⟦<Memory as Device>⟧.may_leave J.head J.stored log }
+    requires opened { J.opened ≡ ⟦<Memory as Device>⟧.moment log.device }
+    requires tally { IsTallyOf J.tally J.name J.parts counts × (counts.promises ≡ []) }
+{
     let mut clients = Vec::new(alloc);
     let server = Server::<J>::new(alloc, repo, queue, taker);
-    let log = new_log(rt, alloc, way.calls);
     let witnesses = (client_of(rt, &server), client_of(rt, &server));
-    let counts = match hg_ledger::Tally::new(alloc) {
-        Ok(counts) => counts,
-        Err(_) => panic!(rt; "no memory for a tally"),
-    };
     let ledger = match Ledger::new(alloc, log, witnesses, counts) {
         Ok(ledger) => ledger,
         Err(_parts) => panic!(rt; "no memory for a ledger"),
@@ -271,10 +276,15 @@ fn served<R: RandomSource + Wait + Abort>(
     said: &[&[u8]],
     way: Way<'_>,
 ) -> Left {
+    let log = new_log(rt, alloc, way.calls);
+    let counts = match hg_ledger::Tally::new(alloc) {
+        Ok(counts) => counts,
+        Err(_) => panic!(rt; "no memory for a tally"),
+    };
     match PartQueue::new(alloc, 8) {
         Ok((queue, taker)) => {
             let repo = Repo::new(alloc, settings(), state(rt));
-            play::<Brand, R>(rt, alloc, queue, taker, repo, said, way)
+            play::<Brand, R>(rt, alloc, queue, taker, repo, log, counts, said, way)
         }
         Err(_) => panic!(rt; "no memory for a queue"),
     }
@@ -369,7 +379,7 @@ fn a_store_that_fails_is_no_answer(rt: HostRuntime) {
             failed = failed.saturating_add(1);
             // the push and what comes after it were not answered
             assert!(rt; TOLD_0.starts_with(left.told.as_slice()));
-            assert!(rt; left.told.len() < TOLD_0.len() - 42 - 67);
+            assert!(rt; left.told.len() < TOLD_0.len().saturating_sub(42 + 67));
             assert_eq!(rt; left.tally.lost, 1);
         } else {
             assert!(rt; left.told.as_slice() == TOLD_0);

@@ -40,9 +40,11 @@ fn is_same(one: &Hosting<'_>, other: &Hosting<'_>) -> bool {
 
 /// Whether `host --store S` and these words ask for that.
 fn asks_host(alloc: Global, more: &[&str], wanted: &Hosting<'_>) -> Result<bool, Fail> {
-    let mut words = Vec::from_slice(alloc, &["host", "--store", "S"])?;
-    words.extend_from_slice(more)?;
-    Ok(match job_of(alloc, &spoken(alloc, &words)?) {
+    let mut words = spoken(alloc, &["host", "--store", "S"])?;
+    for word in more {
+        words.push(String::from_str(alloc, word)?)?;
+    }
+    Ok(match job_of(alloc, &words) {
         Ok(Job::Host(hosting)) => is_same(&hosting, wanted),
         _ => false,
     })

@@ -8,7 +8,7 @@ fn hashed(alloc: Global, text: &[u8], ids: (Node, Node), other: &[u8]) -> Result
     let mut bytes = Vec::from_slice(alloc, &ids.0.0)?;
     bytes.extend_from_slice(&ids.1.0)?;
     bytes.extend_from_slice(other)?;
-    let end = bytes.len() as u32;
+    let end = u32::try_from(bytes.len()).unwrap_or(0);
     let mut payload = Payload::of(Seq::from_vec(bytes));
     payload.hash(0, 20, 40, end);
     let delta = whole(alloc, text)?;
@@ -52,7 +52,7 @@ fn is_answered(
         ((NULL, ADD_A), TEXT_C),
         ((NULL, ADD_A), b"".as_slice()),
     ] {
-        log.cut_back(1);
+        cut(log, 1);
         all = put_hashed(alloc, log, node, ids, other) == Some(wanted) && all;
     }
     all

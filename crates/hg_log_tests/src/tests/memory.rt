@@ -146,7 +146,7 @@ fn put_many<'h>(
         let text = number.to_be_bytes();
         let root = changeset(ROOT, NULL, NULL, b"");
         let parent = if number % every == 0 { ROOT } else { line };
-        let child = changeset(node_id(&parent, &NULL, &text), parent, NULL, &text);
+        let child = changeset(id_of(&parent, &NULL, &text), parent, NULL, &text);
         let given = if number == 0 { root } else { child };
         match put(deltas, log, given) {
             Ok(Added::New(rev))
@@ -201,7 +201,7 @@ fn a_long_text_comes_and_goes<'h>(
     log: &mut Changelog<&'h LocalHeap>,
     text: &[u8],
 ) -> bool {
-    let long = changeset(node_id(&NULL, &NULL, text), NULL, NULL, text);
+    let long = changeset(id_of(&NULL, &NULL, text), NULL, NULL, text);
     let before = heap.used();
     let is_new = put(deltas, log, long) == Ok(Added::New(1200));
     let with_text = heap.used();
@@ -268,7 +268,7 @@ fn the_greatest_text_is_kept<'h>(
     text: &[u8],
 ) -> bool {
     let mut log = Changelog::new(heap, state, Limits::standard());
-    let long = changeset(node_id(&NULL, &NULL, text), NULL, NULL, text);
+    let long = changeset(id_of(&NULL, &NULL, text), NULL, NULL, text);
     let is_new = put(deltas, &mut log, long) == Ok(Added::New(0));
     let is_copied = match log.try_clone(heap) {
         Ok(copy) => copy.knows(&long.node),

@@ -3,16 +3,30 @@
 use super::*;
 use hg_parts::hash_ahead;
 
-/// What comes of a part on a store, when its texts were hashed ahead.
-fn run_ahead(alloc: Global, held: &mut Held<Global>, part: Part<Global>) -> Result<Came, NoMemory> {
+/// What comes of a prepared part on a store. Where it is refused, it is gone back from.
+fn came_of_prepared(alloc: Global, held: &mut Held<Global>, prepared: Prepared<Global>) -> Came {
+    let mark = held.store.mark();
     let turn = Turn {
         settings: held.settings,
         source: Source::Push,
         replying: true,
         place: 0,
     };
-    let prepared = prepare(alloc, hash_ahead(part))?;
-    Ok(came_of(&handle_prepared(alloc, &mut held.store, turn, prepared)))
+    match handle_prepared(alloc, &mut held.store, turn, prepared) {
+        Ok(reply) => replied(&reply),
+        Err(refusal) => {
+            held.store.back_to(mark);
+            refused(&refusal)
+        }
+    }
+}
+
+/// What comes of a part on a store, when its texts were hashed ahead.
+fn run_ahead(alloc: Global, held: &mut Held<Global>, part: Part<Global>) -> Came {
+    match prepare(alloc, hash_ahead(part)) {
+        Ok(prepared) => came_of_prepared(alloc, held, prepared),
+        Err(_) => Came::NoMemory,
+    }
 }
 
 /// A root, its children and their merge, then a wrong hash after a good one.
@@ -22,9 +36,9 @@ fn as_without(alloc: Global, state: RandomState) -> Result<bool, NoMemory> {
     let good = group(alloc, &[root(ROOT), one, two, merged])?;
     let bad = group(alloc, &[child(ROOT, NULL, b'b'), root(WRONG)])?;
     let mut held = empty(alloc, state, false);
-    let first = run_ahead(alloc, &mut held, good)?;
+    let first = run_ahead(alloc, &mut held, good);
     let rows = held.store.log.len();
-    let wrong = run_ahead(alloc, &mut held, bad)?;
+    let wrong = run_ahead(alloc, &mut held, bad);
     drop(held);
     Ok((first, wrong) == (Came::Told(false, b'1'), Came::Refused(5)) && rows == 4)
 }

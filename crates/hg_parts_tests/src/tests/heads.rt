@@ -45,9 +45,11 @@ fn secret_line(alloc: Global, state: RandomState, payload: &[u8]) -> Result<Held
 }
 
 /// Whether the entries are handled.
-fn are_handled(alloc: Global, held: &mut Held, entries: &[u8]) -> Result<bool, NoMemory> {
-    let heads = part(alloc, b"PHASE-HEADS", b"", b"", entries)?;
-    Ok(run(alloc, held, Source::Push, &heads) == Came::Silent)
+fn are_handled(alloc: Global, held: &mut Held, entries: &[u8]) -> bool {
+    match part(alloc, b"PHASE-HEADS", b"", b"", entries) {
+        Ok(heads) => run(alloc, held, Source::Push, &heads) == Came::Silent,
+        Err(_) => false,
+    }
 }
 
 // ---- few entries
@@ -113,7 +115,7 @@ fn comes(alloc: Global, state: RandomState, heads: &Heads) -> Result<bool, NoMem
     let (changes, nodes) = line(alloc, 4)?;
     let entries = payload_of(alloc, nodes.as_slice(), heads.0)?;
     let mut held = secret_line(alloc, state, changes.as_slice())?;
-    let handled = are_handled(alloc, &mut held, entries.as_slice())?;
+    let handled = are_handled(alloc, &mut held, entries.as_slice());
     let right = has_phases(&held, heads.1);
     drop(held);
     Ok(handled && right)
@@ -178,7 +180,7 @@ fn many_come(alloc: Global, state: RandomState) -> Result<(usize, usize), NoMemo
     let (changes, nodes) = line(alloc, MANY)?;
     let entries = half_of_each(alloc, nodes.as_slice())?;
     let mut held = secret_line(alloc, state, changes.as_slice())?;
-    let _handled = are_handled(alloc, &mut held, entries.as_slice())?;
+    let _handled = are_handled(alloc, &mut held, entries.as_slice());
     let counts = (count_of(&held, P), count_of(&held, D));
     drop(held);
     Ok(counts)

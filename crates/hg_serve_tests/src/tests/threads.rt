@@ -1,7 +1,7 @@
 //! Many threads at one server. Each pushes changesets, bookmarks and markers, and the repository that the
 //! server ends with is the one that its done pushes give, run one by one in the order of the report.
 
-ghost use Rattle.std.specs.Prelude.{◌≤◌};
+ghost use Rattle.std.specs.Prelude.{◌<◌, ◌≤◌};
 
 use super::race::group;
 use super::*;
@@ -131,7 +131,9 @@ pub fn pushes<J: Naming<Global> + Send + Sync, R: Threads + Wait + Abort + Sync>
 }
 
 /// A hexadecimal digit.
-fn digit(value: u8) -> u8 {
+fn digit(value: u8) -> u8
+    requires { value < 16 }
+{
     if value < 10 {
         b'0' + value
     } else {

@@ -62,7 +62,7 @@ fn byte_past_the_limit_with_a_fault(rt: HostRuntime) -> Result<(), Fail> {
     ];
     for (bytes, fault) in cases {
         let front = bytes.len().saturating_sub(1);
-        let limit = front as u32;
+        let limit = u32::try_from(front).unwrap_or(u32::MAX);
         assert!(rt;
             comes_to(
                 rt.alloc(),

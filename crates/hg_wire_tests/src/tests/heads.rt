@@ -18,12 +18,17 @@ fn bundle_of<R: Abort>(rt: &R, alloc: Global, texts: &[Vec<u8>]) -> Vec<u8> {
             )
             .is_ok()
         && made
-            .extend_from_slice(&(group.len() as u32).to_be_bytes())
+            .extend_from_slice(&size_of(group.as_slice()).to_be_bytes())
             .is_ok()
         && made.extend_from_slice(group.as_slice()).is_ok()
         && made.extend_from_slice(&[0; 8]).is_ok();
     assert!(rt; ok);
     made
+}
+
+/// How many bytes these are.
+fn size_of(bytes: &[u8]) -> u32 {
+    u32::try_from(bytes.len()).unwrap_or(u32::MAX)
 }
 
 /// The chunk of a changeset without parents.
@@ -32,8 +37,10 @@ fn add_chunk<R: Abort>(rt: &R, group: &mut Vec<u8>, text: &[u8]) {
     hasher.update(&[0; 40]);
     hasher.update(text);
     let node = hasher.finalize();
-    let size = text.len() as u32;
-    let ok = group.extend_from_slice(&(116 + size).to_be_bytes()).is_ok()
+    let size = size_of(text);
+    let ok = group
+        .extend_from_slice(&size.saturating_add(116).to_be_bytes())
+        .is_ok()
         && group.extend_from_slice(&node).is_ok()
         && group.extend_from_slice(&[0; 60]).is_ok()
         && group.extend_from_slice(&node).is_ok()
@@ -71,7 +78,7 @@ fn body_of(told: &[u8]) -> &[u8] {
         .windows(4)
         .position(|window| window == b"\r\n\r\n".as_slice())
     {
-        Some(at) => &told[at + 4..],
+        Some(at) => told.get(at.saturating_add(4)..).unwrap_or(b""),
         None => b"",
     }
 }
@@ -112,7 +119,7 @@ fn three_hundred_heads_are_told(rt: HostRuntime) {
         b"GET /?cmd=heads HTTP/1.1\r\nhost: a\r\n\r\n",
     );
     let heads = body_of(told.as_slice());
-    assert_eq!(rt; heads.len(), 300 * 41);
+    assert!(rt; heads.len() == 300 * 41);
     for number in 1..300usize {
         // in ascending order
         assert!(rt;

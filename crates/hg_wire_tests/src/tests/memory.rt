@@ -1,6 +1,11 @@
 //! Memory that is refused while a connection is served: each answer is the one that says so, and the
 //! connection goes on.
 
+ghost use Rattle.std.specs.Prelude.{◌≡◌, []};
+ghost use Rattle.hg_store.specs.Log.{IsSettled};
+ghost use Rattle.hg_serve.specs.Desks.{OpensWith};
+ghost use Rattle.hg_ledger.specs.Receipts.{IsTallyOf};
+
 use super::*;
 use hg_kept::Keeping;
 use hg_wire::{Host, Wire};
@@ -110,18 +115,21 @@ fn converse_over<J: Storing<A>, A: Allocator + Copy, R: RandomSource + Wait + Ab
     queue: PartQueue<A>,
     taker: Taker<A>,
     repo: Repo<A>,
+    log: Log<Memory>,
+    counts: hg_ledger::Tally<A>,
     talk: Talk<'_>,
-) -> Came {
-    let Ok(tally) = hg_ledger::Tally::new(alloc) else {
-        return Came::Unmade;
-    };
+) -> Came
+    requires begins { OpensWith J.table J.capacity J.first queue taker repo }
+    requires settled { IsSettled ⟦<Memory as Device>⟧.seen ⟦<Memory as Device>⟧.may_leave J.head J.stored log }
+    requires opened { J.opened ≡ ⟦<Memory as Device>⟧.moment log.device }
+    requires tally { IsTallyOf J.tally J.name J.parts counts × (counts.promises ≡ []) }
+{
     let Ok(mut clients) = Vec::with_capacity(alloc, 4) else {
         return Came::Unmade;
     };
     let server = Server::<J, A>::new(alloc, repo, queue, taker);
-    let log = new_log(rt, global, 1_000_000);
     let witnesses = (client_of(rt, &server), client_of(rt, &server));
-    let ledger = match Ledger::new(alloc, log, witnesses, tally) {
+    let ledger = match Ledger::new(alloc, log, witnesses, counts) {
         Ok(ledger) => ledger,
         Err(parts) => {
             let Parts {
@@ -185,7 +193,11 @@ fn came_over<R: RandomSource + Wait + Abort>(
     match PartQueue::new(heap, 1) {
         Ok((queue, taker)) => {
             let repo = Repo::new(heap, settings(), state(rt));
-            converse_over::<Brand, _, R>(rt, global, heap, queue, taker, repo, talk)
+            let log = new_log(rt, global, 1_000_000);
+            let Ok(counts) = hg_ledger::Tally::new(heap) else {
+                return Came::Unmade;
+            };
+            converse_over::<Brand, _, R>(rt, global, heap, queue, taker, repo, log, counts, talk)
         }
         Err(_) => Came::Unmade,
     }
@@ -254,6 +266,7 @@ fn pushed(answer: &[u8], done: &[u8]) -> Option<Option<bool>> {
 fn each_growth_is_refused(rt: HostRuntime) -> Result<(), Fail> {
     let alloc = rt.alloc();
     let full = answers_of(&rt, alloc, TOLD_0);
+    assert!(rt; full.len() == 7);
     let (mut unmade, mut whole) = (0usize, 0usize);
     let mut refused = [0usize; 7];
     let (mut aborted, mut unread) = (0usize, 0usize);
@@ -266,24 +279,24 @@ fn each_growth_is_refused(rt: HostRuntime) -> Result<(), Fail> {
     for sixteens in 1..1_400usize {
         let heap = LocalHeap::new(alloc, sixteens * 16)?;
         match came_over(&rt, alloc, &heap, talk) {
-            Came::Unmade => unmade += 1,
+            Came::Unmade => unmade = unmade.saturating_add(1),
             Came::NotKept => {}
             Came::Ended => panic!(rt; "an answer is missing at {sixteens}"),
             Came::Answered(Answered { told, after }) => {
                 let answers = answers_of(&rt, alloc, told.as_slice());
-                assert_eq!(rt; answers.len(), 7, "{sixteens}");
+                assert!(rt; answers.len() == 7, "{sixteens}");
                 let push = answers[5];
                 let Some(is_pushed) = pushed(push, full[5]) else {
                     panic!(rt; "no answer to a push at {sixteens}");
                 };
-                aborted += usize::from(push == ABORTED);
-                unread += usize::from(push == NOT_READ);
+                aborted = aborted.saturating_add(usize::from(push == ABORTED));
+                unread = unread.saturating_add(usize::from(push == NOT_READ));
                 for place in 0..7usize {
                     let answer = answers[place];
                     let is_told = answer == full[place] && (place != 6 || is_pushed != Some(false));
                     let is_before = place == 6 && answer == NOTHING && is_pushed != Some(true);
                     if answer == OUT_OF_MEMORY || (place == 5 && is_pushed != Some(true)) {
-                        refused[place] += 1;
+                        refused[place] = refused[place].saturating_add(1);
                     } else {
                         assert!(rt; is_told || is_before, "the answer {place} at {sixteens}");
                     }
@@ -298,7 +311,7 @@ fn each_growth_is_refused(rt: HostRuntime) -> Result<(), Fail> {
                     told_then || last == OUT_OF_MEMORY || is_pushed.is_none(),
                     "{sixteens}"
                 );
-                whole += usize::from(told.as_slice() == TOLD_0);
+                whole = whole.saturating_add(usize::from(told.as_slice() == TOLD_0));
             }
         }
     }
@@ -368,30 +381,30 @@ fn each_command_is_refused_memory(rt: HostRuntime) -> Result<(), Fail> {
             Came::Unmade | Came::Ended => panic!(rt; "an answer is missing at {blocks}"),
             Came::Answered(Answered { told, after }) => {
                 let answers = answers_of(&rt, alloc, told.as_slice());
-                assert_eq!(rt; answers.len(), 12, "{blocks}");
+                assert!(rt; answers.len() == 12, "{blocks}");
                 let key = answers[0];
                 let is_set = key.ends_with(TOLD_ALL[0]);
                 let mut here = 0usize;
                 for place in 0..12usize {
                     let answer = answers[place];
                     if answer.ends_with(TOLD_ALL[place]) {
-                        here += 1;
+                        here = here.saturating_add(1);
                     } else if answer == OUT_OF_MEMORY {
-                        refused[place] += 1;
+                        refused[place] = refused[place].saturating_add(1);
                     } else if place == 0 {
                         let is_told = key.ends_with(b"\r\n0\n")
                             || key == NOT_OPENED
                             || key == NO_ANSWER;
                         assert!(rt; is_told, "{blocks}");
-                        refused[0] += 1;
+                        refused[0] = refused[0].saturating_add(1);
                     } else {
                         let is_before = place == 3 && answer == NOTHING && !is_set;
                         assert!(rt; is_before, "the answer {place} at {blocks}");
                     }
                 }
-                whole += usize::from(here == 12);
+                whole = whole.saturating_add(usize::from(here == 12));
                 let again = answers_of(&rt, alloc, after.as_slice());
-                assert_eq!(rt; again.len(), 11, "{blocks}");
+                assert!(rt; again.len() == 11, "{blocks}");
                 for place in 1..12usize {
                     let answer = again[place - 1];
                     if place == 3 && !is_set {
@@ -422,7 +435,7 @@ fn places_after(asked: &[u8]) -> &[u8] {
         .windows(4)
         .position(|window| window == b"GET ".as_slice())
     {
-        Some(place) => &asked[place..],
+        Some(place) => asked.get(place..).unwrap_or(b""),
         None => b"",
     }
 }

@@ -321,6 +321,7 @@ fn names_of_all_forms_are_told(rt: HostRuntime) {
     let left = told_behind_names(&rt, alloc, &names, &report);
     for name in [" l%0Al\n", " r%0Dr\n", " t%09t\n"] {
         let name = name.as_bytes();
+        assert!(rt; !name.is_empty());
         assert!(rt; left.told.windows(name.len()).any(|window| window == name));
     }
     assert!(rt; left.told.ends_with(b"J 6\nJ 7\n"));
