@@ -92,7 +92,8 @@ def join_tests(stand, name, members):
             inside = os.path.relpath(path, source)
             target = f"{folder}/{member}.rt" if inside == "lib.rt" else f"{folder}/{member}/{inside}"
             os.makedirs(os.path.dirname(target), exist_ok=True)
-            text = sources.read(path).replace("#![tactic(auto)]\n", "")
+            # nothing is proved here, so no proof is told which lemmas help it
+            text = re.sub(r"#\[tactic\([^\]]*\)\]\n", "", sources.read(path).replace("#![tactic(auto)]\n", ""))
             with open(target, "w", encoding="utf-8") as file:
                 file.write(re.sub(r"\bcrate::", f"crate::{member}::", text))
     with open(f"{folder}/lib.rt", "w", encoding="utf-8") as file:
