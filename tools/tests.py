@@ -10,6 +10,7 @@ fails, faults, reads or writes out of bounds, or takes more than its time fails 
 """
 import os
 import re
+import signal
 import subprocess
 import sys
 import tempfile
@@ -59,15 +60,26 @@ def begun_by(process):
     return found[1:]
 
 
+def is_hint(process):
+    """Whether a process is the check of names that `rt try` makes beside its run. It takes a minute of a processor, and
+    what it finds is what `rt check` says of the same crate."""
+    with open(f"/proc/{process}/cmdline", encoding="utf-8", errors="replace") as words:
+        return "\0--start\0no function\0" in words.read()
+
+
 def keep_behind(process):
-    """While a process runs, has what it begins wait for a processor as this one does. `rt try` begins a session, and
-    where the system shares the processors out by sessions, `nice` counts for nothing outside of its own."""
+    """While a process runs, has what it begins wait for a processor as this one does, and ends the check of names.
+    `rt try` begins a session, and where the system shares the processors out by sessions, `nice` counts for nothing
+    outside of its own."""
     nice, told = os.nice(0), set()
-    while nice > 0 and os.path.exists(f"/proc/{process}"):
+    while os.path.exists(f"/proc/{process}"):
         for it in begun_by(process):
             try:
+                if is_hint(it):
+                    os.kill(it, signal.SIGKILL)
+                    continue
                 session = measure.stat_of(it)[3]
-                if session not in told | {str(os.getsid(0))}:
+                if nice > 0 and session not in told | {str(os.getsid(0))}:
                     told.add(session)
                     with open(f"/proc/{it}/autogroup", "w", encoding="utf-8") as group:
                         group.write(str(nice))
