@@ -1,7 +1,9 @@
 //! The service of one connection.
 
-ghost use Rattle.std.specs.Prelude.{◌≡◌, false, None, Some};
-ghost use Rattle.hg_ledger.specs.Clients.{IsLater};
+ghost use Rattle.std.specs.Prelude.{◌≡◌, false, None, Some, OnErr, OnOk};
+ghost use Rattle.http_server.specs.Response.{IsBlank};
+ghost use Rattle.hg_ledger.specs.Clients.{IsCovered, IsLater};
+ghost use Rattle.hg_wire.specs.Answering.{Responds};
 
 use crate::answering::answer_request;
 use crate::terms::{Host, Terms};
@@ -111,23 +113,19 @@ impl<'a, J: Storing<A>, D: Device, R: Wait, S: Shown<A>, V: Watch<A>, A: Allocat
             None => unreachable!(),
         }
     }
-}
 
-impl<J: Storing<A>, D: Device, R: Wait, S: Shown<A>, V: Watch<A>, A: Allocator + Copy> Service
-    for Wire<'_, J, D, R, S, V, A> {
-    ghost use Rattle.hg_ledger.specs.Clients.{IsCovered};
-    ghost use Rattle.hg_wire.specs.Answering.{Responds};
-
-    ghost answers = { λ old request response new. Responds J.capacity J.first
-        (IsCovered D.seen D.may_leave D.moment J.head J.stored J.first) S.is_page S.are_metrics old request response
-        new };
-
-    /// Where the store failed there is no answer, and the connection ends: nor is a later request answered.
-    fn call(
+    /// Answers a request. Where the store failed there is no answer, and nor is a later request answered.
+    fn answer(
         &mut self,
         request: &Request<Bytes>,
         response: &mut Response,
-    ) -> Result<(), AllocError> {
+    ) -> Result<(), AllocError>
+        requires { IsBlank response.old }
+        ensures ok { OnOk result (Responds J.capacity J.first
+            (IsCovered D.seen D.may_leave D.moment J.head J.stored J.first) S.is_page S.are_metrics
+            self.old request.now response.new self.new) }
+        ensures err { OnErr result (self.new ≡ self.old) }
+    {
         if self.has_failed {
             return Err(AllocError);
         }
@@ -156,6 +154,25 @@ impl<J: Storing<A>, D: Device, R: Wait, S: Shown<A>, V: Watch<A>, A: Allocator +
                 Err(AllocError)
             }
         }
+    }
+}
+
+impl<J: Storing<A>, D: Device, R: Wait, S: Shown<A>, V: Watch<A>, A: Allocator + Copy> Service
+    for Wire<'_, J, D, R, S, V, A> {
+    ghost use Rattle.hg_ledger.specs.Clients.{IsCovered};
+    ghost use Rattle.hg_wire.specs.Answering.{Responds};
+
+    ghost answers = { λ old request response new. Responds J.capacity J.first
+        (IsCovered D.seen D.may_leave D.moment J.head J.stored J.first) S.is_page S.are_metrics old request response
+        new };
+
+    /// Where the store failed there is no answer, and the connection ends.
+    fn call(
+        &mut self,
+        request: &Request<Bytes>,
+        response: &mut Response,
+    ) -> Result<(), AllocError> {
+        self.answer(request, response)
     }
 }
 

@@ -4,8 +4,8 @@ use Rattle.hg_wire.specs.Answering.{around_of, AnswersRequest}
 use Rattle.hg_wire.specs.Pushes.{Answered}
 use Rattle.hg_wire.specs.code.Wires.{seen_by}
 use Rattle.hg_wire.proofs.Wires.{last_noted, responds, told_all}
-use Rattle.hg_wire.proofs.wire.WireService.call.Goals.{in-Text-1, in-Shown-1, in-Moved-1, in-Refused-1}
-use Rattle.hg_wire.proofs.wire.WireService.call.Goals as goal
+use Rattle.hg_wire.proofs.wire.Wire.answer.Goals.{in-Text-1, in-Shown-1, in-Moved-1, in-Refused-1}
+use Rattle.hg_wire.proofs.wire.Wire.answer.Goals as goal
 
 pub invariant_of-self-in-Ok-4 : goal.invariant_of-self-in-Ok-4
 invariant_of-self-in-Ok-4 g c =
