@@ -1,23 +1,52 @@
 //! Stores in real folders.
 
+ghost use Rattle.std.specs.Prelude.{◌≡◌, ◌<◌, ◌+◌, IfOk, OnOk, length};
+ghost use Rattle.std.specs.List.{AllByRecursion};
+ghost use Rattle.hg_store.specs.Records.{IsRecord};
+
 use crate::made::*;
 use hg_archive::*;
 use hg_store::{Sealed, create_store, open_store};
-use hg_types::Seq;
+use hg_types::{NoMemory, Seq};
+use std::alloc::Global;
 use std::fs;
 use std::hash::RandomState;
 use std::test::*;
+
+/// Adds a record to a batch, where it is not too long.
+#[tactic(auto, using(crate::proofs::Batches::each_more))]
+fn add(alloc: Global, batch: &mut Vec<Sealed>, record: &[u8]) -> Result<(), NoMemory>
+    requires { AllByRecursion IsRecord batch.old.items }
+    ensures each { OnOk result (AllByRecursion IsRecord batch.new.items) }
+    ensures more { OnOk result (length batch.new.items ≡ length batch.old.items + 1) }
+{
+    if record.len() >= TOO_MANY {
+        return Err(NoMemory);
+    }
+    let sealed = Sealed::new(Seq::copy_of(alloc, record)?);
+    batch.push(sealed)?;
+    Ok(())
+}
+
+/// A batch of M1, E and M2.
+fn batch_of_three(alloc: Global) -> Result<Vec<Sealed>, NoMemory>
+    ensures some { IfOk result (λ batch. 0 < length batch.items) }
+    ensures each { IfOk result (λ batch. AllByRecursion IsRecord batch.items) }
+{
+    let mut batch = Vec::new(alloc);
+    add(alloc, &mut batch, &ONE)?;
+    add(alloc, &mut batch, &EMPTY)?;
+    add(alloc, &mut batch, &TWO)?;
+    Ok(batch)
+}
 
 /// Makes a store of M1, E and M2.
 fn fill(rt: &HostRuntime, folder: &str) -> Result<(), Fail> {
     let alloc = rt.alloc();
     let _ = fs::remove_dir_all(rt, folder);
     create_store(rt, alloc, folder, &head(false))?;
+    let batch = batch_of_three(alloc)?;
     let mut opened = open_store(rt, alloc, folder, &head(false))?;
-    let mut batch = Vec::new(alloc);
-    for bundle in [ONE.as_slice(), &EMPTY, &TWO] {
-        batch.push(Sealed::new(Seq::copy_of(alloc, bundle)?))?;
-    }
     opened.log.append(&batch)?;
     Ok(())
 }
@@ -68,7 +97,7 @@ fn beside_a_server(rt: HostRuntime) -> Result<(), Fail> {
     assert!(rt; text.as_slice() == MARKERS.as_bytes());
     let mut log = Vec::new(alloc);
     assert!(rt; log_store(&rt, alloc, folder, 1, &mut log) == Ok(StoreEnd::Whole));
-    assert!(rt; log.len() == 80 && &log.as_slice()[12..] == TWO.as_slice());
+    assert!(rt; log.len() == 80 && log.as_slice().get(12..) == Some(TWO.as_slice()));
     let held = ArchiveFault {
         file: NamedFile::Store(folder),
         fault: Fault::Held,
@@ -78,8 +107,9 @@ fn beside_a_server(rt: HostRuntime) -> Result<(), Fail> {
     drop(opened);
     let name = "hg_archive_beside/pushes";
     let file = fs::read(&rt, name)?;
-    let mut torn = file.as_slice()[..file.len() - 1].to_vec(alloc)?;
-    torn.push(1)?;
+    let mut torn = fs::read(&rt, name)?;
+    let last = torn.len().saturating_sub(1);
+    turn(&mut torn, last, 1);
     fs::write(&rt, name, torn.as_slice())?;
     let mut text = Vec::new(alloc);
     assert!(rt; report_store(&rt, alloc, state, folder, &mut text) == Ok(StoreEnd::Torn(3)));
@@ -144,7 +174,7 @@ fn a_cut_in_a_folder(rt: HostRuntime) -> Result<(), Fail> {
     assert!(rt; cut_store(&rt, alloc, folder, 1) == Ok(()));
     assert!(rt; fs::read(&rt, name)?.as_slice() == shut_store(alloc, false, &[&ONE])?.as_slice());
     let kept = fs::read(&rt, "hg_archive_cut/pushes.cut-1")?;
-    assert!(rt; kept.len() == 80 && &kept.as_slice()[12..] == TWO.as_slice());
+    assert!(rt; kept.len() == 80 && kept.as_slice().get(12..) == Some(TWO.as_slice()));
     assert_eq!(rt; fs::exists(&rt, "hg_archive_cut/pushes.new")?, false);
     assert_eq!(rt; fs::exists(&rt, "hg_archive_cut/pushes.cut-1.new")?, false);
     assert!(rt; cut_store(&rt, alloc, folder, 1).is_err());

@@ -54,6 +54,28 @@ pub fn head(publishing: bool) -> Head {
     }
 }
 
+/// More bytes than a record has.
+pub const TOO_MANY: usize = 1 << 32;
+
+/// Appends a record, where it is not too long.
+fn put_next<A: Allocator>(
+    out: &mut Vec<u8, A>,
+    before: &[u8; 20],
+    record: &[u8],
+) -> Result<[u8; 20], NoMemory> {
+    if record.len() >= TOO_MANY {
+        return Err(NoMemory);
+    }
+    put_record(out, before, record)
+}
+
+/// Turns these bits of the byte at a place, where there is one.
+pub fn turn(bytes: &mut [u8], at: usize, bits: u8) {
+    if at < bytes.len() {
+        bytes[at] ^= bits;
+    }
+}
+
 /// A store of these records, without a gate after them.
 pub fn store_of<A: Allocator + Copy>(
     alloc: A,
@@ -64,7 +86,7 @@ pub fn store_of<A: Allocator + Copy>(
     head(publishing).put(&mut bytes)?;
     let mut digest = Sha1::digest(&bytes);
     for bundle in bundles {
-        digest = put_record(&mut bytes, &digest, bundle)?;
+        digest = put_next(&mut bytes, &digest, bundle)?;
     }
     Ok(bytes)
 }
