@@ -16,7 +16,7 @@ fn can_be_written<A: Allocator>(part: &Part<A>) -> bool
 }
 
 fn can_all_be_written<A: Allocator>(parts: &[Part<A>]) -> bool
-    ensures { IsTrue result ↔ All CanBeWritten parts.now }
+    ensures { IsTrue result → All CanBeWritten parts.now }
 {
     parts.iter().all(|part| can_be_written(part))
 }
