@@ -263,6 +263,8 @@ fn what_keys_name(rt: HostRuntime) -> Result<(), Fail> {
     }
     let digits = hex::encode(alloc, tip.0.as_slice())?;
     let digits = digits.as_str().as_bytes();
+    let most = digits.get(..39).ok_or("too few digits")?;
+    let few = digits.get(..12).ok_or("too few digits")?;
     let line = joined(alloc, &[b"1 ", digits, b"\n"])?;
     let upper = hex::encode_upper(alloc, tip.0.as_slice())?;
     for key in [
@@ -270,8 +272,8 @@ fn what_keys_name(rt: HostRuntime) -> Result<(), Fail> {
         b".".as_slice(),
         digits,
         upper.as_str().as_bytes(),
-        &digits[..39],
-        &digits[..12],
+        most,
+        few,
     ] {
         assert!(rt; is_text(lookup_text(alloc, &log, &bookmarks, key), line.as_slice()));
     }
@@ -307,10 +309,10 @@ fn what_keys_name(rt: HostRuntime) -> Result<(), Fail> {
         )
     );
     // A bookmark comes before a beginning, and an id before a bookmark.
-    bookmarks.set(alloc, &digits[..12], Some(NULL))?;
+    bookmarks.set(alloc, few, Some(NULL))?;
     assert!(rt;
         is_text(
-            lookup_text(alloc, &log, &bookmarks, &digits[..12]),
+            lookup_text(alloc, &log, &bookmarks, few),
             b"1 0000000000000000000000000000000000000000\n"
         )
     );
