@@ -261,22 +261,31 @@ fn the_branch_map_of_mercurial(rt: HostRuntime) -> Result<(), Fail> {
     let mut markers = Markers::new(alloc, state);
     assert!(rt; is_text(map_of(alloc, &log, &markers), b""));
     let early = View::of(alloc, &log, &markers)?;
-    let rows = rows(alloc)?;
-    let nodes = put_all(alloc, &mut log, rows.as_slice())?;
-    for place in [13, 16, 17] {
-        prune(
-            alloc,
-            &mut markers,
-            *nodes.get(place).ok_or("no changeset")?,
-        )?;
-    }
+    put_mercurial(alloc, &mut log, &mut markers)?;
     assert!(rt; is_text(map_of(alloc, &log, &markers), BRANCHES));
     assert!(rt; is_text(branchmap_text(alloc, &early), b""));
     let hidden = hidden_of(alloc, &log, &markers)?;
-    for (place, is_hidden) in hidden.as_slice().iter().enumerate() {
-        assert_eq!(rt; *is_hidden, place == 16 || place == 17);
+    assert!(rt; are_last_two(hidden.as_slice()));
+    Ok(())
+}
+
+/// Puts the changesets, and makes three of them obsolete.
+fn put_mercurial(alloc: Global, log: &mut Changelog, markers: &mut Markers) -> Result<(), Fail> {
+    let rows = rows(alloc)?;
+    let nodes = put_all(alloc, log, rows.as_slice())?;
+    for place in [13, 16, 17] {
+        prune(alloc, markers, *nodes.get(place).ok_or("no changeset")?)?;
     }
     Ok(())
+}
+
+/// Whether those of the places 16 and 17 are hidden, and no other.
+fn are_last_two(hidden: &[bool]) -> bool {
+    let mut all = true;
+    for (place, is_hidden) in hidden.iter().enumerate() {
+        all = all && *is_hidden == (place == 16 || place == 17);
+    }
+    all
 }
 
 /// Whether the branch map of the view is that of Mercurial.

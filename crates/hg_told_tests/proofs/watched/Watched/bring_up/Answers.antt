@@ -15,4 +15,4 @@ invariant_of-self g c =
 
 pub invariant_of-self-2 : goal.invariant_of-self-2
 invariant_of-self-2 g c =
-    of_what_came _ c.in_ok-came.came _ _ _ _ c.in_ok-with.ensures c.in_ok-came.ensures
+    of_what_came _ c.in_ok-came.came _ _ _ _ c.in_ok-self-inside.ensures c.in_ok-came.ensures
