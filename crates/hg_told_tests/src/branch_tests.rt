@@ -1,10 +1,9 @@
 //! Branches, hidden changesets and the branch map. The changesets and the branch map are those of Mercurial 6.3.
 
-ghost use Rattle.std.specs.Prelude.{◌≡◌, length, take};
-
+use crate::watched::{Watched, prune};
 use hg_help_tests::changelog::put_text;
 use hg_log::Changelog;
-use hg_obs::{Marker, Markers};
+use hg_obs::Markers;
 use hg_told::*;
 use hg_types::{Limits, NoMemory, Node, Seq};
 use linked_list_allocator::LocalHeap;
@@ -188,42 +187,57 @@ pub const BRANCHES: &[u8] = b"a%3Bb%26c/d~e 70a5d81ecbe10d9b153929e68025e7d8a239
       x%2By%2541%3D 36fc5403fe22dfecf6c6143765d950c159253119\n\
       %C3%BC 86e2ba5d97ff7a840c25c6d106bcd258ea0676ab 5f97498b2b6357f8f2a45e1de6b10bb27899cf03";
 
-/// Makes a changeset obsolete, without a successor.
-pub fn prune<A: Allocator + Copy>(
-    alloc: A,
-    markers: &mut Markers<A>,
-    node: Node,
-) -> Result<(), NoMemory> {
-    let mut pruned = Seq::new(alloc);
-    pruned.push(Marker {
-        successors: Seq::new(alloc),
-        flags: 0,
-        predecessor: node,
-        meta: Seq::new(alloc),
-    })?;
-    markers.merge(pruned)?;
-    Ok(())
-}
-
 pub fn is_text<A: Allocator>(told: Result<Seq<u8, A>, NoMemory>, wanted: &[u8]) -> bool {
     told.is_ok_and(|text| text.as_slice() == wanted)
 }
 
+/// The id of the parent at that place, or the null id.
+fn parent_at(nodes: &[Node], place: Option<usize>) -> Node {
+    match place {
+        Some(place) => nodes.get(place).copied().unwrap_or(Node::NULL),
+        None => Node::NULL,
+    }
+}
+
 /// The ids of the changesets, put in their order.
-pub fn put_all(alloc: Global, log: &mut Changelog, rows: &[Row]) -> Result<Vec<Node>, Fail> {
+fn put_all(alloc: Global, log: &mut Changelog, rows: &[Row]) -> Result<Vec<Node>, Fail> {
     let mut nodes: Vec<Node> = Vec::new(alloc);
     for row in rows {
-        let p1 = row
-            .p1
-            .and_then(|p| nodes.get(p).copied())
-            .unwrap_or(Node::NULL);
-        let p2 = row
-            .p2
-            .and_then(|p| nodes.get(p).copied())
-            .unwrap_or(Node::NULL);
+        let p1 = parent_at(nodes.as_slice(), row.p1);
+        let p2 = parent_at(nodes.as_slice(), row.p2);
         nodes.push(put_text(alloc, log, p1, p2, row.text).ok_or("not added")?)?;
     }
     Ok(nodes)
+}
+
+/// The ids of the changesets.
+pub fn ids_of(alloc: Global, state: RandomState, rows: &[Row]) -> Result<Vec<Node>, Fail> {
+    let mut log = Changelog::new(alloc, state, Limits::standard());
+    put_all(alloc, &mut log, rows)
+}
+
+/// Adds a changeset. The ids are those of all changesets.
+pub fn put_row(
+    alloc: Global,
+    watched: &mut Watched,
+    nodes: &[Node],
+    row: &Row,
+) -> Result<(), Fail> {
+    let p1 = parent_at(nodes, row.p1);
+    let p2 = parent_at(nodes, row.p2);
+    watched.put(alloc, p1, p2, row.text).ok_or("not added")?;
+    Ok(())
+}
+
+/// Makes the changeset of that place obsolete.
+pub fn prune_at(
+    alloc: Global,
+    watched: &mut Watched,
+    nodes: &[Node],
+    place: usize,
+) -> Result<(), Fail> {
+    watched.prune(alloc, *nodes.get(place).ok_or("no changeset")?)?;
+    Ok(())
 }
 
 #[test]
@@ -247,36 +261,36 @@ fn the_branch_map_of_mercurial(rt: HostRuntime) -> Result<(), Fail> {
     let mut markers = Markers::new(alloc, state);
     assert!(rt; is_text(map_of(alloc, &log, &markers), b""));
     let early = View::of(alloc, &log, &markers)?;
-    let rows = rows(alloc)?;
-    let nodes = put_all(alloc, &mut log, rows.as_slice())?;
-    for place in [13, 16, 17] {
-        prune(
-            alloc,
-            &mut markers,
-            *nodes.get(place).ok_or("no changeset")?,
-        )?;
-    }
+    put_mercurial(alloc, &mut log, &mut markers)?;
     assert!(rt; is_text(map_of(alloc, &log, &markers), BRANCHES));
     assert!(rt; is_text(branchmap_text(alloc, &early), b""));
     let hidden = hidden_of(alloc, &log, &markers)?;
-    for (place, is_hidden) in hidden.as_slice().iter().enumerate() {
-        assert_eq!(rt; *is_hidden, place == 16 || place == 17);
+    assert!(rt; are_last_two(hidden.as_slice()));
+    Ok(())
+}
+
+/// Puts the changesets, and makes three of them obsolete.
+fn put_mercurial(alloc: Global, log: &mut Changelog, markers: &mut Markers) -> Result<(), Fail> {
+    let rows = rows(alloc)?;
+    let nodes = put_all(alloc, log, rows.as_slice())?;
+    for place in [13, 16, 17] {
+        prune(alloc, markers, *nodes.get(place).ok_or("no changeset")?)?;
     }
     Ok(())
 }
 
-/// The view, brought up to these.
-pub fn brought_up(
-    view: View,
-    alloc: Global,
-    log: &Changelog,
-    markers: &Markers,
-) -> Result<View, NoMemory>
-    requires rows { view.rows ≡ take (length view.rows) log.now.rows }
-    requires markers { view.markers ≡ take (length view.markers) markers.now }
-{
-    let (first, known) = view.counts();
-    view.with(Since::of(alloc, first, known, log, markers)?)
+/// Whether those of the places 16 and 17 are hidden, and no other.
+fn are_last_two(hidden: &[bool]) -> bool {
+    let mut all = true;
+    for (place, is_hidden) in hidden.iter().enumerate() {
+        all = all && *is_hidden == (place == 16 || place == 17);
+    }
+    all
+}
+
+/// Whether the branch map of the view is that of Mercurial.
+pub fn is_told(alloc: Global, watched: &Watched) -> bool {
+    is_text(branchmap_text(alloc, watched.view()), BRANCHES)
 }
 
 // The same branch map of a view that is brought up after each of the first twelve changesets, then to all, and after
@@ -285,35 +299,25 @@ pub fn brought_up(
 fn a_view_is_brought_up(rt: HostRuntime) -> Result<(), Fail> {
     let alloc = rt.alloc();
     let state = RandomState::new(&rt)?;
-    let mut whole = Changelog::new(alloc, state, Limits::standard());
     let rows = rows(alloc)?;
-    let nodes = put_all(alloc, &mut whole, rows.as_slice())?;
-    let mut log = Changelog::new(alloc, state, Limits::standard());
-    let mut markers = Markers::new(alloc, state);
-    let mut view = View::new(alloc);
-    prune(alloc, &mut markers, *nodes.get(13).ok_or("no changeset")?)?;
+    let nodes = ids_of(alloc, state, rows.as_slice())?;
+    let mut watched = Watched::new(alloc, state);
+    prune_at(alloc, &mut watched, nodes.as_slice(), 13)?;
     for (place, row) in rows.iter().enumerate() {
-        let p1 = row.p1.and_then(|p| nodes.get(p).copied());
-        let p2 = row.p2.and_then(|p| nodes.get(p).copied());
-        let (p1, p2) = (p1.unwrap_or(Node::NULL), p2.unwrap_or(Node::NULL));
-        put_text(alloc, &mut log, p1, p2, row.text).ok_or("not added")?;
+        put_row(alloc, &mut watched, nodes.as_slice(), row)?;
         if place < 12 {
-            view = brought_up(view, alloc, &log, &markers)?;
+            watched.bring_up(alloc)?;
         }
     }
     for place in [16, 17] {
-        view = brought_up(view, alloc, &log, &markers)?;
-        prune(
-            alloc,
-            &mut markers,
-            *nodes.get(place).ok_or("no changeset")?,
-        )?;
+        watched.bring_up(alloc)?;
+        prune_at(alloc, &mut watched, nodes.as_slice(), place)?;
     }
-    view = brought_up(view, alloc, &log, &markers)?;
-    assert!(rt; is_text(branchmap_text(alloc, &view), BRANCHES));
-    view = brought_up(view, alloc, &log, &markers)?;
-    assert!(rt; is_text(branchmap_text(alloc, &view), BRANCHES));
-    assert!(rt; view.counts() == (rows.len(), 3));
+    watched.bring_up(alloc)?;
+    assert!(rt; is_told(alloc, &watched));
+    watched.bring_up(alloc)?;
+    assert!(rt; is_told(alloc, &watched));
+    assert!(rt; watched.view().counts() == (rows.len(), 3));
     Ok(())
 }
 
@@ -460,6 +464,9 @@ fn tell_branches<A: Allocator + Copy>(
     let _child = put_text(alloc, &mut log, root, Node::NULL, b"m\nu\n0 0 branch:x\n")?;
     if is_obsolete {
         prune(alloc, &mut markers, root).ok()?;
+    }
+    if log.len() == 0 {
+        return Some(false);
     }
     let name = branch_of(alloc, log.text(0)).ok()?;
     let hidden = hidden_of(alloc, &log, &markers).ok()?;

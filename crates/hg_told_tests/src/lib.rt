@@ -13,3 +13,5 @@ mod phased;
 mod repository_tests;
 #[cfg(test)]
 mod view_tests;
+#[cfg(test)]
+mod watched;

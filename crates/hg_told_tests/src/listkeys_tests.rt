@@ -16,13 +16,13 @@ use std::hash::RandomState;
 use std::test::*;
 
 /// How many changesets there are: two pieces of 64, and three.
-const ROWS: u32 = 131;
+const ROWS: u16 = 131;
 
 /// The changesets without parents.
-const WITHOUT_PARENTS: [u32; 6] = [0, 63, 64, 100, 127, 130];
+const WITHOUT_PARENTS: [u16; 6] = [0, 63, 64, 100, 127, 130];
 
 /// The one of them that is secret.
-const SECRET: u32 = 100;
+const SECRET: u16 = 100;
 
 /// Adds the changesets, of which all others are children of the one before, and gives the ids of those
 /// without parents.
@@ -32,7 +32,7 @@ fn put_lines<A: Allocator + Copy>(alloc: A, log: &mut Changelog<A>) -> Result<Ve
     for number in 0..ROWS {
         let has_none = WITHOUT_PARENTS.contains(&number);
         let parent = if has_none { Node::NULL } else { last };
-        last = put(alloc, log, parent, Node::NULL, number as u16).ok_or("not added")?;
+        last = put(alloc, log, parent, Node::NULL, number).ok_or("not added")?;
         if has_none {
             roots.push(last)?;
         }

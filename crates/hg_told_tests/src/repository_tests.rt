@@ -140,16 +140,93 @@ fn three_hundred_heads(rt: HostRuntime) -> Result<(), Fail> {
     Ok(())
 }
 
+/// Puts a changeset and four that come from it: a draft with a child, a draft, and a secret one. Gives the first and
+/// the two drafts.
+fn put_five(alloc: Global, log: &mut Changelog) -> Result<(Node, Node, Node), Fail> {
+    let root = put(alloc, log, NULL, NULL, 0).ok_or("not added")?;
+    let draft = put(alloc, log, root, NULL, 1).ok_or("not added")?;
+    let _child = put(alloc, log, draft, NULL, 2).ok_or("not added")?;
+    let other = put(alloc, log, root, NULL, 3).ok_or("not added")?;
+    let _secret = put(alloc, log, root, NULL, 4).ok_or("not added")?;
+    Ok((root, draft, other))
+}
+
+/// The lines of two drafts.
+fn draft_lines(alloc: Global, draft: Node, other: Node) -> Result<Vec<u8>, Fail> {
+    let draft = hex::encode(alloc, draft.0.as_slice())?;
+    let other = hex::encode(alloc, other.0.as_slice())?;
+    joined(
+        alloc,
+        &[
+            draft.as_str().as_bytes(),
+            b"\t1\n",
+            other.as_str().as_bytes(),
+            b"\t1",
+        ],
+    )
+}
+
+/// Whether the keys of phases are these lines, and where what is pushed becomes public one line more.
+fn are_phases(
+    alloc: Global,
+    log: &Changelog,
+    phases: &Phases,
+    bookmarks: &Bookmarks,
+    lines: &[u8],
+) -> Result<bool, Fail>
+    requires count { length log.now.rows ≤ length phases.now.current.phases }
+    requires fits { AreFor log.now.rows phases.now.current }
+{
+    let wanted = joined(alloc, &[lines, b"\npublishing\tTrue"])?;
+    let told = phases_of(alloc, log, phases, bookmarks, false);
+    let published = phases_of(alloc, log, phases, bookmarks, true);
+    Ok(is_text(told, lines) && is_text(published, wanted.as_slice()))
+}
+
+/// Whether the keys of a namespace are these lines, where what is pushed becomes public.
+fn are_keys(
+    alloc: Global,
+    log: &Changelog,
+    phases: &Phases,
+    bookmarks: &Bookmarks,
+    namespace: &[u8],
+    lines: &[u8],
+) -> bool
+    requires count { length log.now.rows ≤ length phases.now.current.phases }
+    requires fits { AreFor log.now.rows phases.now.current }
+{
+    is_text(
+        listkeys_text(alloc, log, phases, bookmarks, true, namespace),
+        lines,
+    )
+}
+
+/// Puts bookmarks on a changeset, of which three break their lines, and one on the null id.
+fn put_bookmarks(alloc: Global, bookmarks: &mut Bookmarks, root: Node) -> Result<(), NoMemory> {
+    for name in [
+        b"a;b&c d".as_slice(),
+        b"\xC3\xBC".as_slice(),
+        b"tab\t".as_slice(),
+        b"line\nfeed".as_slice(),
+        b"\rreturn".as_slice(),
+    ] {
+        bookmarks.set(alloc, name, Some(root))?;
+    }
+    bookmarks.set(alloc, b"null", Some(NULL))
+}
+
+/// The lines of those of them that are told.
+fn bookmark_lines(alloc: Global, root: Node) -> Result<Vec<u8>, Fail> {
+    let root = hex::encode(alloc, root.0.as_slice())?;
+    let root = root.as_str().as_bytes();
+    joined(alloc, &[b"a;b&c d\t", root, b"\n\xC3\xBC\t", root])
+}
+
 #[test]
 fn keys_of_namespaces(rt: HostRuntime) -> Result<(), Fail> {
     let alloc = rt.alloc();
     let mut log = Changelog::new(alloc, RandomState::new(&rt)?, Limits::standard());
-    let mut bookmarks = Bookmarks::new(alloc);
-    let root = put(alloc, &mut log, NULL, NULL, 0).ok_or("not added")?;
-    let draft = put(alloc, &mut log, root, NULL, 1).ok_or("not added")?;
-    let _child = put(alloc, &mut log, draft, NULL, 2).ok_or("not added")?;
-    let other = put(alloc, &mut log, root, NULL, 3).ok_or("not added")?;
-    let _secret = put(alloc, &mut log, root, NULL, 4).ok_or("not added")?;
+    let (root, draft, other) = put_five(alloc, &mut log)?;
     let phases = phased(
         alloc,
         &log,
@@ -161,36 +238,24 @@ fn keys_of_namespaces(rt: HostRuntime) -> Result<(), Fail> {
             Phase::Secret,
         ],
     )?;
-    let (draft, other) = (
-        hex::encode(alloc, draft.0.as_slice())?,
-        hex::encode(alloc, other.0.as_slice())?,
+    let mut bookmarks = Bookmarks::new(alloc);
+    let drafts = draft_lines(alloc, draft, other)?;
+    assert!(rt; are_phases(alloc, &log, &phases, &bookmarks, drafts.as_slice())?);
+    put_bookmarks(alloc, &mut bookmarks, root)?;
+    let lines = bookmark_lines(alloc, root)?;
+    assert!(rt;
+        are_keys(
+            alloc,
+            &log,
+            &phases,
+            &bookmarks,
+            b"bookmarks",
+            lines.as_slice()
+        )
     );
-    let (draft, other) = (draft.as_str().as_bytes(), other.as_str().as_bytes());
-    let wanted = joined(alloc, &[draft, b"\t1\n", other, b"\t1"])?;
-    let told = phases_of(alloc, &log, &phases, &bookmarks, false);
-    assert!(rt; is_text(told, wanted.as_slice()));
-    let wanted = joined(alloc, &[wanted.as_slice(), b"\npublishing\tTrue"])?;
-    let told = phases_of(alloc, &log, &phases, &bookmarks, true);
-    assert!(rt; is_text(told, wanted.as_slice()));
-    for name in [
-        b"a;b&c d".as_slice(),
-        b"\xC3\xBC".as_slice(),
-        b"tab\t".as_slice(),
-        b"line\nfeed".as_slice(),
-        b"\rreturn".as_slice(),
-    ] {
-        bookmarks.set(alloc, name, Some(root))?;
-    }
-    bookmarks.set(alloc, b"null", Some(NULL))?;
-    let root = hex::encode(alloc, root.0.as_slice())?;
-    let root = root.as_str().as_bytes();
-    let wanted = joined(alloc, &[b"a;b&c d\t", root, b"\n\xC3\xBC\t", root])?;
-    let told = listkeys_text(alloc, &log, &phases, &bookmarks, true, b"bookmarks");
-    assert!(rt; is_text(told, wanted.as_slice()));
-    let told = listkeys_text(alloc, &log, &phases, &bookmarks, true, b"namespaces");
-    assert!(rt; is_text(told, b"bookmarks\t\nnamespaces\t\nobsolete\t\nphases\t"));
-    let told = listkeys_text(alloc, &log, &phases, &bookmarks, true, b"obsolete");
-    assert!(rt; is_text(told, b""));
+    let names = b"bookmarks\t\nnamespaces\t\nobsolete\t\nphases\t".as_slice();
+    assert!(rt; are_keys(alloc, &log, &phases, &bookmarks, b"namespaces", names));
+    assert!(rt; are_keys(alloc, &log, &phases, &bookmarks, b"obsolete", b""));
     Ok(())
 }
 
@@ -240,86 +305,123 @@ fn each_growth_of_a_text_refused(rt: HostRuntime) -> Result<(), Fail> {
     Ok(())
 }
 
+/// Whether a key is answered with that line.
+fn is_answered(
+    alloc: Global,
+    log: &Changelog,
+    bookmarks: &Bookmarks,
+    key: &[u8],
+    line: &[u8],
+) -> bool {
+    is_text(lookup_text(alloc, log, bookmarks, key), line)
+}
+
+/// The line of the null id.
+const NULL_LINE: &[u8] = b"1 0000000000000000000000000000000000000000\n";
+
+/// The line of an id.
+fn line_of(alloc: Global, digits: &[u8]) -> Result<Vec<u8>, Fail> {
+    joined(alloc, &[b"1 ", digits, b"\n"])
+}
+
+/// Puts 40 changesets, and gives the last.
+fn put_forty(alloc: Global, log: &mut Changelog) -> Result<Node, Fail> {
+    let mut tip = NULL;
+    for number in 0..40u16 {
+        tip = put(alloc, log, NULL, NULL, number).ok_or("not added")?;
+    }
+    Ok(tip)
+}
+
+/// Whether all of these keys are answered with that line.
+fn are_answered(
+    alloc: Global,
+    log: &Changelog,
+    bookmarks: &Bookmarks,
+    keys: &[&[u8]],
+    line: &[u8],
+) -> bool {
+    let mut all = true;
+    for key in keys {
+        all = all && is_answered(alloc, log, bookmarks, key, line);
+    }
+    all
+}
+
+/// Whether the last changeset is named by its words, its digits in either case, and two beginnings of these.
+fn is_tip_named(
+    alloc: Global,
+    log: &Changelog,
+    bookmarks: &Bookmarks,
+    tip: Node,
+) -> Result<bool, Fail> {
+    let digits = hex::encode(alloc, tip.0.as_slice())?;
+    let digits = digits.as_str().as_bytes();
+    let upper = hex::encode_upper(alloc, tip.0.as_slice())?;
+    let most = digits.get(..39).ok_or("too few digits")?;
+    let few = digits.get(..12).ok_or("too few digits")?;
+    let line = line_of(alloc, digits)?;
+    let keys = [
+        b"tip".as_slice(),
+        b".".as_slice(),
+        digits,
+        upper.as_str().as_bytes(),
+        most,
+        few,
+    ];
+    Ok(are_answered(alloc, log, bookmarks, keys.as_slice(), line.as_slice()))
+}
+
+/// Whether a digit begins the ids of several changesets. Of 40 ids two begin with one digit.
+fn has_ambiguous(alloc: Global, log: &Changelog, bookmarks: &Bookmarks) -> bool {
+    let mut ambiguous = false;
+    for digit in b"0123456789abcdef" {
+        ambiguous = ambiguous
+            || is_answered(
+                alloc,
+                log,
+                bookmarks,
+                &[*digit],
+                b"0 ambiguous identifier\n",
+            );
+    }
+    ambiguous
+}
+
+/// Whether a bookmark comes before a beginning, and an id before a bookmark.
+fn is_in_turn(
+    alloc: Global,
+    log: &Changelog,
+    bookmarks: &mut Bookmarks,
+    digits: &[u8],
+    line: &[u8],
+) -> Result<bool, Fail> {
+    let few = digits.get(..12).ok_or("too few digits")?;
+    bookmarks.set(alloc, few, Some(NULL))?;
+    let is_before = is_answered(alloc, log, bookmarks, few, NULL_LINE);
+    bookmarks.set(alloc, digits, Some(NULL))?;
+    Ok(is_before && is_answered(alloc, log, bookmarks, digits, line))
+}
+
 #[test]
 fn what_keys_name(rt: HostRuntime) -> Result<(), Fail> {
     let alloc = rt.alloc();
     let mut log = Changelog::new(alloc, RandomState::new(&rt)?, Limits::standard());
     let mut bookmarks = Bookmarks::new(alloc);
-    assert!(rt;
-        is_text(
-            lookup_text(alloc, &log, &bookmarks, b"tip"),
-            b"1 0000000000000000000000000000000000000000\n"
-        )
-    );
-    assert!(rt;
-        is_text(
-            lookup_text(alloc, &log, &bookmarks, b""),
-            b"0 unknown revision ''\n"
-        )
-    );
-    let mut tip = NULL;
-    for number in 0..40u16 {
-        tip = put(alloc, &mut log, NULL, NULL, number).ok_or("not added")?;
-    }
+    assert!(rt; is_answered(alloc, &log, &bookmarks, b"tip", NULL_LINE));
+    assert!(rt; is_answered(alloc, &log, &bookmarks, b"", b"0 unknown revision ''\n"));
+    let tip = put_forty(alloc, &mut log)?;
+    assert!(rt; is_tip_named(alloc, &log, &bookmarks, tip)?);
+    assert!(rt; is_answered(alloc, &log, &bookmarks, b"null", NULL_LINE));
+    assert!(rt; is_answered(alloc, &log, &bookmarks, NULL_DIGITS, NULL_LINE));
+    assert!(rt; has_ambiguous(alloc, &log, &bookmarks));
+    let unknown = b"0 unknown revision 'no such'\n".as_slice();
+    assert!(rt; is_answered(alloc, &log, &bookmarks, b"no\nsuch", unknown));
+    bookmarks.set(alloc, b"no\nsuch", Some(tip))?;
     let digits = hex::encode(alloc, tip.0.as_slice())?;
     let digits = digits.as_str().as_bytes();
-    let line = joined(alloc, &[b"1 ", digits, b"\n"])?;
-    let upper = hex::encode_upper(alloc, tip.0.as_slice())?;
-    for key in [
-        b"tip".as_slice(),
-        b".".as_slice(),
-        digits,
-        upper.as_str().as_bytes(),
-        &digits[..39],
-        &digits[..12],
-    ] {
-        assert!(rt; is_text(lookup_text(alloc, &log, &bookmarks, key), line.as_slice()));
-    }
-    for key in [b"null".as_slice(), NULL_DIGITS] {
-        assert!(rt;
-            is_text(
-                lookup_text(alloc, &log, &bookmarks, key),
-                b"1 0000000000000000000000000000000000000000\n"
-            )
-        );
-    }
-    // Of 40 ids two begin with one digit.
-    let mut ambiguous = false;
-    for digit in b"0123456789abcdef" {
-        ambiguous = ambiguous
-            || is_text(
-                lookup_text(alloc, &log, &bookmarks, &[*digit]),
-                b"0 ambiguous identifier\n",
-            );
-    }
-    assert!(rt; ambiguous);
-    assert!(rt;
-        is_text(
-            lookup_text(alloc, &log, &bookmarks, b"no\nsuch"),
-            b"0 unknown revision 'no such'\n"
-        )
-    );
-    bookmarks.set(alloc, b"no\nsuch", Some(tip))?;
-    assert!(rt;
-        is_text(
-            lookup_text(alloc, &log, &bookmarks, b"no\nsuch"),
-            line.as_slice()
-        )
-    );
-    // A bookmark comes before a beginning, and an id before a bookmark.
-    bookmarks.set(alloc, &digits[..12], Some(NULL))?;
-    assert!(rt;
-        is_text(
-            lookup_text(alloc, &log, &bookmarks, &digits[..12]),
-            b"1 0000000000000000000000000000000000000000\n"
-        )
-    );
-    bookmarks.set(alloc, digits, Some(NULL))?;
-    assert!(rt;
-        is_text(
-            lookup_text(alloc, &log, &bookmarks, digits),
-            line.as_slice()
-        )
-    );
+    let line = line_of(alloc, digits)?;
+    assert!(rt; is_answered(alloc, &log, &bookmarks, b"no\nsuch", line.as_slice()));
+    assert!(rt; is_in_turn(alloc, &log, &mut bookmarks, digits, line.as_slice())?);
     Ok(())
 }

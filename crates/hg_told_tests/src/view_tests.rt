@@ -1,6 +1,7 @@
 //! Views that are brought up in many steps, and what a branch map says then: by its definition, and as Mercurial said.
 
-use crate::branch_tests::{BRANCHES, brought_up, is_text, prune, put_all, rows};
+use crate::branch_tests::{Row, ids_of, is_text, is_told, prune_at, put_row, rows};
+use crate::watched::Watched;
 use hg_help_tests::changelog::put_text;
 use hg_log::{Changelog, node_id};
 use hg_obs::Markers;
@@ -100,8 +101,7 @@ fn map_by_definition(alloc: Global, all: &[Made]) -> Result<Vec<u8>, Fail> {
 #[derive(Drop)]
 struct History {
     dice: Dice,
-    log: Changelog,
-    markers: Markers,
+    watched: Watched,
     all: Vec<Made>,
 }
 
@@ -109,8 +109,7 @@ impl History {
     fn new(alloc: Global, state: RandomState, seed: u64) -> History {
         History {
             dice: Dice(seed),
-            log: Changelog::new(alloc, state, Limits::standard()),
-            markers: Markers::new(alloc, state),
+            watched: Watched::new(alloc, state),
             all: Vec::new(alloc),
         }
     }
@@ -156,9 +155,11 @@ impl History {
         let node = node_id(&n1, &n2, text.as_str().as_bytes());
         let is_obsolete = self.dice.below(16) == 0;
         if is_obsolete {
-            prune(alloc, &mut self.markers, node)?;
+            self.watched.prune(alloc, node)?;
         }
-        put_text(alloc, &mut self.log, n1, n2, text.as_str().as_bytes()).ok_or("not added")?;
+        self.watched
+            .put(alloc, n1, n2, text.as_str().as_bytes())
+            .ok_or("not added")?;
         let bit = u32::try_from(place).unwrap_or(u32::MAX);
         let above = p1.map_or(0, |made| made.ancestors) | p2.map_or(0, |made| made.ancestors);
         self.all.push(Made {
@@ -173,7 +174,7 @@ impl History {
     /// Makes one that is there obsolete.
     fn forget(&mut self, alloc: Global) -> Result<(), Fail> {
         if let Some(chosen) = self.any() {
-            prune(alloc, &mut self.markers, chosen.node)?;
+            self.watched.prune(alloc, chosen.node)?;
             for made in self.all.as_mut_slice() {
                 if made.node == chosen.node {
                     made.is_obsolete = true;
@@ -194,8 +195,7 @@ fn views_of_random_histories(rt: HostRuntime) -> Result<(), Fail> {
     let state = RandomState::new(&rt)?;
     for seed in 0..300u64 {
         let mut history = History::new(alloc, state, seed);
-        let mut view = View::new(alloc);
-        let often = seed % 6 * seed % 6 + 1;
+        let often = seed.wrapping_mul(seed) % 6 + 1;
         for _step in 0..60 {
             if seed % 4 > 0 && history.dice.below(9) == 0 {
                 history.forget(alloc)?;
@@ -203,17 +203,40 @@ fn views_of_random_histories(rt: HostRuntime) -> Result<(), Fail> {
                 history.grow(alloc)?;
             }
             if history.dice.below(often) == 0 {
-                view = brought_up(view, alloc, &history.log, &history.markers)?;
+                history.watched.bring_up(alloc)?;
                 let wanted = map_by_definition(alloc, history.all.as_slice())?;
-                assert!(rt; is_text(branchmap_text(alloc, &view), wanted.as_slice()));
+                assert!(rt;
+                    is_text(
+                        branchmap_text(alloc, history.watched.view()),
+                        wanted.as_slice()
+                    )
+                );
             }
         }
-        view = brought_up(view, alloc, &history.log, &history.markers)?;
+        history.watched.bring_up(alloc)?;
         let wanted = map_by_definition(alloc, history.all.as_slice())?;
-        assert!(rt; is_text(branchmap_text(alloc, &view), wanted.as_slice()));
-        let whole = View::of(alloc, &history.log, &history.markers)?;
+        assert!(rt;
+            is_text(
+                branchmap_text(alloc, history.watched.view()),
+                wanted.as_slice()
+            )
+        );
+        let whole = history.watched.whole(alloc)?;
         assert!(rt; is_text(branchmap_text(alloc, &whole), wanted.as_slice()));
-        assert!(rt; view.counts() == whole.counts());
+        assert!(rt; history.watched.view().counts() == whole.counts());
+    }
+    Ok(())
+}
+
+/// Adds changesets in their order. The ids are those of all changesets.
+fn put_rows(
+    alloc: Global,
+    watched: &mut Watched,
+    nodes: &[Node],
+    rows: &[Row],
+) -> Result<(), Fail> {
+    for row in rows {
+        put_row(alloc, watched, nodes, row)?;
     }
     Ok(())
 }
@@ -225,30 +248,28 @@ fn each_cut_of_the_changesets(rt: HostRuntime) -> Result<(), Fail> {
     let alloc = rt.alloc();
     let state = RandomState::new(&rt)?;
     let rows = rows(alloc)?;
+    let nodes = ids_of(alloc, state, rows.as_slice())?;
     for cut in 0..rows.len() {
+        let (first, rest) = rows.as_slice().split_at(cut.min(rows.len()));
         for way in 0..3 {
-            let mut log = Changelog::new(alloc, state, Limits::standard());
-            let mut markers = Markers::new(alloc, state);
-            let (first, _rest) = rows.as_slice().split_at(cut.min(rows.len()));
-            let _nodes = put_all(alloc, &mut log, first)?;
-            let mut view = View::of(alloc, &log, &markers)?;
-            let mut whole = Changelog::new(alloc, state, Limits::standard());
-            let nodes = put_all(alloc, &mut whole, rows.as_slice())?;
+            let mut watched = Watched::new(alloc, state);
+            put_rows(alloc, &mut watched, nodes.as_slice(), first)?;
+            watched.look(alloc)?;
             if way == 0 {
-                view = brought_up(view, alloc, &whole, &markers)?;
+                put_rows(alloc, &mut watched, nodes.as_slice(), rest)?;
+                watched.bring_up(alloc)?;
             }
             for place in [13, 16, 17] {
-                prune(
-                    alloc,
-                    &mut markers,
-                    *nodes.get(place).ok_or("no changeset")?,
-                )?;
+                prune_at(alloc, &mut watched, nodes.as_slice(), place)?;
             }
             if way == 1 {
-                view = brought_up(view, alloc, &log, &markers)?;
+                watched.bring_up(alloc)?;
             }
-            view = brought_up(view, alloc, &whole, &markers)?;
-            assert!(rt; is_text(branchmap_text(alloc, &view), BRANCHES));
+            if way > 0 {
+                put_rows(alloc, &mut watched, nodes.as_slice(), rest)?;
+            }
+            watched.bring_up(alloc)?;
+            assert!(rt; is_told(alloc, &watched));
         }
     }
     Ok(())
