@@ -209,12 +209,19 @@ fn answers_of<'a, R: Abort>(rt: &R, alloc: Global, told: &'a [u8]) -> Vec<&'a [u
     let mut start = 0usize;
     for place in 1..told.len() {
         if told[place..].starts_with(b"HTTP/1.1 ") {
-            assert!(rt; answers.push(&told[start..place]).is_ok());
+            add_answer(rt, &mut answers, told.get(start..place));
             start = place;
         }
     }
-    assert!(rt; answers.push(&told[start..]).is_ok());
+    add_answer(rt, &mut answers, told.get(start..));
     answers
+}
+
+fn add_answer<'a, R: Abort>(rt: &R, answers: &mut Vec<&'a [u8]>, answer: Option<&'a [u8]>) {
+    match answer {
+        Some(answer) => assert!(rt; answers.push(answer).is_ok()),
+        None => panic!(rt; "no answer"),
+    }
 }
 
 /// Memory was refused before anything was changed.
