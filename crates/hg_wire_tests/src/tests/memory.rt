@@ -7,6 +7,7 @@ ghost use Rattle.hg_serve.specs.Desks.{OpensWith};
 ghost use Rattle.hg_ledger.specs.Receipts.{IsTallyOf};
 
 use super::*;
+use hg_help_serve_tests::add;
 use hg_kept::Keeping;
 use hg_wire::{Host, Wire};
 use http_server::{Config, Connection, serve};
@@ -107,6 +108,17 @@ fn taken<A: Allocator + Copy, R: Abort>(
     blocks
 }
 
+/// Whether all of three conversations went well, or what came of the first that did not.
+fn all_well(
+    first: Result<(), Came>,
+    second: Result<(), Came>,
+    third: Result<(), Came>,
+) -> Result<(), Came> {
+    first?;
+    second?;
+    third
+}
+
 /// Serves three connections in turn over a heap of the server's own.
 fn converse_over<J: Storing<A>, A: Allocator + Copy, R: RandomSource + Wait + Abort>(
     rt: &R,
@@ -178,9 +190,9 @@ fn converse_over<J: Storing<A>, A: Allocator + Copy, R: RandomSource + Wait + Ab
     add(rt, &mut clients, second_witness);
     add(rt, &mut clients, shelf.into_inner().into_witness());
     let _closed = server.close(clients);
-    match (first, second, third) {
-        (Ok(()), Ok(()), Ok(())) => Came::Answered(Answered { told, after }),
-        (Err(came), _, _) | (_, Err(came), _) | (_, _, Err(came)) => came,
+    match all_well(first, second, third) {
+        Ok(()) => Came::Answered(Answered { told, after }),
+        Err(came) => came,
     }
 }
 
