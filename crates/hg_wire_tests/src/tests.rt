@@ -39,6 +39,7 @@ use std::sync::{Mutex, Wait};
 use std::test::*;
 
 /// A page of one word, and as many counters as there are changesets.
+#[derive(Drop)]
 struct Words;
 
 impl<A: Allocator + Copy> Shown<A> for Words {
@@ -183,7 +184,11 @@ fn joined<R: Abort>(rt: &R, alloc: Global, pieces: &[&[u8]]) -> Vec<u8> {
     all
 }
 
-fn add<T, A: Allocator, R: Abort>(rt: &R, clients: &mut Vec<T, A>, client: T) {
+fn add_kept<J: Storing<Global>, R: Abort>(
+    rt: &R,
+    clients: &mut Vec<KeptClient<J>>,
+    client: KeptClient<J>,
+) {
     match clients.push(client) {
         Ok(()) => {}
         Err(AllocFailed { value: _client, .. }) => panic!(rt; "no memory for a client"),
@@ -253,9 +258,9 @@ fn play<J: Storing<Global>, R: RandomSource + Wait + Abort>(
         client = back;
         end = ended;
     }
-    add(rt, &mut clients, client);
+    add_kept(rt, &mut clients, client);
     let witness = shelf.into_inner().into_witness();
-    add(rt, &mut clients, KeptClient::new(witness));
+    add_kept(rt, &mut clients, KeptClient::new(witness));
     let ClosedKept {
         closed,
         log: Log { device, .. },

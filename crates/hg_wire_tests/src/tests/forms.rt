@@ -213,6 +213,7 @@ fn a_real_bundle_is_chunked(rt: HostRuntime) {
         (1_284, "504;x\r\n"),
     ];
     for (size, line) in sizes {
+        assert!(rt; size > 0);
         let mut asked = joined(&rt, alloc, &[head.as_bytes()]);
         for chunk in bundle.chunks(size) {
             assert!(rt; asked.extend_from_slice(line.as_bytes()).is_ok());

@@ -191,7 +191,7 @@ fn in_chunks<R: Abort>(rt: &R, alloc: Global, body: &[u8]) -> Vec<u8> {
     text
 }
 
-/// How the test below serves: with little room.
+/// How the tests below serve: with little room.
 fn narrow(step: usize) -> Way<'static> {
     Way {
         step,
@@ -200,12 +200,48 @@ fn narrow(step: usize) -> Way<'static> {
     }
 }
 
+/// Such a push is answered so, with any cutting, and the connection goes on, also with what came with the end of
+/// the body. With more room it is read, and is no bundle.
+fn assert_no_room<R: RandomSource + Wait + Abort>(rt: &R, alloc: Global, asked: &[u8]) {
+    let whole = push_with_length(rt, alloc, 12, EMPTY);
+    for step in [1, 7, 4_096, 1_000_000] {
+        let said = joined(
+            rt,
+            alloc,
+            &[HEADS, asked, HEADS, asked, asked, whole.as_slice()],
+        );
+        let told = joined(
+            rt,
+            alloc,
+            &[NO_HEADS, NO_ROOM, NO_HEADS, NO_ROOM, NO_ROOM, DONE],
+        );
+        let left = served(rt, alloc, &[said.as_slice()], narrow(step));
+        assert!(rt; left.end == ConnectionEnd::Done);
+        assert!(rt; left.told.as_slice() == told.as_slice());
+        assert_eq!(rt; left.kept, 1);
+    }
+    let left = served(
+        rt,
+        alloc,
+        &[asked],
+        Way {
+            budget: 80_000,
+            ..narrow(4_096)
+        },
+    );
+    assert!(rt; left.end == ConnectionEnd::Done);
+    assert!(rt;
+        left.told
+            .ends_with(b"messagestream fault 1\0\0\0\0\0\0\0\0")
+    );
+}
+
 #[test]
 fn a_body_finds_no_room(rt: HostRuntime) {
     let alloc = rt.alloc();
     let body = long_body(&rt, alloc, 60_000);
-    let whole = push_with_length(&rt, alloc, 12, EMPTY);
     let long = push_with_length(&rt, alloc, 60_000, body.as_slice());
+    assert_no_room(&rt, alloc, long.as_slice());
     let chunks = in_chunks(&rt, alloc, body.as_slice());
     let chunked = push_of(
         &rt,
@@ -213,40 +249,7 @@ fn a_body_finds_no_room(rt: HostRuntime) {
         "transfer-encoding: chunked\r\n",
         chunks.as_slice(),
     );
-    for asked in [long.as_slice(), chunked.as_slice()] {
-        for step in [1, 7, 4_096, 1_000_000] {
-            // the connection goes on, also with what came with the end of the body
-            let said = joined(
-                &rt,
-                alloc,
-                &[HEADS, asked, HEADS, asked, asked, whole.as_slice()],
-            );
-            let told = joined(
-                &rt,
-                alloc,
-                &[NO_HEADS, NO_ROOM, NO_HEADS, NO_ROOM, NO_ROOM, DONE],
-            );
-            let left = served(&rt, alloc, &[said.as_slice()], narrow(step));
-            assert!(rt; left.end == ConnectionEnd::Done);
-            assert!(rt; left.told.as_slice() == told.as_slice());
-            assert_eq!(rt; left.kept, 1);
-        }
-        // with more room it is read, and is no bundle
-        let left = served(
-            &rt,
-            alloc,
-            &[asked],
-            Way {
-                budget: 80_000,
-                ..narrow(4_096)
-            },
-        );
-        assert!(rt; left.end == ConnectionEnd::Done);
-        assert!(rt;
-            left.told
-                .ends_with(b"messagestream fault 1\0\0\0\0\0\0\0\0")
-        );
-    }
+    assert_no_room(&rt, alloc, chunked.as_slice());
 }
 
 /// A body that found no room and does not end: there is no answer.
