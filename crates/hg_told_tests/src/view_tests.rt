@@ -6,7 +6,7 @@ use hg_help_tests::changelog::put_text;
 use hg_log::{Changelog, node_id};
 use hg_obs::Markers;
 use hg_told::*;
-use hg_types::{Limits, NoMemory, Node};
+use hg_types::{Limits, Node};
 use std::alloc::Global;
 use std::hash::RandomState;
 use std::test::*;
