@@ -255,18 +255,32 @@ fn branches_of_mercurial(rt: HostRuntime) -> Result<(), Fail> {
 // branch has none, and its two are hidden.
 #[test]
 fn the_branch_map_of_mercurial(rt: HostRuntime) -> Result<(), Fail> {
-    let alloc = rt.alloc();
     let state = RandomState::new(&rt)?;
+    let told = mercurial_is_told(rt.alloc(), state)?;
+    assert!(rt; told);
+    let early = early_is_told(rt.alloc(), state)?;
+    assert!(rt; early);
+    Ok(())
+}
+
+/// Whether the branch map is that of Mercurial, and the two are hidden.
+fn mercurial_is_told(alloc: Global, state: RandomState) -> Result<bool, Fail> {
     let mut log = Changelog::new(alloc, state, Limits::standard());
     let mut markers = Markers::new(alloc, state);
-    assert!(rt; is_text(map_of(alloc, &log, &markers), b""));
+    put_mercurial(alloc, &mut log, &mut markers)?;
+    let hidden = hidden_of(alloc, &log, &markers)?;
+    let told = is_text(map_of(alloc, &log, &markers), BRANCHES);
+    Ok(told && are_last_two(hidden.as_slice()))
+}
+
+/// Whether nothing has an empty branch map, and a view of it keeps it while changesets come.
+fn early_is_told(alloc: Global, state: RandomState) -> Result<bool, Fail> {
+    let mut log = Changelog::new(alloc, state, Limits::standard());
+    let mut markers = Markers::new(alloc, state);
+    let none = is_text(map_of(alloc, &log, &markers), b"");
     let early = View::of(alloc, &log, &markers)?;
     put_mercurial(alloc, &mut log, &mut markers)?;
-    assert!(rt; is_text(map_of(alloc, &log, &markers), BRANCHES));
-    assert!(rt; is_text(branchmap_text(alloc, &early), b""));
-    let hidden = hidden_of(alloc, &log, &markers)?;
-    assert!(rt; are_last_two(hidden.as_slice()));
-    Ok(())
+    Ok(none && is_text(branchmap_text(alloc, &early), b""))
 }
 
 /// Puts the changesets, and makes three of them obsolete.
@@ -297,28 +311,54 @@ pub fn is_told(alloc: Global, watched: &Watched) -> bool {
 // each marker. One marker comes before its changeset. Result: the same lines.
 #[test]
 fn a_view_is_brought_up(rt: HostRuntime) -> Result<(), Fail> {
-    let alloc = rt.alloc();
-    let state = RandomState::new(&rt)?;
-    let rows = rows(alloc)?;
-    let nodes = ids_of(alloc, state, rows.as_slice())?;
-    let mut watched = Watched::new(alloc, state);
-    prune_at(alloc, &mut watched, nodes.as_slice(), 13)?;
+    let told = is_brought_up(rt.alloc(), RandomState::new(&rt)?)?;
+    assert!(rt; told);
+    Ok(())
+}
+
+/// Puts the changesets, and brings the view up after each of the first twelve.
+fn put_in_turn(
+    alloc: Global,
+    watched: &mut Watched,
+    nodes: &[Node],
+    rows: &[Row],
+) -> Result<(), Fail> {
     for (place, row) in rows.iter().enumerate() {
-        put_row(alloc, &mut watched, nodes.as_slice(), row)?;
+        put_row(alloc, watched, nodes, row)?;
         if place < 12 {
             watched.bring_up(alloc)?;
         }
     }
+    Ok(())
+}
+
+/// Brings the view up to all, and after each of two markers.
+fn prune_in_turn(alloc: Global, watched: &mut Watched, nodes: &[Node]) -> Result<(), Fail> {
     for place in [16, 17] {
         watched.bring_up(alloc)?;
-        prune_at(alloc, &mut watched, nodes.as_slice(), place)?;
+        prune_at(alloc, watched, nodes, place)?;
     }
     watched.bring_up(alloc)?;
-    assert!(rt; is_told(alloc, &watched));
-    watched.bring_up(alloc)?;
-    assert!(rt; is_told(alloc, &watched));
-    assert!(rt; watched.view().counts() == (rows.len(), 3));
     Ok(())
+}
+
+/// Whether the view is that of all, and is so again where it is brought up to nothing more.
+fn is_told_twice(alloc: Global, watched: &mut Watched) -> Result<bool, Fail> {
+    let once = is_told(alloc, watched);
+    watched.bring_up(alloc)?;
+    let twice = is_told(alloc, watched);
+    Ok(once && twice && watched.view().counts() == (18, 3))
+}
+
+/// Whether a view that is brought up in turn is that of all.
+fn is_brought_up(alloc: Global, state: RandomState) -> Result<bool, Fail> {
+    let rows = rows(alloc)?;
+    let nodes = ids_of(alloc, state, rows.as_slice())?;
+    let mut watched = Watched::new(alloc, state);
+    prune_at(alloc, &mut watched, nodes.as_slice(), 13)?;
+    put_in_turn(alloc, &mut watched, nodes.as_slice(), rows.as_slice())?;
+    prune_in_turn(alloc, &mut watched, nodes.as_slice())?;
+    is_told_twice(alloc, &mut watched)
 }
 
 /// What no Mercurial writes, and what has no third line, no second space or no key.
@@ -367,32 +407,50 @@ fn texts_with_escapes(rt: HostRuntime) {
 /// hidden.
 #[test]
 fn a_hidden_chain(rt: HostRuntime) -> Result<(), Fail> {
-    let alloc = rt.alloc();
-    let state = RandomState::new(&rt)?;
+    let told = chain_is_told(rt.alloc(), RandomState::new(&rt)?)?;
+    assert!(rt; told);
+    Ok(())
+}
+
+/// Whether those behind that one are hidden, and it is the head of its branch.
+fn chain_is_told(alloc: Global, state: RandomState) -> Result<bool, Fail> {
     let mut log = Changelog::new(alloc, state, Limits::standard());
     let mut markers = Markers::new(alloc, state);
+    put_chain(alloc, &mut log, &mut markers)?;
+    let hidden = hidden_of(alloc, &log, &markers)?;
+    let told = map_of(alloc, &log, &markers)?;
+    let line = is_line_of(alloc, &log, told.as_slice())?;
+    Ok(line && are_behind(hidden.as_slice()))
+}
+
+/// Puts the chain, and makes all obsolete but the one of the place 40.
+fn put_chain(alloc: Global, log: &mut Changelog, markers: &mut Markers) -> Result<(), Fail> {
     let mut parent = Node::NULL;
     for number in 0..70u8 {
-        parent = put_text(alloc, &mut log, parent, Node::NULL, &[number]).ok_or("not added")?;
+        parent = put_text(alloc, log, parent, Node::NULL, &[number]).ok_or("not added")?;
         if number != 40 {
-            prune(alloc, &mut markers, parent)?;
+            prune(alloc, markers, parent)?;
         }
     }
-    let hidden = hidden_of(alloc, &log, &markers)?;
-    for (place, is_hidden) in hidden.as_slice().iter().enumerate() {
-        assert_eq!(rt; *is_hidden, place > 40);
+    Ok(())
+}
+
+/// Whether those behind the place 40 are hidden, and no other.
+fn are_behind(hidden: &[bool]) -> bool {
+    let mut all = true;
+    for (place, is_hidden) in hidden.iter().enumerate() {
+        all = all && *is_hidden == (place > 40);
     }
-    let told = map_of(alloc, &log, &markers)?;
+    all
+}
+
+/// Whether it is the line of the changeset of the place 40, on the branch `default`.
+fn is_line_of(alloc: Global, log: &Changelog, told: &[u8]) -> Result<bool, Fail> {
     if log.len() <= 40 {
         return Err("too few changesets".into());
     }
     let id = hex::encode(alloc, log.node(40).0.as_slice())?;
-    assert!(rt;
-        told.as_slice().starts_with(b"default ")
-            && told.as_slice().ends_with(id.as_str().as_bytes())
-    );
-    assert_eq!(rt; told.len(), 48);
-    Ok(())
+    Ok(told.starts_with(b"default ") && told.ends_with(id.as_str().as_bytes()) && told.len() == 48)
 }
 
 /// A chain of 260 in which 130 branches come in turn, twice: more than one pass tells.
@@ -400,55 +458,90 @@ fn a_hidden_chain(rt: HostRuntime) -> Result<(), Fail> {
 /// 130.
 #[test]
 fn more_branches_than_a_pass_tells(rt: HostRuntime) -> Result<(), Fail> {
-    let alloc = rt.alloc();
-    let state = RandomState::new(&rt)?;
-    let mut log = Changelog::new(alloc, state, Limits::standard());
-    let markers = Markers::new(alloc, state);
+    let told = turns_are_told(rt.alloc(), RandomState::new(&rt)?)?;
+    assert!(rt; told);
+    Ok(())
+}
+
+/// Puts the changeset of that number on its parent.
+fn put_turn(alloc: Global, log: &mut Changelog, parent: Node, number: u16) -> Result<Node, Fail> {
+    let branch = number % 130;
+    let text = format!(in alloc; "m\nu\n0 0 branch:b{branch:03}\n{number}\n")?;
+    let node = put_text(alloc, log, parent, Node::NULL, text.as_str().as_bytes());
+    Ok(node.ok_or("not added")?)
+}
+
+/// Adds the line of a head.
+fn push_turn(alloc: Global, wanted: &mut Vec<u8>, node: Node, number: u16) -> Result<(), Fail> {
+    let branch = number % 130;
+    let id = hex::encode(alloc, node.0.as_slice())?;
+    let line = format!(in alloc; "b{branch:03} {id}\n")?;
+    wanted.extend_from_slice(line.as_str().as_bytes())?;
+    Ok(())
+}
+
+/// Puts the chain, and gives the lines of the later 130.
+fn put_turns(alloc: Global, log: &mut Changelog) -> Result<Vec<u8>, Fail> {
     let mut parent = Node::NULL;
     let mut wanted = Vec::new(alloc);
     for number in 0..260u16 {
-        let branch = number % 130;
-        let name = format!(in alloc; "b{branch:03}")?;
-        let text = format!(in alloc; "m\nu\n0 0 branch:{name}\n{number}\n")?;
-        parent = put_text(
-            alloc,
-            &mut log,
-            parent,
-            Node::NULL,
-            text.as_str().as_bytes(),
-        )
-        .ok_or("not added")?;
+        parent = put_turn(alloc, log, parent, number)?;
         if number >= 130 {
-            let id = hex::encode(alloc, parent.0.as_slice())?;
-            let line = format!(in alloc; "{name} {id}\n")?;
-            wanted.extend_from_slice(line.as_str().as_bytes())?;
+            push_turn(alloc, &mut wanted, parent, number)?;
         }
     }
     let _ = wanted.pop();
-    assert!(rt; is_text(map_of(alloc, &log, &markers), wanted.as_slice()));
-    Ok(())
+    Ok(wanted)
+}
+
+/// Whether the lines of the chain are told.
+fn turns_are_told(alloc: Global, state: RandomState) -> Result<bool, Fail> {
+    let mut log = Changelog::new(alloc, state, Limits::standard());
+    let markers = Markers::new(alloc, state);
+    let wanted = put_turns(alloc, &mut log)?;
+    Ok(is_text(map_of(alloc, &log, &markers), wanted.as_slice()))
 }
 
 /// 300 heads of one branch stand in its line in the order of the changelog.
 #[test]
 fn three_hundred_heads_of_a_branch(rt: HostRuntime) -> Result<(), Fail> {
-    let alloc = rt.alloc();
-    let state = RandomState::new(&rt)?;
-    let mut log = Changelog::new(alloc, state, Limits::standard());
-    let markers = Markers::new(alloc, state);
-    let root = put_text(alloc, &mut log, Node::NULL, Node::NULL, b"m\nu\n0 0\n").ok_or(
-        "not added",
-    )?;
+    let told = heads_are_told(rt.alloc(), RandomState::new(&rt)?)?;
+    assert!(rt; told);
+    Ok(())
+}
+
+/// Puts a changeset on another, and adds its digits to the line.
+fn put_head(
+    alloc: Global,
+    log: &mut Changelog,
+    root: Node,
+    number: u16,
+    wanted: &mut Vec<u8>,
+) -> Result<(), Fail> {
+    let text = format!(in alloc; "m\nu\n0 0\n{number}\n")?;
+    let node = put_text(alloc, log, root, Node::NULL, text.as_str().as_bytes());
+    let id = hex::encode(alloc, node.ok_or("not added")?.0.as_slice())?;
+    wanted.push(b' ')?;
+    wanted.extend_from_slice(id.as_str().as_bytes())?;
+    Ok(())
+}
+
+/// Puts 300 changesets on one, and gives their line.
+fn put_heads(alloc: Global, log: &mut Changelog) -> Result<Vec<u8>, Fail> {
+    let root = put_text(alloc, log, Node::NULL, Node::NULL, b"m\nu\n0 0\n").ok_or("not added")?;
     let mut wanted = Vec::from_slice(alloc, b"default")?;
     for number in 0..300u16 {
-        let text = format!(in alloc; "m\nu\n0 0\n{number}\n")?;
-        let node = put_text(alloc, &mut log, root, Node::NULL, text.as_str().as_bytes());
-        let id = hex::encode(alloc, node.ok_or("not added")?.0.as_slice())?;
-        wanted.push(b' ')?;
-        wanted.extend_from_slice(id.as_str().as_bytes())?;
+        put_head(alloc, log, root, number, &mut wanted)?;
     }
-    assert!(rt; is_text(map_of(alloc, &log, &markers), wanted.as_slice()));
-    Ok(())
+    Ok(wanted)
+}
+
+/// Whether that line is told.
+fn heads_are_told(alloc: Global, state: RandomState) -> Result<bool, Fail> {
+    let mut log = Changelog::new(alloc, state, Limits::standard());
+    let markers = Markers::new(alloc, state);
+    let wanted = put_heads(alloc, &mut log)?;
+    Ok(is_text(map_of(alloc, &log, &markers), wanted.as_slice()))
 }
 
 /// Two branches in the memory of an allocator: whether both are told, or nothing where memory is refused. The first
@@ -460,17 +553,37 @@ fn tell_branches<A: Allocator + Copy>(
 ) -> Option<bool> {
     let mut log = Changelog::new(alloc, state, Limits::standard());
     let mut markers = Markers::new(alloc, state);
-    let root = put_text(alloc, &mut log, Node::NULL, Node::NULL, b"m\nu\n0 0\n")?;
-    let _child = put_text(alloc, &mut log, root, Node::NULL, b"m\nu\n0 0 branch:x\n")?;
+    put_two(alloc, &mut log, &mut markers, is_obsolete)?;
+    are_two_told(alloc, &log, &markers)
+}
+
+/// Puts two changesets of two branches, of which the first may be obsolete.
+fn put_two<A: Allocator + Copy>(
+    alloc: A,
+    log: &mut Changelog<A>,
+    markers: &mut Markers<A>,
+    is_obsolete: bool,
+) -> Option<()> {
+    let root = put_text(alloc, log, Node::NULL, Node::NULL, b"m\nu\n0 0\n")?;
+    let _child = put_text(alloc, log, root, Node::NULL, b"m\nu\n0 0 branch:x\n")?;
     if is_obsolete {
-        prune(alloc, &mut markers, root).ok()?;
+        prune(alloc, markers, root).ok()?;
     }
+    Some(())
+}
+
+/// Whether two branches are told, or nothing where memory is refused.
+fn are_two_told<A: Allocator + Copy>(
+    alloc: A,
+    log: &Changelog<A>,
+    markers: &Markers<A>,
+) -> Option<bool> {
     if log.len() == 0 {
         return Some(false);
     }
     let name = branch_of(alloc, log.text(0)).ok()?;
-    let hidden = hidden_of(alloc, &log, &markers).ok()?;
-    let text = map_of(alloc, &log, &markers).ok()?;
+    let hidden = hidden_of(alloc, log, markers).ok()?;
+    let text = map_of(alloc, log, markers).ok()?;
     Some(name.len() == 7 && hidden.len() == 2 && text.len() == 91)
 }
 

@@ -1,6 +1,6 @@
 //! What is told of a repository: of none, of a few changesets, of 300 heads, and memory refused in turn.
 
-ghost use Rattle.std.specs.Prelude.{◌≤◌, length};
+ghost use Rattle.std.specs.Prelude.{◌≤◌, length, IfOk};
 ghost use Rattle.hg_phases.specs.Phases.{AreFor};
 
 use crate::phased::{no_phases, phased};
@@ -115,28 +115,50 @@ fn joined(alloc: Global, pieces: &[&[u8]]) -> Result<Vec<u8>, Fail> {
     Ok(text)
 }
 
-#[test]
-fn three_hundred_heads(rt: HostRuntime) -> Result<(), Fail> {
-    let mut log = Changelog::new(rt.alloc(), RandomState::new(&rt)?, Limits::standard());
-    let mut nodes = Vec::new(rt.alloc());
+/// Puts 300 changesets without parents, and gives their ids in ascending order.
+fn put_heads(alloc: Global, log: &mut Changelog) -> Result<Vec<Node>, Fail> {
+    let mut nodes = Vec::new(alloc);
     for number in 0..300u16 {
-        nodes.push(put(rt.alloc(), &mut log, NULL, NULL, number).ok_or("not added")?)?;
+        nodes.push(put(alloc, log, NULL, NULL, number).ok_or("not added")?)?;
     }
     nodes.sort()?;
-    let mut wanted = Vec::new(rt.alloc());
-    let mut known = Vec::new(rt.alloc());
-    for node in &nodes {
-        if !wanted.is_empty() {
-            wanted.push(b' ')?;
+    Ok(nodes)
+}
+
+/// The digits of ids, with a space between.
+fn words_of(alloc: Global, nodes: &[Node]) -> Result<Vec<u8>, Fail> {
+    let mut words = Vec::new(alloc);
+    for node in nodes {
+        if !words.is_empty() {
+            words.push(b' ')?;
         }
-        let digits = hex::encode(rt.alloc(), node.0.as_slice())?;
-        wanted.extend_from_slice(digits.as_str().as_bytes())?;
-        known.push(b'1')?;
+        let digits = hex::encode(alloc, node.0.as_slice())?;
+        words.extend_from_slice(digits.as_str().as_bytes())?;
     }
-    let asked = known_text(rt.alloc(), &log, wanted.as_slice());
-    assert!(rt; is_text(asked, known.as_slice()));
-    wanted.push(b'\n')?;
-    assert!(rt; is_text(heads_text(rt.alloc(), &log), wanted.as_slice()));
+    Ok(words)
+}
+
+/// Whether all of the ids, of which there are so many, are known.
+fn are_known(alloc: Global, log: &Changelog, words: &[u8], count: usize) -> Result<bool, Fail> {
+    let mut known = Vec::new(alloc);
+    known.resize(count, b'1')?;
+    Ok(is_text(known_text(alloc, log, words), known.as_slice()))
+}
+
+/// Whether 300 heads are told, and known.
+fn heads_are_told(alloc: Global, state: RandomState) -> Result<bool, Fail> {
+    let mut log = Changelog::new(alloc, state, Limits::standard());
+    let nodes = put_heads(alloc, &mut log)?;
+    let mut words = words_of(alloc, nodes.as_slice())?;
+    let known = are_known(alloc, &log, words.as_slice(), nodes.len())?;
+    words.push(b'\n')?;
+    Ok(known && is_text(heads_text(alloc, &log), words.as_slice()))
+}
+
+#[test]
+fn three_hundred_heads(rt: HostRuntime) -> Result<(), Fail> {
+    let told = heads_are_told(rt.alloc(), RandomState::new(&rt)?)?;
+    assert!(rt; told);
     Ok(())
 }
 
@@ -222,40 +244,76 @@ fn bookmark_lines(alloc: Global, root: Node) -> Result<Vec<u8>, Fail> {
     joined(alloc, &[b"a;b&c d\t", root, b"\n\xC3\xBC\t", root])
 }
 
-#[test]
-fn keys_of_namespaces(rt: HostRuntime) -> Result<(), Fail> {
-    let alloc = rt.alloc();
-    let mut log = Changelog::new(alloc, RandomState::new(&rt)?, Limits::standard());
-    let (root, draft, other) = put_five(alloc, &mut log)?;
-    let phases = phased(
+/// Whether the keys of bookmarks, of namespaces and of a namespace without keys are told.
+fn are_others(
+    alloc: Global,
+    log: &Changelog,
+    phases: &Phases,
+    bookmarks: &Bookmarks,
+    root: Node,
+) -> Result<bool, Fail>
+    requires count { length log.now.rows ≤ length phases.now.current.phases }
+    requires fits { AreFor log.now.rows phases.now.current }
+{
+    let lines = bookmark_lines(alloc, root)?;
+    let names = b"bookmarks\t\nnamespaces\t\nobsolete\t\nphases\t".as_slice();
+    let first = are_keys(
         alloc,
-        &log,
-        &[
-            Phase::Public,
-            Phase::Draft,
-            Phase::Draft,
-            Phase::Draft,
-            Phase::Secret,
-        ],
-    )?;
+        log,
+        phases,
+        bookmarks,
+        b"bookmarks",
+        lines.as_slice(),
+    );
+    let second = are_keys(alloc, log, phases, bookmarks, b"namespaces", names);
+    Ok(first && second && are_keys(alloc, log, phases, bookmarks, b"obsolete", b""))
+}
+
+/// Whether the keys of each namespace are told.
+fn are_told(
+    alloc: Global,
+    log: &Changelog,
+    phases: &Phases,
+    nodes: (Node, Node, Node),
+) -> Result<bool, Fail>
+    requires count { length log.now.rows ≤ length phases.now.current.phases }
+    requires fits { AreFor log.now.rows phases.now.current }
+{
+    let (root, draft, other) = nodes;
     let mut bookmarks = Bookmarks::new(alloc);
     let drafts = draft_lines(alloc, draft, other)?;
-    assert!(rt; are_phases(alloc, &log, &phases, &bookmarks, drafts.as_slice())?);
+    let first = are_phases(alloc, log, phases, &bookmarks, drafts.as_slice())?;
     put_bookmarks(alloc, &mut bookmarks, root)?;
-    let lines = bookmark_lines(alloc, root)?;
-    assert!(rt;
-        are_keys(
-            alloc,
-            &log,
-            &phases,
-            &bookmarks,
-            b"bookmarks",
-            lines.as_slice()
-        )
-    );
-    let names = b"bookmarks\t\nnamespaces\t\nobsolete\t\nphases\t".as_slice();
-    assert!(rt; are_keys(alloc, &log, &phases, &bookmarks, b"namespaces", names));
-    assert!(rt; are_keys(alloc, &log, &phases, &bookmarks, b"obsolete", b""));
+    Ok(first && are_others(alloc, log, phases, &bookmarks, root)?)
+}
+
+/// The phases of the five changesets.
+fn phases_of_five(alloc: Global, log: &Changelog) -> Result<Phases, NoMemory>
+    ensures count { IfOk result (λ phases. length log.now.rows ≤ length phases.current.phases) }
+    ensures fits { IfOk result (λ phases. AreFor log.now.rows phases.current) }
+{
+    let of = [
+        Phase::Public,
+        Phase::Draft,
+        Phase::Draft,
+        Phase::Draft,
+        Phase::Secret,
+    ];
+    phased(alloc, log, of.as_slice())
+}
+
+/// Whether the keys of each namespace are told of five changesets.
+fn five_are_told(alloc: Global, state: RandomState) -> Result<bool, Fail> {
+    let mut log = Changelog::new(alloc, state, Limits::standard());
+    let nodes = put_five(alloc, &mut log)?;
+    let phases = phases_of_five(alloc, &log)?;
+    are_told(alloc, &log, &phases, nodes)
+}
+
+#[test]
+fn keys_of_namespaces(rt: HostRuntime) -> Result<(), Fail> {
+    let told = five_are_told(rt.alloc(), RandomState::new(&rt)?)?;
+    assert!(rt; told);
     Ok(())
 }
 
@@ -403,25 +461,51 @@ fn is_in_turn(
     Ok(is_before && is_answered(alloc, log, bookmarks, digits, line))
 }
 
-#[test]
-fn what_keys_name(rt: HostRuntime) -> Result<(), Fail> {
-    let alloc = rt.alloc();
-    let mut log = Changelog::new(alloc, RandomState::new(&rt)?, Limits::standard());
-    let mut bookmarks = Bookmarks::new(alloc);
-    assert!(rt; is_answered(alloc, &log, &bookmarks, b"tip", NULL_LINE));
-    assert!(rt; is_answered(alloc, &log, &bookmarks, b"", b"0 unknown revision ''\n"));
-    let tip = put_forty(alloc, &mut log)?;
-    assert!(rt; is_tip_named(alloc, &log, &bookmarks, tip)?);
-    assert!(rt; is_answered(alloc, &log, &bookmarks, b"null", NULL_LINE));
-    assert!(rt; is_answered(alloc, &log, &bookmarks, NULL_DIGITS, NULL_LINE));
-    assert!(rt; has_ambiguous(alloc, &log, &bookmarks));
-    let unknown = b"0 unknown revision 'no such'\n".as_slice();
-    assert!(rt; is_answered(alloc, &log, &bookmarks, b"no\nsuch", unknown));
+/// Whether the keys are answered that need no bookmark.
+fn words_are_named(
+    alloc: Global,
+    log: &Changelog,
+    bookmarks: &Bookmarks,
+    tip: Node,
+) -> Result<bool, Fail> {
+    let tips = is_tip_named(alloc, log, bookmarks, tip)?;
+    let nulls = is_answered(alloc, log, bookmarks, b"null", NULL_LINE)
+        && is_answered(alloc, log, bookmarks, NULL_DIGITS, NULL_LINE);
+    let line = b"0 unknown revision 'no such'\n".as_slice();
+    let unknown = is_answered(alloc, log, bookmarks, b"no\nsuch", line);
+    Ok(tips && nulls && unknown && has_ambiguous(alloc, log, bookmarks))
+}
+
+/// Whether a bookmark is answered, and comes in its turn.
+fn marks_are_named(
+    alloc: Global,
+    log: &Changelog,
+    bookmarks: &mut Bookmarks,
+    tip: Node,
+) -> Result<bool, Fail> {
     bookmarks.set(alloc, b"no\nsuch", Some(tip))?;
     let digits = hex::encode(alloc, tip.0.as_slice())?;
     let digits = digits.as_str().as_bytes();
     let line = line_of(alloc, digits)?;
-    assert!(rt; is_answered(alloc, &log, &bookmarks, b"no\nsuch", line.as_slice()));
-    assert!(rt; is_in_turn(alloc, &log, &mut bookmarks, digits, line.as_slice())?);
+    let named = is_answered(alloc, log, bookmarks, b"no\nsuch", line.as_slice());
+    Ok(named && is_in_turn(alloc, log, bookmarks, digits, line.as_slice())?)
+}
+
+/// Whether keys are answered of no changesets, and then of forty.
+fn keys_are_named(alloc: Global, state: RandomState) -> Result<bool, Fail> {
+    let mut log = Changelog::new(alloc, state, Limits::standard());
+    let mut bookmarks = Bookmarks::new(alloc);
+    let none = is_answered(alloc, &log, &bookmarks, b"tip", NULL_LINE)
+        && is_answered(alloc, &log, &bookmarks, b"", b"0 unknown revision ''\n");
+    let tip = put_forty(alloc, &mut log)?;
+    let words = words_are_named(alloc, &log, &bookmarks, tip)?;
+    let marks = marks_are_named(alloc, &log, &mut bookmarks, tip)?;
+    Ok(none && words && marks)
+}
+
+#[test]
+fn what_keys_name(rt: HostRuntime) -> Result<(), Fail> {
+    let named = keys_are_named(rt.alloc(), RandomState::new(&rt)?)?;
+    assert!(rt; named);
     Ok(())
 }

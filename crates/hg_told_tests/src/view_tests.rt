@@ -6,7 +6,7 @@ use hg_help_tests::changelog::put_text;
 use hg_log::{Changelog, node_id};
 use hg_obs::Markers;
 use hg_told::*;
-use hg_types::{Limits, NoMemory, Node};
+use hg_types::{Limits, Node};
 use std::alloc::Global;
 use std::hash::RandomState;
 use std::test::*;
@@ -97,6 +97,27 @@ fn map_by_definition(alloc: Global, all: &[Made]) -> Result<Vec<u8>, Fail> {
     Ok(text)
 }
 
+/// The text of the changeset of that place.
+fn text_of(alloc: Global, branch: usize, place: usize) -> Result<String, Fail> {
+    let name = name_of(branch).to_vec(alloc)?;
+    let name = String::from_utf8(name).ok().ok_or("no name")?;
+    Ok(format!(in alloc; "m\nu\n0 0 branch:{name}\n{place}\n")?)
+}
+
+fn node_of(parent: Option<Made>) -> Node {
+    match parent {
+        Some(made) => made.node,
+        None => Node::NULL,
+    }
+}
+
+fn ancestors_of(parent: Option<Made>) -> u64 {
+    match parent {
+        Some(made) => made.ancestors,
+        None => 0,
+    }
+}
+
 /// A history that grows at random.
 #[derive(Drop)]
 struct History {
@@ -126,9 +147,8 @@ impl History {
         self.all.get(place as usize).copied()
     }
 
-    /// One changeset more, on one or two of those that are there, or on none. It is mostly of the branch of the first.
-    /// Some are obsolete before they come.
-    fn grow(&mut self, alloc: Global) -> Result<(), Fail> {
+    /// One or two that are there, or none, to be the parents of the next.
+    fn parents(&mut self) -> (Option<Made>, Option<Made>) {
         let p1 = if self.dice.below(12) == 0 {
             None
         } else {
@@ -139,29 +159,45 @@ impl History {
         } else {
             None
         };
+        (p1, p2)
+    }
+
+    /// The branch of the next: mostly that of its first parent.
+    fn branch(&mut self, p1: Option<Made>) -> usize {
         let stays = self.dice.below(3) > 0;
-        let branch = match p1 {
+        match p1 {
             Some(parent) if stays => parent.branch,
             _ => self.dice.below(4) as usize,
-        };
-        let name = name_of(branch).to_vec(alloc)?;
-        let name = String::from_utf8(name).ok().ok_or("no name")?;
-        let place = self.all.len();
-        let text = format!(in alloc; "m\nu\n0 0 branch:{name}\n{place}\n")?;
-        let (n1, n2) = (
-            p1.map_or(Node::NULL, |made| made.node),
-            p2.map_or(Node::NULL, |made| made.node),
-        );
-        let node = node_id(&n1, &n2, text.as_str().as_bytes());
+        }
+    }
+
+    /// Adds a changeset with that text. Some are obsolete before they come.
+    fn put(
+        &mut self,
+        alloc: Global,
+        p1: Node,
+        p2: Node,
+        text: &[u8],
+    ) -> Result<(Node, bool), Fail> {
+        let node = node_id(&p1, &p2, text);
         let is_obsolete = self.dice.below(16) == 0;
         if is_obsolete {
             self.watched.prune(alloc, node)?;
         }
-        self.watched
-            .put(alloc, n1, n2, text.as_str().as_bytes())
-            .ok_or("not added")?;
+        self.watched.put(alloc, p1, p2, text).ok_or("not added")?;
+        Ok((node, is_obsolete))
+    }
+
+    /// One changeset more, on one or two of those that are there, or on none.
+    fn grow(&mut self, alloc: Global) -> Result<(), Fail> {
+        let (p1, p2) = self.parents();
+        let branch = self.branch(p1);
+        let place = self.all.len();
+        let text = text_of(alloc, branch, place)?;
+        let (n1, n2) = (node_of(p1), node_of(p2));
+        let (node, is_obsolete) = self.put(alloc, n1, n2, text.as_str().as_bytes())?;
         let bit = u32::try_from(place).unwrap_or(u32::MAX);
-        let above = p1.map_or(0, |made| made.ancestors) | p2.map_or(0, |made| made.ancestors);
+        let above = ancestors_of(p1) | ancestors_of(p2);
         self.all.push(Made {
             node,
             branch,
@@ -194,38 +230,52 @@ fn views_of_random_histories(rt: HostRuntime) -> Result<(), Fail> {
     let alloc = rt.alloc();
     let state = RandomState::new(&rt)?;
     for seed in 0..300u64 {
-        let mut history = History::new(alloc, state, seed);
-        let often = seed.wrapping_mul(seed) % 6 + 1;
-        for _step in 0..60 {
-            if seed % 4 > 0 && history.dice.below(9) == 0 {
-                history.forget(alloc)?;
-            } else {
-                history.grow(alloc)?;
-            }
-            if history.dice.below(often) == 0 {
-                history.watched.bring_up(alloc)?;
-                let wanted = map_by_definition(alloc, history.all.as_slice())?;
-                assert!(rt;
-                    is_text(
-                        branchmap_text(alloc, history.watched.view()),
-                        wanted.as_slice()
-                    )
-                );
-            }
-        }
-        history.watched.bring_up(alloc)?;
-        let wanted = map_by_definition(alloc, history.all.as_slice())?;
-        assert!(rt;
-            is_text(
-                branchmap_text(alloc, history.watched.view()),
-                wanted.as_slice()
-            )
-        );
-        let whole = history.watched.whole(alloc)?;
-        assert!(rt; is_text(branchmap_text(alloc, &whole), wanted.as_slice()));
-        assert!(rt; history.watched.view().counts() == whole.counts());
+        let told = is_history_told(alloc, state, seed)?;
+        assert!(rt; told);
     }
     Ok(())
+}
+
+/// Whether a history is told, at each time that its view is brought up, and by a view that is made at once.
+fn is_history_told(alloc: Global, state: RandomState, seed: u64) -> Result<bool, Fail> {
+    let mut history = History::new(alloc, state, seed);
+    let mut told = true;
+    for _step in 0..60 {
+        told = is_step_told(alloc, &mut history, seed)? && told;
+    }
+    let last = is_brought_up(alloc, &mut history)?;
+    Ok(told && last && is_whole(alloc, &history)?)
+}
+
+/// One step of a history, after which its view may be brought up. Whether it is told then.
+fn is_step_told(alloc: Global, history: &mut History, seed: u64) -> Result<bool, Fail> {
+    let often = seed.wrapping_mul(seed) % 6 + 1;
+    if seed % 4 > 0 && history.dice.below(9) == 0 {
+        history.forget(alloc)?;
+    } else {
+        history.grow(alloc)?;
+    }
+    if history.dice.below(often) == 0 {
+        is_brought_up(alloc, history)
+    } else {
+        Ok(true)
+    }
+}
+
+/// Whether the branch map of the view, once it is brought up, is that of the definition.
+fn is_brought_up(alloc: Global, history: &mut History) -> Result<bool, Fail> {
+    history.watched.bring_up(alloc)?;
+    let wanted = map_by_definition(alloc, history.all.as_slice())?;
+    let told = branchmap_text(alloc, history.watched.view());
+    Ok(is_text(told, wanted.as_slice()))
+}
+
+/// Whether that of a view that is made at once is, and both views are of as many.
+fn is_whole(alloc: Global, history: &History) -> Result<bool, Fail> {
+    let wanted = map_by_definition(alloc, history.all.as_slice())?;
+    let whole = history.watched.whole(alloc)?;
+    let is_same = history.watched.view().counts() == whole.counts();
+    Ok(is_same && is_text(branchmap_text(alloc, &whole), wanted.as_slice()))
 }
 
 /// Adds changesets in their order. The ids are those of all changesets.
@@ -245,66 +295,118 @@ fn put_rows(
 // the markers, or to both at once, or to the markers first. Result: the lines that Mercurial said, for each cut.
 #[test]
 fn each_cut_of_the_changesets(rt: HostRuntime) -> Result<(), Fail> {
-    let alloc = rt.alloc();
-    let state = RandomState::new(&rt)?;
+    let told = are_cuts_told(rt.alloc(), RandomState::new(&rt)?)?;
+    assert!(rt; told);
+    Ok(())
+}
+
+/// Whether the branch map is that of Mercurial for each cut, in each way.
+fn are_cuts_told(alloc: Global, state: RandomState) -> Result<bool, Fail> {
     let rows = rows(alloc)?;
     let nodes = ids_of(alloc, state, rows.as_slice())?;
+    let mut told = true;
     for cut in 0..rows.len() {
         let (first, rest) = rows.as_slice().split_at(cut.min(rows.len()));
         for way in 0..3 {
-            let mut watched = Watched::new(alloc, state);
-            put_rows(alloc, &mut watched, nodes.as_slice(), first)?;
-            watched.look(alloc)?;
-            if way == 0 {
-                put_rows(alloc, &mut watched, nodes.as_slice(), rest)?;
-                watched.bring_up(alloc)?;
-            }
-            for place in [13, 16, 17] {
-                prune_at(alloc, &mut watched, nodes.as_slice(), place)?;
-            }
-            if way == 1 {
-                watched.bring_up(alloc)?;
-            }
-            if way > 0 {
-                put_rows(alloc, &mut watched, nodes.as_slice(), rest)?;
-            }
-            watched.bring_up(alloc)?;
-            assert!(rt; is_told(alloc, &watched));
+            told = is_cut_told(alloc, state, nodes.as_slice(), first, rest, way)? && told;
         }
     }
+    Ok(told)
+}
+
+/// Makes three changesets obsolete.
+fn prune_three(alloc: Global, watched: &mut Watched, nodes: &[Node]) -> Result<(), Fail> {
+    for place in [13, 16, 17] {
+        prune_at(alloc, watched, nodes, place)?;
+    }
     Ok(())
+}
+
+/// Brings a view of the first changesets up to all and to the markers, in one of the three ways.
+fn go_on(
+    alloc: Global,
+    watched: &mut Watched,
+    nodes: &[Node],
+    rest: &[Row],
+    way: u8,
+) -> Result<(), Fail> {
+    if way == 0 {
+        put_rows(alloc, watched, nodes, rest)?;
+        watched.bring_up(alloc)?;
+    }
+    prune_three(alloc, watched, nodes)?;
+    if way == 1 {
+        watched.bring_up(alloc)?;
+    }
+    if way > 0 {
+        put_rows(alloc, watched, nodes, rest)?;
+    }
+    watched.bring_up(alloc)?;
+    Ok(())
+}
+
+/// Whether the branch map is that of Mercurial then.
+fn is_cut_told(
+    alloc: Global,
+    state: RandomState,
+    nodes: &[Node],
+    first: &[Row],
+    rest: &[Row],
+    way: u8,
+) -> Result<bool, Fail> {
+    let mut watched = Watched::new(alloc, state);
+    put_rows(alloc, &mut watched, nodes, first)?;
+    watched.look(alloc)?;
+    go_on(alloc, &mut watched, nodes, rest, way)?;
+    Ok(is_told(alloc, &watched))
 }
 
 /// 30 changesets in a row on two branches in turn, which come at once: more than the passes that are made for them. The
 /// last of each branch is its head.
 #[test]
 fn two_branches_in_turn(rt: HostRuntime) -> Result<(), Fail> {
-    let alloc = rt.alloc();
-    let state = RandomState::new(&rt)?;
+    let told = are_two_told(rt.alloc(), RandomState::new(&rt)?)?;
+    assert!(rt; told);
+    Ok(())
+}
+
+/// Puts a changeset of the first or the second branch on another.
+fn put_one(alloc: Global, log: &mut Changelog, parent: Node, number: u16) -> Result<Node, Fail> {
+    let branch = number % 2;
+    let text = format!(in alloc; "m\nu\n0 0 branch:b{branch}\n{number}\n")?;
+    let node = put_text(alloc, log, parent, Node::NULL, text.as_str().as_bytes());
+    Ok(node.ok_or("not added")?)
+}
+
+/// Puts the changesets, and gives the last of the first branch and of the second.
+fn put_thirty(alloc: Global, log: &mut Changelog) -> Result<(Node, Node), Fail> {
+    let mut before = Node::NULL;
+    let mut last = Node::NULL;
+    for number in 0..30u16 {
+        let node = put_one(alloc, log, last, number)?;
+        before = last;
+        last = node;
+    }
+    Ok((before, last))
+}
+
+/// The lines of the two branches.
+fn lines_of(alloc: Global, first: Node, second: Node) -> Result<Vec<u8>, Fail> {
+    let first = hex::encode(alloc, first.0.as_slice())?;
+    let second = hex::encode(alloc, second.0.as_slice())?;
+    let mut lines = Vec::from_slice(alloc, b"b0 ")?;
+    lines.extend_from_slice(first.as_str().as_bytes())?;
+    lines.extend_from_slice(b"\nb1 ")?;
+    lines.extend_from_slice(second.as_str().as_bytes())?;
+    Ok(lines)
+}
+
+/// Whether the two heads are told.
+fn are_two_told(alloc: Global, state: RandomState) -> Result<bool, Fail> {
     let mut log = Changelog::new(alloc, state, Limits::standard());
     let markers = Markers::new(alloc, state);
-    let mut nodes = Vec::new(alloc);
-    let mut parent = Node::NULL;
-    for number in 0..30u16 {
-        let branch = number % 2;
-        let text = format!(in alloc; "m\nu\n0 0 branch:b{branch}\n{number}\n")?;
-        parent = put_text(
-            alloc,
-            &mut log,
-            parent,
-            Node::NULL,
-            text.as_str().as_bytes(),
-        )
-        .ok_or("not added")?;
-        nodes.push(parent)?;
-    }
-    let mut wanted = Vec::new(alloc);
-    for (line, place) in [b"b0 ".as_slice(), b"\nb1 "].iter().zip([28, 29].iter()) {
-        let id = hex::encode(alloc, nodes.get(*place).ok_or("no changeset")?.0.as_slice())?;
-        wanted.extend_from_slice(line)?;
-        wanted.extend_from_slice(id.as_str().as_bytes())?;
-    }
+    let (first, second) = put_thirty(alloc, &mut log)?;
+    let wanted = lines_of(alloc, first, second)?;
     let view = View::of(alloc, &log, &markers)?;
-    assert!(rt; is_text(branchmap_text(alloc, &view), wanted.as_slice()));
-    Ok(())
+    Ok(is_text(branchmap_text(alloc, &view), wanted.as_slice()))
 }
