@@ -9,6 +9,7 @@ ghost use Rattle.hg_ledger.specs.Receipts.{IsTallyOf};
 use super::*;
 use hg_help_serve_tests::add;
 use hg_kept::Keeping;
+use hg_serve::Client;
 use hg_wire::{Host, Wire};
 use http_server::{Config, Connection, serve};
 use linked_list_allocator::LocalHeap;
@@ -119,7 +120,50 @@ fn all_well(
     third
 }
 
-/// Serves three connections in turn over a heap of the server's own.
+/// Serves three connections in turn by a client, and gives that client, the one that the shelf had, and what came of
+/// them.
+fn converse_thrice<J: Storing<A>, A: Allocator + Copy, R: RandomSource + Wait + Abort>(
+    rt: &R,
+    global: Global,
+    alloc: A,
+    server: &Server<J, A>,
+    ledger: &Ledger<J, Memory, A>,
+    talk: Talk<'_>,
+) -> (Client<J, A>, Client<J, A>, Came) {
+    let budget = Budget::new(1_000_000);
+    let terms = Terms {
+        shown: &Words,
+        budget: &budget,
+        pull: None,
+        stored: 0,
+    };
+    let shelf = Mutex::new(Shelf::new(alloc, client_of(rt, server)));
+    let client = KeptClient::new(client_of(rt, server));
+    let host = host_over(server, ledger, &shelf, rt, alloc);
+    let mut first_told = Vec::new(global);
+    let (client, first) = converse(global, host, &terms, client, talk.before, &mut first_told);
+    let mut told = Vec::new(global);
+    let ballast = taken(rt, global, alloc, talk.left);
+    let host = host_over(server, ledger, &shelf, rt, alloc);
+    let (client, second) = converse(global, host, &terms, client, talk.asked, &mut told);
+    drop(ballast);
+    let mut after = Vec::new(global);
+    let host = host_over(server, ledger, &shelf, rt, alloc);
+    let (client, third) = converse(global, host, &terms, client, talk.after, &mut after);
+    let (client, _receipt) = client.into_parts();
+    let came = came_of(all_well(first, second, third), Answered { told, after });
+    (client, shelf.into_inner().into_witness(), came)
+}
+
+fn came_of(went: Result<(), Came>, answered: Answered) -> Came {
+    match went {
+        Ok(()) => Came::Answered(answered),
+        Err(came) => came,
+    }
+}
+
+/// Serves three connections in turn over a heap of the server's own. A call can pick a name only where no bound names
+/// a lifetime, so what serves under a name knows a heap as an allocator alone.
 fn converse_over<J: Storing<A>, A: Allocator + Copy, R: RandomSource + Wait + Abort>(
     rt: &R,
     global: Global,
@@ -130,70 +174,40 @@ fn converse_over<J: Storing<A>, A: Allocator + Copy, R: RandomSource + Wait + Ab
     log: Log<Memory>,
     counts: hg_ledger::Tally<A>,
     talk: Talk<'_>,
-) -> Came
+) -> Option<Came>
     requires begins { OpensWith J.table J.capacity J.first queue taker repo }
     requires settled { IsSettled ⟦<Memory as Device>⟧.seen ⟦<Memory as Device>⟧.may_leave J.head J.stored log }
     requires opened { J.opened ≡ ⟦<Memory as Device>⟧.moment log.device }
     requires tally { IsTallyOf J.tally J.name J.parts counts × (counts.promises ≡ []) }
 {
-    let Ok(mut clients) = Vec::with_capacity(alloc, 4) else {
-        return Came::Unmade;
-    };
+    let mut clients = Vec::with_capacity(alloc, 4).ok()?;
     let server = Server::<J, A>::new(alloc, repo, queue, taker);
     let witnesses = (client_of(rt, &server), client_of(rt, &server));
-    let ledger = match Ledger::new(alloc, log, witnesses, counts) {
-        Ok(ledger) => ledger,
-        Err(parts) => {
-            let Parts {
-                log: _log,
-                kept: _,
-                is_broken: _,
-                witnesses: (first, second),
-                tally: _,
-            } = parts;
-            add(rt, &mut clients, first);
-            add(rt, &mut clients, second);
-            let _closed = server.close(clients);
-            return Came::Unmade;
+    let mut told = None;
+    let parts = match Ledger::new(alloc, log, witnesses, counts) {
+        Ok(ledger) => {
+            let (client, witness, came) = converse_thrice(
+                rt, global, alloc, &server, &ledger, talk,
+            );
+            add(rt, &mut clients, client);
+            add(rt, &mut clients, witness);
+            told = Some(came);
+            ledger.into_parts()
         }
+        Err(parts) => parts,
     };
-    let budget = Budget::new(1_000_000);
-    let terms = Terms {
-        shown: &Words,
-        budget: &budget,
-        pull: None,
-        stored: 0,
-    };
-    let shelf = Mutex::new(Shelf::new(alloc, client_of(rt, &server)));
-    let client = KeptClient::new(client_of(rt, &server));
-    let host = host_over(&server, &ledger, &shelf, rt, alloc);
-    let mut first_told = Vec::new(global);
-    let (client, first) = converse(global, host, &terms, client, talk.before, &mut first_told);
-    let mut told = Vec::new(global);
-    let ballast = taken(rt, global, alloc, talk.left);
-    let host = host_over(&server, &ledger, &shelf, rt, alloc);
-    let (client, second) = converse(global, host, &terms, client, talk.asked, &mut told);
-    drop(ballast);
-    let mut after = Vec::new(global);
-    let host = host_over(&server, &ledger, &shelf, rt, alloc);
-    let (client, third) = converse(global, host, &terms, client, talk.after, &mut after);
-    let (client, _receipt) = client.into_parts();
-    add(rt, &mut clients, client);
     let Parts {
         log: _log,
         kept: _,
         is_broken: _,
-        witnesses: (first_witness, second_witness),
+        witnesses: (first, second),
         tally: _,
-    } = ledger.into_parts();
-    add(rt, &mut clients, first_witness);
-    add(rt, &mut clients, second_witness);
-    add(rt, &mut clients, shelf.into_inner().into_witness());
-    let _closed = server.close(clients);
-    match all_well(first, second, third) {
-        Ok(()) => Came::Answered(Answered { told, after }),
-        Err(came) => came,
-    }
+    } = parts;
+    add(rt, &mut clients, first);
+    add(rt, &mut clients, second);
+    let closed = server.close(clients);
+    drop(closed);
+    told
 }
 
 fn came_over<R: RandomSource + Wait + Abort>(
@@ -202,17 +216,17 @@ fn came_over<R: RandomSource + Wait + Abort>(
     heap: &LocalHeap,
     talk: Talk<'_>,
 ) -> Came {
-    match PartQueue::new(heap, 1) {
-        Ok((queue, taker)) => {
-            let repo = Repo::new(heap, settings(), state(rt));
-            let log = new_log(rt, global, 1_000_000);
-            let Ok(counts) = hg_ledger::Tally::new(heap) else {
-                return Came::Unmade;
-            };
-            converse_over::<Brand, _, R>(rt, global, heap, queue, taker, repo, log, counts, talk)
-        }
-        Err(_) => Came::Unmade,
-    }
+    let Ok((queue, taker)) = PartQueue::new(heap, 1) else {
+        return Came::Unmade;
+    };
+    let Ok(counts) = hg_ledger::Tally::new(heap) else {
+        return Came::Unmade;
+    };
+    let repo = Repo::new(heap, settings(), state(rt));
+    let log = new_log(rt, global, 1_000_000);
+    converse_over::<Brand, _, R>(rt, global, heap, queue, taker, repo, log, counts, talk).unwrap_or(
+        Came::Unmade,
+    )
 }
 
 /// The answers, one by one: each begins as all do.
