@@ -114,7 +114,7 @@ impl<'a, J: Storing<A>, D: Device, R: Wait, S: Shown<A>, V: Watch<A>, A: Allocat
         }
     }
 
-    /// Answers a request. Where the store failed there is no answer, and nor is a later request answered.
+    /// Answers a request. Where the store failed there is no answer, nor is a later request answered.
     fn answer(
         &mut self,
         request: &Request<Bytes>,
