@@ -1,28 +1,14 @@
 //! How a server and its ledger end.
 
-ghost use Rattle.std.specs.Prelude.{◌≡◌, All, Contains};
+ghost use Rattle.std.specs.Prelude.{◌≡◌, ◌≤◌, ◌+◌, All, Contains, vec_capacity, vec_len};
 ghost use Rattle.hg_ledger.specs.Clients.{promised};
 
 use hg_help_tests::device::Memory;
 use hg_ledger::{KeptClient, Ledger, Parts, Receipt, Storing, Tally};
-use hg_serve::{Client, Closed, Naming, Server};
+use hg_serve::{Client, Closed, Server};
 use hg_store::{Device, Log};
 use std::alloc::{AllocFailed, Allocator, Global};
-use std::process::Abort;
 use std::sync::{Mutex, Wait};
-use std::test::*;
-
-/// Adds a client to others.
-pub fn add<J: Naming<A>, A: Allocator, R: Abort>(
-    rt: &R,
-    clients: &mut Vec<Client<J, A>, A>,
-    client: Client<J, A>,
-) {
-    match clients.push(client) {
-        Ok(()) => {}
-        Err(AllocFailed { value: _client, .. }) => panic!(rt; "no memory for a client"),
-    }
-}
 
 /// Compares a receipt with the tally of its ledger.
 pub fn compare<J: Storing<A>, A: Allocator>(tally: &mut Tally<A>, receipt: Receipt<J, A>)
@@ -61,15 +47,17 @@ pub struct ClosedTwo {
     pub closed: Closed,
 }
 
-/// Compares the receipts of two clients with the tally of the ledger, and closes the server with them.
-pub fn close_two<J: Storing<Global>, R: Abort>(
-    rt: &R,
+/// Compares the receipts of two clients with the tally of the ledger, and closes the server with them. There is room
+/// for four clients.
+pub fn close_two<J: Storing<Global>>(
     server: Server<J>,
     ledger: Ledger<J, Memory>,
     first: KeptClient<J>,
     second: KeptClient<J>,
     mut clients: Vec<Client<J>>,
-) -> ClosedTwo {
+) -> ClosedTwo
+    requires { vec_len clients + 4 ≤ vec_capacity clients }
+{
     let Parts {
         log: _,
         kept,
@@ -81,10 +69,10 @@ pub fn close_two<J: Storing<Global>, R: Abort>(
     let has_first = has_receipt(&mut tally, receipt);
     let (second, receipt) = second.into_parts();
     let has_second = has_receipt(&mut tally, receipt);
-    add(rt, &mut clients, before);
-    add(rt, &mut clients, after);
-    add(rt, &mut clients, first);
-    add(rt, &mut clients, second);
+    clients.push_reserved(before);
+    clients.push_reserved(after);
+    clients.push_reserved(first);
+    clients.push_reserved(second);
     ClosedTwo {
         has_first,
         has_second,
@@ -112,19 +100,29 @@ impl<J: Storing<Global>, D: Device + Drop> Open<J, D> {
         }
     }
 
-    /// A client leaves, with its receipt where it has one.
-    pub fn leave<R: Wait + Abort>(&self, rt: &R, client: KeptClient<J>) {
+    /// A client leaves, with its receipt where it has one. It comes back where there is no memory for that.
+    pub fn leave<R: Wait>(&self, rt: &R, client: KeptClient<J>) -> Result<(), Client<J>> {
         let (client, receipt) = client.into_parts();
-        add(rt, &mut *self.clients.lock(rt), client);
-        if let Some(receipt) = receipt {
-            let is_added = self.receipts.lock(rt).push(receipt).is_ok();
-            assert!(rt; is_added);
+        if !self.has_left(rt, receipt) {
+            return Err(client);
+        }
+        match self.clients.lock(rt).push(client) {
+            Ok(()) => Ok(()),
+            Err(AllocFailed { value, .. }) => Err(value),
+        }
+    }
+
+    /// Keeps the receipt of a client, where it has one. Says whether there was memory for it.
+    fn has_left<R: Wait>(&self, rt: &R, receipt: Option<Receipt<J>>) -> bool {
+        match receipt {
+            Some(receipt) => self.receipts.lock(rt).push(receipt).is_ok(),
+            None => true,
         }
     }
 
     /// Compares the receipts with the tally of the ledger, and closes the server with all clients, those of the ledger
-    /// among them. What the server held, and the ledger's device.
-    pub fn close<R: Abort>(self, rt: &R) -> (Closed, D) {
+    /// among them. What the server held, and the ledger's device. All comes back where there is no memory for that.
+    pub fn close(self) -> Result<(Closed, D), Open<J, D>> {
         let Open {
             server,
             ledger,
@@ -132,6 +130,14 @@ impl<J: Storing<Global>, D: Device + Drop> Open<J, D> {
             receipts,
         } = self;
         let mut clients = clients.into_inner();
+        if clients.reserve(2).is_err() {
+            return Err(Open {
+                server,
+                ledger,
+                clients: Mutex::new(clients),
+                receipts,
+            });
+        }
         let Parts {
             log,
             kept: _,
@@ -142,9 +148,9 @@ impl<J: Storing<Global>, D: Device + Drop> Open<J, D> {
         'comparing: for receipt in receipts.into_inner() {
             compare(&mut tally, receipt);
         }
-        add(rt, &mut clients, first);
-        add(rt, &mut clients, second);
+        clients.push_reserved(first);
+        clients.push_reserved(second);
         let Log { device, .. } = log;
-        (server.close(clients), device)
+        Ok((server.close(clients), device))
     }
 }

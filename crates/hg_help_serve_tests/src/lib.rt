@@ -6,6 +6,6 @@ mod beginning;
 mod closing;
 mod pushing;
 
-pub use beginning::{new_log, settings, starts_again, state};
-pub use closing::{ClosedTwo, Open, add, close_two, compare, has_receipt};
+pub use beginning::{new_log, settings, starts_again};
+pub use closing::{ClosedTwo, Open, close_two, compare, has_receipt};
 pub use pushing::{client_of, marker, one_part};

@@ -5,9 +5,9 @@ ghost use Rattle.hg_store.specs.Log.{IsSettled};
 ghost use Rattle.hg_serve.specs.Desks.{OpensWith};
 ghost use Rattle.hg_ledger.specs.Receipts.{IsTallyOf};
 
-use crate::tests::Source;
+use crate::tests::{Source, state};
 use hg_connection::ConnFault;
-use hg_help_serve_tests::{add, client_of, marker, new_log, one_part, settings, state};
+use hg_help_serve_tests::{client_of, marker, new_log, one_part, settings};
 use hg_help_tests::device::Memory;
 use hg_kept::{Keeping, KeptFault, serve_connection_kept};
 use hg_ledger::{KeptClient, Ledger, Parts, Storing, Tally};
@@ -131,7 +131,7 @@ fn connected<J: Storing<A>, A: Allocator + Copy, R: Wait + Abort, G: Gate>(
             let (client, bundles, fault) = serve_one(
                 rt, global, alloc, &server, &ledger, input, gate,
             );
-            add(rt, &mut clients, client);
+            clients.push_reserved(client);
             told = Some((bundles, fault));
             ledger.into_parts()
         }
@@ -144,8 +144,8 @@ fn connected<J: Storing<A>, A: Allocator + Copy, R: Wait + Abort, G: Gate>(
         witnesses: (first, second),
         tally: _,
     } = parts;
-    add(rt, &mut clients, first);
-    add(rt, &mut clients, second);
+    clients.push_reserved(first);
+    clients.push_reserved(second);
     let closed = server.close(clients);
     let done = closed.journal.len();
     drop(closed);
@@ -179,7 +179,7 @@ fn told_of<R: Wait + RandomSource + Abort, G: Gate>(
 ) -> Option<Told> {
     let mut input = Vec::new(alloc);
     for turn in 0..pushes {
-        one_part(rt, &mut input, &marker(rt, alloc, 1, turn));
+        assert!(rt; one_part(&mut input, &marker(1, turn)));
     }
     let Ok((queue, taker)) = PartQueue::new(heap, 1) else {
         return None;
@@ -188,7 +188,9 @@ fn told_of<R: Wait + RandomSource + Abort, G: Gate>(
         return None;
     };
     let repo = Repo::new(heap, settings(), state(rt));
-    let log = new_log(rt, alloc, 1_000_000);
+    let Some(log) = new_log(alloc, 1_000_000) else {
+        panic!(rt; "no store");
+    };
     connected::<Brand, _, R, G>(
         rt, alloc, heap, queue, taker, repo, log, tally, &input, gate,
     )

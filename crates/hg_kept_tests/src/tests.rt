@@ -8,7 +8,7 @@ ghost use Rattle.hg_serve.specs.Desks.{OpensWith};
 ghost use Rattle.hg_ledger.specs.Receipts.{IsTallyOf};
 
 use hg_help_serve_tests::{
-    Open, client_of, close_two, marker, new_log, one_part, settings, starts_again, state,
+    Open, client_of, close_two, marker, new_log, one_part, settings, starts_again,
 };
 use hg_help_tests::device::Memory;
 use hg_kept::{Keeping, KeptFault, serve_connection_kept};
@@ -18,6 +18,7 @@ use hg_repo::Repo;
 use hg_serve::{Closed, NoGate, Server};
 use hg_store::{Device, Log};
 use std::alloc::Global;
+use std::hash::RandomState;
 use std::io::Read;
 use std::marker::Brand;
 use std::process::Abort;
@@ -52,6 +53,14 @@ impl<'a> Read for Source<'a> {
         buf[..count].copy_from_slice(&self.bytes[..count]);
         self.bytes = &self.bytes[count..];
         Ok(count)
+    }
+}
+
+/// The state by which a repository hashes ids.
+pub fn state<R: RandomSource + Abort>(rt: &R) -> RandomState {
+    match RandomState::new(rt) {
+        Ok(state) => state,
+        Err(_) => panic!(*rt; "no random bytes"),
     }
 }
 
@@ -90,13 +99,13 @@ fn connect<J: Storing<Global>, D: Device + Drop, R: Wait + Abort>(
     let mut input = Vec::new(alloc);
     for turn in 0..pushes {
         // every third push is malformed, and so aborted
-        let payload = marker(rt, alloc, thread, turn);
+        let payload = marker(thread, turn);
         let payload = if turn % 3 == 0 {
             &payload[1..]
         } else {
             &payload[..]
         };
-        one_part(rt, &mut input, payload);
+        assert!(rt; one_part(&mut input, payload));
     }
     let mut reader = Source {
         bytes: &input,
@@ -132,7 +141,9 @@ fn connect<J: Storing<Global>, D: Device + Drop, R: Wait + Abort>(
         }
         Some(KeptFault::Connection(_)) => panic!(rt; "the connection failed"),
     }
-    open.leave(rt, client);
+    if let Err(_client) = open.leave(rt, client) {
+        panic!(rt; "no memory for a client");
+    }
 }
 
 /// What came of connections of two clients in turn: whether each has a receipt, how many replies of each said that a
@@ -158,8 +169,8 @@ fn push_twice<J: Storing<Global>, R: Wait + Abort>(
     requires { turn < 100 }
 {
     let mut input = Vec::new(alloc);
-    one_part(rt, &mut input, &marker(rt, alloc, thread, turn));
-    one_part(rt, &mut input, &marker(rt, alloc, thread, 100 + turn));
+    assert!(rt; one_part(&mut input, &marker(thread, turn)));
+    assert!(rt; one_part(&mut input, &marker(thread, 100 + turn)));
     let mut reader = Source {
         bytes: &input,
         step: 40,
@@ -210,7 +221,10 @@ fn push_in_turn<J: Storing<Global>, R: Wait + Abort>(
         second = seen;
         done.1 = done.1.saturating_add(count);
     }
-    let closed = close_two(rt, server, ledger, first, second, Vec::new(alloc));
+    let Ok(room) = Vec::with_capacity(alloc, 4) else {
+        panic!(rt; "no memory for clients");
+    };
+    let closed = close_two(server, ledger, first, second, room);
     Turns {
         has_first: closed.has_first,
         has_second: closed.has_second,
@@ -221,7 +235,9 @@ fn push_in_turn<J: Storing<Global>, R: Wait + Abort>(
 
 /// The same, on a device that fails after so many calls.
 fn turned<R: Wait + RandomSource + Abort>(rt: &R, alloc: Global, calls: usize) -> Turns {
-    let log = new_log(rt, alloc, calls);
+    let Some(log) = new_log(alloc, calls) else {
+        panic!(rt; "no store");
+    };
     let Ok(tally) = Tally::new(alloc) else {
         panic!(rt; "no memory for a tally");
     };
@@ -247,7 +263,10 @@ struct Left {
 impl Left {
     /// Starts again from what a crash leaves: what every reply rested on is there, in the order of the journal.
     fn starts_again<R: RandomSource + Abort>(&self, rt: &R, alloc: Global, part: usize) -> usize {
-        starts_again(rt, alloc, &self.device, part, &self.closed, self.done)
+        match starts_again(rt, alloc, &self.device, part, &self.closed, self.done) {
+            Some(count) => count,
+            None => panic!(rt; "what was answered is not there"),
+        }
     }
 }
 
@@ -337,7 +356,10 @@ fn play<J: Storing<Global> + Send + Sync, R: Threads + Wait + Abort + Sync>(
         refused: Mutex::new(0),
     };
     connect_all(rt, alloc, &open, &told, pushes);
-    let (closed, device) = open.close(rt);
+    let (closed, device) = match open.close() {
+        Ok(closed) => closed,
+        Err(_open) => panic!(rt; "no memory for clients"),
+    };
     let Told {
         done,
         replies,
@@ -379,7 +401,9 @@ fn run<R: Threads + Wait + RandomSource + Abort + Sync>(
     calls: usize,
     pushes: u8,
 ) -> Left {
-    let log = new_log(rt, alloc, calls);
+    let Some(log) = new_log(alloc, calls) else {
+        panic!(rt; "no store");
+    };
     let Ok(tally) = Tally::new(alloc) else {
         panic!(rt; "no memory for a tally");
     };

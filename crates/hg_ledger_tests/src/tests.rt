@@ -13,8 +13,7 @@ ghost use Rattle.hg_ledger.specs.Records.{done_in};
 
 use hg_connection::{mark, receive_kept};
 use hg_help_serve_tests::{
-    Open, add, client_of, close_two, has_receipt, marker, new_log, one_part, settings,
-    starts_again, state,
+    Open, client_of, close_two, has_receipt, marker, new_log, one_part, settings, starts_again,
 };
 use hg_help_tests::device::Memory;
 use hg_help_tests::devices::Source;
@@ -31,6 +30,7 @@ use hg_stream::laws::streams_are_settled_once;
 use hg_types::Seq;
 use linked_list_allocator::LocalHeap;
 use std::alloc::{Allocator, Global};
+use std::hash::RandomState;
 use std::marker::Brand;
 use std::process::Abort;
 use std::random::RandomSource;
@@ -59,6 +59,14 @@ fn record_of<A: Allocator>(
     }
 }
 
+/// The state by which a repository hashes ids.
+fn state<R: RandomSource + Abort>(rt: &R) -> RandomState {
+    match RandomState::new(rt) {
+        Ok(state) => state,
+        Err(_) => panic!(*rt; "no random bytes"),
+    }
+}
+
 /// How many pushes are known to be kept: those that the last receipt rests on, and whether a call was
 /// refused.
 #[derive(Drop)]
@@ -83,7 +91,7 @@ fn push_part<J: Storing<Global>, D: Device + Drop, R: Wait + Abort>(
     journals_grow::<Global>();
     streams_are_settled_once::<Global>();
     let mut input = Vec::new(alloc);
-    one_part(rt, &mut input, payload);
+    assert!(rt; one_part(&mut input, payload));
     let (client, receipt) = client.into_parts();
     let room = match ledger.room(rt) {
         Ok(room) => room,
@@ -153,7 +161,7 @@ fn push_all<J: Storing<Global>, D: Device + Drop, R: Wait + Abort>(
     let mut mine = KeptClient::new(client_of(rt, &open.server));
     for turn in 0..PUSHES {
         // every third push is malformed, and so aborted
-        let payload = marker(rt, alloc, thread, turn);
+        let payload = marker(thread, turn);
         let payload = if turn % 3 == 0 {
             &payload[1..]
         } else {
@@ -161,7 +169,9 @@ fn push_all<J: Storing<Global>, D: Device + Drop, R: Wait + Abort>(
         };
         mine = push_once(rt, alloc, &open.server, &open.ledger, mine, told, payload);
     }
-    open.leave(rt, mine);
+    if let Err(_client) = open.leave(rt, mine) {
+        panic!(rt; "no memory for a client");
+    }
 }
 
 /// What the threads push at, and where what comes of it is noted.
@@ -243,7 +253,10 @@ fn play<J: Storing<Global> + Send + Sync, R: Threads + Wait + Abort + Sync>(
         refused: Mutex::new(0),
     };
     push_from_threads(rt, alloc, &open, &told);
-    let (closed, device) = open.close(rt);
+    let (closed, device) = match open.close() {
+        Ok(closed) => closed,
+        Err(_open) => panic!(rt; "no memory for clients"),
+    };
     let Told { kept, refused } = told;
     Left {
         closed,
@@ -259,7 +272,9 @@ fn run<R: Threads + Wait + RandomSource + Abort + Sync>(
     alloc: Global,
     calls: usize,
 ) -> Left {
-    let log = new_log(rt, alloc, calls);
+    let Some(log) = new_log(alloc, calls) else {
+        panic!(rt; "no store");
+    };
     let Ok(tally) = Tally::new(alloc) else {
         panic!(rt; "no memory for a tally");
     };
@@ -284,7 +299,10 @@ struct Left {
 impl Left {
     /// Starts again from what a crash leaves: what every reply rested on is there, in the order of the journal.
     fn starts_again<R: RandomSource + Abort>(&self, rt: &R, alloc: Global, part: usize) -> usize {
-        starts_again(rt, alloc, &self.device, part, &self.closed, self.kept)
+        match starts_again(rt, alloc, &self.device, part, &self.closed, self.kept) {
+            Some(count) => count,
+            None => panic!(rt; "what was answered is not there"),
+        }
     }
 }
 
@@ -351,7 +369,7 @@ fn ask<J: Storing<Global>, R: Wait + Abort>(
         Err(_parts) => panic!(rt; "no memory for a ledger"),
     };
     let before = ledger.receipt(rt, &server, &mut mine, 0);
-    let payload = marker(rt, alloc, 0, 1);
+    let payload = marker(0, 1);
     let (mut mine, rests, _) = push_part(rt, alloc, &server, &ledger, mine, &payload);
     assert!(rt; rests == 1);
     let of_one = ledger.receipt(rt, &server, &mut mine, 1);
@@ -374,10 +392,12 @@ fn ask<J: Storing<Global>, R: Wait + Abort>(
     };
     let (mine, receipt) = mine.into_parts();
     assert!(rt; has_receipt(&mut tally, receipt));
-    let mut clients = Vec::new(alloc);
-    add(rt, &mut clients, first);
-    add(rt, &mut clients, second);
-    add(rt, &mut clients, mine);
+    let Ok(mut clients) = Vec::with_capacity(alloc, 3) else {
+        panic!(rt; "no memory for clients");
+    };
+    clients.push_reserved(first);
+    clients.push_reserved(second);
+    clients.push_reserved(mine);
     let closed = server.close(clients);
     let is_first = closed.journal.as_slice() == [0].as_slice();
     drop(closed);
@@ -387,7 +407,9 @@ fn ask<J: Storing<Global>, R: Wait + Abort>(
 
 /// The same, on a device that fails after so many calls.
 fn asked<R: Wait + RandomSource + Abort>(rt: &R, alloc: Global, calls: usize) -> Receipts {
-    let log = new_log(rt, alloc, calls);
+    let Some(log) = new_log(alloc, calls) else {
+        panic!(rt; "no store");
+    };
     let Ok(tally) = Tally::new(alloc) else {
         panic!(rt; "no memory for a tally");
     };
@@ -458,26 +480,15 @@ fn push_in_turn<J: Storing<Global>, R: Wait + Abort>(
         Err(_parts) => panic!(rt; "no memory for a ledger"),
     };
     for turn in 0..3u8 {
-        let (seen, _, _) = push_part(
-            rt,
-            alloc,
-            &server,
-            &ledger,
-            first,
-            &marker(rt, alloc, 1, turn),
-        );
+        let (seen, _, _) = push_part(rt, alloc, &server, &ledger, first, &marker(1, turn));
         first = seen;
-        let (seen, _, _) = push_part(
-            rt,
-            alloc,
-            &server,
-            &ledger,
-            second,
-            &marker(rt, alloc, 2, turn),
-        );
+        let (seen, _, _) = push_part(rt, alloc, &server, &ledger, second, &marker(2, turn));
         second = seen;
     }
-    let closed = close_two(rt, server, ledger, first, second, Vec::new(alloc));
+    let Ok(room) = Vec::with_capacity(alloc, 4) else {
+        panic!(rt; "no memory for clients");
+    };
+    let closed = close_two(server, ledger, first, second, room);
     let pushes = closed.closed.journal.len();
     let turns = Turns {
         has_first: closed.has_first,
@@ -491,7 +502,9 @@ fn push_in_turn<J: Storing<Global>, R: Wait + Abort>(
 
 /// The same, on a device that fails after so many calls.
 fn turned<R: Wait + RandomSource + Abort>(rt: &R, alloc: Global, calls: usize) -> Turns {
-    let log = new_log(rt, alloc, calls);
+    let Some(log) = new_log(alloc, calls) else {
+        panic!(rt; "no store");
+    };
     let Ok(tally) = Tally::new(alloc) else {
         panic!(rt; "no memory for a tally");
     };
@@ -587,9 +600,11 @@ fn used<J: Storing<A>, A: Allocator + Copy, R: Wait + Abort, G: Gauge>(
         witnesses: (first, second),
         tally: _,
     } = ledger.into_parts();
-    let mut clients = Vec::new(alloc);
-    add(rt, &mut clients, first);
-    add(rt, &mut clients, second);
+    let Ok(mut clients) = Vec::with_capacity(alloc, 2) else {
+        panic!(rt; "no memory for clients");
+    };
+    clients.push_reserved(first);
+    clients.push_reserved(second);
     let closed = server.close(clients);
     drop(closed);
     (first_used, last_used)
@@ -608,7 +623,9 @@ fn used_of<R: Wait + RandomSource + Abort>(
         return None;
     };
     let repo = Repo::new(heap, settings(), state(rt));
-    let log = new_log(rt, alloc, 1_000);
+    let Some(log) = new_log(alloc, 1_000) else {
+        panic!(rt; "no store");
+    };
     Some(used::<Brand, _, R, LocalHeap>(rt, heap, heap, queue, taker, repo, log, tally))
 }
 

@@ -19,7 +19,7 @@ use crate::tests::conversations::{
     ASKED_0, ASKED_1, ASKED_2, ASKED_3, ASKED_4, ASKED_5, ASKED_6, OTHER_PUSH, RACED_3, TOLD_0,
     TOLD_1, TOLD_2, TOLD_3, TOLD_4, TOLD_5, TOLD_6, TOLD_RACED_3,
 };
-use hg_help_serve_tests::{client_of, new_log, settings, state};
+use hg_help_serve_tests::{client_of, new_log, settings};
 use hg_help_tests::device::Memory;
 use hg_kept::{ClosedKept, close_kept};
 use hg_ledger::{KeptClient, Ledger, Parts, Storing};
@@ -31,6 +31,7 @@ use hg_store::{Device, Log, recover};
 use hg_types::{NoMemory, Seq};
 use hg_wire::{Budget, ConnectionEnd, Shelf, Shown, Terms, Watch, WatchedPush, serve_http};
 use std::alloc::{AllocFailed, Allocator, Global};
+use std::hash::RandomState;
 use std::io::{BufReader, Read};
 use std::marker::Brand;
 use std::process::Abort;
@@ -150,6 +151,14 @@ struct Left {
     journal: usize,
     /// How many pushes the device has.
     kept: usize,
+}
+
+/// The state by which a repository hashes ids.
+fn state<R: RandomSource + Abort>(rt: &R) -> RandomState {
+    match RandomState::new(rt) {
+        Ok(state) => state,
+        Err(_) => panic!(*rt; "no random bytes"),
+    }
 }
 
 /// How many pushes are found on the device, each of which is done when it is run again.
@@ -281,7 +290,9 @@ fn served<R: RandomSource + Wait + Abort>(
     said: &[&[u8]],
     way: Way<'_>,
 ) -> Left {
-    let log = new_log(rt, alloc, way.calls);
+    let Some(log) = new_log(alloc, way.calls) else {
+        panic!(rt; "no store");
+    };
     let counts = match hg_ledger::Tally::new(alloc) {
         Ok(counts) => counts,
         Err(_) => panic!(rt; "no memory for a tally"),

@@ -7,7 +7,6 @@ ghost use Rattle.hg_serve.specs.Desks.{OpensWith};
 ghost use Rattle.hg_ledger.specs.Receipts.{IsTallyOf};
 
 use super::*;
-use hg_help_serve_tests::add;
 use hg_kept::Keeping;
 use hg_serve::Client;
 use hg_wire::{Host, Wire};
@@ -189,8 +188,8 @@ fn converse_over<J: Storing<A>, A: Allocator + Copy, R: RandomSource + Wait + Ab
             let (client, witness, came) = converse_thrice(
                 rt, global, alloc, &server, &ledger, talk,
             );
-            add(rt, &mut clients, client);
-            add(rt, &mut clients, witness);
+            clients.push_reserved(client);
+            clients.push_reserved(witness);
             told = Some(came);
             ledger.into_parts()
         }
@@ -203,8 +202,8 @@ fn converse_over<J: Storing<A>, A: Allocator + Copy, R: RandomSource + Wait + Ab
         witnesses: (first, second),
         tally: _,
     } = parts;
-    add(rt, &mut clients, first);
-    add(rt, &mut clients, second);
+    clients.push_reserved(first);
+    clients.push_reserved(second);
     let closed = server.close(clients);
     drop(closed);
     told
@@ -223,7 +222,9 @@ fn came_over<R: RandomSource + Wait + Abort>(
         return Came::Unmade;
     };
     let repo = Repo::new(heap, settings(), state(rt));
-    let log = new_log(rt, global, 1_000_000);
+    let Some(log) = new_log(global, 1_000_000) else {
+        return Came::Unmade;
+    };
     converse_over::<Brand, _, R>(rt, global, heap, queue, taker, repo, log, counts, talk).unwrap_or(
         Came::Unmade,
     )
