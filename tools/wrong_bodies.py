@@ -456,7 +456,7 @@ class Room:
 
 
 def answers_to(answers, goals):
-    """A file of answers without those of other goals."""
+    """A file of answers without those of other goals, and without what only these name."""
     kept, owner = [], ""
     for line in answers.splitlines():
         named = re.match(r"pub (\S+) :", line)
@@ -467,7 +467,18 @@ def answers_to(answers, goals):
             owner = ""
         if not owner or owner in goals:
             kept.append(line)
-    return "\n".join(kept) + "\n"
+    told = "\n".join(it for it in kept if not it.startswith("use "))
+    return "\n".join(without_unused(it, told) for it in kept) + "\n"
+
+
+def without_unused(line, told):
+    """A line without the branches of its function's goals that it brings and that what is told does not name: an edit
+    may have no such branch."""
+    found = re.fullmatch(r"(use .*\.Goals\.\{)(.*)\}", line)
+    if not found:
+        return line
+    names = [it for it in found[2].split(", ") if it in told]
+    return f"{found[1]}{', '.join(names)}}}" if names else ""
 
 
 def left_goals(crate, there, said):
