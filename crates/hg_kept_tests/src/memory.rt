@@ -18,7 +18,7 @@ use hg_serve::{Client, Gate, NoGate, Point, Server};
 use hg_store::{Device, Log, read_records};
 use hg_stream::StreamFault;
 use linked_list_allocator::LocalHeap;
-use std::alloc::{Allocator, Global};
+use std::alloc::{AllocFailed, Allocator, Global};
 use std::marker::Brand;
 use std::process::Abort;
 use std::random::RandomSource;
@@ -103,6 +103,18 @@ fn serve_one<J: Storing<A>, A: Allocator + Copy, R: Wait + Abort, G: Gate>(
     (client, bundles, fault)
 }
 
+/// Adds a client to others.
+fn add<J: Storing<A>, A: Allocator, R: Abort>(
+    rt: &R,
+    clients: &mut Vec<Client<J, A>, A>,
+    client: Client<J, A>,
+) {
+    match clients.push(client) {
+        Ok(()) => {}
+        Err(AllocFailed { value: _client, .. }) => panic!(rt; "no memory for a client"),
+    }
+}
+
 /// Serves one connection over a heap. `None` where no ledger was made. A call can pick a name only where no bound
 /// names a lifetime, so what serves under a name knows a heap as an allocator alone.
 fn connected<J: Storing<A>, A: Allocator + Copy, R: Wait + Abort, G: Gate>(
@@ -131,7 +143,7 @@ fn connected<J: Storing<A>, A: Allocator + Copy, R: Wait + Abort, G: Gate>(
             let (client, bundles, fault) = serve_one(
                 rt, global, alloc, &server, &ledger, input, gate,
             );
-            clients.push_reserved(client);
+            add(rt, &mut clients, client);
             told = Some((bundles, fault));
             ledger.into_parts()
         }
@@ -144,8 +156,8 @@ fn connected<J: Storing<A>, A: Allocator + Copy, R: Wait + Abort, G: Gate>(
         witnesses: (first, second),
         tally: _,
     } = parts;
-    clients.push_reserved(first);
-    clients.push_reserved(second);
+    add(rt, &mut clients, first);
+    add(rt, &mut clients, second);
     let closed = server.close(clients);
     let done = closed.journal.len();
     drop(closed);

@@ -87,10 +87,10 @@ fn done_replies(bytes: &[u8]) -> usize {
     count
 }
 
-fn connect<J: Storing<Global>, D: Device + Drop, R: Wait + Abort>(
-    rt: &R,
+fn connect<'a, J: Storing<Global>, D: Device + Drop, R: Wait + Abort>(
+    rt: &'a R,
     alloc: Global,
-    open: &Open<J, D>,
+    open: &'a Open<J, D>,
     told: &Told,
     thread: u8,
     pushes: u8,
@@ -100,12 +100,8 @@ fn connect<J: Storing<Global>, D: Device + Drop, R: Wait + Abort>(
     for turn in 0..pushes {
         // every third push is malformed, and so aborted
         let payload = marker(thread, turn);
-        let payload = if turn % 3 == 0 {
-            &payload[1..]
-        } else {
-            &payload[..]
-        };
-        assert!(rt; one_part(&mut input, payload));
+        let start = usize::from(turn % 3 == 0);
+        assert!(rt; one_part(&mut input, &payload[start..]));
     }
     let mut reader = Source {
         bytes: &input,

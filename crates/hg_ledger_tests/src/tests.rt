@@ -162,12 +162,16 @@ fn push_all<J: Storing<Global>, D: Device + Drop, R: Wait + Abort>(
     for turn in 0..PUSHES {
         // every third push is malformed, and so aborted
         let payload = marker(thread, turn);
-        let payload = if turn % 3 == 0 {
-            &payload[1..]
-        } else {
-            &payload[..]
-        };
-        mine = push_once(rt, alloc, &open.server, &open.ledger, mine, told, payload);
+        let start = usize::from(turn % 3 == 0);
+        mine = push_once(
+            rt,
+            alloc,
+            &open.server,
+            &open.ledger,
+            mine,
+            told,
+            &payload[start..],
+        );
     }
     if let Err(_client) = open.leave(rt, mine) {
         panic!(rt; "no memory for a client");

@@ -161,6 +161,18 @@ fn came_of(went: Result<(), Came>, answered: Answered) -> Came {
     }
 }
 
+/// Adds a client to others.
+fn add<J: Storing<A>, A: Allocator, R: Abort>(
+    rt: &R,
+    clients: &mut Vec<Client<J, A>, A>,
+    client: Client<J, A>,
+) {
+    match clients.push(client) {
+        Ok(()) => {}
+        Err(AllocFailed { value: _client, .. }) => panic!(rt; "no memory for a client"),
+    }
+}
+
 /// Serves three connections in turn over a heap of the server's own. A call can pick a name only where no bound names
 /// a lifetime, so what serves under a name knows a heap as an allocator alone.
 fn converse_over<J: Storing<A>, A: Allocator + Copy, R: RandomSource + Wait + Abort>(
@@ -188,8 +200,8 @@ fn converse_over<J: Storing<A>, A: Allocator + Copy, R: RandomSource + Wait + Ab
             let (client, witness, came) = converse_thrice(
                 rt, global, alloc, &server, &ledger, talk,
             );
-            clients.push_reserved(client);
-            clients.push_reserved(witness);
+            add(rt, &mut clients, client);
+            add(rt, &mut clients, witness);
             told = Some(came);
             ledger.into_parts()
         }
@@ -202,8 +214,8 @@ fn converse_over<J: Storing<A>, A: Allocator + Copy, R: RandomSource + Wait + Ab
         witnesses: (first, second),
         tally: _,
     } = parts;
-    clients.push_reserved(first);
-    clients.push_reserved(second);
+    add(rt, &mut clients, first);
+    add(rt, &mut clients, second);
     let closed = server.close(clients);
     drop(closed);
     told
