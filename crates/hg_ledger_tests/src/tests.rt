@@ -8,6 +8,7 @@ ghost use Rattle.hg_parts.specs.declared.refusal.Refusal.{Refusal as AnyRefusal}
 ghost use Rattle.hg_push.specs.declared.outcome.Reason.{Reason as AnyReason};
 ghost use Rattle.hg_store.specs.Log.{IsSettled};
 ghost use Rattle.hg_serve.specs.Desks.{OpensWith};
+ghost use Rattle.hg_ledger.specs.Orders.{HasGrown};
 ghost use Rattle.hg_ledger.specs.Receipts.{IsTallyOf};
 ghost use Rattle.hg_ledger.specs.Records.{done_in};
 
@@ -85,7 +86,7 @@ fn push_part<J: Storing<Global>, D: Device + Drop, R: Wait + Abort>(
     client: KeptClient<J>,
     payload: &[u8],
 ) -> (KeptClient<J>, usize, Result<(), NotStored>)
-    ensures grows { IsPrefix client.receipt result.0.receipt }
+    ensures grows { HasGrown client.receipt result.0.receipt }
     ensures rests { result.1 ≤ done_in J.first result.0.history }
 {
     journals_grow::<Global>();
@@ -133,7 +134,7 @@ fn push_once<J: Storing<Global>, D: Device + Drop, R: Wait + Abort>(
     told: &Told,
     payload: &[u8],
 ) -> KeptClient<J>
-    ensures { IsPrefix client.receipt result.receipt }
+    ensures { HasGrown client.receipt result.receipt }
 {
     let (client, rests, stored) = push_part(rt, alloc, server, ledger, client, payload);
     match stored {
