@@ -1,8 +1,8 @@
 -- Each step keeps a tally.
 use Rattle.std.proofs.Common.{◌≡◌, ◌≢◌, ◌⊎◌, ◌≤◌, ◌<◌, ◌+◌, ◌==◌, ℕ, zero, suc, List, [], ◌∷◌, ◌++◌, set, length}
-use Rattle.std.proofs.Common.{true, false, true≢false, refl, sym, ◌∙◌, ap, subst, inl, inr, ⊎_elim, arith}
+use Rattle.std.proofs.Common.{if◌then◌else◌, true, false, true≢false, refl, sym, ◌∙◌, ap, subst, inl, inr, ⊎_elim, arith}
 use Rattle.std.proofs.Common.{append_assoc, append-nil, eq-eqb, ne_eqb, length-set, length-append}
-use Rattle.std.specs.Prelude.{All, Contains, slice_index, slice_set}
+use Rattle.std.specs.Prelude.{Contains, slice_index, slice_set}
 use mathlib.Core.List.{IsPrefix}
 use Rattle.std.proofs.lemmas.List.Elements.{All-append, All-contains_itself, All-push, All-same, All-weaker, All-nil}
 use Rattle.std.proofs.lemmas.List.Elements.{Contains-append_left}
@@ -11,7 +11,7 @@ use lib.ListN.{get_elem?}
 use Rattle.atomic_table.specs.Table.{Me, State, step, keeps, opening, Allows, Enters, Splits, Joins}
 use Rattle.atomic_table.proofs.Lists.{at_set, set_again}
 use Rattle.hg_ledger.specs.declared.known.Known.{Known}
-use Rattle.hg_ledger.specs.Orders.{Came, comings_to, Event, one_if, Promised, promises_in}
+use Rattle.hg_ledger.specs.Orders.{Came, comings_to, Event, Promised, promises_in}
 use Rattle.hg_ledger.specs.Promises.{Promise}
 use Rattle.hg_ledger.specs.code.Tallies.{AreAmong, arrives, comes, CountAtMost, heard_from, IsTallied, keeper, KnownFits}
 use Rattle.hg_ledger.specs.code.Tallies.{looks, one_more, raised, seat_with, shown_by, spent, united}
@@ -34,15 +34,15 @@ comings_append seat [] ys = omega arith
 comings_append seat (Promised p ∷ xs) ys = comings_append seat xs ys
 comings_append seat (Came at ∷ xs) ys =
     let more = comings_append seat xs ys in
-    let n : ℕ = one_if (at == seat) in
+    let n : ℕ = if at == seat then 1 else 0 in
     omega (arith, more)
 
 -- a request to a seat comes to it, and to no other
 came_here : (seat : ℕ) → comings_to seat (Came seat ∷ []) ≡ 1
-came_here seat = ap (λ b. one_if b + 0) (eq-eqb seat seat refl)
+came_here seat = ap (λ b. (if b then 1 else 0) + 0) (eq-eqb seat seat refl)
 
 came_elsewhere : (at seat : ℕ) → at ≢ seat → comings_to at (Came seat ∷ []) ≡ 0
-came_elsewhere at seat apart = ap (λ b. one_if b + 0) (ne_eqb seat at (λ e. apart (sym e)))
+came_elsewhere at seat apart = ap (λ b. (if b then 1 else 0) + 0) (ne_eqb seat at (λ e. apart (sym e)))
 
 prefix_longer : {X : Type 0} (xs ys zs : List X) → IsPrefix xs ys → IsPrefix xs (ys ++ zs)
 prefix_longer xs ys zs p = (p.0 ++ zs, sym (append_assoc xs p.0 zs) ∙ ap (λ l. l ++ zs) p.1)

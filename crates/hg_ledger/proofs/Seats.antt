@@ -1,9 +1,8 @@
 -- What a step at a tally makes of a seat's receipt.
-use Rattle.std.proofs.Common.{◌≡◌, ◌++◌, ◌≤◌, ℕ, [], List, sym, ap, subst, refl, arith, append-nil}
-use mathlib.Core.List.{IsPrefix}
+use Rattle.std.proofs.Common.{◌≡◌, ◌++◌, ℕ, [], sym, ap, subst, refl, arith, append-nil}
 use Rattle.hg_ledger.specs.declared.known.Known.{Known}
-use Rattle.hg_ledger.specs.Orders.{Comes, HasGrown, no_receipt, promises_in, ReceiptView}
-use Rattle.hg_ledger.specs.code.Tallies.{AreAmong, CameTo, receipt_of, Sees, seat_with, united}
+use Rattle.hg_ledger.specs.Orders.{Comes, HasGrown, promises_in, ReceiptView}
+use Rattle.hg_ledger.specs.code.Tallies.{AreAmong, CameTo, receipt_of, Sees, united}
 
 -- whoever saw the order has its promises there
 pub saw_among : (v w : Known) → Sees v w → AreAmong w.promises (promises_in w.order)

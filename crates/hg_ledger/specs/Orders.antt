@@ -1,5 +1,5 @@
 -- What happens at a tally, in one order: promises are made, and requests come.
-use Rattle.std.specs.Prelude.{ℕ, ◌≡◌, ◌⊎◌, ◌≤◌, ◌+◌, ◌==◌, Bool, true, false, List, [], ◌∷◌, ◌++◌, All, Contains}
+use Rattle.std.specs.Prelude.{ℕ, ◌≡◌, ◌⊎◌, ◌≤◌, ◌+◌, ◌==◌, if◌then◌else◌, List, [], ◌∷◌, ◌++◌, All, Contains}
 use Rattle.std.specs.Coded.{Coded, coded_list, coded⊎, coded_ℕ, code_by}
 use mathlib.Core.List.{IsPrefix}
 use mathlib.Core.Logic.{inl, inr}
@@ -17,15 +17,11 @@ promises_in [] = []
 promises_in (Promised promise ∷ later) = promise ∷ promises_in later
 promises_in (Came seat ∷ later) = promises_in later
 
-abbrev pub one_if : Bool → ℕ
-one_if true = 1
-one_if false = 0
-
 -- how many requests came to that seat
 abbrev pub comings_to : ℕ → List Event → ℕ
 comings_to seat [] = 0
 comings_to seat (Promised promise ∷ later) = comings_to seat later
-comings_to seat (Came at ∷ later) = one_if (at == seat) + comings_to seat later
+comings_to seat (Came at ∷ later) = (if at == seat then 1 else 0) + comings_to seat later
 
 -- A client's receipt: its promises, what it has seen of the one order, and how many requests of it came.
 pub record ReceiptView : Type 0 where

@@ -1,9 +1,9 @@
-use Rattle.std.proofs.Common.{rules, ◌≡◌, ◌++◌, false, List, ap, subst, ◌∙◌}
+use Rattle.std.proofs.Common.{rules, ◌++◌, List, ap, subst, ◌∙◌}
 use Rattle.atomic_table.specs.Table.{Me}
 use Rattle.hg_ledger.specs.declared.known.Known.{Known}
 use Rattle.hg_ledger.specs.Orders.{HasGrown, ReceiptView}
 use Rattle.hg_ledger.specs.Promises.{Promise}
-use Rattle.hg_ledger.specs.code.Tallies.{receipt_of, Sees, united}
+use Rattle.hg_ledger.specs.code.Tallies.{receipt_of, Sees}
 use Rattle.hg_ledger.proofs.Counting.{sees, unites}
 use Rattle.hg_ledger.proofs.Seats.{saw_among, saw_spent, united_grows, united_promises}
 use Rattle.hg_ledger.proofs.tally.OpenTally.unite.Goals as goal

@@ -1,5 +1,4 @@
 use Rattle.std.proofs.Common.{rules, ◌≡◌, true, List, ap, subst, sym, ◌∙◌}
-use mathlib.Core.List.{IsPrefix}
 use Rattle.atomic_table.specs.Table.{Me}
 use Rattle.hg_ledger.specs.declared.known.Known.{Known}
 use Rattle.hg_ledger.specs.Orders.{promises_in, ReceiptView}
