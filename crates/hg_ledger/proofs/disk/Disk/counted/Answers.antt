@@ -1,4 +1,4 @@
-use Rattle.std.proofs.Common.{◌≡◌, false, ◌∙◌, ℕ, List, sym, ap, subst}
+use Rattle.std.proofs.Common.{◌≡◌, false, ◌∙◌, List, sym, ap, subst}
 use Rattle.std.specs.Prelude.{Contains}
 use Rattle.hg_ledger.specs.Clients.{Covers}
 use Rattle.hg_ledger.specs.Locks.{DiskView}

@@ -1,11 +1,10 @@
-use Rattle.std.proofs.Common.{◌≡◌, ◌≤◌, ◌<◌, ◌+◌, ◌++◌, ◌∷◌, [], false, true, ℕ, List, refl, sym, ap, subst, ◌∙◌}
+use Rattle.std.proofs.Common.{◌≡◌, ◌≤◌, ◌+◌, ◌++◌, ◌∷◌, [], false, true, ℕ, List, sym, subst, ◌∙◌}
 use Rattle.std.proofs.Common.{arith, length}
 use Rattle.std.specs.List.{AllByRecursion}
-use Rattle.std.specs.Prelude.{is_err, OnOk, Result}
 use Rattle.hg_store.specs.Device.{LeavesOnly}
 use Rattle.hg_store.specs.Records.{IsRecord}
 use Rattle.hg_store.specs.Log.{IsBeforeOrAfter, IsSettled}
-use Rattle.std.specs.Prelude.{All, Contains}
+use Rattle.std.specs.Prelude.{Contains}
 use Rattle.std.proofs.lemmas.List.Elements.{All-push, All-same, All-weaker, Contains-push}
 use Rattle.hg_ledger.specs.Lives.{IsFront, IsKeptSince}
 use Rattle.hg_ledger.specs.Promises.{Promise}

@@ -1,12 +1,10 @@
-use Rattle.std.proofs.Common.{◌≡◌, ◌≤◌, ◌<◌, ◌+◌, ◌++◌, ◌∷◌, [], false, true, ℕ, List, refl, sym, ap, subst, ◌∙◌}
-use Rattle.std.proofs.Common.{arith, length}
-use mathlib.Core.List.{IsPrefix}
+use Rattle.std.proofs.Common.{◌≡◌, false, List, sym, ap, subst, ◌∙◌}
+use Rattle.std.proofs.Common.{arith}
 use Rattle.std.proofs.lemmas.List.Elements.{All-weaker}
 use Rattle.hg_ledger.specs.declared.waiting.Record.{Record}
 use Rattle.hg_ledger.specs.Clients.{Covers}
 use Rattle.hg_ledger.specs.Promises.{Promise}
 use Rattle.hg_ledger.specs.Records.{IsRecordOf}
-use Rattle.hg_ledger.specs.Locks.{WaitingView}
 use Rattle.hg_ledger.specs.Records.{done_in}
 use Rattle.hg_ledger.proofs.Covering.{covered_back, covered_on}
 use Rattle.hg_ledger.proofs.waiting.Waiting.grant.Goals as goal

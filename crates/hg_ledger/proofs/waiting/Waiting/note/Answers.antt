@@ -1,5 +1,4 @@
-use Rattle.std.proofs.Common.{◌≡◌, ◌≤◌, ◌<◌, ◌+◌, ◌++◌, ◌∷◌, [], false, true, ℕ, List, refl, sym, ap, subst, ◌∙◌}
-use Rattle.std.proofs.Common.{arith, length}
+use Rattle.std.proofs.Common.{◌≡◌, ℕ, sym, subst}
 use mathlib.Core.List.{IsPrefix}
 use Rattle.std.proofs.lemmas.List.Elements.{All-weaker}
 use Rattle.hg_ledger.specs.declared.waiting.Record.{Record}
