@@ -1,6 +1,6 @@
-use Rattle.std.proofs.Common.{ap, append-nil, [], subst, sym}
+use Rattle.std.proofs.Common.{ap, refl, subst, sym}
 use Rattle.std.specs.List.{Contains}
-use Rattle.std.proofs.lemmas.List.Elements.{All-nil, All-same}
+use Rattle.std.proofs.lemmas.List.Elements.{All-same}
 use mathlib.Core.List.{IsPrefix}
 use Rattle.hg_ledger.specs.Clients.{promised}
 use Rattle.hg_ledger.specs.Orders.{ReceiptView}
@@ -15,3 +15,8 @@ pub returns-in-Some-clause-seen : goal.returns-in-Some-clause-seen
 returns-in-Some-clause-seen g c =
     subst (λ (r : ReceiptView). IsPrefix r.order c.compare.new.self.order) (sym (ap promised c.in-Some.is))
     c.compare.ensures.seen
+
+pub returns-in_default-clause-seen : goal.returns-in_default-clause-seen
+returns-in_default-clause-seen g c =
+    subst (λ (r : ReceiptView). IsPrefix r.order c.args.tally.now.order) (sym (ap promised c.in_default.is))
+    (c.args.tally.now.order, refl)

@@ -1,9 +1,9 @@
-use Rattle.std.proofs.Common.{◌≡◌, ℕ, ◌≤◌, [], ◌∷◌, ◌++◌, List, length, refl, ap, sym, subst, ◌∙◌, append_assoc, append-nil, arith}
+use Rattle.std.proofs.Common.{◌≡◌, [], ◌∷◌, ◌++◌, length, ap, sym, subst, ◌∙◌, append_assoc, arith}
 use Rattle.std.specs.Prelude.{All}
 use Rattle.std.specs.List.{Contains}
 use mathlib.Core.List.{IsPrefix}
-use Rattle.std.proofs.lemmas.List.Elements.{All-cons, All-nil, All-same, All-weaker}
-use Rattle.hg_ledger.specs.Clients.{KeptSeen, promised}
+use Rattle.std.proofs.lemmas.List.Elements.{All-cons, All-same, All-weaker}
+use Rattle.hg_ledger.specs.Clients.{promised}
 use Rattle.hg_ledger.specs.Orders.{ReceiptView}
 use Rattle.hg_ledger.specs.Receipts.{TallyView}
 use Rattle.hg_kept.proofs.Ends.{begins_on, empty_front, has_last, has_still, IsCompared}

@@ -1,4 +1,4 @@
-use Rattle.std.proofs.Common.{◌≡◌, ◌≤◌, ◌++◌, List, vec_len}
+use Rattle.std.proofs.Common.{◌≡◌, ◌++◌, List, vec_len}
 use Rattle.std.specs.Prelude.{All}
 use Rattle.std.specs.List.{Contains}
 use mathlib.Core.List.{IsPrefix}
