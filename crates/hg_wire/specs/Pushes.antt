@@ -1,5 +1,5 @@
 -- A push over HTTP, and what it is answered.
-use Rattle.std.specs.Prelude.{ℕ, ◌≡◌, ◌≢◌, ◌⊎◌, ◌≤◌, ◌++◌, Bool, true, false, ◌&&◌, List, [], ◌∷◌}
+use Rattle.std.specs.Prelude.{ℕ, ◌≡◌, ◌≢◌, ◌⊎◌, ◌++◌, Bool, true, false, ◌&&◌, List, [], ◌∷◌}
 use Rattle.std.specs.Prelude.{Option, Some, None, codes, bytes_eq, IfSome, Result, Ok, Err}
 use Rattle.std.specs.List.{list_any}
 use Rattle.hg_types.specs.declared.part.Part.{Part}
