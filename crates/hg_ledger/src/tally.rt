@@ -357,9 +357,7 @@ impl<J: Storing<A>, A: Allocator> OpenTally<J, A> {
         ensures seen { AreSeen result }
     {
         let mut seat = receipt.seat;
-        self.table
-            .shared
-            .join_seat::<Unites>(&mut seat, grant.seat);
+        self.table.shared.join_seat::<Unites>(&mut seat, grant.seat);
         self.table.shared.load::<Looks>(&mut seat, 0);
         Receipt {
             seat,

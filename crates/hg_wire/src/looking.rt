@@ -55,9 +55,7 @@ fn look_so_far<J: Storing<A>, D: Device, A: Allocator + Copy, R: Wait, T: Drop, 
     ensures enough { least ≤ result.1 }
 {
     'looking: for _ in keeping.rt.forever() {
-        let (found, rests) = keeping
-            .server
-            .look_resting(keeping.rt, client, question);
+        let (found, rests) = keeping.server.look_resting(keeping.rt, client, question);
         if least <= rests as u64 {
             return (found, rests);
         }
