@@ -13,8 +13,8 @@ use std::sync::{Mutex, Wait};
 /// Compares a receipt with the tally of its ledger.
 pub fn compare<J: Storing<A>, A: Allocator>(tally: &mut Tally<A>, receipt: Receipt<J, A>)
     requires { tally.old.id ≡ J.tally }
-    ensures same { tally.new ≡ tally.old }
-    ensures promised { All (Contains tally.old.promises) receipt }
+    ensures same { tally.new ≡ record tally.old { order = tally.new.order } }
+    ensures promised { All (Contains tally.old.promises) receipt.promises }
 {
     let mut receipt = receipt;
     tally.compare(&mut receipt);
@@ -26,8 +26,8 @@ pub fn has_receipt<J: Storing<A>, A: Allocator>(
     receipt: Option<Receipt<J, A>>,
 ) -> bool
     requires { tally.old.id ≡ J.tally }
-    ensures same { tally.new ≡ tally.old }
-    ensures promised { All (Contains tally.old.promises) (promised receipt) }
+    ensures same { tally.new ≡ record tally.old { order = tally.new.order } }
+    ensures promised { All (Contains tally.old.promises) (promised receipt).promises }
 {
     match receipt {
         Some(receipt) => {

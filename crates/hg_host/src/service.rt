@@ -9,6 +9,7 @@ ghost use Rattle.hg_store.specs.Log.{IsSettled};
 ghost use Rattle.hg_serve.specs.Desks.{OpensWith};
 ghost use Rattle.hg_ledger.specs.Receipts.{IsTallyOf};
 ghost use Rattle.hg_ledger.specs.Clients.{IsCovered};
+ghost use Rattle.hg_ledger.specs.Orders.{no_receipt};
 ghost use Rattle.hg_kept.specs.Closing.{ClosesKept};
 ghost use Rattle.hg_queue.specs.Words.{history};
 ghost use Rattle.hg_serve.specs.Histories.{serial_run};
@@ -134,7 +135,8 @@ where
 
     /// Ends all, with these clients of its connections and those that no connection has. **Whatever an end might have
     /// left since one of these was answered, and what one leaves from now on, has the records of all that the answer
-    /// rests on.**
+    /// rests on. All that was promised and all requests that came have one order**, in which each answer to a request
+    /// that reads has what was promised before it.
     pub fn close(self, rt: &R, alloc: Global, clients: Vec<KeptClient<J>>) -> ClosedKept<D>
         ensures serial { serial_run J.first (history result.closed.taker)
             ≡ record { repo = result.closed.repo; journal = result.closed.journal.items } }
@@ -215,7 +217,7 @@ where
 
     /// A client that was answered nothing yet.
     pub fn client(&self, rt: &R) -> KeptClient<J>
-        ensures { result ≡ record { history = []; receipt = [] } }
+        ensures { result ≡ record { history = []; receipt = no_receipt } }
     {
         KeptClient::new(new_client(rt, &self.server))
     }

@@ -17,7 +17,7 @@ use Rattle.hg_push.specs.Run.{RepositoryOf}
 use Rattle.hg_push.specs.declared.book.OpenFault.{OpenFault}
 use Rattle.hg_store.specs.declared.head.Head.{Head}
 use Rattle.hg_ledger.specs.Clients.{KeptSeen}
-use Rattle.hg_ledger.specs.Promises.{Promise}
+use Rattle.hg_ledger.specs.Orders.{ReceiptView}
 use Rattle.hg_stream.specs.declared.state.State.TheVariants.{Ended}
 use Rattle.hg_stream.specs.Faults.{StateTells}
 use Rattle.hg_serve.specs.declared.desk.Answer.{Answer}
@@ -45,7 +45,7 @@ use Rattle.hg_kept.specs.Kept.{IsKeptExchange, IsReplied, KeptExchange, KeptRepl
 use Rattle.hg_kept.specs.Connections.{AreKeptExchanges, ConnectsKept, EndsKeptBy, IsSentWhole}
 
 -- what a client had that was taken apart is what it was
-pub as_was : {A : Type 0} (history : List (Taken A)) (receipt : List Promise) (now : KeptSeen A) → history ≡ now.history
+pub as_was : {A : Type 0} (history : List (Taken A)) (receipt : ReceiptView) (now : KeptSeen A) → history ≡ now.history
     → receipt ≡ now.receipt
     → (let had : KeptSeen A = record { history = history; receipt = receipt } in had ≡ now)
 as_was history receipt now seen same = λ i. record { history = seen i; receipt = same i }

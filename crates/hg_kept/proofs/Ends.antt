@@ -1,5 +1,5 @@
 -- What the end of a server and of its ledger leaves.
-use Rattle.std.proofs.Common.{◌≡◌, ℕ, List, [], ◌∷◌, ◌++◌, length, refl, sym, subst, arith}
+use Rattle.std.proofs.Common.{◌≡◌, ℕ, List, [], ◌∷◌, ◌++◌, length, refl, sym, subst, ap, ◌∙◌, append_assoc, arith}
 use Rattle.std.specs.List.{Contains}
 use Rattle.std.specs.Prelude.{All}
 use Rattle.std.proofs.lemmas.List.Elements.{All-contains, All-weaker, Contains-append_left, Contains-push}
@@ -9,6 +9,7 @@ use Rattle.hg_store.specs.declared.head.Head.{Head}
 use Rattle.hg_push.specs.Run.{RepositoryOf}
 use Rattle.hg_ledger.specs.Clients.{KeptSeen}
 use Rattle.hg_ledger.specs.Lives.{IsKeptSince, IsLeftSince}
+use Rattle.hg_ledger.specs.Orders.{Event}
 use Rattle.hg_ledger.specs.Promises.{Promise}
 use Rattle.hg_kept.specs.Closing.{IsLeft}
 
@@ -30,21 +31,34 @@ pub has_beyond : {X : Type 0} (front whole : List X) (x : X) → IsPrefix front 
 has_beyond front whole x begins there =
     subst (λ xs. Contains xs x) begins.1 (Contains-append_left front begins.0 x there)
 
+-- what begins a beginning
+pub begins_on : {X : Type 0} (xs ys zs : List X) → IsPrefix xs ys → IsPrefix ys zs → IsPrefix xs zs
+begins_on xs ys zs p q = (p.0 ++ q.0, sym (append_assoc xs p.0 q.0) ∙ (ap (λ l. l ++ q.0) p.1 ∙ q.1))
+
+-- a client was compared with these promises and that order, and is one of those
+abbrev pub IsCompared : {A : Type 0} → List Promise → List Event → List (List (Taken A)) → KeptSeen A → Type 0
+IsCompared promises order seen k = All (Contains promises) k.receipt.promises × IsPrefix k.receipt.order order
+    × Contains seen k.history
+
 -- A client whose promises the ledger made.
 pub is_left : {A D : Type 0} (moment : D → ℕ) (left_since : D → ℕ → List ℕ → Type 0)
     (may_leave : D → List ℕ → Type 0) (head : Head) (stored : List (List ℕ)) (first : RepositoryOf A)
-    (whole witness : List (Taken A)) (kept : ℕ) (device : D) (client : KeptSeen A) (promises : List Promise)
+    (whole witness : List (Taken A)) (order : List Event) (kept : ℕ) (device : D) (client : KeptSeen A)
+    (promises : List Promise)
     → ((promise : Promise) → IsKeptSince moment left_since head stored first witness kept device promise
     → IsLeftSince moment left_since may_leave head stored first client.history device promise)
     → IsPrefix client.history whole
+    → IsPrefix client.receipt.order order
     → All (IsKeptSince moment left_since head stored first witness kept device) promises
-    → All (Contains promises) client.receipt
-    → IsLeft moment left_since may_leave head stored first whole device client
-is_left moment left_since may_leave head stored first whole witness kept device client promises law mine kept_all made =
+    → All (Contains promises) client.receipt.promises
+    → IsLeft moment left_since may_leave head stored first whole order device client
+is_left moment left_since may_leave head stored first whole witness order kept device client promises law mine seen
+    kept_all made =
     let Kept : Promise → Type 0 = IsKeptSince moment left_since head stored first witness kept device in
     record {
       begins = mine;
+      seen = seen;
       each = All-weaker (Contains promises)
           (IsLeftSince moment left_since may_leave head stored first client.history device)
-          (λ p there. law p (All-contains Kept promises p kept_all there)) client.receipt made;
+          (λ p there. law p (All-contains Kept promises p kept_all there)) client.receipt.promises made;
     }

@@ -6,22 +6,28 @@ use Rattle.hg_store.specs.declared.head.Head.{Head}
 use Rattle.hg_push.specs.Run.{RepositoryOf}
 use Rattle.hg_ledger.specs.Clients.{KeptSeen}
 use Rattle.hg_ledger.specs.Lives.{IsLeftSince, Lives}
+use Rattle.hg_ledger.specs.Orders.{Event}
 
--- What the client has seen begins the whole history. And of each promise that its receipt has: its moment is over, and
--- whatever an end might have left since then, and what one leaves from now on, has the records of as many pushes as
--- the promise counts, of those that the client has seen done.
+-- What the client has seen begins the whole history, and what it has seen of all promises and requests begins the one
+-- order of these. And of each promise that its receipt has: its moment is over, and whatever an end might have left
+-- since then, and what one leaves from now on, has the records of as many pushes as the promise counts, of those that
+-- the client has seen done.
 pub record IsLeft {A D : Type 0} (moment : D → ℕ) (left_since : D → ℕ → List ℕ → Type 0)
     (may_leave : D → List ℕ → Type 0) (head : Head) (stored : List (List ℕ)) (first : RepositoryOf A)
-    (whole : List (Taken A)) (device : D) (client : KeptSeen A) : Type 0 where
+    (whole : List (Taken A)) (order : List Event) (device : D) (client : KeptSeen A) : Type 0 where
   pub begins : IsPrefix client.history whole
-  pub each : All (IsLeftSince moment left_since may_leave head stored first client.history device) client.receipt
+  pub seen : IsPrefix client.receipt.order order
+  pub each : All (IsLeftSince moment left_since may_leave head stored first client.history device)
+      client.receipt.promises
 
--- All that these clients were answered rests on is left by every end since they were answered. And whatever an end
--- might have left since the log was opened is a front of the journal of one history, which begins the whole one too.
+-- All that these clients were answered rests on is left by every end since they were answered. All promises, and all
+-- requests of these clients that came, have one order. And whatever an end might have left since the log was opened is
+-- a front of the journal of one history, which begins the whole one too.
 pub record ClosesKept {A D : Type 0} (moment : D → ℕ) (left_since : D → ℕ → List ℕ → Type 0)
     (may_leave : D → List ℕ → Type 0) (head : Head) (stored : List (List ℕ)) (first : RepositoryOf A)
     (opened : ℕ) (clients : List (KeptSeen A)) (whole : List (Taken A)) (kept : ℕ) (device : D) : Type 0 where
-  pub each : All (IsLeft moment left_since may_leave head stored first whole device) clients
+  pub order : List Event
+  pub each : All (IsLeft moment left_since may_leave head stored first whole order device) clients
   pub witness : List (Taken A)
   pub begins : IsPrefix witness whole
   pub life : Lives moment left_since may_leave head stored first opened witness kept device

@@ -1,7 +1,6 @@
 -- One bundle whose push is kept before it is answered.
 use Rattle.std.specs.Prelude.{ℕ, ◌≡◌, ◌≤◌, ◌-◌, ⊤, List, [], length, Option, Some, None}
 use Rattle.std.specs.Io.KnownBytes.{Appends}
-use mathlib.Core.List.{IsPrefix}
 use Rattle.hg_types.specs.declared.item.Taken.{Taken}
 use Rattle.hg_types.specs.declared.limits.Limits.{Limits}
 use Rattle.hg_repo.specs.declared.done.Done.{Done}
@@ -16,6 +15,7 @@ use Rattle.hg_serve.specs.Answers.{Answers}
 use Rattle.hg_serve.specs.Histories.{newest_first}
 use Rattle.hg_store.specs.declared.head.Head.{Head}
 use Rattle.hg_ledger.specs.Clients.{IsCovered, KeptSeen}
+use Rattle.hg_ledger.specs.Orders.{HasGrown}
 use Rattle.hg_ledger.specs.Records.{IsRecordOf}
 use Rattle.hg_devices.specs.Devices.{Input, Output, WriteAnswer, TellsMore}
 use Rattle.hg_devices.specs.Sent.{IsSent}
@@ -81,7 +81,7 @@ IsRecorded first after rests bytes (Aborted reason) = ⊤
 -- push. Of the push the bundle's parts were put and the mark that the ending asks for, and it was answered so.
 -- The answer rests on so many done pushes, the last of which is this one, where it is done, and its record is
 -- the bundle. The reply was sent only where all of that was on the device, and the client has a receipt for it. The
--- promises that it had it still has.
+-- promises that it had it still has, and it has seen what it had seen.
 pub record IsKeptExchange {A D : Type 0} (seen : D → List ℕ) (may_leave : D → List ℕ → Type 0) (moment : D → ℕ)
     (head : Head)
     (stored : List (List ℕ)) (limits : Limits) (capacity : ℕ) (first : RepositoryOf A)
@@ -92,7 +92,7 @@ pub record IsKeptExchange {A D : Type 0} (seen : D → List ℕ) (may_leave : D 
       (push_items x.push x.parts (mark_of x.ending)) before.history x.how x.takes x.after.history
   pub rests_on : RestsOn run_push first (newest_first x.after.history) x.push x.how x.sending.rests
   pub recorded : IsRecorded first x.after.history x.sending.rests x.consumed x.how
-  pub grows : IsPrefix before.receipt x.after.receipt
+  pub grows : HasGrown before.receipt x.after.receipt
   pub replies : IsReplied seen may_leave moment head stored first x.after x.sending.rests (reply_of x.how)
       x.gone x.uses x.sending.replied
 

@@ -67,8 +67,8 @@ fn compare_each<J: Storing<A>, A: Allocator, R: Wait>(
 )
     requires { tally.old.id ≡ J.tally }
     ensures keeps { IsPrefix seen.old.items seen.new.items }
-    ensures each { All (λ c. All (Contains tally.old.promises) c.receipt × Contains seen.new.items c.history)
-        clients.items }
+    ensures each { All (λ c. All (Contains tally.old.promises) c.receipt.promises
+        × IsPrefix c.receipt.order tally.new.order × Contains seen.new.items c.history) clients.items }
 {
     'comparing: while let Some(client) = clients.pop() {
         let (client, receipt) = client.into_parts();
@@ -78,11 +78,13 @@ fn compare_each<J: Storing<A>, A: Allocator, R: Wait>(
     clients.destroy_empty();
 }
 
-/// Compares a receipt with the tally, if there is one.
+/// Compares a receipt with the tally, if there is one. More of the one order may be seen there then.
 fn compare<J: Storing<A>, A: Allocator>(tally: &mut Tally<A>, receipt: Option<Receipt<J, A>>)
     requires { tally.old.id ≡ J.tally }
-    ensures same { tally.new ≡ tally.old }
-    ensures promised { All (Contains tally.old.promises) (promised receipt) }
+    ensures same { tally.new ≡ record tally.old { order = tally.new.order } }
+    ensures later { IsPrefix tally.old.order tally.new.order }
+    ensures promised { All (Contains tally.old.promises) (promised receipt).promises }
+    ensures seen { IsPrefix (promised receipt).order tally.new.order }
 {
     if let Some(mut receipt) = receipt {
         tally.compare(&mut receipt);

@@ -1,7 +1,6 @@
 //! A connection whose pushes are kept before they are answered.
 
 ghost use Rattle.std.specs.Prelude.{◌≡◌, ◌≤◌, ◌-◌, [], IfSome, IfOk, IfErr};
-ghost use mathlib.Core.List.{IsPrefix};
 ghost use Rattle.hg_stream.specs.Unbundler.{limits_of, ready_of, state_of};
 ghost use Rattle.hg_stream.specs.declared.state.State.TheVariants.{Ended as at_end_mark};
 ghost use Rattle.hg_queue.specs.History.{of, items_of};
@@ -9,6 +8,7 @@ ghost use Rattle.hg_receiving.specs.declared.ending.BundleEnd.TheVariants.{Whole
 ghost use Rattle.hg_connection.specs.Receiving.{IsFresh};
 ghost use Rattle.hg_push.specs.Reply.{CanBeTold, reply_of};
 ghost use Rattle.hg_ledger.specs.Clients.{promised};
+ghost use Rattle.hg_ledger.specs.Orders.{HasGrown};
 ghost use Rattle.hg_ledger.specs.Records.{IsRecordOf, done_in};
 ghost use Rattle.hg_connection.specs.Connections.{IsReported};
 ghost use Rattle.hg_kept.specs.Kept.{KeptExchange, RepliesBy, ServesKept, record_of};
@@ -105,7 +105,7 @@ fn reply_kept<J: Storing<A>, D: Device, A: Allocator + Copy, R: Wait, W: Writer>
         × IsRecordOf J.first client.old.history (rests - 1) bytes) }
     requires told { CanBeTold outcome.now }
     ensures same { client.new.history ≡ client.old.history }
-    ensures grows { IsPrefix client.old.receipt client.new.receipt }
+    ensures grows { HasGrown client.old.receipt client.new.receipt }
     ensures replied { RepliesBy D.seen D.may_leave D.moment J.head J.stored J.first client.new rests
         (reply_of outcome.now) (W.told writer.old) (W.told writer.new) result.0 result.1 }
 {

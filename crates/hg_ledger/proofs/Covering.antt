@@ -6,7 +6,8 @@ use Rattle.hg_types.specs.declared.item.Taken.{Taken}
 use Rattle.hg_store.specs.declared.head.Head.{Head}
 use Rattle.hg_store.specs.declared.log.Log.{Log}
 use Rattle.hg_push.specs.Run.{RepositoryOf}
-use Rattle.hg_ledger.specs.Clients.{IsCovered, KeptSeen}
+use Rattle.hg_ledger.specs.Clients.{Covers, IsCovered, KeptSeen}
+use Rattle.hg_ledger.specs.Orders.{AreSeen}
 use Rattle.hg_ledger.specs.Promises.{Promise}
 use Rattle.hg_ledger.specs.Records.{IsRecordOf, KeepsRecords}
 use Rattle.hg_ledger.proofs.Keeping.{are_kept, kept_back, kept_on, none_kept}
@@ -17,7 +18,7 @@ module _ {A D : Type 0} (seen : D → List ℕ) (may_leave : D → List ℕ → 
     pub covers : (h : List (Taken A)) (count : ℕ) (log : Log D) (receipt : List Promise)
         → KeepsRecords seen may_leave head stored first h count log
         → Contains receipt (record { count = count; moment = moment log.device })
-        → IsCovered seen may_leave moment head stored first (record { history = h; receipt = receipt }) count
+        → Covers seen may_leave moment head stored first h receipt count
     covers h count log receipt k has = record {
       kept = are_kept seen may_leave head stored first h count log k;
       promise = record { count = count; moment = moment log.device };
@@ -28,8 +29,8 @@ module _ {A D : Type 0} (seen : D → List ℕ) (may_leave : D → List ℕ → 
 
     pub covered_on : (h h' : List (Taken A)) (receipt : List Promise) (count : ℕ)
         → ((k : ℕ) (bytes : List ℕ) → IsRecordOf first h k bytes → IsRecordOf first h' k bytes)
-        → IsCovered seen may_leave moment head stored first (record { history = h; receipt = receipt }) count
-        → IsCovered seen may_leave moment head stored first (record { history = h'; receipt = receipt }) count
+        → Covers seen may_leave moment head stored first h receipt count
+        → Covers seen may_leave moment head stored first h' receipt count
     covered_on h h' receipt count moves c = record {
       kept = kept_on seen may_leave head stored first h h' count moves c.kept;
       promise = c.promise;
@@ -39,8 +40,8 @@ module _ {A D : Type 0} (seen : D → List ℕ) (may_leave : D → List ℕ → 
     }
 
     pub covered_none : (h h' : List (Taken A)) (receipt : List Promise)
-        → IsCovered seen may_leave moment head stored first (record { history = h; receipt = receipt }) 0
-        → IsCovered seen may_leave moment head stored first (record { history = h'; receipt = receipt }) 0
+        → Covers seen may_leave moment head stored first h receipt 0
+        → Covers seen may_leave moment head stored first h' receipt 0
     covered_none h h' receipt c = record {
       kept = none_kept seen may_leave head stored first h h' c.kept;
       promise = c.promise;
@@ -53,8 +54,8 @@ module _ {A D : Type 0} (seen : D → List ℕ) (may_leave : D → List ℕ → 
     pub covered_back : (h h' : List (Taken A)) (receipt : List Promise) (count rests done : ℕ) → rests ≤ count
         → rests ≤ done
         → ((k : ℕ) (bytes : List ℕ) → k < done → IsRecordOf first h k bytes → IsRecordOf first h' k bytes)
-        → IsCovered seen may_leave moment head stored first (record { history = h; receipt = receipt }) count
-        → IsCovered seen may_leave moment head stored first (record { history = h'; receipt = receipt }) rests
+        → Covers seen may_leave moment head stored first h receipt count
+        → Covers seen may_leave moment head stored first h' receipt rests
     covered_back h h' receipt count rests done low few moves c = record {
       kept = kept_back seen may_leave head stored first h h' count rests done low few moves c.kept;
       promise = c.promise;
@@ -65,8 +66,8 @@ module _ {A D : Type 0} (seen : D → List ℕ) (may_leave : D → List ℕ → 
 
     -- a receipt was joined to another
     pub covered_joined : (h : List (Taken A)) (held receipt : List Promise) (rests : ℕ)
-        → IsCovered seen may_leave moment head stored first (record { history = h; receipt = receipt }) rests
-        → IsCovered seen may_leave moment head stored first (record { history = h; receipt = held ++ receipt }) rests
+        → Covers seen may_leave moment head stored first h receipt rests
+        → Covers seen may_leave moment head stored first h (held ++ receipt) rests
     covered_joined h held receipt rests c = record {
       kept = c.kept;
       promise = c.promise;
@@ -77,11 +78,12 @@ module _ {A D : Type 0} (seen : D → List ℕ) (may_leave : D → List ℕ → 
 
     -- and so of the client that has it then
     pub covered_by : (h : List (Taken A)) (held receipt : List Promise) (now : KeptSeen A) (rests : ℕ)
-        → now.history ≡ h → now.receipt ≡ held ++ receipt
-        → IsCovered seen may_leave moment head stored first (record { history = h; receipt = receipt }) rests
+        → now.history ≡ h → now.receipt.promises ≡ held ++ receipt
+        → AreSeen now.receipt
+        → Covers seen may_leave moment head stored first h receipt rests
         → IsCovered seen may_leave moment head stored first now rests
-    covered_by h held receipt now rests same both c =
-        let joined : KeptSeen A = record { history = h; receipt = held ++ receipt } in
-        let is : joined ≡ now = λ i. record { history = sym same i; receipt = sym both i } in
-        subst (λ (v : KeptSeen A). IsCovered seen may_leave moment head stored first v rests) is
-        (covered_joined h held receipt rests c)
+    covered_by h held receipt now rests same both stands c = record {
+      covers = subst (λ (x : List (Taken A) × List Promise). Covers seen may_leave moment head stored first x.0 x.1
+          rests) (λ i. (sym same i, sym both i)) (covered_joined h held receipt rests c);
+      stands = stands;
+    }

@@ -1,5 +1,5 @@
 -- What a log keeps of a journal, as the journal goes on and as a batch is added.
-use Rattle.std.proofs.Common.{ℕ, ◌≡◌, ◌<◌, ◌≤◌, ◌+◌, List, [], ◌∷◌, ◌++◌, refl, sym, ◌∙◌, ap, subst, arith, length}
+use Rattle.std.proofs.Common.{ℕ, ◌≡◌, ◌<◌, ◌≤◌, ◌+◌, List, [], ◌++◌, refl, sym, ◌∙◌, ap, subst, arith, length}
 use Rattle.std.proofs.Common.{length-append, append_assoc, take}
 use Rattle.std.proofs.lemmas.List.{append-nil}
 use Rattle.hg_types.specs.declared.item.Taken.{Taken}

@@ -4,3 +4,4 @@ mod Keeping
 mod Covering
 mod Living
 mod Counting
+mod Seats

@@ -1,6 +1,6 @@
 -- Records, one for each place.
-use Rattle.std.proofs.Common.{ℕ, zero, suc, ◌≡◌, ◌<◌, ◌≤◌, ◌+◌, ◌^◌, List, [], ◌∷◌, ◌++◌, refl, sym, ◌∙◌, ap, subst}
-use Rattle.std.proofs.Common.{arith, length, length-append, take}
+use Rattle.std.proofs.Common.{ℕ, zero, suc, ◌≡◌, ◌<◌, ◌≤◌, ◌+◌, List, [], ◌∷◌, ◌++◌, refl, subst}
+use Rattle.std.proofs.Common.{arith, length, take}
 use Rattle.std.proofs.Common.{Bool, true, false, drop, Result, Ok, Err, if◌then◌else◌}
 use Rattle.std.specs.Prelude.{All, OnOk, insert, is_err}
 use Rattle.std.specs.List.{AllByRecursion}

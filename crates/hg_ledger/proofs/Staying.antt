@@ -1,21 +1,18 @@
 -- The record of a push, as its history goes on.
-use Rattle.std.proofs.Common.{ℕ, Bool, true, false, ◌≡◌, ◌<◌, ◌+◌, List, [], ◌∷◌, ◌++◌, refl, sym, ◌∙◌, ap, subst}
-use Rattle.std.proofs.Common.{arith, length, length-append, Option, Some, None, reverse}
+use Rattle.std.proofs.Common.{ℕ, true, ◌≡◌, ◌<◌, List, [], ◌∷◌, ◌++◌, sym, ◌∙◌, ap, subst}
+use Rattle.std.proofs.Common.{arith, length, Option, Some, None, reverse}
 use Rattle.std.specs.Prelude.{◌↔◌, IsTrue, IsSome}
 use Rattle.std.proofs.lemmas.List.{reverse-append}
 use mathlib.Core.List.{IsPrefix}
 use Rattle.hg_types.specs.declared.item.Taken.{Taken}
 use Rattle.hg_types.specs.declared.part.Part.{Part}
 use Rattle.hg_stream.specs.Frames.{IsBundle}
-use Rattle.hg_repo.specs.declared.done.Done.{Done}
-use Rattle.hg_parts.specs.declared.refusal.Refusal.{Refusal}
 use Rattle.hg_push.specs.declared.outcome.Outcome.{Outcome}
 use Rattle.hg_push.specs.declared.outcome.Outcome.TheVariants.{Done as done_with, Aborted}
 use Rattle.hg_push.specs.History.{History, is_closed, outcome, parts, serial}
 use Rattle.hg_push.specs.Changed.{is_done}
 use Rattle.hg_push.specs.Places.{IsPlace}
 use Rattle.hg_push.specs.Run.{RepositoryOf, run_push}
-use Rattle.hg_serve.specs.Histories.{newest_first}
 use Rattle.hg_ledger.specs.Records.{IsRecordOf, done_in}
 
 done_some : {D E : Type 0} (how : Option (Outcome D E)) → is_done how ≡ true → IsSome how

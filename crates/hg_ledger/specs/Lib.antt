@@ -1,5 +1,6 @@
 pub mod Records
 pub mod Promises
+pub mod Orders
 pub mod Clients
 pub mod Locks
 pub mod Lives

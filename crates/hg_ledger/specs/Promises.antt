@@ -8,8 +8,11 @@ pub record Promise : Type 0 where
   pub count : ℕ
   pub moment : ℕ
 
+abbrev pub promise_coded : Coded Promise
+promise_coded =
+    coded_via (coded× coded_ℕ coded_ℕ) (λ (p : Promise). (p.count, p.moment))
+    (λ x y e i. record { count = (e i).0; moment = (e i).1 })
+
 -- a struct may have a list of promises as a ghost field
 abbrev pub promises_coded : Coded (List Promise)
-promises_coded =
-    coded_list (coded_via (coded× coded_ℕ coded_ℕ) (λ (p : Promise). (p.count, p.moment))
-    (λ x y e i. record { count = (e i).0; moment = (e i).1 }))
+promises_coded = coded_list promise_coded

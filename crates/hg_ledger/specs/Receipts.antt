@@ -1,13 +1,15 @@
 -- What a tally promised.
 use Rattle.std.specs.Prelude.{ℕ, ◌≡◌, List}
 use Rattle.atomic_table.specs.Seated.{TableId}
+use Rattle.hg_ledger.specs.Orders.{Event}
 use Rattle.hg_ledger.specs.Promises.{Promise}
 
--- Which tally it is: no other has that name. And all that was promised, the latest last. And the name by which rooms
--- for records are counted, and how many parts that has.
+-- Which tally it is: no other has that name. And all that was promised, the latest last, and what was seen of the one
+-- order of all that happened at it. And the name by which rooms for records are counted, and how many parts that has.
 pub record TallyView : Type 0 where
   pub id : TableId
   pub promises : List Promise
+  pub order : List Event
   pub name : ℕ
   pub parts : ℕ
 

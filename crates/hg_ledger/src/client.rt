@@ -1,16 +1,17 @@
 //! A client of a server that keeps its pushes, with the receipt for all that it was answered.
 
-ghost use Rattle.std.specs.Prelude.{◌≡◌, ◌++◌, []};
+ghost use Rattle.std.specs.Prelude.{◌≡◌, ◌++◌};
 ghost use Rattle.hg_ledger.specs.Clients.{promised};
+ghost use Rattle.hg_ledger.specs.Orders.{AreSeen, Comes, HasGrown, no_receipt};
 
 use crate::storing::Storing;
-use crate::tally::{OpenTally, Receipt};
+use crate::tally::{Grant, OpenTally, Receipt};
 use hg_serve::Client;
 use std::alloc::{Allocator, Global};
 use std::marker::Model;
 
-/// A client, and its receipt once it has one. Contracts see the history that it has seen, and the promises of the
-/// receipt.
+/// A client, and its receipt once it has one. Contracts see the history that it has seen, and the receipt: its promises,
+/// and what the client has seen of all that happened at the ledger's tally.
 pub struct KeptClient<J: Storing<A>, A: Allocator = Global> {
     pub(crate) client: Client<J, A>,
     receipt: Option<Receipt<J, A>>,
@@ -27,7 +28,7 @@ impl<J: Storing<A>, A: Allocator> Model for KeptClient<J, A> {
 impl<J: Storing<A>, A: Allocator> KeptClient<J, A> {
     /// A client that has no receipt yet.
     pub fn new(client: Client<J, A>) -> Self
-        ensures { result ≡ record { history = client; receipt = [] } }
+        ensures { result ≡ record { history = client; receipt = no_receipt } }
     {
         KeptClient {
             client,
@@ -50,18 +51,25 @@ impl<J: Storing<A>, A: Allocator> KeptClient<J, A> {
         (client, receipt)
     }
 
-    /// Takes a further receipt: what the client has then has the promises of both.
-    pub(crate) fn take_in(&mut self, tally: &OpenTally<J, A>, receipt: Receipt<J, A>)
+    /// Takes what it was granted: its receipt has the promises of that too.
+    pub(crate) fn take_in(&mut self, tally: &OpenTally<J, A>, grant: Grant<J, A>)
         ensures same { self.new.history ≡ self.old.history }
-        ensures both { self.new.receipt ≡ self.old.receipt ++ receipt }
+        ensures both { self.new.receipt.promises ≡ self.old.receipt.promises ++ grant }
+        ensures grows { HasGrown self.old.receipt self.new.receipt }
+        ensures seen { AreSeen self.new.receipt }
     {
-        let receipt = match self.receipt.take() {
-            Some(mut held) => {
-                tally.join(&mut held, receipt);
-                held
-            }
-            None => receipt,
-        };
+        let held = self.receipt.take();
+        self.receipt = Some(tally.join(held, grant));
+    }
+
+    /// A request of it comes. Says how many records were promised by then.
+    pub(crate) fn come(&mut self, tally: &OpenTally<J, A>) -> u64
+        ensures same { self.new.history ≡ self.old.history }
+        ensures comes { Comes self.old.receipt self.new.receipt result }
+    {
+        let held = self.receipt.take();
+        let (receipt, count) = tally.come(held);
         self.receipt = Some(receipt);
+        count
     }
 }

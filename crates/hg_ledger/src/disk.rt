@@ -6,13 +6,13 @@ ghost use mathlib.Core.List.{IsPrefix};
 ghost use Rattle.hg_types.specs.Limits.{IsAllowed};
 ghost use Rattle.hg_store.specs.Device.{LeavesOnly};
 ghost use Rattle.hg_store.specs.Log.{IsSettled};
-ghost use Rattle.hg_ledger.specs.Clients.{IsCovered};
+ghost use Rattle.hg_ledger.specs.Clients.{Covers};
 ghost use Rattle.hg_ledger.specs.Lives.{IsFront, IsKeptSince, Lives};
 ghost use Rattle.hg_ledger.specs.Records.{IsRecordOf, KeepsRecords};
 
 use crate::laws::records_stay;
 use crate::storing::Storing;
-use crate::tally::{Keeper, OpenTally, Receipt};
+use crate::tally::{Grant, Keeper, OpenTally};
 use hg_serve::{Client, Server};
 use hg_store::laws::records_are_read_back;
 use hg_store::{Device, Log, Sealed};
@@ -143,14 +143,14 @@ impl<J: Storing<A>, D: Device, A: Allocator + Copy> Disk<J, D, A> {
         server.meet(rt, &mut self.witness, client);
     }
 
-    /// A receipt for all that is on the device.
-    pub fn counted(&mut self, tally: &OpenTally<J, A>) -> Receipt<J, A>
+    /// A grant for all that is on the device.
+    pub fn counted(&mut self, tally: &OpenTally<J, A>) -> Grant<J, A>
         requires { self.old.is_broken ≡ false }
         ensures same { self.new ≡ self.old }
-        ensures covered { IsCovered D.seen D.may_leave D.moment J.head J.stored J.first
-            (record { history = self.old.history; receipt = result }) self.old.count }
+        ensures covered { Covers D.seen D.may_leave D.moment J.head J.stored J.first self.old.history result
+            self.old.count }
     {
-        tally.receipt(&mut self.keeper)
+        tally.grant(&mut self.keeper)
     }
 
     /// Takes the record of the push at the next place into the batch. It has room, so no memory is asked for.

@@ -4,8 +4,9 @@ ghost use Rattle.std.specs.Prelude.{◌≡◌, ◌≤◌, ◌<◌, ◌-◌, ℕ,
 ghost use mathlib.Core.List.{IsPrefix};
 ghost use Rattle.hg_types.specs.Limits.{IsAllowed};
 ghost use Rattle.hg_store.specs.Log.{IsSettled};
-ghost use Rattle.hg_ledger.specs.Clients.{IsCovered};
+ghost use Rattle.hg_ledger.specs.Clients.{Covers, IsCovered};
 ghost use Rattle.hg_ledger.specs.Lives.{IsKeptSince, Lives};
+ghost use Rattle.hg_ledger.specs.Orders.{Comes, HasGrown};
 ghost use Rattle.hg_ledger.specs.Receipts.{IsTallyOf};
 ghost use Rattle.hg_ledger.specs.Records.{IsRecordOf, KeepsRecords, done_in};
 
@@ -14,7 +15,7 @@ use crate::disk::Disk;
 use crate::doors::Doors;
 use crate::rooms::{Room, Rooms};
 use crate::storing::Storing;
-use crate::tally::{OpenTally, Receipt, Tally};
+use crate::tally::{Grant, OpenTally, Tally};
 use crate::waiting::{Record, Step, Waiting};
 use hg_serve::{Client, Server};
 use hg_store::{Device, Log, Sealed};
@@ -110,7 +111,7 @@ impl<J: Storing<A>, D: Device, A: Allocator + Copy> Ledger<J, D, A> {
         requires bundle { IfSome bundle (λ bytes. (1 ≤ rests)
             × IsRecordOf J.first client.old.history (rests - 1) bytes) }
         ensures same { client.new.history ≡ client.old.history }
-        ensures grows { IsPrefix client.old.receipt client.new.receipt }
+        ensures grows { HasGrown client.old.receipt client.new.receipt }
         ensures covered { IfOk result (λ _. IsCovered D.seen D.may_leave D.moment J.head J.stored J.first client.new
             rests) }
     {
@@ -128,6 +129,15 @@ impl<J: Storing<A>, D: Device, A: Allocator + Copy> Ledger<J, D, A> {
         self.receipt(rt, server, client, rests)
     }
 
+    /// **A request of a client comes.** Says how many done pushes were promised to be on the device by then, to whomever:
+    /// whatever was answered before rests on these or on fewer. An answer to the request is to rest on as many, or more.
+    pub fn come(&self, client: &mut KeptClient<J, A>) -> u64
+        ensures same { client.new.history ≡ client.old.history }
+        ensures comes { Comes client.old.receipt client.new.receipt result }
+    {
+        client.come(&self.tally)
+    }
+
     /// Waits until so many done pushes are on the device. The client has a receipt for them then.
     pub fn receipt<R: Wait>(
         &self,
@@ -138,36 +148,36 @@ impl<J: Storing<A>, D: Device, A: Allocator + Copy> Ledger<J, D, A> {
     ) -> Result<(), NotStored>
         requires { rests ≤ done_in J.first client.old.history }
         ensures same { client.new.history ≡ client.old.history }
-        ensures grows { IsPrefix client.old.receipt client.new.receipt }
+        ensures grows { HasGrown client.old.receipt client.new.receipt }
         ensures covered { IfOk result (λ _. IsCovered D.seen D.may_leave D.moment J.head J.stored J.first client.new
             rests) }
     {
         match self.await_records(rt, server, &mut client.client, rests) {
-            Ok(receipt) => {
-                client.take_in(&self.tally, receipt);
+            Ok(grant) => {
+                client.take_in(&self.tally, grant);
                 Ok(())
             }
             Err(fault) => Err(fault),
         }
     }
 
-    /// A receipt for so many done pushes, once they are on the device.
+    /// A grant for so many done pushes, once they are on the device.
     fn await_records<R: Wait>(
         &self,
         rt: &R,
         server: &Server<J, A>,
         client: &mut Client<J, A>,
         rests: usize,
-    ) -> Result<Receipt<J, A>, NotStored>
+    ) -> Result<Grant<J, A>, NotStored>
         requires { rests ≤ done_in J.first client.old }
         ensures same { client.new ≡ client.old }
-        ensures covered { IfOk result (λ receipt. IsCovered D.seen D.may_leave D.moment J.head J.stored J.first
-            (record { history = client.old; receipt = receipt }) rests) }
+        ensures covered { IfOk result (λ grant. Covers D.seen D.may_leave D.moment J.head J.stored J.first client.old
+            grant rests) }
     {
         let mut waiting = self.waiting.lock(rt);
         'waiting: for _ in rt.forever() {
             match waiting.step(rt, server, client, &self.tally, rests) {
-                Ok(receipt) => return Ok(receipt),
+                Ok(grant) => return Ok(grant),
                 Err(Step::Stop) => return Err(NotStored),
                 Err(Step::Wait(door)) => waiting = self.doors.at(door).wait(rt, waiting),
                 Err(Step::Write) => {

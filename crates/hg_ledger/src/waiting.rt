@@ -1,7 +1,7 @@
 //! The records that wait, under their lock.
 
 ghost use Rattle.std.specs.Prelude.{◌≡◌, ◌≤◌, false, true, length, IfOk, IfSome};
-ghost use Rattle.hg_ledger.specs.Clients.{IsCovered};
+ghost use Rattle.hg_ledger.specs.Clients.{Covers};
 ghost use mathlib.Core.List.{IsPrefix};
 ghost use Rattle.hg_ledger.specs.Records.{IsRecordOf, done_in};
 
@@ -10,7 +10,7 @@ use crate::doors::Door;
 use crate::laws::records_stay;
 use crate::rooms::{Room, Rooms};
 use crate::storing::Storing;
-use crate::tally::{OpenTally, Receipt};
+use crate::tally::{Grant, OpenTally};
 use hg_serve::{Client, Server};
 use hg_store::{Device, Sealed};
 use hg_types::NoMemory;
@@ -36,14 +36,14 @@ pub enum Step {
     Write,
 }
 
-/// The records that wait, the highest place first, and room for more; how many are on the device, with a receipt
+/// The records that wait, the highest place first, and room for more; how many are on the device, with a grant
 /// for them; whether a thread writes, how many are on the device after that, and at which door that is waited for;
 /// and whether a write or a sync failed.
 pub struct Waiting<J: Storing<A>, D: Device, A: Allocator = Global> {
     records: Vec<Record<A>, A>,
     rooms: Rooms<J, A>,
     count: usize,
-    counted: Receipt<J, A>,
+    counted: Grant<J, A>,
     is_writing: bool,
     coming: usize,
     door: Door,
@@ -54,7 +54,7 @@ pub struct Waiting<J: Storing<A>, D: Device, A: Allocator = Global> {
 
 impl<J: Storing<A>, D: Device, A: Allocator> Model for Waiting<J, D, A> {
     ghost use Rattle.std.specs.Prelude.{◌≡◌, ◌≤◌, ◌+◌, false, vec_len, vec_capacity};
-    ghost use Rattle.hg_ledger.specs.Clients.{IsCovered};
+    ghost use Rattle.hg_ledger.specs.Clients.{Covers};
     ghost use Rattle.hg_ledger.specs.Locks.{AreWaiting, WaitingView};
 
     ghost Value = { WaitingView A };
@@ -62,16 +62,14 @@ impl<J: Storing<A>, D: Device, A: Allocator> Model for Waiting<J, D, A> {
     ghost view = { λ w. record { count = w.count; is_broken = w.is_broken; history = w.witness } };
 
     ghost invariant = { λ w. AreWaiting J.first w.witness w.records.items
-        × (w.is_broken ≡ false → IsCovered D.seen D.may_leave D.moment J.head J.stored J.first
-        (record { history = w.witness; receipt = w.counted }) w.count)
+        × (w.is_broken ≡ false → Covers D.seen D.may_leave D.moment J.head J.stored J.first w.witness w.counted w.count)
         × (vec_len w.records + w.rooms ≤ vec_capacity w.records) };
 }
 
 impl<J: Storing<A>, D: Device, A: Allocator + Copy> Waiting<J, D, A> {
     /// None wait.
-    pub fn new(alloc: A, witness: Client<J, A>, counted: Receipt<J, A>, rooms: Rooms<J, A>) -> Self
-        requires kept { IsCovered D.seen D.may_leave D.moment J.head J.stored J.first
-            (record { history = witness; receipt = counted }) 0 }
+    pub fn new(alloc: A, witness: Client<J, A>, counted: Grant<J, A>, rooms: Rooms<J, A>) -> Self
+        requires kept { Covers D.seen D.may_leave D.moment J.head J.stored J.first witness counted 0 }
         requires rooms { rooms ≡ 0 }
     {
         Waiting {
@@ -127,7 +125,7 @@ impl<J: Storing<A>, D: Device, A: Allocator + Copy> Waiting<J, D, A> {
         };
     }
 
-    /// The receipt of a thread whose reply rests on so many done pushes, or what comes next for it.
+    /// The grant of a thread whose reply rests on so many done pushes, or what comes next for it.
     pub fn step<R: Wait>(
         &mut self,
         rt: &R,
@@ -135,11 +133,11 @@ impl<J: Storing<A>, D: Device, A: Allocator + Copy> Waiting<J, D, A> {
         client: &mut Client<J, A>,
         tally: &OpenTally<J, A>,
         rests: usize,
-    ) -> Result<Receipt<J, A>, Step>
+    ) -> Result<Grant<J, A>, Step>
         requires { rests ≤ done_in J.first client.old }
         ensures same { client.new ≡ client.old }
-        ensures covered { IfOk result (λ receipt. IsCovered D.seen D.may_leave D.moment J.head J.stored J.first
-            (record { history = client.old; receipt = receipt }) rests) }
+        ensures covered { IfOk result (λ grant. Covers D.seen D.may_leave D.moment J.head J.stored J.first client.old
+            grant rests) }
     {
         if self.is_broken {
             return Err(Step::Stop);
@@ -162,7 +160,7 @@ impl<J: Storing<A>, D: Device, A: Allocator + Copy> Waiting<J, D, A> {
         self.door.other()
     }
 
-    /// The receipt for so many done pushes, which are on the device.
+    /// The grant for so many done pushes, which are on the device.
     fn grant<R: Wait>(
         &mut self,
         rt: &R,
@@ -170,13 +168,12 @@ impl<J: Storing<A>, D: Device, A: Allocator + Copy> Waiting<J, D, A> {
         client: &mut Client<J, A>,
         tally: &OpenTally<J, A>,
         rests: usize,
-    ) -> Receipt<J, A>
+    ) -> Grant<J, A>
         requires whole { self.old.is_broken ≡ false }
         requires low { rests ≤ self.old.count }
         requires done { rests ≤ done_in J.first client.old }
         ensures same { client.new ≡ client.old }
-        ensures covered { IsCovered D.seen D.may_leave D.moment J.head J.stored J.first
-            (record { history = client.old; receipt = result }) rests }
+        ensures covered { Covers D.seen D.may_leave D.moment J.head J.stored J.first client.old result rests }
     {
         records_stay::<A>();
         server.meet(rt, client, &mut self.witness);

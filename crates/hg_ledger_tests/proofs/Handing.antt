@@ -1,7 +1,6 @@
 -- What is handed in of a push whose bundle was received.
 use Rattle.std.proofs.Common.{ℕ, ◌≡◌, ◌≤◌, ◌+◌, ◌-◌, List, Option, Some, None, refl, sym, ◌∙◌, ap, subst, arith, rules}
 use Rattle.std.specs.Prelude.{IfSome}
-use mathlib.Core.List.{IsPrefix}
 use Rattle.hg_types.specs.declared.limits.Limits.{Limits}
 use Rattle.hg_types.specs.declared.part.Part.{Part}
 use Rattle.hg_types.specs.declared.item.Taken.{Taken}
@@ -24,7 +23,7 @@ use Rattle.hg_receiving.specs.Receiving.{mark_of, state_at}
 use Rattle.hg_connection.specs.Keeping.{ReceivesKept}
 use Rattle.hg_connection.proofs.CallerLemmas.{answers_bundle, done_whole}
 use Rattle.hg_ledger.specs.Clients.{KeptSeen}
-use Rattle.hg_ledger.specs.Promises.{Promise}
+use Rattle.hg_ledger.specs.Orders.{HasGrown, ReceiptView}
 use Rattle.hg_ledger.specs.Records.{IsRecordOf, done_in}
 
 -- these bytes are the record of the last of so many pushes
@@ -60,7 +59,7 @@ module _ {A : Type 0} (limits : Limits) (capacity : ℕ) (first : RepositoryOf A
         )
 
     -- it is the record of a done push, and there is none where the push is aborted
-    pub handed : (client : KeptSeen A) (receipt : List Promise)
+    pub handed : (client : KeptSeen A) (receipt : ReceiptView)
         → (let has : KeptSeen A = record { history = after; receipt = receipt } in client ≡ has)
         → (how : Outcome (Done A) (Refusal A)) (bundle : Option (List ℕ))
         → ((done : Done A) → how ≡ done_with done → bundle ≡ Some kept)
@@ -79,15 +78,15 @@ module _ {A : Type 0} (limits : Limits) (capacity : ℕ) (first : RepositoryOf A
         subst (λ (o : Option (List ℕ)). IfSome o (λ bytes. IsHandedIn first client.history rests bytes))
         (sym (aborted_is reason refl)) none
 
--- the promises that a client had it still has, which it was made of again
-pub grown : {A : Type 0} (before : KeptSeen A) (after : List (Taken A)) (had : List Promise) (client now : KeptSeen A)
+-- what a client had it still has, which it was made of again
+pub grown : {A : Type 0} (before : KeptSeen A) (after : List (Taken A)) (had : ReceiptView) (client now : KeptSeen A)
     → (let has : KeptSeen A = record { history = after; receipt = had } in client ≡ has)
-    → had ≡ before.receipt → IsPrefix client.receipt now.receipt → IsPrefix before.receipt now.receipt
+    → had ≡ before.receipt → HasGrown client.receipt now.receipt → HasGrown before.receipt now.receipt
 grown {A} before after had client now has same grows =
-    subst (λ (r : List Promise). IsPrefix r now.receipt) (ap (λ (v : KeptSeen A). v.receipt) has ∙ same) grows
+    subst (λ (r : ReceiptView). HasGrown r now.receipt) (ap (λ (v : KeptSeen A). v.receipt) has ∙ same) grows
 
 -- so many pushes are done in what the client has seen, after its record was handed in too
-pub within : {A : Type 0} (first : RepositoryOf A) (after : List (Taken A)) (had : List Promise)
+pub within : {A : Type 0} (first : RepositoryOf A) (after : List (Taken A)) (had : ReceiptView)
     (client now : KeptSeen A) (rests : ℕ)
     → (let has : KeptSeen A = record { history = after; receipt = had } in client ≡ has)
     → now.history ≡ client.history → rests ≤ done_in first after → rests ≤ done_in first now.history

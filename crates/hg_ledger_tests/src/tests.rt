@@ -2,12 +2,12 @@
 //! call of the device what was answered is there again.
 
 ghost use Rattle.std.specs.Prelude.{◌≡◌, ◌≤◌, [], Some, None};
-ghost use mathlib.Core.List.{IsPrefix};
 ghost use Rattle.hg_repo.specs.declared.done.Done.{Done as AnyDone};
 ghost use Rattle.hg_parts.specs.declared.refusal.Refusal.{Refusal as AnyRefusal};
 ghost use Rattle.hg_push.specs.declared.outcome.Reason.{Reason as AnyReason};
 ghost use Rattle.hg_store.specs.Log.{IsSettled};
 ghost use Rattle.hg_serve.specs.Desks.{OpensWith};
+ghost use Rattle.hg_ledger.specs.Orders.{HasGrown};
 ghost use Rattle.hg_ledger.specs.Receipts.{IsTallyOf};
 ghost use Rattle.hg_ledger.specs.Records.{done_in};
 
@@ -85,7 +85,7 @@ fn push_part<J: Storing<Global>, D: Device + Drop, R: Wait + Abort>(
     client: KeptClient<J>,
     payload: &[u8],
 ) -> (KeptClient<J>, usize, Result<(), NotStored>)
-    ensures grows { IsPrefix client.receipt result.0.receipt }
+    ensures grows { HasGrown client.receipt result.0.receipt }
     ensures rests { result.1 ≤ done_in J.first result.0.history }
 {
     journals_grow::<Global>();
@@ -133,7 +133,7 @@ fn push_once<J: Storing<Global>, D: Device + Drop, R: Wait + Abort>(
     told: &Told,
     payload: &[u8],
 ) -> KeptClient<J>
-    ensures { IsPrefix client.receipt result.receipt }
+    ensures { HasGrown client.receipt result.receipt }
 {
     let (client, rests, stored) = push_part(rt, alloc, server, ledger, client, payload);
     match stored {
@@ -340,14 +340,15 @@ fn eight_threads_on_a_device_that_stops(rt: HostRuntime) -> Result<(), Fail> {
     Ok(())
 }
 
-/// What receipts were given: for no push before the first one, and for one push and for none after it; and
-/// how often the device was synced.
+/// What receipts were given: for no push before the first one, and for one push and for none after it; how often the
+/// device was synced; and how many records a request of another client found promised, before the push and after it.
 #[derive(Clone, Copy, Debug, PartialEq, Eq)]
 struct Receipts {
     before: bool,
     of_one: bool,
     of_none: bool,
     syncs: usize,
+    promised: [u64; 2],
 }
 
 /// Asks for receipts before and after one push that is done, on a server of that name.
@@ -372,12 +373,15 @@ fn ask<J: Storing<Global>, R: Wait + Abort>(
         Ok(ledger) => ledger,
         Err(_parts) => panic!(rt; "no memory for a ledger"),
     };
+    let mut other = KeptClient::new(client_of(rt, &server));
     let before = ledger.receipt(rt, &server, &mut mine, 0);
+    let promised_before = ledger.come(&mut other);
     let payload = marker(0, 1);
     let (mut mine, rests, _) = push_part(rt, alloc, &server, &ledger, mine, &payload);
     assert!(rt; rests == 1);
     let of_one = ledger.receipt(rt, &server, &mut mine, 1);
     let of_none = ledger.receipt(rt, &server, &mut mine, 0);
+    let promised_after = ledger.come(&mut other);
     let parts = ledger.into_parts();
     let syncs = parts.log.device.syncs;
     let Parts {
@@ -393,15 +397,19 @@ fn ask<J: Storing<Global>, R: Wait + Abort>(
         of_one: of_one.is_ok(),
         of_none: of_none.is_ok(),
         syncs,
+        promised: [promised_before, promised_after],
     };
     let (mine, receipt) = mine.into_parts();
     assert!(rt; has_receipt(&mut tally, receipt));
-    let Ok(mut clients) = Vec::with_capacity(alloc, 3) else {
+    let (other, receipt) = other.into_parts();
+    assert!(rt; has_receipt(&mut tally, receipt));
+    let Ok(mut clients) = Vec::with_capacity(alloc, 4) else {
         panic!(rt; "no memory for clients");
     };
     clients.push_reserved(first);
     clients.push_reserved(second);
     clients.push_reserved(mine);
+    clients.push_reserved(other);
     let closed = server.close(clients);
     let is_first = closed.journal.as_slice() == [0].as_slice();
     drop(closed);
@@ -426,9 +434,10 @@ fn asked<R: Wait + RandomSource + Abort>(rt: &R, alloc: Global, calls: usize) ->
     }
 }
 
-// Receipts are asked for before a push and after it. The device takes three calls to open the store, with
-// one sync, and six for a record, with two. Result: a receipt each time, with no sync but these three; where
-// the device stops at a call of the record, the one before the push alone.
+// Receipts are asked for before a push and after it, and another client's request comes before it and after it. The
+// device takes three calls to open the store, with one sync, and six for a record, with two. Result: a receipt each
+// time, with no sync but these three, and the later request finds one record promised; where the device stops at a
+// call of the record, the receipt before the push alone, and no record promised.
 #[test]
 fn receipts_before_a_push_and_after_it(rt: HostRuntime) {
     let alloc = rt.alloc();
@@ -438,6 +447,7 @@ fn receipts_before_a_push_and_after_it(rt: HostRuntime) {
             of_one: true,
             of_none: true,
             syncs: 3,
+            promised: [0, 1],
         };
         assert_eq!(rt; asked(&rt, alloc, calls), receipts, "{calls} calls");
     }
@@ -447,6 +457,7 @@ fn receipts_before_a_push_and_after_it(rt: HostRuntime) {
             of_one: false,
             of_none: false,
             syncs,
+            promised: [0, 0],
         };
         assert_eq!(rt; asked(&rt, alloc, calls), receipts, "{calls} calls");
     }

@@ -1,13 +1,20 @@
 -- Whatever a client is answered, it has seen no less then, and has all promises that it had.
-use Rattle.std.proofs.Common.{◌≡◌, ℕ, ◌⊎◌, inl, inr, Bool, true, false, List, [], Option, None, Some, append-nil, sym, subst}
+use Rattle.std.proofs.Common.{◌≡◌, ℕ, ◌⊎◌, inl, inr, Bool, true, false, List, [], ◌∷◌, ◌++◌, Option, None, Some, ◌+◌, Result, Ok, Err}
+use Rattle.std.proofs.Common.{append_assoc, append-nil, ap, arith, sym, ◌∙◌, subst}
+use Rattle.std.specs.Prelude.{IfOk, MatchResult}
+use mathlib.Core.List.{IsPrefix}
 use Rattle.http.specs.declared.request.Request.{Request}
 use Rattle.hg_parts.specs.Repository.{Repository}
 use Rattle.hg_push.specs.Run.{RepositoryOf}
 use Rattle.hg_ledger.specs.Clients.{IsLater, KeptSeen}
+use Rattle.hg_ledger.specs.Orders.{Came, Comes, HasGrown, ReceiptView}
+use Rattle.hg_ledger.specs.Records.{done_in}
 use Rattle.hg_told.specs.declared.batch.Command.{Command as Asked}
 use Rattle.hg_told.specs.declared.form.Field.{Field}
 use Rattle.hg_http.specs.declared.answer.Answer.{Answer}
+use Rattle.hg_http.specs.declared.answer.Answer.TheVariants.{Refused, Shown, Text}
 use Rattle.hg_http.specs.declared.answer.Refusal.{Refusal}
+use Rattle.hg_http.specs.declared.answer.Refusal.TheVariants.{NoMemory}
 use Rattle.hg_http.specs.declared.command.Command.{Command}
 use Rattle.hg_http.specs.declared.command.Command.TheVariants.{ReadOnly, Capabilities, Batch, Unbundle}
 use Rattle.hg_http.specs.declared.command.Command.TheVariants.{GetBundle, PushKey}
@@ -15,14 +22,40 @@ use Rattle.hg_http.specs.declared.view.View.{View}
 use Rattle.hg_http.specs.Commands.{command_of}
 use Rattle.hg_http.specs.Requests.{arguments_of, is_from_client, name_of}
 use Rattle.hg_wire.specs.Answering.{AnswersAsked, AnswersBatch, AnswersCommand, AnswersForced, AnswersKey, AnswersRequest}
-use Rattle.hg_wire.specs.Answering.{AnswersView, Around, IfFromClient, IsSaid, IsSaidAt}
+use Rattle.hg_reading.specs.Views.{finished, IsShown}
+use Rattle.hg_wire.specs.Answering.{AnswersView, Around, IfFromClient, IsSaid, IsSaidAt, IsTextAt, LacksMemory, OrLacks}
 use Rattle.hg_wire.specs.Looking.{LooksKept}
 use Rattle.hg_wire.specs.Pushes.{How, IsPushAnswered, Pushes}
 use Rattle.hg_wire.specs.declared.push.KeptPush.{KeptPush}
 
+prefix_again : {X : Type 0} (xs ys zs : List X) → IsPrefix xs ys → IsPrefix ys zs → IsPrefix xs zs
+prefix_again xs ys zs p q = (p.0 ++ q.0, sym (append_assoc xs p.0 q.0) ∙ (ap (λ l. l ++ q.0) p.1 ∙ q.1))
+
+-- a receipt has what it has
+as_before : (r : ReceiptView) → HasGrown r r
+as_before r = record {
+  promises = ([], append-nil r.promises);
+  order = ([], append-nil r.order);
+  came = omega arith;
+}
+
+-- and what it has after a request came, and whatever came after that
+came_and_grew : (before asked after : ReceiptView) (promised : ℕ) → Comes before asked promised → HasGrown asked after
+    → HasGrown before after
+came_and_grew before asked after promised t g =
+    let one = t.number in
+    let more = g.came in
+    record {
+      promises = subst (λ l. IsPrefix l after.promises) t.same g.promises;
+      order = prefix_again before.order asked.order after.order
+          (t.between ++ Came t.seat ∷ [], sym (append_assoc before.order t.between (Came t.seat ∷ [])) ∙ sym t.last)
+          g.order;
+      came = omega (arith, one, more);
+    }
+
 -- a client has seen what it has seen
 pub is_as_late : {A : Type 0} (client : KeptSeen A) → IsLater client client
-is_as_late client = record { seen = ([], append-nil client.history); grows = ([], append-nil client.receipt) }
+is_as_late client = record { seen = ([], append-nil client.history); grows = as_before client.receipt }
 
 same_later : {A : Type 0} (before after : KeptSeen A) → after ≡ before → IsLater before after
 same_later before after is = subst (λ c. IsLater before c) (sym is) (is_as_late before)
@@ -31,7 +64,42 @@ same_later before after is = subst (λ c. IsLater before c) (sym is) (is_as_late
 pub looked_later : {A : Type 0} (first : RepositoryOf A) (kept : KeptSeen A → ℕ → Type 0)
     (before after : KeptSeen A) (Answers : Repository A → Type 0) → LooksKept first kept before after Answers →
     IsLater before after
-looked_later first kept before after Answers look = record { seen = look.looks.earlier; grows = look.grows }
+looked_later first kept before after Answers look = record {
+  seen = look.looks.earlier;
+  grows = came_and_grew before.receipt look.asked after.receipt look.promised look.comes look.grows;
+}
+
+-- what holds of a call that went well
+pub went : {T E : Type 0} (P : T → Type 0) (Q : E → Type 0) (r : Result T E) (t : T) → r ≡ Ok t → MatchResult r P Q → P t
+went P Q r t is told = let there : MatchResult (Ok t) P Q = subst (λ x. MatchResult x P Q) is told in there
+
+module _ {A E : Type 0} (first : RepositoryOf A) (kept : KeptSeen A → ℕ → Type 0) (before : KeptSeen A)
+    (answer : Answer A) (after : KeptSeen A) (IsText : Repository A → List ℕ → Type 0)
+  where
+    -- who looked is answered the text that it found, or there was no memory for it
+    pub text_or_lacks : (text : Result (List ℕ) E)
+        → LooksKept first kept before after (λ repo. IfOk text (λ t. IsText repo t))
+        → MatchResult text (λ t. answer ≡ Text t) (λ _. answer ≡ Refused NoMemory)
+        → OrLacks (IsTextAt first kept IsText) before answer after
+    text_or_lacks (Ok t) look is = inl (record { text = t; looks = look; answer_is = is })
+    text_or_lacks (Err e) look is = inr (record { refused = is; earlier = looked_later first kept before after _ look })
+
+    -- who looked is shown the view that it found, or there was no memory for it
+    pub shown_or_lacks : (view : View) (stored rests : ℕ) (text : Result (List ℕ) E)
+        → LooksKept first kept before after (λ repo. IfOk text (λ t. IsText repo t))
+        → rests ≡ done_in first after.history
+        → IsShown view (stored + rests) text answer
+        → IsSaidAt first kept (λ t. Shown view (finished view (stored + done_in first after.history) t)) IsText before
+        answer after ⊎ LacksMemory before answer after
+    shown_or_lacks view stored rests (Ok t) look even (inl is) = inl (record {
+      text = t;
+      looks = look;
+      answer_is = subst (λ (n : ℕ). answer ≡ Shown view (finished view (stored + n) t)) even is;
+    })
+    shown_or_lacks view stored rests (Ok t) look even (inr is) =
+        inr (record { refused = is; earlier = looked_later first kept before after _ look })
+    shown_or_lacks view stored rests (Err e) look even is =
+        inr (record { refused = is; earlier = looked_later first kept before after _ look })
 
 module _ {A : Type 0} (capacity : ℕ) (first : RepositoryOf A) (kept : KeptSeen A → ℕ → Type 0)
     (before : KeptSeen A) (answer : Answer A) (after : KeptSeen A)

@@ -2,7 +2,7 @@
 use Rattle.std.proofs.Common.{◌≡◌, ◌≢◌, ℕ, List, [], ◌∷◌, ◌++◌, Option, Some, None}
 use Rattle.std.proofs.Common.{sym, ap, subst, ◌∙◌, append-nil, append_assoc, map, drop}
 use Rattle.std.specs.Prelude.{⊤, IfSome, Result, Ok, Err}
-use Rattle.hg_ledger.specs.Promises.{Promise}
+use Rattle.hg_ledger.specs.Orders.{ReceiptView}
 use Rattle.hg_types.specs.declared.item.Taken.{Taken}
 use Rattle.hg_types.specs.declared.limits.Limits.{Limits}
 use Rattle.hg_push.specs.Reply.{reply_of}
@@ -54,13 +54,13 @@ sent_all gone uses reply s = s.reply_is ∙ (ap (λ l. gone ++ l) s.ends.0 ∙ a
 abbrev has : List ℕ → Output
 has bytes = record { taken = Some bytes; uses = None }
 
--- a client is what it has seen and what its receipt promises
-pub same_client : {A : Type 0} (history : List (Taken A)) (receipt : List Promise) (client : KeptSeen A) →
+-- a client is what it has seen and its receipt
+pub same_client : {A : Type 0} (history : List (Taken A)) (receipt : ReceiptView) (client : KeptSeen A) →
     history ≡ client.history → receipt ≡ client.receipt →
     record { history = history; receipt = receipt } ≡ client
 same_client {A} history receipt client h r =
     ap (λ (x : List (Taken A)). record { history = x; receipt = receipt }) h
-    ∙ ap (λ (l : List Promise). record { history = client.history; receipt = l }) r
+    ∙ ap (λ (l : ReceiptView). record { history = client.history; receipt = l }) r
 
 -- one bundle, told of where it began
 module _ {A D : Type 0} (seen : D → List ℕ) (may_leave : D → List ℕ → Type 0) (moment : D → ℕ) (head : Head)

@@ -1,8 +1,7 @@
 -- A push over HTTP, and what it is answered.
-use Rattle.std.specs.Prelude.{ℕ, ◌≡◌, ◌≢◌, ◌⊎◌, ◌≤◌, ◌++◌, Bool, true, false, ◌&&◌, List, [], ◌∷◌}
+use Rattle.std.specs.Prelude.{ℕ, ◌≡◌, ◌≢◌, ◌⊎◌, ◌++◌, Bool, true, false, ◌&&◌, List, [], ◌∷◌}
 use Rattle.std.specs.Prelude.{Option, Some, None, codes, bytes_eq, IfSome, Result, Ok, Err}
 use Rattle.std.specs.List.{list_any}
-use mathlib.Core.List.{IsPrefix}
 use Rattle.hg_types.specs.declared.part.Part.{Part}
 use Rattle.hg_types.specs.declared.part.Param.{Param}
 use Rattle.hg_repo.specs.declared.done.Done.{Done}
@@ -18,6 +17,7 @@ use Rattle.hg_serve.specs.Histories.{newest_first}
 use Rattle.hg_receiving.specs.declared.ending.BundleEnd.TheVariants.{InputEnded, ReadFailed}
 use Rattle.hg_receiving.specs.Receiving.{IsReceived, mark_of, push_items}
 use Rattle.hg_ledger.specs.Clients.{IsLater, KeptSeen}
+use Rattle.hg_ledger.specs.Orders.{HasGrown}
 use Rattle.hg_kept.specs.Kept.{IsRecorded, KeptExchange}
 use Rattle.hg_http.specs.declared.answer.Answer.{Answer}
 use Rattle.hg_http.specs.declared.answer.Answer.TheVariants.{Text, Refused}
@@ -46,7 +46,7 @@ pub record IsPush {A : Type 0} (capacity : ℕ) (first : RepositoryOf A)
     pub fresh : of x.push (items_of before.history) ≡ []
     pub answers : IsAnswered capacity first x.push (push_items x.push x.parts (mark_of x.ending))
         before.history x.how x.takes x.after.history
-    pub grows : IsPrefix before.receipt x.after.receipt
+    pub grows : HasGrown before.receipt x.after.receipt
     pub rests_on : RestsOn run_push first (newest_first x.after.history) x.push x.how x.sending.rests
     pub recorded : IsRecorded first x.after.history x.sending.rests x.consumed x.how
     pub is_kept : kept x.after x.sending.rests

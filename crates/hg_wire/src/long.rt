@@ -1,7 +1,10 @@
 //! What goes through all changesets: it is made of a view that all who read share.
 
-ghost use Rattle.std.specs.Prelude.{◌≡◌, true, IfOk, MatchResult};
+ghost use Rattle.std.specs.Prelude.{◌≡◌, ◌≤◌, true, IfOk, MatchResult};
 ghost use Rattle.hg_ledger.specs.Clients.{IsCovered, IsLater};
+ghost use Rattle.hg_ledger.specs.Records.{done_in};
+ghost use Rattle.hg_push.specs.Run.{RepositoryOf};
+ghost use Rattle.hg_serve.specs.Answers.{Looks};
 ghost use Rattle.hg_reading.specs.Copied.{is_long as goes_long};
 ghost use Rattle.hg_reading.specs.Texts.{IsBatchText, IsTextOf};
 ghost use Rattle.hg_wire.specs.Looking.{LooksKept};
@@ -9,14 +12,16 @@ ghost use Rattle.hg_wire.specs.Looking.{LooksKept};
 use crate::terms::Host;
 use hg_http::Read;
 use hg_ledger::{KeptClient, NotStored, Storing};
+use hg_serve::Client;
 use hg_store::Device;
 use hg_told::Command;
 use hg_types::{NoMemory, Seq};
 use std::alloc::Allocator;
 use std::sync::Wait;
 
-/// Answers a command that goes through all changesets, from the view that all who read share, by one look; and waits
-/// until all pushes that were done then are on the device. Where the store failed, nothing is answered.
+/// Answers a command that comes now and goes through all changesets, from the view that all who read share, by one look;
+/// and waits until all pushes that were done then are on the device: as many as were promised when it came, or more.
+/// Where the store failed, nothing is answered.
 pub fn look_long<J: Storing<A>, D: Device, A: Allocator + Copy, R: Wait>(
     host: &Host<'_, J, D, R, A>,
     client: KeptClient<J, A>,
@@ -33,15 +38,10 @@ pub fn look_long<J: Storing<A>, D: Device, A: Allocator + Copy, R: Wait>(
         (λ _. IsLater client result.0) }
 {
     let keeping = &host.keeping;
+    let mut client = client;
+    let promised = keeping.ledger.come(&mut client);
     let (mut client, receipt) = client.into_parts();
-    let (text, rests) = host.shelf.lock(keeping.rt).text(
-        keeping.rt,
-        keeping.server,
-        keeping.alloc,
-        &mut client,
-        read,
-        about,
-    );
+    let (text, rests) = text_so_far(host, &mut client, read, about, promised);
     let mut client = KeptClient::of(client, receipt);
     match keeping
         .ledger
@@ -67,14 +67,10 @@ pub fn look_long_batch<J: Storing<A>, D: Device, A: Allocator + Copy, R: Wait>(
         (λ _. IsLater client result.0) }
 {
     let keeping = &host.keeping;
+    let mut client = client;
+    let promised = keeping.ledger.come(&mut client);
     let (mut client, receipt) = client.into_parts();
-    let (text, rests) = host.shelf.lock(keeping.rt).batch(
-        keeping.rt,
-        keeping.server,
-        keeping.alloc,
-        &mut client,
-        commands,
-    );
+    let (text, rests) = batch_so_far(host, &mut client, commands, promised);
     let mut client = KeptClient::of(client, receipt);
     match keeping
         .ledger
@@ -83,4 +79,63 @@ pub fn look_long_batch<J: Storing<A>, D: Device, A: Allocator + Copy, R: Wait>(
         Ok(()) => (client, Ok(text)),
         Err(fault) => (client, Err(fault)),
     }
+}
+
+/// The text of a command by a look that finds at least so many done pushes, as the first one does.
+fn text_so_far<J: Storing<A>, D: Device, A: Allocator + Copy, R: Wait>(
+    host: &Host<'_, J, D, R, A>,
+    client: &mut Client<J, A>,
+    read: Read,
+    about: &[u8],
+    least: u64,
+) -> (Result<Seq<u8, A>, NoMemory>, usize)
+    requires { goes_long read ≡ true }
+    ensures looked { (repo : RepositoryOf A) × Looks J.first client.old client.new repo
+        × IfOk result.0 (λ text. IsTextOf repo read about.now text) }
+    ensures rests { result.1 ≡ done_in J.first client.new }
+    ensures enough { least ≤ result.1 }
+{
+    let keeping = &host.keeping;
+    'looking: for _ in keeping.rt.forever() {
+        let (text, rests) = host.shelf.lock(keeping.rt).text(
+            keeping.rt,
+            keeping.server,
+            keeping.alloc,
+            client,
+            read,
+            about,
+        );
+        if least <= rests as u64 {
+            return (text, rests);
+        }
+    }
+    unreachable!()
+}
+
+/// The same of the commands of a batch.
+fn batch_so_far<J: Storing<A>, D: Device, A: Allocator + Copy, R: Wait>(
+    host: &Host<'_, J, D, R, A>,
+    client: &mut Client<J, A>,
+    commands: &[Command<A>],
+    least: u64,
+) -> (Result<Seq<u8, A>, NoMemory>, usize)
+    ensures looked { (repo : RepositoryOf A) × Looks J.first client.old client.new repo
+        × IfOk result.0 (λ text. IsBatchText repo commands.now text) }
+    ensures rests { result.1 ≡ done_in J.first client.new }
+    ensures enough { least ≤ result.1 }
+{
+    let keeping = &host.keeping;
+    'looking: for _ in keeping.rt.forever() {
+        let (text, rests) = host.shelf.lock(keeping.rt).batch(
+            keeping.rt,
+            keeping.server,
+            keeping.alloc,
+            client,
+            commands,
+        );
+        if least <= rests as u64 {
+            return (text, rests);
+        }
+    }
+    unreachable!()
 }

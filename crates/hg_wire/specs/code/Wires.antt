@@ -1,9 +1,10 @@
 -- What the client of a connection has seen.
 use Rattle.std.specs.Prelude.{ℕ, List, [], ◌∷◌, Option, Some, None}
 use Rattle.hg_ledger.specs.Clients.{KeptSeen}
+use Rattle.hg_ledger.specs.Orders.{no_receipt}
 
 abbrev pub nothing_seen : {A : Type 0} → KeptSeen A
-nothing_seen = record { history = []; receipt = [] }
+nothing_seen = record { history = []; receipt = no_receipt }
 
 abbrev pub seen_by : {A : Type 0} → Option (KeptSeen A) → KeptSeen A
 seen_by None = nothing_seen

@@ -6,5 +6,5 @@ use Rattle.hg_help_serve_tests.proofs.closing.has_receipt.Goals as goal
 
 pub returns-in-Some-clause-promised : goal.returns-in-Some-clause-promised
 returns-in-Some-clause-promised g c =
-    All-same (Contains c.args.tally.now.promises) (promised c.args.receipt) c.in-Some.receipt (ap promised c.in-Some.is)
-    c.compare.ensures.promised
+    All-same (Contains c.args.tally.now.promises) (promised c.args.receipt).promises c.in-Some.receipt.promises
+    (ap (λ r. (promised r).promises) c.in-Some.is) c.compare.ensures.promised

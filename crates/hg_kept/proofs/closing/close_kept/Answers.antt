@@ -1,4 +1,4 @@
-use Rattle.std.proofs.Common.{◌≡◌, ℕ, List, sym, subst, ap}
+use Rattle.std.proofs.Common.{List}
 use Rattle.std.specs.Prelude.{All}
 use Rattle.std.specs.List.{Contains}
 use Rattle.std.proofs.lemmas.List.Elements.{All-contains, All-weaker}
@@ -6,6 +6,7 @@ use mathlib.Core.List.{IsPrefix}
 use Rattle.hg_types.specs.declared.item.Taken.{Taken}
 use Rattle.hg_queue.specs.Words.{history}
 use Rattle.hg_ledger.specs.Clients.{KeptSeen}
+use Rattle.hg_ledger.specs.Orders.{Event}
 use Rattle.hg_ledger.specs.Promises.{Promise}
 use Rattle.hg_kept.specs.Closing.{IsLeft}
 use Rattle.hg_kept.proofs.Ends.{has_beyond, has_last, has_still, is_left}
@@ -32,14 +33,17 @@ returns-clause-left g c =
     let head = g.J.Storing.head in
     let stored = g.J.Storing.stored in
     let promises : List Promise = parts.tally.promises in
+    let order : List Event = c.compare_each.new.tally.order in
     record {
-      each = All-weaker (λ (k : KeptSeen g.row.A.Denot). All (Contains promises) k.receipt × Contains seen k.history)
-          (IsLeft moment left_since may_leave head stored first whole device)
+      order = order;
+      each = All-weaker (λ (k : KeptSeen g.row.A.Denot). All (Contains promises) k.receipt.promises
+          × IsPrefix k.receipt.order order × Contains seen k.history)
+          (IsLeft moment left_since may_leave head stored first whole order device)
           (λ k w.
-          let mine : IsPrefix k.history whole = All-contains Begins seen k.history early w.1 in
-          is_left moment left_since may_leave head stored first whole witness parts.kept device k promises
+          let mine : IsPrefix k.history whole = All-contains Begins seen k.history early w.2 in
+          is_left moment left_since may_leave head stored first whole witness order parts.kept device k promises
           (λ p kept. c.what_is_promised_is_left.ensures head stored first k.history witness whole parts.kept device p
-          mine theirs kept) mine c.into_parts-log.ensures.promises w.0) c.args.clients.items
+          mine theirs kept) mine w.1 c.into_parts-log.ensures.promises w.0) c.args.clients.items
           c.compare_each.ensures.each;
       witness = witness;
       begins = theirs;

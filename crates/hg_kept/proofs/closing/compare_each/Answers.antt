@@ -1,11 +1,12 @@
-use Rattle.std.proofs.Common.{◌≡◌, ℕ, ◌≤◌, [], ◌∷◌, ◌++◌, List, length, refl, ap, sym, subst, ◌∙◌, append_assoc, append-nil, arith}
+use Rattle.std.proofs.Common.{◌≡◌, [], ◌∷◌, ◌++◌, length, ap, sym, subst, ◌∙◌, append_assoc, arith}
 use Rattle.std.specs.Prelude.{All}
 use Rattle.std.specs.List.{Contains}
-use Rattle.std.proofs.lemmas.List.Elements.{All-cons, All-nil, All-same, All-weaker}
-use Rattle.hg_ledger.specs.Clients.{KeptSeen, promised}
-use Rattle.hg_ledger.specs.Promises.{Promise}
+use mathlib.Core.List.{IsPrefix}
+use Rattle.std.proofs.lemmas.List.Elements.{All-cons, All-same, All-weaker}
+use Rattle.hg_ledger.specs.Clients.{promised}
+use Rattle.hg_ledger.specs.Orders.{ReceiptView}
 use Rattle.hg_ledger.specs.Receipts.{TallyView}
-use Rattle.hg_kept.proofs.Ends.{empty_front, has_last, has_still}
+use Rattle.hg_kept.proofs.Ends.{begins_on, empty_front, has_last, has_still, IsCompared}
 use Rattle.hg_kept.proofs.closing.compare_each.Goals as goal
 
 pub comparing-preserved : goal.comparing-preserved
@@ -17,13 +18,17 @@ comparing-preserved g c =
     let parts = c.into_parts-client in
     let client = parts.result.0 in
     let most = c.args.tally.now.promises in
-    let receipt : List Promise = promised parts.result.1 in
-    let made : All (Contains most) v.receipt = All-same (Contains most) v.receipt receipt (sym parts.ensures.1)
-    (subst (λ (t : TallyView). All (Contains t.promises) receipt) i.same c.compare.ensures.promised) in
+    let receipt : ReceiptView = promised parts.result.1 in
+    let before = c.comparing.tally.order in
+    let order = c.compare.new.tally.order in
+    let made : All (Contains most) v.receipt.promises =
+    subst (λ (r : ReceiptView). All (Contains most) r.promises) parts.ensures.1
+    (subst (λ (t : TallyView). All (Contains t.promises) receipt.promises) i.same c.compare.ensures.promised) in
+    let begins = subst (λ (r : ReceiptView). IsPrefix r.order order) parts.ensures.1 c.compare.ensures.seen in
     let there : Contains now v.history = subst (λ h. Contains now h) parts.ensures.0
     (has_last seen now client c.put.ensures) in
     record {
-      same = c.compare.ensures.same ∙ i.same;
+      same = c.compare.ensures.same ∙ ap (λ (t : TallyView). record t { order = order }) i.same;
       keeps = (
         i.keeps.0 ++ client ∷ [],
         sym (append_assoc c.args.seen.now.items i.keeps.0 (client ∷ []))
@@ -33,11 +38,13 @@ comparing-preserved g c =
         v ∷ i.done.0,
         i.done.1 ∙ (ap (λ l. l ++ i.done.0) c.in-Some.ensures.items
             ∙ append_assoc c.pop.new.self.items (v ∷ []) i.done.0),
-        All-cons (λ (k : KeptSeen g.row.A.Denot). All (Contains most) k.receipt × Contains now k.history) v
-            i.done.0 (made, there)
-            (All-weaker (λ (k : KeptSeen g.row.A.Denot). All (Contains most) k.receipt × Contains seen k.history)
-            (λ (k : KeptSeen g.row.A.Denot). All (Contains most) k.receipt × Contains now k.history)
-            (λ k w. (w.0, has_still seen now k.history client c.put.ensures w.1)) i.done.0 i.done.2),
+        All-cons (IsCompared most order now) v i.done.0 (made, begins, there)
+            (All-weaker (IsCompared most before seen) (IsCompared most order now)
+            (λ k w. (
+              w.0,
+              begins_on k.receipt.order before order w.1 c.compare.ensures.later,
+              has_still seen now k.history client c.put.ensures w.2,
+            )) i.done.0 i.done.2),
       );
     }
 
@@ -47,6 +54,6 @@ returns-clause-each g c =
     let ok = c.comparing.clients.ok in
     let len = c.in_default.ensures.cases.0 in
     let none : length c.comparing.clients.items ≡ 0 = omega arith in
-    All-same (λ (k : KeptSeen g.row.A.Denot). All (Contains c.args.tally.now.promises) k.receipt
-    × Contains c.comparing.seen.items k.history) c.args.clients.items i.done.0
+    All-same (IsCompared c.args.tally.now.promises c.comparing.tally.order c.comparing.seen.items)
+    c.args.clients.items i.done.0
     (i.done.1 ∙ empty_front c.comparing.clients.items i.done.0 none) i.done.2

@@ -1,12 +1,12 @@
-use Rattle.std.proofs.Common.{ℕ, ◌≡◌, ◌≤◌, ◌-◌, List, Option, refl, sym, ◌∙◌, ap, subst, arith}
+use Rattle.std.proofs.Common.{ℕ, ◌≡◌, ◌≤◌, ◌-◌, List, Option, refl, sym, ◌∙◌, ap, subst}
 use Rattle.std.specs.Prelude.{IfSome}
-use mathlib.Core.List.{IsPrefix}
 use Rattle.hg_types.specs.declared.item.Taken.{Taken}
 use Rattle.hg_push.specs.Places.{RestsOn}
 use Rattle.hg_push.specs.Run.{run_push}
 use Rattle.hg_serve.specs.Answers.{Answers}
 use Rattle.hg_serve.specs.Histories.{newest_first}
 use Rattle.hg_ledger.specs.Clients.{KeptSeen}
+use Rattle.hg_ledger.specs.Orders.{HasGrown}
 use Rattle.hg_ledger.specs.Records.{IsRecordOf}
 use Rattle.hg_connection.proofs.CallerLemmas.{bundle_reply_short}
 use Rattle.hg_kept.proofs.Exchanges.{answered, handed, recorded, rested}
@@ -80,7 +80,7 @@ returns-clause-served g c =
               _ _ c.args.opened.sender c.receive_kept-ending.new.sender c.receive_kept-ending.result
               c.receive_kept-ending.new.kept.items e takes after.history rests r m c.limits-limits.ensures.first how
               answers on;
-          grows = subst (λ (v : KeptSeen g.row.A.Denot). IsPrefix v.receipt c.reply_kept-replied.new.client.receipt)
+          grows = subst (λ (v : KeptSeen g.row.A.Denot). HasGrown v.receipt c.reply_kept-replied.new.client.receipt)
               c.of-client.ensures k.grows;
           replies = w.is;
         };

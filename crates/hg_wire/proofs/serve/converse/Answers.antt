@@ -1,4 +1,4 @@
-use Rattle.std.proofs.Common.{◌≡◌, ℕ, false, List, ◌++◌, take, ap, sym, subst, ◌∙◌, append_assoc, IsTrue}
+use Rattle.std.proofs.Common.{ℕ, List, ◌++◌, take, ap, sym, subst, ◌∙◌, append_assoc, IsTrue}
 use Rattle.http_server.specs.Connection.{config_of, history}
 use Rattle.http_server.specs.History.{History}
 use Rattle.http_server.proofs.KnownLemmas.{Appends-then, Appends-kept, Consumes-then}

@@ -1,6 +1,4 @@
-use Rattle.std.proofs.Common.{◌≡◌, ◌≢◌, ◌∙◌, ap, subst}
-use Rattle.hg_ledger.specs.Clients.{IsCovered}
-use Rattle.hg_wire.specs.Answering.{Responds}
+use Rattle.std.proofs.Common.{◌∙◌, ap}
 use Rattle.hg_wire.proofs.Served.{converses_as, converses_from, not_failed}
 use Rattle.hg_wire.proofs.serve.serve_http.Goals as goal
 

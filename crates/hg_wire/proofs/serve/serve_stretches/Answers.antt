@@ -1,8 +1,8 @@
-use Rattle.std.proofs.Common.{◌≡◌, ℕ, List, [], true, false, Ok, refl, ap, subst, ◌∙◌}
+use Rattle.std.proofs.Common.{Ok, refl, ap, subst, ◌∙◌}
 use Rattle.std.specs.Io.KnownBytes.{Appends}
 use Rattle.std.proofs.KnownBytes.{Appends-nil, Consumes-nil}
 use Rattle.std.proofs.lemmas.Result.{err_from_is_err_and}
-use Rattle.http_server.specs.Connection.{config_of, history}
+use Rattle.http_server.specs.Connection.{history}
 use Rattle.http_server.specs.History.{IsServed, new_history}
 use Rattle.http_server.proofs.Theorems.{always_served}
 use Rattle.hg_wire.specs.Serving.{no_room_text}

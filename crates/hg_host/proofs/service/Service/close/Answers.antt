@@ -8,9 +8,10 @@ returns-clause-left g c =
     let closed = c.close_kept.result in
     let left = c.close_kept.ensures.left in
     record {
+      order = left.order;
       each = all_of_front (IsLeft g.D.Device.moment g.D.Device.left_since g.D.Device.may_leave g.J.Storing.head
-          g.J.Storing.stored
-          g.J.Naming.first (history closed.closed.taker) closed.log.device) c.args.clients.items
+          g.J.Storing.stored g.J.Naming.first (history closed.closed.taker) left.order closed.log.device)
+          c.args.clients.items
           c.join.new.items.items c.join.ensures
           left.each;
       witness = left.witness;

@@ -1,6 +1,3 @@
-use Rattle.std.proofs.Common.{◌≡◌, ◌≤◌, ◌<◌, ◌+◌, ◌++◌, ◌∷◌, [], false, true, ℕ, List, refl, sym, ap, subst, ◌∙◌}
-use Rattle.std.proofs.Common.{arith, length}
-use mathlib.Core.List.{IsPrefix}
 use Rattle.hg_ledger.proofs.Keeping.{keeps_on}
 use Rattle.hg_ledger.proofs.Lists.{each_moves}
 use Rattle.hg_ledger.proofs.Living.{lives_on, promises_on}

@@ -1,5 +1,5 @@
-use Rattle.std.proofs.Common.{◌≡◌, ℕ, List, [], ◌∷◌, sym, subst}
-use Rattle.std.specs.Prelude.{All, Contains}
+use Rattle.std.proofs.Common.{ℕ, List, [], ◌∷◌, sym, subst}
+use Rattle.std.specs.Prelude.{Contains}
 use Rattle.std.proofs.lemmas.List.Elements.{All-cons, All-nil, All-same, Contains-push}
 use Rattle.hg_ledger.specs.Records.{AreRecordsFrom}
 use Rattle.hg_ledger.proofs.Keeping.{nothing}

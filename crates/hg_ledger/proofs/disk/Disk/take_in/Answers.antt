@@ -1,6 +1,5 @@
-use Rattle.std.proofs.Common.{◌≡◌, ◌≤◌, ◌<◌, ◌+◌, ◌++◌, ◌∷◌, [], false, true, ℕ, List, refl, sym, ap, subst, ◌∙◌}
+use Rattle.std.proofs.Common.{◌+◌, ℕ, List, sym, ap, subst}
 use Rattle.std.proofs.Common.{arith, length}
-use mathlib.Core.List.{IsPrefix}
 use Rattle.hg_ledger.specs.Locks.{DiskView}
 use Rattle.hg_ledger.specs.Records.{AreRecordsFrom, IsRecordOf}
 use Rattle.hg_ledger.proofs.Lists.{one_more}

@@ -1,12 +1,11 @@
-use Rattle.std.proofs.Common.{◌≡◌, ◌≤◌, ◌<◌, ◌+◌, ◌++◌, ◌∷◌, [], false, true, ℕ, List, refl, sym, ap, subst, ◌∙◌}
+use Rattle.std.proofs.Common.{◌≡◌, ◌≤◌, ◌+◌, ◌++◌, ◌∷◌, [], false, true, ℕ, List, sym, subst, ◌∙◌}
 use Rattle.std.proofs.Common.{arith, length}
 use Rattle.std.specs.List.{AllByRecursion}
-use Rattle.std.specs.Prelude.{is_err, OnOk, Result}
 use Rattle.hg_store.specs.Device.{LeavesOnly}
 use Rattle.hg_store.specs.Records.{IsRecord}
 use Rattle.hg_store.specs.Log.{IsBeforeOrAfter, IsSettled}
-use Rattle.std.specs.Prelude.{All, Contains}
-use Rattle.std.proofs.lemmas.List.Elements.{All-push, All-same, Contains-push}
+use Rattle.std.specs.Prelude.{Contains}
+use Rattle.std.proofs.lemmas.List.Elements.{All-push, All-same, All-weaker, Contains-push}
 use Rattle.hg_ledger.specs.Lives.{IsFront, IsKeptSince}
 use Rattle.hg_ledger.specs.Promises.{Promise}
 use Rattle.hg_ledger.specs.Locks.{DiskView}
@@ -22,6 +21,14 @@ append-requires-clause-each g c =
     let i = c.self.invariant in
     subst (λ (l : List (List ℕ)). AllByRecursion IsRecord l) (sym c.as_slice.ensures.value)
     (fit g.J.Naming.first i.0 d.witness d.count d.batch.items i.2)
+
+-- no promise counts more than the records that are there now
+pub raise-requires : goal.raise-requires
+raise-requires g c =
+    let d = c.self.inside in
+    All-weaker (IsKeptSince g.D.Device.moment g.D.Device.left_since g.J.Storing.head g.J.Storing.stored
+    g.J.Naming.first d.witness d.count d.log.device) (λ p. p.count ≤ d.count + c.len.result)
+    (λ p k. let few = k.few in omega (arith, few)) d.keeper c.self.invariant.4
 
 -- an append that failed leaves what was there, too
 pub invariant_of-self-then-is_err : goal.invariant_of-self-then-is_err

@@ -1,5 +1,5 @@
 use Rattle.std.proofs.Common.{ℕ, subst}
-use Rattle.hg_ledger.specs.Clients.{IsCovered}
+use Rattle.hg_ledger.specs.Clients.{Covers}
 use Rattle.hg_ledger.proofs.Covering.{covered_none}
 use Rattle.hg_ledger.proofs.ledger.Ledger.new.Goals as goal
 
@@ -14,5 +14,5 @@ new-requires-in-Ok-2-clause-kept g c =
     let disk = c.in-Ok.disk in
     let receipt = c.counted-counted.result in
     covered_none seen may_leave moment head stored first disk.history c.args.witnesses.1 receipt
-    (subst (λ (n : ℕ). IsCovered seen may_leave moment head stored first
-    (record { history = disk.history; receipt = receipt }) n) c.in-Ok.ensures.made.1 c.counted-counted.ensures.covered)
+    (subst (λ (n : ℕ). Covers seen may_leave moment head stored first
+    disk.history receipt n) c.in-Ok.ensures.made.1 c.counted-counted.ensures.covered)

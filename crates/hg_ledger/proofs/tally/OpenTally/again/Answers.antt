@@ -1,4 +1,4 @@
-use Rattle.std.proofs.Common.{rules, sym, ◌∙◌, ap}
+use Rattle.std.proofs.Common.{rules}
 use Rattle.hg_ledger.proofs.Counting.{copies}
 use Rattle.hg_ledger.proofs.tally.OpenTally.again.Goals as goal
 

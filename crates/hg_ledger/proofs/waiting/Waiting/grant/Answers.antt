@@ -1,12 +1,10 @@
-use Rattle.std.proofs.Common.{◌≡◌, ◌≤◌, ◌<◌, ◌+◌, ◌++◌, ◌∷◌, [], false, true, ℕ, List, refl, sym, ap, subst, ◌∙◌}
-use Rattle.std.proofs.Common.{arith, length}
-use mathlib.Core.List.{IsPrefix}
+use Rattle.std.proofs.Common.{◌≡◌, false, List, sym, ap, subst, ◌∙◌}
+use Rattle.std.proofs.Common.{arith}
 use Rattle.std.proofs.lemmas.List.Elements.{All-weaker}
 use Rattle.hg_ledger.specs.declared.waiting.Record.{Record}
-use Rattle.hg_ledger.specs.Clients.{IsCovered}
+use Rattle.hg_ledger.specs.Clients.{Covers}
 use Rattle.hg_ledger.specs.Promises.{Promise}
 use Rattle.hg_ledger.specs.Records.{IsRecordOf}
-use Rattle.hg_ledger.specs.Locks.{WaitingView}
 use Rattle.hg_ledger.specs.Records.{done_in}
 use Rattle.hg_ledger.proofs.Covering.{covered_back, covered_on}
 use Rattle.hg_ledger.proofs.waiting.Waiting.grant.Goals as goal
@@ -21,8 +19,8 @@ invariant_of-self g c =
           (λ r. IsRecordOf first new r.place r.bytes)
           (λ r p. c.records_stay.ensures.later first w.witness new r.place r.bytes c.meet.ensures.later p)
           w.records.items i.0,
-      λ b. subst (λ (l : List Promise). IsCovered g.D.Device.seen g.D.Device.may_leave g.D.Device.moment
-          g.J.Storing.head g.J.Storing.stored first (record { history = new; receipt = l }) w.count)
+      λ b. subst (λ (l : List Promise). Covers g.D.Device.seen g.D.Device.may_leave g.D.Device.moment
+          g.J.Storing.head g.J.Storing.stored first new l w.count)
           (sym c.again.ensures.same)
           (covered_on g.D.Device.seen g.D.Device.may_leave g.D.Device.moment g.J.Storing.head g.J.Storing.stored
           first w.witness new w.counted w.count
@@ -43,8 +41,8 @@ returns-clause-covered g c =
     (λ k bytes r. c.records_stay.ensures.later first w.witness new k bytes c.meet.ensures.later r)
     (c.self.invariant.1 whole) in
     let receipt : List Promise = w.counted in
-    subst (λ (l : List Promise). IsCovered g.D.Device.seen g.D.Device.may_leave g.D.Device.moment
-    g.J.Storing.head g.J.Storing.stored first (record { history = mine; receipt = l }) c.args.rests)
+    subst (λ (l : List Promise). Covers g.D.Device.seen g.D.Device.may_leave g.D.Device.moment
+    g.J.Storing.head g.J.Storing.stored first mine l c.args.rests)
     (sym c.again.ensures.promised)
     (covered_back g.D.Device.seen g.D.Device.may_leave g.D.Device.moment g.J.Storing.head g.J.Storing.stored first
     new mine receipt w.count c.args.rests (done_in first mine) (omega (arith, c.requires.low, same))

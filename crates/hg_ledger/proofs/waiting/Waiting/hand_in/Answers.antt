@@ -1,10 +1,8 @@
-use Rattle.std.proofs.Common.{◌≡◌, ◌≤◌, ◌<◌, ◌+◌, ◌++◌, ◌∷◌, [], false, true, ℕ, List, refl, sym, ap, subst, ◌∙◌}
-use Rattle.std.proofs.Common.{arith, length}
-use mathlib.Core.List.{IsPrefix}
+use Rattle.std.proofs.Common.{List, sym, subst}
 use Rattle.std.proofs.lemmas.List.Elements.{All-weaker}
 use Rattle.hg_ledger.specs.declared.waiting.Record.{Record}
 use Rattle.hg_ledger.specs.Records.{IsRecordOf}
-use Rattle.std.specs.Prelude.{is_ok, All}
+use Rattle.std.specs.Prelude.{is_ok}
 use Rattle.hg_ledger.specs.Locks.{AreWaiting}
 use Rattle.hg_ledger.proofs.Covering.{covered_on}
 use Rattle.hg_ledger.proofs.Lists.{either_insert, room_left}

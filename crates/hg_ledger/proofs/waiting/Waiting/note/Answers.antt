@@ -1,9 +1,8 @@
-use Rattle.std.proofs.Common.{◌≡◌, ◌≤◌, ◌<◌, ◌+◌, ◌++◌, ◌∷◌, [], false, true, ℕ, List, refl, sym, ap, subst, ◌∙◌}
-use Rattle.std.proofs.Common.{arith, length}
+use Rattle.std.proofs.Common.{◌≡◌, ℕ, sym, subst}
 use mathlib.Core.List.{IsPrefix}
 use Rattle.std.proofs.lemmas.List.Elements.{All-weaker}
 use Rattle.hg_ledger.specs.declared.waiting.Record.{Record}
-use Rattle.hg_ledger.specs.Clients.{IsCovered}
+use Rattle.hg_ledger.specs.Clients.{Covers}
 use Rattle.hg_ledger.specs.Locks.{DiskView}
 use Rattle.hg_ledger.specs.Records.{IsRecordOf}
 use Rattle.hg_ledger.proofs.Covering.{covered_on}
@@ -23,8 +22,8 @@ invariant_of-self-2 g c =
           (λ r. IsRecordOf first new r.place r.bytes)
           (λ r p. c.records_stay.ensures.later first w.witness new r.place r.bytes c.show.ensures.later p)
           w.records.items i.0,
-      λ b. subst (λ (n : ℕ). IsCovered g.D.Device.seen g.D.Device.may_leave g.D.Device.moment g.J.Storing.head
-          g.J.Storing.stored first (record { history = new; receipt = c.counted.result }) n) count
+      λ b. subst (λ (n : ℕ). Covers g.D.Device.seen g.D.Device.may_leave g.D.Device.moment g.J.Storing.head
+          g.J.Storing.stored first new c.counted.result n) count
           (covered_on g.D.Device.seen g.D.Device.may_leave g.D.Device.moment g.J.Storing.head g.J.Storing.stored
           first there new c.counted.result c.args.disk.now.count
           (λ k bytes r. c.records_stay.ensures.later first there new k bytes all r)
