@@ -29,6 +29,7 @@ pub record ReceiptView : Type 0 where
   pub order : List Event
   pub came : ℕ
 
+-- that of a client that has none
 abbrev pub no_receipt : ReceiptView
 no_receipt = record { promises = []; order = []; came = 0 }
 
