@@ -66,11 +66,20 @@ fn report_text<A: Allocator + Copy>(
     let mut repo = empty_repository(alloc, state, head);
     match replay_records(alloc, &mut repo, records) {
         Ok(()) => {}
-        Err(fault) => return Err(unrun_fault(fault)),
+        Err(fault) => {
+            drop(repo);
+            return Err(unrun_fault(fault));
+        }
     }
     match told_text(alloc, &repo, records.len()) {
-        Ok(text) => Ok(text),
-        Err(_) => Err(Fault::NoMemory),
+        Ok(text) => {
+            drop(repo);
+            Ok(text)
+        }
+        Err(_) => {
+            drop(repo);
+            Err(Fault::NoMemory)
+        }
     }
 }
 

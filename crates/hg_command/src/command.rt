@@ -76,16 +76,28 @@ const STATUSES: &str =
     "Status: 0 where all is done, 1 where a push was aborted, 2 where the words are wrong, \
 3 where a device failed or the store cannot be had, 4 where memory was refused.";
 
+/// The program with its commands.
 fn command<'a>(alloc: Global) -> Result<Command<'a>, AllocError> {
-    let mut command = Command::new(alloc, "hg_pushd")
+    let commands = commands_of(alloc, &COMMANDS)?;
+    program(alloc).subcommands(commands)
+}
+
+/// The program without its commands.
+fn program<'a>(alloc: Global) -> Command<'a> {
+    Command::new(alloc, "hg_pushd")
         .version("0.1.0")
         .about("Takes pushes in Mercurial's bundle2 format onto a repository in memory")
         .after_help(STATUSES)
-        .subcommand_required(true);
-    for row in &COMMANDS {
-        command = command.subcommand(command_of(alloc, row)?)?;
+        .subcommand_required(true)
+}
+
+/// The commands of these rows.
+fn commands_of<'a>(alloc: Global, rows: &[CommandRow<'a>]) -> Result<Vec<Command<'a>>, AllocError> {
+    let mut commands = Vec::new(alloc);
+    for row in rows {
+        commands.push(command_of(alloc, row)?)?;
     }
-    Ok(command)
+    Ok(commands)
 }
 
 /// The files that are named.
@@ -102,20 +114,41 @@ fn listed<'a>(alloc: Global, files: Option<&[&'a str]>) -> Result<Vec<&'a str>, 
 
 fn read<'a>(alloc: Global, matches: &ArgMatches<'a>) -> Result<Job<'a>, AllocError> {
     match matches.subcommand() {
-        Some(("replay", inner)) => Ok(Job::Replay {
-            publishing: inner.get_flag("publishing"),
-            files: files_of(alloc, inner)?,
-        }),
-        Some(("serve", inner)) => Ok(Job::Serve(read_serving(inner))),
-        Some(("host", inner)) => Ok(Job::Host(read_hosting(inner))),
-        Some(("report", inner)) => Ok(read_report(inner)),
-        Some(("log", inner)) => Ok(read_log(inner)),
-        Some(("cut", inner)) => Ok(read_cut(inner)),
-        Some((_, inner)) => Ok(Job::One {
-            publishing: inner.get_flag("publishing"),
-        }),
+        Some((name, inner)) => read_command(alloc, name, inner),
         None => Ok(Job::One { publishing: false }),
     }
+}
+
+/// Reads what stands after the name of a command.
+fn read_command<'a>(
+    alloc: Global,
+    name: &str,
+    inner: &ArgMatches<'a>,
+) -> Result<Job<'a>, AllocError> {
+    match name {
+        "replay" => read_replay(alloc, inner),
+        "serve" => Ok(Job::Serve(read_serving(inner))),
+        "host" => Ok(Job::Host(read_hosting(inner))),
+        "report" => Ok(read_report(inner)),
+        "log" => Ok(read_log(inner)),
+        "cut" => Ok(read_cut(inner)),
+        _ => Ok(read_one(inner)),
+    }
+}
+
+/// Reads what stands after `one`.
+fn read_one<'a>(matches: &ArgMatches<'a>) -> Job<'a> {
+    Job::One {
+        publishing: matches.get_flag("publishing"),
+    }
+}
+
+/// Reads what stands after `replay`.
+fn read_replay<'a>(alloc: Global, matches: &ArgMatches<'a>) -> Result<Job<'a>, AllocError> {
+    Ok(Job::Replay {
+        publishing: matches.get_flag("publishing"),
+        files: files_of(alloc, matches)?,
+    })
 }
 
 /// Reads the words. An error has the text that goes to the user.

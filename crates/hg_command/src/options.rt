@@ -78,31 +78,42 @@ pub fn command_of<'a>(alloc: Global, row: &CommandRow<'a>) -> Result<Command<'a>
     Ok(command)
 }
 
-/// The argument of a row. Each call gives the whole argument anew, so each function here makes one or two.
+/// The argument of a row. Each function here makes an argument and none takes one, since the prover would look at
+/// every field of it.
 fn argument_of<'a>(alloc: Global, row: &OptionRow<'a>) -> Arg<'a> {
-    let plain = Arg::new(alloc, row.name).help(row.help);
-    of_kind(row, needed(row, plain))
-}
-
-fn needed<'a>(row: &OptionRow<'a>, arg: Arg<'a>) -> Arg<'a> {
-    arg.required(row.is_required).default_values(row.default)
-}
-
-fn of_kind<'a>(row: &OptionRow<'a>, arg: Arg<'a>) -> Arg<'a> {
     match &row.kind {
-        Kind::Flag => named(row, arg, ArgAction::SetTrue),
-        Kind::Word => valued(row, arg),
-        Kind::Number(range) => valued(row, arg).value_parser(*range),
-        Kind::Words => arg.num_args(1..).action(ArgAction::Append),
+        Kind::Flag => flag(alloc, row),
+        Kind::Word => word(alloc, row),
+        Kind::Number(range) => number(alloc, row, *range),
+        Kind::Words => words(alloc, row),
     }
 }
 
-fn valued<'a>(row: &OptionRow<'a>, arg: Arg<'a>) -> Arg<'a> {
-    named(row, arg, ArgAction::Set).value_name(row.value)
+/// What arguments of all kinds have.
+fn plain<'a>(alloc: Global, row: &OptionRow<'a>) -> Arg<'a> {
+    Arg::new(alloc, row.name)
+        .help(row.help)
+        .required(row.is_required)
+        .default_values(row.default)
 }
 
-fn named<'a>(row: &OptionRow<'a>, arg: Arg<'a>, action: ArgAction) -> Arg<'a> {
-    arg.long(row.name).action(action)
+fn flag<'a>(alloc: Global, row: &OptionRow<'a>) -> Arg<'a> {
+    plain(alloc, row).long(row.name).action(ArgAction::SetTrue)
+}
+
+fn word<'a>(alloc: Global, row: &OptionRow<'a>) -> Arg<'a> {
+    plain(alloc, row)
+        .long(row.name)
+        .action(ArgAction::Set)
+        .value_name(row.value)
+}
+
+fn number<'a>(alloc: Global, row: &OptionRow<'a>, range: ValueParser<'static>) -> Arg<'a> {
+    word(alloc, row).value_parser(range)
+}
+
+fn words<'a>(alloc: Global, row: &OptionRow<'a>) -> Arg<'a> {
+    plain(alloc, row).num_args(1..).action(ArgAction::Append)
 }
 
 /// The value of an option that is a number. There is one: the option is required or has a default.

@@ -118,6 +118,7 @@ where
         (W.told report.old) (W.told report.new) result.0 }
 {
     let Ok(clients) = Vec::with_capacity(alloc, terms.connections as usize) else {
+        drop(repo);
         return (4, door);
     };
     let service = Service::<J>::new(alloc, repo, queue, taker, clients, terms);
@@ -127,6 +128,7 @@ where
     let (closed, clients) = service.close();
     let no_memory = lacks_memory(missed, clients, terms.connections);
     let (sending, _) = send_closing(alloc, &closed.repo, closed.journal.as_slice(), report);
+    drop(closed);
     (status_of(failed, no_memory, sending), door)
 }
 
@@ -166,6 +168,7 @@ pub fn serve_repository<R: Threads + Wait + Clock + Sync, D: Door + Drop, W: Wri
 {
     let terms = terms.bounded();
     let Ok((queue, taker)) = PartQueue::new(alloc, terms.capacity) else {
+        drop(repo);
         return (4, door);
     };
     serve_named::<Brand, R, D, W>(rt, alloc, door, terms, queue, taker, repo, report)

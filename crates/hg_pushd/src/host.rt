@@ -40,13 +40,33 @@ fn listen<R: Files<File = File> + AllocGlobal + HostingRuntime>(
     match bind(rt, hosting.listen) {
         Ok((listener, address)) => {
             print_listening(rt, address, &recovered);
-            let terms = terms_of(hosting);
-            match serve_store(rt, rt.alloc(), terms, &listener, address, recovered) {
-                Over::NumbersEnd => serve_again(rt, hosting, &listener, address),
-                over => status_at(rt, over),
+            match serve(rt, hosting, &listener, address, recovered) {
+                Some(status) => status,
+                None => serve_again(rt, hosting, &listener, address),
             }
         }
-        Err(error) => not_bound(rt, hosting.listen, &error),
+        Err(error) => {
+            drop(recovered);
+            not_bound(rt, hosting.listen, &error)
+        }
+    }
+}
+
+/// Serves what was recovered. Gives the status, and none where the numbers of pushes come to their end.
+fn serve<R: Files<File = File> + AllocGlobal + HostingRuntime>(
+    rt: &R,
+    hosting: &Hosting<'_>,
+    listener: &TcpListener,
+    address: SocketAddr,
+    recovered: Recovered<StoreFile<HostFile>>,
+) -> Option<u8>
+    requires { IsOpened ⟦<StoreFile<HostFile> as Device>⟧.seen
+        ⟦<StoreFile<HostFile> as Device>⟧.may_leave recovered }
+{
+    let terms = terms_of(hosting);
+    match serve_store(rt, rt.alloc(), terms, listener, address, recovered) {
+        Over::NumbersEnd => None,
+        over => Some(status_at(rt, over)),
     }
 }
 
@@ -59,22 +79,28 @@ fn serve_again<R: Files<File = File> + AllocGlobal + HostingRuntime>(
     address: SocketAddr,
 ) -> u8 {
     'serving: for _ in rt.forever() {
-        let Ok(state) = RandomState::new(rt) else {
-            tell(rt, 3);
-            return 3;
-        };
-        match recover_store(rt, rt.alloc(), state, hosting.store, hosting.publishing) {
-            Ok(recovered) => {
-                let terms = terms_of(hosting);
-                match serve_store(rt, rt.alloc(), terms, listener, address, recovered) {
-                    Over::NumbersEnd => {}
-                    over => return status_at(rt, over),
-                }
-            }
-            Err(fault) => return not_opened(rt, hosting.store, &fault),
+        if let Some(status) = serve_anew(rt, hosting, listener, address) {
+            return status;
         }
     }
     unreachable!()
+}
+
+/// Opens the store and serves it, as [`serve`] does.
+fn serve_anew<R: Files<File = File> + AllocGlobal + HostingRuntime>(
+    rt: &R,
+    hosting: &Hosting<'_>,
+    listener: &TcpListener,
+    address: SocketAddr,
+) -> Option<u8> {
+    let Ok(state) = RandomState::new(rt) else {
+        tell(rt, 3);
+        return Some(3);
+    };
+    match recover_store(rt, rt.alloc(), state, hosting.store, hosting.publishing) {
+        Ok(recovered) => serve(rt, hosting, listener, address, recovered),
+        Err(fault) => Some(not_opened(rt, hosting.store, &fault)),
+    }
 }
 
 fn bind<R: Net<Listener = TcpListener, Stream = TcpStream>>(

@@ -29,8 +29,77 @@ fn printed<R: Eprint>(rt: &R, status: u8) -> u8 {
     status
 }
 
-/// Does what these words ask for, and gives the status, which is printed. A system that gives no random bytes is
-/// a device that failed.
+/// Does what a job asks for, and gives the status, which is printed.
+fn run<R>(rt: &R, state: RandomState, job: &Job<'_>) -> u8
+where
+    R: RandomSource
+        + Files<File = File>
+        + Input
+        + Print
+        + Eprint
+        + AllocGlobal
+        + Net<Listener = TcpListener, Stream = TcpStream>
+        + Threads
+        + Wait
+        + Clock
+        + Sync,
+{
+    match job {
+        Job::One { publishing } => printed(rt, one(rt, state, *publishing)),
+        Job::Replay { publishing, files } => printed(rt, replay(rt, state, *publishing, files)),
+        Job::Serve(serving) => printed(rt, serve(rt, state, serving)),
+        Job::Host(hosting) => host::host(rt, state, hosting),
+        Job::Report { store } => write_report(rt, state, store),
+        Job::Log { store, from, to } => write_log(rt, store, *from, *to),
+        Job::Cut { store, at } => cut(rt, rt.alloc(), store, *at),
+    }
+}
+
+/// Writes the report of a store to standard output.
+fn write_report<R>(rt: &R, state: RandomState, store: &str) -> u8
+where
+    R: Files<File = File> + Print + Eprint + AllocGlobal,
+{
+    report(rt, rt.alloc(), state, store, &mut io::writer(rt))
+}
+
+/// Writes the pushes of a store from a place on, to a folder or to standard output.
+fn write_log<R>(rt: &R, store: &str, from: usize, to: Option<&str>) -> u8
+where
+    R: Files<File = File> + Print + Eprint + AllocGlobal,
+{
+    match to {
+        Some(folder) => log_to(rt, rt.alloc(), store, from, folder),
+        None => log(rt, rt.alloc(), store, from, &mut io::writer(rt)),
+    }
+}
+
+/// The same, with random bytes from the system, and with the standard descriptors that are closed taken. A system
+/// that gives no random bytes is a device that failed.
+fn begin<R>(rt: &R, job: &Job<'_>) -> u8
+where
+    R: RandomSource
+        + Files<File = File>
+        + Input
+        + Print
+        + Eprint
+        + AllocGlobal
+        + Net<Listener = TcpListener, Stream = TcpStream>
+        + Threads
+        + Wait
+        + Clock
+        + Sync,
+{
+    let Ok(state) = RandomState::new(rt) else {
+        return printed(rt, 3);
+    };
+    match take_closed(rt) {
+        Ok(_taken) => run(rt, state, job),
+        Err(error) => printed(rt, device_status(&error)),
+    }
+}
+
+/// Does what these words ask for, and gives the status, which is printed.
 fn obey<R>(rt: &R, words: &[String]) -> u8
 where
     R: RandomSource
@@ -45,34 +114,9 @@ where
         + Clock
         + Sync,
 {
-    let job = match asked_for(rt, words) {
-        Ok(job) => job,
-        Err(status) => return printed(rt, status),
-    };
-    let Ok(state) = RandomState::new(rt) else {
-        return printed(rt, 3);
-    };
-    let _taken = match take_closed(rt) {
-        Ok(taken) => taken,
-        Err(error) => return printed(rt, device_status(&error)),
-    };
-    match &job {
-        Job::One { publishing } => printed(rt, one(rt, state, *publishing)),
-        Job::Replay { publishing, files } => printed(rt, replay(rt, state, *publishing, files)),
-        Job::Serve(serving) => printed(rt, serve(rt, state, serving)),
-        Job::Host(hosting) => host::host(rt, state, hosting),
-        Job::Report { store } => report(rt, rt.alloc(), state, store, &mut io::writer(rt)),
-        Job::Log {
-            store,
-            from,
-            to: None,
-        } => log(rt, rt.alloc(), store, *from, &mut io::writer(rt)),
-        Job::Log {
-            store,
-            from,
-            to: Some(folder),
-        } => log_to(rt, rt.alloc(), store, *from, folder),
-        Job::Cut { store, at } => cut(rt, rt.alloc(), store, *at),
+    match asked_for(rt, words) {
+        Ok(job) => begin(rt, &job),
+        Err(status) => printed(rt, status),
     }
 }
 
