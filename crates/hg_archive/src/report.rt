@@ -71,15 +71,11 @@ fn report_text<A: Allocator + Copy>(
             return Err(unrun_fault(fault));
         }
     }
-    match told_text(alloc, &repo, records.len()) {
-        Ok(text) => {
-            drop(repo);
-            Ok(text)
-        }
-        Err(_) => {
-            drop(repo);
-            Err(Fault::NoMemory)
-        }
+    let told = told_text(alloc, &repo, records.len());
+    drop(repo);
+    match told {
+        Ok(text) => Ok(text),
+        Err(_) => Err(Fault::NoMemory),
     }
 }
 
