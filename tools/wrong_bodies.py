@@ -301,9 +301,11 @@ class Crate:
         for place, (goal, arguments) in enumerate(goals.items()):
             for number, tactic in enumerate(tactics if goal not in answered else []):
                 name = f"tried-{place}-{number}" if number else goal
-                lines += ["", f"{'' if number else 'pub '}{name} : goal.{goal}"]
-                lines += [f"unfolding {' '.join(listed['unfolding'])}"] if listed["unfolding"] else []
-                lines.append(f"{name} {arguments} = {tactic}")
+                # in a block `mutual` antt does not look further for what a refusal may wait on
+                lines += ["", "mutual"]
+                lines += [f"  unfolding {' '.join(listed['unfolding'])}"] if listed["unfolding"] else []
+                lines.append(f"  {'' if number else 'pub '}{name} : goal.{goal}")
+                lines.append(f"  {name} {arguments} = {tactic}")
         return "\n".join(lines) + "\n", {it: 0 if it in answered else len(tactics) for it in goals}
 
     def arguments(self, name):
@@ -571,8 +573,10 @@ def judge_asked(edit, function, there, tactics, said):
     function's name in the copy; `tactics` has how many were tried on each goal, 0 where the proof has an answer."""
     place = re.escape(f"./proofs/{there.replace('::', '/')}/Answers.antt")
     told = dict(re.findall(rf"^{place}:\d+:\d+: error: (?:`([^`]+)`: )?(.*)$", said, re.M))
-    stands = re.search(rf"^fn \S+::{re.escape(there)}: not proved; it stands on (.*?), which antt refuses", said, re.M)
-    refused = [it.rpartition(".")[2] for it in re.findall(r"`([^`]+)`", stands[1])] if stands else []
+    line = re.search(rf"^fn \S+::{re.escape(there)}: not proved\b(?:; it stands on (.*?), which antt refuses)?", said, re.M)
+    refused = [it.rpartition(".")[2] for it in re.findall(r"`([^`]+)`", line[1] or "")] if line else []
+    # an answer in a block `mutual` stays refused, and the line of its function does not name it
+    refused += [it for it in told if line and tactics.get(it)]
     gone = any(GONE.search(re.sub(r"`[^`]*`", "", it)) for it in told.values())
     for place, ask in enumerate(edit.asks):
         goal = ask.split()[0]
