@@ -82,7 +82,8 @@ class Prover:
     def check(self, crate, room, functions, kept):
         """What a check of these functions prints, in a copy of the crate, with the processor seconds at the end of
         each function's proof."""
-        words = [self.library.RATTLE, "check", *self.words(crate), "--allow-holes", "--incremental", kept, "--progress"]
+        words = [self.library.RATTLE, "check", *self.words(crate), "--allow-holes", "--progress"]
+        words += ["--incremental", kept] if kept else []
         words += [word for it in functions for word in ("--only", it)]
         how = {"stdin": subprocess.DEVNULL, "stdout": subprocess.PIPE, "stderr": subprocess.STDOUT, "errors": "replace"}
         said = []
@@ -367,7 +368,8 @@ class Crate:
                 if self.has_hole(function, asked):
                     self.hole(room, function)
             self.rounds += 1
-            said = self.prover.check(self.name, room, sorted(asked), kept)
+            # most crates have one check, which would keep for nothing what it went through
+            said = self.prover.check(self.name, room, sorted(asked), kept if self.rounds > 1 else "")
             os.makedirs(LOGS, exist_ok=True)
             with open(f"{LOGS}/{self.name}-{self.rounds}.log", "w", encoding="utf-8") as log:
                 log.write(said)
