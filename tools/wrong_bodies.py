@@ -56,7 +56,7 @@ FOUND_NOTHING = re.compile(r"`(search|grind)`")
 # the attribute of a function that says which lemmas and definitions its goals want
 LISTS = re.compile(r"#\[tactic\(((?:[^\[\]])*?)\)\]\s*(?:#\[[^\n]*\]\s*|///[^\n]*\n\s*)*$")
 # the most wrong bodies that stand beside each other in one check
-MOST = 60
+MOST = 64
 
 
 def toolchain():
@@ -185,8 +185,9 @@ class Crate:
         by_hand = os.path.exists(f"{self.folder}/proofs/{name.replace('::', '/')}/Proof.antt")
         if by_hand or not all(text.count(old) == 1 for _, old, _ in edit.pairs):
             return None
-        own = "|".join(["Self::", "self\\.", rf"\b{fn.of}::" if fn.of else "Self::"])
-        calls_itself = re.search(rf"(?:(?<![.:\w])|{own}){fn.name}\s*(?:::<[^>]*>)?\(", text.partition("{\n")[2])
+        # a bare name is that of a function of the file, and of no method
+        own = "|".join(["Self::", "self\\.", rf"\b{fn.of}::"]) if fn.of else r"(?<![.:\w])"
+        calls_itself = re.search(rf"(?:{own}){fn.name}\s*(?:::<[^>]*>)?\(", text.partition("{\n")[2])
         is_of_trait = fn.of_trait or (text[0].isspace() and not fn.of)
         if not (is_of_trait or calls_itself or name in self.reserved):
             return name, True
@@ -206,10 +207,11 @@ class Crate:
                 if not chosen:
                     return [edit]
                 continue
-            if made is None or asked & (taken | copied):
+            # what has a place is put into the text of its function, in which its old texts stand once
+            if asked & (taken | copied) or not (made or edit.place):
                 continue
             taken |= asked
-            texts = made
+            texts = made or texts
             chosen.append(edit)
         return chosen
 
