@@ -64,6 +64,31 @@ fn next(row: &Row) -> u32 {
 }
 """
 
+# a constant that one function speaks of, and one that a type has too; a method that calls a function of its name
+CONSTANTS = """const MOST: u32 = 8;
+const SIZE: usize = 4;
+
+struct Row {
+    bytes: [u8; SIZE],
+}
+
+impl Row {
+    fn turn(&mut self) {
+        turn(self);
+    }
+}
+
+fn is_within(number: u32) -> bool
+    ensures { result ≡ nat_leb number 8 }
+{
+    number <= MOST
+}
+
+fn size() -> usize {
+    SIZE
+}
+"""
+
 
 def edit(place, name, breaks, *pairs, goal=""):
     path = f"{place}/{name}.edit"
@@ -115,6 +140,26 @@ def bodies_of(text):
         return [text[it.begin :].partition("\n")[0] for it in sources.functions_of(path, place)]
 
 
+def by_a_constant(prover):
+    """Whether a constant is turned beside the function that its head names, and not where a type has it too; and
+    whether a method that calls a function of its name stands beside itself."""
+    with tempfile.TemporaryDirectory(prefix="edits-") as place:
+        os.makedirs(f"{place}/src")
+        with open(f"{place}/src/row.rt", "w", encoding="utf-8") as file:
+            file.write(CONSTANTS)
+        crate = wrong_bodies.Crate(prover, CRATE, place)
+        most = edit(place, "most", "row::is_within, its clause", ("src/row.rt", "MOST: u32 = 8;", "MOST: u32 = 9;"),
+                    goal="returns c")
+        size = edit(place, "size", "row::size, its clause", ("src/row.rt", "SIZE: usize = 4;", "SIZE: usize = 5;"))
+        turn = edit(place, "turn", "row::Row::turn, its clause", ("src/row.rt", "turn(self);", "let _none = self;"))
+        for it in (most, size, turn):
+            it.place = crate.placed(it)
+        text = crate.made([most]).texts["src/row.rt"]
+        parts = ("const MOST: u32 = 8;\nconst MOST_WRONG_0: u32 = 9;\n", "fn is_within_wrong_0(", "<= MOST_WRONG_0\n")
+        return (most.place == ("row::is_within", True) and size.place is None
+                and turn.place == ("row::Row::turn", True) and all(it in text for it in parts))
+
+
 def by_its_goal_alone(edits):
     """Whether one goal was enough where it should be, and nowhere else."""
     enough = {it.name: not it.asked_why for it in edits if it.named}
@@ -134,6 +179,7 @@ def main(words):
     told["a_round_without_edits"] = nothing_is_open(crate)
     told["one_goal_is_enough_where_it_should_be"] = by_its_goal_alone(wanted)
     told["answers_of_other_goals_are_left_out"] = wrong_bodies.answers_to(ANSWERS, ["returns"]) == LEFT
+    told["a_constant_stands_beside_its_function"] = by_a_constant(crate.prover)
     told["a_contract_is_no_body"] = bodies_of(FUNCTIONS) == ["    {", "fn next(row: &Row) -> u32 {"]
     for name, is_right in told.items():
         print(f"{name}: {'as it should be' if is_right else 'WRONG'}")

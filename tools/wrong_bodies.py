@@ -55,8 +55,10 @@ NO_ANSWER = "listed : Unit\nlisted = no_answer\n"
 FOUND_NOTHING = re.compile(r"`(search|grind)`")
 # the attribute of a function that says which lemmas and definitions its goals want
 LISTS = re.compile(r"#\[tactic\(((?:[^\[\]])*?)\)\]\s*(?:#\[[^\n]*\]\s*|///[^\n]*\n\s*)*$")
+# a constant or a static of a file
+CONSTANT = re.compile(r"^(?:pub(?:\([a-z]+\))? )?(?:const|static) (\w+):.*?;$", re.M | re.S)
 # the most wrong bodies that stand beside each other in one check
-MOST = 60
+MOST = 64
 
 
 def toolchain():
@@ -82,7 +84,8 @@ class Prover:
     def check(self, crate, room, functions, kept):
         """What a check of these functions prints, in a copy of the crate, with the processor seconds at the end of
         each function's proof."""
-        words = [self.library.RATTLE, "check", *self.words(crate), "--allow-holes", "--incremental", kept, "--progress"]
+        words = [self.library.RATTLE, "check", *self.words(crate), "--allow-holes", "--progress"]
+        words += ["--incremental", kept] if kept else []
         words += [word for it in functions for word in ("--only", it)]
         how = {"stdin": subprocess.DEVNULL, "stdout": subprocess.PIPE, "stderr": subprocess.STDOUT, "errors": "replace"}
         said = []
@@ -127,8 +130,8 @@ class Edit:
         # the goals that are asked for, and the one that refused it; why those alone did not
         self.asks, self.to_ask, self.asked_why = [self.named] if self.named else [], "", ""
         self.why, self.seen = "", []
-        # the function that it turns by itself, and whether it stands beside it
-        self.number, self.place = 0, None
+        # the function that it turns by itself, and whether it stands beside it; the constant by which it turns it
+        self.number, self.place, self.constant = 0, None, None
 
     def has_all_asked(self):
         """Whether all goals of its function are asked for: its head does not say which one refuses it."""
@@ -142,6 +145,12 @@ class Edit:
             place = sources.read(path).find(old)
             found |= {it for it, fn in functions.items() if fn.path == path and fn.start <= place < fn.end}
         return found
+
+    def turn(self, text):
+        """A piece of a file with the new texts in the place of the old ones."""
+        for _, old, new in self.pairs:
+            text = text.replace(old, new)
+        return text
 
     def apply(self, folder, texts):
         """The texts with this edit, over those that earlier ones changed; nothing where an old text is not there
@@ -175,21 +184,41 @@ class Crate:
 
     def placed(self, edit):
         """The function that an edit turns by itself, and whether it can stand beside it as a function of its own, or
-        has to take its place; nothing where it turns none or several, or its head names another."""
+        has to take its place; nothing where it turns none or several, or its head names another. An edit of a
+        constant turns the function that its head names, where that speaks of the constant."""
         turned = edit.turned(self.folder, self.functions)
+        edit.constant = None if turned else self.constant(edit)
+        if edit.constant:
+            turned = {edit.function}
         name = next(iter(turned), "")
         if len(turned) != 1 or "+" in name or not f"{edit.function or name}::".startswith(f"{name}::"):
             return None
         fn, text = self.functions[name], self.text_of(name)
         by_hand = os.path.exists(f"{self.folder}/proofs/{name.replace('::', '/')}/Proof.antt")
-        if by_hand or not all(text.count(old) == 1 for _, old, _ in edit.pairs):
+        if by_hand or not (edit.constant or all(text.count(old) == 1 for _, old, _ in edit.pairs)):
             return None
-        own = "|".join(["Self::", "self\\.", rf"\b{fn.of}::" if fn.of else "Self::"])
-        calls_itself = re.search(rf"(?:(?<![.:\w])|{own}){fn.name}\s*(?:::<[^>]*>)?\(", text.partition("{\n")[2])
+        # a bare name is that of a function of the file, and of no method
+        own = "|".join(["Self::", "self\\.", rf"\b{fn.of}::"]) if fn.of else r"(?<![.:\w])"
+        calls_itself = re.search(rf"(?:{own}){fn.name}\s*(?:::<[^>]*>)?\(", text.partition("{\n")[2])
         is_of_trait = fn.of_trait or (text[0].isspace() and not fn.of)
         if not (is_of_trait or calls_itself or name in self.reserved):
             return name, True
-        return None if edit.has_all_asked() or self.tactics(name) else (name, False)
+        return None if edit.has_all_asked() or edit.constant or self.tactics(name) else (name, False)
+
+    def constant(self, edit):
+        """The constant that an edit changes: its file, where it stands there, and its name. Nothing where the function
+        that the head names does not speak of it, or something else of the file does, as a type that has its size."""
+        fn = self.functions.get(edit.function)
+        if not fn or any(f"{self.folder}/{file}" != fn.path for file, _, _ in edit.pairs):
+            return None
+        text = sources.read(fn.path)
+        for found in CONSTANT.finditer(text):
+            spoken_of = [it.start() for it in re.finditer(rf"\b{found[1]}\b", text)]
+            others = [it for it in spoken_of if not (found.start() <= it < found.end() or fn.start <= it < fn.end)]
+            is_here = all(text.count(old) == 1 and old in found[0] for _, old, _ in edit.pairs)
+            if is_here and not others and any(fn.begin <= it < fn.end for it in spoken_of):
+                return fn.path, found.start(), found.end(), found[1]
+        return None
 
     def next_round(self, left):
         """Edits for one check: as many as may stand beside their functions, and with them those that are turned in
@@ -205,10 +234,11 @@ class Crate:
                 if not chosen:
                     return [edit]
                 continue
-            if made is None or asked & (taken | copied):
+            # what has a place is put into the text of its function, in which its old texts stand once
+            if asked & (taken | copied) or not (made or edit.place):
                 continue
             taken |= asked
-            texts = made
+            texts = made or texts
             chosen.append(edit)
         return chosen
 
@@ -250,8 +280,10 @@ class Crate:
         """
         fn, text, lists = self.functions[name], self.text_of(name), self.tactics(name)
         made = f"{fn.name}_wrong_{edit.number}" if is_beside else fn.name
-        for _, old, new in edit.pairs:
-            text = text.replace(old, new)
+        if edit.constant:
+            text = self.with_constant(room, edit, text)
+        else:
+            text = edit.turn(text)
         text = re.sub(rf"\bfn {fn.name}\b", f"fn {made}", text, count=1)
         attribute = lists if edit.has_all_asked() else "none"
         if attribute:
@@ -273,6 +305,15 @@ class Crate:
         for kind, text in proofs.items():
             if text:
                 room.proofs[f"proofs/{full.replace('::', '/')}/{kind}.antt"] = text
+
+    def with_constant(self, room, edit, text):
+        """Puts the constant that an edit changes beside that one under a name of its own. Gives the function that takes
+        it."""
+        path, start, end, name = edit.constant
+        made = f"{name}_WRONG_{edit.number}"
+        item = re.sub(rf"\b{name}\b", made, edit.turn(sources.read(path)[start:end]), count=1)
+        room.pieces.setdefault(path, []).append((end, end, f"\n{item}"))
+        return re.sub(rf"\b{name}\b", made, text)
 
     def asking(self, asks, function, answers, lists):
         """Answers that ask for these goals alone: by the answers that they have, and each other one by every tactic
@@ -301,9 +342,11 @@ class Crate:
         for place, (goal, arguments) in enumerate(goals.items()):
             for number, tactic in enumerate(tactics if goal not in answered else []):
                 name = f"tried-{place}-{number}" if number else goal
-                lines += ["", f"{'' if number else 'pub '}{name} : goal.{goal}"]
-                lines += [f"unfolding {' '.join(listed['unfolding'])}"] if listed["unfolding"] else []
-                lines.append(f"{name} {arguments} = {tactic}")
+                # in a block `mutual` antt does not look further for what a refusal may wait on
+                lines += ["", "mutual"]
+                lines += [f"  unfolding {' '.join(listed['unfolding'])}"] if listed["unfolding"] else []
+                lines.append(f"  {'' if number else 'pub '}{name} : goal.{goal}")
+                lines.append(f"  {name} {arguments} = {tactic}")
         return "\n".join(lines) + "\n", {it: 0 if it in answered else len(tactics) for it in goals}
 
     def arguments(self, name):
@@ -365,7 +408,8 @@ class Crate:
                 if self.has_hole(function, asked):
                     self.hole(room, function)
             self.rounds += 1
-            said = self.prover.check(self.name, room, sorted(asked), kept)
+            # most crates have one check, which would keep for nothing what it went through
+            said = self.prover.check(self.name, room, sorted(asked), kept if self.rounds > 1 else "")
             os.makedirs(LOGS, exist_ok=True)
             with open(f"{LOGS}/{self.name}-{self.rounds}.log", "w", encoding="utf-8") as log:
                 log.write(said)
@@ -571,8 +615,10 @@ def judge_asked(edit, function, there, tactics, said):
     function's name in the copy; `tactics` has how many were tried on each goal, 0 where the proof has an answer."""
     place = re.escape(f"./proofs/{there.replace('::', '/')}/Answers.antt")
     told = dict(re.findall(rf"^{place}:\d+:\d+: error: (?:`([^`]+)`: )?(.*)$", said, re.M))
-    stands = re.search(rf"^fn \S+::{re.escape(there)}: not proved; it stands on (.*?), which antt refuses", said, re.M)
-    refused = [it.rpartition(".")[2] for it in re.findall(r"`([^`]+)`", stands[1])] if stands else []
+    line = re.search(rf"^fn \S+::{re.escape(there)}: not proved\b(?:; it stands on (.*?), which antt refuses)?", said, re.M)
+    refused = [it.rpartition(".")[2] for it in re.findall(r"`([^`]+)`", line[1] or "")] if line else []
+    # an answer in a block `mutual` stays refused, and the line of its function does not name it
+    refused += [it for it in told if line and tactics.get(it)]
     gone = any(GONE.search(re.sub(r"`[^`]*`", "", it)) for it in told.values())
     for place, ask in enumerate(edit.asks):
         goal = ask.split()[0]
