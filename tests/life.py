@@ -190,13 +190,14 @@ def slow_connections_end(host):
 def who_does_not_read_is_ended(host):
     """An answer of 8 MB of which nothing is read, and one of which 200 bytes a second are."""
     host.start("--idle", "2")
-    texts = [b"head %d" % number for number in range(1000)]
+    texts = [b"head %d" % number for number in range(12_500)]
     host.push(bundle(CAPS, group(*((text, NULL) for text in texts))))
-    fields = (f"x-hgarg-1: cmds={'heads+%3B' * 200}heads+",)
+    fields = (f"x-hgarg-1: cmds={'heads+%3B' * 15}heads+",)
     with host.connect() as first, host.connect() as second:
         for it in (first, second):
             it.setsockopt(socket.SOL_SOCKET, socket.SO_RCVBUF, 4096)
             it.sendall(request("/?cmd=batch", None, fields))
+        want("the answer is told of all heads", re.search(rb"content-length: (\d+)", second.recv(200))[1], b"8200015")
         start = time.time()
         while opened(host) > 1 and time.time() - start < 15:
             second.recv(20)
