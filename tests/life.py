@@ -202,7 +202,8 @@ def who_does_not_read_is_ended(host):
         while opened(host) > 1 and time.time() - start < 15:
             second.recv(20)
             time.sleep(0.1)
-        want("both are ended", (opened(host), time.time() - start < 12), (1, True))
+        took = time.time() - start
+        want("both are ended", (becomes(host, 1), took < 12), (True, True))
 
 
 # ---- what is bounded
