@@ -1,7 +1,7 @@
 -- What a step at a tally makes of a seat's receipt.
-use Rattle.std.proofs.Common.{◌≡◌, ◌++◌, ℕ, [], sym, ap, subst, refl, arith, append-nil}
+use Rattle.std.proofs.Common.{◌≡◌, ◌++◌, ℕ, sym, ap, subst, refl, arith}
 use Rattle.hg_ledger.specs.declared.known.Known.{Known}
-use Rattle.hg_ledger.specs.Orders.{Comes, HasGrown, promises_in, ReceiptView}
+use Rattle.hg_ledger.specs.Orders.{Comes, HasGrown, promises_in}
 use Rattle.hg_ledger.specs.code.Tallies.{AreAmong, CameTo, receipt_of, Sees, united}
 
 -- whoever saw the order has its promises there
@@ -34,11 +34,3 @@ came_spent v w n t = ap (λ u. u.is_spent) t.is
 
 pub saw_spent : (v w : Known) → Sees v w → w.is_spent ≡ v.is_spent
 saw_spent v w s = ap (λ u. u.is_spent) s.is
-
--- a receipt has what it has, and what it has later
-pub as_before : (r : ReceiptView) → HasGrown r r
-as_before r = record {
-  promises = ([], append-nil r.promises);
-  order = ([], append-nil r.order);
-  came = omega arith;
-}

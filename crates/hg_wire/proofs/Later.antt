@@ -1,5 +1,6 @@
 -- Whatever a client is answered, it has seen no less then, and has all promises that it had.
-use Rattle.std.proofs.Common.{◌≡◌, ℕ, ◌⊎◌, inl, inr, Bool, true, false, List, [], ◌∷◌, ◌++◌, Option, None, Some, ◌+◌, Result, Ok, Err}
+use Rattle.std.proofs.Common.{◌≡◌, ℕ, ◌⊎◌, inl, inr, Bool, true, false, List}
+use Rattle.std.proofs.Common.{[], ◌∷◌, ◌++◌, Option, None, Some, ◌+◌, Result, Ok, Err}
 use Rattle.std.proofs.Common.{append_assoc, append-nil, ap, arith, sym, ◌∙◌, subst}
 use Rattle.std.specs.Prelude.{IfOk, MatchResult}
 use mathlib.Core.List.{IsPrefix}
