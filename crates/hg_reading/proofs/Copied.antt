@@ -1,10 +1,11 @@
 -- What is made of a view is that of the repository that the view is of.
-use Rattle.std.proofs.Common.{◌≡◌, ℕ, List, Bool, true, Option, None, Some, Result, Ok, Err, sym, subst, ap, ◌∙◌}
+use Rattle.std.proofs.Common.{◌≡◌, ◌≢◌, ℕ, List, true, refl, Option, None, Some, Result, Ok, Err, sym, subst, ◌∙◌}
 use Rattle.std.specs.Prelude.{IfOk}
 use Rattle.std.specs.List.{AllZip}
 use Rattle.hg_parts.specs.Repository.{Repository}
 use Rattle.hg_told.specs.declared.batch.Command.{Command}
 use Rattle.hg_told.specs.BranchMap.{IsBranchMap}
+use Rattle.hg_told.specs.Heads.{IsHeadsText}
 use Rattle.hg_told.specs.Viewed.{Viewed}
 use Rattle.hg_http.specs.declared.command.Read.{Read}
 use Rattle.hg_http.specs.declared.command.Read.TheVariants.{Heads, Known, ListKeys, Lookup, BranchMap}
@@ -13,8 +14,13 @@ use Rattle.hg_http.specs.Requests.{argument_in}
 use Rattle.hg_reading.specs.Copied.{is_long, IsCommandPiece, IsCopyOf, IsJoinedOf, IsOfPiece, IsPieceIf}
 use Rattle.hg_reading.specs.Texts.{IsBatchText, IsCommandText, IsTextIf, IsTextOf}
 use Rattle.hg_reading.specs.declared.long.Piece.{Piece}
-use Rattle.hg_reading.specs.declared.long.Piece.TheVariants.{Short, Branches}
+use Rattle.hg_reading.specs.declared.long.Piece.TheVariants.{Short, AllHeads, Branches}
 use Rattle.hg_reading.proofs.Lists.{AllZip_through}
+
+-- the heads of a view are those of the repository
+pub heads_of : {A : Type 0} (repo : Repository A) (view : Viewed A) (text : List ℕ) → IsCopyOf repo view
+    → IsHeadsText view.rows text → IsHeadsText repo.rows text
+heads_of repo view text copied is = subst (λ rows. IsHeadsText rows text) copied.rows is
 
 -- the branches of a view are those of the repository
 branches_of : {A : Type 0} (repo : Repository A) (view : Viewed A) (text : List ℕ) → IsCopyOf repo view
@@ -23,15 +29,15 @@ branches_of repo view text copied is =
     subst (λ rows. IsBranchMap rows repo.markers text) copied.rows
     (subst (λ ms. IsBranchMap view.rows ms text) copied.markers is)
 
--- a command that goes through all changesets is answered them
+-- of the long answers that is no heads is the branches
 pub long_told : {A : Type 0} (repo : Repository A) (view : Viewed A) (read : Read) (about : List ℕ)
-    (text : List ℕ) → IsCopyOf repo view → is_long read ≡ true → IsBranchMap view.rows view.markers text
-    → IsTextOf repo read about text
-long_told repo view Heads about text copied long is = absurd (let e = long in cc)
-long_told repo view Known about text copied long is = absurd (let e = long in cc)
-long_told repo view ListKeys about text copied long is = absurd (let e = long in cc)
-long_told repo view Lookup about text copied long is = absurd (let e = long in cc)
-long_told repo view BranchMap about text copied long is = branches_of repo view text copied is
+    (text : List ℕ) → IsCopyOf repo view → is_long read ≡ true → read ≢ Heads
+    → IsBranchMap view.rows view.markers text → IsTextOf repo read about text
+long_told repo view Heads about text copied long other is = absurd (other refl)
+long_told repo view Known about text copied long other is = absurd (let e = long in cc)
+long_told repo view ListKeys about text copied long other is = absurd (let e = long in cc)
+long_told repo view Lookup about text copied long other is = absurd (let e = long in cc)
+long_told repo view BranchMap about text copied long other is = branches_of repo view text copied is
 
 -- the text of a piece is that of its command
 piece_told : {A : Type 0} (repo : Repository A) (view : Viewed A) → IsCopyOf repo view
@@ -42,9 +48,13 @@ piece_told {A} repo view copied command piece text = by (read_of command.name) p
     by : (read : Option Read) (piece : Piece A) → IsPieceIf repo command read piece → IsOfPiece view piece text
         → IsTextIf repo command read text
     by None (Short made) is so = so ∙ is
+    by None AllHeads is so = absurd is
     by None Branches is so = absurd is
     by (Some read) (Short made) is so =
         subst (IsTextOf repo read (argument_in command.arguments (subject_of read))) (sym so) is
+    by (Some read) AllHeads is so =
+        subst (λ r. IsTextOf repo r (argument_in command.arguments (subject_of read)) text) (sym is)
+        (heads_of repo view text copied so)
     by (Some read) Branches is so =
         subst (λ r. IsTextOf repo r (argument_in command.arguments (subject_of read)) text) (sym is)
         (branches_of repo view text copied so)

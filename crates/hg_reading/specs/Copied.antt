@@ -1,4 +1,4 @@
--- What goes through all changesets is made from a view of them.
+-- What has a word for each head is made from a view of the changesets.
 use Rattle.std.specs.Prelude.{ℕ, ◌≡◌, Bool, true, false, List, [], Option, Some, None, length, min}
 use Rattle.std.specs.List.{AllZip, list_any}
 use mathlib.Core.List.{IsPrefix}
@@ -6,6 +6,7 @@ use Rattle.hg_parts.specs.Repository.{Repository}
 use Rattle.hg_told.specs.declared.batch.Command.{Command}
 use Rattle.hg_told.specs.Batch.{answers_joined}
 use Rattle.hg_told.specs.BranchMap.{IsBranchMap}
+use Rattle.hg_told.specs.Heads.{IsHeadsText}
 use Rattle.hg_told.specs.Viewed.{Viewed}
 use Rattle.hg_http.specs.declared.command.Read.{Read}
 use Rattle.hg_http.specs.declared.command.Read.TheVariants.{Heads, Known, ListKeys, Lookup, BranchMap}
@@ -13,29 +14,29 @@ use Rattle.hg_http.specs.Commands.{read_of, subject_of}
 use Rattle.hg_http.specs.Requests.{argument_in}
 use Rattle.hg_reading.specs.Texts.{IsTextOf}
 use Rattle.hg_reading.specs.declared.long.Piece.{Piece}
-use Rattle.hg_reading.specs.declared.long.Piece.TheVariants.{Short, Branches}
+use Rattle.hg_reading.specs.declared.long.Piece.TheVariants.{Short, AllHeads, Branches}
 use Rattle.hg_reading.specs.declared.reading.Brought.{Brought}
 
--- the command goes through all changesets: it asks for the branches with their heads
+-- the answer has a word for each head: the command asks for the heads, or for the branches with their heads
 abbrev pub is_long : Read → Bool
-is_long Heads = false
+is_long Heads = true
 is_long Known = false
 is_long ListKeys = false
 is_long Lookup = false
 is_long BranchMap = true
 
--- a name of no command that reads goes through nothing
+-- a name of no command that reads has no long answer
 abbrev pub is_long_if : Option Read → Bool
 is_long_if None = false
 is_long_if (Some read) = is_long read
 
--- a command of a batch goes through all changesets
-abbrev pub goes_through_all : {A : Type 0} → Command A → Bool
-goes_through_all command = is_long_if (read_of command.name)
+-- a command of a batch has a long answer
+abbrev pub asks_long : {A : Type 0} → Command A → Bool
+asks_long command = is_long_if (read_of command.name)
 
 -- one of a batch's commands does
 abbrev pub have_long : {A : Type 0} → List (Command A) → Bool
-have_long commands = list_any goes_through_all commands
+have_long commands = list_any asks_long commands
 
 -- the view is of the repository's changesets and markers
 pub record IsCopyOf {A : Type 0} (repo : Repository A) (view : Viewed A) : Type 0 where
@@ -50,6 +51,7 @@ pub record IsFront {A : Type 0} (view : Viewed A) (repo : Repository A) : Type 0
 -- the text of a piece
 abbrev pub IsOfPiece : {A : Type 0} → Viewed A → Piece A → List ℕ → Type 0
 IsOfPiece view (Short made) text = text ≡ made
+IsOfPiece view AllHeads text = IsHeadsText view.rows text
 IsOfPiece view Branches text = IsBranchMap view.rows view.markers text
 
 -- the texts of pieces, in order, escaped, with a `;` between
@@ -61,11 +63,13 @@ pub record IsJoinedOf {A : Type 0} (view : Viewed A) (pieces : List (Piece A)) (
 -- Asked about that, the repository answers this piece.
 abbrev pub IsPieceOf : {A : Type 0} → Repository A → Read → List ℕ → Piece A → Type 0
 IsPieceOf repo read about (Short text) = IsTextOf repo read about text
+IsPieceOf repo read about AllHeads = read ≡ Heads
 IsPieceOf repo read about Branches = read ≡ BranchMap
 
 -- a name of no command that reads has no answer
 abbrev pub IsNoPiece : {A : Type 0} → Piece A → Type 0
 IsNoPiece (Short text) = text ≡ []
+IsNoPiece AllHeads = ⊥
 IsNoPiece Branches = ⊥
 
 abbrev pub IsPieceIf : {A : Type 0} → Repository A → Command A → Option Read → Piece A → Type 0

@@ -2,7 +2,7 @@
 //!
 //! Each question is a [`Question`](hg_serve::Question) of `hg_serve`, asked under the server's lock:
 //! [`Reading`] for one command, [`Batch`] for several, [`Viewing`] for what is shown without a command.
-//! What goes through all changesets ([`is_long`], [`have_long`]) is made from a view instead, which is kept
+//! What has a word for each head ([`is_long`], [`have_long`]) is made from a view instead, which is kept
 //! on a [`Shelf`]: [`LongBatch`] brings what came to it, and [`long_text`] and [`batch_text`] make the
 //! texts when the lock is given back. [`refusal_of`] says which batches are refused, and [`shown_answer`]
 //! which answer shows a view. [`Shown`] and [`Watch`] are what stands around the commands: who shows the

@@ -1,35 +1,33 @@
-//! What goes through all changesets: it is made from a view of them, when the server's lock is given back.
+//! What has a word for each head: it is made from a view of the changesets, when the server's lock is given back.
 
-ghost use Rattle.std.specs.Prelude.{◌≡◌, length, min, IfOk, IsTrue};
+ghost use Rattle.std.specs.Prelude.{◌≡◌, length, min, IfOk};
 ghost use Rattle.std.specs.List.{AllZip};
 ghost use Rattle.hg_parts.specs.Store.{repository_of};
-ghost use Rattle.hg_told.specs.BranchMap.{IsBranchMap};
-ghost use Rattle.hg_http.specs.declared.command.Read.{Read as AnyRead};
 ghost use Rattle.hg_reading.specs.Copied.{is_long as goes_long, IsJoinedOf, IsOfPiece};
 
 use hg_http::Read;
 use hg_parts::Store;
 use hg_repo::Repo;
-use hg_told::{Since, View, branchmap_text, joined_answers};
+use hg_told::{Since, View, branchmap_text, heads_text, joined_answers};
 use hg_types::{NoMemory, Seq, Settings};
 use std::alloc::{Allocator, Global};
 
-/// What a command is answered: a text, in the form of `hg_told`, or the branches with their heads, which are made
-/// of a view.
+/// What a command is answered: a text, in the form of `hg_told`, or what is made of a view, the heads or the branches
+/// with their heads.
 #[derive(Drop)]
 pub enum Piece<A: Allocator = Global> {
     Short(Seq<u8, A>),
+    AllHeads,
     Branches,
 }
 
-/// Whether the command goes through all changesets: `branchmap` does.
+/// Whether the command's answer has a word for each head: those of `heads` and `branchmap` have.
 pub fn is_long(read: Read) -> bool
-    ensures is { result ≡ goes_long read }
-    ensures branches { IsTrue result → read ≡ AnyRead.BranchMap }
+    ensures { result ≡ goes_long read }
 {
     match read {
-        Read::BranchMap => true,
-        Read::Heads | Read::Known | Read::ListKeys | Read::Lookup => false,
+        Read::Heads | Read::BranchMap => true,
+        Read::Known | Read::ListKeys | Read::Lookup => false,
     }
 }
 
@@ -67,7 +65,7 @@ fn came_in<A: Allocator + Copy>(
     Since::of(alloc, first, known, &store.log, &store.markers)
 }
 
-/// The texts of pieces, in order. That of the branches is made once, and copied for each who asks.
+/// The texts of pieces, in order.
 fn texts_of<A: Allocator + Copy>(
     alloc: A,
     view: &View<A>,
@@ -75,10 +73,9 @@ fn texts_of<A: Allocator + Copy>(
 ) -> Result<Seq<Seq<u8, A>, A>, NoMemory>
     ensures { IfOk result (λ texts. AllZip (IsOfPiece view.now) pieces.now texts) }
 {
-    let branches = branchmap_text(alloc, view)?;
     let mut texts = Seq::new(alloc);
     for piece in pieces {
-        texts.push(text_of(alloc, view, branches.as_slice(), piece)?)?;
+        texts.push(text_of(alloc, view, piece)?)?;
     }
     Ok(texts)
 }
@@ -86,15 +83,14 @@ fn texts_of<A: Allocator + Copy>(
 fn text_of<A: Allocator + Copy>(
     alloc: A,
     view: &View<A>,
-    branches: &[u8],
     piece: &Piece<A>,
 ) -> Result<Seq<u8, A>, NoMemory>
-    requires { IsBranchMap view.now.rows view.now.markers branches.now }
     ensures { IfOk result (λ text. IsOfPiece view.now piece.now text) }
 {
     match piece {
         Piece::Short(text) => Seq::copy_of(alloc, text.as_slice()),
-        Piece::Branches => Seq::copy_of(alloc, branches),
+        Piece::AllHeads => heads_text(alloc, view),
+        Piece::Branches => branchmap_text(alloc, view),
     }
 }
 

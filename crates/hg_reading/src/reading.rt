@@ -4,7 +4,8 @@ ghost use Rattle.std.specs.Prelude.{◌≡◌, true, List, IfOk};
 ghost use Rattle.std.specs.List.{AllZip};
 ghost use Rattle.hg_parts.specs.Store.{repository_of, IsSound};
 ghost use Rattle.hg_parts.specs.Repository.{Repository};
-ghost use Rattle.hg_reading.specs.Copied.{goes_through_all, have_long as some_are_long, is_long as goes_long};
+ghost use Rattle.hg_reading.specs.Copied.{asks_long as asks_for_long, have_long as some_are_long};
+ghost use Rattle.hg_reading.specs.Copied.{is_long as goes_long};
 ghost use Rattle.hg_told.specs.declared.batch.Command.{Command as AnyCommand};
 ghost use Rattle.hg_reading.specs.Copied.{IsCommandPiece, IsCopyOf, IsPieceOf};
 ghost use Rattle.hg_reading.specs.Texts.{IsBatchText, IsCommandText, IsTextOf};
@@ -67,8 +68,8 @@ pub struct Brought<A: Allocator = Global> {
     pub came: Since<A>,
 }
 
-/// Several commands, of which some go through all changesets. These are answered from a view, which was of so many
-/// changesets and markers.
+/// Several commands, of which some have long answers. These are made from a view, which was of so many changesets and
+/// markers.
 #[derive(Drop)]
 pub struct LongBatch<'a, A: Allocator> {
     pub alloc: A,
@@ -90,18 +91,22 @@ impl<A: Allocator + Copy> Question<A, Result<Brought<A>, NoMemory>> for LongBatc
     }
 }
 
-/// The text of a command that goes through all changesets, of a view of these.
+/// The text of a command whose answer is long, of a view.
 pub fn long_text<A: Allocator + Copy>(
     alloc: A,
     view: &View<A>,
-    _read: Read,
+    read: Read,
     _about: &[u8],
 ) -> Result<Seq<u8, A>, NoMemory>
-    requires { goes_long _read ≡ true }
+    requires { goes_long read ≡ true }
     ensures { (repo : Repository A) → IsCopyOf repo view.now
-        → IfOk result (λ text. IsTextOf repo _read _about.now text) }
+        → IfOk result (λ text. IsTextOf repo read _about.now text) }
 {
-    branchmap_text(alloc, view)
+    match read {
+        Read::Heads => heads_text(alloc, view),
+        // of the others `branchmap` alone has a long answer
+        _ => branchmap_text(alloc, view),
+    }
 }
 
 /// The answer of a batch, of the pieces of its commands and of a view.
@@ -158,13 +163,16 @@ fn piece_of<A: Allocator + Copy>(
 ) -> Result<Piece<A>, NoMemory>
     ensures { IfOk result (λ piece. IsPieceOf repo.now read about.now piece) }
 {
-    if is_long(read) {
-        return Ok(Piece::Branches);
+    match read {
+        Read::Heads => Ok(Piece::AllHeads),
+        Read::BranchMap => Ok(Piece::Branches),
+        Read::Known | Read::ListKeys | Read::Lookup => {
+            Ok(Piece::Short(text_of(alloc, repo, read, about)?))
+        }
     }
-    Ok(Piece::Short(text_of(alloc, repo, read, about)?))
 }
 
-/// Whether one of a batch's commands goes through all changesets.
+/// Whether one of a batch's commands has a long answer.
 pub fn have_long<A: Allocator>(commands: &[Command<A>]) -> bool
     ensures { result ≡ some_are_long commands.now }
 {
@@ -172,7 +180,7 @@ pub fn have_long<A: Allocator>(commands: &[Command<A>]) -> bool
 }
 
 fn asks_long<A: Allocator>(command: &Command<A>) -> bool
-    ensures { result ≡ goes_through_all command.now }
+    ensures { result ≡ asks_for_long command.now }
 {
     match read_of(command.name.as_slice()) {
         Some(read) => is_long(read),
@@ -236,7 +244,7 @@ fn text_in<A: Allocator + Copy>(
 {
     let log = &store.log;
     match read {
-        Read::Heads => heads_text(alloc, log),
+        Read::Heads => heads_text(alloc, &View::of(alloc, log, &store.markers)?),
         Read::Known => known_text(alloc, log, about),
         Read::ListKeys => listkeys_text(
             alloc,

@@ -58,7 +58,7 @@ impl<J: Naming<A>, A: Allocator + Copy> Shelf<J, A> {
         witness
     }
 
-    /// Answers a command that goes through all changesets, by one look, and says how many pushes were done then. The
+    /// Answers a command whose answer is long, by one look, and says how many pushes were done then. The
     /// server's lock is held for what came since the look before, and for nothing else.
     pub fn text<R: Wait>(
         &mut self,

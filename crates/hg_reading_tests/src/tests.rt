@@ -93,7 +93,7 @@ fn an_empty_repository_is_asked(rt: HostRuntime) -> Result<(), Fail> {
     Ok(())
 }
 
-/// What a batch is answered, by a view where one of its commands goes through all changesets.
+/// What a batch is answered, by a view where one of its answers is long.
 fn answer<A: Allocator + Copy>(
     alloc: A,
     repo: &Repo<A>,
@@ -116,9 +116,10 @@ fn answer<A: Allocator + Copy>(
     }
 }
 
-const SHORT: &[u8] = b"heads ;known nodes=0000000000000000000000000000000000000000";
+const SHORT: &[u8] =
+    b"listkeys namespace=phases;known nodes=0000000000000000000000000000000000000000";
 
-const SHORT_TOLD: &[u8] = b"0000000000000000000000000000000000000000\n;1";
+const SHORT_TOLD: &[u8] = b"publishing\tTrue;1";
 
 const LONG: &[u8] = b"heads ;branchmap ;listkeys namespace=phases;branchmap ;hello ";
 
@@ -162,7 +163,7 @@ fn each_growth_of_an_answer_refused(rt: HostRuntime) -> Result<(), Fail> {
     Ok(())
 }
 
-/// The refusal of a batch, and whether it goes through all changesets.
+/// The refusal of a batch, and whether one of its answers is long.
 fn bounds<A: Allocator + Copy>(alloc: A, text: &[u8]) -> Option<(Option<Refusal>, bool)> {
     let commands = read_batch(alloc, text).ok()?;
     Some((
@@ -177,9 +178,9 @@ fn batches_have_bounds(rt: HostRuntime) {
     let long = Some(Refusal::LongBatch);
     let asked = [
         (b"heads ;branchmap ".as_slice(), None, true),
-        (b"heads ;listkeys namespace=phases", None, false),
-        (b"heads ;listkeys namespace=bookmarks", None, false),
-        (b"heads ;unbundle ", Some(Refusal::BadBatch), false),
+        (b"heads ;listkeys namespace=phases", None, true),
+        (b"known ;listkeys namespace=bookmarks", None, false),
+        (b"heads ;unbundle ", Some(Refusal::BadBatch), true),
         (b"", Some(Refusal::BadBatch), false),
         (
             b"lookup key=a;lookup key=b;lookup key=c;lookup key=d",
@@ -194,12 +195,12 @@ fn batches_have_bounds(rt: HostRuntime) {
         (
             b"heads;heads;heads;heads;heads;heads;heads;heads;heads;heads;heads;heads;heads;heads;heads;heads",
             None,
-            false,
+            true,
         ),
         (
             b"heads;heads;heads;heads;heads;heads;heads;heads;heads;heads;heads;heads;heads;heads;heads;heads;heads",
             long,
-            false,
+            true,
         ),
     ];
     for (text, refusal, is_long) in asked {
@@ -208,9 +209,9 @@ fn batches_have_bounds(rt: HostRuntime) {
 }
 
 #[test]
-fn what_goes_through_all_changesets(rt: HostRuntime) {
-    assert!(rt; is_long(Read::BranchMap));
-    assert!(rt; !is_long(Read::Heads) && !is_long(Read::Known));
+fn what_answers_are_long(rt: HostRuntime) {
+    assert!(rt; is_long(Read::BranchMap) && is_long(Read::Heads));
+    assert!(rt; !is_long(Read::Known));
     assert!(rt; !is_long(Read::ListKeys) && !is_long(Read::Lookup));
 }
 

@@ -18,3 +18,4 @@ mod Viewing
 mod Coming
 mod Covering
 mod Uncovering
+mod HeadIds

@@ -26,14 +26,6 @@ id_word node = ended 32 (encode_lower node.0)
 abbrev pub answer_ended : List ℕ → List ℕ
 answer_ended answer = ended 59 (escaped answer)
 
--- what is written of one item more
-pub item_more : {X Y : Type 0} (f : X → List Y) (xs : List X) (i : ℕ) (d : X) (now next : List Y)
-    → i < length xs → now ≡ flat_map f (take i xs) → next ≡ now ++ f (get_or xs i d)
-    → next ≡ flat_map f (take (i + 1) xs)
-item_more f xs i d now next within so more =
-    made_more f (take i xs) (get_or xs i d) now next so more
-    ∙ ap (flat_map f) (sym (take_more xs i d within))
-
 whole : (byte : ℕ) (line : List ℕ) (lines : List (List ℕ))
     → flat_map (ended byte) (line ∷ lines) ≡ join_with_byte byte (line ∷ lines) ++ byte ∷ []
 whole byte line [] = append-nil (line ++ byte ∷ [])
@@ -71,9 +63,19 @@ joined_of {X} byte f xs n text past so =
     let whole = so ∙ ap (flat_map (λ (x : X). ended byte (f x))) (take_all n xs past) ∙ through_map byte f xs in
     ap (λ (t : List ℕ). take (length t - 1) t) whole ∙ all_joined byte (map f xs)
 
-pub words_of : (nodes : List Node) → map (λ node. encode_lower node.0) nodes ≡ map encode_lower (ids nodes)
+words_of : (nodes : List Node) → map (λ node. encode_lower node.0) nodes ≡ map encode_lower (ids nodes)
 words_of [] = refl
 words_of (node ∷ nodes) = ap (λ (words : List (List ℕ)). encode_lower node.0 ∷ words) (words_of nodes)
+
+-- the line of the heads
+pub heads_said : (nodes : List Node) (words text : List ℕ) → words ≡ flat_map id_word nodes
+    → text ≡ take (length words - 1) words ++ 10 ∷ []
+    → text ≡ join_with_byte 32 (map encode_lower (ids nodes)) ++ 10 ∷ []
+heads_said nodes words text is so =
+    let digits : Node → List ℕ = λ node. encode_lower node.0 in
+    so ∙ ap (λ (t : List ℕ). t ++ 10 ∷ [])
+    (ap (λ (w : List ℕ). take (length w - 1) w) (is ∙ through_map 32 digits nodes)
+    ∙ all_joined 32 (map digits nodes) ∙ ap (join_with_byte 32) (words_of nodes))
 
 true_false : true ≡ false → ⊥
 true_false e = cc

@@ -3,3 +3,4 @@ pub mod Hiding
 pub mod Branches
 pub mod Viewed
 pub mod Covered
+pub mod HeadIds

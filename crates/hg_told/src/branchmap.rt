@@ -7,7 +7,7 @@ ghost use Rattle.hg_told.specs.Text.{ended};
 
 use crate::branches::{Branch, branches_of};
 use crate::copied::Copied;
-use crate::text::{WORD, digits_of, joined};
+use crate::text::{WORD, joined, push_digits};
 use crate::viewed::View;
 use hg_types::{NoMemory, Seq};
 use percent_encoding::percent_encode_byte;
@@ -86,7 +86,7 @@ fn push_head<A: Allocator>(
     ensures { OnOk result (lines.new.items ≡ lines.old.items ++ head_word copied.now.rows rev) }
 {
     lines.push(b' ')?;
-    lines.extend_from_slice(digits_of(&copied.node(rev)).as_slice())?;
+    push_digits(lines, &copied.node(rev))?;
     Ok(())
 }
 

@@ -20,6 +20,7 @@ mod capabilities;
 mod copied;
 mod covered;
 mod form;
+mod head_ids;
 mod heads;
 mod hidden;
 mod laws;

@@ -69,12 +69,21 @@ pub fn node_in_hex(text: &[u8]) -> Option<Node>
     }
 }
 
+/// Adds the 40 lower-case digits of an id, which are written where they stay.
+pub fn push_digits<A: Allocator>(text: &mut Vec<u8, A>, node: &Node) -> Result<(), NoMemory>
+    ensures { OnOk result (text.new.items ≡ text.old.items ++ encode_lower node.now.0) }
+{
+    let start = text.len();
+    text.extend_from_slice([b'0'; 40].as_slice())?;
+    hex::encode_to_slice(node.0.as_slice(), &mut text.as_mut_slice()[start..]).unwrap();
+    Ok(())
+}
+
 /// Adds the digits of an id, and a byte.
 pub fn push_id<A: Allocator>(text: &mut Vec<u8, A>, node: &Node, byte: u8) -> Result<(), NoMemory>
     ensures { OnOk result (text.new.items ≡ text.old.items ++ ended byte (encode_lower node.now.0)) }
 {
-    let digits = digits_of(node);
-    text.extend_from_slice(digits.as_slice())?;
+    push_digits(text, node)?;
     text.push(byte)?;
     Ok(())
 }

@@ -3,36 +3,42 @@
 ghost use Rattle.std.specs.Prelude.{◌≡◌, ◌≤◌, [], length, IfOk};
 ghost use Rattle.hg_told.specs.Viewed.{IsBefore};
 ghost use Rattle.hg_told.specs.code.Covered.{AreCovered, AreCoveredTo};
+ghost use Rattle.hg_told.specs.code.HeadIds.{AreHeadIds};
 
 use crate::copied::Copied;
 use crate::covered::covered_changesets;
+use crate::head_ids::bring_up;
 use crate::plain::cover_came;
 use crate::since::Since;
 use hg_log::Changelog;
 use hg_obs::Markers;
-use hg_types::NoMemory;
+use hg_types::{NoMemory, Node};
 use std::alloc::{Allocator, Global};
+use std::collections::BTreeSet;
 use std::marker::Model;
 
 /// What is kept of changesets and of markers: of each changeset its id, its parents, the name of its branch, whether
-/// it is obsolete, and whether it is a head of its branch. Contracts see the changesets and the markers of which it
-/// was made.
+/// it is obsolete, and whether it is a head of its branch; and the ids of all heads, in their order. Contracts see the
+/// changesets and the markers of which it was made.
 #[derive(Drop)]
 pub struct View<A: Allocator = Global> {
     copied: Copied<A>,
     /// For each changeset, whether it is no head of its branch.
     covered: Vec<bool, A>,
+    heads: BTreeSet<Node, A>,
 }
 
 impl<A: Allocator> Model for View<A> {
     ghost use Rattle.hg_told.specs.Viewed.{Viewed};
     ghost use Rattle.hg_told.specs.code.Covered.{AreCovered};
+    ghost use Rattle.hg_told.specs.code.HeadIds.{AreHeadIds};
 
     ghost Value = { Viewed A };
 
     ghost view = { λ v. v.copied };
 
-    ghost invariant = { λ v. AreCovered v.copied.rows v.copied.markers v.covered.items };
+    ghost invariant = { λ v. AreCovered v.copied.rows v.copied.markers v.covered.items
+        × AreHeadIds v.copied.rows v.heads.keys };
 }
 
 impl<A: Allocator + Copy> View<A> {
@@ -55,6 +61,7 @@ impl<A: Allocator> View<A> {
         View {
             copied: Copied::new(alloc),
             covered: Vec::new(alloc),
+            heads: BTreeSet::new(alloc),
         }
     }
 
@@ -80,8 +87,12 @@ impl<A: Allocator> View<A> {
         requires { IsBefore self came }
         ensures { IfOk result (λ view. view ≡ record { rows = came.rows; markers = came.markers }) }
     {
-        let View { copied, covered } = self;
-        copied.len();
+        let View {
+            copied,
+            covered,
+            mut heads,
+        } = self;
+        let first = copied.len();
         let alloc = *covered.allocator();
         let stays = came.leaves_kept();
         let copied = copied.with(came)?;
@@ -91,7 +102,12 @@ impl<A: Allocator> View<A> {
         } else {
             covered_changesets(alloc, &copied)?
         };
-        Ok(View { copied, covered })
+        bring_up(&mut heads, &copied, first)?;
+        Ok(View {
+            copied,
+            covered,
+            heads,
+        })
     }
 
     /// What the view was copied of.
@@ -106,6 +122,13 @@ impl<A: Allocator> View<A> {
         ensures { AreCovered self.now.rows self.now.markers result.now }
     {
         self.covered.as_slice()
+    }
+
+    /// The ids of all heads.
+    pub(crate) fn heads(&self) -> &BTreeSet<Node, A>
+        ensures { AreHeadIds self.now.rows result.now.keys }
+    {
+        &self.heads
     }
 }
 

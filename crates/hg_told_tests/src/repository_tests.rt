@@ -7,6 +7,7 @@ use crate::phased::{no_phases, phased};
 use hg_help_tests::changelog::put;
 use hg_keys::Bookmarks;
 use hg_log::Changelog;
+use hg_obs::Markers;
 use hg_phases::Phases;
 use hg_told::*;
 use hg_types::{Limits, NoMemory, Node, Phase, Seq};
@@ -39,6 +40,15 @@ const CAPABILITIES: &[u8] =
       unsupportedcontent%2Cpushraced%2Cpushkey%0Aobsmarkers%3DV0%0Aphases%3Dheads%0Apushkey \
       getbundle httpheader=1024 known lookup pushkey unbundle";
 
+/// The heads of a view of these changesets.
+fn heads_of<A: Allocator + Copy>(
+    alloc: A,
+    log: &Changelog<A>,
+    state: RandomState,
+) -> Result<Seq<u8, A>, NoMemory> {
+    heads_text(alloc, &View::of(alloc, log, &Markers::new(alloc, state))?)
+}
+
 fn is_text<A: Allocator>(told: Result<Seq<u8, A>, NoMemory>, wanted: &[u8]) -> bool {
     told.is_ok_and(|text| text.as_slice() == wanted)
 }
@@ -51,13 +61,8 @@ fn the_capabilities(rt: HostRuntime) {
 
 #[test]
 fn no_heads(rt: HostRuntime) -> Result<(), Fail> {
-    let log = Changelog::new(rt.alloc(), RandomState::new(&rt)?, Limits::standard());
-    assert!(rt;
-        is_text(
-            heads_text(rt.alloc(), &log),
-            b"0000000000000000000000000000000000000000\n"
-        )
-    );
+    let told = heads_text(rt.alloc(), &View::new(rt.alloc()));
+    assert!(rt; is_text(told, b"0000000000000000000000000000000000000000\n"));
     Ok(())
 }
 
@@ -84,6 +89,7 @@ fn known_of_nothing(rt: HostRuntime) -> Result<(), Fail> {
 #[test]
 fn a_batch(rt: HostRuntime) -> Result<(), Fail> {
     let log = Changelog::new(rt.alloc(), RandomState::new(&rt)?, Limits::standard());
+    let view = View::new(rt.alloc());
     let batch = read_batch(
         rt.alloc(),
         b"heads ;known nodes=0000000000000000000000000000000000000000",
@@ -92,7 +98,7 @@ fn a_batch(rt: HostRuntime) -> Result<(), Fail> {
     for command in batch.as_slice() {
         let nodes = value_of(command.arguments.as_slice(), b"nodes").unwrap_or(b"".as_slice());
         if command.name.as_slice() == b"heads".as_slice() {
-            answers.push(heads_text(rt.alloc(), &log)?)?;
+            answers.push(heads_text(rt.alloc(), &view)?)?;
         } else {
             answers.push(known_text(rt.alloc(), &log, nodes)?)?;
         }
@@ -152,7 +158,7 @@ fn heads_are_told(alloc: Global, state: RandomState) -> Result<bool, Fail> {
     let mut words = words_of(alloc, nodes.as_slice())?;
     let known = are_known(alloc, &log, words.as_slice(), nodes.len())?;
     words.push(b'\n')?;
-    Ok(known && is_text(heads_text(alloc, &log), words.as_slice()))
+    Ok(known && is_text(heads_of(alloc, &log, state), words.as_slice()))
 }
 
 #[test]
@@ -332,10 +338,14 @@ fn keys_of_an_empty_repository(rt: HostRuntime) -> Result<(), Fail> {
     Ok(())
 }
 
-fn tell_all<A: Allocator + Copy>(alloc: A, log: &Changelog<A>) -> Result<(), NoMemory> {
+fn tell_all<A: Allocator + Copy>(
+    alloc: A,
+    log: &Changelog<A>,
+    state: RandomState,
+) -> Result<(), NoMemory> {
     let phases = no_phases(alloc, log);
     let bookmarks = Bookmarks::new(alloc);
-    drop(heads_text(alloc, log)?);
+    drop(heads_of(alloc, log, state)?);
     drop(known_text(alloc, log, NULL_DIGITS)?);
     if log.len() == 0 {
         drop(phases_of(alloc, log, &phases, &bookmarks, true)?);
@@ -353,7 +363,7 @@ fn each_growth_of_a_text_refused(rt: HostRuntime) -> Result<(), Fail> {
     for sixteens in 1..60usize {
         let heap = LocalHeap::new(rt.alloc(), sixteens * 16)?;
         let log = Changelog::new(&heap, state, Limits::standard());
-        if tell_all(&heap, &log).is_ok() {
+        if tell_all(&heap, &log, state).is_ok() {
             done = done.saturating_add(1);
         } else {
             refused = refused.saturating_add(1);

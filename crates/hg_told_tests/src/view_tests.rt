@@ -1,4 +1,5 @@
-//! Views that are brought up in many steps, and what a branch map says then: by its definition, and as Mercurial said.
+//! Views that are brought up in many steps, and what they say then of branches and heads: by the definitions, and as
+//! Mercurial said.
 
 use crate::branch_tests::{Row, ids_of, is_text, is_told, prune_at, put_row, rows};
 use crate::watched::Watched;
@@ -95,6 +96,48 @@ fn map_by_definition(alloc: Global, all: &[Made]) -> Result<Vec<u8>, Fail> {
         }
     }
     Ok(text)
+}
+
+/// Whether no other changeset stands on that of this place.
+fn is_last(all: &[Made], place: usize) -> bool {
+    all.iter().enumerate().all(|(other, made)| other == place || !is_in(made.ancestors, place))
+}
+
+/// The ids of the heads in ascending order, by the definition, or the null id.
+fn head_ids(alloc: Global, all: &[Made]) -> Result<Vec<Node>, Fail> {
+    let mut nodes = Vec::new(alloc);
+    for (place, made) in all.iter().enumerate() {
+        if is_last(all, place) {
+            nodes.push(made.node)?;
+        }
+    }
+    if nodes.is_empty() {
+        nodes.push(Node::NULL)?;
+    }
+    nodes.sort()?;
+    Ok(nodes)
+}
+
+/// The text of the heads, by the definition.
+fn heads_by_definition(alloc: Global, all: &[Made]) -> Result<Vec<u8>, Fail> {
+    let mut text = Vec::new(alloc);
+    for node in &head_ids(alloc, all)? {
+        if !text.is_empty() {
+            text.push(b' ')?;
+        }
+        let id = hex::encode(alloc, node.0.as_slice())?;
+        text.extend_from_slice(id.as_str().as_bytes())?;
+    }
+    text.push(b'\n')?;
+    Ok(text)
+}
+
+/// Whether a view says what the definitions say of these.
+fn is_told_by(alloc: Global, view: &View, all: &[Made]) -> Result<bool, Fail> {
+    let map = map_by_definition(alloc, all)?;
+    let heads = heads_by_definition(alloc, all)?;
+    let told = is_text(branchmap_text(alloc, view), map.as_slice());
+    Ok(is_text(heads_text(alloc, view), heads.as_slice()) && told)
 }
 
 /// The text of the changeset of that place.
@@ -223,8 +266,8 @@ impl History {
 
 // 300 histories of up to 60 changesets on four branches, with merges, roots, changesets on obsolete ones, markers that
 // come before their changesets and after them (`views_of_random_histories`). A view is brought up at random, after each
-// step in some and after up to 60 in others. Result: its branch map is that of the definition, and that of a view made
-// at once.
+// step in some and after up to 60 in others. Result: its branch map and its heads are those of the definition, and those
+// of a view made at once.
 #[test]
 fn views_of_random_histories(rt: HostRuntime) -> Result<(), Fail> {
     let alloc = rt.alloc();
@@ -262,20 +305,17 @@ fn is_step_told(alloc: Global, history: &mut History, seed: u64) -> Result<bool,
     }
 }
 
-/// Whether the branch map of the view, once it is brought up, is that of the definition.
+/// Whether the view, once it is brought up, says what the definitions say.
 fn is_brought_up(alloc: Global, history: &mut History) -> Result<bool, Fail> {
     history.watched.bring_up(alloc)?;
-    let wanted = map_by_definition(alloc, history.all.as_slice())?;
-    let told = branchmap_text(alloc, history.watched.view());
-    Ok(is_text(told, wanted.as_slice()))
+    is_told_by(alloc, history.watched.view(), history.all.as_slice())
 }
 
-/// Whether that of a view that is made at once is, and both views are of as many.
+/// Whether one that is made at once does, and both are of as many.
 fn is_whole(alloc: Global, history: &History) -> Result<bool, Fail> {
-    let wanted = map_by_definition(alloc, history.all.as_slice())?;
     let whole = history.watched.whole(alloc)?;
     let is_same = history.watched.view().counts() == whole.counts();
-    Ok(is_same && is_text(branchmap_text(alloc, &whole), wanted.as_slice()))
+    Ok(is_same && is_told_by(alloc, &whole, history.all.as_slice())?)
 }
 
 /// Adds changesets in their order. The ids are those of all changesets.

@@ -179,7 +179,7 @@ fn answer_read<J: Storing<A>, D: Device, A: Allocator + Copy, R: Wait>(
     }
 }
 
-/// Answers a command that goes through all changesets, by one look that brings up the view which all share.
+/// Answers a command whose answer is long, by one look that brings up the view which all share.
 fn answer_long<J: Storing<A>, D: Device, A: Allocator + Copy, R: Wait>(
     host: &Host<'_, J, D, R, A>,
     client: KeptClient<J, A>,
@@ -248,8 +248,8 @@ fn answer_commands<J: Storing<A>, D: Device, A: Allocator + Copy, R: Wait>(
     }
 }
 
-/// Answers the commands of a batch of which some go through all changesets, by one look that brings up the view
-/// which all share.
+/// Answers the commands of a batch of which some have long answers, by one look that brings up the view which all
+/// share.
 fn answer_commands_long<J: Storing<A>, D: Device, A: Allocator + Copy, R: Wait>(
     host: &Host<'_, J, D, R, A>,
     client: KeptClient<J, A>,

@@ -3,7 +3,7 @@
 //!
 //! A [`Wire`] is a service of `http_server` that holds one client of a server: [`serve_http`] makes one and
 //! serves a connection with it. A push is served as one bundle of `hg_kept` is, and a command that reads is
-//! answered by one look at the repository, also where a batch asks several. What goes through all changesets is made
+//! answered by one look at the repository, also where a batch asks several. What has a word for each head is made
 //! of a view that all connections share, on a [`Shelf`] under a lock of its own. Each answer that depends on the
 //! repository waits until the pushes that it rests on are on the device; where the store failed there is none.
 //! Whatever else comes is answered: out of memory too is answered, and closes no connection. A body which finds no

@@ -1,4 +1,4 @@
-//! What goes through all changesets: it is made of a view that all who read share.
+//! What has a word for each head: it is made of a view that all who read share.
 
 ghost use Rattle.std.specs.Prelude.{◌≡◌, ◌≤◌, true, IfOk, MatchResult};
 ghost use Rattle.hg_ledger.specs.Clients.{IsCovered, IsLater};
@@ -19,7 +19,7 @@ use hg_types::{NoMemory, Seq};
 use std::alloc::Allocator;
 use std::sync::Wait;
 
-/// Answers a command that comes now and goes through all changesets, from the view that all who read share, by one look;
+/// Answers a command that comes now and has a long answer, from the view that all who read share, by one look;
 /// and waits until all pushes that were done then are on the device: as many as were promised when it came, or more.
 /// Where the store failed, nothing is answered.
 pub fn look_long<J: Storing<A>, D: Device, A: Allocator + Copy, R: Wait>(
@@ -52,7 +52,7 @@ pub fn look_long<J: Storing<A>, D: Device, A: Allocator + Copy, R: Wait>(
     }
 }
 
-/// Answers the commands of a batch so, of which some go through all changesets.
+/// Answers the commands of a batch so, of which some have long answers.
 pub fn look_long_batch<J: Storing<A>, D: Device, A: Allocator + Copy, R: Wait>(
     host: &Host<'_, J, D, R, A>,
     client: KeptClient<J, A>,

@@ -1,24 +1,22 @@
-use Rattle.std.proofs.Common.{◌∙◌, ap, ◌++◌, ◌∷◌, [], List, ℕ, map}
-use Rattle.std.specs.List.{join_with_byte}
-use Rattle.hex.specs.Hex.{encode_lower}
-use Rattle.hg_log.specs.Heads.{ids}
-use Rattle.hg_told.proofs.Lines.{id_word, item_more, joined_of, words_of}
+use Rattle.std.proofs.Common.{◌≡◌, ◌≢◌, ◌∙◌, ap, sym, length}
+use Rattle.hg_told.specs.Heads.{IsHeadsText}
+use Rattle.hg_told.specs.Viewed.{Viewed}
+use Rattle.hg_told.proofs.HeadIds.{all_told, if_ok, none_told}
 use Rattle.hg_told.proofs.heads.heads_text.Goals as goal
 
-pub returns : goal.returns
-returns g c = record {
-  heads = ids c.in_ok-heads.heads;
-  are_heads = c.in_ok-heads.ensures.heads;
-  says = c.in_ok-push.ensures.ok
-      ∙ ap (λ (text : List ℕ). text ++ 10 ∷ [])
-      (c.joined-text.ensures
-      ∙ joined_of 32 (λ node. encode_lower node.0) c.as_slice-node-items.result.now c.loop-node.node-index
-      c.loop-node.words.items c.loop-node-test.false c.loop-node.invariant
-      ∙ ap (join_with_byte 32) (words_of c.as_slice-node-items.result.now
-      ∙ ap (λ nodes. map encode_lower (ids nodes)) c.as_slice-node-items.ensures));
-}
+pub returns-then-len-eq0 : goal.returns-then-len-eq0
+returns-then-len-eq0 g c =
+    let rows = c.args.view.now.rows in
+    let none : length rows ≡ 0 = ap (λ (v : Viewed g.row.A.Denot). length v.rows) (sym c.copied.ensures)
+    ∙ sym c.len.ensures.len ∙ c.if-len-eq0.true in
+    if_ok c.line_of.result _ (IsHeadsText rows) (none_told rows c.in_ok-null_word.field-0.items none
+    c.in_ok-null_word.ensures) c.line_of.ensures
 
-pub loop-node-preserved : goal.loop-node-preserved
-loop-node-preserved g c =
-    item_more id_word c.as_slice-node-items.result.now c.loop-node.node-index _ c.loop-node.words.items
-    c.push_id.new.text.items c.loop-node-test.true c.loop-node.invariant c.in_ok-push_id.ensures
+pub returns : goal.returns
+returns g c =
+    let rows = c.args.view.now.rows in
+    let some : length rows ≢ 0 = λ none. c.if-len-eq0.false
+    (c.len.ensures.len ∙ ap (λ (v : Viewed g.row.A.Denot). length v.rows) c.copied.ensures ∙ none) in
+    if_ok c.line_of-2.result _ (IsHeadsText rows) (all_told rows c.heads.result.now.keys
+    c.in_ok-words_of.field-0.items some c.heads.ensures c.words_of.ensures.ordered c.in_ok-words_of.ensures.words)
+    c.line_of-2.ensures
