@@ -1,7 +1,8 @@
 -- What is made of a view is that of the repository that the view is of.
-use Rattle.std.proofs.Common.{◌≡◌, ◌≢◌, ℕ, List, true, refl, Option, None, Some, Result, Ok, Err, sym, subst, ◌∙◌}
+use Rattle.std.proofs.Common.{◌≡◌, ◌≢◌, ◌<◌, ℕ, List, length, get_or, true, refl, ap, Option, None, Some, Result, Ok, Err, sym, subst, ◌∙◌}
 use Rattle.std.specs.Prelude.{IfOk}
-use Rattle.std.specs.List.{AllZip}
+use Rattle.std.specs.List.{AllZip, list_any}
+use Rattle.std.proofs.lemmas.List.Folds.{list_any_at}
 use Rattle.hg_parts.specs.Repository.{Repository}
 use Rattle.hg_told.specs.declared.batch.Command.{Command}
 use Rattle.hg_told.specs.BranchMap.{IsBranchMap}
@@ -11,6 +12,7 @@ use Rattle.hg_http.specs.declared.command.Read.{Read}
 use Rattle.hg_http.specs.declared.command.Read.TheVariants.{Heads, Known, ListKeys, Lookup, BranchMap}
 use Rattle.hg_http.specs.Commands.{read_of, subject_of}
 use Rattle.hg_http.specs.Requests.{argument_in}
+use Rattle.hg_reading.specs.Copied.{is_branches, is_heads, HasTextFor}
 use Rattle.hg_reading.specs.Copied.{is_long, IsCommandPiece, IsCopyOf, IsJoinedOf, IsOfPiece, IsPieceIf}
 use Rattle.hg_reading.specs.Texts.{IsBatchText, IsCommandText, IsTextIf, IsTextOf}
 use Rattle.hg_reading.specs.declared.long.Piece.{Piece}
@@ -68,6 +70,17 @@ batch_told repo view commands pieces text copied each so = record {
       (piece_told repo view copied) commands pieces so.texts each so.each;
   joined = so.joined;
 }
+
+-- each piece has the text that it asks for
+pub has_text : {A : Type 0} (view : Viewed A) (heads branches : List ℕ) (pieces : List (Piece A)) (i : ℕ)
+    (piece : Piece A) → (list_any is_heads pieces ≡ true → IsHeadsText view.rows heads)
+    → (list_any is_branches pieces ≡ true → IsBranchMap view.rows view.markers branches)
+    → i < length pieces → piece ≡ get_or pieces i piece → HasTextFor view heads branches piece
+has_text view heads branches pieces i (Short made) first second low is = tt
+has_text view heads branches pieces i AllHeads first second low is =
+    first (list_any_at is_heads pieces i AllHeads low (ap is_heads (sym is)))
+has_text view heads branches pieces i Branches first second low is =
+    second (list_any_at is_branches pieces i Branches low (ap is_branches (sym is)))
 
 -- what holds of a value holds of it in other words
 pub if_ok : {X E : Type 0} (r : Result X E) (P Q : X → Type 0) → ((x : X) → P x → Q x) → IfOk r P → IfOk r Q

@@ -1,5 +1,5 @@
 -- What has a word for each head is made from a view of the changesets.
-use Rattle.std.specs.Prelude.{ℕ, ◌≡◌, Bool, true, false, List, [], Option, Some, None, length, min}
+use Rattle.std.specs.Prelude.{ℕ, ◌≡◌, Bool, true, false, List, [], Option, Some, None, length, min, ⊤}
 use Rattle.std.specs.List.{AllZip, list_any}
 use mathlib.Core.List.{IsPrefix}
 use Rattle.hg_parts.specs.Repository.{Repository}
@@ -53,6 +53,24 @@ abbrev pub IsOfPiece : {A : Type 0} → Viewed A → Piece A → List ℕ → Ty
 IsOfPiece view (Short made) text = text ≡ made
 IsOfPiece view AllHeads text = IsHeadsText view.rows text
 IsOfPiece view Branches text = IsBranchMap view.rows view.markers text
+
+-- a piece asks for the heads
+abbrev pub is_heads : {A : Type 0} → Piece A → Bool
+is_heads (Short made) = false
+is_heads AllHeads = true
+is_heads Branches = false
+
+-- a piece asks for the branches with their heads
+abbrev pub is_branches : {A : Type 0} → Piece A → Bool
+is_branches (Short made) = false
+is_branches AllHeads = false
+is_branches Branches = true
+
+-- of the two texts that are made of the view, the piece has the one that it asks for
+abbrev pub HasTextFor : {A : Type 0} → Viewed A → List ℕ → List ℕ → Piece A → Type 0
+HasTextFor view heads branches (Short made) = ⊤
+HasTextFor view heads branches AllHeads = IsHeadsText view.rows heads
+HasTextFor view heads branches Branches = IsBranchMap view.rows view.markers branches
 
 -- the texts of pieces, in order, escaped, with a `;` between
 pub record IsJoinedOf {A : Type 0} (view : Viewed A) (pieces : List (Piece A)) (text : List ℕ) : Type 0 where

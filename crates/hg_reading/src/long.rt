@@ -1,9 +1,12 @@
 //! What has a word for each head: it is made from a view of the changesets, when the server's lock is given back.
 
-ghost use Rattle.std.specs.Prelude.{◌≡◌, length, min, IfOk};
-ghost use Rattle.std.specs.List.{AllZip};
+ghost use Rattle.std.specs.Prelude.{◌≡◌, true, length, min, IfOk};
+ghost use Rattle.std.specs.List.{AllZip, list_any};
 ghost use Rattle.hg_parts.specs.Store.{repository_of};
-ghost use Rattle.hg_reading.specs.Copied.{is_long as goes_long, IsJoinedOf, IsOfPiece};
+ghost use Rattle.hg_told.specs.BranchMap.{IsBranchMap};
+ghost use Rattle.hg_told.specs.Heads.{IsHeadsText};
+ghost use Rattle.hg_reading.specs.Copied.{is_branches, is_heads, is_long as goes_long, HasTextFor};
+ghost use Rattle.hg_reading.specs.Copied.{IsJoinedOf, IsOfPiece};
 
 use hg_http::Read;
 use hg_parts::Store;
@@ -65,7 +68,8 @@ fn came_in<A: Allocator + Copy>(
     Since::of(alloc, first, known, &store.log, &store.markers)
 }
 
-/// The texts of pieces, in order.
+/// The texts of pieces, in order. Those of the heads and of the branches are made once, where a piece asks for them, and
+/// copied for each that does.
 fn texts_of<A: Allocator + Copy>(
     alloc: A,
     view: &View<A>,
@@ -73,24 +77,91 @@ fn texts_of<A: Allocator + Copy>(
 ) -> Result<Seq<Seq<u8, A>, A>, NoMemory>
     ensures { IfOk result (λ texts. AllZip (IsOfPiece view.now) pieces.now texts) }
 {
+    let heads = heads_for(alloc, view, pieces)?;
+    let branches = branches_for(alloc, view, pieces)?;
     let mut texts = Seq::new(alloc);
     for piece in pieces {
-        texts.push(text_of(alloc, view, piece)?)?;
+        texts.push(text_of(alloc, view, heads.as_slice(), branches.as_slice(), piece)?)?;
     }
     Ok(texts)
 }
 
+/// The text of the heads, where a piece asks for it.
+fn heads_for<A: Allocator + Copy>(
+    alloc: A,
+    view: &View<A>,
+    pieces: &[Piece<A>],
+) -> Result<Seq<u8, A>, NoMemory>
+    ensures { IfOk result (λ text. list_any is_heads pieces.now ≡ true → IsHeadsText view.now.rows text) }
+{
+    if ask_heads(pieces) {
+        return heads_text(alloc, view);
+    }
+    Ok(Seq::new(alloc))
+}
+
+/// Whether a piece asks for the heads.
+fn ask_heads<A: Allocator>(pieces: &[Piece<A>]) -> bool
+    ensures { result ≡ list_any is_heads pieces.now }
+{
+    pieces.iter().any(|piece| asks_heads(piece))
+}
+
+fn asks_heads<A: Allocator>(piece: &Piece<A>) -> bool
+    ensures { result ≡ is_heads piece.now }
+{
+    match piece {
+        Piece::AllHeads => true,
+        Piece::Short(_) | Piece::Branches => false,
+    }
+}
+
+/// The text of the branches with their heads, where a piece asks for it.
+fn branches_for<A: Allocator + Copy>(
+    alloc: A,
+    view: &View<A>,
+    pieces: &[Piece<A>],
+) -> Result<Seq<u8, A>, NoMemory>
+    ensures { IfOk result (λ text. list_any is_branches pieces.now ≡ true
+        → IsBranchMap view.now.rows view.now.markers text) }
+{
+    if ask_branches(pieces) {
+        return branchmap_text(alloc, view);
+    }
+    Ok(Seq::new(alloc))
+}
+
+/// Whether a piece asks for the branches.
+fn ask_branches<A: Allocator>(pieces: &[Piece<A>]) -> bool
+    ensures { result ≡ list_any is_branches pieces.now }
+{
+    pieces.iter().any(|piece| asks_branches(piece))
+}
+
+fn asks_branches<A: Allocator>(piece: &Piece<A>) -> bool
+    ensures { result ≡ is_branches piece.now }
+{
+    match piece {
+        Piece::Branches => true,
+        Piece::Short(_) | Piece::AllHeads => false,
+    }
+}
+
+/// The text of a piece, of the two that are made of the view.
 fn text_of<A: Allocator + Copy>(
     alloc: A,
     view: &View<A>,
+    heads: &[u8],
+    branches: &[u8],
     piece: &Piece<A>,
 ) -> Result<Seq<u8, A>, NoMemory>
+    requires { HasTextFor view.now heads.now branches.now piece.now }
     ensures { IfOk result (λ text. IsOfPiece view.now piece.now text) }
 {
     match piece {
         Piece::Short(text) => Seq::copy_of(alloc, text.as_slice()),
-        Piece::AllHeads => heads_text(alloc, view),
-        Piece::Branches => branchmap_text(alloc, view),
+        Piece::AllHeads => Seq::copy_of(alloc, heads),
+        Piece::Branches => Seq::copy_of(alloc, branches),
     }
 }
 
