@@ -193,9 +193,12 @@ class Side:
 def prove(stand, count, side):
     """Proves all crates in the stand, and tells what waits for each. Returns those that an earlier run proved."""
     total, kept = len(stands.proved()), set()
+    # one process for each proof: more of them cost more in all, and what waits beside the proofs has a use for each
+    # processor
+    alone = {**os.environ, "RT_JOBS": str(len(os.sched_getaffinity(0)))}
     with open(f"{LOGS}/proofs.log", "w", encoding="utf-8") as log:
         run = subprocess.Popen(["rt", "ci"], cwd=stand, stdout=subprocess.PIPE, stderr=subprocess.STDOUT,
-                               stdin=subprocess.DEVNULL, encoding="utf-8", errors="replace")
+                               stdin=subprocess.DEVNULL, encoding="utf-8", errors="replace", env=alone)
         said = []
         for line in run.stdout:
             log.write(line)

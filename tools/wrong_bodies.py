@@ -47,8 +47,10 @@ GONE = re.compile(
     r"has no field|is not in scope|is no name|has no `|operand is missing|cannot continue|can be named from here")
 # where the compiler found an error
 ERROR = re.compile(r"^(?:\./)?(src/\S+\.rt):(\d+):\d+: error", re.M)
+# the most that `grind` may count, a tenth of what it may by itself
+STEPS = "steps 400000"
 # the tactics that the prover tries on a goal that has no answer
-TACTICS = ("search tried.rules", "grind (tried.arith, steps.common_steps)")
+TACTICS = ("search tried.rules", f"grind (tried.arith, steps.common_steps) {STEPS}")
 # a file of answers that is refused: the prover lists the goals then, and does not try to offer answers to them
 NO_ANSWER = "listed : Unit\nlisted = no_answer\n"
 # what a tactic says where it finds no proof
@@ -334,7 +336,7 @@ class Crate:
                 use = f"use Rattle.{module}.{{{name}}}"
                 if use not in lines and not re.search(rf"^use .*[{{ ]{name}[,}}]", kept, re.M):
                     lines.append(use)
-        more = [f"grind (tried.arith, {', '.join(listed['using'])})"] if listed["using"] else []
+        more = [f"grind (tried.arith, {', '.join(listed['using'])}) {STEPS}"] if listed["using"] else []
         tactics = [*TACTICS, *more]
         if not answered:
             lines.append(f"use Rattle.{self.name}.proofs.{function.replace('::', '.')}.Goals as goal")
