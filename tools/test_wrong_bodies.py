@@ -128,6 +128,8 @@ def wanted_of(place):
         edit(place, "one_goal_that_is_proved", "text::write_text, clause fault", TAIL,
              goal="returns-in_err-hunk-clause-fault g c"): "is not open",
         edit(place, "one_goal_that_is_not_there", ok, TAIL, goal="returns-then-never-clause-ok g c"): "",
+        edit(place, "all_goals_asked_for", ok, TAIL, goal="all"): "",
+        edit(place, "all_goals_and_nothing_changed", ok, nothing, goal="all"): "no goal of",
     }
 
 
@@ -160,9 +162,17 @@ def by_a_constant(prover):
                 and turn.place == ("row::Row::turn", True) and all(it in text for it in parts))
 
 
+def by_right_bodies(prover):
+    """Whether a goal that is asked of the right body is proved, and told where the body is wrong."""
+    with tempfile.TemporaryDirectory(prefix="edits-") as place:
+        tail = edit(place, "tail", "text::write_text, clause ok", TAIL, goal="returns-clause-ok g c")
+        told = [wrong_bodies.Crate(prover, CRATE, turns=it).try_right([tail])[0].why for it in (False, True)]
+        return not told[0] and told[1].startswith("returns-clause-ok g c is not proved")
+
+
 def by_its_goal_alone(edits):
     """Whether one goal was enough where it should be, and nowhere else."""
-    enough = {it.name: not it.asked_why for it in edits if it.named}
+    enough = {it.name: not it.asked_why for it in edits if it.named and not it.searches_all}
     return [it for it, is_enough in enough.items() if is_enough] == ["one_goal_refused"]
 
 
@@ -178,6 +188,7 @@ def main(words):
                 print(f"{it.name}: {it.why or 'it was refused'}")
     told["a_round_without_edits"] = nothing_is_open(crate)
     told["one_goal_is_enough_where_it_should_be"] = by_its_goal_alone(wanted)
+    told["a_goal_is_asked_of_the_right_body"] = by_right_bodies(crate.prover)
     told["answers_of_other_goals_are_left_out"] = wrong_bodies.answers_to(ANSWERS, ["returns"]) == LEFT
     told["a_constant_stands_beside_its_function"] = by_a_constant(crate.prover)
     told["a_contract_is_no_body"] = bodies_of(FUNCTIONS) == ["    {", "fn next(row: &Row) -> u32 {"]

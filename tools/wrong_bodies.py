@@ -5,11 +5,15 @@
     tools/wrong_bodies.py --built FOLDER [CRATE..]  over those of another folder
     tools/wrong_bodies.py --write [CRATE..]         writes at the head of each what was seen to refuse it
     tools/wrong_bodies.py --take [CRATE..]          writes the goals there that the last run saw, and tries nothing
+    tools/wrong_bodies.py --right [CRATE..]         asks the same goals of the right bodies, which have to be proved
+
+CRATE/NAME names one wrong body in the place of all of a crate.
 
 They stand in crates/NAME/wrong/*.edit:
 
     breaks: FUNCTION, GOAL      what refuses it: a clause of the function's contract, or another goal of its proof
-    goal: NAME ARGUMENTS        that goal as the prover names it, and what its answer takes (written by --write)
+    goal: NAME ARGUMENTS        that goal as the prover names it, and what its answer takes (written by --write), or
+                                'all', where no tactic by itself proves it of the right body (by --right --write)
     file: src/FILE              the file that the next lines speak of
     old: TEXT                   stands in it once
     new: TEXT                   stands there in the wrong body
@@ -18,8 +22,11 @@ Many are tried at once, in one check of a copy of the crate. There each wrong bo
 it turns, as a function of its own with the same contract and proof; every function that is not tried has a hole in
 the place of its proof, and no body. A method of a trait, or a function that calls itself, is turned in its place,
 once in a check; what changes no function is tried by itself. Where a head has the goal, that goal alone
-is asked for: by the answer that the function's proof has, or else by each tactic that the prover would try. All other
-goals of that function are left. Where a head has none, a check before lists the goals that are the clause it names.
+is asked for: by the answer that the function's proof has, or else by the tactics that the prover tries first. All other
+goals of that function are left. Where a head has none, a check before lists the goals that are the clause it names;
+where it has 'all', the prover goes through all goals by itself, with whatever it tries.
+
+That a goal is refused so shows something only where the same way proves it of the right body. --right looks at that.
 
 A wrong body is refused where the prover does not prove a goal of the function that its head names. That a
 caller is not proved any more, or that the check ends in some other way, counts for nothing: such a wrong body is
@@ -44,13 +51,12 @@ LOGS = f"{sources.ROOT}/build/wrong"
 RESERVED = re.compile(r"^\./proofs/(\S+)/Proof\.antt: error\[reserved-name\]", re.M)
 # what a proof file says that names something which the edit took away
 GONE = re.compile(
-    r"has no field|is not in scope|is no name|has no `|operand is missing|cannot continue|can be named from here")
+    r"has no field|is not in scope|is no name|has no `|operand is missing|cannot continue|can be named from here|nearest: |"
+    r"^: module $")
 # where the compiler found an error
 ERROR = re.compile(r"^(?:\./)?(src/\S+\.rt):(\d+):\d+: error", re.M)
-# the most that `grind` may count, a tenth of what it may by itself
-STEPS = "steps 400000"
-# the tactics that the prover tries on a goal that has no answer
-TACTICS = ("search tried.rules", f"grind (tried.arith, steps.common_steps) {STEPS}")
+# the tactics by which a goal is asked for that has no answer: those that the prover tries first
+TACTICS = ("search tried.rules", "grind (tried.arith, steps.common_steps)")
 # a file of answers that is refused: the prover lists the goals then, and does not try to offer answers to them
 NO_ANSWER = "listed : Unit\nlisted = no_answer\n"
 # what a tactic says where it finds no proof
@@ -61,6 +67,10 @@ LISTS = re.compile(r"#\[tactic\(((?:[^\[\]])*?)\)\]\s*(?:#\[[^\n]*\]\s*|///[^\n]
 CONSTANT = re.compile(r"^(?:pub(?:\([a-z]+\))? )?(?:const|static) (\w+):.*?;$", re.M | re.S)
 # the most wrong bodies that stand beside each other in one check
 MOST = 64
+# what a head has in the place of a goal where all of them are asked for
+ALL = "all"
+# why a goal is not asked of a right body
+NO_SUCH_GOAL = "the right body has no such goal"
 
 
 def toolchain():
@@ -130,14 +140,15 @@ class Edit:
             elif word == "new":
                 self.pairs.append((file, old, text))
         # the goals that are asked for, and the one that refused it; why those alone did not
-        self.asks, self.to_ask, self.asked_why = [self.named] if self.named else [], "", ""
+        self.searches_all = self.named == ALL
+        self.asks, self.to_ask, self.asked_why = [self.named] if self.named and not self.searches_all else [], "", ""
         self.why, self.seen = "", []
         # the function that it turns by itself, and whether it stands beside it; the constant by which it turns it
         self.number, self.place, self.constant = 0, None, None
 
     def has_all_asked(self):
-        """Whether all goals of its function are asked for: its head does not say which one refuses it."""
-        return not (self.asks or self.function and self.goal)
+        """Whether all goals of its function are asked for: its head says so, or not which one refuses it."""
+        return self.searches_all or not (self.asks or self.function and self.goal)
 
     def turned(self, folder, functions):
         """The functions that its texts stand in; none where it changes a constant or a type."""
@@ -173,8 +184,9 @@ def edits_of(folder):
 class Crate:
     """A crate whose wrong bodies are tried."""
 
-    def __init__(self, prover, name, folder=None):
-        self.prover, self.name = prover, name
+    def __init__(self, prover, name, folder=None, turns=True):
+        # whether functions are turned, or what is asked of the wrong bodies is asked of them as they are
+        self.prover, self.name, self.turns = prover, name, turns
         self.folder = folder or f"{sources.ROOT}/crates/{name}"
         self.functions = sources.functions(f"{self.folder}/src")
         self.rounds, self.reserved = 0, set()
@@ -284,7 +296,7 @@ class Crate:
         made = f"{fn.name}_wrong_{edit.number}" if is_beside else fn.name
         if edit.constant:
             text = self.with_constant(room, edit, text)
-        else:
+        elif self.turns:
             text = edit.turn(text)
         text = re.sub(rf"\bfn {fn.name}\b", f"fn {made}", text, count=1)
         attribute = lists if edit.has_all_asked() else "none"
@@ -298,8 +310,10 @@ class Crate:
         proofs = {}
         for kind in ("Answers", "Invariants"):
             path = f"{self.folder}/proofs/{name.replace('::', '/')}/{kind}.antt"
-            text = sources.read(path) if os.path.exists(path) else ""
-            proofs[kind] = text.replace(*(f"proofs.{it.replace('::', '.')}." for it in (name, full)))
+            proof = sources.read(path) if os.path.exists(path) else ""
+            proof = proof.replace(*(f"proofs.{it.replace('::', '.')}." for it in (name, full)))
+            # a step is named after the constant that it looks at
+            proofs[kind] = re.sub(*self.constant_names(edit), proof) if edit.constant else proof
         if edit.asks:
             proofs["Answers"], room.tactics[edit] = self.asking(edit.asks, full, proofs["Answers"], lists)
         elif not edit.has_all_asked():
@@ -308,14 +322,20 @@ class Crate:
             if text:
                 room.proofs[f"proofs/{full.replace('::', '/')}/{kind}.antt"] = text
 
+    def constant_names(self, edit):
+        """The name of the constant that an edit changes, as a pattern, and the name of the changed one beside it."""
+        name = edit.constant[3]
+        return rf"\b{name}\b", f"{name}_WRONG_{edit.number}"
+
     def with_constant(self, room, edit, text):
         """Puts the constant that an edit changes beside that one under a name of its own. Gives the function that takes
         it."""
-        path, start, end, name = edit.constant
-        made = f"{name}_WRONG_{edit.number}"
-        item = re.sub(rf"\b{name}\b", made, edit.turn(sources.read(path)[start:end]), count=1)
+        path, start, end, _ = edit.constant
+        name, made = self.constant_names(edit)
+        item = sources.read(path)[start:end]
+        item = re.sub(name, made, edit.turn(item) if self.turns else item, count=1)
         room.pieces.setdefault(path, []).append((end, end, f"\n{item}"))
-        return re.sub(rf"\b{name}\b", made, text)
+        return re.sub(name, made, text)
 
     def asking(self, asks, function, answers, lists):
         """Answers that ask for these goals alone: by the answers that they have, and each other one by every tactic
@@ -336,7 +356,7 @@ class Crate:
                 use = f"use Rattle.{module}.{{{name}}}"
                 if use not in lines and not re.search(rf"^use .*[{{ ]{name}[,}}]", kept, re.M):
                     lines.append(use)
-        more = [f"grind (tried.arith, {', '.join(listed['using'])}) {STEPS}"] if listed["using"] else []
+        more = [f"grind (tried.arith, {', '.join(listed['using'])})"] if listed["using"] else []
         tactics = [*TACTICS, *more]
         if not answered:
             lines.append(f"use Rattle.{self.name}.proofs.{function.replace('::', '.')}.Goals as goal")
@@ -455,6 +475,26 @@ class Crate:
             self.try_round(chosen, kept)
             left = [it for it in left if it not in chosen]
 
+    def try_right(self, edits):
+        """Asks of the right bodies the goals that refuse these wrong ones, each once, and gives those that they have.
+        What is not proved so has a reason."""
+        asked = {(it.function, it.named): it for it in edits if it.named}
+        left = []
+        for number, edit in enumerate(asked.values()):
+            edit.number, edit.place = number, self.placed(edit)
+            if edit.place:
+                left.append(edit)
+        while left:
+            chosen = self.next_round(left)
+            left = [it for it in left if it not in chosen]
+            made = self.made(chosen)
+            said = self.check(made, {it for names in made.names.values() for it in names.values()}, "")
+            for edit in chosen:
+                there = made.names[edit][edit.place[0]]
+                edit.why = not_proved(self.name, edit, there, made.tactics.get(edit), said)
+        # a branch that the wrong body alone has brings goals of its own
+        return [it for it in asked.values() if it.place and it.why != NO_SUCH_GOAL]
+
     def try_all(self, edits):
         """Tries edits: in rounds, and each that was not refused once more alone. What is then not refused has a
         reason."""
@@ -471,8 +511,9 @@ class Crate:
             for number, edit in enumerate(left):
                 edit.number, edit.place = number, self.placed(edit)
             # the goals of those without one are listed first; of those without a head all are asked for
-            self.try_rounds([it for it in left if it.place and not it.asks], kept)
-            self.try_rounds([it for it in left if it.asks or not it.place], kept)
+            unlisted = [it for it in left if it.place and not it.asks and not it.has_all_asked()]
+            self.try_rounds(unlisted, kept)
+            self.try_rounds([it for it in left if it not in unlisted or it.asks], kept)
             for edit in edits:
                 if edit.why and self.asked(edit) and edit.apply(self.folder, {}):
                     edit.why = ""
@@ -633,6 +674,24 @@ def judge_asked(edit, function, there, tactics, said):
     edit.why = edit.asked_why = f"no goal that was asked for is refused ({', '.join(edit.asks)}): {told}"[:1000]
 
 
+def not_proved(crate, edit, there, tactics, said):
+    """Why what an edit's head asks for is not proved of a right body, which is `there` in the copy; nothing where it
+    is."""
+    if not re.search(rf"^fn \S+::{re.escape(there)}: ", said, re.M):
+        return first_error(said)
+    if edit.searches_all:
+        opened = {it: goals for it, goals in open_goals(crate, said).items() if f"{it}::".startswith(f"{there}::")}
+        return f"not all is proved: {opened}"[:1000] if opened else ""
+    place = re.escape(f"./proofs/{there.replace('::', '/')}/Answers.antt")
+    told = dict(re.findall(rf"^{place}:\d+:\d+: error: (?:`([^`]+)`: )?(.*)$", said, re.M))
+    goal = edit.named.split()[0]
+    tries = [goal, *(f"tried-0-{number}" for number in range(1, tactics[goal]))]
+    if any(it not in told for it in tries):
+        return ""
+    is_there = not any(GONE.search(re.sub(r"`[^`]*`", "", told[it])) for it in tries)
+    return f"{edit.named} is not proved: {told}"[:1000] if is_there else NO_SUCH_GOAL
+
+
 def spoken(goal):
     """A goal in words: `returns-in-Ok-clause-text` is the clause `text`, where the function returns in that case."""
     found = re.fullmatch(r"returns\b.*?(?:-clause(?:-([A-Za-z]\w*))?(?:-\d+)?)?", goal)
@@ -649,7 +708,8 @@ def write_head(edit):
         edit.goal = (clauses or opened)[0]
     head = [f"breaks: {edit.function}, {edit.goal}" if edit.goal else f"breaks: {edit.function}"]
     # a goal that was asked for alone and not refused so is left out
-    head += [f"goal: {edit.to_ask}"] if edit.to_ask and not (edit.asked_why and edit.to_ask == edit.named) else []
+    goal = ALL if edit.searches_all else edit.to_ask
+    head += [f"goal: {goal}"] if goal and not (edit.asked_why and goal == edit.named) else []
     rest = [it for it in sources.read(edit.path).splitlines() if not it.startswith(("breaks:", "goal:"))]
     with open(edit.path, "w", encoding="utf-8") as file:
         file.write("\n".join([*head, *rest]) + "\n")
@@ -675,6 +735,28 @@ def tell(name, crate, edits, words):
     return refused
 
 
+def chosen_of(crate, names):
+    """The edits of a crate that are named, each by itself or with all of the crate."""
+    return [it for it in edits_of(crate.folder) if {crate.name, f"{crate.name}/{it.name}"} & set(names)]
+
+
+def ask_right(prover, name, names, words):
+    """Asks of the right bodies of a crate what is asked of the wrong ones, and writes the heads of those whose goal is
+    not proved so; returns how many were proved, and how many not."""
+    crate = Crate(prover, name, turns=False)
+    edits = chosen_of(crate, names)
+    tried = crate.try_right(edits)
+    missed = {(it.function, it.named) for it in tried if it.why}
+    for edit in (it for it in tried if it.why):
+        print(f"right body {name}/{edit.name}: NOT PROVED: {edit.why}")
+    for edit in edits if "--write" in words else ():
+        if (edit.function, edit.named) in missed and not edit.searches_all:
+            edit.to_ask, edit.asked_why = ALL, ""
+            write_head(edit)
+    print(f"{name}: {len(tried) - len(missed)} of {len(tried)} goals proved of right bodies", flush=True)
+    return len(tried) - len(missed), len(missed)
+
+
 def take_goals(name):
     """Writes the goals that the last run saw at the heads of those that have none."""
     path = f"{LOGS}/{name}.goals"
@@ -691,7 +773,7 @@ def main(words):
         at = words.index("--built")
         built = os.path.abspath(words[at + 1])
         del words[at : at + 2]
-    if sources.shows_usage(__doc__, words, ("--write", "--take")):
+    if sources.shows_usage(__doc__, [it.partition("/")[0] for it in words], ("--write", "--take", "--right")):
         return 2
     names = [it for it in words if not it.startswith("--")]
     names = names or [it for it in sources.rows() if os.path.isdir(f"{sources.ROOT}/crates/{it}/wrong")]
@@ -700,9 +782,12 @@ def main(words):
             take_goals(name)
         return 0
     prover, failed, passed = Prover(built), 0, 0
-    for name in names:
+    for name in dict.fromkeys(it.partition("/")[0] for it in names if "--right" in words):
+        proved, missed = ask_right(prover, name, names, words)
+        failed, passed = failed + missed, passed + proved
+    for name in dict.fromkeys(it.partition("/")[0] for it in names if "--right" not in words):
         crate = Crate(prover, name)
-        edits = crate.try_all(edits_of(crate.folder))
+        edits = crate.try_all(chosen_of(crate, names))
         refused = tell(name, crate, edits, words)
         failed, passed = failed + len(edits) - refused, passed + refused
     print(f"{passed} passed, {failed} failed")
