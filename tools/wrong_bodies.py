@@ -312,10 +312,11 @@ class Crate:
             path = f"{self.folder}/proofs/{name.replace('::', '/')}/{kind}.antt"
             proof = sources.read(path) if os.path.exists(path) else ""
             proof = proof.replace(*(f"proofs.{it.replace('::', '.')}." for it in (name, full)))
-            # a step is named after the constant that it looks at
-            proofs[kind] = re.sub(*self.constant_names(edit), proof) if edit.constant else proof
+            proofs[kind] = self.in_its_names(edit, proof)
         if edit.asks:
-            proofs["Answers"], room.tactics[edit] = self.asking(edit.asks, full, proofs["Answers"], lists)
+            asks = [self.in_its_names(edit, it) for it in edit.asks]
+            proofs["Answers"], tactics = self.asking(asks, full, proofs["Answers"], lists)
+            room.tactics[edit] = {self.in_old_names(edit, it): count for it, count in tactics.items()}
         elif not edit.has_all_asked():
             proofs["Answers"] = NO_ANSWER
         for kind, text in proofs.items():
@@ -326,6 +327,15 @@ class Crate:
         """The name of the constant that an edit changes, as a pattern, and the name of the changed one beside it."""
         name = edit.constant[3]
         return rf"\b{name}\b", f"{name}_WRONG_{edit.number}"
+
+    def in_its_names(self, edit, text):
+        """A text of a proof, as it speaks of a wrong body beside its function: goals and steps are named after the
+        constants that they look at."""
+        return re.sub(*self.constant_names(edit), text) if edit.constant else text
+
+    def in_old_names(self, edit, text):
+        """What is said of such a wrong body, in the names that its function has."""
+        return text.replace(self.constant_names(edit)[1], edit.constant[3]) if edit.constant else text
 
     def with_constant(self, room, edit, text):
         """Puts the constant that an edit changes beside that one under a name of its own. Gives the function that takes
@@ -461,7 +471,7 @@ class Crate:
             names = made.names[edit]
             (name, there), *_ = names.items()
             if edit in made.tactics:
-                judge_asked(edit, name, there, made.tactics[edit], said)
+                judge_asked(edit, name, there, made.tactics[edit], self.in_old_names(edit, said))
             elif edit in made.put and not edit.has_all_asked():
                 edit.asks = [f"{it} {self.arguments(name)}" for it in left_goals(self.name, there, said)
                              if spoken(it) == edit.goal]
@@ -490,8 +500,8 @@ class Crate:
             made = self.made(chosen)
             said = self.check(made, {it for names in made.names.values() for it in names.values()}, "")
             for edit in chosen:
-                there = made.names[edit][edit.place[0]]
-                edit.why = not_proved(self.name, edit, there, made.tactics.get(edit), said)
+                there, told = made.names[edit][edit.place[0]], self.in_old_names(edit, said)
+                edit.why = not_proved(self.name, edit, there, made.tactics.get(edit), told)
         # a branch that the wrong body alone has brings goals of its own
         return [it for it in asked.values() if it.place and it.why != NO_SUCH_GOAL]
 
