@@ -89,6 +89,12 @@ fn size() -> usize {
 }
 """
 
+# what the prover says of a function with an answer that it refuses
+REFUSED = """./proofs/text/apply/Answers.antt:10:14: error: `returns-clause-ok`: {}
+fn hg_delta::text::apply: not proved; it stands on `Rattle.hg_delta.proofs.text.apply.Answers.returns-clause-ok`, \
+which antt refuses
+"""
+
 
 def edit(place, name, breaks, *pairs, goal=""):
     path = f"{place}/{name}.edit"
@@ -170,6 +176,12 @@ def by_right_bodies(prover):
         return not told[0] and told[1].startswith("returns-clause-ok g c is not proved")
 
 
+def by_answers_that_fit():
+    """Whether an answer counts that does not fit, and none that names what is gone."""
+    told = {it: wrong_bodies.open_goals(CRATE, REFUSED.format(it)) for it in ("has no field `rest`", "not of this type")}
+    return list(told.values()) == [{}, {"text::apply": ["returns-clause-ok"]}]
+
+
 def by_its_goal_alone(edits):
     """Whether one goal was enough where it should be, and nowhere else."""
     enough = {it.name: not it.asked_why for it in edits if it.named and not it.searches_all}
@@ -189,6 +201,7 @@ def main(words):
     told["a_round_without_edits"] = nothing_is_open(crate)
     told["one_goal_is_enough_where_it_should_be"] = by_its_goal_alone(wanted)
     told["a_goal_is_asked_of_the_right_body"] = by_right_bodies(crate.prover)
+    told["an_answer_that_names_what_is_gone_counts_for_nothing"] = by_answers_that_fit()
     told["answers_of_other_goals_are_left_out"] = wrong_bodies.answers_to(ANSWERS, ["returns"]) == LEFT
     told["a_constant_stands_beside_its_function"] = by_a_constant(crate.prover)
     told["a_contract_is_no_body"] = bodies_of(FUNCTIONS) == ["    {", "fn next(row: &Row) -> u32 {"]

@@ -604,7 +604,7 @@ def open_goals(crate, said):
             quoted = re.findall(r"`([^`]+)`", reason)
             if "did not prove" in reason:
                 goals += [it for it in quoted if it != "search"]
-            elif reason.startswith("it stands on") and "which antt refuses" in reason:
+            elif reason.startswith("it stands on") and "which antt refuses" in reason and not names_gone(plain(name), said):
                 own = f"Rattle.{crate}.proofs.{plain(name).replace('::', '.')}."
                 goals += [it.rpartition(".")[2] for it in quoted if it.startswith(own)]
         if told.startswith("not proved") and not goals:
@@ -614,13 +614,23 @@ def open_goals(crate, said):
     return found
 
 
+def answer_errors(name, said):
+    """What is said of the files of a function's proof."""
+    return re.findall(rf"^\./proofs/{name.replace('::', '/')}/\w+\.antt:\d+:\d+: error: (.*)$", said, re.M)
+
+
+def names_gone(name, said):
+    """Whether a file of a function's proof names what is not there any more: that it is refused says nothing of the
+    clause then."""
+    return any(GONE.search(re.sub(r"`[^`]*`", "", it)) for it in answer_errors(name, said))
+
+
 def refused_answers(name, said):
-    """The goals whose answers, in the files of a function's proof, are refused; none where a file names what is not
-    there any more, which says nothing of the clause."""
-    errors = re.findall(rf"^\./proofs/{name.replace('::', '/')}/\w+\.antt:\d+:\d+: error: (.*)$", said, re.M)
-    if any(GONE.search(re.sub(r"`[^`]*`", "", it)) for it in errors):
+    """The goals whose answers, in the files of a function's proof, are refused; none where a file names what is gone.
+    """
+    if names_gone(name, said):
         return []
-    return [it for error in errors for it in re.findall(r"^`([^`]+)`", error)]
+    return [it for error in answer_errors(name, said) for it in re.findall(r"^`([^`]+)`", error)]
 
 
 def judge(edit, names, goals, said):
