@@ -1,4 +1,4 @@
-//! A store that is served to connections, each on a thread of its own, for as long as it can be added to.
+//! A store that is served to connections, each on a thread, for as long as it can be added to.
 
 ghost use Rattle.std.specs.Prelude.{◌≡◌, [], length};
 ghost use Rattle.hg_store.specs.Log.{IsSettled};
@@ -18,14 +18,14 @@ use std::alloc::Global;
 use std::marker::Brand;
 use std::net::{SocketAddr, TcpListener, TcpStream};
 use std::sync::Wait;
-use std::thread;
 use std::thread::{Builder, Scope};
 use std::time::{Clock, Duration};
+use std::{io, thread};
 
 /// How many bytes the stack of a connection's thread has.
 const STACK: usize = 524_288;
 
-/// How many milliseconds are waited after a connection that could not be accepted, or had no thread.
+/// How many milliseconds are waited after a connection that could not be accepted, or a thread that did not start.
 const PAUSE: u64 = 100;
 
 /// A service, and where its connections come from.
@@ -44,45 +44,82 @@ where
     D: Device + Drop + Send,
     R: HostingRuntime,
 {
-    /// Serves a connection. Where serving is over, whoever accepts connections is woken by one more.
-    fn attend(&self, stream: TcpStream) {
-        self.service.connect(self.rt, self.alloc, stream);
-        if self.service.slots().is_to_wake() {
-            let _ = TcpStream::connect(self.rt, self.address);
+    /// Serves connections, one after the other, for as long as no more threads wait for one than are wanted. Where
+    /// serving is over, one that waits is woken.
+    fn attend_all(&self) {
+        'attending: for _ in self.rt.forever() {
+            let Some(stream) = self.accept() else {
+                return;
+            };
+            self.service.connect(self.rt, self.alloc, stream);
+            if self.service.slots().is_to_wake() {
+                self.wake();
+            }
+            if !self.service.slots().stay(self.rt) {
+                return;
+            }
         }
+        unreachable!()
     }
 
-    /// Starts a thread that serves the connection. Where there is none, the connection is closed, and that is printed.
-    fn start<E>(&'s self, scope: &'s Scope<'s, E>, stream: TcpStream) {
-        let started = Builder::new()
+    /// Waits for a connection. Where one is not accepted, that is printed once, and it is tried again each while.
+    /// None where serving is over: another one that waits is woken then, and that one wakes the next.
+    fn accept(&self) -> Option<TcpStream> {
+        let mut is_printed = false;
+        'accepting: for _ in self.rt.forever() {
+            let accepted = self.listener.accept();
+            if self.service.slots().is_over() {
+                if self.service.slots().leave(self.rt) {
+                    self.wake();
+                }
+                return None;
+            }
+            match accepted {
+                Ok((stream, _)) => {
+                    self.service.slots().begin(self.rt);
+                    return Some(stream);
+                }
+                Err(error) => {
+                    if !is_printed {
+                        let _ = eprintln!(self.rt;
+                            "hg_pushd: a connection was not accepted: {error}"
+                        );
+                    }
+                    is_printed = true;
+                    thread::sleep(self.rt, Duration::from_millis(PAUSE));
+                }
+            }
+        }
+        unreachable!()
+    }
+
+    /// Wakes a thread that waits for a connection, by one.
+    fn wake(&self) {
+        let _ = TcpStream::connect(self.rt, self.address);
+    }
+
+    /// Starts a thread that waits for connections and serves them, and says whether there is one.
+    fn start<E>(&'s self, scope: &'s Scope<'s, E>) -> io::Result<()> {
+        Builder::new()
             .stack_size(STACK)
-            .spawn_scoped(scope, move || self.attend(stream));
-        if let Err(error) = started {
-            self.service.slots().give_back(self.rt);
-            let _ = eprintln!(self.rt; "hg_pushd: no thread for a connection: {error}");
-            thread::sleep(self.rt, Duration::from_millis(PAUSE));
-        }
+            .spawn_scoped(scope, move || self.attend_all())?;
+        Ok(())
     }
 
-    /// Accepts connections, as many at one time as there are places, until serving is over. Where one is not
-    /// accepted, that is printed once, and it is tried again each while.
+    /// Sees to it that a thread waits for a connection wherever there is a place for one, until serving is over.
+    /// Where a thread cannot be started, that is printed once, and it is tried again each while.
     fn admit_all<E>(&'s self, scope: &'s Scope<'s, E>) {
         let mut is_printed = false;
         'admitting: for _ in self.rt.forever() {
             if !self.service.slots().take(self.rt) {
                 return;
             }
-            match self.listener.accept() {
-                Ok((stream, _)) => {
-                    is_printed = false;
-                    self.start(scope, stream);
-                }
+            match self.start(scope) {
+                Ok(()) => is_printed = false,
                 Err(error) => {
-                    self.service.slots().give_back(self.rt);
+                    let _ = self.service.slots().leave(self.rt);
                     if !is_printed {
-                        let _ = eprintln!(self.rt;
-                            "hg_pushd: a connection was not accepted: {error}"
-                        );
+                        let _ = eprintln!(self.rt; "hg_pushd: no thread for a connection: {error}");
                     }
                     is_printed = true;
                     thread::sleep(self.rt, Duration::from_millis(PAUSE));

@@ -241,14 +241,13 @@ where
         &self.slots
     }
 
-    /// Serves a connection over a socket, and gives its place back. Where the store failed, serving is over.
+    /// Serves a connection over a socket. Where the store failed, serving is over.
     pub(crate) fn connect(&self, rt: &R, alloc: Global, stream: TcpStream) {
         self.board.connect();
         if let Ok(ConnectionEnd::NotStored) = self.attend(rt, alloc, &stream) {
             self.slots.end(rt, Over::StoreFailed);
         }
         self.board.disconnect();
-        self.slots.give_back(rt);
     }
 
     /// Serves a connection over a socket. An error of the socket, of the clock or of the random bytes, and memory
