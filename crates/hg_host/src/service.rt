@@ -273,7 +273,7 @@ where
         let (client, end) = self.serve(rt, alloc, keys, client, &mut reader, &mut writer);
         self.leave(rt, client);
         // where an answer was the last, the client may still send what nobody reads
-        if end == ConnectionEnd::Done {
+        if end == ConnectionEnd::Done && !patience.is_at_end() {
             drain(rt, stream);
         }
         Ok(end)

@@ -20,6 +20,7 @@ pub struct Patience<'a, R: Clock> {
     idle: Duration,
     since: Cell<Instant>,
     pace: Cell<Pace>,
+    is_at_end: Cell<bool>,
 }
 
 impl<'a, R: Clock> Patience<'a, R> {
@@ -34,7 +35,13 @@ impl<'a, R: Clock> Patience<'a, R> {
                 moved: 0,
                 reads: false,
             }),
+            is_at_end: Cell::new(false),
         })
+    }
+
+    /// Whether a read found the end of what comes on the connection.
+    pub fn is_at_end(&self) -> bool {
+        self.is_at_end.get()
     }
 
     /// So many bytes were read, or written. The time begins again where a request or an answer does, and after
@@ -96,6 +103,7 @@ impl<R: Clock + Wait> Read for Line<'_, R> {
             match stream.read(buf) {
                 Ok(count) => {
                     self.patience.note(count, true)?;
+                    self.patience.is_at_end.set(count == 0);
                     return Ok(count);
                 }
                 Err(error) => self.may_go_on(error)?,

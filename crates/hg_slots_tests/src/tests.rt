@@ -1,10 +1,11 @@
 //! Places that one thread takes and gives back, and the end of serving.
 
 use hg_slots::{Over, Slots};
+use std::sync::Wait;
 use std::test::*;
 
 /// So many threads, each with a connection.
-fn serving(rt: &HostRuntime, slots: &Slots, threads: u32) -> bool {
+fn serving<R: Wait>(rt: &R, slots: &Slots, threads: u32) -> bool {
     let mut all = true;
     for _ in 0..threads {
         all &= slots.take(rt);
@@ -29,9 +30,9 @@ fn places_are_taken_and_given_back(rt: HostRuntime) {
 fn eight_threads_wait(rt: HostRuntime) {
     let slots = Slots::new(9);
     assert_eq!(rt; serving(&rt, &slots, 9), true);
-    let mut waiting = 0;
+    let mut waiting = 0u32;
     for _ in 0..9 {
-        waiting += u32::from(slots.stay(&rt));
+        waiting = waiting.saturating_add(u32::from(slots.stay(&rt)));
     }
     assert_eq!(rt; waiting, 8);
     slots.begin(&rt);
