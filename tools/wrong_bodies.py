@@ -604,9 +604,9 @@ def open_goals(crate, said):
             quoted = re.findall(r"`([^`]+)`", reason)
             if "did not prove" in reason:
                 goals += [it for it in quoted if it != "search"]
-            elif reason.startswith("it stands on") and "which antt refuses" in reason and not names_gone(plain(name), said):
+            elif reason.startswith("it stands on") and "which antt refuses" in reason:
                 own = f"Rattle.{crate}.proofs.{plain(name).replace('::', '.')}."
-                goals += [it.rpartition(".")[2] for it in quoted if it.startswith(own)]
+                goals += those_that_fit([it.rpartition(".")[2] for it in quoted if it.startswith(own)], plain(name), said)
         if told.startswith("not proved") and not goals:
             goals = refused_answers(plain(name), said)
         if goals:
@@ -615,22 +615,24 @@ def open_goals(crate, said):
 
 
 def answer_errors(name, said):
-    """What is said of the files of a function's proof."""
-    return re.findall(rf"^\./proofs/{name.replace('::', '/')}/\w+\.antt:\d+:\d+: error: (.*)$", said, re.M)
+    """What is said of the files of a function's proof: for each error the goal or the lemma, and whether it names what
+    is not there any more."""
+    errors = re.findall(rf"^\./proofs/{name.replace('::', '/')}/\w+\.antt:\d+:\d+: error: (?:`([^`]+)`: )?(.*)$", said, re.M)
+    return [(goal, bool(GONE.search(re.sub(r"`[^`]*`", "", it)))) for goal, it in errors]
 
 
-def names_gone(name, said):
-    """Whether a file of a function's proof names what is not there any more: that it is refused says nothing of the
-    clause then."""
-    return any(GONE.search(re.sub(r"`[^`]*`", "", it)) for it in answer_errors(name, said))
+def those_that_fit(goals, name, said):
+    """Of the goals whose answers are refused, those whose answers name nothing that is gone: such an answer says
+    nothing of the clause. None where a lemma beside the answers names it."""
+    gone = {goal for goal, is_gone in answer_errors(name, said) if is_gone}
+    return [it for it in goals if it not in gone] if gone <= set(goals) else []
 
 
 def refused_answers(name, said):
     """The goals whose answers, in the files of a function's proof, are refused; none where a file names what is gone.
     """
-    if names_gone(name, said):
-        return []
-    return [it for error in answer_errors(name, said) for it in re.findall(r"^`([^`]+)`", error)]
+    errors = answer_errors(name, said)
+    return [] if any(is_gone for _, is_gone in errors) else [goal for goal, _ in errors if goal]
 
 
 def judge(edit, names, goals, said):

@@ -174,7 +174,7 @@ where
     hosted.serve_all();
     let over = service.slots().over(rt);
     let clients = Vec::new(alloc);
-    let _closed = service.close(rt, alloc, clients);
+    drop(service.close(rt, alloc, clients));
     over.unwrap_or(Over::StoreFailed)
 }
 
@@ -196,9 +196,13 @@ where
 {
     let capacity = terms.capacity.clamp(1, 65_536);
     let Ok((queue, taker)) = PartQueue::new(alloc, capacity) else {
+        drop(recovered);
         return Over::NoMemory;
     };
     let Ok(tally) = Tally::new(alloc) else {
+        drop(recovered);
+        drop(queue);
+        drop(taker);
         return Over::NoMemory;
     };
     host_named::<Brand, D, R>(

@@ -1,6 +1,6 @@
 //! A server and the ledger of its store, with what its connections share.
 
-ghost use Rattle.std.specs.Prelude.{◌≡◌, ◌++◌, ◌∷◌, [], length};
+ghost use Rattle.std.specs.Prelude.{◌≡◌, ◌++◌, ◌∷◌, [], length, IfOk};
 ghost use mathlib.Core.List.{IsPrefix};
 ghost use Rattle.std.specs.Option.{option_map};
 ghost use Rattle.hg_types.specs.declared.item.Taken.{Taken};
@@ -99,6 +99,13 @@ where
         requires recovered { IsRecovered J.head.publishing J.head J.stored J.first }
         requires count { recovered.stored ≡ length J.stored }
     {
+        let Ok((board, free)) = rooms(rt, alloc, &terms, recovered.log.end) else {
+            drop(recovered);
+            drop(queue);
+            drop(taker);
+            drop(tally);
+            return Err(NoMemory);
+        };
         let Recovered {
             publishing: _,
             repo,
@@ -106,9 +113,6 @@ where
             stored,
             records: _,
         } = recovered;
-        let places = (terms.connections as usize).saturating_add(WITNESSES);
-        let board = Board::new(rt, alloc, log.end as u64)?;
-        let free = Vec::with_capacity(alloc, places)?;
         let server = Server::new(alloc, repo, queue, taker);
         let witnesses = (new_client(rt, &server), new_client(rt, &server));
         let ledger = match Ledger::new(alloc, log, witnesses, tally) {
@@ -278,6 +282,21 @@ where
         }
         Ok(end)
     }
+}
+
+/// A board for a store of so many bytes, and room for the clients that no connection has.
+fn rooms<'a, J: Storing<Global>, R: Wait + Clock + Eprint + RandomSource>(
+    rt: &'a R,
+    alloc: Global,
+    terms: &HostTerms<'_>,
+    end: usize,
+) -> Result<(Board<'a, R>, Vec<KeptClient<J>>), NoMemory>
+    ensures { IfOk result (λ made. made.1.items ≡ []) }
+{
+    let board = Board::new(rt, alloc, end as u64)?;
+    let places = (terms.connections as usize).saturating_add(WITNESSES);
+    let free = Vec::with_capacity(alloc, places)?;
+    Ok((board, free))
 }
 
 /// A client that has seen nothing.
