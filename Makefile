@@ -55,8 +55,9 @@ host-demo: $(PROGRAM)
 test: toolchain
 	@python3 tools/gate.py
 
+# one process for each proof: left to itself, `rt ci` has the longest chain of crates wait for memory that it does not want
 test-all: toolchain
-	@rt ci
+	@RT_JOBS=$$(nproc) rt ci
 
 wrong-bodies: $(PROGRAM)
 	@python3 tools/wrong_bodies.py

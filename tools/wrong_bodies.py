@@ -14,6 +14,7 @@ They stand in crates/NAME/wrong/*.edit:
     breaks: FUNCTION, GOAL      what refuses it: a clause of the function's contract, or another goal of its proof
     goal: NAME ARGUMENTS        that goal as the prover names it, and what its answer takes (written by --write), or
                                 'all', where no tactic by itself proves it of the right body (by --right --write)
+    steps: all                  the right body wants all that `grind` may count, and not a tenth (by --right --write)
     file: src/FILE              the file that the next lines speak of
     old: TEXT                   stands in it once
     new: TEXT                   stands there in the wrong body
@@ -56,7 +57,9 @@ GONE = re.compile(
 # where the compiler found an error
 ERROR = re.compile(r"^(?:\./)?(src/\S+\.rt):(\d+):\d+: error", re.M)
 # the tactics by which a goal is asked for that has no answer: those that the prover tries first
-TACTICS = ("search tried.rules", "grind (tried.arith, steps.common_steps)")
+SEARCH, GRIND = "search tried.rules", "grind (tried.arith, steps.common_steps)"
+# the most that `grind` counts for them, a tenth of what it may by itself; a head that says so has it count as far
+FEW_STEPS = " steps 400000"
 # a file of answers that is refused: the prover lists the goals then, and does not try to offer answers to them
 NO_ANSWER = "listed : Unit\nlisted = no_answer\n"
 # what a tactic says where it finds no proof
@@ -69,8 +72,9 @@ CONSTANT = re.compile(r"^(?:pub(?:\([a-z]+\))? )?(?:const|static) (\w+):.*?;$", 
 MOST = 64
 # what a head has in the place of a goal where all of them are asked for
 ALL = "all"
-# why a goal is not asked of a right body
+# why a goal is not asked of a right body, and why a head does not fit it
 NO_SUCH_GOAL = "the right body has no such goal"
+MORE_STEPS = "it is proved where `grind` counts further"
 
 
 def toolchain():
@@ -125,6 +129,8 @@ class Edit:
     def __init__(self, path):
         self.path, self.name = path, os.path.basename(path).removesuffix(".edit")
         self.function, self.goal, self.named, self.pairs = "", "", "", []
+        # how far `grind` counts for it
+        self.steps = FEW_STEPS
         file, old = None, None
         for line in sources.read(path).splitlines():
             word, _, text = line.partition(":")
@@ -133,6 +139,8 @@ class Edit:
                 self.function, _, self.goal = (it.strip() for it in text.partition(","))
             elif word == "goal":
                 self.named = text.strip()
+            elif word == "steps":
+                self.steps = ""
             elif word == "file":
                 file = text.strip()
             elif word == "old":
@@ -315,7 +323,7 @@ class Crate:
             proofs[kind] = self.in_its_names(edit, proof)
         if edit.asks:
             asks = [self.in_its_names(edit, it) for it in edit.asks]
-            proofs["Answers"], tactics = self.asking(asks, full, proofs["Answers"], lists)
+            proofs["Answers"], tactics = self.asking(asks, full, proofs["Answers"], lists, edit.steps)
             room.tactics[edit] = {self.in_old_names(edit, it): count for it, count in tactics.items()}
         elif not edit.has_all_asked():
             proofs["Answers"] = NO_ANSWER
@@ -347,10 +355,10 @@ class Crate:
         room.pieces.setdefault(path, []).append((end, end, f"\n{item}"))
         return re.sub(name, made, text)
 
-    def asking(self, asks, function, answers, lists):
+    def asking(self, asks, function, answers, lists, steps):
         """Answers that ask for these goals alone: by the answers that they have, and each other one by every tactic
         that the prover would try. Also how many tactics that is for each. `lists` has the lemmas and the definitions
-        that the function's attribute names for them."""
+        that the function's attribute names for them; `steps` how far `grind` counts."""
         goals = dict(it.partition(" ")[::2] for it in asks)
         answered = [it for it in goals if re.search(rf"^pub {re.escape(it)} :", answers, re.M)]
         kept = answers_to(answers, answered) if answered else ""
@@ -366,8 +374,8 @@ class Crate:
                 use = f"use Rattle.{module}.{{{name}}}"
                 if use not in lines and not re.search(rf"^use .*[{{ ]{name}[,}}]", kept, re.M):
                     lines.append(use)
-        more = [f"grind (tried.arith, {', '.join(listed['using'])})"] if listed["using"] else []
-        tactics = [*TACTICS, *more]
+        more = [f"grind (tried.arith, {', '.join(listed['using'])}){steps}"] if listed["using"] else []
+        tactics = [SEARCH, GRIND + steps, *more]
         if not answered:
             lines.append(f"use Rattle.{self.name}.proofs.{function.replace('::', '.')}.Goals as goal")
         lines += kept.splitlines()
@@ -485,15 +493,8 @@ class Crate:
             self.try_round(chosen, kept)
             left = [it for it in left if it not in chosen]
 
-    def try_right(self, edits):
-        """Asks of the right bodies the goals that refuse these wrong ones, each once, and gives those that they have.
-        What is not proved so has a reason."""
-        asked = {(it.function, it.named): it for it in edits if it.named}
-        left = []
-        for number, edit in enumerate(asked.values()):
-            edit.number, edit.place = number, self.placed(edit)
-            if edit.place:
-                left.append(edit)
+    def try_goals(self, left):
+        """Asks of the right bodies the goals that refuse these wrong ones. What is not proved so has a reason."""
         while left:
             chosen = self.next_round(left)
             left = [it for it in left if it not in chosen]
@@ -502,6 +503,20 @@ class Crate:
             for edit in chosen:
                 there, told = made.names[edit][edit.place[0]], self.in_old_names(edit, said)
                 edit.why = not_proved(self.name, edit, there, made.tactics.get(edit), told)
+
+    def try_right(self, edits):
+        """Asks of the right bodies the goals that refuse these wrong ones, each once, and gives those that they have.
+        What is not proved so has a reason. What is proved where `grind` counts further wants a head that says so."""
+        asked = {(it.function, it.named): it for it in sorted(edits, key=lambda it: not it.steps) if it.named}
+        for number, edit in enumerate(asked.values()):
+            edit.number, edit.place = number, self.placed(edit)
+        self.try_goals([it for it in asked.values() if it.place])
+        further = [it for it in asked.values() if it.why not in ("", NO_SUCH_GOAL) and it.steps and not it.searches_all]
+        for edit in further:
+            edit.steps = ""
+        self.try_goals(further)
+        for edit in further:
+            edit.why = edit.why or MORE_STEPS
         # a branch that the wrong body alone has brings goals of its own
         return [it for it in asked.values() if it.place and it.why != NO_SUCH_GOAL]
 
@@ -732,7 +747,9 @@ def write_head(edit):
     # a goal that was asked for alone and not refused so is left out
     goal = ALL if edit.searches_all else edit.to_ask
     head += [f"goal: {goal}"] if goal and not (edit.asked_why and goal == edit.named) else []
-    rest = [it for it in sources.read(edit.path).splitlines() if not it.startswith(("breaks:", "goal:"))]
+    head += ["steps: all"] if not (edit.steps or edit.searches_all) else []
+    heads = ("breaks:", "goal:", "steps:")
+    rest = [it for it in sources.read(edit.path).splitlines() if not it.startswith(heads)]
     with open(edit.path, "w", encoding="utf-8") as file:
         file.write("\n".join([*head, *rest]) + "\n")
 
@@ -768,12 +785,14 @@ def ask_right(prover, name, names, words):
     crate = Crate(prover, name, turns=False)
     edits = chosen_of(crate, names)
     tried = crate.try_right(edits)
-    missed = {(it.function, it.named) for it in tried if it.why}
+    missed = {(it.function, it.named): it.why for it in tried if it.why}
     for edit in (it for it in tried if it.why):
         print(f"right body {name}/{edit.name}: NOT PROVED: {edit.why}")
     for edit in edits if "--write" in words else ():
-        if (edit.function, edit.named) in missed and not edit.searches_all:
-            edit.to_ask, edit.asked_why = ALL, ""
+        why = missed.get((edit.function, edit.named))
+        if why and not edit.searches_all:
+            edit.steps, edit.searches_all = "", why != MORE_STEPS
+            edit.to_ask, edit.asked_why = edit.named, ""
             write_head(edit)
     print(f"{name}: {len(tried) - len(missed)} of {len(tried)} goals proved of right bodies", flush=True)
     return len(tried) - len(missed), len(missed)
