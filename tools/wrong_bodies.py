@@ -53,7 +53,7 @@ RESERVED = re.compile(r"^\./proofs/(\S+)/Proof\.antt: error\[reserved-name\]", r
 # what a proof file says that names something which the edit took away
 GONE = re.compile(
     r"has no field|is not in scope|is no name|has no `|operand is missing|cannot continue|can be named from here|nearest: |"
-    r"^: module $")
+    r"^: module $|has no *$")
 # where the compiler found an error
 ERROR = re.compile(r"^(?:\./)?(src/\S+\.rt):(\d+):\d+: error", re.M)
 # the tactics by which a goal is asked for that has no answer: those that the prover tries first
