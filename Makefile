@@ -55,7 +55,8 @@ host-demo: $(PROGRAM)
 test: toolchain
 	@python3 tools/gate.py
 
-# one process for each proof: left to itself, `rt ci` has the longest chain of crates wait for memory that it does not want
+# one process for each proof: left to itself, `rt ci` has the longest chain of crates wait for memory that it does
+# not want
 test-all: toolchain
 	@RT_JOBS=$$(nproc) rt ci
 

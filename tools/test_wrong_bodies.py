@@ -91,7 +91,7 @@ fn size() -> usize {
 
 # what the prover says of a function with two answers that it refuses, of which one names what is gone
 REFUSED = """./proofs/text/apply/Answers.antt:10:14: error: `returns-clause-ok`: record `c` has no field `rest`
-./proofs/text/apply/Answers.antt:14:14: error: `{}`: as printed, the two types differ
+./proofs/text/apply/Answers.antt:14:14: error: `returns-clause-fault`: as printed, the two types differ
 fn hg_delta::text::apply: not proved; it stands on `Rattle.hg_delta.proofs.text.apply.Answers.returns-clause-ok`, \
 `Rattle.hg_delta.proofs.text.apply.Answers.returns-clause-fault`, which antt refuses
 """
@@ -179,7 +179,7 @@ def by_right_bodies(prover):
 
 def by_answers_that_fit():
     """Whether an answer counts that does not fit, and none that names what is gone, nor any beside such a lemma."""
-    told = wrong_bodies.open_goals(CRATE, REFUSED.format("returns-clause-fault"))
+    told = wrong_bodies.open_goals(CRATE, REFUSED)
     beside = wrong_bodies.open_goals(CRATE, REFUSED.replace("`returns-clause-ok`: record", "`lemma`: record"))
     return told == {"text::apply": ["returns-clause-fault"]} and beside == {}
 

@@ -621,7 +621,8 @@ def open_goals(crate, said):
                 goals += [it for it in quoted if it != "search"]
             elif reason.startswith("it stands on") and "which antt refuses" in reason:
                 own = f"Rattle.{crate}.proofs.{plain(name).replace('::', '.')}."
-                goals += those_that_fit([it.rpartition(".")[2] for it in quoted if it.startswith(own)], plain(name), said)
+                refused = [it.rpartition(".")[2] for it in quoted if it.startswith(own)]
+                goals += those_that_fit(refused, plain(name), said)
         if told.startswith("not proved") and not goals:
             goals = refused_answers(plain(name), said)
         if goals:
@@ -632,7 +633,8 @@ def open_goals(crate, said):
 def answer_errors(name, said):
     """What is said of the files of a function's proof: for each error the goal or the lemma, and whether it names what
     is not there any more."""
-    errors = re.findall(rf"^\./proofs/{name.replace('::', '/')}/\w+\.antt:\d+:\d+: error: (?:`([^`]+)`: )?(.*)$", said, re.M)
+    place = rf"^\./proofs/{name.replace('::', '/')}/\w+\.antt"
+    errors = re.findall(place + r":\d+:\d+: error: (?:`([^`]+)`: )?(.*)$", said, re.M)
     return [(goal, bool(GONE.search(re.sub(r"`[^`]*`", "", it)))) for goal, it in errors]
 
 

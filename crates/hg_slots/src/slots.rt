@@ -104,8 +104,8 @@ impl Count {
     }
 }
 
-/// Places for connections. A thread has one while it serves a connection and while it waits for one. Threads that
-/// served wait for others, eight of them at most.
+/// Places for connections. A thread has one while it serves a connection and while it waits for one. At most eight
+/// threads wait.
 #[derive(Drop)]
 pub struct Slots {
     count: Mutex<Count>,
