@@ -20,6 +20,7 @@ import textwrap
 from collections import defaultdict
 
 import calls
+import stands
 
 ROOT = os.path.dirname(os.path.dirname(os.path.abspath(__file__)))
 
@@ -269,7 +270,7 @@ def main():
     for crate in crates():
         every, imports = [], {}
         folders = (f"{ROOT}/crates/{crate}/src", f"{ROOT}/crates/{crate}_tests/src",
-                   f"{ROOT}/crates/hg_help_tests/src", f"{ROOT}/crates/hg_help_serve_tests/src")
+                   *(f"{ROOT}/crates/{it}/src" for it in stands.HELPERS))
         for path in (path for folder in folders for path in files(folder, ".rt")):
             imports[path] = {}
             for below, module, group in GHOST.findall(read(path)):

@@ -13,7 +13,7 @@ PARTS = ("src", "specs", "proofs")
 ASIDE = ("stdin", "stdout", "args", "status", "data")
 TESTS = "_tests"
 # what tests of several crates use, and no test
-HELPERS = ("hg_help_tests", "hg_help_serve_tests")
+HELPERS = ("hg_help_tests", "hg_help_store_tests", "hg_help_serve_tests")
 TESTS_INSIDE = re.compile(r"#\[cfg\(test\)\]\nmod tests;\n")
 
 

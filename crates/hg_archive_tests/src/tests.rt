@@ -3,7 +3,7 @@
 use crate::made::*;
 use crate::paper::{Board, Narrow};
 use hg_archive::*;
-use hg_help_tests::paper::Paper;
+use hg_help_store_tests::paper::Paper;
 use hg_store::HeadFault;
 use linked_list_allocator::LocalHeap;
 use std::alloc::{Allocator, Global};

@@ -5,7 +5,7 @@ ghost use Rattle.hg_types.specs.Limits.{IsAllowed};
 ghost use Rattle.hg_store.specs.Log.{IsSettled};
 ghost use Rattle.hg_help_serve_tests.specs.Beginning.{first_head};
 
-use hg_help_tests::device::Memory;
+use hg_help_store_tests::device::Memory;
 use hg_repo::Repo;
 use hg_restore::replay_records;
 use hg_serve::Closed;

@@ -3,7 +3,7 @@
 ghost use Rattle.std.specs.Prelude.{◌≡◌, ◌≤◌, ◌+◌, All, Contains, vec_capacity, vec_len};
 ghost use Rattle.hg_ledger.specs.Clients.{promised};
 
-use hg_help_tests::device::Memory;
+use hg_help_store_tests::device::Memory;
 use hg_ledger::{KeptClient, Ledger, Parts, Receipt, Storing, Tally};
 use hg_serve::{Client, Closed, Server};
 use hg_store::{Device, Log};

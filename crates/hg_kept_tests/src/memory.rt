@@ -8,7 +8,7 @@ ghost use Rattle.hg_ledger.specs.Receipts.{IsTallyOf};
 use crate::tests::{Source, state};
 use hg_connection::ConnFault;
 use hg_help_serve_tests::{client_of, marker, new_log, one_part, settings};
-use hg_help_tests::device::Memory;
+use hg_help_store_tests::device::Memory;
 use hg_kept::{Keeping, KeptFault, serve_connection_kept};
 use hg_ledger::{KeptClient, Ledger, Parts, Storing, Tally};
 use hg_push::OpenFault;

@@ -10,7 +10,7 @@ ghost use Rattle.hg_ledger.specs.Receipts.{IsTallyOf};
 use hg_help_serve_tests::{
     Open, client_of, close_two, marker, new_log, one_part, settings, starts_again,
 };
-use hg_help_tests::device::Memory;
+use hg_help_store_tests::device::Memory;
 use hg_kept::{Keeping, KeptFault, serve_connection_kept};
 use hg_ledger::{KeptClient, Ledger, Storing, Tally};
 use hg_queue::{PartQueue, Taker};

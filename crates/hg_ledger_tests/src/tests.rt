@@ -15,7 +15,7 @@ use hg_connection::{mark, receive_kept};
 use hg_help_serve_tests::{
     Open, client_of, close_two, has_receipt, marker, new_log, one_part, settings, starts_again,
 };
-use hg_help_tests::device::Memory;
+use hg_help_store_tests::device::Memory;
 use hg_help_tests::devices::Source;
 use hg_ledger::{KeptClient, Ledger, NotStored, Parts, Storing, Tally};
 use hg_push::Outcome;

@@ -9,7 +9,7 @@ ghost use Rattle.hg_store.specs.declared.head.Head.{Head as AnyHead};
 
 use crate::paper::outcomes;
 use crate::tests::{TOO_MANY, put_next};
-use hg_help_tests::paper::Paper;
+use hg_help_store_tests::paper::Paper;
 use hg_store::*;
 use hg_types::{Limits, NoMemory, Seq};
 use linked_list_allocator::LocalHeap;

@@ -2,7 +2,7 @@
 
 ghost use Rattle.std.specs.Prelude.{◌<◌, vec_len};
 
-use hg_help_tests::paper::{Paper, Step, overwrite};
+use hg_help_store_tests::paper::{Paper, Step, overwrite};
 use std::alloc::Global;
 use std::test::Fail;
 

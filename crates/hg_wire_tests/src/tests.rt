@@ -20,7 +20,7 @@ use crate::tests::conversations::{
     TOLD_1, TOLD_2, TOLD_3, TOLD_4, TOLD_5, TOLD_6, TOLD_RACED_3,
 };
 use hg_help_serve_tests::{client_of, new_log, settings};
-use hg_help_tests::device::Memory;
+use hg_help_store_tests::device::Memory;
 use hg_kept::{ClosedKept, close_kept};
 use hg_ledger::{KeptClient, Ledger, Parts, Storing};
 use hg_queue::{PartQueue, Taker};

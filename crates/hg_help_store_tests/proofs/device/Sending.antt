@@ -5,9 +5,9 @@ use denote.Struct.Declared.{shape}
 use Rattle.std.proofs.Crossing as heap
 use Rattle.std.proofs.alloc.Global.TheSendSync as handle
 use Rattle.hg_store.specs.contracts.history.History as History
-use Rattle.hg_help_tests.specs.contracts.device.Memory as Memory
-use Rattle.hg_help_tests.specs.contracts.device.Write as Write
-use Rattle.hg_help_tests.proofs.device.Write.TheSendSync as write
+use Rattle.hg_help_store_tests.specs.contracts.device.Memory as Memory
+use Rattle.hg_help_store_tests.specs.contracts.device.Write as Write
+use Rattle.hg_help_store_tests.proofs.device.Write.TheSendSync as write
 
 history_send : IsSend History.the_row
 history_send = owning_send History.the_type tt (λ d. tt) (λ k x w. tt)
