@@ -4,13 +4,17 @@
     tools/costs.py            writes the table of docs/proof-costs.md
     tools/costs.py --check    fails where that table is another one, where a piece takes more than its budget, and
                               where the longest chain of crates does
+    tools/costs.py --run      says what took more than its budget in the last run of the gate, by the speed of its
+                              machine, and fails where something took more than twice that
     tools/costs.py --take     takes what the last run of the gate measured into docs/proof-costs.csv
 
 docs/proof-costs.csv has a line for each piece: its name, processor seconds, budget. Lines of code, tests,
-definitions and proofs are counted in the sources.
+definitions and proofs are counted in the sources. Its first line, and that of a run, has the seconds of a fixed piece
+of work, by which two machines compare.
 """
 import csv
 import os
+import re
 import sys
 
 import measure
@@ -103,6 +107,31 @@ def beyond():
         yield f"the longest chain of crates takes {took} s of {most}"
 
 
+def speed_of(told):
+    """The seconds of the fixed piece of work, of the line that tells of a run."""
+    return int(re.search(r"`rt selftest` took (\d+) s", told)[1])
+
+
+def run_beyond():
+    """What took more than its budget in the last run, with how many times that it took."""
+    first, *rows = sources.read(MEASURED).splitlines()
+    told, found = figures()
+    slower = max(1, speed_of(first) / speed_of(told))
+    for row in csv.DictReader(rows):
+        for step in measure.STEPS:
+            budget = found.get(row["crate"], {}).get(f"{step}, budget")
+            if row[step] and budget and int(row[step]) > budget * slower:
+                yield int(row[step]) / (budget * slower), f"{row['crate']}: {step} took {row[step]} s of {budget * slower:.0f}"
+
+
+def check_run():
+    """Says what took more than its budget. One piece may take twice as long on a busy machine, so more fails."""
+    said = list(run_beyond())
+    for times, it in said:
+        print(f"costs: {it}{', more than twice that' if times > 2 else ''}")
+    return int(any(times > 2 for times, _ in said))
+
+
 def take():
     """Takes the last run's figures. A piece that is new gets a budget of a quarter more than it took."""
     told, *rows = sources.read(MEASURED).splitlines()
@@ -124,6 +153,8 @@ def main(words):
     if words == ["--take"]:
         take()
         return 0
+    if words == ["--run"]:
+        return check_run()
     page = sources.read(PAGE)
     begin, end = page.index(BEGIN) + len(BEGIN), page.index(END)
     made = page[:begin] + table() + page[end:]

@@ -243,6 +243,13 @@ def check_documents(count):
         count.add(f"tools/{name}.py --check", int(not status), status, said=said)
 
 
+def check_costs(count):
+    """Compares what each piece took with its budget, by the speed of this machine."""
+    status, said, _ = logged("costs", [sys.executable, "tools/costs.py", "--run"], cwd=sources.ROOT)
+    print(said, end="")
+    count.add("costs of this run", int(not status), status, said=said)
+
+
 def print_costs(costs):
     """What each kind of piece took, whole and by crate, in processor seconds."""
     for kind in ("proof", "wrong bodies", "tests"):
@@ -256,7 +263,7 @@ def main():
     os.makedirs(LOGS)
     count, costs = Count(), {}
     processors = len(os.sched_getaffinity(0))
-    count.say(f"On {processors} processors. On slow ones the whole takes an hour with four, an hour and a half with two.")
+    count.say(f"On {processors} processors. On slow ones the whole takes an hour and a half with four, over two with two.")
     check_documents(count)
     if count.failed:
         print(f"{count.passed} passed, {len(count.failed)} failed")
@@ -286,6 +293,7 @@ def main():
     used = resource.getrusage(resource.RUSAGE_CHILDREN)
     minutes, spent = (time.time() - count.start) / 60, (used.ru_utime + used.ru_stime) / 60
     measure.write(f"{LOGS}/costs.csv", costs, minutes, spent, processors, side.speed, len(kept))
+    check_costs(count)
     for it, said in count.failed.items():
         print(f"FAILED: {it}\n{said}".rstrip())
     print_costs(costs)
