@@ -2,30 +2,52 @@
 
 ghost use Rattle.std.specs.Prelude.{◌≡◌};
 ghost use Rattle.hg_store.specs.Records.{digest_of};
+ghost use Rattle.hg_store.specs.code.Held.{bytes_of};
 
 use crate::record::chained_after;
+use bytes::Bytes;
 use hg_types::Seq;
 use sha1::Sha1;
 use std::alloc::{Allocator, Global};
 use std::marker::Model;
 
+/// Whose the bytes of a record are.
+#[derive(Drop)]
+enum Held<A: Allocator = Global> {
+    Own(Seq<u8, A>),
+    /// Others hold them too.
+    Shared(Bytes),
+}
+
+impl<A: Allocator> Held<A> {
+    fn as_slice(&self) -> &[u8]
+        ensures { result.now ≡ bytes_of self.now }
+    {
+        match self {
+            Held::Own(bytes) => bytes.as_slice(),
+            Held::Shared(bytes) => bytes.as_slice(),
+        }
+    }
+}
+
 /// The bytes of a record, with their digest. Contracts see it as the bytes. The digest is made before it is
 /// known which record comes before, and so without the store.
 #[derive(Drop)]
 pub struct Sealed<A: Allocator = Global> {
-    bytes: Seq<u8, A>,
+    bytes: Held<A>,
     digest: [u8; 20],
 }
 
 impl<A: Allocator> Model for Sealed<A> {
     ghost use Rattle.std.specs.Prelude.{◌≡◌, ℕ, List};
     ghost use Rattle.sha1.specs.Sha1.{sha1};
+    ghost use Rattle.hg_store.specs.code.Held.{bytes_of};
 
     ghost Value = { List ℕ };
 
-    ghost view = { λ s. s.bytes };
+    ghost view = { λ s. bytes_of s.bytes };
 
-    ghost invariant = { λ s. s.digest ≡ sha1 s.bytes };
+    ghost invariant = { λ s. s.digest ≡ sha1 (bytes_of s.bytes) };
 }
 
 impl<A: Allocator> Sealed<A> {
@@ -34,7 +56,21 @@ impl<A: Allocator> Sealed<A> {
         ensures { result ≡ bytes }
     {
         let digest = Sha1::digest(bytes.as_slice());
-        Sealed { bytes, digest }
+        Sealed {
+            bytes: Held::Own(bytes),
+            digest,
+        }
+    }
+
+    /// The same of bytes that others hold too, as of the body of a request: they are not copied.
+    pub fn shared(bytes: Bytes) -> Self
+        ensures { result ≡ bytes }
+    {
+        let digest = Sha1::digest(bytes.as_slice());
+        Sealed {
+            bytes: Held::Shared(bytes),
+            digest,
+        }
     }
 
     /// The bytes.

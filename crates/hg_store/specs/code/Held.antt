@@ -1,0 +1,9 @@
+-- The bytes of a record, whoever holds them.
+use Rattle.std.specs.Prelude.{ℕ, List}
+use Rattle.hg_store.specs.declared.sealed.Held.{Held}
+use Rattle.hg_store.specs.declared.sealed.Held.TheVariants.{Own, Shared}
+
+-- the bytes that are held
+abbrev pub bytes_of : {A : Type 0} → Held A → List ℕ
+bytes_of (Own bytes) = bytes
+bytes_of (Shared bytes) = bytes
