@@ -15,7 +15,7 @@ ghost use Rattle.hg_kept.specs.Kept.{KeptExchange, RepliesBy, ServesKept, record
 ghost use Rattle.hg_kept.specs.Connections.{ConnectsKept};
 
 use crate::served::{KeptRound, KeptServed, Replied};
-use hg_connection::{ConnFault, Next, mark, next_bundle, receive_kept};
+use hg_connection::{ConnFault, Keep, Next, mark, next_bundle, receive_kept};
 use hg_devices::{Reader, Writer};
 use hg_ledger::{KeptClient, Ledger, Receipt, Room, Storing};
 use hg_push::laws::{journals_grow, replies_are_short};
@@ -23,7 +23,7 @@ use hg_push::{OpenFault, Outcome};
 use hg_receiving::{Inbox, send_reply};
 use hg_repo::{Done, Refusal};
 use hg_serve::{Gate, Point, Sender, Server};
-use hg_store::Device;
+use hg_store::{Device, Sealed};
 use hg_stream::Unbundler;
 use hg_stream::laws::{parts_are_few, streams_are_settled_once};
 use hg_types::Seq;
@@ -46,15 +46,31 @@ pub struct OpenedKept<J: Storing<A>, A: Allocator = Global> {
     pub receipt: Option<Receipt<J, A>>,
 }
 
+/// What keeps the bytes of a bundle, and makes a record of them.
+pub trait Recorder<A: Allocator>: Keep {
+    /// The record of what is kept. It asks for no memory.
+    fn seal(self) -> Sealed<A>
+    where
+        Self: Sized,
+        ensures { result ≡ kept self };
+}
+
+/// A record of its own memory.
+impl<A: Allocator> Recorder<A> for Vec<u8, A> {
+    fn seal(self) -> Sealed<A> {
+        Sealed::new(Seq::from_vec(self))
+    }
+}
+
 /// The record of a push that ended so: its bytes where it is done, and else none. It asks for no memory.
-fn record_of<A: Allocator>(
+fn record_of<A: Allocator, K: Recorder<A>>(
     outcome: &Outcome<Done<A>, Refusal<A>>,
-    bytes: Vec<u8, A>,
-) -> Option<Seq<u8, A>>
-    ensures { result ≡ record_of outcome.now bytes.items }
+    kept: K,
+) -> Option<Sealed<A>>
+    ensures { result ≡ record_of outcome.now (K.kept kept) }
 {
     match outcome {
-        Outcome::Done(_) => Some(Seq::from_vec(bytes)),
+        Outcome::Done(_) => Some(kept.seal()),
         Outcome::Aborted(_) => None,
     }
 }
@@ -96,7 +112,7 @@ fn reply_kept<J: Storing<A>, D: Device, A: Allocator + Copy, R: Wait, W: Writer>
     client: &mut KeptClient<J, A>,
     room: Room<J, A>,
     rests: usize,
-    bundle: Option<Seq<u8, A>>,
+    bundle: Option<Sealed<A>>,
     writer: &mut W,
     outcome: &Outcome<Done<A>, Refusal<A>>,
 ) -> (Replied, usize)
@@ -121,7 +137,7 @@ fn reply_kept<J: Storing<A>, D: Device, A: Allocator + Copy, R: Wait, W: Writer>
     }
 }
 
-/// Serves one bundle on a push that was opened with room for its record: receives it and keeps its bytes, puts
+/// Serves one bundle on a push that was opened with room for its record: receives it and has its bytes kept, puts
 /// its mark, waits for its answer, hands in the record of a done push, waits until all that the reply rests
 /// on is on the device, and only then sends the reply. A reply that a push was aborted waits as well. Where
 /// the store failed, the writer is not used. The client has the receipt that it had, or one that has its promises and
@@ -132,6 +148,7 @@ pub fn serve_bundle_kept<
     A: Allocator + Copy,
     R: Wait,
     I: Reader,
+    K: Recorder<A>,
     W: Writer,
     G: Gate,
 >(
@@ -140,12 +157,14 @@ pub fn serve_bundle_kept<
     bundle: &mut Unbundler<A>,
     inbox: &mut Inbox,
     reader: &mut I,
+    mut kept: K,
     writer: &mut W,
     gate: &mut G,
 ) -> (KeptClient<J, A>, KeptRound<A>)
     requires bundle { IsFresh keeping.now.server.now bundle.old }
     requires sender { (opened.sender.putter.put ≡ [])
         × (of opened.sender.putter.push (items_of opened.sender.history) ≡ []) }
+    requires kept { K.kept kept ≡ [] }
     ensures served { (x : KeptExchange A)
         × ServesKept D.seen D.may_leave D.moment J.head J.stored keeping.now.server.now J.capacity J.first
         inbox.old inbox.new (I.told reader.old) (I.told reader.new) (W.told writer.old) (W.told writer.new)
@@ -165,7 +184,6 @@ pub fn serve_bundle_kept<
         mut sender,
         receipt,
     } = opened;
-    let mut kept = Vec::new(keeping.alloc);
     let ending = receive_kept(
         keeping.server,
         keeping.rt,
@@ -247,6 +265,7 @@ pub fn serve_connection_kept<
                     &mut bundle,
                     &mut inbox,
                     reader,
+                    Vec::new(keeping.alloc),
                     writer,
                     gate,
                 )

@@ -14,5 +14,7 @@ mod connection;
 mod served;
 
 pub use closing::{ClosedKept, close_kept};
-pub use connection::{Keeping, OpenedKept, open_kept, serve_bundle_kept, serve_connection_kept};
+pub use connection::{
+    Keeping, OpenedKept, Recorder, open_kept, serve_bundle_kept, serve_connection_kept,
+};
 pub use served::{KeptFault, KeptRound, KeptServed, Replied};

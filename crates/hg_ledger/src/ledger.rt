@@ -19,7 +19,7 @@ use crate::tally::{Grant, OpenTally, Tally};
 use crate::waiting::{Record, Step, Waiting};
 use hg_serve::{Client, Server};
 use hg_store::{Device, Log, Sealed};
-use hg_types::{NoMemory, Seq};
+use hg_types::NoMemory;
 use std::alloc::{Allocator, Global};
 use std::sync::{Mutex, MutexGuard, Wait};
 use thiserror::Error;
@@ -105,7 +105,7 @@ impl<J: Storing<A>, D: Device, A: Allocator + Copy> Ledger<J, D, A> {
         client: &mut KeptClient<J, A>,
         room: Room<J, A>,
         rests: usize,
-        bundle: Option<Seq<u8, A>>,
+        bundle: Option<Sealed<A>>,
     ) -> Result<(), NotStored>
         requires rests { rests ≤ done_in J.first client.old.history }
         requires bundle { IfSome bundle (λ bytes. (1 ≤ rests)
@@ -119,7 +119,6 @@ impl<J: Storing<A>, D: Device, A: Allocator + Copy> Ledger<J, D, A> {
             None => self.give_back(rt, room),
             Some(bytes) => {
                 let place = rests - 1;
-                let bytes = Sealed::new(bytes);
                 let record = Record { place, bytes };
                 self.waiting
                     .lock(rt)

@@ -24,7 +24,7 @@ use hg_queue::{PartQueue, Taker};
 use hg_receiving::Inbox;
 use hg_repo::{Done, Refusal, Repo};
 use hg_serve::{Closed, NoGate, Server};
-use hg_store::{Device, Log};
+use hg_store::{Device, Log, Sealed};
 use hg_stream::Unbundler;
 use hg_stream::laws::streams_are_settled_once;
 use hg_types::Seq;
@@ -48,13 +48,13 @@ const PUSHES: u8 = 24;
 fn record_of<A: Allocator>(
     outcome: &Outcome<Done<A>, Refusal<A>>,
     bytes: Vec<u8, A>,
-) -> Option<Seq<u8, A>>
+) -> Option<Sealed<A>>
     ensures done { (done : AnyDone A) → outcome.now ≡ Outcome.Done done → result ≡ Some bytes.items }
     ensures aborted { (reason : AnyReason (AnyRefusal A)) → outcome.now ≡ Outcome.Aborted reason →
         result ≡ None }
 {
     match outcome {
-        Outcome::Done(_) => Some(Seq::from_vec(bytes)),
+        Outcome::Done(_) => Some(Sealed::new(Seq::from_vec(bytes))),
         Outcome::Aborted(_) => None,
     }
 }

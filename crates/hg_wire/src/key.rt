@@ -83,7 +83,8 @@ fn push_for_key<J: Storing<A>, D: Device, A: Allocator + Copy, R: Wait, V: Watch
         (IsCovered D.seen D.may_leave D.moment J.head J.stored J.first) bundle.now key_line)
         client result.1 result.0 }
 {
-    let (client, pushed) = push_bundle(keeping, client, bundle, watch);
+    let kept = Vec::new(keeping.alloc);
+    let (client, pushed) = push_bundle(keeping, client, bundle, kept, watch);
     match pushed {
         Ok(pushed) => (client, Ok(reply_to(keeping.alloc, &pushed))),
         Err(fault) => (client, Err(fault)),

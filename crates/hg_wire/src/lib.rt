@@ -15,6 +15,7 @@
 
 mod answering;
 mod budget;
+mod front;
 mod key;
 mod long;
 mod looking;

@@ -1,14 +1,16 @@
 //! A push over HTTP: one bundle, which is all that is read, and what it is answered.
 
-ghost use Rattle.std.specs.Prelude.{◌≡◌, IfSome};
+ghost use Rattle.std.specs.Prelude.{◌≡◌, [], IfSome};
 ghost use Rattle.hg_push.specs.Reply.{reply_of};
 ghost use Rattle.hg_ledger.specs.Clients.{IsCovered};
 ghost use Rattle.hg_wire.specs.Pushes.{Answered, IsPushAnswered, IsReply, PushesOrFails};
 ghost use Rattle.hg_wire.specs.code.Rounds.{IsOfRound};
 
+use crate::front::Front;
+use bytes::Bytes;
 use hg_devices::Sending;
 use hg_http::{Answer, Body, Refusal};
-use hg_kept::{Keeping, KeptRound, Replied, open_kept, serve_bundle_kept};
+use hg_kept::{Keeping, KeptRound, Recorder, Replied, open_kept, serve_bundle_kept};
 use hg_ledger::{KeptClient, NotStored, Storing};
 use hg_push::Outcome;
 use hg_reading::{Watch, WatchedPush};
@@ -29,13 +31,22 @@ pub struct KeptPush<A: Allocator = Global> {
     pub reply: Option<Seq<u8, A>>,
 }
 
-/// Pushes a bundle. Says how the push ended, if one was opened; the store may have failed.
-pub fn push_bundle<J: Storing<A>, D: Device, A: Allocator + Copy, R: Wait, V: Watch<A>>(
+/// Pushes a bundle, whose bytes are kept there. Says how the push ended, if one was opened; the store may have failed.
+pub fn push_bundle<
+    J: Storing<A>,
+    D: Device,
+    A: Allocator + Copy,
+    R: Wait,
+    K: Recorder<A>,
+    V: Watch<A>,
+>(
     keeping: &Keeping<'_, J, D, R, A>,
     client: KeptClient<J, A>,
     bundle: &[u8],
+    kept: K,
     watch: &mut V,
 ) -> (KeptClient<J, A>, Result<Option<KeptPush<A>>, NotStored>)
+    requires { K.kept kept ≡ [] }
     ensures { PushesOrFails J.capacity J.first
         (IsCovered D.seen D.may_leave D.moment J.head J.stored J.first) client bundle.now result.1 result.0 }
 {
@@ -54,6 +65,7 @@ pub fn push_bundle<J: Storing<A>, D: Device, A: Allocator + Copy, R: Wait, V: Wa
         &mut unbundler,
         &mut inbox,
         &mut body,
+        kept,
         &mut reply,
         watch,
     );
@@ -103,18 +115,22 @@ fn kept_push<A: Allocator>(
     }
 }
 
-/// Pushes the bundle that is the body of a request, and gives its reply.
+/// Pushes the bundle that is the body of a request, and gives its reply. Its record is not copied from the body.
 pub fn unbundle<J: Storing<A>, D: Device, A: Allocator + Copy, R: Wait, V: Watch<A>>(
     keeping: &Keeping<'_, J, D, R, A>,
     client: KeptClient<J, A>,
-    bundle: &[u8],
+    body: &Bytes,
     watch: &mut V,
 ) -> (KeptClient<J, A>, Result<Answer<A>, NotStored>)
     ensures { Answered (IsPushAnswered J.capacity J.first
-        (IsCovered D.seen D.may_leave D.moment J.head J.stored J.first) bundle.now reply_of)
+        (IsCovered D.seen D.may_leave D.moment J.head J.stored J.first) body.now reply_of)
         client result.1 result.0 }
 {
-    let (client, pushed) = push_bundle(keeping, client, bundle, watch);
+    let kept = match body.clone() {
+        Ok(body) => Front::of(body),
+        Err(_) => return (client, Ok(reply_to(None))),
+    };
+    let (client, pushed) = push_bundle(keeping, client, body.as_slice(), kept, watch);
     match pushed {
         Ok(pushed) => (client, Ok(reply_to(pushed))),
         Err(fault) => (client, Err(fault)),

@@ -79,7 +79,7 @@ turns-preserved g c =
     let on = goes_on c.args.server.now c.args.inbox.now _ i.fed c.fill.new.self c.feed-ended.new.self _
     c.turns.bundle c.feed-ended.new.bundle i.given w.1 c.feed-ended.ensures.feeds
     (sym c.in-None-ended.is ∙ c.feed-ended.ensures.result) in
-    let e = c.extend_from_slice.ensures.items in
+    let e = c.keep.ensures in
     let v = c.is_err.ensures.value in
     let f = c.if-is_err.false in
     let b = c.pending.ensures.bytes in
@@ -106,16 +106,15 @@ returns-in-Some-ended-clause-received g c =
     let p = c.put_ready.ensures in
     let w = waits_on c.args.server.now c.args.inbox.now _ i.fed c.turns.inbox c.fill.new.self _ _ c.turns.bundle
     i.given i.reads c.in-None.ensures in
-    let e = c.extend_from_slice.ensures.items in
+    let e = c.keep.ensures in
     let v = c.is_err.ensures.value in
     let f = c.if-is_err.false in
     let b = c.pending.ensures.bytes in
     let k = i.kept in
-    let all : c.extend_from_slice.new.self.items ≡ i.fed ++ c.fill.new.self = grind arith in
-    let n = c.len.ensures in
+    let all : g.K.Keep.kept c.keep.new.self ≡ i.fed ++ c.fill.new.self = grind arith in
     let q = c.pending-in-Some-ended.ensures.bytes in
-    let t = c.truncate.ensures.items in
-    let cut : c.truncate.new.self.items
+    let t = c.drop_last.ensures in
+    let cut : g.K.Keep.kept c.drop_last.new.self
     ≡ take (length (i.fed ++ c.fill.new.self) - length c.feed-ended.new.self) (i.fed ++ c.fill.new.self) =
     grind arith in
     kept_ends c.args.server.now c.args.inbox.now _ i.fed c.fill.new.self c.feed-ended.new.self _ _

@@ -12,7 +12,7 @@ invariant-turns g l = record {
   given : List (Part g.row.A.Denot);
   reads : IsReceiving l.server l.fn.inbox (g.I.Reader.told l.fn.reader) fed l.inbox
       (g.I.Reader.told l.reader) l.bundle given;
-  kept : l.kept.items ≡ fed;
+  kept : g.K.Keep.kept l.kept ≡ fed;
   turns : l._turn ≤ length fed;
   within : length fed ≤ l.server.stream;
   put : GoesOn l.fn.sender l.sender (part_items l.fn.sender.putter.push 0 given);

@@ -27,7 +27,7 @@ reply_kept-replied-requires-clause-bundle g c =
     × IsRecordOf first y.1 (rests - 1) bytes)) (λ i. (sym c.record_of-record.ensures i, seen i))
     (handed server g.J.Naming.capacity first c.args.inbox.now c.receive_kept-ending.new.inbox _ _
     c.args.opened.sender c.receive_kept-ending.new.sender c.receive_kept-ending.result
-    c.receive_kept-ending.new.kept.items c.mark-ended.result c.answer_resting-answer.result.0.takes after rests r m
+    (g.K.Keep.kept c.receive_kept-ending.new.kept) c.mark-ended.result c.answer_resting-answer.result.0.takes after rests r m
     c.limits-limits.ensures.first c.answer_resting-answer.result.0.outcome a.answers a.rests)
 
 pub returns-clause-served : goal.returns-clause-served
@@ -53,7 +53,7 @@ returns-clause-served g c =
     a.rests in
     let put = answered server capacity first c.args.inbox.now c.receive_kept-ending.new.inbox _ _
     c.args.opened.sender c.receive_kept-ending.new.sender c.receive_kept-ending.result
-    c.receive_kept-ending.new.kept.items e takes after.history rests r m c.limits-limits.ensures.first how answers in (
+    (g.K.Keep.kept c.receive_kept-ending.new.kept) e takes after.history rests r m c.limits-limits.ensures.first how answers in (
       record {
         reads = r.is.bundle.reads;
         consumed = r.is.bundle.consumed;
@@ -75,10 +75,10 @@ returns-clause-served g c =
           answers = put;
           rests_on = rested server capacity first c.args.inbox.now c.receive_kept-ending.new.inbox _ _
               c.args.opened.sender c.receive_kept-ending.new.sender c.receive_kept-ending.result
-              c.receive_kept-ending.new.kept.items e takes after.history rests r m c.limits-limits.ensures.first how on;
+              (g.K.Keep.kept c.receive_kept-ending.new.kept) e takes after.history rests r m c.limits-limits.ensures.first how on;
           recorded = recorded server capacity first c.args.inbox.now c.receive_kept-ending.new.inbox
               _ _ c.args.opened.sender c.receive_kept-ending.new.sender c.receive_kept-ending.result
-              c.receive_kept-ending.new.kept.items e takes after.history rests r m c.limits-limits.ensures.first how
+              (g.K.Keep.kept c.receive_kept-ending.new.kept) e takes after.history rests r m c.limits-limits.ensures.first how
               answers on;
           grows = subst (λ (v : KeptSeen g.row.A.Denot). HasGrown v.receipt c.reply_kept-replied.new.client.receipt)
               c.of-client.ensures k.grows;
