@@ -18,7 +18,7 @@ use std::alloc::Allocator;
 use std::sync::Wait;
 
 /// What keeps the bytes of a bundle while they are read. A contract sees those that are kept.
-pub trait Keep {
+pub trait Keep: Drop {
     ghost kept: { Self → List ℕ };
 
     /// Keeps bytes, after those before. Where memory is refused, no clause says which of them are kept.
