@@ -63,8 +63,9 @@ fn create_in<R: Files<File = File>, A: Allocator + Copy>(
     }
 }
 
-/// Opens the store in a folder, and holds it against other processes until it is dropped. It is read and
-/// brought in order as [`open_file`] does.
+/// Opens the store in a folder, and holds it against other processes until it is dropped. The folder is synced, since
+/// whoever gave the file its name may have ended before that; where this fails the store is not opened. Then it is
+/// read and brought in order as [`open_file`] does.
 pub fn open_store<R: Files<File = File>, A: Allocator + Copy>(
     files: &R,
     alloc: A,
@@ -78,6 +79,7 @@ pub fn open_store<R: Files<File = File>, A: Allocator + Copy>(
 {
     let name = path_in(alloc, folder, NAME)?;
     let file = open_held(files, name.as_str())?;
+    sync_names(files, alloc, folder)?;
     open_file(alloc, HostFile::new(file), head)
 }
 
@@ -155,6 +157,19 @@ fn make_folder<R: Files<File = File>, A: Allocator + Copy>(
         Err(error) if error.kind() == io::ErrorKind::AlreadyExists => Ok(()),
         Err(error) => Err(store_fault(error)),
     }
+}
+
+/// Syncs a folder, and the one that has it where that can be opened and synced.
+fn sync_names<R: Files<File = File>, A: Allocator + Copy>(
+    files: &R,
+    alloc: A,
+    folder: &str,
+) -> Result<(), StoreFault>
+    ensures { IfErr result IsOfFolder }
+{
+    let above = path_in(alloc, folder, "..")?;
+    let _above = sync_folder(files, above.as_str());
+    sync_folder(files, folder).map_err(store_fault)
 }
 
 /// Opens the file of a store for reading and writing, and holds it.
