@@ -1,6 +1,7 @@
 mod Frames
 mod Heads
 mod OneReading
+mod NoDamage
 mod Fronts
 mod Reading
 mod Stepping

@@ -4,7 +4,7 @@
 ghost use Rattle.std.specs.Prelude.{◌≡◌, ◌≤◌, ◌<◌, ◌++◌, ◌∷◌, ◌⊎◌, [], ℕ, List, take};
 ghost use Rattle.std.specs.List.{AllByRecursion};
 ghost use Rattle.hg_types.specs.Limits.{IsAllowed};
-ghost use Rattle.hg_store.specs.Files.{FrontIsStore, IsStore, stored};
+ghost use Rattle.hg_store.specs.Files.{FrontIsStore, IsDamagedStore, IsStore, stored};
 ghost use Rattle.hg_store.specs.Head.{HasHead, HasOneHead, IsRefusedFor, head_bytes};
 ghost use Rattle.hg_store.specs.Records.{IsDamaged, IsEnd, IsNext, IsRecord, IsTorn};
 ghost use Rattle.hg_store.specs.declared.head.Head.{Head};
@@ -30,6 +30,12 @@ pub fn one_gate()
     ensures damaged { (before bytes : List ℕ) → IsEnd bytes ⊎ IsTorn bytes → IsDamaged before bytes → ⊥ }
     ensures record { (before bytes found after next : List ℕ) → IsNext before bytes found after next →
         (IsEnd bytes ⊎ IsTorn bytes) ⊎ IsDamaged before bytes → ⊥ }
+{}
+
+/// A file that is read as a store, whole or torn, is not damaged.
+pub fn a_store_is_not_damaged()
+    ensures { (file : List ℕ) (head : Head) (records : List (List ℕ)) (tail : List ℕ) (whole : ℕ) →
+        IsStore file head records tail → IsDamagedStore file whole → ⊥ }
 {}
 
 /// What is written of records is read as these records, whatever stands after a shut gate.
