@@ -69,7 +69,7 @@ pub struct Found<A: Allocator = Global> {
     pub is_torn: bool,
 }
 
-/// ReadsRecords a store: its head, and its records up to its end or up to a torn record. A file with no head is
+/// Reads a store: its head, and its records up to its end or up to a torn record. A file with no head is
 /// refused, and so is one with damage.
 pub fn read_records<A: Allocator + Copy>(alloc: A, file: &[u8]) -> Result<Found<A>, ReadFault>
     ensures store { IfOk result (λ found. IsStore file.now found.head found.records (drop found.end file.now)) }
@@ -105,7 +105,7 @@ struct Frames<A: Allocator> {
     is_torn: bool,
 }
 
-/// ReadsRecords the records after a head, the first of which stands after that digest.
+/// Reads the records after a head, the first of which stands after that digest.
 fn read_frames<A: Allocator + Copy>(
     alloc: A,
     start: &[u8; 20],
