@@ -63,12 +63,12 @@ impl<A: Allocator> Sealed<A> {
     }
 
     /// The same of bytes that others hold too, as of the body of a request: they are not copied.
-    pub fn shared(bytes: Bytes) -> Self
-        ensures { result ≡ bytes }
+    pub fn shared(body: Bytes) -> Self
+        ensures { result ≡ body }
     {
-        let digest = Sha1::digest(bytes.as_slice());
+        let digest = Sha1::digest(body.as_slice());
         Sealed {
-            bytes: Held::Shared(bytes),
+            bytes: Held::Shared(body),
             digest,
         }
     }
