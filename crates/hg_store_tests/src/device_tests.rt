@@ -604,3 +604,65 @@ fn memory_refused_to_a_cut(rt: HostRuntime) -> Result<(), Fail> {
     assert!(rt; cut > 0);
     Ok(())
 }
+
+// Heaps of each size: a store is made, or memory is refused; then no call is made, and no file gets the name of a
+// store.
+#[test]
+fn memory_refused_to_a_new_store(rt: HostRuntime) -> Result<(), Fail> {
+    let alloc = rt.alloc();
+    let whole = store_of(alloc, 0)?;
+    let mut refused = 0usize;
+    let mut made = 0usize;
+    for size in 0..400usize {
+        let heap = LocalHeap::new(alloc, size)?;
+        let mut new = Paper::new(alloc, &[], NO_LIMIT)?;
+        match create_file(&heap, &mut new, &standard()) {
+            Ok(()) => {
+                assert!(rt; new.is_named, "a heap of {size}");
+                assert_eq!(rt; new.synced.as_slice(), whole.as_slice(), "a heap of {size}");
+                made = made.saturating_add(1);
+            }
+            Err(fault) => {
+                let memory = RecoverFault::Device(DeviceError::Memory);
+                assert_eq!(rt; fault, StoreFault::Recover(memory), "a heap of {size}");
+                assert_eq!(rt; new.calls, NO_LIMIT, "a heap of {size}");
+                refused = refused.saturating_add(1);
+            }
+        }
+    }
+    assert!(rt; refused > 0);
+    assert!(rt; made > 0);
+    Ok(())
+}
+
+/// The bytes of a store of one record, made over a heap.
+fn at_rest_over<A: Allocator + Copy>(heap: A, first: Seq<u8, A>) -> Result<Vec<u8, A>, NoMemory>
+    requires { IsRecord first }
+{
+    bytes_at_rest(heap, &standard(), &[first])
+}
+
+// Heaps of each size: the bytes of a store of one record are made, or memory is refused. The record is on a heap of
+// its own.
+#[test]
+fn memory_refused_to_bytes_at_rest(rt: HostRuntime) -> Result<(), Fail> {
+    let alloc = rt.alloc();
+    let whole = store_of(alloc, 1)?;
+    let ample = LocalHeap::new(alloc, 400)?;
+    let mut refused = 0usize;
+    let mut made = 0usize;
+    for size in 0..800usize {
+        let heap = LocalHeap::new(alloc, size)?;
+        let first = Seq::copy_of(&ample, b"first")?;
+        match at_rest_over(&heap, first) {
+            Ok(bytes) => {
+                assert_eq!(rt; bytes.as_slice(), whole.as_slice(), "a heap of {size}");
+                made = made.saturating_add(1);
+            }
+            Err(NoMemory) => refused = refused.saturating_add(1),
+        }
+    }
+    assert!(rt; refused > 0);
+    assert!(rt; made > 0);
+    Ok(())
+}

@@ -14,9 +14,9 @@
 //!   digest. Result: each with what follows it, and the end; torn, torn, damaged, damaged.
 //! - each bit of each record turned. Result: damage after the records before it; or torn, or the
 //!   end, by a gate or a size.
-//! - a batch of 1, 2 and 3 records after one, where the file fails at each of its four calls.
-//!   Result: it is added where none fails; whatever is lost, made in part or torn of what was not
-//!   synced, the first record is there, with all of the batch or none.
+//! - a batch of 1, 2 and 3 records after one, where the file fails at each of its calls: 6, 8 and
+//!   10. Result: it is added where none fails; whatever is lost, made in part or torn of what was
+//!   not synced, the first record is there, with all of the batch or none.
 //! - the same batch on a disk with room for each length. Result: it is added where it has room, and
 //!   else the store failed; after that no call is made.
 //! - a store without its gate, and with bytes after it, opened where the file fails at each call.
@@ -36,8 +36,11 @@
 //!   another flag, cut while it is held. Result: no store; there is one; two records; held; two
 //!   records; another flag; held.
 //! - each growth refused: a store is opened and a batch of two added over heaps below 1,200 bytes;
-//!   one is cut over heaps below 1,600. Result: out of memory, and nothing was written, or all is
-//!   done; both occur.
+//!   one is cut over heaps below 1,600, read over heaps below 600, and made over heaps below 400;
+//!   the bytes of one with a record are made over heaps below 800. Result: out of memory, and
+//!   nothing was written, or all is done; both occur.
+//! - a head and a record put after each other over heaps below 400 bytes. Result: by hand, or the
+//!   first bytes of them and out of memory; the head, the record and neither are refused.
 #![tactic(auto)]
 
 #[cfg(test)]

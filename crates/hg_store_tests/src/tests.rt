@@ -4,6 +4,7 @@
 use hg_store::*;
 use hg_types::{Limits, NoMemory};
 use linked_list_allocator::LocalHeap;
+use std::alloc::Allocator;
 use std::test::*;
 
 /// The head of a server that does not publish, with the standard limits: by hand.
@@ -29,7 +30,11 @@ const ENDS: [usize; 4] = [38, 66, 91, 120];
 pub const TOO_MANY: usize = 1 << 32;
 
 /// Appends a record, where it is not too long.
-pub fn put_next(out: &mut Vec<u8>, before: &[u8; 20], record: &[u8]) -> Result<[u8; 20], NoMemory> {
+pub fn put_next<A: Allocator>(
+    out: &mut Vec<u8, A>,
+    before: &[u8; 20],
+    record: &[u8],
+) -> Result<[u8; 20], NoMemory> {
     if record.len() >= TOO_MANY {
         return Err(NoMemory);
     }
@@ -259,6 +264,43 @@ fn memory_refused_to_the_reader(rt: HostRuntime) -> Result<(), Fail> {
         }
     }
     assert!(rt; refused > 0);
+    assert!(rt; ample > 0);
+    Ok(())
+}
+
+/// Writes the head and the record `abc`.
+fn put_both<A: Allocator>(out: &mut Vec<u8, A>, first: &[u8; 20]) -> Result<(), NoMemory> {
+    standard(false).put(out)?;
+    let _digest = put_next(out, first, b"abc")?;
+    Ok(())
+}
+
+// Heaps of each size: a head and a record are written, or memory is refused to the one or to the other. Then the
+// first bytes of them are there, and no others.
+#[test]
+fn memory_refused_to_the_writer(rt: HostRuntime) -> Result<(), Fail> {
+    let first = read_records(rt.alloc(), &HEAD)?.digest;
+    let mut no_head = 0usize;
+    let mut no_record = 0usize;
+    let mut ample = 0usize;
+    for size in 0..400usize {
+        let heap = LocalHeap::new(rt.alloc(), size)?;
+        let mut out = Vec::new(&heap);
+        let result = put_both(&mut out, &first);
+        let len = out.len().min(STORE.len());
+        assert_eq!(rt; out.as_slice(), &STORE[..len], "a heap of {size}");
+        if result.is_ok() {
+            assert_eq!(rt; len, ENDS[1], "a heap of {size}");
+            ample = ample.saturating_add(1);
+        } else if len < ENDS[0] {
+            no_head = no_head.saturating_add(1);
+        } else {
+            assert!(rt; len < ENDS[1], "a heap of {size}");
+            no_record = no_record.saturating_add(1);
+        }
+    }
+    assert!(rt; no_head > 0);
+    assert!(rt; no_record > 0);
     assert!(rt; ample > 0);
     Ok(())
 }
