@@ -1,4 +1,4 @@
-use Rattle.std.proofs.Common.{◌+◌, ◌≤◌, ◌∷◌, [], List, ℕ, length, drop, ap, arith, length-append}
+use Rattle.std.proofs.Common.{◌+◌, ◌≤◌, ◌∷◌, ◌∙◌, [], List, ℕ, length, drop, ap, sym, arith, length-append}
 use Rattle.hg_store.specs.Files.{stored}
 use Rattle.hg_store.specs.Records.{frames}
 use Rattle.hg_store.proofs.Staying.{kept_on, kept_synced, only_begins}
@@ -88,3 +88,6 @@ returns-clause-front g c =
     kept_synced g.D.Device.moment g.D.Device.left_since g.D.Device.may_leave old _ _ _ second
     c.sync.ensures.crash
     c.sync.ensures.time
+
+pub returns-clause-durable : goal.returns-clause-durable
+returns-clause-durable g c = λ left may. c.in_ok-sync.ensures.durable left may ∙ sym c.sync.ensures.seen
