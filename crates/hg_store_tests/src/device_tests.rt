@@ -636,7 +636,10 @@ fn memory_refused_to_a_new_store(rt: HostRuntime) -> Result<(), Fail> {
 }
 
 /// The bytes of a store of one record, made over a heap.
-fn at_rest_over<A: Allocator + Copy>(heap: A, first: Seq<u8, A>) -> Result<Vec<u8, A>, NoMemory>
+fn at_rest_over<'h>(
+    heap: &'h LocalHeap,
+    first: Seq<u8, &'h LocalHeap>,
+) -> Result<Vec<u8, &'h LocalHeap>, NoMemory>
     requires { IsRecord first }
 {
     bytes_at_rest(heap, &standard(), &[first])
