@@ -1,0 +1,4 @@
+mod Settings
+mod Fronts
+mod Told
+mod Had
