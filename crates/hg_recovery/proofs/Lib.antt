@@ -1,4 +1,4 @@
 mod Settings
 mod Fronts
-mod Told
+mod Seen
 mod Had

@@ -27,9 +27,9 @@ pub record WasThere {A : Type 0} (first : RepositoryOf A) (h : List (Taken A)) (
   pub number : done_in first before ≡ count
   pub had : repo ≡ (serial_run first before).repo
 
--- The file stands for the records that the server began with and, after them, so many more at least. An opening that
--- runs all of them serves the repository that as many pushes lead to, the first of the server's journal. No opening
--- of the file serves another.
+-- The file stands for the records that the server began with and, after them, so many more at least. Run one by one on
+-- the empty repository, all of them lead to the one to which as many pushes lead, the first of the server's journal. No
+-- opening of the file finds other records, or serves another repository.
 pub record Recovers {A : Type 0} (publishing : Bool) (head : Head) (stored : List (List ℕ)) (first : RepositoryOf A)
     (h : List (Taken A)) (least : ℕ) (file : List ℕ) : Type 0 where
   pub records : List (List ℕ)

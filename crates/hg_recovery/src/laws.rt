@@ -86,10 +86,10 @@ pub fn what_an_end_leaves_is_recovered<A: Allocator, D: Device>()
     fronts_are_recovered::<A>();
 }
 
-/// **What a client was told is recovered.** A push that is done by the history of a client, at a place that a promise
+/// **What a client saw done is recovered.** A push that is done by the history of a client, at a place that a promise
 /// counts, is one of those, at its place and with its parts: whatever an end has left since the promise. The client's
 /// history and the one by which the promise is kept begin one history, as those of two clients of a server do.
-pub fn what_a_client_was_told_is_recovered<A: Allocator, D: Device>()
+pub fn what_a_client_saw_done_is_recovered<A: Allocator, D: Device>()
     ensures { (publishing : Bool) (head : Head) (stored : List (List ℕ)) (first : RepositoryOf A)
         (client witness whole : List (TakenItem A)) (count : ℕ) (device : D) (promise : Promise) (p place : ℕ) →
         IsRecovered publishing head stored first → IsPrefix client whole → IsPrefix witness whole →

@@ -1,5 +1,5 @@
 use Rattle.hg_recovery.proofs.Had.{at_the_end, was_there}
-use Rattle.hg_recovery.proofs.Told.{closed}
+use Rattle.hg_recovery.proofs.Seen.{closed}
 use Rattle.hg_recovery.proofs.laws.what_is_recovered_was_there.Goals as goal
 
 pub returns-clause-before : goal.returns-clause-before

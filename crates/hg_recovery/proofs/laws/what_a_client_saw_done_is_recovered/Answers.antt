@@ -1,6 +1,6 @@
 use Rattle.std.proofs.Common.{arith}
-use Rattle.hg_recovery.proofs.Told.{among}
-use Rattle.hg_recovery.proofs.laws.what_a_client_was_told_is_recovered.Goals as goal
+use Rattle.hg_recovery.proofs.Seen.{among}
+use Rattle.hg_recovery.proofs.laws.what_a_client_saw_done_is_recovered.Goals as goal
 
 pub returns : goal.returns
 returns g c = λ publishing head stored first client witness whole count device promise p place begun mine theirs kept at
