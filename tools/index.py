@@ -28,6 +28,7 @@ FUNCTION = re.compile(r"^(\s*)(pub(?:\([a-z]+\))? )?(?:const )?fn (\w+)")
 WORD_DEFINED = re.compile(
     r"\s*(?:abbrev|unfoldable) pub ([\w']+)|(?:pub (?:record |data )?|record pub )([\w']+)")
 WORD = re.compile(r"[A-Za-z_][\w']*")
+CONSTANT = re.compile(r"^(?:pub(?:\([a-z]+\))? )?(?:const|static) (\w+):.*?;$", re.M | re.S)
 GHOST = re.compile(r"(?m)^ghost use Rattle\.(hg_\w+)\.specs\.([\w.]+)\.\{([^}]*)\}")
 
 
@@ -136,6 +137,18 @@ def edits_of(crate):
                 file = part[6:].strip()
             elif part.startswith("old: "):
                 yield name, f"{ROOT}/crates/{crate}/{file}", part[5:].rstrip("\n")
+
+
+def turned_by(path, old, every):
+    """The functions that a text of a file stands in. Where it is of a constant, those of the file that name it;
+    where of a type, all of them."""
+    text, here = read(path), [function for function in every if function.path == path]
+    place = text.find(old)
+    within = [function for function in here if function.start <= place < function.end]
+    for item in CONSTANT.finditer(text):
+        if not within and item.start() <= place < item.end():
+            return [it for it in here if re.search(rf"\b{item[1]}\b", text[it.start:it.end])]
+    return within or here
 
 
 def refusals_of(crate):
@@ -282,11 +295,7 @@ def main():
         calls_of = functools.lru_cache(None)(calls.Names(crate, every).called)
         turned = defaultdict(list)
         for name, path, old in edits_of(crate):
-            place = read(path).find(old)
-            here = [function for function in every if function.path == path]
-            within = [function for function in here if function.start <= place < function.end]
-            # a constant or a type is turned for the whole file
-            for function in within or here:
+            for function in turned_by(path, old, every):
                 turned[id(function)].append(name)
         refusals = refusals_of(crate)
         runs = run_by((f for f in every if is_of_tests(f.path) and f.is_test), calls_of)
