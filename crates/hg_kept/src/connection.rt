@@ -52,7 +52,7 @@ pub trait Recorder<A: Allocator>: Keep {
     fn seal(self) -> Sealed<A>
     where
         Self: Sized,
-        ensures { result ≡ kept self };
+        ensures { result ≡ Self.kept self };
 }
 
 /// A record of its own memory.
