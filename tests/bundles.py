@@ -46,6 +46,28 @@ def group(*entries):
     return (b"CHANGEGROUP", ((b"version", b"02"),), chunks + bytes(12))
 
 
+def parts_of(text):
+    """The type and the payload of each part of a bundle."""
+    at = 8 + int.from_bytes(text[4:8], "big")
+    while size := int.from_bytes(text[at:at + 4], "big"):
+        kind, payload = text[at + 5:at + 5 + text[at + 4]], b""
+        at += 4 + size
+        while count := int.from_bytes(text[at:at + 4], "big"):
+            payload += text[at + 4:at + 4 + count]
+            at += 4 + count
+        at += 4
+        yield kind, payload
+
+
+def changesets_in(text):
+    """The ids of the changesets of a bundle: they stand first in the chunks of a changegroup's first group."""
+    for kind, payload in parts_of(text):
+        at = 0
+        while kind == b"CHANGEGROUP" and (size := int.from_bytes(payload[at:at + 4], "big")):
+            yield payload[at + 4:at + 24].hex()
+            at += size
+
+
 def reply(kind, *params):
     return bundle((kind, params, b""))
 

@@ -19,7 +19,7 @@ import threading
 import time
 from urllib.parse import unquote
 
-from bundles import CAPS, EMPTY, NULL, ROOT_PUSH, bundle, group, node_of
+from bundles import CAPS, EMPTY, NULL, ROOT_PUSH, bundle, changesets_in, group, node_of
 
 PROGRAM = os.path.abspath(sys.argv[1])
 HERE = os.path.dirname(os.path.abspath(__file__))
@@ -143,8 +143,10 @@ def requests_in(sent):
 
 @case
 def recorded_conversations(host):
-    """Three pushes of a real client, one after the other on one store, request by request."""
+    """Three pushes of a real client, one after the other on one store, request by request. Afterwards the store has
+    the changesets that they brought, in that order."""
     host.start()
+    pushed = []
     for number in range(3):
         with open(f"{HERE}/conversations/{number}.sent", "rb") as file:
             sent = file.read()
@@ -156,8 +158,10 @@ def recorded_conversations(host):
             for place, it in enumerate(requests_in(sent)):
                 line.sendall(it)
                 want(f"answer {place} of conversation {number}", answer(told), answer(answers))
+                if it.startswith(b"POST /?cmd=unbundle "):
+                    pushed += changesets_in(it.partition(b"\r\n\r\n")[2])
         want(f"what is left of conversation {number}", answers.read(), b"")
-    want("changesets", sum(it.startswith("C ") for it in host.report().splitlines()) > 1, True)
+    want("changesets", [it.split()[2] for it in host.report().splitlines() if it.startswith("C ")], pushed)
 
 
 @case
