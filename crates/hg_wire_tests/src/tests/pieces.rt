@@ -123,9 +123,6 @@ fn a_bundle_is_cut_at_each_byte(rt: HostRuntime) {
     };
     assert!(rt; bundle.len() == 1_284);
     for count in 0..1_284usize {
-        if count % 7 != 0 && count > 300 && count < 1_200 {
-            continue;
-        }
         let asked = push_with_length(&rt, alloc, count, &bundle[..count]);
         let left = served(&rt, alloc, &[asked.as_slice()], PLAIN);
         assert!(rt; left.end == ConnectionEnd::Done);
@@ -250,6 +247,23 @@ fn a_body_finds_no_room(rt: HostRuntime) {
         chunks.as_slice(),
     );
     assert_no_room(&rt, alloc, chunked.as_slice());
+}
+
+/// What a body takes is taken once for its connection, and is there again for the next one.
+#[test]
+fn what_a_body_takes_stays_with_its_connection(rt: HostRuntime) {
+    let alloc = rt.alloc();
+    let body = long_body(&rt, alloc, 30_000);
+    let asked = push_with_length(&rt, alloc, 30_000, body.as_slice());
+    let asked = asked.as_slice();
+    let once = served(&rt, alloc, &[asked], narrow(4_096));
+    let told = once.told.as_slice();
+    assert!(rt; told.ends_with(b"messagestream fault 1\0\0\0\0\0\0\0\0"));
+    let said = joined(&rt, alloc, &[asked, asked, asked]);
+    let said = said.as_slice();
+    let left = served(&rt, alloc, &[said, said], narrow(4_096));
+    assert!(rt; left.end == ConnectionEnd::Done);
+    assert!(rt; left.told.as_slice() == joined(&rt, alloc, &[told, told, told]).as_slice());
 }
 
 /// A body that found no room and does not end: there is no answer.
