@@ -1,7 +1,7 @@
 """How `host` of the built program lives with connections that do nothing, or little: life.py PROGRAM [NAME..]
 
 A thousand silent connections beside 24 that push; connections that are silent or slow, in what they send and in
-what they read; bodies beyond the memory; and descriptors that run out. It ends by itself, within a minute on a
+what they read; bodies beyond the memory, also of connections that stay; and descriptors that run out. It ends by itself, within a minute on a
 machine with little else to do.
 """
 import contextlib
@@ -272,6 +272,35 @@ def bodies_hold_no_more_than_the_memory(host):
         it.close()
     want("they are gone", becomes(host, 1), True)
     want("a small one", host.push(EMPTY)[2], EMPTY_REPLY)
+
+
+@case
+def bodies_that_were_answered_keep_their_memory(host):
+    """Forty connections that stay after a body of 6 MiB each, where 16 MiB are allowed for all. A connection keeps the
+    block of its longest body, so there is room for two, and the others are refused. These two go on: their next
+    bodies lie in the same blocks. When all are gone, there is room again."""
+    with gives_back():
+        host.start("--memory", str(16 << 20))
+    push, lines, refused = request("/?cmd=unbundle", bytes(6 << 20), PUSH), [], []
+
+    def is_without_room(line):
+        line.sendall(push)
+        return b"out of memory" in answer(line.makefile("rb"))[2]
+
+    for _ in range(40):
+        lines.append(host.connect())
+        refused.append(is_without_room(lines[-1]))
+    most = resident(host)
+    print(f"    {sum(refused)} of 40 bodies of 6 MiB are refused where 16 MiB are allowed and connections stay; the"
+          f" process held {most:.0f} MiB at most")
+    want("the first two have room", refused, [False] * 2 + [True] * 38)
+    want("it held less than 64 MiB", most < 64, True)
+    want("they have it still", [is_without_room(it) for it in lines[:3]], [False, False, True])
+    for it in lines:
+        it.close()
+    want("they are gone", becomes(host, 1), True)
+    with host.connect() as line:
+        want("another has it then", is_without_room(line), False)
 
 
 @case

@@ -5,8 +5,7 @@ use std::sync::{Mutex, Wait};
 /// How many bytes of a request are free: a head has no more.
 const FREE: usize = 16_384;
 
-/// How many bytes the bodies of all requests that were not answered yet may hold together. It is shared by all
-/// connections of a server.
+/// How many bytes the bodies of all requests may hold together. It is shared by all connections of a server.
 #[derive(Drop)]
 pub struct Budget {
     left: Mutex<usize>,
@@ -38,11 +37,13 @@ impl Budget {
     }
 }
 
-/// What one connection holds of it: the bytes that came since its last answer, except a head.
+/// What one connection holds of it: as many bytes as its longest body had, and a head is free.
 #[derive(Drop)]
 pub(crate) struct Share<'a> {
     budget: &'a Budget,
+    /// How many bytes came since the last answer.
     came: usize,
+    /// How many bytes were taken of the budget.
     taken: usize,
 }
 
@@ -71,7 +72,13 @@ impl<'a> Share<'a> {
         true
     }
 
-    /// Gives back what it holds: what came was answered.
+    /// Forgets what came, since it was answered. What was taken stays taken: the connection keeps the block of its
+    /// longest body, and what comes next lies in that block.
+    pub(crate) fn forget(&mut self) {
+        self.came = 0;
+    }
+
+    /// Gives all back: the connection is gone, and its block with it.
     pub(crate) fn clear<R: Wait>(&mut self, rt: &R) {
         self.came = 0;
         if self.taken > 0 {

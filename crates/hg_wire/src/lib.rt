@@ -6,8 +6,9 @@
 //! answered by one look at the repository, also where a batch asks several. What has a word for each head is made
 //! of a view that all connections share, on a [`Shelf`] under a lock of its own. Each answer that depends on the
 //! repository waits until the pushes that it rests on are on the device; where the store failed there is none.
-//! Whatever else comes is answered: out of memory too is answered, and closes no connection. A body which finds no
-//! room in the [`Budget`] of all of them is read to its end and dropped, and is answered so.
+//! Whatever else comes is answered, also that memory was refused; but memory that `http_server` wants for itself may
+//! end the connection without an answer. A body which finds no room in the [`Budget`] of all of them is read to its end
+//! and dropped, and is answered so.
 //!
 //! The form of requests and answers is that of Mercurial's `internals.wireprotocol`, "HTTP Version 1
 //! Transport".

@@ -83,7 +83,6 @@ pub fn serve_http<
     let ended = serve_stretches(
         rt, alloc, keys, config, &mut wire, &mut share, reader, writer,
     );
-    share.clear(rt);
     let (client, has_failed) = wire.into_client();
     (client, end_of(ended, has_failed))
 }
@@ -150,12 +149,13 @@ fn serve_stretches<
             reader,
             writer,
         );
-        // Dropped here once, and not at each place where the function returns.
+        // Dropped here once, and not at each place where the function returns: with its block what was taken for it
+        // goes back, however it ended.
         drop(connection);
+        share.clear(rt);
         if ended? {
             return Ok(());
         }
-        share.clear(rt);
         if refuse(&mut follower, reader, writer)? {
             return Ok(());
         }
@@ -251,7 +251,7 @@ fn converse<
     let mut has_room = true;
     // A loop is proved to end, so this one counts its turns.
     'turns: for _ in 0..u64::MAX {
-        if advance(rt, connection, wire, share) {
+        if advance(connection, wire, share) {
             has_room = true;
         }
         if connection.is_done() {
@@ -274,9 +274,8 @@ fn converse<
     Err(ErrorKind::TimedOut.into())
 }
 
-/// Answers what was received, and says whether anything was. What was held for it is given back.
+/// Answers what was received, and says whether anything was. What came for it is forgotten.
 fn advance<J: Storing<A>, D: Device, R: Wait, S: Shown<A>, V: Watch<A>, A: Allocator + Copy>(
-    rt: &R,
     connection: &mut Connection,
     wire: &mut Wire<'_, J, D, R, S, V, A>,
     share: &mut Share<'_>,
@@ -292,7 +291,7 @@ fn advance<J: Storing<A>, D: Device, R: Wait, S: Shown<A>, V: Watch<A>, A: Alloc
     connection.advance(wire);
     let has_answered = wire.answered() != before;
     if has_answered {
-        share.clear(rt);
+        share.forget();
     }
     has_answered
 }
