@@ -60,16 +60,28 @@ around_of kept page metrics terms = record {
 abbrev pub IsSaid : {A : Type 0} → Answer A → KeptSeen A → Answer A → KeptSeen A → Type 0
 IsSaid said before answer after = (answer ≡ said) × (after ≡ before)
 
--- Memory was refused before anything changed. The client may have seen more than before.
-pub record LacksMemory {A : Type 0} (before : KeptSeen A) (answer : Answer A)
+-- what is asked looks at the repository and does nothing more: it is a view, or a command that reads
+abbrev pub is_look : Option Command → Bool
+is_look None = true
+is_look (Some (ReadOnly read)) = true
+is_look (Some Batch) = true
+is_look (Some Capabilities) = false
+is_look (Some Unbundle) = false
+is_look (Some PushKey) = false
+is_look (Some GetBundle) = false
+
+-- Memory was refused before anything changed. Who looked may have seen more than before; else nothing was done, and
+-- the client has seen what it had.
+pub record LacksMemory {A : Type 0} (looks : Bool) (before : KeptSeen A) (answer : Answer A)
     (after : KeptSeen A) : Type 0 where
   pub refused : answer ≡ Refused NoMemory
   pub earlier : IsLater before after
+  pub same : looks ≡ false → after ≡ before
 
 -- it is answered so, or memory was refused before anything changed
-abbrev pub OrLacks : {A : Type 0} → (KeptSeen A → Answer A → KeptSeen A → Type 0) → KeptSeen A →
+abbrev pub OrLacks : {A : Type 0} → Bool → (KeptSeen A → Answer A → KeptSeen A → Type 0) → KeptSeen A →
     Answer A → KeptSeen A → Type 0
-OrLacks Says before answer after = Says before answer after ⊎ LacksMemory before answer after
+OrLacks looks Says before answer after = Says before answer after ⊎ LacksMemory looks before answer after
 
 -- The answer is a text that the repository gives so at one point of the serial order, and not before
 -- what the client was answered; all pushes that were done by then were on the device.
@@ -181,8 +193,8 @@ AnswersAsked capacity first around (Some command) fields r before answer after =
 abbrev pub AnswersRequest : {A : Type 0} → ℕ → RepositoryOf A → Around A → Request (List ℕ) → KeptSeen A →
     Answer A → KeptSeen A → Type 0
 AnswersRequest {A} capacity first around r before answer after =
-    OrLacks (AnswersAsked capacity first around (command_of (name_of A r)) (arguments_of r) r) before answer
-    after
+    let command = command_of (name_of A r) in
+    OrLacks (is_look command) (AnswersAsked capacity first around command (arguments_of r) r) before answer after
 
 -- what contracts see of a connection's service: what its client had seen when the last request was answered, and
 -- the terms

@@ -1,6 +1,6 @@
 //! What a request is answered.
 
-ghost use Rattle.std.specs.Prelude.{◌≡◌, ◌⊎◌, true, codes, IfOk, MatchResult};
+ghost use Rattle.std.specs.Prelude.{◌≡◌, ◌⊎◌, true, false, Some, codes, IfOk, MatchResult};
 ghost use Rattle.std.specs.Option.{option_copied};
 ghost use Rattle.std.specs.Str.{bytes_eq};
 ghost use Rattle.http.specs.Request.{body_of};
@@ -13,7 +13,7 @@ ghost use Rattle.hg_reading.specs.Copied.{is_long as goes_long};
 ghost use Rattle.hg_reading.specs.Texts.{refusal_of as why_refused, IsBatchText, IsTextOf};
 ghost use Rattle.hg_ledger.specs.Clients.{IsCovered};
 ghost use Rattle.hg_wire.specs.Answering.{AnswersRequest, AnswersAsked, AnswersBatch, AnswersCommand, AnswersForced};
-ghost use Rattle.hg_wire.specs.Answering.{AnswersPushKey, around_of, IfFromClient, IsSaid, IsTextAt, OrLacks};
+ghost use Rattle.hg_wire.specs.Answering.{AnswersPushKey, around_of, IfFromClient, is_look, IsSaid, IsTextAt, OrLacks};
 ghost use Rattle.hg_wire.specs.Answering.{pull_answer};
 ghost use Rattle.hg_wire.specs.Pushes.{Answered};
 
@@ -89,7 +89,7 @@ fn answer_asked<J: Storing<A>, D: Device, A: Allocator + Copy, R: Wait, S: Shown
     request: &Request<Bytes>,
     watch: &mut V,
 ) -> (KeptClient<J, A>, Result<Answer<A>, NotStored>)
-    ensures { Answered (OrLacks (AnswersAsked J.capacity J.first
+    ensures { Answered (OrLacks (is_look command) (AnswersAsked J.capacity J.first
         (around_of (IsCovered D.seen D.may_leave D.moment J.head J.stored J.first) S.is_page S.are_metrics terms.now)
         command fields.now request.now)) client result.1 result.0 }
 {
@@ -109,7 +109,7 @@ fn answer_command<J: Storing<A>, D: Device, A: Allocator + Copy, R: Wait, V: Wat
     request: &Request<Bytes>,
     watch: &mut V,
 ) -> (KeptClient<J, A>, Result<Answer<A>, NotStored>)
-    ensures { Answered (OrLacks (AnswersCommand J.capacity J.first
+    ensures { Answered (OrLacks (is_look (Some command)) (AnswersCommand J.capacity J.first
         (IsCovered D.seen D.may_leave D.moment J.head J.stored J.first) (option_copied pull.entry) command fields.now
         request.now)) client result.1 result.0 }
 {
@@ -158,7 +158,7 @@ fn answer_read<J: Storing<A>, D: Device, A: Allocator + Copy, R: Wait>(
     read: Read,
     fields: &[Field<A>],
 ) -> (KeptClient<J, A>, Result<Answer<A>, NotStored>)
-    ensures { Answered (OrLacks (IsTextAt J.first
+    ensures { Answered (OrLacks true (IsTextAt J.first
         (IsCovered D.seen D.may_leave D.moment J.head J.stored J.first)
         (λ repo text. IsTextOf repo read (argument_in fields.now (subject read)) text)))
         client result.1 result.0 }
@@ -187,7 +187,7 @@ fn answer_long<J: Storing<A>, D: Device, A: Allocator + Copy, R: Wait>(
     about: &[u8],
 ) -> (KeptClient<J, A>, Result<Answer<A>, NotStored>)
     requires { goes_long read ≡ true }
-    ensures { Answered (OrLacks (IsTextAt J.first
+    ensures { Answered (OrLacks true (IsTextAt J.first
         (IsCovered D.seen D.may_leave D.moment J.head J.stored J.first)
         (λ repo text. IsTextOf repo read about.now text)))
         client result.1 result.0 }
@@ -213,8 +213,8 @@ fn answer_batch<J: Storing<A>, D: Device, A: Allocator + Copy, R: Wait>(
     fields: &[Field<A>],
 ) -> (KeptClient<J, A>, Result<Answer<A>, NotStored>)
     ensures { let commands = commands_of (argument_in fields.now (codes "cmds")) in
-        Answered (OrLacks (AnswersBatch J.first (IsCovered D.seen D.may_leave D.moment J.head J.stored J.first) commands
-        (why_refused commands))) client result.1 result.0 }
+        Answered (OrLacks true (AnswersBatch J.first (IsCovered D.seen D.may_leave D.moment J.head J.stored J.first)
+        commands (why_refused commands))) client result.1 result.0 }
 {
     match read_batch(host.keeping.alloc, argument(fields, b"cmds".as_slice())) {
         Ok(commands) => answer_commands(host, client, commands.as_slice()),
@@ -228,8 +228,9 @@ fn answer_commands<J: Storing<A>, D: Device, A: Allocator + Copy, R: Wait>(
     client: KeptClient<J, A>,
     commands: &[hg_told::Command<A>],
 ) -> (KeptClient<J, A>, Result<Answer<A>, NotStored>)
-    ensures { Answered (OrLacks (AnswersBatch J.first (IsCovered D.seen D.may_leave D.moment J.head J.stored J.first)
-        commands.now (why_refused commands.now))) client result.1 result.0 }
+    ensures { Answered (OrLacks true (AnswersBatch J.first
+        (IsCovered D.seen D.may_leave D.moment J.head J.stored J.first) commands.now (why_refused commands.now)))
+        client result.1 result.0 }
 {
     if let Some(why) = refusal_of(commands) {
         return (client, Ok(Answer::Refused(why)));
@@ -255,7 +256,7 @@ fn answer_commands_long<J: Storing<A>, D: Device, A: Allocator + Copy, R: Wait>(
     client: KeptClient<J, A>,
     commands: &[hg_told::Command<A>],
 ) -> (KeptClient<J, A>, Result<Answer<A>, NotStored>)
-    ensures { Answered (OrLacks (IsTextAt J.first
+    ensures { Answered (OrLacks true (IsTextAt J.first
         (IsCovered D.seen D.may_leave D.moment J.head J.stored J.first)
         (λ repo text. IsBatchText repo commands.now text))) client result.1 result.0 }
 {
@@ -304,7 +305,7 @@ fn answer_pushkey<J: Storing<A>, D: Device, A: Allocator + Copy, R: Wait, V: Wat
     request: &Request<Bytes>,
     watch: &mut V,
 ) -> (KeptClient<J, A>, Result<Answer<A>, NotStored>)
-    ensures { Answered (OrLacks (IfFromClient (came_from_client request.now) (AnswersPushKey J.capacity J.first
+    ensures { Answered (OrLacks false (IfFromClient (came_from_client request.now) (AnswersPushKey J.capacity J.first
         (IsCovered D.seen D.may_leave D.moment J.head J.stored J.first) fields.now))) client result.1 result.0 }
 {
     if !is_from_client(request) {

@@ -1,6 +1,6 @@
 //! The command `pushkey`: a push that sets one key.
 
-ghost use Rattle.std.specs.Prelude.{◌≡◌, ◌⊎◌, true};
+ghost use Rattle.std.specs.Prelude.{◌≡◌, ◌⊎◌, true, false};
 ghost use Rattle.hg_http.specs.Keys.{fits as can_fit};
 ghost use Rattle.std.specs.List.{list_any};
 ghost use Rattle.hg_wire.specs.Answering.{AnswersChange, AnswersFitting, AnswersPushKey, OrLacks};
@@ -29,7 +29,7 @@ pub fn push_key<J: Storing<A>, D: Device, A: Allocator + Copy, R: Wait, V: Watch
     fields: &[Field<A>],
     watch: &mut V,
 ) -> (KeptClient<J, A>, Result<Answer<A>, NotStored>)
-    ensures { Answered (OrLacks (AnswersPushKey J.capacity J.first
+    ensures { Answered (OrLacks false (AnswersPushKey J.capacity J.first
         (IsCovered D.seen D.may_leave D.moment J.head J.stored J.first) fields.now)) client result.1 result.0 }
 {
     let change = read_change(fields);
@@ -43,7 +43,7 @@ fn push_change<J: Storing<A>, D: Device, A: Allocator + Copy, R: Wait, V: Watch<
     change: &KeyChange<'_>,
     watch: &mut V,
 ) -> (KeptClient<J, A>, Result<Answer<A>, NotStored>)
-    ensures { Answered (OrLacks (AnswersChange J.capacity J.first
+    ensures { Answered (OrLacks false (AnswersChange J.capacity J.first
         (IsCovered D.seen D.may_leave D.moment J.head J.stored J.first) change.now.namespace.now
         change.now.key.now change.now.old.now change.now.new.now)) client result.1 result.0 }
 {
@@ -62,7 +62,7 @@ fn set_key<J: Storing<A>, D: Device, A: Allocator + Copy, R: Wait, V: Watch<A>>(
 ) -> (KeptClient<J, A>, Result<Answer<A>, NotStored>)
     requires { can_fit change.now.namespace.now change.now.key.now change.now.old.now
         change.now.new.now ≡ true }
-    ensures { Answered (OrLacks (AnswersFitting J.capacity J.first
+    ensures { Answered (OrLacks false (AnswersFitting J.capacity J.first
         (IsCovered D.seen D.may_leave D.moment J.head J.stored J.first) change.now.namespace.now
         change.now.key.now change.now.old.now change.now.new.now)) client result.1 result.0 }
 {

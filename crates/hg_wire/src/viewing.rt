@@ -1,5 +1,6 @@
 //! What is shown without a command.
 
+ghost use Rattle.std.specs.Prelude.{true};
 ghost use Rattle.hg_ledger.specs.Clients.{IsCovered};
 ghost use Rattle.hg_wire.specs.Answering.{AnswersView, around_of, OrLacks};
 ghost use Rattle.hg_wire.specs.Pushes.{Answered};
@@ -21,7 +22,7 @@ pub fn answer_view<J: Storing<A>, D: Device, A: Allocator + Copy, R: Wait, S: Sh
     client: KeptClient<J, A>,
     view: Option<View>,
 ) -> (KeptClient<J, A>, Result<Answer<A>, NotStored>)
-    ensures { Answered (OrLacks (AnswersView J.first
+    ensures { Answered (OrLacks true (AnswersView J.first
         (around_of (IsCovered D.seen D.may_leave D.moment J.head J.stored J.first) S.is_page S.are_metrics terms.now)
         view)) client result.1 result.0 }
 {

@@ -1,4 +1,4 @@
-use Rattle.std.proofs.Common.{Option, ◌∙◌, subst, sym}
+use Rattle.std.proofs.Common.{true, Option, ◌∙◌, subst, sym}
 use Rattle.hg_http.specs.declared.answer.Refusal.{Refusal}
 use Rattle.hg_ledger.specs.Clients.{IsCovered}
 use Rattle.hg_reading.specs.Texts.{IsBatchText}
@@ -12,7 +12,7 @@ returns-in-Ok g c =
     g.J.Naming.first in
     let after = c.look-client.result.0 in
     let found = went _ _ _ _ c.in-Ok.is c.look-client.ensures in
-    subst (λ (why : Option Refusal). OrLacks (AnswersBatch g.J.Naming.first kept c.args.commands.now why) c.args.client
-    c.text_answer.result after) (sym c.in_default.is ∙ c.refusal_of.ensures)
+    subst (λ (why : Option Refusal). OrLacks true (AnswersBatch g.J.Naming.first kept c.args.commands.now why)
+    c.args.client c.text_answer.result after) (sym c.in_default.is ∙ c.refusal_of.ensures)
     (text_or_lacks g.J.Naming.first kept c.args.client c.text_answer.result after
     (λ repo text. IsBatchText repo c.args.commands.now text) c.in-Ok.text found.0 c.text_answer.ensures)

@@ -1,4 +1,4 @@
-use Rattle.std.proofs.Common.{ℕ, List, ◌∙◌, ap, subst}
+use Rattle.std.proofs.Common.{ℕ, true, List, ◌∙◌, ap, subst}
 use Rattle.hg_http.specs.Requests.{argument_in}
 use Rattle.hg_ledger.specs.Clients.{IsCovered}
 use Rattle.hg_reading.specs.Texts.{IsTextOf}
@@ -12,7 +12,7 @@ returns-in-Ok g c =
     g.J.Naming.first in
     let after = c.look-client.result.0 in
     let found = went _ _ _ _ c.in-Ok.is c.look-client.ensures in
-    subst (λ (about : List ℕ). OrLacks (IsTextAt g.J.Naming.first kept
+    subst (λ (about : List ℕ). OrLacks true (IsTextAt g.J.Naming.first kept
     (λ repo text. IsTextOf repo c.args.read about text)) c.args.client c.text_answer.result after)
     (c.argument-about.ensures ∙ ap (λ (n : List ℕ). argument_in c.args.fields.now n) c.subject_of.ensures)
     (text_or_lacks g.J.Naming.first kept c.args.client c.text_answer.result after

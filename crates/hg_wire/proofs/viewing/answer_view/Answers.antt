@@ -1,4 +1,4 @@
-use Rattle.std.proofs.Common.{Option, subst, sym}
+use Rattle.std.proofs.Common.{true, Option, subst, sym}
 use Rattle.hg_http.specs.declared.view.View.{View}
 use Rattle.hg_ledger.specs.Clients.{IsCovered}
 use Rattle.hg_reading.specs.Views.{IsViewed}
@@ -13,7 +13,7 @@ returns-in-Ok g c =
     let around = around_of kept g.S.Shown.is_page g.S.Shown.are_metrics c.args.terms.now in
     let after = c.look-client.result.0 in
     let found = went _ _ _ _ c.in-Ok.is c.look-client.ensures in
-    subst (λ (v : Option View). OrLacks (AnswersView g.J.Naming.first around v) c.args.client c.shown_answer.result
+    subst (λ (v : Option View). OrLacks true (AnswersView g.J.Naming.first around v) c.args.client c.shown_answer.result
     after) (sym c.in-Some.is)
     (shown_or_lacks g.J.Naming.first kept c.args.client c.shown_answer.result after
     (IsViewed around.page around.metrics c.in-Some.view) c.in-Some.view around.stored c.in-Ok.rests c.in-Ok.text found.0
