@@ -74,25 +74,26 @@ looked_later first kept before after Answers look = record {
 pub went : {T E : Type 0} (P : T → Type 0) (Q : E → Type 0) (r : Result T E) (t : T) → r ≡ Ok t → MatchResult r P Q → P t
 went P Q r t is told = let there : MatchResult (Ok t) P Q = subst (λ x. MatchResult x P Q) is told in there
 
+-- who looked may have seen more, and there was no memory for the answer
+looked_in_vain : {A : Type 0} (first : RepositoryOf A) (kept : KeptSeen A → ℕ → Type 0) (before : KeptSeen A)
+    (answer : Answer A) (after : KeptSeen A) (Answers : Repository A → Type 0) →
+    LooksKept first kept before after Answers → answer ≡ Refused NoMemory → LacksMemory true before answer after
+looked_in_vain first kept before answer after Answers look is = record {
+  refused = is;
+  earlier = looked_later first kept before after Answers look;
+  same = λ (wrong : true ≡ false). absurd (let e : true ≡ false = wrong in cc);
+}
+
 module _ {A E : Type 0} (first : RepositoryOf A) (kept : KeptSeen A → ℕ → Type 0) (before : KeptSeen A)
     (answer : Answer A) (after : KeptSeen A) (IsText : Repository A → List ℕ → Type 0)
   where
-    -- who looked may have seen more, and there was no memory for the answer
-    looked_in_vain : (Answers : Repository A → Type 0) → LooksKept first kept before after Answers →
-        answer ≡ Refused NoMemory → LacksMemory true before answer after
-    looked_in_vain Answers look is = record {
-      refused = is;
-      earlier = looked_later first kept before after Answers look;
-      same = λ (wrong : true ≡ false). absurd (let e : true ≡ false = wrong in cc);
-    }
-
     -- who looked is answered the text that it found, or there was no memory for it
     pub text_or_lacks : (text : Result (List ℕ) E)
         → LooksKept first kept before after (λ repo. IfOk text (λ t. IsText repo t))
         → MatchResult text (λ t. answer ≡ Text t) (λ _. answer ≡ Refused NoMemory)
         → OrLacks true (IsTextAt first kept IsText) before answer after
     text_or_lacks (Ok t) look is = inl (record { text = t; looks = look; answer_is = is })
-    text_or_lacks (Err e) look is = inr (looked_in_vain _ look is)
+    text_or_lacks (Err e) look is = inr (looked_in_vain first kept before answer after _ look is)
 
     -- who looked is shown the view that it found, or there was no memory for it
     pub shown_or_lacks : (view : View) (stored rests : ℕ) (text : Result (List ℕ) E)
@@ -106,8 +107,10 @@ module _ {A E : Type 0} (first : RepositoryOf A) (kept : KeptSeen A → ℕ → 
       looks = look;
       answer_is = subst (λ (n : ℕ). answer ≡ Shown view (finished view (stored + n) t)) even is;
     })
-    shown_or_lacks view stored rests (Ok t) look even (inr is) = inr (looked_in_vain _ look is)
-    shown_or_lacks view stored rests (Err e) look even is = inr (looked_in_vain _ look is)
+    shown_or_lacks view stored rests (Ok t) look even (inr is) =
+        inr (looked_in_vain first kept before answer after _ look is)
+    shown_or_lacks view stored rests (Err e) look even is =
+        inr (looked_in_vain first kept before answer after _ look is)
 
 module _ {A : Type 0} (capacity : ℕ) (first : RepositoryOf A) (kept : KeptSeen A → ℕ → Type 0)
     (before : KeptSeen A) (answer : Answer A) (after : KeptSeen A)
