@@ -3,3 +3,4 @@ mod Served
 mod Wires
 mod Pieces
 mod Later
+mod Fronts
