@@ -307,15 +307,14 @@ fn pushed(answer: &[u8], done: &[u8]) -> Option<Option<bool>> {
 }
 
 /// Heaps of rising size: one growth after another is refused, each request is answered all the same, and what
-/// a push is answered is what comes of it.
+/// a push is answered is what comes of it. Its record takes no memory, so none is refused while this small one is read.
 #[test]
 fn each_growth_is_refused(rt: HostRuntime) -> Result<(), Fail> {
     let alloc = rt.alloc();
     let full = answers_of(&rt, alloc, TOLD_0);
     assert!(rt; full.len() == 7);
-    let (mut unmade, mut whole) = (0usize, 0usize);
+    let (mut unmade, mut whole, mut aborted) = (0usize, 0usize, 0usize);
     let mut refused = [0usize; 7];
-    let (mut aborted, mut unread) = (0usize, 0usize);
     let talk = Talk {
         before: b"",
         asked: ASKED_0,
@@ -336,7 +335,6 @@ fn each_growth_is_refused(rt: HostRuntime) -> Result<(), Fail> {
                     panic!(rt; "no answer to a push at {sixteens}");
                 };
                 aborted = aborted.saturating_add(usize::from(push == ABORTED));
-                unread = unread.saturating_add(usize::from(push == NOT_READ));
                 for place in 0..7usize {
                     let answer = answers[place];
                     let is_told = answer == full[place] && (place != 6 || is_pushed != Some(false));
@@ -362,8 +360,8 @@ fn each_growth_is_refused(rt: HostRuntime) -> Result<(), Fail> {
         }
     }
     assert!(rt;
-        unmade > 0 && whole > 0 && aborted > 0 && unread > 0,
-        "{unmade} {whole} {aborted} {unread}"
+        unmade > 0 && whole > 0 && aborted > 0,
+        "{unmade} {whole} {aborted}"
     );
     // the keys of an empty repository take no memory
     for place in [0usize, 1, 2, 5] {
