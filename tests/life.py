@@ -304,6 +304,26 @@ def bodies_that_were_answered_keep_their_memory(host):
 
 
 @case
+def a_body_for_which_memory_is_refused(host):
+    """A body of 60 MiB where the system has 8 MiB more for the process: its answer says so, and its connection goes
+    on, as does another."""
+    host.start("--memory", str(1 << 30))
+    pid, push = host.process.pid, request("/?cmd=unbundle", bytes(60 << 20), PUSH)
+    with host.connect() as line:
+        line.sendall(push[:20])
+        time.sleep(0.2)
+        with open(f"/proc/{pid}/statm", encoding="ascii") as file:
+            room = int(file.read().split()[0]) * resource.getpagesize() + (8 << 20)
+        resource.prlimit(pid, resource.RLIMIT_AS, (room, room))
+        line.sendall(push[20:])
+        answers = line.makefile("rb")
+        want("it says so", b"out of memory" in answer(answers)[2], True)
+        line.sendall(request("/?cmd=unbundle", EMPTY, PUSH))
+        want("the next one", answer(answers)[2], EMPTY_REPLY)
+    want("another connection", host.push(EMPTY)[2], EMPTY_REPLY)
+
+
+@case
 def descriptors_run_out(host):
     """With 40 descriptors for 100 connections those that are served go on, and who waits is served later."""
     soft, hard = resource.getrlimit(resource.RLIMIT_NOFILE)

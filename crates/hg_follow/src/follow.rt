@@ -31,8 +31,6 @@ pub struct Follower {
     limits: Limits,
     server: Server,
     held: BytesMut,
-    /// Whether the body of a request is being read.
-    is_within: bool,
     /// Whether the answer to the request is to be the last one.
     is_last: bool,
     /// Whether it could not follow.
@@ -49,15 +47,9 @@ impl Follower {
             limits,
             server: Server::new(limits),
             held: BytesMut::new(alloc),
-            is_within: false,
             is_last: false,
             is_lost: false,
         }
-    }
-
-    /// Whether the body of a request is being read.
-    pub fn is_within(&self) -> bool {
-        self.is_within
     }
 
     /// Whether the answer to the request is to be the last one: it asked for that, or is of an old version, or it
@@ -120,7 +112,6 @@ impl Follower {
             → FollowsAt self.old stream count → FollowsAt self.new stream (count + 1) }
     {
         self.server = Server::new(self.limits);
-        self.is_within = false;
     }
 
     /// Reads events as long as there are any in what is held.
@@ -157,7 +148,6 @@ impl Follower {
         };
         let found = match read.event {
             Event::Head(head) => {
-                self.is_within = true;
                 self.is_last = is_last(self.held.as_slice(), &head, &spans);
                 None
             }

@@ -73,14 +73,6 @@ fn a_body_goes_on_and_breaks(rt: HostRuntime) {
     );
 }
 
-// Within a body; between two requests; within a head.
-#[test]
-fn within_a_body(rt: HostRuntime) {
-    assert_eq!(rt; after(rt.alloc(), SHORT, 5).is_within(), true);
-    assert_eq!(rt; after(rt.alloc(), PLAIN, 5).is_within(), false);
-    assert_eq!(rt; after(rt.alloc(), &SHORT[..20], 5).is_within(), false);
-}
-
 // A request of HTTP/1.1; one of HTTP/1.0; one that asks to close; a `HEAD`.
 #[test]
 fn the_last_answer(rt: HostRuntime) {

@@ -105,6 +105,7 @@ pub record ServesHttp {A S : Type 0} (capacity : ℕ) (first : RepositoryOf A)
     (after : KeptSeen A) : Type 0 where
   pub config : Config
   pub room : config.max_body_len ≡ first.settings.limits.stream
+  pub heads : config.limits.max_head_len ≡ 16384
   pub last : WireView A S
   pub converses : Converses (end ≢ Done) config
       (λ old r response new. Responds capacity first kept page metrics old r response new)

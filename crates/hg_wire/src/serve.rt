@@ -5,12 +5,12 @@ ghost use mathlib.Core.List.{IsPrefix};
 ghost use Rattle.std.specs.Io.KnownBytes.{Appends, Consumes, Keeps};
 ghost use Rattle.http_server.specs.Connection.{config_of, history};
 ghost use Rattle.http_server.specs.Exchange.{Calls};
-ghost use Rattle.http_server.specs.History.{after_read, IsQuiet, Rests, new_history};
+ghost use Rattle.http_server.specs.History.{IsQuiet, Rests, new_history};
 ghost use Rattle.hg_ledger.specs.Clients.{IsCovered};
 ghost use Rattle.hg_wire.specs.Answering.{Responds};
 ghost use Rattle.hg_wire.specs.Serving.{Converses, IsNoRoomAnswer, no_room_text, ServesHttp};
 ghost use Rattle.hg_follow.specs.Following.{FollowsAt, FollowsOn, limits_of};
-ghost use Rattle.hg_wire.specs.code.Following.{IsHeld, Passes};
+ghost use Rattle.hg_wire.specs.code.Following.{HasRead, IsHeld, Passes};
 
 use crate::budget::Share;
 use crate::terms::{Host, Terms};
@@ -265,7 +265,7 @@ fn converse<
         } else {
             // The peer may be waiting for what a buffered writer holds.
             writer.flush()?;
-            if !has_room && follower.is_within() {
+            if !has_room {
                 return Ok(false);
             }
             has_room = read_more(rt, connection, follower, share, reader)?;
@@ -296,7 +296,8 @@ fn advance<J: Storing<A>, D: Device, R: Wait, S: Shown<A>, V: Watch<A>, A: Alloc
     has_answered
 }
 
-/// Reads once, and says whether there was room for what came.
+/// Reads once, and says whether there was room for what came. There is none where memory is refused for it: then
+/// nothing is read.
 fn read_more<R: Wait, I: BufRead>(
     rt: &R,
     connection: &mut Connection,
@@ -306,7 +307,7 @@ fn read_more<R: Wait, I: BufRead>(
 ) -> io::Result<bool>
     ensures ok { OnOk result ((more : List ℕ)
         × Consumes (I.remaining reader.old) (I.remaining reader.new) more
-        × (history connection.new ≡ after_read (history connection.old) more)
+        × HasRead (history connection.old) (history connection.new) more
         × FollowsOn follower.old follower.new more) }
     ensures err { OnErr result ((history connection.new ≡ history connection.old)
         × Keeps (I.remaining reader.old) (I.remaining reader.new)) }
@@ -314,7 +315,10 @@ fn read_more<R: Wait, I: BufRead>(
 {
     let bytes = reader.fill_buf()?;
     let mut rest = bytes;
-    let count = connection.read_from(&mut rest)?;
+    // To read from memory fails only where memory is refused.
+    let Ok(count) = connection.read_from(&mut rest) else {
+        return Ok(false);
+    };
     follower.follow(&bytes[..count]);
     reader.consume(count);
     Ok(share.grow(rt, count))

@@ -6,6 +6,10 @@ use Rattle.http_server.specs.History.{History}
 use Rattle.hg_follow.specs.declared.follow.Follower.{Follower}
 use Rattle.hg_follow.specs.Following.{BeginsWith, FollowsAt, KeepsUp, limits_of}
 
+-- these bytes were read, and nothing was sent or called
+abbrev pub HasRead : History → History → List ℕ → Type 0
+HasRead old new more = (new.received ≡ old.received ++ more) × (new.sent ≡ old.sent) × (new.calls ≡ old.calls)
+
 -- a stretch has come to a request that is not whole: all others were answered, and all answers were sent
 abbrev pub IsHeld : Config → History → Follower → Type 0
 IsHeld config h f = (h.state ≡ Open) × (h.pending ≡ []) × (limits_of f ≡ config.limits)

@@ -17,11 +17,11 @@ returns-in_err-flush-clause-calls g c = Calls-then _ _ _ _ _ _ _ c.turns.invaria
 pub returns-in_err-flush-2-clause-calls : goal.returns-in_err-flush-2-clause-calls
 returns-in_err-flush-2-clause-calls g c = Calls-then _ _ _ _ _ _ _ c.turns.invariant.2 c.advance.ensures.calls
 
-pub returns-then-is_within-clause-calls : goal.returns-then-is_within-clause-calls
-returns-then-is_within-clause-calls g c = Calls-then _ _ _ _ _ _ _ c.turns.invariant.2 c.advance.ensures.calls
+pub returns-then-not-has_room-clause-calls : goal.returns-then-not-has_room-clause-calls
+returns-then-not-has_room-clause-calls g c = Calls-then _ _ _ _ _ _ _ c.turns.invariant.2 c.advance.ensures.calls
 
-pub returns-then-is_within-clause-held : goal.returns-then-is_within-clause-held
-returns-then-is_within-clause-held g c = λ is.
+pub returns-then-not-has_room-clause-held : goal.returns-then-not-has_room-clause-held
+returns-then-not-has_room-clause-held g c = λ is.
     let inv = c.turns.invariant in
     is_held (config_of c.advance.new.connection) (history c.advance.new.connection) c.turns.follower
     c.advance.ensures.rests (nothing_waits _ _ c.wants_write.ensures.1 c.if-wants_write.false)
@@ -81,15 +81,15 @@ turns-preserved g c =
             (
               read.0 ++ came.0,
               Consumes-then _ _ _ read.0 came.0 read.1 came.1,
-              ap (λ (h : History). h.received) came.2 ∙ ap (λ (t : List ℕ). t ++ came.0) (quiet.0 ∙ read.2)
+              came.2.0 ∙ ap (λ (t : List ℕ). t ++ came.0) (quiet.0 ∙ read.2)
                   ∙ append_assoc _ read.0 came.0,
             ),
             (
               written.0,
               Appends-kept _ _ _ written.0 written.1 w.flush-else-wants_write.ensures.bytes,
-              ap (λ (h : History). h.sent) came.2 ∙ quiet.2 ∙ written.2,
+              came.2.1 ∙ quiet.2 ∙ written.2,
             ),
-            (all.0, ap (λ (h : History). h.calls) came.2 ∙ all.1, all.2),
+            (all.0, came.2.2 ∙ all.1, all.2),
             w.read_more.ensures.config ∙ config,
             came.3.0 ∙ limits,
             λ lost.
@@ -98,7 +98,7 @@ turns-preserved g c =
                 let now = on.1 (history c.turns.connection).received at.0 at.1 in (
                   now.0,
                   subst (λ s. FollowsAt w.read_more.new.follower s now.0)
-                      (sym (ap (λ (h : History). h.received) came.2 ∙ ap (λ (t : List ℕ). t ++ came.0) quiet.0)) now.1,
+                      (sym (came.2.0 ∙ ap (λ (t : List ℕ). t ++ came.0) quiet.0)) now.1,
                 ),
           )
     ]

@@ -10,6 +10,7 @@ returns g c =
     record {
       config = _;
       room = ap (λ l. l.stream) (c.limits.ensures.value ∙ c.limits.ensures.first);
+      heads = c.default-config.ensures.3;
       last = ended.new.wire;
       converses = converses_from _ _ _ _ _ _ _ _ _ _ c.new-wire.ensures
           (converses_as _ _ _ _ _ _ _ _ _ _ (λ broke is. broke (last.ensures.done is)) ended.ensures);
