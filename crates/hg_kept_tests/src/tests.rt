@@ -7,9 +7,8 @@ ghost use Rattle.hg_store.specs.Log.{IsSettled};
 ghost use Rattle.hg_serve.specs.Desks.{OpensWith};
 ghost use Rattle.hg_ledger.specs.Receipts.{IsTallyOf};
 
-use hg_help_serve_tests::{
-    Open, client_of, close_two, marker, new_log, one_part, settings, starts_again,
-};
+use crate::again::{mixed, starts_again};
+use hg_help_serve_tests::{Open, client_of, close_two, marker, new_log, one_part, settings};
 use hg_help_store_tests::device::Memory;
 use hg_kept::{Keeping, KeptFault, serve_connection_kept};
 use hg_ledger::{KeptClient, Ledger, Storing, Tally};
@@ -37,7 +36,7 @@ const FEW: u8 = 24;
 /// How often each pushes where it stops anywhere.
 const MANY: u8 = 200;
 
-/// The reply to a push of a marker that is done.
+/// The reply to a push that is done.
 const DONE_REPLY: &[u8] = b"HG20\0\0\0\0\0\0\0\0";
 
 /// A reader over bytes, of which each read gives at most so many.
@@ -98,10 +97,7 @@ fn connect<'a, J: Storing<Global>, D: Device + Drop, R: Wait + Abort>(
     let client = KeptClient::new(client_of(rt, &open.server));
     let mut input = Vec::new(alloc);
     for turn in 0..pushes {
-        // every third push is malformed, and so aborted
-        let payload = marker(thread, turn);
-        let start = usize::from(turn % 3 == 0);
-        assert!(rt; one_part(&mut input, &payload[start..]));
+        assert!(rt; mixed(&mut input, thread, turn));
     }
     let mut reader = Source {
         bytes: &input,
