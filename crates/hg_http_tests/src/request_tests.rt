@@ -4,6 +4,7 @@ use bytes::Bytes;
 use hg_http::*;
 use hg_told::value_of;
 use http::Request;
+use linked_list_allocator::LocalHeap;
 use std::test::*;
 
 /// A request of that method and address with those header fields.
@@ -61,4 +62,27 @@ fn pushes_of_clients_and_of_pages(rt: HostRuntime) {
             None => panic!(rt; "no request"),
         }
     }
+}
+
+// A pull whose address is told on heaps of rising size. Result: it is the address with the query of the request, or
+// memory is refused.
+#[test]
+fn each_growth_of_an_address_refused(rt: HostRuntime) -> Result<(), Fail> {
+    let Some(asked) = request(rt, "GET", "/?cmd=getbundle&common=0123456789", &[]) else {
+        panic!(rt; "no request");
+    };
+    let wanted = b"https://hg.example/project?cmd=getbundle&common=0123456789".as_slice();
+    let (mut refused, mut done) = (0u32, 0u32);
+    for sixteens in 1..24usize {
+        let heap = LocalHeap::new(rt.alloc(), sixteens * 16)?;
+        match moved_to(&heap, b"https://hg.example/project", &asked) {
+            Ok(text) => {
+                assert!(rt; text.as_slice() == wanted);
+                done = done.saturating_add(1);
+            }
+            Err(_) => refused = refused.saturating_add(1),
+        }
+    }
+    assert!(rt; refused > 1 && done > 1);
+    Ok(())
 }
