@@ -14,7 +14,8 @@
 #   where the program of bench/store/program is at build/store_speed;
 # - what one thread of C writes of 256 KiB each, with one sync for all, which is what the disk takes;
 # - how many writes and syncs a push makes, of the threads in one process and of those in C, where strace is there;
-# - seconds to open a store of a million small pushes, beside SHA-1 of its file, and of 10,000 beside a replay of them.
+# - seconds to open a store of a million small pushes, until `host` says where it listens and by `report`, beside SHA-1
+#   of its file, and of 10,000 beside a replay of them.
 set -eu
 top=$(cd "$(dirname "$0")/../.." && pwd)
 program=$(cd "$(dirname "$1")" && pwd)/$(basename "$1")
@@ -26,18 +27,27 @@ here=$top/bench/store
 cc -O2 -pthread -o plain "$here/plain.c" -lsqlite3 -lcrypto
 cc -O2 -pthread -o push "$here/push.c"
 
-hosted() {
-    rm -rf speed.host
-    "$program" host --store speed.host --listen 127.0.0.1:0 --connections 100 2> listening &
+# Starts `host` over a store, and waits until it says where it listens.
+start_host() {
+    port=
+    "$program" host --store "$1" --listen 127.0.0.1:0 --connections 100 2> listening &
     server=$!
-    for _ in $(seq 100); do
+    while [ -z "$port" ] && kill -0 "$server"; do
+        sleep 0.01
         port=$(sed -n 's|.*http://127.0.0.1:\([0-9]*\)/.*|\1|p' listening)
-        [ -z "$port" ] || break
-        sleep 0.05
     done
-    ./push "$port" "$1" "$2"
+}
+
+stop_host() {
     kill "$server"
     wait "$server" 2> wait || true
+}
+
+hosted() {
+    rm -rf speed.host
+    start_host speed.host
+    ./push "$port" "$1" "$2"
+    stop_host
     rm -rf speed.host
 }
 
@@ -104,12 +114,22 @@ seconds() {
     echo "$(date +%s.%N) $start" | awk '{ printf "%.2f", $1 - $2 }'
 }
 
+# How long each way of opening a store takes.
+opened() {
+    local start
+    start=$(date +%s.%N)
+    start_host many/store
+    echo "$1 pushes: host listens after $(echo "$(date +%s.%N) $start" | awk '{ printf "%.2f", $1 - $2 }') s," \
+        "report takes $(seconds "$program" report --store many/store) s," \
+        "sha1sum $(seconds sha1sum many/store/pushes) s"
+    stop_host
+}
+
 "$here/many.py" many 1000000
-echo "a million pushes: report $(seconds "$program" report --store many/store) s," \
-    "sha1sum $(seconds sha1sum many/store/pushes) s"
+opened 1,000,000
 rm -rf many
 "$here/many.py" many 10000 10000
+opened 10,000
 ulimit -n 15000
-echo "10,000 pushes: report $(seconds "$program" report --store many/store) s," \
-    "replay $(seconds "$program" replay many/bundles/*) s, sha1sum $(seconds sha1sum many/store/pushes) s"
+echo "10,000 pushes: replay takes $(seconds "$program" replay many/bundles/*) s"
 rm -rf many
