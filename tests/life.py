@@ -323,6 +323,50 @@ def a_body_for_which_memory_is_refused(host):
     want("another connection", host.push(EMPTY)[2], EMPTY_REPLY)
 
 
+def takes_no_more(pid, more):
+    """Lets a process take so many KiB more of memory that it writes to."""
+    with open(f"/proc/{pid}/status", encoding="ascii") as status:
+        room = (int(re.search(r"^VmData:\s+(\d+) kB", status.read(), re.M)[1]) + more) << 10
+    resource.prlimit(pid, resource.RLIMIT_DATA, (room, room))
+
+
+def hold_heads(lines):
+    """Sends 12 KiB of a head on each connection: what the process holds of it, it holds as long as they are silent."""
+    for line in lines:
+        with contextlib.suppress(ConnectionError):
+            for number in range(12):
+                line.sendall(b"x-%d: %s\r\n" % (number, bytes(b"y" * 1000)))
+    time.sleep(0.5)
+
+
+@case
+def each_request_is_answered_whatever_memory_there_is(host):
+    """Connections that hold parts of heads take what memory the process may have. Then requests on another, two at a
+    time, with bodies of up to 20 kB: each has its answer, or one that there is no memory, and the connection goes on."""
+    asked = []
+    for size in (0, 50, 200, 1000, 3000, 8000, 20_000) * 8:
+        asked += [request("/?cmd=unbundle", bytes(size), PUSH), request("/?cmd=heads", None, ())]
+    for more, count in ((0, 50), (0, 150), (0, 300), (64, 150), (256, 150), (256, 300)):
+        host.start("--connections", "400")
+        with host.connect() as line, contextlib.ExitStack() as stack:
+            answers = line.makefile("rb")
+            others = [stack.enter_context(host.connect()) for _ in range(count)]
+            for it in (line, *others):
+                it.sendall(b"GET /?cmd=heads HTTP/1.1\r\nhost: a\r\n")
+            time.sleep(0.5)
+            takes_no_more(host.process.pid, more)
+            hold_heads(others)
+            line.sendall(b"\r\n")
+            said = [answer(answers)]
+            for first, second in zip(asked[::2], asked[1::2]):
+                line.sendall(first + second)
+                said += [answer(answers), answer(answers)]
+        lacks = sum(b"out of memory" in it[2] for it in said)
+        print(f"    {count} connections, {more} KiB more: {lacks} of {len(said)} answers say that there is no memory")
+        want("all are answered", {it[0] for it in said}, {200})
+        host.kill()
+
+
 @case
 def descriptors_run_out(host):
     """With 40 descriptors for 100 connections those that are served go on, and who waits is served later."""

@@ -1,6 +1,6 @@
 -- What has been read of the requests of a connection.
-use Rattle.std.proofs.Common.{◌≡◌, ◌≢◌, ℕ, ◌+◌, zero, suc, Bool, List, [], ◌∷◌, ◌++◌, length, drop}
-use Rattle.std.proofs.Common.{refl, sym, ap, subst, ◌∙◌, arith, append_assoc, append-nil, length-append, length-drop}
+use Rattle.std.proofs.Common.{◌≡◌, ◌≢◌, ℕ, ◌+◌, zero, suc, Bool, List, [], ◌∷◌, ◌++◌, ◌-◌, length, take, drop}
+use Rattle.std.proofs.Common.{refl, sym, ap, subst, ◌∙◌, arith, append_assoc, append-nil, length-append, length-drop, take_all}
 use Rattle.std.proofs.lemmas.List.{length-map}
 use Rattle.httparse.specs.declared.spans.HeaderSpan.{HeaderSpan}
 use Rattle.httparse.specs.declared.spans.RequestSpans.{RequestSpans}
@@ -19,7 +19,7 @@ use Rattle.http1.specs.Server.{new_server, cycle_at, ReadsAt, ReadsHead, ServerR
 use Rattle.http1.specs.ServerTrace.{Seen, no_body, observe, request_view, IsBetween, Trace, reads, stops}
 use Rattle.http1.proofs.ServerTraceLemmas.{trace_reads_requests}
 use Rattle.http_server.proofs.StreamLemmas.{ReadsRequestMessage-append}
-use Rattle.hg_follow.specs.Following.{BeginsWith, begun, Follows}
+use Rattle.hg_follow.specs.Following.{AreRequests, BeginsWith, begun, Goes}
 use Rattle.http1.specs.declared.decode.Decoder.{Decoder}
 use Rattle.std.specs.Prelude.{not, ◌&&◌, ◌==◌}
 
@@ -51,7 +51,7 @@ begins_with limits stream later rest trace =
 
 module _ (limits : Limits) where
   -- at the beginning
-  pub follows_none : Follows limits (new_server limits) [] [] 0
+  pub follows_none : Goes limits (new_server limits) [] [] 0
   follows_none = record {
     same_limits = refl;
     silent = refl;
@@ -63,7 +63,7 @@ module _ (limits : Limits) where
 
   -- more bytes came, and are held
   pub follows_more : (server : Server) (held stream : List ℕ) (count : ℕ) (more : List ℕ) →
-      Follows limits server held stream count → Follows limits server (held ++ more) (stream ++ more) count
+      Goes limits server held stream count → Goes limits server (held ++ more) (stream ++ more) count
   follows_more server held stream count more x = record {
     same_limits = x.same_limits;
     silent = x.silent;
@@ -78,32 +78,29 @@ module _ (limits : Limits) where
 
   -- the request has ended: it is one of those that are whole
   pub ended_whole : (server : Server) (held stream : List ℕ) (count : ℕ) → server.reading ≡ Reads.Done →
-      Follows limits server held stream count → (more : List ℕ) →
+      Goes limits server held stream count → (more : List ℕ) →
       BeginsWith limits (stream ++ more) (count + 1) (held ++ more)
   ended_whole server held stream count is x more =
       let all = x.leads more nothing (held ++ more)
       (stops server (held ++ more) (subst IsBetween (sym is) tt)) in
       (all.0, all.1, all.2 ∙ ap (λ r. count + begun r + 0) is ∙ omega arith)
 
-  -- and the next one begins
-  pub follows_next : (server : Server) (held stream : List ℕ) (count : ℕ) → server.reading ≡ Reads.Done →
-      Follows limits server held stream count → Follows limits (new_server limits) held stream (count + 1)
-  follows_next server held stream count is x =
-      let all = ended_whole server held stream count is x in
-      let here = all [] in
-      record {
-        same_limits = refl;
-        silent = refl;
-        leads = λ more later rest trace.
-            let first = all more in
-            let next = begins_with limits (held ++ more) later rest trace in (
-              first.0 ++ next.0,
-              requests_then limits first.0 next.0 (stream ++ more) (held ++ more) rest first.1 next.1,
-              length-append first.0 next.0 ∙ omega (arith, first.2, next.2),
-            );
-        rest = held ++ [];
-        whole = (here.0, subst (λ s. ReadsRequests limits s here.0 (held ++ [])) (append-nil stream) here.1, here.2);
-      }
+  -- and the next one begins, where nothing is held
+  pub follows_next : (stream : List ℕ) (count : ℕ) → AreRequests limits stream count →
+      Goes limits (new_server limits) [] stream count
+  follows_next stream count x = record {
+    same_limits = refl;
+    silent = refl;
+    leads = λ more later rest trace.
+        let next = begins_with limits more later rest trace in (
+          x.0 ++ next.0,
+          requests_then limits x.0 next.0 (stream ++ more) more rest
+              (requests_before limits x.0 stream [] more x.1) next.1,
+          length-append x.0 next.0 ∙ omega (arith, x.2, next.2),
+        );
+    rest = [];
+    whole = x;
+  }
 
 -- what one event counts for
 counts_head : (e : Event RequestSpans) (old new : Server) (input : List ℕ) (spans : List HeaderSpan) (len : ℕ)
@@ -179,7 +176,7 @@ counts (Reads.Failed e) old new input spans read later is silent x p u c = absur
 pub follows_read : (limits : Limits) (old new : Server) (held : List ℕ) (spans : List HeaderSpan)
     (read : Progress RequestSpans) (stream : List ℕ) (count : ℕ) → ServerReads old held spans new read →
     read.event ≢ Paused → read.event ≢ Upgraded → read.event ≢ Closed →
-    Follows limits old held stream count → Follows limits new (drop read.consumed held) stream count
+    Goes limits old held stream count → Goes limits new (drop read.consumed held) stream count
 follows_read limits old new held spans read stream count x p u c was =
     let each : (later : Seen) →
     (length (observe held spans read.event later).requests + begun old.reading ≡ begun new.reading + length later.requests)
@@ -216,18 +213,18 @@ ends_at (Reads.Failed e) old new input spans read n silent is x = absurd x
 
 pub follows_end : (limits : Limits) (old new : Server) (held : List ℕ) (spans : List HeaderSpan)
     (read : Progress RequestSpans) (n : ℕ) (stream : List ℕ) (count : ℕ) → ServerReads old held spans new read →
-    read.event ≡ End n → Follows limits old held stream count → new.reading ≡ Reads.Done
+    read.event ≡ End n → Goes limits old held stream count → new.reading ≡ Reads.Done
 follows_end limits old new held spans read n stream count x is was =
     ends_at old.reading old new held spans read n was.silent is x
 
 -- the same, where the parts are others' names
 pub follows_same : (limits limits₂ : Limits) (server server₂ : Server) (held held₂ stream : List ℕ) (count : ℕ) →
-    limits₂ ≡ limits → server₂ ≡ server → held₂ ≡ held → Follows limits server held stream count →
-    Follows limits₂ server₂ held₂ stream count
+    limits₂ ≡ limits → server₂ ≡ server → held₂ ≡ held → Goes limits server held stream count →
+    Goes limits₂ server₂ held₂ stream count
 follows_same limits limits₂ server server₂ held held₂ stream count l s h x =
-    subst (λ k. Follows k server₂ held₂ stream count) (sym l)
-    (subst (λ k. Follows limits k held₂ stream count) (sym s)
-    (subst (λ k. Follows limits server k stream count) (sym h) x))
+    subst (λ k. Goes k server₂ held₂ stream count) (sym l)
+    (subst (λ k. Goes limits k held₂ stream count) (sym s)
+    (subst (λ k. Goes limits server k stream count) (sym h) x))
 
 -- what is left, by how long it is
 dropped : (gone count : ℕ) (bytes : List ℕ) → length (drop gone bytes) + count ≡ length bytes →
@@ -250,7 +247,7 @@ left_behind (byte ∷ held) bytes left (suc gone) count is long = left_behind he
 
 -- a request that has ended, with what is left
 pub ended_at : (limits limits₂ : Limits) (server : Server) (held stream left : List ℕ) (count : ℕ) →
-    limits ≡ limits₂ → held ≡ left → server.reading ≡ Reads.Done → Follows limits server held stream count →
+    limits ≡ limits₂ → held ≡ left → server.reading ≡ Reads.Done → Goes limits server held stream count →
     BeginsWith limits₂ stream (count + 1) left
 ended_at limits limits₂ server held stream left count same is ended x =
     let all = ended_whole limits server held stream count ended x [] in
@@ -261,3 +258,13 @@ ended_at limits limits₂ server held stream left count same is ended x =
       all.2,
     ) in
     subst (λ l. BeginsWith l stream (count + 1) left) same (subst (λ h. BeginsWith limits stream (count + 1) h) is here)
+
+-- all that is behind a place
+pub rest_of : (bytes : List ℕ) (n : ℕ) → take (length bytes - n) (drop n bytes) ≡ drop n bytes
+rest_of bytes n = take_all (length bytes - n) (drop n bytes) (omega (arith, length-drop n bytes))
+
+-- nothing, and then what is behind a place
+pub held_rest : (held left bytes : List ℕ) (n : ℕ) → held ≡ [] →
+    left ≡ held ++ take (length bytes - n) (drop n bytes) → left ≡ drop n bytes
+held_rest held left bytes n none is =
+    is ∙ ap (λ (l : List ℕ). l ++ take (length bytes - n) (drop n bytes)) none ∙ rest_of bytes n

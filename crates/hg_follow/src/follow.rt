@@ -1,9 +1,9 @@
 //! Where the requests of a connection end.
 
-ghost use Rattle.std.specs.Prelude.{◌≡◌, ◌≢◌, ℕ, ◌+◌, ◌≤◌, true, List, [], ◌++◌, length, drop, Some};
+ghost use Rattle.std.specs.Prelude.{◌≡◌, ◌≢◌, ℕ, ◌≤◌, true, false, List, [], length, drop, Some};
 ghost use Rattle.httparse.specs.Spans.{IsRequestWithin};
 ghost use Rattle.http1.specs.declared.conn.Reading.TheVariants.{Done as HasEnded};
-ghost use Rattle.hg_follow.specs.Following.{BeginsWith, FollowsAt, FollowsOn, KeepsUp, limits_of};
+ghost use Rattle.hg_follow.specs.Following.{AreRequests, Follows, FollowsAt, IsAt, limits_of};
 
 use bytes::BytesMut;
 use http_server::MAX_HEADERS;
@@ -28,11 +28,8 @@ pub enum Found {
 /// of a head, of a chunk's line or of trailers.
 #[derive(Drop)]
 pub struct Follower {
-    limits: Limits,
-    server: Server,
+    reader: Reader,
     held: BytesMut,
-    /// Whether the answer to the request is to be the last one.
-    is_last: bool,
     /// Whether it could not follow.
     is_lost: bool,
 }
@@ -44,10 +41,12 @@ impl Follower {
         ensures follows { FollowsAt result [] 0 }
     {
         Follower {
-            limits,
-            server: Server::new(limits),
+            reader: Reader {
+                limits,
+                server: Server::new(limits),
+                is_last: false,
+            },
             held: BytesMut::new(alloc),
-            is_last: false,
             is_lost: false,
         }
     }
@@ -55,100 +54,133 @@ impl Follower {
     /// Whether the answer to the request is to be the last one: it asked for that, or is of an old version, or it
     /// wants no body in its answer.
     pub fn is_last(&self) -> bool {
-        self.is_last
+        self.reader.is_last
     }
 
-    /// Reads on in the requests.
-    pub fn follow(&mut self, bytes: &[u8])
-        ensures { FollowsOn self.old self.new bytes.now }
+    /// Reads on in the requests, at most up to the end of one. Says how many of the bytes it has read so: all
+    /// where the request goes on, and where it cannot follow. It wants memory where bytes end within a head, a
+    /// chunk's line or trailers, and for no others.
+    pub fn follow(&mut self, bytes: &[u8]) -> (Found, usize)
+        ensures { Follows self.old self.new bytes.now result.0 result.1 }
     {
-        if self.is_lost || self.held.extend_from_slice(bytes).is_err() {
-            self.is_lost = true;
-            return;
+        if self.is_lost {
+            return self.lose(bytes);
         }
-        'requests: for _ in 0..u64::MAX {
-            match self.read_on() {
-                Found::End => self.begin(),
-                Found::More => return,
-                Found::Nothing => {
-                    self.is_lost = true;
-                    return;
-                }
-            }
+        if self.held.is_empty() {
+            return self.follow_shown(bytes);
         }
-        self.is_lost = true;
+        self.follow_held(bytes)
     }
 
-    /// Reads on in the request, at most up to its end. Says how many of the bytes are its.
-    pub fn pass(&mut self, bytes: &[u8]) -> (Found, usize)
-        ensures limits { limits_of self.new ≡ limits_of self.old }
-        ensures within { result.1 ≤ length bytes.now }
-        ensures more { result.0 ≡ Found.More → KeepsUp self.old × KeepsUp self.new × (result.1 ≡ length bytes.now)
-            × ((stream : List ℕ) (count : ℕ) → FollowsAt self.old stream count
-            → FollowsAt self.new (stream ++ bytes.now) count) }
-        ensures end { result.0 ≡ Found.End → KeepsUp self.old
-            × ((stream : List ℕ) (count : ℕ) → FollowsAt self.old stream count
-            → BeginsWith (limits_of self.old) (stream ++ bytes.now) (count + 1) (drop result.1 bytes.now)) }
+    /// Reads on where nothing is held.
+    fn follow_shown(&mut self, bytes: &[u8]) -> (Found, usize)
+        requires { (self.old.is_lost ≡ false) × (self.old.held.items ≡ []) }
+        ensures { Follows self.old self.new bytes.now result.0 result.1 }
     {
-        if self.is_lost || self.held.extend_from_slice(bytes).is_err() {
-            return (Found::Nothing, 0);
-        }
-        let found = self.read_on();
+        let (found, count) = self.reader.read_on(bytes);
         match found {
-            Found::More => (found, bytes.len()),
-            Found::End => match bytes.len().checked_sub(self.held.len()) {
-                Some(count) => (found, count),
-                None => (Found::Nothing, 0),
+            Found::More => match self.held.extend_from_slice(&bytes[count..]) {
+                Ok(()) => (Found::More, bytes.len()),
+                Err(_) => self.lose(bytes),
             },
-            Found::Nothing => (found, 0),
+            Found::End => {
+                self.reader.begin();
+                (Found::End, count)
+            }
+            Found::Nothing => self.lose(bytes),
         }
     }
 
+    /// Reads on after what is held.
+    fn follow_held(&mut self, bytes: &[u8]) -> (Found, usize)
+        requires { self.old.is_lost ≡ false }
+        ensures { Follows self.old self.new bytes.now result.0 result.1 }
+    {
+        if self.held.extend_from_slice(bytes).is_err() {
+            return self.lose(bytes);
+        }
+        let (found, read) = self.reader.read_on(self.held.as_slice());
+        self.held.advance(read);
+        match found {
+            Found::More => (Found::More, bytes.len()),
+            Found::End => match bytes.len().checked_sub(self.held.len()) {
+                Some(count) => {
+                    self.reader.begin();
+                    self.held.clear();
+                    (Found::End, count)
+                }
+                None => self.lose(bytes),
+            },
+            Found::Nothing => self.lose(bytes),
+        }
+    }
+
+    /// Follows no more, and takes all that comes.
+    fn lose(&mut self, bytes: &[u8]) -> (Found, usize)
+        ensures limits { limits_of self.new ≡ limits_of self.old }
+        ensures lost { self.new.is_lost ≡ true }
+        ensures all { result ≡ (Found.Nothing, length bytes.now) }
+    {
+        self.is_lost = true;
+        (Found::Nothing, bytes.len())
+    }
+}
+
+/// Reads requests.
+#[derive(Drop)]
+struct Reader {
+    limits: Limits,
+    server: Server,
+    /// Whether the answer to the request is to be the last one.
+    is_last: bool,
+}
+
+impl Reader {
     /// Begins with the next request.
     fn begin(&mut self)
         ensures limits { self.new.limits ≡ self.old.limits }
-        ensures lost { self.new.is_lost ≡ self.old.is_lost }
-        ensures follows { self.old.server.reading ≡ HasEnded → (stream : List ℕ) (count : ℕ)
-            → FollowsAt self.old stream count → FollowsAt self.new stream (count + 1) }
+        ensures follows { (stream : List ℕ) (count : ℕ) → AreRequests self.old.limits stream count
+            → IsAt self.new [] stream count }
     {
         self.server = Server::new(self.limits);
     }
 
-    /// Reads events as long as there are any in what is held.
-    fn read_on(&mut self) -> Found
+    /// Reads events as long as there are any, and says how many bytes it has read.
+    fn read_on(&mut self, bytes: &[u8]) -> (Found, usize)
         ensures limits { self.new.limits ≡ self.old.limits }
-        ensures lost { self.new.is_lost ≡ self.old.is_lost }
-        ensures held { (count : ℕ) × (self.new.held.items ≡ drop count self.old.held.items) }
-        ensures follows { result ≢ Found.Nothing → (stream : List ℕ) (count : ℕ)
-            → FollowsAt self.old stream count → FollowsAt self.new stream count }
-        ensures end { result ≡ Found.End → (stream : List ℕ) (count : ℕ)
-            → FollowsAt self.old stream count → self.new.server.reading ≡ HasEnded }
+        ensures within { result.1 ≤ length bytes.now }
+        ensures at { result.0 ≢ Found.Nothing → (stream : List ℕ) (count : ℕ)
+            → IsAt self.old bytes.now stream count → IsAt self.new (drop result.1 bytes.now) stream count }
+        ensures end { result.0 ≡ Found.End → (stream : List ℕ) (count : ℕ)
+            → IsAt self.old bytes.now stream count → self.new.server.reading ≡ HasEnded }
     {
+        let mut read = 0;
         'events: for _ in 0..u64::MAX {
-            if let Some(found) = self.read_event() {
-                return found;
+            let (found, count) = self.read_event(&bytes[read..]);
+            read += count;
+            if let Some(found) = found {
+                return (found, read);
             }
         }
-        Found::Nothing
+        (Found::Nothing, read)
     }
 
-    /// Reads one event from what is held. There is none where there may be more.
-    fn read_event(&mut self) -> Option<Found>
+    /// Reads one event, and says how many bytes it has read. There is none where there may be more.
+    fn read_event(&mut self, bytes: &[u8]) -> (Option<Found>, usize)
         ensures limits { self.new.limits ≡ self.old.limits }
-        ensures lost { self.new.is_lost ≡ self.old.is_lost }
-        ensures held { (count : ℕ) × (self.new.held.items ≡ drop count self.old.held.items) }
-        ensures follows { result ≢ Some Found.Nothing → (stream : List ℕ) (count : ℕ)
-            → FollowsAt self.old stream count → FollowsAt self.new stream count }
-        ensures end { result ≡ Some Found.End → (stream : List ℕ) (count : ℕ)
-            → FollowsAt self.old stream count → self.new.server.reading ≡ HasEnded }
+        ensures within { result.1 ≤ length bytes.now }
+        ensures at { result.0 ≢ Some Found.Nothing → (stream : List ℕ) (count : ℕ)
+            → IsAt self.old bytes.now stream count → IsAt self.new (drop result.1 bytes.now) stream count }
+        ensures end { result.0 ≡ Some Found.End → (stream : List ℕ) (count : ℕ)
+            → IsAt self.old bytes.now stream count → self.new.server.reading ≡ HasEnded }
     {
         let mut spans = [EMPTY_HEADER_SPAN; MAX_HEADERS];
-        let Ok(read) = self.server.read(self.held.as_slice(), &mut spans) else {
-            return Some(Found::Nothing);
+        let Ok(read) = self.server.read(bytes, &mut spans) else {
+            return (Some(Found::Nothing), 0);
         };
         let found = match read.event {
             Event::Head(head) => {
-                self.is_last = is_last(self.held.as_slice(), &head, &spans);
+                self.is_last = is_last(bytes, &head, &spans);
                 None
             }
             Event::Data(_) => None,
@@ -156,8 +188,7 @@ impl Follower {
             Event::NeedMore => Some(Found::More),
             _ => Some(Found::Nothing),
         };
-        self.held.advance(read.consumed);
-        found
+        (found, read.consumed)
     }
 }
 

@@ -15,21 +15,26 @@ const CHUNKS: &[u8] =
 /// A request without a body.
 const PLAIN: &[u8] = b"GET /?cmd=heads HTTP/1.1\r\nhost: a\r\n\r\n";
 
-/// One follower that was given all of these bytes, a piece of so many at a time.
-fn after(alloc: Global, bytes: &[u8], piece: usize) -> Follower {
-    let mut follower = Follower::new(alloc, Limits::default());
+/// Gives a follower bytes of one request, a piece of so many at a time.
+fn give(follower: &mut Follower, bytes: &[u8], piece: usize) {
     for bytes in bytes.chunks(piece.max(1)) {
         follower.follow(bytes);
     }
+}
+
+/// One follower that was given all of these bytes, a piece of so many at a time.
+fn after(alloc: Global, bytes: &[u8], piece: usize) -> Follower {
+    let mut follower = Follower::new(alloc, Limits::default());
+    give(&mut follower, bytes, piece);
     follower
 }
 
 /// Where the request ends in bytes that come after those, whatever the pieces.
 fn ends_at(alloc: Global, bytes: &[u8], more: &[u8]) -> [(Found, usize); 3] {
     [
-        after(alloc, bytes, 1).pass(more),
-        after(alloc, bytes, 7).pass(more),
-        after(alloc, bytes, 4096).pass(more),
+        after(alloc, bytes, 1).follow(more),
+        after(alloc, bytes, 7).follow(more),
+        after(alloc, bytes, 4096).follow(more),
     ]
 }
 
@@ -54,7 +59,7 @@ fn a_body_in_chunks_ends(rt: HostRuntime) {
     );
 }
 
-// Five of six bytes: the request goes on. Then no chunk's size: these are no requests.
+// Five of six bytes: the request goes on. Then no chunk's size: these are no requests, and all are taken.
 #[test]
 fn a_body_goes_on_and_breaks(rt: HostRuntime) {
     let more = ends_at(rt.alloc(), SHORT, b"45678");
@@ -66,11 +71,31 @@ fn a_body_goes_on_and_breaks(rt: HostRuntime) {
     assert_eq!(rt;
         nothing,
         [
-            (Found::Nothing, 0),
-            (Found::Nothing, 0),
-            (Found::Nothing, 0)
+            (Found::Nothing, 6),
+            (Found::Nothing, 6),
+            (Found::Nothing, 6)
         ]
     );
+}
+
+// Two requests without a body, and the beginning of one with ten bytes: each call ends with one of them.
+#[test]
+fn one_request_after_another(rt: HostRuntime) {
+    let mut follower = Follower::new(rt.alloc(), Limits::default());
+    let both = b"GET /?cmd=heads HTTP/1.1\r\nhost: a\r\n\r\nGET / HTTP/1.1\r\nhost: a\r\n\r\nPOST";
+    assert_eq!(rt; follower.follow(both), (Found::End, 37));
+    assert_eq!(rt; follower.follow(&both[37..]), (Found::End, 27));
+    assert_eq!(rt; follower.follow(&both[64..]), (Found::More, 4));
+    assert_eq!(rt; follower.follow(&SHORT[4..]), (Found::More, 61));
+    assert_eq!(rt; follower.follow(b"456789POST"), (Found::End, 6));
+}
+
+// After bytes that are no request nothing is found any more.
+#[test]
+fn what_is_lost_stays_lost(rt: HostRuntime) {
+    let mut follower = after(rt.alloc(), CHUNKS, 9);
+    assert_eq!(rt; follower.follow(b"4567x\n"), (Found::Nothing, 6));
+    assert_eq!(rt; follower.follow(PLAIN), (Found::Nothing, 37));
 }
 
 // A request of HTTP/1.1; one of HTTP/1.0; one that asks to close; a `HEAD`.

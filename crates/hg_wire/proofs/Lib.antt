@@ -4,3 +4,4 @@ mod Wires
 mod Pieces
 mod Later
 mod Fronts
+mod Stretches

@@ -1,12 +1,11 @@
--- The bytes that a reader shows, taken apart.
-use Rattle.std.proofs.Common.{◌≡◌, ℕ, ◌≤◌, List, [], ◌∷◌, ◌++◌, length, take, Option}
-use Rattle.std.proofs.Common.{refl, sym, ap, subst, ◌∙◌, arith, append_assoc, append-nil, length-append}
-use Rattle.std.specs.Io.KnownBytes.{Consumes, Keeps}
-use Rattle.std.proofs.KnownBytes.{Consumes-kept, Consumes-nil}
-use Rattle.http_server.specs.History.{History}
+-- The bytes that a reader shows, taken apart, and what a follower finds in them.
+use Rattle.std.proofs.Common.{◌≡◌, ◌≢◌, ℕ, ◌≤◌, Bool, true, false, List, [], ◌∷◌, ◌++◌, length, take}
+use Rattle.std.proofs.Common.{refl, sym, ap, subst, ◌∙◌, arith, length-append, take_all}
 use Rattle.hg_follow.specs.declared.follow.Follower.{Follower}
-use Rattle.hg_follow.specs.Following.{FollowsAt, FollowsOn}
-use Rattle.hg_wire.specs.code.Following.{HasRead}
+use Rattle.hg_follow.specs.declared.follow.Found.{Found}
+use Rattle.hg_follow.specs.declared.follow.Found.TheVariants.{End, More, Nothing}
+use Rattle.hg_follow.specs.Following.{Finds, FollowsAt, KeepsUp}
+use Rattle.hg_wire.specs.code.Following.{GoesOn}
 
 -- the front of what is shown
 take_front : (more rest : List ℕ) → take (length more) (more ++ rest) ≡ more
@@ -20,23 +19,31 @@ front_is shown more rest n is parts =
 pub front_within : (shown more rest : List ℕ) (n : ℕ) → length more ≡ n → shown ≡ more ++ rest → n ≤ length shown
 front_within shown more rest n is parts = omega (arith, is, ap length parts, length-append more rest)
 
--- the same bytes in other groups
-pub regrouped : (stream gone front back shown : List ℕ) → front ++ back ≡ shown →
-    (stream ++ gone) ++ shown ≡ (stream ++ (gone ++ front)) ++ back
-regrouped stream gone front back shown is =
-    ap (λ (l : List ℕ). (stream ++ gone) ++ l) (sym is) ∙ sym (append_assoc (stream ++ gone) front back)
-    ∙ ap (λ (l : List ℕ). l ++ back) (append_assoc stream gone front)
+-- what a follower found, taken apart
+pub found_within : (found : Found) (old new : Follower) (bytes : List ℕ) (read : ℕ) → Finds found old new bytes read →
+    read ≤ length bytes
+found_within More old new bytes read x = omega (arith, x.1)
+found_within End old new bytes read x = x.1
+found_within Nothing old new bytes read x = omega (arith, x.1)
 
--- nothing was read, as memory was refused for it
-pub nothing_read : (a b : Option (List ℕ)) (old new : History) (f : Follower) → Keeps a b → new ≡ old →
-    (more : List ℕ) × Consumes a b more × HasRead old new more × FollowsOn f f more
-nothing_read a b old new f kept same = (
-  [],
-  Consumes-kept a a b [] (Consumes-nil a) kept,
-  (
-    ap (λ (h : History). h.received) same ∙ sym (append-nil old.received),
-    ap (λ (h : History). h.sent) same,
-    ap (λ (h : History). h.calls) same,
-  ),
-  (refl, λ up. (up, λ stream n at. (n, subst (λ s. FollowsAt f s n) (sym (append-nil stream)) at))),
-)
+pub found_end : (found : Found) (old new : Follower) (bytes : List ℕ) (read : ℕ) → found ≡ End →
+    Finds found old new bytes read → Finds End old new bytes read
+found_end found old new bytes read is x = subst (λ f. Finds f old new bytes read) is x
+
+-- where the request goes on, it has read all that came
+pub found_more : (found : Found) (old new : Follower) (bytes : List ℕ) (read : ℕ) → found ≡ More →
+    Finds found old new bytes read → KeepsUp old
+    × ((stream : List ℕ) (count : ℕ) → FollowsAt old stream count → FollowsAt new (stream ++ take read bytes) count)
+found_more found old new bytes read is x =
+    let more = subst (λ f. Finds f old new bytes read) is x in
+    (more.0, λ stream count at. subst (λ b. FollowsAt new (stream ++ b) count) (sym (take_all read bytes (omega (arith, more.1)))) (more.2 stream count at))
+
+-- how it goes on
+pub found_on : (found : Found) (old new : Follower) (bytes : List ℕ) (read : ℕ) (is_whole : Bool) →
+    (is_whole ≡ true → found ≡ End) → (is_whole ≡ false → found ≢ End) → Finds found old new bytes read →
+    GoesOn is_whole old new (take read bytes)
+found_on found old new bytes read true whole part x =
+    let end = found_end found old new bytes read (whole refl) x in (end.0, end.2)
+found_on More old new bytes read false whole part x = λ up. found_more More old new bytes read refl x
+found_on End old new bytes read false whole part x = absurd (part refl refl)
+found_on Nothing old new bytes read false whole part x = λ up. let lost = x.0 in cc

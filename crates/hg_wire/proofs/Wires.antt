@@ -1,5 +1,5 @@
 -- A wire whose client was answered.
-use Rattle.std.proofs.Common.{◌≡◌, ℕ, Bool, false, List, [], ◌∷◌, ◌++◌, Option, Some, refl, sym, ap, subst, ◌∙◌}
+use Rattle.std.proofs.Common.{◌≡◌, ℕ, ◌+◌, Bool, false, List, [], ◌∷◌, ◌++◌, Option, Some, refl, sym, ap, subst, ◌∙◌}
 use Rattle.std.specs.Option.{IsSome}
 use Rattle.http.specs.declared.request.Request.{Request}
 use Rattle.http_server.specs.declared.response.Response.{Response}
@@ -35,15 +35,16 @@ module _ {A S : Type 0} (capacity : ℕ) (first : RepositoryOf A) (kept : KeptSe
   where
     -- the answer to a request tells on from what was told last
     pub responds : (old new : WireView A S) (request : Request (List ℕ)) (response : Response)
-        (answer : Answer A) (terms : Terms S) (told client after seen : KeptSeen A) →
-        record { seen = told; terms = terms } ≡ old → new ≡ record { seen = seen; terms = terms } →
+        (answer : Answer A) (terms : Terms S) (told client after seen : KeptSeen A) (before now : ℕ) →
+        record { seen = told; terms = terms; answered = before } ≡ old →
+        new ≡ record { seen = seen; terms = terms; answered = now } → now ≡ before + 1 →
         client ≡ told → seen ≡ after →
         AnswersRequest capacity first (around_of kept page metrics terms) request client answer after →
         CarriesAnswer answer response → Responds capacity first kept page metrics old request response new
-    responds old new request response answer terms told client after seen was is same last answers tells =
+    responds old new request response answer terms told client after seen before now was is one same last answers tells =
         subst (λ (o : WireView A S). Responds capacity first kept page metrics o request response new) was
         (subst (λ (n : WireView A S). Responds capacity first kept page metrics
-        (record { seen = told; terms = terms }) request response n) (sym is) (record {
+        (record { seen = told; terms = terms; answered = before }) request response n) (sym is) (record {
           answer = answer;
           answers = subst (λ c. AnswersRequest capacity first (around_of kept page metrics terms) request c answer seen)
               same (subst (λ s. AnswersRequest capacity first (around_of kept page metrics terms) request client answer s)
@@ -53,4 +54,5 @@ module _ {A S : Type 0} (capacity : ℕ) (first : RepositoryOf A) (kept : KeptSe
               answers));
           tells = tells;
           same = refl;
+          counts = one;
         }))

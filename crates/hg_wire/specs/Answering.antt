@@ -196,11 +196,12 @@ AnswersRequest {A} capacity first around r before answer after =
     let command = command_of (name_of A r) in
     OrLacks (is_look command) (AnswersAsked capacity first around command (arguments_of r) r) before answer after
 
--- what contracts see of a connection's service: what its client had seen when the last request was answered, and
--- the terms
+-- what contracts see of a connection's service: what its client had seen when the last request was answered, the
+-- terms, and how many requests were answered
 pub record WireView (A S : Type 0) : Type 0 where
   pub seen : KeptSeen A
   pub terms : Terms S
+  pub answered : ℕ
 
 -- The response reports the answer. Its client has seen no less than before, and has all promises that it had.
 pub record Responds {A S : Type 0} (capacity : ℕ) (first : RepositoryOf A)
@@ -212,3 +213,4 @@ pub record Responds {A S : Type 0} (capacity : ℕ) (first : RepositoryOf A)
   pub later : IsLater old.seen new.seen
   pub tells : CarriesAnswer answer response
   pub same : new.terms ≡ old.terms
+  pub counts : new.answered ≡ old.answered + 1

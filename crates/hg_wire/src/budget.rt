@@ -45,6 +45,8 @@ pub(crate) struct Share<'a> {
     came: usize,
     /// How many bytes were taken of the budget.
     taken: usize,
+    /// Whether there was no room for what came.
+    is_over: bool,
 }
 
 impl<'a> Share<'a> {
@@ -54,33 +56,40 @@ impl<'a> Share<'a> {
             budget,
             came: 0,
             taken: 0,
+            is_over: false,
         }
     }
 
-    /// Counts bytes that came, and says whether there is room for them.
-    pub(crate) fn grow<R: Wait>(&mut self, rt: &R, bytes: usize) -> bool {
+    /// Counts bytes that came.
+    pub(crate) fn grow<R: Wait>(&mut self, rt: &R, bytes: usize) {
         self.came = self.came.saturating_add(bytes);
         let wanted = self.came.saturating_sub(FREE);
         let more = wanted.saturating_sub(self.taken);
         if more == 0 {
-            return true;
+            return;
         }
-        if !self.budget.take(rt, more) {
-            return false;
+        if self.budget.take(rt, more) {
+            self.taken = wanted;
+        } else {
+            self.is_over = true;
         }
-        self.taken = wanted;
-        true
+    }
+
+    /// Whether there was room for all that came since the last answer.
+    pub(crate) fn has_room(&self) -> bool {
+        !self.is_over
     }
 
     /// Forgets what came, since it was answered. What was taken stays taken: the connection keeps the block of its
     /// longest body, and what comes next lies in that block.
     pub(crate) fn forget(&mut self) {
         self.came = 0;
+        self.is_over = false;
     }
 
     /// Gives all back: the connection is gone, and its block with it.
     pub(crate) fn clear<R: Wait>(&mut self, rt: &R) {
-        self.came = 0;
+        self.forget();
         if self.taken > 0 {
             self.budget.give_back(rt, self.taken);
             self.taken = 0;

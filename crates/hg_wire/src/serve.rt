@@ -1,6 +1,7 @@
 //! A connection over HTTP.
 
-ghost use Rattle.std.specs.Prelude.{◌≡◌, ◌≢◌, ℕ, ◌⊎◌, Bool, true, false, Ok, List, [], ◌++◌, MatchResult, OnOk, OnErr};
+ghost use Rattle.std.specs.Prelude.{◌≡◌, ◌≢◌, ℕ, ◌⊎◌, Bool, true, false, Ok, List, [], ◌++◌};
+ghost use Rattle.std.specs.Prelude.{IfOk, MatchResult, OnOk, OnErr};
 ghost use mathlib.Core.List.{IsPrefix};
 ghost use Rattle.std.specs.Io.KnownBytes.{Appends, Consumes, Keeps};
 ghost use Rattle.http_server.specs.Connection.{config_of, history};
@@ -8,9 +9,9 @@ ghost use Rattle.http_server.specs.Exchange.{Calls};
 ghost use Rattle.http_server.specs.History.{IsQuiet, Rests, new_history};
 ghost use Rattle.hg_ledger.specs.Clients.{IsCovered};
 ghost use Rattle.hg_wire.specs.Answering.{Responds};
-ghost use Rattle.hg_wire.specs.Serving.{Converses, IsNoRoomAnswer, no_room_text, ServesHttp};
-ghost use Rattle.hg_follow.specs.Following.{FollowsAt, FollowsOn, limits_of};
-ghost use Rattle.hg_wire.specs.code.Following.{HasRead, IsHeld, Passes};
+ghost use Rattle.hg_wire.specs.Serving.{Converses, no_room_text, ServesHttp};
+ghost use Rattle.hg_follow.specs.Following.{AreRequests, FollowsAt, KeepsUp, limits_of};
+ghost use Rattle.hg_wire.specs.code.Following.{Brings, EndsStretch, HasRead, HasSent, Passes};
 
 use crate::budget::Share;
 use crate::terms::{Host, Terms};
@@ -22,7 +23,7 @@ use hg_ledger::{KeptClient, Ledger, Storing};
 use hg_reading::{Shelf, Shown, Watch};
 use hg_serve::Server;
 use hg_store::Device;
-use http_server::{Config, Connection};
+use http_server::{Config, Connection, State};
 use std::alloc::{Allocator, Global};
 use std::hash::RandomState;
 use std::io;
@@ -42,7 +43,7 @@ pub enum ConnectionEnd {
 
 /// Serves a connection until it is done, or until a read or a write fails, and each answer that depends on the
 /// repository once all done pushes that it rests on are on the device. A body may be as long as the limit on a
-/// stream. Where it finds no room its rest is read and dropped, the answer says so, and the next request is
+/// stream. Where a request finds no room its rest is read and dropped, the answer says so, and the next one is
 /// served. The names of header fields come from strangers, so the keys are to be random.
 pub fn serve_http<
     J: Storing<Global>,
@@ -101,7 +102,7 @@ fn end_of(ended: io::Result<()>, has_failed: bool) -> ConnectionEnd
     }
 }
 
-/// The answer that says that a body found no room: the reply to a push that is aborted for lack of memory.
+/// The answer that says that a request found no room: the reply to a push that is aborted for lack of memory.
 const NO_ROOM: &[u8] = b"HTTP/1.1 200 OK\r\ncontent-type: application/mercurial-0.1\r\n\
     content-length: 60\r\n\r\nHG20\0\0\0\0\0\0\0\x28\x0bERROR:ABORT\0\0\0\0\x01\0\x07\x0dmessage\
     out of memory\0\0\0\0\0\0\0\0";
@@ -112,7 +113,19 @@ const NO_ROOM_LAST: &[u8] =
     content-length: 60\r\n\r\nHG20\0\0\0\0\0\0\0\x28\x0bERROR:ABORT\0\0\0\0\x01\0\x07\x0dmessage\
     out of memory\0\0\0\0\0\0\0\0";
 
-/// Serves one stretch of requests after the other: each ends where a body finds no room.
+/// How a stretch of a connection ended.
+#[derive(Drop)]
+enum Stretch {
+    /// HTTP has nothing more to do.
+    Done,
+    /// A request found no room. Those before it were answered, and all answers were sent.
+    Refused {
+        /// Whether it was read whole.
+        is_whole: bool,
+    },
+}
+
+/// Serves one stretch of requests after the other: each ends where a request finds no room.
 fn serve_stretches<
     J: Storing<A>,
     D: Device,
@@ -153,29 +166,33 @@ fn serve_stretches<
         // goes back, however it ended.
         drop(connection);
         share.clear(rt);
-        if ended? {
-            return Ok(());
-        }
-        if refuse(&mut follower, reader, writer)? {
-            return Ok(());
+        match ended? {
+            Stretch::Done => return Ok(()),
+            Stretch::Refused { is_whole } => {
+                if refuse(is_whole, &mut follower, reader, writer)? {
+                    return Ok(());
+                }
+            }
         }
     }
     Err(ErrorKind::TimedOut.into())
 }
 
-/// Reads and drops the rest of a body that found no room, and answers that. Says whether it is the last answer.
+/// Reads and drops the rest of a request that found no room, if it was not read whole, and answers that. Says
+/// whether it is the last answer.
 fn refuse<I: BufRead, W: Write>(
+    is_whole: bool,
     follower: &mut Follower,
     reader: &mut I,
     writer: &mut W,
 ) -> io::Result<bool>
     ensures { (dropped answer : List ℕ) × Consumes (I.remaining reader.old) (I.remaining reader.new) dropped
         × Appends (W.contents writer.old) (W.contents writer.new) answer
-        × MatchResult result (λ is_last. Passes follower.old dropped × (answer ≡ no_room_text is_last))
-        (λ _. (answer ≡ []) ⊎ (Passes follower.old dropped × ((is_last : Bool) × IsPrefix answer
+        × MatchResult result (λ is_last. Passes is_whole follower.old dropped × (answer ≡ no_room_text is_last))
+        (λ _. (answer ≡ []) ⊎ (Passes is_whole follower.old dropped × ((is_last : Bool) × IsPrefix answer
         (no_room_text is_last)))) }
 {
-    pass_over(follower, reader)?;
+    pass_over(is_whole, follower, reader)?;
     let is_last = follower.is_last();
     let (sending, _) = send(writer, no_room(is_last));
     if sending != Sending::Whole {
@@ -184,7 +201,7 @@ fn refuse<I: BufRead, W: Write>(
     Ok(is_last)
 }
 
-/// The answer to a body that found no room.
+/// The answer to a request that found no room.
 fn no_room(is_last: bool) -> &'static [u8]
     ensures { result.now ≡ no_room_text is_last }
 {
@@ -194,17 +211,20 @@ fn no_room(is_last: bool) -> &'static [u8]
     }
 }
 
-/// Reads and drops the rest of the request that is being followed.
-fn pass_over<I: BufRead>(follower: &mut Follower, reader: &mut I) -> io::Result<()>
+/// Reads and drops the rest of the request that is being followed, if it was not read whole.
+fn pass_over<I: BufRead>(is_whole: bool, follower: &mut Follower, reader: &mut I) -> io::Result<()>
     ensures { (dropped : List ℕ) × Consumes (I.remaining reader.old) (I.remaining reader.new) dropped
-        × OnOk result (Passes follower.old dropped) }
+        × OnOk result (Passes is_whole follower.old dropped) }
 {
+    if is_whole {
+        return Ok(());
+    }
     'pieces: for _ in 0..u64::MAX {
         let bytes = reader.fill_buf()?;
         if bytes.is_empty() {
             return Err(ErrorKind::UnexpectedEof.into());
         }
-        let (found, count) = follower.pass(bytes);
+        let (found, count) = follower.follow(bytes);
         reader.consume(count);
         match found {
             Found::More => {}
@@ -215,8 +235,7 @@ fn pass_over<I: BufRead>(follower: &mut Follower, reader: &mut I) -> io::Result<
     Err(ErrorKind::TimedOut.into())
 }
 
-/// Reads, answers and writes until the connection is done. It is false where a body found no room: then nothing
-/// waits to be sent.
+/// Reads, answers and writes until the connection is done, or a request finds no room.
 fn converse<
     J: Storing<A>,
     D: Device,
@@ -234,41 +253,46 @@ fn converse<
     share: &mut Share<'_>,
     reader: &mut I,
     writer: &mut W,
-) -> io::Result<bool>
+) -> io::Result<Stretch>
     requires { (history connection.old ≡ new_history) × FollowsAt follower.old [] 0
         × (limits_of follower.old ≡ (config_of connection.old).limits) }
-    ensures read { (more : List ℕ) × Consumes (I.remaining reader.old) (I.remaining reader.new) more
-        × ((history connection.new).received ≡ (history connection.old).received ++ more) }
-    ensures written { (more : List ℕ) × Appends (W.contents writer.old) (W.contents writer.new) more
-        × ((history connection.new).sent ≡ (history connection.old).sent ++ more) }
-    ensures calls { Calls (Responds J.capacity J.first (IsCovered D.seen D.may_leave D.moment J.head J.stored J.first)
-        S.is_page S.are_metrics) wire.old wire.new (history connection.old).calls
-        (history connection.new).calls }
-    ensures config { config_of connection.new ≡ config_of connection.old }
-    ensures held { result ≡ Ok false → IsHeld (config_of connection.new) (history connection.new)
-        follower.new }
+    ensures { EndsStretch (config_of connection.old) (Responds J.capacity J.first
+        (IsCovered D.seen D.may_leave D.moment J.head J.stored J.first) S.is_page S.are_metrics) wire.old wire.new
+        (I.remaining reader.old) (I.remaining reader.new) (W.contents writer.old) (W.contents writer.new)
+        follower.new result }
 {
-    let mut has_room = true;
+    let mut is_whole = false;
     // A loop is proved to end, so this one counts its turns.
     'turns: for _ in 0..u64::MAX {
-        if advance(connection, wire, share) {
-            has_room = true;
+        let has_answered = advance(connection, wire, share);
+        if wire.has_failed() {
+            return Err(ErrorKind::Other.into());
         }
+        if is_aborted(connection) {
+            // Memory was refused for an answer, which is lost, or before there was one.
+            if has_answered {
+                return Err(ErrorKind::OutOfMemory.into());
+            }
+            return Ok(Stretch::Refused { is_whole });
+        }
+        let is_idle = !connection.wants_write();
+        send_all(connection, writer)?;
         if connection.is_done() {
             writer.flush()?;
-            return Ok(true);
+            return Ok(Stretch::Done);
         }
-        if connection.wants_write() {
-            if connection.write_to(writer)? == 0 {
-                return Err(ErrorKind::WriteZero.into());
-            }
-        } else {
+        if is_idle {
             // The peer may be waiting for what a buffered writer holds.
             writer.flush()?;
-            if !has_room {
-                return Ok(false);
+            if !share.has_room() {
+                return Ok(Stretch::Refused { is_whole });
             }
-            has_room = read_more(rt, connection, follower, share, reader)?;
+            let came = read_on(rt, connection, follower, share, reader)?;
+            is_whole = came.is_whole;
+            let has_spare = wire.hold_spare();
+            if !came.is_held || !has_spare {
+                return Ok(Stretch::Refused { is_whole });
+            }
         }
     }
     Err(ErrorKind::TimedOut.into())
@@ -283,6 +307,7 @@ fn advance<J: Storing<A>, D: Device, R: Wait, S: Shown<A>, V: Watch<A>, A: Alloc
     ensures calls { Calls (Responds J.capacity J.first (IsCovered D.seen D.may_leave D.moment J.head J.stored J.first)
         S.is_page S.are_metrics) wire.old wire.new (history connection.old).calls
         (history connection.new).calls }
+    ensures none { result ≡ false → wire.new ≡ wire.old }
     ensures quiet { IsQuiet (history connection.old) (history connection.new) }
     ensures config { config_of connection.new ≡ config_of connection.old }
     ensures rests { Rests (config_of connection.new) (history connection.new) }
@@ -296,30 +321,91 @@ fn advance<J: Storing<A>, D: Device, R: Wait, S: Shown<A>, V: Watch<A>, A: Alloc
     has_answered
 }
 
-/// Reads once, and says whether there was room for what came. There is none where memory is refused for it: then
-/// nothing is read.
-fn read_more<R: Wait, I: BufRead>(
+/// Whether memory was refused for what was received, or for its answer.
+fn is_aborted(connection: &Connection) -> bool
+    ensures { result ≡ false → (history connection.now).state ≢ State.Aborted }
+{
+    matches!(connection.state(), State::Aborted)
+}
+
+/// Sends all that waits.
+fn send_all<W: Write>(connection: &mut Connection, writer: &mut W) -> io::Result<()>
+    ensures sent { HasSent (history connection.old) (history connection.new) (W.contents writer.old)
+        (W.contents writer.new) }
+    ensures all { OnOk result ((history connection.new).pending ≡ []) }
+    ensures config { config_of connection.new ≡ config_of connection.old }
+{
+    'writes: for _ in 0..u64::MAX {
+        if !connection.wants_write() {
+            return Ok(());
+        }
+        if connection.write_to(writer)? == 0 {
+            return Err(ErrorKind::WriteZero.into());
+        }
+    }
+    Err(ErrorKind::TimedOut.into())
+}
+
+/// What a read brought.
+#[derive(Drop)]
+struct Came {
+    /// Whether it ends a request.
+    is_whole: bool,
+    /// Whether there was memory for all of it. What there was none for is dropped.
+    is_held: bool,
+}
+
+/// Reads once, at most up to the end of a request.
+fn read_on<R: Wait, I: BufRead>(
     rt: &R,
     connection: &mut Connection,
     follower: &mut Follower,
     share: &mut Share<'_>,
     reader: &mut I,
-) -> io::Result<bool>
-    ensures ok { OnOk result ((more : List ℕ)
-        × Consumes (I.remaining reader.old) (I.remaining reader.new) more
-        × HasRead (history connection.old) (history connection.new) more
-        × FollowsOn follower.old follower.new more) }
+) -> io::Result<Came>
+    ensures ok { IfOk result (λ came. Brings came.is_whole came.is_held (history connection.old)
+        (history connection.new) follower.old follower.new (I.remaining reader.old) (I.remaining reader.new)) }
     ensures err { OnErr result ((history connection.new ≡ history connection.old)
         × Keeps (I.remaining reader.old) (I.remaining reader.new)) }
     ensures config { config_of connection.new ≡ config_of connection.old }
 {
     let bytes = reader.fill_buf()?;
-    let mut rest = bytes;
-    // To read from memory fails only where memory is refused.
-    let Ok(count) = connection.read_from(&mut rest) else {
-        return Ok(false);
-    };
-    follower.follow(&bytes[..count]);
+    let (found, count) = follower.follow(bytes);
+    let is_held = give(connection, &bytes[..count]);
     reader.consume(count);
-    Ok(share.grow(rt, count))
+    share.grow(rt, count);
+    Ok(Came {
+        is_whole: is_end(found),
+        is_held,
+    })
+}
+
+/// Whether a request ends there.
+fn is_end(found: Found) -> bool
+    ensures yes { result ≡ true → found ≡ Found.End }
+    ensures no { result ≡ false → found ≢ Found.End }
+{
+    matches!(found, Found::End)
+}
+
+/// Gives bytes to a connection, and says whether there was memory for all of them.
+fn give(connection: &mut Connection, bytes: &[u8]) -> bool
+    ensures given { (given left : List ℕ) × (bytes.now ≡ given ++ left)
+        × HasRead (history connection.old) (history connection.new) given × (result ≡ true → left ≡ []) }
+    ensures config { config_of connection.new ≡ config_of connection.old }
+{
+    let mut rest = bytes;
+    'reads: for _ in 0..u64::MAX {
+        // To read from memory fails only where memory is refused.
+        let Ok(count) = connection.read_from(&mut rest) else {
+            return false;
+        };
+        if rest.is_empty() {
+            return true;
+        }
+        if count == 0 {
+            return false;
+        }
+    }
+    false
 }

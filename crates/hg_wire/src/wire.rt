@@ -18,7 +18,12 @@ use std::alloc::{AllocError, Allocator, Global};
 use std::marker::Model;
 use std::sync::Wait;
 
-/// What a connection is served by. Contracts see the history that the last answer spoke of.
+/// How much memory is held for an answer while its request is read and served: most answers to pushes are
+/// shorter.
+const SPARE: usize = 4 * 1024;
+
+/// What a connection is served by. Contracts see the history that the last answer spoke of, and how many requests
+/// were answered.
 pub struct Wire<
     'a,
     J: Storing<A>,
@@ -37,6 +42,8 @@ pub struct Wire<
     answered: u64,
     /// Whether the store failed before a request was answered.
     has_failed: bool,
+    /// Memory that is given back before an answer is put together, so that there is some.
+    spare: Vec<u8>,
     /// What the client had seen when the last request was answered.
     seen: Log<KeptClient<J, A>, u64>,
 }
@@ -50,7 +57,7 @@ impl<'a, J: Storing<A>, D: Device, R: Wait, S: Shown<A>, V: Watch<A>, A: Allocat
 
     ghost Value = { WireView A S };
 
-    ghost view = { λ w. record { seen = seen_last w.seen.items; terms = w.terms.now } };
+    ghost view = { λ w. record { seen = seen_last w.seen.items; terms = w.terms.now; answered = w.answered } };
 
     ghost invariant = { λ w. IsSome w.client × IsLater (seen_last w.seen.items) (seen_by w.client)
         × (w.has_failed ≡ false → seen_by w.client ≡ seen_last w.seen.items) };
@@ -73,7 +80,7 @@ impl<'a, J: Storing<A>, D: Device, R: Wait, S: Shown<A>, V: Watch<A>, A: Allocat
         client: KeptClient<J, A>,
         watch: &'a mut V,
     ) -> Self
-        ensures { result ≡ record { seen = client; terms = terms.now } }
+        ensures { result ≡ record { seen = client; terms = terms.now; answered = 0 } }
     {
         let seen = Log::new().and(&client, &0);
         Wire {
@@ -84,13 +91,37 @@ impl<'a, J: Storing<A>, D: Device, R: Wait, S: Shown<A>, V: Watch<A>, A: Allocat
             client: Some(client),
             answered: 0,
             has_failed: false,
+            spare: Vec::new(global),
             seen,
         }
     }
 
     /// How many requests were answered.
-    pub fn answered(&self) -> u64 {
+    pub(crate) fn answered(&self) -> u64
+        ensures { result ≡ self.now.answered }
+    {
         self.answered
+    }
+
+    /// Whether the store failed before a request was answered.
+    pub(crate) fn has_failed(&self) -> bool {
+        self.has_failed
+    }
+
+    /// Holds memory for the next answer, and says whether there was any.
+    pub(crate) fn hold_spare(&mut self) -> bool
+        ensures { self.new ≡ self.old }
+    {
+        if self.spare.capacity() > 0 {
+            return true;
+        }
+        match Vec::with_capacity(self.global, SPARE) {
+            Ok(spare) => {
+                self.spare = spare;
+                true
+            }
+            Err(_) => false,
+        }
     }
 
     /// Its client, and whether the store failed before a request was answered.
@@ -106,6 +137,7 @@ impl<'a, J: Storing<A>, D: Device, R: Wait, S: Shown<A>, V: Watch<A>, A: Allocat
             client,
             answered: _,
             has_failed,
+            spare: _,
             seen: _,
         } = self;
         match client {
@@ -129,6 +161,7 @@ impl<'a, J: Storing<A>, D: Device, R: Wait, S: Shown<A>, V: Watch<A>, A: Allocat
         if self.has_failed {
             return Err(AllocError);
         }
+        let answered = self.answered.checked_add(1).ok_or(AllocError)?;
         let client = match self.client.take() {
             Some(client) => client,
             None => unreachable!(),
@@ -144,7 +177,8 @@ impl<'a, J: Storing<A>, D: Device, R: Wait, S: Shown<A>, V: Watch<A>, A: Allocat
             Ok(answer) => {
                 self.seen = Log::new().and(&client, &self.answered);
                 put_back(&mut self.client, client);
-                self.answered = self.answered.saturating_add(1);
+                self.answered = answered;
+                self.spare = Vec::new(self.global);
                 respond(self.global, &answer, response);
                 Ok(())
             }

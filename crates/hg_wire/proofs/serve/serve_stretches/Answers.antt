@@ -1,88 +1,62 @@
-use Rattle.std.proofs.Common.{Ok, refl, ap, subst, ◌∙◌}
+use Rattle.std.proofs.Common.{Ok, Err, inl, inr, refl, ap, subst, ◌∙◌}
 use Rattle.std.specs.Io.KnownBytes.{Appends}
-use Rattle.std.proofs.KnownBytes.{Appends-nil, Consumes-nil}
 use Rattle.std.proofs.lemmas.Result.{err_from_is_err_and}
-use Rattle.http_server.specs.Connection.{history}
-use Rattle.http_server.specs.History.{IsServed, new_history}
-use Rattle.http_server.proofs.Theorems.{always_served}
+use Rattle.http_server.specs.History.{new_history}
 use Rattle.hg_wire.specs.Serving.{no_room_text}
-use Rattle.hg_wire.specs.code.Following.{IsHeld}
-use Rattle.hg_wire.proofs.Served.{ends_last, ends_plainly, ends_refused, ends_with, fresh_calls, fresh_read, fresh_written, is_broken, is_refused, new_served, one_refused}
+use Rattle.hg_wire.specs.declared.serve.Stretch.TheVariants.{Done, Refused}
+use Rattle.hg_wire.proofs.Served.{ends_last, ends_plainly, ends_refused, ends_with, is_broken, is_refused, new_served, one_refused}
+use Rattle.hg_wire.proofs.Stretches.{ended_as, went_none}
 use Rattle.hg_wire.proofs.serve.serve_stretches.Goals as goal
 
 pub returns-in_err-ended : goal.returns-in_err-ended
 returns-in_err-ended g c =
-    let old = history c.new-connection.result in
-    let h = history c.converse-ended.new.connection in
-    let fresh = c.new-connection.ensures.history in
-    ends_plainly _ _ _ _ _ _ _ _ _ _ _ _ h c.stretches.invariant
-    (subst (λ k. ∥ IsServed k h ∥₁) (c.converse-ended.ensures.config ∙ c.new-connection.ensures.config)
-    (always_served c.converse-ended.new.connection))
-    (fresh_calls _ old h _ _ fresh c.converse-ended.ensures.calls) (fresh_read old h _ _ fresh c.converse-ended.ensures.read)
-    (fresh_written old h _ _ fresh c.converse-ended.ensures.written)
+    let e = ended_as _ c.args.config _ _ _ _ _ _ _ _ _ (Err c.in_err-ended.field-0.0) c.new-connection.ensures.config
+    c.in_err-ended.was c.converse-ended.ensures in
+    let broke = err_from_is_err_and c.from_residual.result c.from_residual.ensures.1 in
+    ends_plainly _ _ _ _ _ _ _ _ _ _ _ _ e.0 c.stretches.invariant e.1 e.2
+    (inl (is_broken c.from_residual.result broke.0 tt broke.1))
+
+pub returns-in-Done : goal.returns-in-Done
+returns-in-Done g c =
+    let e = ended_as _ c.args.config _ _ _ _ _ _ _ _ _ (Ok Done) c.new-connection.ensures.config
+    (c.in_ok-ended.was ∙ ap Ok c.in-Done.is) c.converse-ended.ensures in
+    ends_plainly _ _ _ _ _ _ _ _ _ _ _ _ e.0 c.stretches.invariant e.1 e.2 (inr e.3)
+
+pub returns-in_err-refuse-in-Refused : goal.returns-in_err-refuse-in-Refused
+returns-in_err-refuse-in-Refused g c =
+    let e = ended_as _ c.args.config _ _ _ _ _ _ _ _ _ (Ok (Refused c.in-Refused.is_whole)) c.new-connection.ensures.config
+    (c.in_ok-ended.was ∙ ap Ok c.in-Refused.is) c.converse-ended.ensures in
+    let f = c.converse-ended.new.follower in
+    let w = c.in-Refused.is_whole in
+    let r = c.in_err-refuse-in-Refused.ensures in
+    let result = c.from_residual-in_err-refuse-in-Refused.result in
+    let broke = err_from_is_err_and result c.from_residual-in_err-refuse-in-Refused.ensures.1 in
+    ends_with _ _ _ _ _ _ _ _ _ _ _ _ _ _ e.0 e.2.0 r.0 r.1 c.stretches.invariant e.1 e.2.1 r.2 r.3
+    (ends_refused _ c.args.config e.0 e.2.0 r.0 w f r.1 (is_broken result broke.0 tt broke.1) e.1 e.2.2 r.4)
 
 pub returns-then-branch : goal.returns-then-branch
 returns-then-branch g c =
-    let old = history c.new-connection.result in
-    let h = history c.converse-ended.new.connection in
-    let fresh = c.new-connection.ensures.history in
-    ends_plainly _ _ _ _ _ _ _ _ _ _ _ _ h c.stretches.invariant
-    (subst (λ k. ∥ IsServed k h ∥₁) (c.converse-ended.ensures.config ∙ c.new-connection.ensures.config)
-    (always_served c.converse-ended.new.connection))
-    (fresh_calls _ old h _ _ fresh c.converse-ended.ensures.calls) (fresh_read old h _ _ fresh c.converse-ended.ensures.read)
-    (fresh_written old h _ _ fresh c.converse-ended.ensures.written)
-
-pub returns-in_err-refuse : goal.returns-in_err-refuse
-returns-in_err-refuse g c =
-    let old = history c.new-connection.result in
-    let h = history c.converse-ended.new.connection in
+    let e = ended_as _ c.args.config _ _ _ _ _ _ _ _ _ (Ok (Refused c.in-Refused.is_whole)) c.new-connection.ensures.config
+    (c.in_ok-ended.was ∙ ap Ok c.in-Refused.is) c.converse-ended.ensures in
     let f = c.converse-ended.new.follower in
-    let fresh = c.new-connection.ensures.history in
-    let same = c.converse-ended.ensures.config ∙ c.new-connection.ensures.config in
-    let served = subst (λ k. ∥ IsServed k h ∥₁) same (always_served c.converse-ended.new.connection) in
-    let held = subst (λ k. IsHeld k h f) same
-    (c.converse-ended.ensures.held (c.in_ok-ended.was ∙ ap Ok c.if-branch.false)) in
-    let r = c.in_err-refuse.ensures in
-    let broke = err_from_is_err_and c.from_residual-in_err-refuse.result c.from_residual-in_err-refuse.ensures.1 in
-    ends_with _ _ _ _ _ _ _ _ _ _ _ _ _ _ h r.0 r.1 c.stretches.invariant served
-    (fresh_calls _ old h _ _ fresh c.converse-ended.ensures.calls) (fresh_read old h _ _ fresh c.converse-ended.ensures.read) r.2
-    (fresh_written old h _ _ fresh c.converse-ended.ensures.written) r.3
-    (ends_refused _ _ h f r.0 r.1 (is_broken c.from_residual-in_err-refuse.result broke.0 tt broke.1) served held r.4)
-
-pub returns-then-branch-2 : goal.returns-then-branch-2
-returns-then-branch-2 g c =
-    let old = history c.new-connection.result in
-    let h = history c.converse-ended.new.connection in
-    let f = c.converse-ended.new.follower in
-    let fresh = c.new-connection.ensures.history in
-    let same = c.converse-ended.ensures.config ∙ c.new-connection.ensures.config in
-    let served = subst (λ k. ∥ IsServed k h ∥₁) same (always_served c.converse-ended.new.connection) in
-    let held = subst (λ k. IsHeld k h f) same
-    (c.converse-ended.ensures.held (c.in_ok-ended.was ∙ ap Ok c.if-branch.false)) in
-    let r = c.in_ok-refuse.ensures in
-    ends_with _ _ _ _ _ _ _ _ _ _ _ _ _ _ h r.0 r.1 c.stretches.invariant served
-    (fresh_calls _ old h _ _ fresh c.converse-ended.ensures.calls) (fresh_read old h _ _ fresh c.converse-ended.ensures.read) r.2
-    (fresh_written old h _ _ fresh c.converse-ended.ensures.written) r.3
-    (ends_last _ _ h f r.0 r.1 served held r.4.0 (r.4.1 ∙ ap no_room_text c.if-branch-2.true))
+    let w = c.in-Refused.is_whole in
+    let r = c.in_ok-refuse-in-Refused.ensures in
+    ends_with _ _ _ _ _ _ _ _ _ _ _ _ _ _ e.0 e.2.0 r.0 r.1 c.stretches.invariant e.1 e.2.1 r.2 r.3
+    (ends_last _ c.args.config e.0 e.2.0 r.0 w f r.1 e.1 e.2.2 r.4.0 (r.4.1 ∙ ap no_room_text c.if-branch.true))
 
 pub stretches-preserved : goal.stretches-preserved
 stretches-preserved g c =
-    let old = history c.new-connection.result in
-    let h = history c.converse-ended.new.connection in
+    let e = ended_as _ c.args.config _ _ _ _ _ _ _ _ _ (Ok (Refused c.in-Refused.is_whole)) c.new-connection.ensures.config
+    (c.in_ok-ended.was ∙ ap Ok c.in-Refused.is) c.converse-ended.ensures in
     let f = c.converse-ended.new.follower in
-    let fresh = c.new-connection.ensures.history in
-    let same = c.converse-ended.ensures.config ∙ c.new-connection.ensures.config in
-    let served = subst (λ k. ∥ IsServed k h ∥₁) same (always_served c.converse-ended.new.connection) in
-    let held = subst (λ k. IsHeld k h f) same
-    (c.converse-ended.ensures.held (c.in_ok-ended.was ∙ ap Ok c.if-branch.false)) in
-    let r = c.in_ok-refuse.ensures in
-    one_refused _ _ _ _ _ _ _ _ _ _ _ _ _ h r.0 c.stretches.invariant (is_refused _ h f r.0 served held r.4.0)
-    (fresh_calls _ old h _ _ fresh c.converse-ended.ensures.calls) (fresh_read old h _ _ fresh c.converse-ended.ensures.read) r.2
-    (fresh_written old h _ _ fresh c.converse-ended.ensures.written)
+    let w = c.in-Refused.is_whole in
+    let r = c.in_ok-refuse-in-Refused.ensures in
+    one_refused _ _ _ _ _ _ _ _ _ _ _ _ _ e.0 e.2.0 r.0 c.stretches.invariant
+    (is_refused c.args.config e.0 e.2.0 r.0 w f e.1 e.2.2 r.4.0) e.2.1 r.2
     (subst (λ text. Appends (g.W.Write.contents c.converse-ended.new.writer) (g.W.Write.contents c.refuse.new.writer) text)
-    (r.4.1 ∙ ap no_room_text c.if-branch-2.false) r.3)
+    (r.4.1 ∙ ap no_room_text c.if-branch.false) r.3)
 
 pub returns : goal.returns
 returns g c =
-    ends_plainly _ _ _ _ _ _ _ _ _ _ _ _ new_history c.stretches.invariant ∣ new_served _ ∣₁ refl (Consumes-nil _)
-    (Appends-nil _)
+    ends_plainly _ _ _ _ _ _ _ _ _ _ _ _ new_history c.stretches.invariant ∣ new_served _ ∣₁
+    (went_none _ _ _ _ new_history refl) (inr (λ is. cc))

@@ -1,4 +1,4 @@
-use Rattle.std.proofs.Common.{◌∙◌, ap, subst, sym}
+use Rattle.std.proofs.Common.{◌∙◌, ap, rules, subst, sym}
 use Rattle.hg_ledger.specs.Clients.{IsCovered}
 use Rattle.hg_wire.specs.Answering.{around_of, AnswersRequest}
 use Rattle.hg_wire.specs.Pushes.{Answered}
@@ -25,13 +25,24 @@ returns-in-Ok-clause-ok g c =
     c.in-Ok.is c.answer_request-client.ensures in
     responds g.J.Naming.capacity g.J.Naming.first kept g.S.Shown.is_page g.S.Shown.are_metrics
     c.args.self.now c.match-answer-2.self c.args.request.now c.respond.new.response c.in-Ok.answer
-    inside.terms.now _ before after _ c.self.view_is
+    inside.terms.now _ before after _ _ _ c.self.view_is
     (elim c.match-answer-2.branch [
       | in-Text-1 w ↦ w.self-is
       | in-Shown-1 w ↦ w.self-is
       | in-Moved-1 w ↦ w.self-is
       | in-Refused-1 w ↦ w.self-is
     ])
+    (search rules)
     (ap seen_by place ∙ c.self.invariant.2 c.if-self.false)
     (last_noted c.new.result.items c.and-self-inside.result.items _ _ c.new.ensures c.and-self-inside.ensures)
     answers c.respond.ensures
+
+pub invariant_of-self : goal.invariant_of-self
+invariant_of-self g c =
+    told_all _ _ c.answer_request-client.result.0 _ c.put_back.ensures
+    (last_noted c.new.result.items c.and-self-inside.result.items _ _ c.new.ensures c.and-self-inside.ensures)
+
+pub invariant_of-self-in-Ok-3 : goal.invariant_of-self-in-Ok-3
+invariant_of-self-in-Ok-3 g c =
+    told_all _ _ c.answer_request-client.result.0 _ c.put_back.ensures
+    (last_noted c.new.result.items c.and-self-inside.result.items _ _ c.new.ensures c.and-self-inside.ensures)
