@@ -5,4 +5,3 @@ pub mod SetLemmas
 pub mod StayingLemmas
 pub mod BackLemmas
 pub mod ChangeLemmas
-pub mod SortLemmas

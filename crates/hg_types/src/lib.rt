@@ -16,7 +16,6 @@ mod part;
 mod payload;
 mod phase;
 mod seq;
-mod short;
 
 pub use delta::Delta;
 pub use entry::Entry;
@@ -29,4 +28,3 @@ pub use part::{Param, Part};
 pub use payload::{Payload, TextHash};
 pub use phase::Phase;
 pub use seq::{Seq, try_clone_each};
-pub use short::Short;

@@ -2,7 +2,6 @@
 
 use super::*;
 use hg_help_tests::parts::put_param;
-use hg_types::Short;
 
 // ---- pieces of payloads
 
@@ -153,7 +152,7 @@ fn made<A: Allocator + Copy>(alloc: A, id: u32, recipe: &Recipe) -> Result<Part<
         payload.extend_from_slice(piece)?;
     }
     Ok(Part {
-        kind: Short::copy_of(alloc, recipe.0)?,
+        kind: Seq::copy_of(alloc, recipe.0)?,
         id,
         params,
         payload: Payload::of(Seq::from_vec(payload)),
