@@ -36,7 +36,11 @@ pub found_more : (found : Found) (old new : Follower) (bytes : List ℕ) (read :
     × ((stream : List ℕ) (count : ℕ) → FollowsAt old stream count → FollowsAt new (stream ++ take read bytes) count)
 found_more found old new bytes read is x =
     let more = subst (λ f. Finds f old new bytes read) is x in
-    (more.0, λ stream count at. subst (λ b. FollowsAt new (stream ++ b) count) (sym (take_all read bytes (omega (arith, more.1)))) (more.2 stream count at))
+    let all : take read bytes ≡ bytes = take_all read bytes (omega (arith, more.1)) in (
+      more.0,
+      λ stream count at.
+          subst (λ b. FollowsAt new (stream ++ b) count) (sym all) (more.2 stream count at),
+    )
 
 -- how it goes on
 pub found_on : (found : Found) (old new : Follower) (bytes : List ℕ) (read : ℕ) (is_whole : Bool) →

@@ -1,5 +1,6 @@
 -- A connection, once it is served.
-use Rattle.std.proofs.Common.{◌≡◌, ◌≢◌, ℕ, ◌<◌, ◌⊎◌, inl, inr, Bool, true, false, List, [], ◌∷◌, ◌++◌, length, Option}
+use Rattle.std.proofs.Common.{◌≡◌, ◌≢◌, ℕ, ◌<◌, ◌⊎◌, inl, inr, Bool}
+use Rattle.std.proofs.Common.{true, false, List, [], ◌∷◌, ◌++◌, length, Option}
 use Rattle.std.proofs.Common.{refl, subst, sym, ap, ◌∙◌, arith, IsTrue, append-nil, append_assoc}
 use Rattle.std.specs.List.{AllByRecursion, flat_map}
 use Rattle.std.specs.Prelude.{Result, Ok, Err}
@@ -11,9 +12,8 @@ use Rattle.http.specs.declared.request.Request.{Request as Asked}
 use Rattle.http1.specs.Message.{ReadsRequests}
 use Rattle.http_server.specs.declared.response.Response.{Response}
 use Rattle.http_server.specs.declared.state.Config.{Config}
-use Rattle.http_server.specs.declared.state.State.TheVariants.{Open}
 use Rattle.http_server.specs.Exchange.{Chain}
-use Rattle.http_server.specs.History.{History, IsDone, IsServed, WantsRead, new_history}
+use Rattle.http_server.specs.History.{History, IsServed, new_history}
 use Rattle.http_server.proofs.KnownLemmas.{Appends-then, Consumes-then}
 use Rattle.http_server.proofs.StreamLemmas.{Chain-append}
 use Rattle.hg_wire.specs.Serving.{calls_of, Converses, EndsConnection, EndsPlainly, IsNoRoomAnswer, IsRefused}
@@ -212,13 +212,6 @@ pub converses_from : {V : Type 0} (breaks : Type 0) (config : Config)
     Converses breaks config answers old₂ new input left out sent
 converses_from breaks config answers old old₂ new input left out sent is x =
     subst (λ from. Converses breaks config answers from new input left out sent) is x
-
--- a connection that is not done, with nothing to send, is open
-open_by : (config : Config) (h : History) → h.pending ≡ [] → (IsDone h → ⊥) →
-    WantsRead config h ⊎ ((0 < length h.pending) ⊎ IsDone h) → h.state ≡ Open
-open_by config h none more (inl wants) = wants.0
-open_by config h none more (inr (inl waits)) = absurd (omega (arith, waits, ap length none))
-open_by config h none more (inr (inr done)) = absurd (more done)
 
 -- what is told where the store did not fail
 pub not_failed : (failed : Bool) (end : ConnectionEnd) → (failed ≡ true → end ≡ NotStored) →

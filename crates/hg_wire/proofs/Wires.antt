@@ -1,5 +1,6 @@
 -- A wire whose client was answered.
-use Rattle.std.proofs.Common.{◌≡◌, ℕ, ◌+◌, Bool, false, List, [], ◌∷◌, ◌++◌, Option, Some, refl, sym, ap, subst, ◌∙◌}
+use Rattle.std.proofs.Common.{◌≡◌, ℕ, ◌+◌, Bool, false, List, [], ◌∷◌}
+use Rattle.std.proofs.Common.{◌++◌, Option, Some, refl, sym, ap, subst, ◌∙◌}
 use Rattle.std.specs.Option.{IsSome}
 use Rattle.http.specs.declared.request.Request.{Request}
 use Rattle.http_server.specs.declared.response.Response.{Response}

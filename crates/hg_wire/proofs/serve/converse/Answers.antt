@@ -4,8 +4,11 @@ use Rattle.http_server.specs.Connection.{history}
 use Rattle.http_server.specs.History.{IsServed, Rests}
 use Rattle.http_server.proofs.Theorems.{always_served}
 use Rattle.hg_wire.proofs.Served.{nothing_waits}
-use Rattle.hg_wire.proofs.Stretches.{calls_grow, ends_err, kept_same, not_false, open_still, waits_all, waits_first, waits_later, waits_read, went_all, went_kept, went_none, went_on, went_read, went_sent, went_told}
-use Rattle.hg_wire.proofs.serve.converse.Goals.{then-is_idle+in_ok-flush-2+else-not-has_room+in_ok-came+else-not-came+else-not-has_spare, else-is_idle}
+use Rattle.hg_wire.proofs.Stretches.{calls_grow, ends_err, kept_same, not_false, open_still}
+use Rattle.hg_wire.proofs.Stretches.{waits_all, waits_first, waits_later, waits_read}
+use Rattle.hg_wire.proofs.Stretches.{went_all, went_kept, went_none, went_on, went_read, went_sent, went_told}
+use Rattle.hg_wire.proofs.serve.converse.Goals.{then-is_idle+in_ok-flush-2+else-not-has_room+in_ok-came+else-not-came+else-not-has_spare}
+use Rattle.hg_wire.proofs.serve.converse.Goals.{else-is_idle}
 use Rattle.hg_wire.proofs.serve.converse.Goals as goal
 
 pub turns-init : goal.turns-init
