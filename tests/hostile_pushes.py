@@ -2,6 +2,8 @@
 
 It gives the pushes that have to be done before, the hostile push, and how many bytes that one makes the server hash.
 """
+import random
+
 from bundles import *
 
 
@@ -105,6 +107,23 @@ def new_names(count):
     return [bundle(line.part())], bundle(bookmarks(names(count), line.nodes[0])), 0
 
 
+def mixed_names(count):
+    """The same in no order, as it comes each time."""
+    mixed = names(count)
+    random.Random(count).shuffle(mixed)
+    return mixed
+
+
+def names_in_no_order(count):
+    line = line_of(1)
+    return [bundle(line.part())], bundle(bookmarks(mixed_names(count), line.nodes[0])), 0
+
+
+def names_in_no_order_and_back(count):
+    line = line_of(1)
+    return [bundle(line.part())], bundle(bookmarks(mixed_names(count), line.nodes[0]), REFUSED), 0
+
+
 def new_names_and_back(count):
     line = line_of(1)
     return [bundle(line.part())], bundle(bookmarks(names(count), line.nodes[0]), REFUSED), 0
@@ -148,6 +167,8 @@ ROWS = {
     "pushkeys on phases, 200,000 rows after them": (phase_keys, 10_000),
     "bookmarks with new names in descending order": (new_names, 1_960_000),
     "the same, refused after it": (new_names_and_back, 1_960_000),
+    "bookmarks with new names in no order": (names_in_no_order, 1_960_000),
+    "those in no order, refused after it": (names_in_no_order_and_back, 1_960_000),
     "pushkeys of new names among 100,000": (name_keys, 10_000),
     "obsmarkers": (many_markers, 1_400_000),
     "a changegroup of empty texts": (many_empty_texts, 600_000),
@@ -156,7 +177,7 @@ ROWS = {
 }
 
 # those that are refused after all else of them was run
-REFUSING = (heads_and_back, new_names_and_back)
+REFUSING = (heads_and_back, new_names_and_back, names_in_no_order_and_back)
 
 
 def longest(size, hashed):

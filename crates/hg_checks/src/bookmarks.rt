@@ -7,7 +7,7 @@ ghost use Rattle.hg_checks.specs.Checks.{bookmark_checked, bookmarks_checked};
 use crate::fault::CheckFault;
 use hg_keys::{Bookmarks, are_same, is_known_target, read_bookmarks};
 use hg_log::Changelog;
-use hg_types::{Node, Seq};
+use hg_types::{Node, Short};
 use std::alloc::Allocator;
 
 /// Whether each name in a payload is on the changeset that stands before it. The payload is entries, as the
@@ -33,7 +33,7 @@ pub fn check_bookmarks<A: Allocator + Copy>(
 fn check_each<A: Allocator>(
     log: &Changelog<A>,
     bookmarks: &Bookmarks<A>,
-    entries: &[(Option<Node>, Seq<u8, A>)],
+    entries: &[(Option<Node>, Short<A>)],
 ) -> Result<(), CheckFault>
     ensures { result ≡ all_checked (bookmark_checked log.now.rows bookmarks.now.current) entries.now }
 {

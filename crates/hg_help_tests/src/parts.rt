@@ -3,7 +3,7 @@
 ghost use Rattle.std.specs.Prelude.{◌≤◌};
 ghost use Rattle.hg_types.specs.Limits.{IsAllowed};
 
-use hg_types::{Limits, NoMemory, Param, Part, Payload, Seq, Settings};
+use hg_types::{Limits, NoMemory, Param, Part, Payload, Seq, Settings, Short};
 use std::alloc::Allocator;
 
 /// A server that does not publish, with room for so many changesets, whose pushes begin at that number.
@@ -28,7 +28,7 @@ pub fn part_of<A: Allocator + Copy>(
     payload: &[u8],
 ) -> Result<Part<A>, NoMemory> {
     Ok(Part {
-        kind: Seq::copy_of(alloc, kind)?,
+        kind: Short::copy_of(alloc, kind)?,
         id,
         params: Seq::new(alloc),
         payload: Payload::of(Seq::copy_of(alloc, payload)?),
@@ -45,7 +45,7 @@ pub fn put_param<A: Allocator + Copy>(
 ) -> Result<(), NoMemory> {
     params.push(Param {
         mandatory,
-        key: Seq::copy_of(alloc, key)?,
-        value: Seq::copy_of(alloc, value)?,
+        key: Short::copy_of(alloc, key)?,
+        value: Short::copy_of(alloc, value)?,
     })
 }

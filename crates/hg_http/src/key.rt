@@ -8,7 +8,7 @@ ghost use Rattle.hg_http.specs.Keys.{replycaps_part};
 use crate::command::argument;
 use hg_stream::write_bundle;
 use hg_told::Field;
-use hg_types::{NoMemory, Param, Part, Payload, Seq};
+use hg_types::{NoMemory, Param, Part, Payload, Seq, Short};
 use std::alloc::Allocator;
 
 /// The most bytes that a header has for a parameter's value.
@@ -83,7 +83,7 @@ fn replycaps<A: Allocator + Copy>(alloc: A) -> Result<Part<A>, NoMemory>
     ensures { IfOk result (λ part. part ≡ replycaps_part) }
 {
     Ok(Part {
-        kind: Seq::copy_of(alloc, b"REPLYCAPS".as_slice())?,
+        kind: Short::copy_of(alloc, b"REPLYCAPS".as_slice())?,
         id: 0,
         params: Seq::new(alloc),
         payload: Payload::new(alloc),
@@ -100,7 +100,7 @@ fn pushkey<A: Allocator + Copy>(alloc: A, change: &KeyChange<'_>) -> Result<Part
     params.push(param(alloc, b"old".as_slice(), change.old)?)?;
     params.push(param(alloc, b"new".as_slice(), change.new)?)?;
     Ok(Part {
-        kind: Seq::copy_of(alloc, b"pushkey".as_slice())?,
+        kind: Short::copy_of(alloc, b"pushkey".as_slice())?,
         id: 0,
         params,
         payload: Payload::new(alloc),
@@ -112,7 +112,7 @@ fn param<A: Allocator + Copy>(alloc: A, key: &[u8], value: &[u8]) -> Result<Para
 {
     Ok(Param {
         mandatory: true,
-        key: Seq::copy_of(alloc, key)?,
-        value: Seq::copy_of(alloc, value)?,
+        key: Short::copy_of(alloc, key)?,
+        value: Short::copy_of(alloc, value)?,
     })
 }

@@ -14,7 +14,7 @@ use Rattle.hg_types.specs.declared.node.Node.{Node}
 use Rattle.hg_names.specs.Names.{with_name, without}
 use Rattle.hg_keys.specs.Bookmarks.{Pairs, name_cmp, is_before, AreInOrder, node_of, pair_of, with_bookmark}
 
-turned : (a b : List ℕ) (o : Ordering) → name_cmp a b ≡ o → name_cmp b a ≡ ordering_reverse o
+pub turned : (a b : List ℕ) (o : Ordering) → name_cmp a b ≡ o → name_cmp b a ≡ ordering_reverse o
 turned a b o is = nat_list_cmp_total.antisymm b a ∙ ap ordering_reverse is
 
 module _ (name : List ℕ) where
@@ -35,7 +35,7 @@ module _ (name : List ℕ) where
       → is_before name other ≡ is_lt (ordering_reverse o)
   behind other o is = ap is_lt (turned other name o is)
 
-  same : (other : List ℕ) (o : Ordering) → name_cmp other name ≡ o → bytes_eq other name ≡ is_eq o
+  pub same : (other : List ℕ) (o : Ordering) → name_cmp other name ≡ o → bytes_eq other name ≡ is_eq o
   same other o is = sym (is_eq-slice_cmp other name) ∙ ap is_eq is
 
   keeps : (test : List ℕ → Bool) (pair : List ℕ × Node) (pairs : Pairs) → test pair.0 ≡ true
@@ -220,6 +220,69 @@ module _ (name : List ℕ) where
   unfolding with_bookmark
   stays_away pairs in_order is =
       ap (λ o. lesser pairs ++ (pair_of name o ++ greater pairs)) (sym is) ∙ three_parts pairs in_order
+
+-- where a pair follows a name, the name is not there
+not_yet : (pair other : List ℕ × Node) (pairs : Pairs) → AreInOrder (other ∷ pairs) → name_cmp pair.0 other.0 ≡ Less
+    → node_of (other ∷ pairs) pair.0 ≡ None
+not_yet pair other pairs in_order less =
+    let after = turned pair.0 other.0 Less less in
+    let follow = rest_follows pair.0 other pairs in_order
+    (λ k more. turned pair.0 k Less (nat_list_cmp_total.trans pair.0 other.0 k less more)) in
+    ap (λ b. cond b (Some other.1) (node_of pairs pair.0)) (same pair.0 other.0 Greater after)
+    ∙ not_there pair.0 pairs follow
+
+here : (pair : List ℕ × Node) (pairs : Pairs) → node_of (pair ∷ pairs) pair.0 ≡ Some pair.1
+here pair pairs = ap (λ b. cond b (Some pair.1) (node_of pairs pair.0)) ((bytes_eq-Decides pair.0 pair.0).1 refl)
+
+-- the first pair of a map in order is found nowhere after it
+not_again : (pair : List ℕ × Node) (pairs : Pairs) → AreInOrder (pair ∷ pairs) → node_of pairs pair.0 ≡ None
+not_again pair pairs in_order =
+    not_there pair.0 pairs (rest_follows pair.0 pair pairs in_order (λ k less. turned pair.0 k Less less))
+
+-- after the first pairs, of one name, look-ups find the same where they do before
+found_later : (pair other : List ℕ × Node) (pairs others : Pairs) → AreInOrder (pair ∷ pairs)
+    → AreInOrder (other ∷ others) → pair.0 ≡ other.0
+    → ((name : List ℕ) → node_of (pair ∷ pairs) name ≡ node_of (other ∷ others) name) → (name : List ℕ) (b : Bool)
+    → bytes_eq pair.0 name ≡ b → node_of pairs name ≡ node_of others name
+found_later pair other pairs others in_order ordered one found name true is =
+    let at = (bytes_eq-Decides pair.0 name).0 is in
+    ap (node_of pairs) (sym at) ∙ not_again pair pairs in_order
+    ∙ sym (ap (node_of others) (sym at ∙ one) ∙ not_again other others ordered)
+found_later pair other pairs others in_order ordered one found name false is =
+    sym (ap (λ b. cond b (Some pair.1) (node_of pairs name)) is) ∙ found name
+    ∙ ap (λ b. cond b (Some other.1) (node_of others name)) (ap (λ k. bytes_eq k name) (sym one) ∙ is)
+
+abbrev node_in : Node → Option Node → Node
+node_in node (Some found) = found
+node_in node None = node
+
+-- pairs in order are those that are found
+pub same_pairs : (pairs others : Pairs) → AreInOrder pairs → AreInOrder others
+    → ((name : List ℕ) → node_of pairs name ≡ node_of others name) → pairs ≡ others
+same_pairs [] [] in_order ordered found = refl
+same_pairs [] (other ∷ others) in_order ordered found =
+    let clash = found other.0 ∙ here other others in cc
+same_pairs (pair ∷ pairs) [] in_order ordered found =
+    let clash = sym (here pair pairs) ∙ found pair.0 in cc
+same_pairs (pair ∷ pairs) (other ∷ others) in_order ordered found =
+    by (same_pairs pairs others (tail_order pair.0 pair pairs in_order) (tail_order other.0 other others ordered))
+    (name_cmp pair.0 other.0) refl
+  where
+    by : (((name : List ℕ) → node_of pairs name ≡ node_of others name) → pairs ≡ others)
+        → (o : Ordering) → name_cmp pair.0 other.0 ≡ o → pair ∷ pairs ≡ other ∷ others
+    by same_rest Less is =
+        let clash = sym (here pair pairs) ∙ found pair.0 ∙ not_yet pair other others ordered is in cc
+    by same_rest Greater is =
+        let clash = sym (here other others) ∙ sym (found other.0)
+        ∙ not_yet other pair pairs in_order (turned pair.0 other.0 Greater is) in cc
+    by same_rest Equal is =
+        let name : pair.0 ≡ other.0 = names_equal other.0 pair.0 is in
+        let node : Some pair.1 ≡ Some other.1 =
+        sym (here pair pairs) ∙ found pair.0 ∙ ap (node_of (other ∷ others)) name ∙ here other others in
+        let one : pair ≡ other = λ i. (name i, node_in pair.1 (node i)) in
+        let rest = same_rest
+        (λ n. found_later pair other pairs others in_order ordered name found n (bytes_eq pair.0 n) refl) in
+        λ i. one i ∷ rest i
 
 -- what the names below say of an edit
 pub set_is : (pairs : Pairs) (name : List ℕ) (node : Node)

@@ -5,3 +5,4 @@ pub mod SetLemmas
 pub mod StayingLemmas
 pub mod BackLemmas
 pub mod ChangeLemmas
+pub mod SortLemmas

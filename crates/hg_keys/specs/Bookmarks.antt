@@ -7,6 +7,7 @@ use Rattle.std.specs.Ordering.{is_lt, nat_cmp}
 use Rattle.std.specs.declared.cmp.Ordering.{Ordering}
 use Rattle.std.specs.declared.cmp.Ordering.TheVariants.{Less}
 use Rattle.hg_types.specs.declared.node.Node.{Node}
+use Rattle.hg_keys.specs.Payload.{Entry}
 
 -- a name, and the changeset that it is on
 abbrev pub Pairs : Type 0
@@ -38,6 +39,11 @@ unfoldable pub with_bookmark : Pairs → List ℕ → Option Node → Pairs
 with_bookmark pairs name node =
     filter (λ pair. is_before pair.0 name) pairs
     ++ (pair_of name node ++ filter (λ pair. is_before name pair.0) pairs)
+
+-- each name is set or deleted, in order
+abbrev pub set_each : List Entry → Pairs → Pairs
+set_each [] pairs = pairs
+set_each (entry ∷ entries) pairs = set_each entries (with_bookmark pairs entry.1 entry.0)
 
 -- a name is on what it was set to, and the others are on what they were on
 abbrev pub SetIsFound : Type 0

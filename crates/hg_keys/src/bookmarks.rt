@@ -3,19 +3,20 @@
 ghost use Rattle.std.specs.Prelude.{◌≡◌, ◌≢◌, ◌+◌, ◌<◌, ◌≤◌, [], length, reverse, true, Some, None, IfSome};
 ghost use Rattle.std.specs.Prelude.{IfNone, IfOk, OnOk, OnErr, slice_get, vec_len, vec_capacity};
 ghost use Rattle.std.specs.Option.{option_to_list};
-ghost use Rattle.hg_keys.specs.Bookmarks.{AreInOrder, node_of, with_bookmark};
+ghost use Rattle.hg_keys.specs.Bookmarks.{AreInOrder, node_of, set_each, with_bookmark};
 ghost use Rattle.hg_keys.specs.code.Changes.{all_undone, base_of, can_undo, can_undo_all, kept, undone};
+ghost use Rattle.hg_keys.specs.code.Sorting.{HaveSameNames};
 
 use hg_names::{Entries, Named, Names};
-use hg_types::{NoMemory, Node, Seq};
+use hg_types::{NoMemory, Node, Seq, Short};
 use std::alloc::{Allocator, Global};
 use std::marker::Model;
 
 /// A change that was made after the mark: the name, and what it was on before.
 #[derive(Drop)]
 enum Change<A: Allocator = Global> {
-    Added(Seq<u8, A>),
-    Moved(Seq<u8, A>, Node),
+    Added(Short<A>),
+    Moved(Short<A>, Node),
     Removed(Named<A>),
 }
 
@@ -91,6 +92,35 @@ impl<A: Allocator + Copy> Bookmarks<A> {
         keep(&mut self.changes, change, self.is_marked);
         Ok(())
     }
+
+    /// Sets each name on its changeset, or deletes it, as if in the order of the entries. It takes them in the
+    /// order of their names, where most come next to the one before. Where memory is refused, some are set.
+    pub fn set_each(
+        &mut self,
+        alloc: A,
+        entries: Seq<(Option<Node>, Short<A>), A>,
+    ) -> Result<(), NoMemory>
+        ensures ok { OnOk result (self.new.current ≡ set_each entries self.old.current) }
+        ensures marked { self.new.marked ≡ self.old.marked }
+    {
+        let _in_order = self.len();
+        let entries = in_name_order(entries)?;
+        for entry in entries.as_slice() {
+            self.set(alloc, entry.1.as_slice(), entry.0)?;
+        }
+        Ok(())
+    }
+}
+
+/// The entries in the order of their names' bytes. Those of one name keep their order.
+fn in_name_order<A: Allocator + Copy>(
+    entries: Seq<(Option<Node>, Short<A>), A>,
+) -> Result<Vec<(Option<Node>, Short<A>), A>, NoMemory>
+    ensures { IfOk result (λ sorted. HaveSameNames entries sorted.items) }
+{
+    let mut entries = entries.into_vec();
+    entries.sort_by(|one, other| one.1.as_slice().cmp(other.1.as_slice()))?;
+    Ok(entries)
 }
 
 impl<A: Allocator> Bookmarks<A> {
@@ -212,7 +242,7 @@ fn put_after_mark<A: Allocator + Copy>(
 {
     match node {
         Some(node) => {
-            let kept = Seq::copy_of(alloc, name)?;
+            let kept = Short::copy_of(alloc, name)?;
             match names.insert(alloc, name, node)? {
                 Some(was) => Ok(Some(Change::Moved(kept, was))),
                 None => Ok(Some(Change::Added(kept))),

@@ -6,7 +6,7 @@ ghost use Rattle.hg_keys.specs.code.LentEntry.{Finds};
 ghost use Rattle.hg_keys.specs.Payload.{PayloadGives, entries_of, entry_at, name_at, sized_at, target_in};
 
 use crate::fault::BookmarkFault;
-use hg_types::{Node, Seq};
+use hg_types::{Node, Seq, Short};
 use std::alloc::Allocator;
 
 /// The number of bytes of an id.
@@ -31,7 +31,7 @@ struct Lent<'a> {
 pub fn read_bookmarks<A: Allocator + Copy>(
     alloc: A,
     bytes: &[u8],
-) -> Result<Seq<(Option<Node>, Seq<u8, A>), A>, BookmarkFault>
+) -> Result<Seq<(Option<Node>, Short<A>), A>, BookmarkFault>
     ensures { PayloadGives result (entries_of bytes.now) }
 {
     let mut entries = Seq::new(alloc);
@@ -40,7 +40,7 @@ pub fn read_bookmarks<A: Allocator + Copy>(
         let Some(lent) = entry_of(rest) else {
             return Err(BookmarkFault::Short)
         };
-        let name = Seq::copy_of(alloc, lent.name)?;
+        let name = Short::copy_of(alloc, lent.name)?;
         entries.push((lent.node, name))?;
         rest = lent.rest;
     }

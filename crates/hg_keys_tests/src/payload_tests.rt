@@ -1,7 +1,7 @@
 //! Payloads of bookmarks: whole, cut at each byte, and memory refused in turn.
 
 use hg_keys::*;
-use hg_types::{Node, Seq};
+use hg_types::{Node, Seq, Short};
 use linked_list_allocator::LocalHeap;
 use std::alloc::{AllocError, Allocator, Global};
 use std::test::*;
@@ -24,7 +24,7 @@ const ENTRIES: [(Option<Node>, &[u8]); 3] = [
 ];
 
 /// Whether these are the first of the entries above.
-fn are_first<A: Allocator>(entries: &[(Option<Node>, Seq<u8, A>)]) -> bool {
+fn are_first<A: Allocator>(entries: &[(Option<Node>, Short<A>)]) -> bool {
     let mut same = entries.len() <= ENTRIES.len();
     for (entry, wanted) in entries.iter().zip(ENTRIES.iter()) {
         same = same && are_same(entry.0, wanted.0) && entry.1.as_slice() == wanted.1;

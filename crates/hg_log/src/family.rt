@@ -7,6 +7,7 @@ ghost use Rattle.hg_log.specs.code.Graph.{AreEarlier, HasParent};
 ghost use Rattle.hg_log.specs.code.Family.{numbers, child_at, with_child};
 
 use crate::graph::Parents;
+use crate::link::{Link, Links};
 use std::alloc::{AllocError, Allocator, Global};
 use std::marker::Model;
 
@@ -16,9 +17,9 @@ use std::marker::Model;
 /// So the children of a row are found from the newest on, without a list of them.
 #[derive(Drop)]
 pub struct Family<A: Allocator = Global> {
-    parents: Vec<Parents, A>,
-    newest: Vec<Option<u32>, A>,
-    older: Vec<Parents, A>,
+    parents: Vec<Links, A>,
+    newest: Vec<Link, A>,
+    older: Vec<Links, A>,
 }
 
 impl<A: Allocator> Model for Family<A> {
@@ -65,7 +66,7 @@ impl<A: Allocator> Family<A> {
         requires { row < length self.now }
         ensures { slice_get self.now row ≡ Some result }
     {
-        self.parents[row as usize]
+        self.parents[row as usize].rows()
     }
 
     /// The newest child of a row.
@@ -73,7 +74,7 @@ impl<A: Allocator> Family<A> {
         requires { row < length self.now }
         ensures { result ≡ child_before (numbers self.now) row (length self.now) }
     {
-        self.newest[row as usize]
+        self.newest[row as usize].row()
     }
 
     /// The child that a row had before that one.
@@ -81,8 +82,8 @@ impl<A: Allocator> Family<A> {
         requires { HasParent self.now row child }
         ensures { result ≡ child_before (numbers self.now) row child }
     {
-        let older = self.older[child as usize];
-        if self.parents[child as usize].begin_with(row) {
+        let older = self.older[child as usize].rows();
+        if self.parents[child as usize].rows().begin_with(row) {
             older.p1
         } else {
             older.p2
@@ -97,17 +98,17 @@ impl<A: Allocator> Family<A> {
         ensures err { OnErr result (self.new ≡ self.old) }
     {
         let child = self.parents.len() as u32;
-        let older = Parents {
-            p1: newest_child(self.newest.as_slice(), parents.p1),
-            p2: newest_child(self.newest.as_slice(), parents.p2),
-        };
+        let older = Links::of(
+            newest_child(self.newest.as_slice(), parents.p1),
+            newest_child(self.newest.as_slice(), parents.p2),
+        );
         self.parents.reserve(1)?;
         self.newest.reserve(1)?;
         self.older.push(older)?;
-        self.newest.push(None)?;
-        self.parents.push(parents)?;
-        put_child(&mut self.newest, parents.p1, Some(child));
-        put_child(&mut self.newest, parents.p2, Some(child));
+        self.newest.push(Link::to(None))?;
+        self.parents.push(Links::to(parents))?;
+        put_child(&mut self.newest, parents.p1, Link::to(Some(child)));
+        put_child(&mut self.newest, parents.p2, Link::to(Some(child)));
         Ok(())
     }
 
@@ -117,31 +118,31 @@ impl<A: Allocator> Family<A> {
         ensures none { IfNone result (self.old ≡ []) }
         ensures stay { IfNone result (self.new ≡ self.old) }
     {
-        let parents = self.parents.pop()?;
+        let links = self.parents.pop()?;
+        let parents = links.rows();
         let last = self.parents.len();
-        let older = self.older[last];
+        let (first, second) = self.older[last].copies();
         self.older.truncate(last);
         self.newest.truncate(last);
-        put_child(&mut self.newest, parents.p1, older.p1);
-        put_child(&mut self.newest, parents.p2, older.p2);
+        put_child(&mut self.newest, parents.p1, first);
+        put_child(&mut self.newest, parents.p2, second);
         Some(parents)
     }
 }
 
 /// The newest child of a parent, where there is one.
-fn newest_child(newest: &[Option<u32>], parent: Option<u32>) -> Option<u32>
+fn newest_child(newest: &[Link], parent: Option<u32>) -> Link
     requires { IfSome parent (λ p. p < length newest.now) }
     ensures { result ≡ child_at newest.now parent }
 {
-    newest[parent? as usize]
+    match parent {
+        Some(row) => newest[row as usize].copy(),
+        None => Link::to(None),
+    }
 }
 
 /// Makes that child the newest of a parent, where there is one.
-fn put_child<A: Allocator>(
-    newest: &mut Vec<Option<u32>, A>,
-    parent: Option<u32>,
-    child: Option<u32>,
-)
+fn put_child<A: Allocator>(newest: &mut Vec<Link, A>, parent: Option<u32>, child: Link)
     requires { IfSome parent (λ p. p < length newest.old.items) }
     ensures { newest.new.items ≡ with_child parent child newest.old.items }
 {

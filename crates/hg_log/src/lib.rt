@@ -13,6 +13,7 @@ mod child_counts;
 mod family;
 mod graph;
 mod laws;
+mod link;
 mod marks;
 mod node;
 mod order;

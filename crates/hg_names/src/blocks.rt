@@ -9,13 +9,13 @@ ghost use Rattle.hg_names.specs.code.Blocks.{pairs_in, start_of, place_at, IsFil
 ghost use Rattle.hg_names.specs.code.Blocks.{IsLess, IsSpot, IsOpen, IsNamed, IsFree};
 ghost use Rattle.hg_names.specs.code.Places.{IsAt, IsGap, moved};
 
-use hg_types::{NoMemory, Node, Seq};
+use hg_types::{NoMemory, Node, Short};
 use std::alloc::{Allocator, Global};
 use std::cmp::Ordering;
 use std::mem;
 
 /// A name, and the changeset that it is on.
-pub(crate) type Pair<A> = (Seq<u8, A>, Node);
+pub(crate) type Pair<A> = (Short<A>, Node);
 
 /// Names that follow one another.
 #[derive(Drop)]
@@ -380,7 +380,7 @@ fn pair_copies<A: Allocator + Copy>(
 {
     let mut copies = Vec::with_capacity(alloc, pairs.len())?;
     for pair in pairs {
-        let name = Seq::copy_of(alloc, pair.0.as_slice())?;
+        let name = Short::copy_of(alloc, pair.0.as_slice())?;
         copies.push((name, pair.1))?;
     }
     Ok(copies)

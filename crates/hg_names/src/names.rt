@@ -9,7 +9,7 @@ use crate::blocks::{
     Block, Pair, begin, come_back, copies, join, move_in, spot_at, spot_if_there, spot_named,
     spot_of, take_out,
 };
-use hg_types::{NoMemory, Node, Seq};
+use hg_types::{NoMemory, Node, Short};
 use std::alloc::{Allocator, Global};
 use std::marker::Model;
 
@@ -158,7 +158,7 @@ impl<A: Allocator + Copy> Names<A> {
         ensures room { self.old.room ≤ self.new.room + 1 }
     {
         if self.blocks.is_empty() {
-            let name = Seq::copy_of(alloc, name)?;
+            let name = Short::copy_of(alloc, name)?;
             begin(alloc, &mut self.blocks, (name, node))?;
             self.len = 1;
             return Ok(None);
@@ -169,7 +169,7 @@ impl<A: Allocator + Copy> Names<A> {
                 if self.len == usize::MAX {
                     return Err(NoMemory);
                 }
-                let name = Seq::copy_of(alloc, name)?;
+                let name = Short::copy_of(alloc, name)?;
                 join(&mut self.blocks, spot, (name, node))?;
                 self.len += 1;
                 Ok(None)

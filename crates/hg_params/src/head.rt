@@ -7,14 +7,14 @@ use crate::fault::ParamFault;
 use crate::fields::read_front;
 use crate::kind::is_kind;
 use crate::params::{append_params, are_distinct};
-use hg_types::{Param, Seq};
+use hg_types::{Param, Seq, Short};
 use std::alloc::{Allocator, Global};
 
 /// What a header says: the part's type in the case of the header, its id, and its parameters, mandatory ones
 /// first.
 #[derive(Drop)]
 pub struct Head<A: Allocator = Global> {
-    pub kind: Seq<u8, A>,
+    pub kind: Short<A>,
     pub id: u32,
     pub params: Seq<Param<A>, A>,
 }
@@ -39,7 +39,7 @@ pub fn read_header<A: Allocator + Copy>(alloc: A, bytes: &[u8]) -> Result<Head<A
     if !are_distinct(params.as_slice()) {
         return Err(ParamFault::RepeatedKey);
     }
-    let kind = Seq::copy_of(alloc, front.kind)?;
+    let kind = Short::copy_of(alloc, front.kind)?;
     Ok(Head {
         kind,
         id: front.id,

@@ -6,7 +6,7 @@ ghost use Rattle.hg_params.specs.Header.{AreDistinct, param};
 ghost use Rattle.hg_params.specs.code.Reading.{params_in};
 
 use crate::fields::{Block, pair};
-use hg_types::{NoMemory, Param, Seq};
+use hg_types::{NoMemory, Param, Seq, Short};
 use std::alloc::Allocator;
 
 /// Adds the parameters of a block.
@@ -25,8 +25,8 @@ pub fn append_params<A: Allocator + Copy>(
     while let Ok(((key, value), more)) = pair(sizes) {
         let (key, rest) = texts.split_at(key as usize);
         let (value, rest) = rest.split_at(value as usize);
-        let key = Seq::copy_of(alloc, key)?;
-        let value = Seq::copy_of(alloc, value)?;
+        let key = Short::copy_of(alloc, key)?;
+        let value = Short::copy_of(alloc, value)?;
         params.push(Param {
             mandatory,
             key,

@@ -1,7 +1,7 @@
 //! Worked examples, and memory that is refused at each growth.
 
 use hg_params::*;
-use hg_types::{NoMemory, Param, Part, Payload, Seq};
+use hg_types::{NoMemory, Param, Part, Payload, Seq, Short};
 use linked_list_allocator::LocalHeap;
 use std::alloc::Allocator;
 use std::test::*;
@@ -172,8 +172,8 @@ fn param_with<A: Allocator + Copy>(
 ) -> Result<Param<A>, NoMemory> {
     Ok(Param {
         mandatory,
-        key: Seq::copy_of(alloc, &[key])?,
-        value: Seq::new(alloc),
+        key: Short::copy_of(alloc, &[key])?,
+        value: Short::new(alloc),
     })
 }
 
@@ -188,7 +188,7 @@ fn part_with<A: Allocator + Copy>(
         list.push(param_with(alloc, *mandatory, *key)?)?;
     }
     Ok(Part {
-        kind: Seq::copy_of(alloc, kind)?,
+        kind: Short::copy_of(alloc, kind)?,
         id: 7,
         params: list,
         payload: Payload::new(alloc),

@@ -33,7 +33,7 @@ use Rattle.hg_obs.specs.Markers.{merged, AreLawful as AreLawfulMarkers}
 use Rattle.hg_obs.specs.Reading.{markers_of}
 use Rattle.hg_keys.specs.declared.fault.KeyFault.{KeyFault}
 use Rattle.hg_keys.specs.declared.keys.KeyCall.{KeyCall}
-use Rattle.hg_keys.specs.Bookmarks.{Pairs, AreInOrder, with_bookmark}
+use Rattle.hg_keys.specs.Bookmarks.{Pairs, AreInOrder, set_each, with_bookmark}
 use Rattle.hg_keys.specs.Known.{AreOnKnown}
 use Rattle.hg_keys.specs.Payload as bookmark
 use Rattle.hg_keys.specs.PushKey.{Keys, AreLawful as AreLawfulKeys, is_known_target, key_pushed}
@@ -131,7 +131,7 @@ module _ {A : Type 0} (laws : Laws A) where
 
   each_set : (rows : List Changeset) (entries : List bookmark.Entry) (pairs : Pairs)
       → bookmarks.are_known rows entries ≡ true → HavePairs rows pairs
-      → HavePairs rows (bookmarks.set_each entries pairs)
+      → HavePairs rows (set_each entries pairs)
   each_set rows [] pairs known have = have
   each_set rows (entry ∷ entries) pairs known have =
       let both = and_parts (is_known_target rows entry.0) (bookmarks.are_known rows entries) known in

@@ -5,7 +5,7 @@ ghost use Rattle.hg_parts.specs.Refusal.{message_of};
 
 use hg_keys::KeyCall;
 use hg_log::AddFault;
-use hg_types::{NoMemory, Seq};
+use hg_types::{NoMemory, Seq, Short};
 use std::alloc::{Allocator, Global};
 
 /// What changed under a push between its preparation and its run.
@@ -43,10 +43,10 @@ pub enum Refusal<A: Allocator = Global> {
     Unsupported {
         place: u32,
         /// The part's type, in lower case.
-        kind: Seq<u8, A>,
+        kind: Short<A>,
         /// The names of the mandatory parameters that are not known, in the header's order: none where
         /// the type is not known.
-        params: Seq<Seq<u8, A>, A>,
+        params: Seq<Short<A>, A>,
     },
     /// 2: the repository is not what the part says that it is.
     Raced {

@@ -6,7 +6,7 @@
 ghost use Rattle.std.specs.Prelude.{◌≡◌, IfOk};
 ghost use Rattle.hg_parts.specs.Replies.{answering, reply_part, CanReply, IsReply};
 
-use hg_types::{NoMemory, Param, Part, Payload, Seq};
+use hg_types::{NoMemory, Param, Part, Payload, Seq, Short};
 use std::alloc::Allocator;
 
 /// The reply of that type to the part with that id: `in-reply-to` has the id, in decimal, and `key` the
@@ -41,7 +41,7 @@ fn part_answering<A: Allocator + Copy>(
     params.push(answering(alloc, b"in-reply-to", id_text.as_bytes())?)?;
     params.push(answering(alloc, key, value)?)?;
     Ok(Part {
-        kind: Seq::copy_of(alloc, kind)?,
+        kind: Short::copy_of(alloc, kind)?,
         id: 0,
         params,
         payload: Payload::new(alloc),
@@ -54,7 +54,7 @@ fn answering<A: Allocator + Copy>(alloc: A, key: &[u8], value: &[u8]) -> Result<
 {
     Ok(Param {
         mandatory: false,
-        key: Seq::copy_of(alloc, key)?,
-        value: Seq::copy_of(alloc, value)?,
+        key: Short::copy_of(alloc, key)?,
+        value: Short::copy_of(alloc, value)?,
     })
 }

@@ -14,7 +14,7 @@ ghost use Rattle.hg_parts.specs.code.Table.{row_value};
 
 use crate::refusal::RaceText;
 use hg_checks::CheckKind;
-use hg_types::{NoMemory, Param, Part, Seq, TryClone};
+use hg_types::{NoMemory, Param, Part, Seq, Short, TryClone};
 use std::alloc::Allocator;
 
 /// A type of part that is handled.
@@ -187,7 +187,7 @@ pub fn supported_type<A: Allocator>(part: &Part<A>) -> Option<PartType>
 pub fn unknown_names<A: Allocator + Copy>(
     alloc: A,
     part: &Part<A>,
-) -> Result<Seq<Seq<u8, A>, A>, NoMemory>
+) -> Result<Seq<Short<A>, A>, NoMemory>
     ensures { IfOk result (λ names. names ≡ unsupported_names part.now) }
 {
     let mut names = Seq::new(alloc);

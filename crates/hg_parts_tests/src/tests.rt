@@ -14,7 +14,7 @@ use hg_parts::{
     Prepared, RaceText, Refusal, Source, Store, Turn, handle_part, handle_prepared, prepare,
     starts_replies,
 };
-use hg_types::{Limits, NoMemory, Node, Param, Part, Payload, Phase, Seq, Settings};
+use hg_types::{Limits, NoMemory, Node, Param, Part, Payload, Phase, Seq, Settings, Short};
 use linked_list_allocator::LocalHeap;
 use std::alloc::{Allocator, Global};
 use std::hash::RandomState;
@@ -124,12 +124,12 @@ fn part<A: Allocator + Copy>(
     if !key.is_empty() {
         params.push(Param {
             mandatory: true,
-            key: Seq::copy_of(alloc, key)?,
-            value: Seq::copy_of(alloc, value)?,
+            key: Short::copy_of(alloc, key)?,
+            value: Short::copy_of(alloc, value)?,
         })?;
     }
     Ok(Part {
-        kind: Seq::copy_of(alloc, kind)?,
+        kind: Short::copy_of(alloc, kind)?,
         id: 1,
         params,
         payload: Payload::of(Seq::copy_of(alloc, payload)?),

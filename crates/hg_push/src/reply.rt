@@ -10,7 +10,7 @@ use crate::outcome::{Outcome, Reason};
 use hg_keys::KeyCall;
 use hg_repo::{Done, Refusal};
 use hg_stream::write_bundle;
-use hg_types::{CutReason, NoMemory, Param, Part, Payload, Seq};
+use hg_types::{CutReason, NoMemory, Param, Part, Payload, Seq, Short};
 use std::alloc::Allocator;
 
 /// The most bytes that a header has for a parameter's value.
@@ -133,7 +133,7 @@ fn key_part<A: Allocator + Copy>(alloc: A, id: u32, call: &KeyCall<A>) -> Result
 fn unsupported_part<A: Allocator + Copy>(
     alloc: A,
     kind: &[u8],
-    names: &[Seq<u8, A>],
+    names: &[Short<A>],
 ) -> Result<Part<A>, NoMemory>
     ensures { IfOk result (λ part. part ≡ unsupported_part kind.now names.now) }
 {
@@ -153,7 +153,7 @@ fn error_part<A: Allocator + Copy>(
 ) -> Result<Part<A>, NoMemory>
     ensures { IfOk result (λ part. part ≡ error_part kind.now params) }
 {
-    let kind = Seq::copy_of(alloc, kind)?;
+    let kind = Short::copy_of(alloc, kind)?;
     Ok(Part {
         kind,
         id: 0,
@@ -179,8 +179,8 @@ fn telling<A: Allocator + Copy>(alloc: A, key: &[u8], value: &[u8]) -> Result<Pa
     ensures { IfOk result (λ param. param ≡ telling key.now value.now) }
 {
     let end = value.len().min(LONGEST_VALUE);
-    let key = Seq::copy_of(alloc, key)?;
-    let value = Seq::copy_of(alloc, &value[..end])?;
+    let key = Short::copy_of(alloc, key)?;
+    let value = Short::copy_of(alloc, &value[..end])?;
     Ok(Param {
         mandatory: true,
         key,
@@ -189,7 +189,7 @@ fn telling<A: Allocator + Copy>(alloc: A, key: &[u8], value: &[u8]) -> Result<Pa
 }
 
 /// The names in a row, with a NUL between each two.
-fn join_by_nul<A: Allocator + Copy>(alloc: A, names: &[Seq<u8, A>]) -> Result<Vec<u8, A>, NoMemory>
+fn join_by_nul<A: Allocator + Copy>(alloc: A, names: &[Short<A>]) -> Result<Vec<u8, A>, NoMemory>
     ensures { IfOk result (λ joined. joined.items ≡ join_with_byte 0 names.now) }
 {
     let mut joined = Vec::new(alloc);

@@ -11,7 +11,7 @@ ghost use Rattle.std.specs.Prelude.{◌≤◌};
 use hg_help_tests::parts::{part_of, settings};
 use hg_push::{Book, Outcome, Reason};
 use hg_repo::{Done, Refusal, Repo};
-use hg_types::{CutReason, Item, NoMemory, Param, Part, Payload, Seq, What};
+use hg_types::{CutReason, Item, NoMemory, Param, Part, Payload, Seq, Short, What};
 use std::alloc::Allocator;
 use std::hash::RandomState;
 
@@ -48,8 +48,8 @@ fn part_with<A: Allocator + Copy>(
     value: &[u8],
 ) -> Result<Part<A>, NoMemory> {
     let mut part = part(alloc, kind, b"")?;
-    let key = Seq::copy_of(alloc, key)?;
-    let value = Seq::copy_of(alloc, value)?;
+    let key = Short::copy_of(alloc, key)?;
+    let value = Short::copy_of(alloc, value)?;
     part.params.push(Param {
         mandatory,
         key,

@@ -7,7 +7,7 @@ ghost use Rattle.hg_queue.specs.Words.{putter_view, taker_view, history, seen, t
 ghost use Rattle.hg_queue.specs.Words.{IsTakerOf, IsPutterOf, IsMarkedOf, IsVisitorOf};
 
 use hg_queue::{Full, Mark, Marked, PartQueue, Putter, Taker, Visitor};
-use hg_types::{CutReason, Item, Part, Payload, Seq, What};
+use hg_types::{CutReason, Item, Part, Payload, Seq, Short, What};
 use linked_list_allocator::LocalHeap;
 use std::alloc::{Allocator, Global};
 use std::sync::Wait;
@@ -21,7 +21,7 @@ const PARTS: u32 = 500;
 // A part of that id, which takes no memory.
 fn part<A: Allocator + Copy>(alloc: A, id: u32) -> Part<A> {
     Part {
-        kind: Seq::new(alloc),
+        kind: Short::new(alloc),
         id,
         params: Seq::new(alloc),
         payload: Payload::new(alloc),

@@ -11,7 +11,7 @@ ghost use Rattle.hg_types.specs.Limits.{IsAllowed};
 
 use hg_help_tests::parts::part_of as part;
 use hg_repo::{Done, RaceText, Refusal, Repo, Source};
-use hg_types::{Limits, NoMemory, Node, Param, Part, Payload, Seq, Settings, TryClone};
+use hg_types::{Limits, NoMemory, Node, Param, Part, Payload, Seq, Settings, Short, TryClone};
 use linked_list_allocator::LocalHeap;
 use std::alloc::{AllocError, Allocator, Global};
 use std::hash::RandomState;
@@ -37,8 +37,8 @@ fn with_param<A: Allocator + Copy>(
     mandatory: bool,
     key: &[u8],
 ) -> Result<Part<A>, NoMemory> {
-    let key = Seq::copy_of(alloc, key)?;
-    let value = Seq::new(alloc);
+    let key = Short::copy_of(alloc, key)?;
+    let value = Short::new(alloc);
     part.params.push(Param {
         mandatory,
         key,
@@ -80,7 +80,7 @@ fn is_done<A: Allocator>(done: &Done<A>, count: u32) -> bool {
     done.replies.is_empty() && done.handled.as_slice().iter().copied().eq(0..count)
 }
 
-fn is_one_name<A: Allocator>(names: &[Seq<u8, A>], name: &[u8]) -> bool {
+fn is_one_name<A: Allocator>(names: &[Short<A>], name: &[u8]) -> bool {
     match names {
         [] => name.is_empty(),
         [only] => only.as_slice() == name,
@@ -92,7 +92,7 @@ fn is_one_name<A: Allocator>(names: &[Seq<u8, A>], name: &[u8]) -> bool {
 fn is_unsupported<A: Allocator>(
     place: u32,
     kind: &[u8],
-    params: &[Seq<u8, A>],
+    params: &[Short<A>],
     expected: Expected,
 ) -> bool {
     match expected {

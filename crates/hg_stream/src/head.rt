@@ -13,7 +13,7 @@ use crate::interrupting::{Verdict, judge};
 use crate::payloads::Level;
 use crate::told::{header_fault, params_fault};
 use hg_params::{Head, read_header, read_stream_params};
-use hg_types::{Part, Payload, Seq};
+use hg_types::{Part, Payload, Seq, Short};
 use std::alloc::Allocator;
 
 /// The greatest well-formed header has so many bytes.
@@ -99,7 +99,7 @@ pub fn no_head<A: Allocator + Copy>(alloc: A) -> Head<A>
     ensures params { result.params ≡ [] }
 {
     Head {
-        kind: Seq::new(alloc),
+        kind: Short::new(alloc),
         id: 0,
         params: Seq::new(alloc),
     }

@@ -16,6 +16,7 @@ mod part;
 mod payload;
 mod phase;
 mod seq;
+mod short;
 
 pub use delta::Delta;
 pub use entry::Entry;
@@ -28,3 +29,4 @@ pub use part::{Param, Part};
 pub use payload::{Payload, TextHash};
 pub use phase::Phase;
 pub use seq::{Seq, try_clone_each};
+pub use short::Short;

@@ -6,6 +6,7 @@ ghost use Rattle.hg_types.specs.Part.{IsMandatory, IsFirstWith, LacksKey};
 use crate::memory::{NoMemory, TryClone};
 use crate::payload::Payload;
 use crate::seq::{Seq, try_clone_each};
+use crate::short::Short;
 use std::alloc::{Allocator, Global};
 
 /// A parameter of a part: a name and a value, both bytes. A mandatory one has to be understood by who handles
@@ -13,15 +14,15 @@ use std::alloc::{Allocator, Global};
 #[derive(Drop)]
 pub struct Param<A: Allocator = Global> {
     pub mandatory: bool,
-    pub key: Seq<u8, A>,
-    pub value: Seq<u8, A>,
+    pub key: Short<A>,
+    pub value: Short<A>,
 }
 
 /// A part of a bundle: its type in the case of its header, its id, its parameters, mandatory ones first, and
 /// its payload.
 #[derive(Drop)]
 pub struct Part<A: Allocator = Global> {
-    pub kind: Seq<u8, A>,
+    pub kind: Short<A>,
     pub id: u32,
     pub params: Seq<Param<A>, A>,
     pub payload: Payload<A>,

@@ -4,8 +4,8 @@ mod ample;
 mod hashes;
 
 use hg_types::{
-    CutReason, Item, Limits, NoMemory, Node, Param, Part, Payload, Phase, Seq, TryClone, What,
-    try_clone_each,
+    CutReason, Item, Limits, NoMemory, Node, Param, Part, Payload, Phase, Seq, Short, TryClone,
+    What, try_clone_each,
 };
 use linked_list_allocator::LocalHeap;
 use std::alloc::Allocator;
@@ -17,8 +17,8 @@ fn param<A: Allocator + Copy>(
     key: &[u8],
     value: &[u8],
 ) -> Result<Param<A>, NoMemory> {
-    let key = Seq::copy_of(alloc, key)?;
-    let value = Seq::copy_of(alloc, value)?;
+    let key = Short::copy_of(alloc, key)?;
+    let value = Short::copy_of(alloc, value)?;
     Ok(Param {
         mandatory,
         key,
@@ -28,7 +28,7 @@ fn param<A: Allocator + Copy>(
 
 /// A part with the keys `version`, `x` and `x` again.
 fn part<A: Allocator + Copy>(alloc: A, kind: &[u8]) -> Result<Part<A>, NoMemory> {
-    let kind = Seq::copy_of(alloc, kind)?;
+    let kind = Short::copy_of(alloc, kind)?;
     let mut params = Seq::new(alloc);
     params.push(param(alloc, true, b"version", b"02")?)?;
     params.push(param(alloc, false, b"x", b"1")?)?;
@@ -258,7 +258,7 @@ fn room_is_made_with_the_first_item(rt: HostRuntime) -> Result<(), Fail> {
 
 /// A part with a thousand parameters and a payload of 70,000 bytes.
 fn large_part<A: Allocator + Copy>(alloc: A) -> Result<Part<A>, NoMemory> {
-    let kind = Seq::copy_of(alloc, b"output")?;
+    let kind = Short::copy_of(alloc, b"output")?;
     let mut params = Seq::new(alloc);
     for _ in 0..1_000u32 {
         params.push(param(alloc, false, b"key", b"value")?)?;

@@ -1,9 +1,9 @@
 -- The part `bookmarks`: names, and the changeset that each is to be on, or none.
-use Rattle.std.specs.Prelude.{ℕ, Bool, List, [], ◌∷◌, Option, Some, None, Ok, Err, if◌then◌else◌}
+use Rattle.std.specs.Prelude.{ℕ, Bool, List, Option, Some, None, Ok, Err, if◌then◌else◌}
 use Rattle.std.specs.List.{list_all}
 use Rattle.hg_types.specs.declared.part.Part.{Part}
 use Rattle.hg_log.specs.Changeset.{Changeset}
-use Rattle.hg_keys.specs.Bookmarks.{Pairs, with_bookmark}
+use Rattle.hg_keys.specs.Bookmarks.{set_each}
 use Rattle.hg_keys.specs.Payload.{Entry, entries_of}
 use Rattle.hg_keys.specs.PushKey.{is_known_target}
 use Rattle.hg_parts.specs.declared.refusal.Refusal.TheVariants.{BadPart, UnknownNode}
@@ -13,11 +13,6 @@ use Rattle.hg_parts.specs.Handled.{Outcome}
 -- each changeset that a bookmark is to be on is known
 abbrev pub are_known : List Changeset → List Entry → Bool
 are_known rows entries = list_all (λ entry. is_known_target rows entry.0) entries
-
--- each name is set or deleted, in order
-abbrev pub set_each : List Entry → Pairs → Pairs
-set_each [] pairs = pairs
-set_each (entry ∷ entries) pairs = set_each entries (with_bookmark pairs entry.1 entry.0)
 
 -- sets each bookmark, where all changesets are known
 abbrev pub handle_entries : {A : Type 0} → Repository A → ℕ → List Entry → Outcome A

@@ -9,14 +9,15 @@ ghost use Rattle.std.specs.Prelude.{◌≡◌, true, OnOk};
 ghost use Rattle.hg_parts.specs.Handled.{Handles};
 ghost use Rattle.hg_keys.specs.Known.{AreOnKnown};
 ghost use Rattle.hg_parts.specs.Store.{repository_of, IsSound};
-ghost use Rattle.hg_parts.specs.parts.Bookmarks.{are_known, set_each, handle_bookmarks};
+ghost use Rattle.hg_keys.specs.Bookmarks.{set_each};
+ghost use Rattle.hg_parts.specs.parts.Bookmarks.{are_known, handle_bookmarks};
 
 use crate::refusal::Refusal;
 use crate::store::Store;
 use crate::turn::Turn;
 use hg_keys::{BookmarkFault, Bookmarks, is_known_target, read_bookmarks};
 use hg_log::Changelog;
-use hg_types::{NoMemory, Node, Part, Seq};
+use hg_types::{NoMemory, Node, Part, Seq, Short};
 use std::alloc::Allocator;
 
 /// Sets the bookmarks in the payload.
@@ -43,12 +44,12 @@ pub fn handle_bookmarks<A: Allocator + Copy>(
     if !are_known(&store.log, entries.as_slice()) {
         return Err(Refusal::UnknownNode { place });
     }
-    set_each(alloc, &store.log, &mut store.bookmarks, entries.as_slice())?;
+    set_each(alloc, &store.log, &mut store.bookmarks, entries)?;
     Ok(None)
 }
 
 /// Whether the changeset of each entry is known.
-fn are_known<A: Allocator>(log: &Changelog<A>, entries: &[(Option<Node>, Seq<u8, A>)]) -> bool
+fn are_known<A: Allocator>(log: &Changelog<A>, entries: &[(Option<Node>, Short<A>)]) -> bool
     ensures { result ≡ are_known log.now.rows entries.now }
 {
     entries.iter().all(|entry| is_known_target(log, entry.0))
@@ -59,16 +60,14 @@ fn set_each<A: Allocator + Copy>(
     alloc: A,
     log: &Changelog<A>,
     bookmarks: &mut Bookmarks<A>,
-    entries: &[(Option<Node>, Seq<u8, A>)],
+    entries: Seq<(Option<Node>, Short<A>), A>,
 ) -> Result<(), NoMemory>
-    requires entries { are_known log.now.rows entries.now ≡ true }
+    requires entries { are_known log.now.rows entries ≡ true }
     requires pairs { AreOnKnown log.now.rows bookmarks.old.current }
-    ensures ok { OnOk result (bookmarks.new.current ≡ set_each entries.now bookmarks.old.current) }
-    ensures pairs { AreOnKnown log.now.rows bookmarks.new.current }
+    ensures ok { OnOk result (bookmarks.new.current ≡ set_each entries bookmarks.old.current) }
+    ensures pairs { OnOk result (AreOnKnown log.now.rows bookmarks.new.current) }
     ensures marked { bookmarks.new.marked ≡ bookmarks.old.marked }
 {
-    for entry in entries {
-        bookmarks.set(alloc, entry.1.as_slice(), entry.0)?;
-    }
+    bookmarks.set_each(alloc, entries)?;
     Ok(())
 }

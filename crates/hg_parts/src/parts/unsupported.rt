@@ -9,7 +9,7 @@ ghost use Rattle.hg_parts.specs.parts.Unsupported.{handle_unsupported};
 
 use crate::refusal::Refusal;
 use crate::table::unknown_names;
-use hg_types::{NoMemory, Part, Seq};
+use hg_types::{NoMemory, Part, Short};
 use std::alloc::Allocator;
 
 /// Refuses the part where it is mandatory, and else ignores it.
@@ -36,7 +36,8 @@ fn unsupported<A: Allocator + Copy>(
     ensures { IfOk result (λ refusal.
         refusal ≡ Refusal.Unsupported place (lower part.now.kind) (unsupported_names part.now)) }
 {
-    let kind = Seq::from_vec(part.kind.as_slice().to_ascii_lowercase(alloc)?);
+    let kind = part.kind.as_slice().to_ascii_lowercase(alloc)?;
+    let kind = Short::copy_of(alloc, kind.as_slice())?;
     let params = unknown_names(alloc, part)?;
     Ok(Refusal::Unsupported {
         place,

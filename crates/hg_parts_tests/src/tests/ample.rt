@@ -2,6 +2,7 @@
 
 use super::*;
 use hg_parts::prepare;
+use hg_types::Short;
 
 /// A payload of nearly 64 MiB: its front, and so many rows after it.
 fn longest(alloc: Global, front: &[u8], row: &[u8], rows: usize) -> Result<Seq<u8>, NoMemory> {
@@ -15,7 +16,7 @@ fn longest(alloc: Global, front: &[u8], row: &[u8], rows: usize) -> Result<Seq<u
 
 /// Whether a part of that type and payload has that length, and is prepared.
 fn is_prepared(alloc: Global, kind: &[u8], payload: Seq<u8>, length: usize) -> bool {
-    match Seq::copy_of(alloc, kind) {
+    match Short::copy_of(alloc, kind) {
         Ok(kind) => {
             let is_long = payload.len() == length;
             let part = Part {

@@ -7,6 +7,7 @@ ghost use Rattle.hg_parts.specs.Store.{IsSound, IsGrown};
 use super::*;
 use hg_help_tests::parts::put_param;
 use hg_parts::laws::growing_adds_up;
+use hg_types::Short;
 
 /// A part: its type, its parameters, all mandatory, the pieces of its payload, and what becomes of it.
 type Step = (
@@ -72,7 +73,7 @@ fn part_of<A: Allocator + Copy>(alloc: A, step: &Step) -> Result<Part<A>, NoMemo
         payload.extend_from_slice(piece)?;
     }
     Ok(Part {
-        kind: Seq::copy_of(alloc, step.0)?,
+        kind: Short::copy_of(alloc, step.0)?,
         id: 1,
         params,
         payload: Payload::of(Seq::from_vec(payload)),
@@ -431,7 +432,7 @@ fn key_part<A: Allocator + Copy>(
     put_param(alloc, &mut params, true, b"old", old)?;
     put_param(alloc, &mut params, true, b"new", new)?;
     Ok(Part {
-        kind: Seq::copy_of(alloc, kind)?,
+        kind: Short::copy_of(alloc, kind)?,
         id: 1,
         params,
         payload: Payload::new(alloc),

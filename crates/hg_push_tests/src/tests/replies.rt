@@ -4,6 +4,7 @@ use super::*;
 use hg_keys::KeyCall;
 use hg_push::reply_bytes;
 use hg_repo::RaceText;
+use hg_types::Short;
 use std::alloc::Global;
 use std::test::*;
 
@@ -100,11 +101,11 @@ fn each_reason_that_aborts(rt: HostRuntime) {
 fn unsupported(alloc: Global, kind: &[u8], names: &[&[u8]]) -> Result<Reason<Refusal>, NoMemory> {
     let mut params = Seq::new(alloc);
     for name in names {
-        params.push(Seq::copy_of(alloc, *name)?)?;
+        params.push(Short::copy_of(alloc, *name)?)?;
     }
     Ok(Reason::Refused(Refusal::Unsupported {
         place: 0,
-        kind: Seq::copy_of(alloc, kind)?,
+        kind: Short::copy_of(alloc, kind)?,
         params,
     }))
 }

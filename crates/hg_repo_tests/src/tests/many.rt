@@ -3,6 +3,7 @@
 use super::*;
 use hg_log::node_id;
 use hg_repo::prepare;
+use hg_types::Short;
 
 /// As many parts as a push may have.
 const PARTS: usize = 10_000;
@@ -76,8 +77,8 @@ fn many_changesets<A: Allocator + Copy>(alloc: A) -> Result<Part<A>, NoMemory> {
     let mut group = part(alloc, b"CHANGEGROUP", 0, b"")?;
     group.params.push(Param {
         mandatory: true,
-        key: Seq::copy_of(alloc, b"version")?,
-        value: Seq::copy_of(alloc, b"02")?,
+        key: Short::copy_of(alloc, b"version")?,
+        value: Short::copy_of(alloc, b"02")?,
     })?;
     group.payload = Payload::of(Seq::from_vec(bytes));
     Ok(group)

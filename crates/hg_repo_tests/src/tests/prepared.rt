@@ -3,6 +3,7 @@
 
 use super::*;
 use hg_repo::{Prepared, prepare};
+use hg_types::Short;
 
 /// The id of the changeset of the empty text without parents.
 const ROOT: [u8; 20] = [
@@ -23,8 +24,8 @@ fn group<A: Allocator + Copy>(alloc: A, payload: &[u8]) -> Result<Part<A>, NoMem
     let mut group = part(alloc, b"CHANGEGROUP", 1, payload)?;
     group.params.push(Param {
         mandatory: true,
-        key: Seq::copy_of(alloc, b"version")?,
-        value: Seq::copy_of(alloc, b"02")?,
+        key: Short::copy_of(alloc, b"version")?,
+        value: Short::copy_of(alloc, b"02")?,
     })?;
     Ok(group)
 }

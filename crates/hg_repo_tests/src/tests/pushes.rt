@@ -2,6 +2,7 @@
 
 use super::*;
 use hg_help_tests::parts::put_param;
+use hg_types::Short;
 
 // ---- pieces of payloads
 
@@ -152,7 +153,7 @@ fn made<A: Allocator + Copy>(alloc: A, id: u32, recipe: &Recipe) -> Result<Part<
         payload.extend_from_slice(piece)?;
     }
     Ok(Part {
-        kind: Seq::copy_of(alloc, recipe.0)?,
+        kind: Short::copy_of(alloc, recipe.0)?,
         id,
         params,
         payload: Payload::of(Seq::from_vec(payload)),

@@ -4,7 +4,7 @@ ghost use Rattle.hg_serve.specs.Desks.{OpensWith};
 
 use super::*;
 use hg_serve::Awaiting;
-use hg_types::{Node, Param, Payload};
+use hg_types::{Node, Param, Payload, Short};
 use linked_list_allocator::LocalHeap;
 
 /// Takes all memory that is left, in blocks of 16 bytes, and gives some of them back, or all. A call can pick
@@ -63,8 +63,8 @@ fn version<A: Allocator + Copy>(alloc: A) -> Result<Seq<Param<A>, A>, NoMemory> 
     let mut params = Seq::new(alloc);
     params.push(Param {
         mandatory: true,
-        key: Seq::copy_of(alloc, b"version")?,
-        value: Seq::copy_of(alloc, b"02")?,
+        key: Short::copy_of(alloc, b"version")?,
+        value: Short::copy_of(alloc, b"02")?,
     })?;
     Ok(params)
 }
@@ -75,7 +75,7 @@ fn try_changegroup<A: Allocator + Copy>(
     parent: [u8; 20],
 ) -> Result<Part<A>, NoMemory> {
     Ok(Part {
-        kind: Seq::copy_of(alloc, b"CHANGEGROUP")?,
+        kind: Short::copy_of(alloc, b"CHANGEGROUP")?,
         id: 0,
         params: version(alloc)?,
         payload: Payload::of(Seq::copy_of(alloc, &changeset(node, parent))?),

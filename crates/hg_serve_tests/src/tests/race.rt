@@ -3,7 +3,7 @@
 
 use super::*;
 use hg_push::{Book, Standing};
-use hg_types::{Item, Param, What};
+use hg_types::{Item, Param, Short, What};
 
 /// The ids of the changesets without parents whose text is `a`, and `b`: SHA-1 of 40 zeros and the letter.
 const A_ROOT: [u8; 20] = [
@@ -45,8 +45,8 @@ pub fn group<R: Abort>(rt: &R, alloc: Global, payload: &[u8]) -> Part {
     group
 }
 
-fn copied<R: Abort>(rt: &R, alloc: Global, bytes: &[u8]) -> Seq<u8> {
-    match Seq::copy_of(alloc, bytes) {
+fn copied<R: Abort>(rt: &R, alloc: Global, bytes: &[u8]) -> Short {
+    match Short::copy_of(alloc, bytes) {
         Ok(copy) => copy,
         Err(_) => panic!(rt; "no memory for a name"),
     }

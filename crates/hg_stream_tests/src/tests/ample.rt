@@ -3,7 +3,7 @@
 use super::writing::written;
 use super::*;
 use hg_help_tests::parts::part_of;
-use hg_types::Param;
+use hg_types::{Param, Short};
 use linked_list_allocator::LocalHeap;
 
 /// More than a payload may have.
@@ -22,8 +22,8 @@ fn greatest_part<A: Allocator + Copy>(alloc: A) -> Result<Part<A>, NoMemory> {
         key[1] = low;
         part.params.push(Param {
             mandatory: place < 255,
-            key: Seq::copy_of(alloc, &key)?,
-            value: Seq::copy_of(alloc, &[b'v'; 255])?,
+            key: Short::copy_of(alloc, &key)?,
+            value: Short::copy_of(alloc, &[b'v'; 255])?,
         })?;
     }
     Ok(part)

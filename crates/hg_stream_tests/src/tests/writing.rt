@@ -7,7 +7,7 @@ ghost use Rattle.hg_stream.specs.Written.{CanBeWritten};
 use super::*;
 use hg_help_tests::parts::part_of;
 use hg_params::is_writable;
-use hg_types::Param;
+use hg_types::{Param, Short};
 
 fn can_be_written<A: Allocator>(part: &Part<A>) -> bool
     ensures { IsTrue result ↔ CanBeWritten part.now }
@@ -42,8 +42,8 @@ fn add_param<A: Allocator + Copy>(
 ) -> Result<(), NoMemory> {
     part.params.push(Param {
         mandatory,
-        key: Seq::copy_of(alloc, key)?,
-        value: Seq::copy_of(alloc, value)?,
+        key: Short::copy_of(alloc, key)?,
+        value: Short::copy_of(alloc, value)?,
     })
 }
 

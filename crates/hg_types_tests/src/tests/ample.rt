@@ -1,6 +1,7 @@
 //! Memory that is ample: no copy and no list wants for it, up to the limits on a push.
 
 use super::*;
+use hg_types::Short;
 
 /// More than two payloads of the greatest size.
 const AMPLE: usize = 160 * 1024 * 1024;
@@ -13,7 +14,7 @@ fn greatest_part<A: Allocator + Copy>(alloc: A) -> Result<Part<A>, NoMemory> {
         params.push(param(alloc, place < 255, &[b'k'; 255], &[b'v'; 255])?)?;
     }
     Ok(Part {
-        kind: Seq::copy_of(alloc, &[b'A'; 255])?,
+        kind: Short::copy_of(alloc, &[b'A'; 255])?,
         id: 7,
         params,
         payload: Payload::of(Seq::from_vec(vec![in alloc; 7u8; 67_108_864]?)),

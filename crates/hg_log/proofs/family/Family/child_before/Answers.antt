@@ -11,14 +11,14 @@ returns-then-begin_with g c =
     let linked = c.self.invariant in
     let low : c.args.child < length inside.parents.items = slice_get_within inside.parents.items c.args.child
     has.parents has.row_at in
-    let kept : slice_get inside.older.items c.args.child ≡ Some c.index-older.result.now =
+    let kept : slice_get inside.older.items c.args.child ≡ Some c.rows-older.result =
     slice_get_read inside.older.items (length inside.older.items) c.args.child _ refl
-    (omega (arith, low, linked.older_for)) c.index-older.ensures in
-    let at : slice_get inside.parents.items c.args.child ≡ Some c.index.result.now =
+    (omega (arith, low, linked.older_for)) c.index.ensures ∙ ap Some (sym c.rows-older.ensures) in
+    let at : slice_get inside.parents.items c.args.child ≡ Some c.rows.result =
     slice_get_read inside.parents.items (length inside.parents.items) c.args.child _ refl low
-    c.index.ensures in
+    c.index-2.ensures ∙ ap Some (sym c.rows.ensures) in
     rw (← c.self.view_is) (first_named inside.parents.items inside.newest.items inside.older.items linked
-    c.args.row c.args.child c.index.result.now c.index-older.result.now at kept (c.if-begin_with.ensures.0 refl))
+    c.args.row c.args.child c.rows.result c.rows-older.result at kept (c.if-begin_with.ensures.0 refl))
 
 pub returns-else-begin_with : goal.returns-else-begin_with
 returns-else-begin_with g c =
@@ -27,15 +27,15 @@ returns-else-begin_with g c =
     let linked = c.self.invariant in
     let low : c.args.child < length inside.parents.items = slice_get_within inside.parents.items c.args.child
     has.parents has.row_at in
-    let kept : slice_get inside.older.items c.args.child ≡ Some c.index-older.result.now =
+    let kept : slice_get inside.older.items c.args.child ≡ Some c.rows-older.result =
     slice_get_read inside.older.items (length inside.older.items) c.args.child _ refl
-    (omega (arith, low, linked.older_for)) c.index-older.ensures in
-    let at : slice_get inside.parents.items c.args.child ≡ Some c.index.result.now =
+    (omega (arith, low, linked.older_for)) c.index.ensures ∙ ap Some (sym c.rows-older.ensures) in
+    let at : slice_get inside.parents.items c.args.child ≡ Some c.rows.result =
     slice_get_read inside.parents.items (length inside.parents.items) c.args.child _ refl low
-    c.index.ensures in
-    let same : has.parents ≡ c.index.result.now = (let both = sym has.row_at ∙ at in cc) in
+    c.index-2.ensures ∙ ap Some (sym c.rows.ensures) in
+    let same : has.parents ≡ c.rows.result = (let both = sym has.row_at ∙ at in cc) in
     rw (← c.self.view_is) (second_named inside.parents.items inside.newest.items inside.older.items linked
-    c.args.row c.args.child c.index.result.now c.index-older.result.now at kept (elim has.named [
+    c.args.row c.args.child c.rows.result c.rows-older.result at kept (elim has.named [
       | inl e ↦ absurd (let told : false ≡ true = c.if-begin_with.ensures.1
           (ap (λ (q : Parents). q.p1) (sym same) ∙ e) in cc)
       | inr e ↦ ap (λ (q : Parents). q.p2) (sym same) ∙ e

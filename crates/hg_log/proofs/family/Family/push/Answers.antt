@@ -23,7 +23,7 @@ invariant_of-self-2 g c =
     ++ record { p1 = c.newest_child.result; p2 = c.newest_child-2.result } ∷ [] = search rules in
     linked_same _ _ _ _ _ _ (search rules)
     (c.put_child-2.ensures
-    ∙ rw (c.put_child.ensures, more, row) refl)
+    ∙ rw (c.put_child.ensures, more, c.to-3.ensures, c.to-4.ensures, row) refl)
     (was ∙ rw (first, second) refl)
     (linked_pushed inside.parents.items inside.newest.items inside.older.items c.self.invariant
     c.args.parents few early)
