@@ -58,7 +58,7 @@ pub fn handle_prepared<A: Allocator + Copy>(
         (repository_of turn.settings store.new) result }
 {
     let Prepared { reading, part } = prepared;
-    handle_reading(alloc, store, turn, reading, &part)
+    handle_reading(alloc, store, turn, reading, part.as_part())
 }
 
 /// Handles what was read of a part, as the definition `handle_reading` says. Of a part whose payload was

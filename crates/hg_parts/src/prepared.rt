@@ -18,7 +18,7 @@ use crate::parts::phase_heads::read_phase_heads;
 use crate::table::{PartType, supported_type};
 use hg_cgroup::hash_texts;
 use hg_checks::CheckKind;
-use hg_types::{Entry, NoMemory, Node, Part, Payload, Phase, Seq};
+use hg_types::{BoxedPart, Entry, NoMemory, Node, Part, Phase, Seq};
 use std::alloc::{Allocator, Global};
 
 /// What a part says without the repository. A type of part that is named alone is read in its turn.
@@ -50,25 +50,27 @@ pub enum Reading<A: Allocator = Global> {
 pub struct Prepared<A: Allocator = Global> {
     pub(crate) reading: Reading<A>,
     /// Without its payload, where that was read, or the part is not supported or has a fault.
-    pub(crate) part: Part<A>,
+    pub(crate) part: BoxedPart<A>,
 }
 
 /// Reads a part as far as that goes without the repository, and drops what was read.
 #[tactic(auto, unfolding(crate::specs::Prepared::IsMadeOf))]
-pub fn prepare<A: Allocator + Copy>(alloc: A, part: Part<A>) -> Result<Prepared<A>, NoMemory>
+pub fn prepare<A: Allocator + Copy>(alloc: A, part: BoxedPart<A>) -> Result<Prepared<A>, NoMemory>
     ensures { IfOk result (λ prepared. IsMadeOf part prepared) }
 {
-    let reading = read_part(alloc, &part)?;
-    Ok(keep(alloc, part, reading))
+    let reading = read_part(alloc, part.as_part())?;
+    Ok(keep(part, reading))
 }
 
 /// Hashes the texts that a part's payload carries whole, before the part's turn comes. The part is as it was:
 /// [`prepare`] takes these hashes over, so that they are not made where others wait.
-pub fn hash_ahead<A: Allocator>(mut part: Part<A>) -> Part<A>
+pub fn hash_ahead<A: Allocator + Copy>(mut part: BoxedPart<A>) -> BoxedPart<A>
     ensures { result ≡ part }
 {
-    if is_group_with_bases(&part) {
-        hash_texts(&mut part.payload);
+    if is_group_with_bases(part.as_part()) {
+        let mut payload = part.take_payload();
+        hash_texts(&mut payload);
+        part.set_payload(payload);
     }
     part
 }
@@ -89,11 +91,11 @@ impl<A: Allocator> Prepared<A> {
 }
 
 /// What is kept of a part that was read so.
-fn keep<A: Allocator + Copy>(alloc: A, mut part: Part<A>, reading: Reading<A>) -> Prepared<A>
+fn keep<A: Allocator + Copy>(mut part: BoxedPart<A>, reading: Reading<A>) -> Prepared<A>
     ensures { result ≡ kept_with part reading }
 {
     if is_read(&reading) {
-        part.payload = Payload::new(alloc);
+        drop(part.take_payload());
     }
     Prepared { reading, part }
 }

@@ -18,7 +18,7 @@ ghost use Rattle.hg_push.specs.Reply.{CanBeSent, KeepsTellable};
 use crate::outcome::{Outcome, Reason, Standing};
 use crate::row::{Row, State};
 use hg_repo::{Done, Prepared, Refusal, Repo, Source, prepare};
-use hg_types::{NoMemory, Part, Seq, What};
+use hg_types::{BoxedPart, NoMemory, Seq, What};
 use std::alloc::Allocator;
 use std::collections::VecDeque;
 use std::mem;
@@ -154,7 +154,7 @@ fn stage<A: Allocator + Copy>(
     alloc: A,
     row: &mut Row<Done<A>, Refusal<A>, A>,
     index: u32,
-    part: Part<A>,
+    part: BoxedPart<A>,
 ) -> bool
     requires { is_open row.old.state ≡ true }
     ensures steps { (old : Serial (RepositoryOf A)) → StepsRow run_push old row.old

@@ -24,7 +24,7 @@ use crate::rule::{
 use crate::seat::{Full, Mark, Marked, Putter, Seat, Taker, Visitor};
 use crate::view::View;
 use crossbeam_queue::RuledArrayQueue;
-use hg_types::{Item, NoMemory, Part, What};
+use hg_types::{BoxedPart, Item, NoMemory, What};
 use std::alloc::{Allocator, Global};
 use std::marker::Brand;
 use std::sync::Wait;
@@ -96,7 +96,7 @@ impl<A: Allocator> PartQueue<A> {
         &self,
         rt: &R,
         putter: &mut Putter<A>,
-        part: Part<A>,
+        part: BoxedPart<A>,
     ) -> Result<(), Full<A>>
         requires putter { IsPutterOf self.now putter.old }
         requires room { length (putter_view putter.old).put < 10000 }

@@ -25,7 +25,7 @@ use crate::question::Question;
 use hg_push::OpenFault;
 use hg_queue::{Full, Mark, PartQueue, Taker};
 use hg_repo::Repo;
-use hg_types::{CutReason, Limits, NoMemory, Part};
+use hg_types::{BoxedPart, CutReason, Limits, NoMemory};
 use std::alloc::{Allocator, Global};
 use std::fmt;
 use std::marker::{Model, PhantomData};
@@ -43,10 +43,10 @@ const LOOKS: u32 = 8;
 pub enum PutFault<A: Allocator = Global> {
     /// 1: its push has 10,000 parts.
     #[error("the push has 10,000 parts")]
-    TooMany(Part<A>),
+    TooMany(BoxedPart<A>),
     /// 2: the queue was full at one moment of the call.
     #[error("the queue is full")]
-    Full(Part<A>),
+    Full(BoxedPart<A>),
 }
 
 impl<A: Allocator> fmt::Debug for PutFault<A> {
@@ -179,7 +179,7 @@ impl<J: Naming<A>, A: Allocator + Copy> Server<J, A> {
         &self,
         rt: &R,
         sender: &mut Sender<J, A>,
-        part: Part<A>,
+        part: BoxedPart<A>,
     ) -> Result<(), PutFault<A>>
         ensures { TriesPut J.capacity sender.old part result sender.new }
     {
@@ -198,9 +198,9 @@ impl<J: Naming<A>, A: Allocator + Copy> Server<J, A> {
         &self,
         rt: &R,
         sender: &mut Sender<J, A>,
-        part: Part<A>,
+        part: BoxedPart<A>,
         gate: &mut G,
-    ) -> Result<(), Part<A>>
+    ) -> Result<(), BoxedPart<A>>
         ensures { MatchResult result
             (λ _. PutsNext sender.old (a_part part) sender.new)
             (λ back. (back ≡ part) × GoesOn sender.old sender.new sender.old.putter.put

@@ -16,7 +16,7 @@ pub fn all_parts<A: Allocator + Copy>(
 {
     let mut parts = Vec::new(alloc);
     while let Some(part) = bundle.next_part() {
-        parts.push(part)?;
+        parts.push(part.into_part())?;
     }
     Ok(parts)
 }

@@ -19,7 +19,7 @@ use crate::state::State;
 use crate::told::{block_fault, chunk_fault};
 use hg_chunks::{SizeField, Step};
 use hg_params::Head;
-use hg_types::{Limits, Part, Seq};
+use hg_types::{BoxedPart, Limits, Seq};
 use std::alloc::{Allocator, Global};
 use std::collections::VecDeque;
 use std::mem;
@@ -70,7 +70,7 @@ pub struct Unbundler<A: Allocator = Global> {
     head: Head<A>,
     payloads: Payloads<A>,
     /// The parts that were finished and not yet given.
-    ready: VecDeque<Part<A>, A>,
+    ready: VecDeque<BoxedPart<A>, A>,
     ghost allowed: { IsAllowed limits },
     ghost part_goes_on: { IsGoing (phase_of payloads.part) },
     ghost interrupting_goes_on: { IsGoing (phase_of payloads.interrupting) },
@@ -131,7 +131,7 @@ impl<A: Allocator + Copy> Unbundler<A> {
     }
 
     /// Gives the next finished part, in the order of the stream.
-    pub fn next_part(&mut self) -> Option<Part<A>>
+    pub fn next_part(&mut self) -> Option<BoxedPart<A>>
         ensures part { IfSome result (λ part. ready_of self.old ≡ part ∷ ready_of self.new) }
         ensures none { IfNone result ((ready_of self.old ≡ []) × (ready_of self.new ≡ [])) }
         ensures holds { (given : List (Part A)) (bytes : List ℕ) → HoldsBundle self.old given bytes →
@@ -434,7 +434,10 @@ impl<A: Allocator + Copy> Unbundler<A> {
         ensures stream_left { self.new.stream_left ≡ self.old.stream_left }
     {
         let head = mem::replace(&mut self.head, no_head(self.alloc));
-        if self.ready.push_back(make_part(head, payload)).is_err() {
+        let Ok(part) = BoxedPart::new(self.alloc, make_part(head, payload)) else {
+            return Err(StreamFault::NoMemory);
+        };
+        if self.ready.push_back(part).is_err() {
             return Err(StreamFault::NoMemory);
         }
         self.parts_left = self.parts_left.saturating_sub(1);

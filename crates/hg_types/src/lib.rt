@@ -5,6 +5,7 @@
 //! [`Payload`] and of a [`Delta`] may have hashes beside them, which contracts do not see.
 #![tactic(auto)]
 
+mod boxed;
 mod delta;
 mod entry;
 mod item;
@@ -18,6 +19,7 @@ mod phase;
 mod seq;
 mod short;
 
+pub use boxed::BoxedPart;
 pub use delta::Delta;
 pub use entry::Entry;
 pub use item::{CutReason, Item, Taken, What};

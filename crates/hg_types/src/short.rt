@@ -7,31 +7,27 @@ use std::alloc::{Allocator, Global};
 use std::marker::Model;
 
 /// How many bytes take no memory of their own.
-const HERE: usize = 23;
+const HERE: usize = 15;
 
-/// Where bytes stand.
-#[derive(Drop)]
-enum Place<A: Allocator = Global> {
-    /// So many are here.
-    Here(u8, [u8; 23]),
-    Far(Vec<u8, A>),
-}
-
-/// Bytes, of which up to 23 take no memory of their own. Contracts see the list of them.
+/// Bytes, of which up to 15 take no memory of their own. Contracts see the list of them.
 #[derive(Drop)]
 pub struct Short<A: Allocator = Global> {
-    place: Place<A>,
+    /// How many bytes are here, where there are none in `far`.
+    count: u8,
+    here: [u8; 15],
+    far: Vec<u8, A>,
 }
 
 impl<A: Allocator> Model for Short<A> {
     ghost use Rattle.std.specs.Prelude.{List, ℕ};
-    ghost use Rattle.hg_types.specs.code.Short.{bytes_in, IsSound};
+    ghost use Rattle.std.specs.Prelude.{◌≤◌};
+    ghost use Rattle.hg_types.specs.code.Short.{bytes_in};
 
     ghost Value = { List ℕ };
 
-    ghost view = { λ s. bytes_in s.place };
+    ghost view = { λ s. bytes_in s.count s.here s.far.items };
 
-    ghost invariant = { λ s. IsSound s.place };
+    ghost invariant = { λ s. s.count ≤ 15 };
 }
 
 impl<A: Allocator> Short<A> {
@@ -46,20 +42,22 @@ impl<A: Allocator> Short<A> {
     pub fn as_slice(&self) -> &[u8]
         ensures { result.now ≡ self.now }
     {
-        match &self.place {
-            Place::Here(count, bytes) => &bytes[..*count as usize],
-            Place::Far(bytes) => bytes.as_slice(),
+        if self.far.is_empty() {
+            return &self.here[..self.count as usize];
         }
+        self.far.as_slice()
     }
 }
 
 impl<A: Allocator + Copy> Short<A> {
     /// No bytes.
-    pub fn new(_alloc: A) -> Self
+    pub fn new(alloc: A) -> Self
         ensures { result ≡ [] }
     {
         Short {
-            place: Place::Here(0, [0; 23]),
+            count: 0,
+            here: [0; 15],
+            far: Vec::new(alloc),
         }
     }
 
@@ -68,13 +66,20 @@ impl<A: Allocator + Copy> Short<A> {
         ensures { IfOk result (λ copy. copy ≡ bytes.now) }
     {
         if bytes.len() > HERE {
-            let place = Place::Far(Vec::from_slice(alloc, bytes)?);
-            return Ok(Short { place });
+            let far = Vec::from_slice(alloc, bytes)?;
+            return Ok(Short {
+                count: 0,
+                here: [0; 15],
+                far,
+            });
         }
-        let mut here = [0; 23];
+        let mut here = [0; 15];
         here[..bytes.len()].copy_from_slice(bytes);
-        let place = Place::Here(bytes.len() as u8, here);
-        Ok(Short { place })
+        Ok(Short {
+            count: bytes.len() as u8,
+            here,
+            far: Vec::new(alloc),
+        })
     }
 }
 

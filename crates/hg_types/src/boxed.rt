@@ -1,0 +1,74 @@
+//! A part in a block of memory of its own.
+
+ghost use Rattle.std.specs.Prelude.{◌≡◌, [], IfOk};
+
+use crate::memory::{NoMemory, TryClone};
+use crate::part::Part;
+use crate::payload::Payload;
+use std::alloc::{Allocator, Global};
+use std::marker::Model;
+use std::mem;
+
+/// A part in a block of memory of its own, so that it moves from hand to hand as a pointer. Contracts see the
+/// part.
+#[derive(Drop)]
+pub struct BoxedPart<A: Allocator = Global> {
+    block: Box<Part<A>, A>,
+}
+
+impl<A: Allocator> Model for BoxedPart<A> {
+    ghost use Rattle.hg_types.specs.declared.part.Part.{Part as PartValue};
+
+    ghost Value = { PartValue A };
+
+    ghost view = { λ b. b.block.value };
+}
+
+impl<A: Allocator> BoxedPart<A> {
+    /// The part, in a block that is asked for. A part that memory is refused for is dropped.
+    pub fn new(alloc: A, part: Part<A>) -> Result<Self, NoMemory>
+        ensures { IfOk result (λ boxed. boxed ≡ part) }
+    {
+        let block = Box::new(alloc, part)?;
+        Ok(BoxedPart { block })
+    }
+
+    /// The part.
+    pub fn as_part(&self) -> &Part<A>
+        ensures { result.now ≡ self.now }
+    {
+        self.block.as_ref()
+    }
+
+    /// The part without its block, which is given back.
+    pub fn into_part(self) -> Part<A>
+        ensures { result ≡ self }
+    {
+        let BoxedPart { block } = self;
+        Box::into_inner(block)
+    }
+
+    /// Takes the payload out of the part, which has none then.
+    pub fn take_payload(&mut self) -> Payload<A>
+    where
+        A: Copy,
+        ensures payload { result ≡ self.old.payload }
+        ensures part { self.new ≡ record self.old { payload = [] } }
+    {
+        let none = Payload::new(*Box::allocator(&self.block));
+        mem::replace(&mut self.block.payload, none)
+    }
+
+    /// Gives the part this payload, in the place of its own.
+    pub fn set_payload(&mut self, payload: Payload<A>)
+        ensures { self.new ≡ record self.old { payload = payload } }
+    {
+        self.block.payload = payload;
+    }
+}
+
+impl<A: Allocator + Copy> TryClone<A> for BoxedPart<A> {
+    fn try_clone(&self, alloc: A) -> Result<Self, NoMemory> {
+        BoxedPart::new(alloc, self.as_part().try_clone(alloc)?)
+    }
+}
