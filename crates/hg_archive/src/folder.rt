@@ -12,7 +12,7 @@ use crate::fault::{ArchiveFault, Fault, NamedFile, StoreEnd};
 use crate::host::{FolderShelf, fault_of, opening_fault};
 use crate::report::send_report;
 use hg_devices::Writer;
-use hg_store::{Calls, PlacedFile, hold, path_in, read_all};
+use hg_store::{Calls, PlacedFile, hold, path_in, read_all, sync_folder};
 use std::alloc::Allocator;
 use std::fs;
 use std::fs::{File, Files, OpenOptions};
@@ -81,7 +81,7 @@ pub fn file_log<'a, R: Files<File = File>, A: Allocator + Copy>(
     to: &'a str,
 ) -> Result<StoreEnd, ArchiveFault<'a>> {
     let file = store_bytes(files, alloc, folder)?;
-    about(make_folder(files, to), NamedFile::Folder(to))?;
+    about(make_folder(files, alloc, to), NamedFile::Folder(to))?;
     let mut shelf = FolderShelf::of(files, alloc, to);
     match put_log(alloc, file, from, &mut shelf) {
         Ok(ending) => Ok(ending),
@@ -157,10 +157,17 @@ fn shelf_name<'a>(folder: &'a str, to: &'a str, place: usize, fault: Fault) -> N
     }
 }
 
-/// Makes the folder, unless it is there.
-fn make_folder<R: Files<File = File>>(files: &R, folder: &str) -> Result<(), Fault> {
+/// Makes the folder and syncs the one that has it, unless it is there.
+fn make_folder<R: Files<File = File>, A: Allocator + Copy>(
+    files: &R,
+    alloc: A,
+    folder: &str,
+) -> Result<(), Fault> {
     match fs::create_dir(files, folder) {
-        Ok(()) => Ok(()),
+        Ok(()) => {
+            let above = path_in(alloc, folder, "..")?;
+            sync_folder(files, above.as_str()).map_err(fault_of)
+        }
         Err(error) if error.kind() == ErrorKind::AlreadyExists => Ok(()),
         Err(error) => Err(fault_of(error)),
     }

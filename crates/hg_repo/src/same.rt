@@ -81,7 +81,10 @@ fn are_same_bookmarks<A: Allocator>(bookmarks: &Bookmarks<A>, other: &Bookmarks<
         let Some((other_name, other_node)) = others.next() else {
             return false;
         };
-        if name != other_name || node != other_node {
+        if name != other_name {
+            return false;
+        }
+        if node != other_node {
             return false;
         }
     }

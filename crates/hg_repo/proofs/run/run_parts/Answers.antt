@@ -1,4 +1,5 @@
-use Rattle.std.proofs.Common.{rules, ◌≡◌, ◌∙◌, ◌+◌, ℕ, List, length, inl, inr, Ok, Err, sym, ap, subst, arith}
+use Rattle.std.proofs.Common.{◌≡◌, ◌∙◌, ◌+◌, ℕ, List, length, inl, inr, Ok, Err, sym, ap, subst, arith}
+use Rattle.std.proofs.lemmas.Result.{err_from_is_err_and}
 use Rattle.std.proofs.Common.{◌||◌}
 use Rattle.std.proofs.lemmas.Bool.{or_left}
 use Rattle.hg_types.specs.declared.part.Part.{Part}
@@ -65,7 +66,8 @@ returns-in_err-reply-clause-gives g c =
       replying = c.loop-place.replying;
       replies = c.loop-place.replies;
     } in
-    let told : c.from_residual.result ≡ Err refusal = search rules in
+    let p = err_from_is_err_and c.from_residual.result c.from_residual.ensures.1 in
+    let told : c.from_residual.result ≡ Err refusal = p.1 ∙ ap Err p.2 in
     subst (λ result. PartsGive (run_of c.args.source repo c.args.parts.now) next result) (sym told)
     (elim c.in_err-reply.ensures.gives [
       | inl none ↦ inl none
