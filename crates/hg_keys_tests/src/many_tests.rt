@@ -76,7 +76,9 @@ fn is_copied<'h>(heap: &'h LocalHeap, bookmarks: &Bookmarks<&'h LocalHeap>) -> b
 }
 
 /// Names that come, are looked up, copied, moved after a mark and taken back. What a heap keeps grows with
-/// what is set, and for the way back with what is changed.
+/// what is set, and for the way back with what is changed. A name takes 72 bytes in a block that is half full, and a
+/// little for the list of blocks. Few changes take room for 8 of 112 bytes, and for each of the two names that went
+/// one block of 80 to come back in.
 fn many_are_told(heap: &LocalHeap, long: &[u8]) -> bool {
     let mut bookmarks = Bookmarks::new(heap);
     let is_new = heap.used() == 0;
@@ -97,7 +99,7 @@ fn many_are_told(heap: &LocalHeap, long: &[u8]) -> bool {
     let is_long = is_long && bookmarks.get(long) == Some(THERE);
     let is_long = is_long && bookmarks.try_clone(heap).is_ok();
     let many = usize::from(MANY);
-    let is_small = set <= 144 * many && few <= set.saturating_add(1024) && moved <= 384 * many;
+    let is_small = set <= 145 * many && few <= set.saturating_add(1_056) && moved <= 384 * many;
     let takes_none = takes_none & is_new;
     is_set & is_copied & takes_none & has_few & is_moved & is_back & is_long & is_small
 }

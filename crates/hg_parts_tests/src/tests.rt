@@ -14,7 +14,9 @@ use hg_parts::{
     Prepared, RaceText, Refusal, Source, Store, Turn, handle_part, handle_prepared, prepare,
     starts_replies,
 };
-use hg_types::{Limits, NoMemory, Node, Param, Part, Payload, Phase, Seq, Settings, Short};
+use hg_types::{
+    BoxedPart, Limits, NoMemory, Node, Param, Part, Payload, Phase, Seq, Settings, Short,
+};
 use linked_list_allocator::LocalHeap;
 use std::alloc::{Allocator, Global};
 use std::hash::RandomState;
@@ -342,7 +344,7 @@ fn came_on_clone(
 fn cloned(alloc: Global, state: RandomState) -> Result<bool, NoMemory> {
     let seed = group(alloc, &[root(ROOT)])?;
     let push = group(alloc, &[child(ROOT, NULL, b'b')])?;
-    let prepared = prepare(alloc, push)?;
+    let prepared = prepare(alloc, BoxedPart::new(alloc, push)?)?;
     let mut held = empty(alloc, state, false);
     let first = run(alloc, &mut held, Source::Push, &seed);
     let came = came_on_clone(alloc, &held, prepared);
@@ -557,7 +559,8 @@ fn one_part_alone(rt: HostRuntime) -> Result<(), Fail> {
 fn starts(alloc: Global, kind: &[u8], key: &[u8]) -> Result<(bool, bool), NoMemory> {
     let part = part(alloc, kind, key, b"", b"")?;
     let starts = starts_replies(&part);
-    Ok((starts, prepare(alloc, part)?.starts_replies()))
+    let prepared = prepare(alloc, BoxedPart::new(alloc, part)?)?;
+    Ok((starts, prepared.starts_replies()))
 }
 
 // `ReplyCaps`; `replycaps` with the mandatory parameter `x`; `output`. Result: parts after the

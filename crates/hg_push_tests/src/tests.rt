@@ -11,7 +11,7 @@ ghost use Rattle.std.specs.Prelude.{◌≤◌};
 use hg_help_tests::parts::{part_of, settings};
 use hg_push::{Book, Outcome, Reason};
 use hg_repo::{Done, Refusal, Repo};
-use hg_types::{CutReason, Item, NoMemory, Param, Part, Payload, Seq, Short, What};
+use hg_types::{BoxedPart, CutReason, Item, NoMemory, Param, Payload, Seq, Short, What};
 use std::alloc::Allocator;
 use std::hash::RandomState;
 
@@ -35,8 +35,12 @@ fn empty_book<A: Allocator + Copy>(alloc: A, state: RandomState) -> Book<A> {
 }
 
 /// A part without parameters.
-fn part<A: Allocator + Copy>(alloc: A, kind: &[u8], payload: &[u8]) -> Result<Part<A>, NoMemory> {
-    part_of(alloc, kind, 0, payload)
+fn part<A: Allocator + Copy>(
+    alloc: A,
+    kind: &[u8],
+    payload: &[u8],
+) -> Result<BoxedPart<A>, NoMemory> {
+    BoxedPart::new(alloc, part_of(alloc, kind, 0, payload)?)
 }
 
 /// A part with one parameter.
@@ -46,8 +50,8 @@ fn part_with<A: Allocator + Copy>(
     mandatory: bool,
     key: &[u8],
     value: &[u8],
-) -> Result<Part<A>, NoMemory> {
-    let mut part = part(alloc, kind, b"")?;
+) -> Result<BoxedPart<A>, NoMemory> {
+    let mut part = part_of(alloc, kind, 0, b"")?;
     let key = Short::copy_of(alloc, key)?;
     let value = Short::copy_of(alloc, value)?;
     part.params.push(Param {
@@ -55,10 +59,10 @@ fn part_with<A: Allocator + Copy>(
         key,
         value,
     })?;
-    Ok(part)
+    BoxedPart::new(alloc, part)
 }
 
-fn a_part<A: Allocator>(push: u32, index: u32, part: Part<A>) -> Item<A> {
+fn a_part<A: Allocator>(push: u32, index: u32, part: BoxedPart<A>) -> Item<A> {
     Item {
         push,
         index,
@@ -79,7 +83,7 @@ fn put<A: Allocator + Copy>(
     book: &mut Book<A>,
     push: u32,
     index: u32,
-    part: Result<Part<A>, NoMemory>,
+    part: Result<BoxedPart<A>, NoMemory>,
 ) -> bool {
     match part {
         Ok(part) => !book.step(a_part(push, index, part)),

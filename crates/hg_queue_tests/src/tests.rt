@@ -7,7 +7,7 @@ ghost use Rattle.hg_queue.specs.Words.{putter_view, taker_view, history, seen, t
 ghost use Rattle.hg_queue.specs.Words.{IsTakerOf, IsPutterOf, IsMarkedOf, IsVisitorOf};
 
 use hg_queue::{Full, Mark, Marked, PartQueue, Putter, Taker, Visitor};
-use hg_types::{CutReason, Item, Part, Payload, Seq, Short, What};
+use hg_types::{BoxedPart, CutReason, Item, NoMemory, Part, Payload, Seq, Short, What};
 use linked_list_allocator::LocalHeap;
 use std::alloc::{Allocator, Global};
 use std::sync::Wait;
@@ -18,14 +18,15 @@ use std::thread::{Threads, join_mut};
 // How many parts each push of the test with threads puts.
 const PARTS: u32 = 500;
 
-// A part of that id, which takes no memory.
-fn part<A: Allocator + Copy>(alloc: A, id: u32) -> Part<A> {
-    Part {
+// A part of that id, which takes no memory but its block.
+fn part<A: Allocator + Copy>(alloc: A, id: u32) -> Result<BoxedPart<A>, NoMemory> {
+    let part = Part {
         kind: Short::new(alloc),
         id,
         params: Seq::new(alloc),
         payload: Payload::new(alloc),
-    }
+    };
+    BoxedPart::new(alloc, part)
 }
 
 // Puts a push's parts, each with its index as its id.
@@ -38,7 +39,11 @@ fn put_parts<R: Wait>(rt: &R, alloc: Global, queue: &PartQueue, putter: &mut Put
         if index >= PARTS {
             break;
         }
-        if queue.try_put(rt, putter, part(alloc, index)).is_err() {
+        let is_put = match part(alloc, index) {
+            Ok(part) => queue.try_put(rt, putter, part).is_ok(),
+            Err(NoMemory) => false,
+        };
+        if !is_put {
             thread::yield_now();
         }
     }
@@ -89,7 +94,7 @@ impl Due {
             self.second
         };
         let is_due = match &item.what {
-            What::Part(part) => part.id == due && item.index == due,
+            What::Part(part) => part.as_part().id == due && item.index == due,
             _ => false,
         };
         if item.push > 1 || !is_due {
@@ -186,7 +191,7 @@ enum Kind {
 
 fn kind_of<A: Allocator>(what: &What<A>) -> Kind {
     match what {
-        What::Part(part) => Kind::Part(part.id),
+        What::Part(part) => Kind::Part(part.as_part().id),
         What::End => Kind::End,
         What::Cut(reason) => Kind::Cut(*reason),
     }
@@ -211,15 +216,16 @@ fn take_one<A: Allocator, R: Wait>(
 #[test]
 fn queue_of_two(rt: HostRuntime) -> Result<(), Fail> {
     let alloc = rt.alloc();
+    let (seven, eight) = (part(alloc, 7)?, part(alloc, 8)?);
     let (queue, mut taker) = PartQueue::new(alloc, 2)?;
     let mut first = putter_of(&queue, &mut taker, 0);
     let mut second = putter_of(&queue, &mut taker, 1);
-    assert!(rt; queue.try_put(&rt, &mut first, part(alloc, 7)).is_ok());
+    assert!(rt; queue.try_put(&rt, &mut first, seven).is_ok());
     assert_eq!(rt; first.parts(), 1);
     end(&rt, &queue, &mut taker, first, Mark::End);
-    match queue.try_put(&rt, &mut second, part(alloc, 8)) {
+    match queue.try_put(&rt, &mut second, eight) {
         Ok(()) => panic!(rt; "the queue was full"),
-        Err(Full(back)) => assert_eq!(rt; back.id, 8),
+        Err(Full(back)) => assert_eq!(rt; back.as_part().id, 8),
     }
     assert_eq!(rt; (second.push(), second.parts()), (1, 0));
     assert_eq!(rt;
@@ -238,9 +244,10 @@ fn queue_of_two(rt: HostRuntime) -> Result<(), Fail> {
 #[test]
 fn mark_at_a_full_queue(rt: HostRuntime) -> Result<(), Fail> {
     let alloc = rt.alloc();
+    let nine = part(alloc, 9)?;
     let (queue, mut taker) = PartQueue::new(alloc, 1)?;
     let mut putter = putter_of(&queue, &mut taker, 4);
-    assert!(rt; queue.try_put(&rt, &mut putter, part(alloc, 9)).is_ok());
+    assert!(rt; queue.try_put(&rt, &mut putter, nine).is_ok());
     match queue.try_mark(&rt, putter, Mark::Cut(CutReason::GaveUp)) {
         Ok(_marked) => panic!(rt; "the queue was full"),
         Err((back, mark)) => {
@@ -318,10 +325,11 @@ fn take_and_show<R: Wait>(
 #[test]
 fn told_refusals_are_shown(rt: HostRuntime) -> Result<(), Fail> {
     let alloc = rt.alloc();
+    let first = part(alloc, 0)?;
     let (queue, mut taker) = PartQueue::new(alloc, 2)?;
     let mut putter = putter_of(&queue, &mut taker, 0);
     let mut visitor = visitor_of(&queue, &mut taker);
-    assert!(rt; queue.try_put(&rt, &mut putter, part(alloc, 0)).is_ok());
+    assert!(rt; queue.try_put(&rt, &mut putter, first).is_ok());
     let marked = put_mark(&rt, &queue, putter, Mark::End);
     assert!(rt; take_and_show(&rt, &queue, &mut taker, &mut visitor));
     let visitor = queue.take_in(&mut taker, marked, visitor);
@@ -357,11 +365,12 @@ fn take_and_copy<R: Wait>(
 #[test]
 fn told_refusals_are_copied(rt: HostRuntime) -> Result<(), Fail> {
     let alloc = rt.alloc();
+    let (five, six) = (part(alloc, 5)?, part(alloc, 6)?);
     let (queue, mut taker) = PartQueue::new(alloc, 2)?;
     let mut putter = putter_of(&queue, &mut taker, 0);
     let mut visitor = visitor_of(&queue, &mut taker);
-    assert!(rt; queue.try_put(&rt, &mut putter, part(alloc, 5)).is_ok());
-    assert!(rt; queue.try_put(&rt, &mut putter, part(alloc, 6)).is_ok());
+    assert!(rt; queue.try_put(&rt, &mut putter, five).is_ok());
+    assert!(rt; queue.try_put(&rt, &mut putter, six).is_ok());
     assert!(rt; take_and_copy(&rt, &queue, &mut taker, &mut visitor));
     assert_eq!(rt;
         take_one(&rt, &queue, &mut taker),
@@ -384,22 +393,26 @@ fn look_on<A: Allocator>(queue: &PartQueue<A>, taker: &mut Taker<A>, visitor: &m
     queue.copy_history(taker, visitor);
 }
 
-// A queue of two places over a heap, looked on where it is empty, where it is full, between a put that found
-// it full and the next, after the mark and after the last take. Result: each item comes in its order and
-// once, a put finds room where there is some and none where there is none, and no memory is taken.
+// A queue of two places over a heap, with parts over another one, looked on where it is empty, where it is full,
+// between a put that found it full and the next, after the mark and after the last take. Result: each item comes in
+// its order and once, a put finds room where there is some and none where there is none, and no memory is taken;
+// that of the parts is given back.
 #[test]
 fn looking_on_takes_nothing(rt: HostRuntime) -> Result<(), Fail> {
     let heap = LocalHeap::new(rt.alloc(), 4_096)?;
+    let parts = LocalHeap::new(rt.alloc(), 4_096)?;
+    let (first, second) = (part(&parts, 0)?, part(&parts, 1)?);
+    let third = part(&parts, 2)?;
     let (queue, mut taker) = PartQueue::new(&heap, 2)?;
     let made = heap.used();
     let mut visitor = visitor_of(&queue, &mut taker);
     let mut putter = putter_of(&queue, &mut taker, 3);
     look_on(&queue, &mut taker, &mut visitor);
     assert_eq!(rt; take_one(&rt, &queue, &mut taker), None);
-    assert!(rt; queue.try_put(&rt, &mut putter, part(&heap, 0)).is_ok());
-    assert!(rt; queue.try_put(&rt, &mut putter, part(&heap, 1)).is_ok());
+    assert!(rt; queue.try_put(&rt, &mut putter, first).is_ok());
+    assert!(rt; queue.try_put(&rt, &mut putter, second).is_ok());
     look_on(&queue, &mut taker, &mut visitor);
-    assert!(rt; queue.try_put(&rt, &mut putter, part(&heap, 2)).is_err());
+    assert!(rt; queue.try_put(&rt, &mut putter, third).is_err());
     assert_eq!(rt;
         take_one(&rt, &queue, &mut taker),
         Some((3, 0, Kind::Part(0)))
@@ -416,7 +429,7 @@ fn looking_on_takes_nothing(rt: HostRuntime) -> Result<(), Fail> {
     assert_eq!(rt; take_one(&rt, &queue, &mut taker), None);
     let visitor = queue.take_in(&mut taker, marked, visitor);
     queue.dismiss(&mut taker, visitor);
-    assert_eq!(rt; heap.used(), made);
+    assert_eq!(rt; (heap.used(), parts.used()), (made, 0));
     Ok(())
 }
 
@@ -432,15 +445,16 @@ fn take_refused<A: Allocator, R: Wait>(rt: &R, queue: &PartQueue<A>, taker: &mut
     true
 }
 
-// Whether the calls at a queue of one place answer as they do with memory, and take none. `None` where the
-// queue could not be made.
-fn takes_none<R: Wait>(rt: &R, heap: &LocalHeap) -> Option<bool> {
+// Whether the calls at a queue of one place answer as they do with memory, and take none. The parts are over a heap
+// of their own. `None` where the queue could not be made.
+fn takes_none<'h, R: Wait>(rt: &R, heap: &'h LocalHeap, parts: &'h LocalHeap) -> Option<bool> {
+    let (first, second) = (part(parts, 0).ok()?, part(parts, 1).ok()?);
     let (queue, mut taker) = PartQueue::new(heap, 1).ok()?;
     let made = heap.used();
     let visitor = visitor_of(&queue, &mut taker);
     let mut putter = putter_of(&queue, &mut taker, 0);
-    let put = queue.try_put(rt, &mut putter, part(heap, 0)).is_ok();
-    let full = queue.try_put(rt, &mut putter, part(heap, 1)).is_err();
+    let put = queue.try_put(rt, &mut putter, first).is_ok();
+    let full = queue.try_put(rt, &mut putter, second).is_err();
     let came = take_refused(rt, &queue, &mut taker);
     let marked = put_mark(rt, &queue, putter, Mark::End);
     let ended = queue.take(rt, &mut taker).is_some();
@@ -455,11 +469,12 @@ fn takes_none<R: Wait>(rt: &R, heap: &LocalHeap) -> Option<bool> {
 // the calls answer as with ample memory, and the heap has as many bytes taken after them as before.
 #[test]
 fn memory_is_taken_by_new_alone(rt: HostRuntime) -> Result<(), Fail> {
+    let parts = LocalHeap::new(rt.alloc(), 4_096)?;
     let mut refused = 0u32;
     let mut made = 0u32;
     for sixteens in 1..128usize {
         let heap = LocalHeap::new(rt.alloc(), sixteens * 16)?;
-        match takes_none(&rt, &heap) {
+        match takes_none(&rt, &heap, &parts) {
             None => refused = refused.saturating_add(1),
             Some(none) => {
                 assert!(rt; none, "a heap of {sixteens} times 16 bytes");
@@ -486,7 +501,10 @@ fn put_many<A: Allocator + Copy, R: Wait>(
     ensures { IsPutterOf queue.now putter.new }
 {
     'parts: for index in 0..MANY {
-        if putter.parts() >= 10_000 || queue.try_put(rt, putter, part(alloc, index)).is_err() {
+        let Ok(part) = part(alloc, index) else {
+            return false;
+        };
+        if putter.parts() >= 10_000 || queue.try_put(rt, putter, part).is_err() {
             return false;
         }
     }

@@ -11,7 +11,9 @@ ghost use Rattle.hg_types.specs.Limits.{IsAllowed};
 
 use hg_help_tests::parts::part_of as part;
 use hg_repo::{Done, RaceText, Refusal, Repo, Source};
-use hg_types::{Limits, NoMemory, Node, Param, Part, Payload, Seq, Settings, Short, TryClone};
+use hg_types::{
+    BoxedPart, Limits, NoMemory, Node, Param, Part, Payload, Seq, Settings, Short, TryClone,
+};
 use linked_list_allocator::LocalHeap;
 use std::alloc::{AllocError, Allocator, Global};
 use std::hash::RandomState;

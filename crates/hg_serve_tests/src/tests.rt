@@ -20,7 +20,7 @@ use hg_push::{OpenFault, Outcome, Reason};
 use hg_queue::{PartQueue, Taker};
 use hg_repo::{Refusal, Repo, Source};
 use hg_serve::{Answer, Client, Closed, Gate, Naming, NoGate, Point, PutFault, Sender, Server};
-use hg_types::{CutReason, NoMemory, Part, Seq, Settings};
+use hg_types::{BoxedPart, CutReason, NoMemory, Seq, Settings};
 use std::alloc::{AllocFailed, Allocator, Global};
 use std::hash::RandomState;
 use std::marker::Brand;
@@ -33,11 +33,29 @@ use std::thread::Threads;
 /// The null id.
 const NULL: [u8; 20] = [0; 20];
 
-fn part<A: Allocator + Copy, R: Abort>(rt: &R, alloc: A, kind: &[u8], payload: &[u8]) -> Part<A> {
-    match part_of(alloc, kind, 0, payload) {
+/// A part, where there is memory for it.
+fn made<A: Allocator, R: Abort>(rt: &R, part: Result<BoxedPart<A>, NoMemory>) -> BoxedPart<A> {
+    match part {
         Ok(part) => part,
         Err(_) => panic!(rt; "no memory for a part"),
     }
+}
+
+fn try_part<A: Allocator + Copy>(
+    alloc: A,
+    kind: &[u8],
+    payload: &[u8],
+) -> Result<BoxedPart<A>, NoMemory> {
+    BoxedPart::new(alloc, part_of(alloc, kind, 0, payload)?)
+}
+
+fn part<A: Allocator + Copy, R: Abort>(
+    rt: &R,
+    alloc: A,
+    kind: &[u8],
+    payload: &[u8],
+) -> BoxedPart<A> {
+    made(rt, try_part(alloc, kind, payload))
 }
 
 fn client<J: Naming<A>, A: Allocator + Copy, R: Wait + Abort>(
@@ -65,7 +83,7 @@ fn put<J: Naming<A>, A: Allocator + Copy, R: Wait + Abort>(
     rt: &R,
     server: &Server<J, A>,
     sender: &mut Sender<J, A>,
-    part: Part<A>,
+    part: BoxedPart<A>,
 ) {
     assert!(rt; server.put(rt, sender, part, &mut NoGate).is_ok());
 }

@@ -97,7 +97,7 @@ fn give_parts<A: Allocator + Copy>(
 ) -> Result<(), NoMemory> {
     for _ in 0..100usize {
         if let Some(part) = reader.next_part() {
-            parts.push(part)?;
+            parts.push(part.into_part())?;
         }
     }
     Ok(())

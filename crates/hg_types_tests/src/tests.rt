@@ -1,11 +1,13 @@
 //! Clones, parameters and limits, and memory refused at one growth after another.
 
 mod ample;
+mod boxed;
 mod hashes;
+mod short;
 
 use hg_types::{
-    CutReason, Item, Limits, NoMemory, Node, Param, Part, Payload, Phase, Seq, Short, TryClone,
-    What, try_clone_each,
+    BoxedPart, CutReason, Item, Limits, NoMemory, Node, Param, Part, Payload, Phase, Seq, Short,
+    TryClone, What, try_clone_each,
 };
 use linked_list_allocator::LocalHeap;
 use std::alloc::Allocator;
@@ -94,13 +96,13 @@ fn a_clone_of_an_item_equals_its_source(rt: HostRuntime) -> Result<(), Fail> {
     let source = Item {
         push: 3,
         index: 1,
-        what: What::Part(part(rt.alloc(), b"output")?),
+        what: What::Part(BoxedPart::new(rt.alloc(), part(rt.alloc(), b"output")?)?),
     };
     let copy = source.try_clone(rt.alloc())?;
     assert_eq!(rt; copy.push, 3);
     assert_eq!(rt; copy.index, 1);
     match (&source.what, &copy.what) {
-        (What::Part(a), What::Part(b)) => assert!(rt; is_same_part(a, b)),
+        (What::Part(a), What::Part(b)) => assert!(rt; is_same_part(a.as_part(), b.as_part())),
         _ => assert!(rt; false),
     }
     let cut = Item {

@@ -21,9 +21,14 @@ fn came_of_prepared(alloc: Global, held: &mut Held<Global>, prepared: Prepared<G
     }
 }
 
-/// What comes of a part on a store, when its texts were hashed ahead.
+/// A part, prepared when its texts were hashed ahead.
+fn prepared_ahead(alloc: Global, part: Part) -> Result<Prepared, NoMemory> {
+    prepare(alloc, hash_ahead(BoxedPart::new(alloc, part)?))
+}
+
+/// What comes of it on a store.
 fn run_ahead(alloc: Global, held: &mut Held<Global>, part: Part<Global>) -> Came {
-    match prepare(alloc, hash_ahead(part)) {
+    match prepared_ahead(alloc, part) {
         Ok(prepared) => came_of_prepared(alloc, held, prepared),
         Err(_) => Came::NoMemory,
     }
@@ -54,7 +59,8 @@ fn parts_that_were_hashed_ahead(rt: HostRuntime) -> Result<(), Fail> {
 /// Whether the part is as it was.
 fn is_kept(alloc: Global, kind: &[u8], payload: &[u8]) -> Result<bool, NoMemory> {
     let (key, value) = (b"version".as_slice(), b"02".as_slice());
-    let kept = hash_ahead(part(alloc, kind, key, value, payload)?);
+    let sent = BoxedPart::new(alloc, part(alloc, kind, key, value, payload)?)?;
+    let kept = hash_ahead(sent).into_part();
     Ok(kept.kind.as_slice() == kind && kept.id == 1 && kept.payload.as_slice() == payload)
 }
 

@@ -14,17 +14,22 @@ fn longest(alloc: Global, front: &[u8], row: &[u8], rows: usize) -> Result<Seq<u
     Ok(Seq::from_vec(bytes))
 }
 
+/// A part of that type and payload.
+fn long_part(alloc: Global, kind: &[u8], payload: Seq<u8>) -> Result<BoxedPart, NoMemory> {
+    let part = Part {
+        kind: Short::copy_of(alloc, kind)?,
+        id: 1,
+        params: Seq::new(alloc),
+        payload: Payload::of(payload),
+    };
+    BoxedPart::new(alloc, part)
+}
+
 /// Whether a part of that type and payload has that length, and is prepared.
 fn is_prepared(alloc: Global, kind: &[u8], payload: Seq<u8>, length: usize) -> bool {
-    match Short::copy_of(alloc, kind) {
-        Ok(kind) => {
-            let is_long = payload.len() == length;
-            let part = Part {
-                kind,
-                id: 1,
-                params: Seq::new(alloc),
-                payload: Payload::of(payload),
-            };
+    match long_part(alloc, kind, payload) {
+        Ok(part) => {
+            let is_long = part.as_part().payload.len() == length;
             prepare(alloc, part).is_ok() && is_long
         }
         Err(_) => false,

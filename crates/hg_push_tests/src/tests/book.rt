@@ -12,7 +12,7 @@ fn put_clone<A: Allocator + Copy>(
     book: &mut Book<A>,
     push: u32,
     index: u32,
-    part: Result<Part<A>, NoMemory>,
+    part: Result<BoxedPart<A>, NoMemory>,
 ) -> bool {
     match part {
         Ok(part) => match a_part(push, index, part).try_clone(alloc) {

@@ -17,11 +17,11 @@ enum First {
     Wrong,
 }
 
-fn output<A: Allocator + Copy>(alloc: A) -> Result<Part<A>, NoMemory> {
+fn output<A: Allocator + Copy>(alloc: A) -> Result<BoxedPart<A>, NoMemory> {
     part(alloc, b"output", b"")
 }
 
-fn two_parts<A: Allocator + Copy>(alloc: A) -> Result<(Part<A>, Part<A>), NoMemory> {
+fn two_parts<A: Allocator + Copy>(alloc: A) -> Result<(BoxedPart<A>, BoxedPart<A>), NoMemory> {
     let first = output(alloc)?;
     let second = output(alloc)?;
     Ok((first, second))
@@ -271,14 +271,14 @@ fn open_all<A: Allocator + Copy>(book: &mut Book<A>) -> bool {
     all && book.open() == Err(OpenFault::TooManyOpen)
 }
 
-/// Puts 1,000 parts into a push. A staged part takes less than twice its 176 bytes, and those of its own.
+/// Puts 1,000 parts into a push. A staged part takes less than twice its 56 bytes, and 160 for its block.
 fn put_many<'a>(book: &mut Book<&'a LocalHeap>, heap: &'a LocalHeap, push: u32) -> bool {
     let free = heap.free();
     let mut all = true;
     for index in 0..1_000 {
         all = put(book, push, index, output(heap)) && all;
     }
-    all && free.saturating_sub(heap.free()) <= 384_000
+    all && free.saturating_sub(heap.free()) <= 272_000
 }
 
 /// Whether as many pushes as the limit allows are opened, and one of them is done with 1,000 parts.
@@ -293,7 +293,7 @@ fn all_are_put(heap: &LocalHeap, state: RandomState) -> bool {
 /// As many open pushes as the limit allows, and one of them with 1,000 parts, over a heap of which half is
 /// never used: no growth is refused, so none is told.
 /// Over 2 MiB, half of it never used: 1,024 openings, one more, 1,000 parts of push 7, its end
-/// mark. Result: 0 to 1,023; TooManyOpen; no refusal, at most 384 bytes a part; done.
+/// mark. Result: 0 to 1,023; TooManyOpen; no refusal, at most 272 bytes a part; done.
 #[test]
 fn near_the_limits(rt: HostRuntime) -> Result<(), Fail> {
     let state = RandomState::new(&rt)?;
@@ -322,13 +322,13 @@ fn takes_little(heap: &LocalHeap, state: RandomState) -> bool {
     let room = free.saturating_sub(heap.free());
     let left = leaves_memory(&mut book, heap);
     drop(book);
-    begun && taken && room <= 7 * 176 && left
+    begun && taken && room <= 7 * 56 + 8 && left
 }
 
 /// Where memory is to spare, what takes none leaves it: items that are dropped, closings and all that is
-/// asked. The first part of a push takes room for 7, of 176 bytes each over this heap.
+/// asked. The first part of a push takes room for 7, of 56 bytes each over this heap, rounded up to 16.
 /// Over 64 KiB: the first part of a push; items that are dropped, a wrong end mark, what is asked
-/// of a book, replies that are taken. Result: at most 1,232 bytes, room for 7 parts of 176; the
+/// of a book, replies that are taken. Result: at most 400 bytes, room for 7 parts of 56; the
 /// heap's free bytes do not fall.
 #[test]
 fn memory_is_left(rt: HostRuntime) -> Result<(), Fail> {

@@ -21,7 +21,7 @@ const CONTENT: usize = 60 << 20;
 const BESIDE: usize = 4 << 20;
 
 /// A part `CHANGEGROUP` of version 02 without its payload.
-fn empty_group<A: Allocator + Copy>(alloc: A) -> Result<Part<A>, NoMemory> {
+fn empty_group<A: Allocator + Copy>(alloc: A) -> Result<BoxedPart<A>, NoMemory> {
     part_with(alloc, b"CHANGEGROUP", true, b"version", b"02")
 }
 
@@ -36,13 +36,13 @@ fn put_root<A: Allocator>(bytes: &mut Vec<u8, A>) -> Result<(), NoMemory> {
 }
 
 /// The first bytes of the changegroup of that changeset.
-fn front_of_group<A: Allocator + Copy>(alloc: A, size: usize) -> Result<Part<A>, NoMemory> {
+fn front_of_group<A: Allocator + Copy>(alloc: A, size: usize) -> Result<BoxedPart<A>, NoMemory> {
     let mut group = empty_group(alloc)?;
     let mut bytes = Vec::new(alloc);
     put_root(&mut bytes)?;
     bytes.extend_from_slice(&[0; 4])?;
     bytes.truncate(size);
-    group.payload = Payload::of(Seq::from_vec(bytes));
+    group.set_payload(Payload::of(Seq::from_vec(bytes)));
     Ok(group)
 }
 
@@ -107,12 +107,12 @@ fn put_file<A: Allocator>(bytes: &mut Vec<u8, A>) -> Result<(), NoMemory> {
 }
 
 /// A changegroup of that changeset, with a file of 60 MiB.
-fn large_group<A: Allocator + Copy>(alloc: A) -> Result<Part<A>, NoMemory> {
+fn large_group<A: Allocator + Copy>(alloc: A) -> Result<BoxedPart<A>, NoMemory> {
     let mut group = empty_group(alloc)?;
     let mut bytes = Vec::with_capacity(alloc, CONTENT + 1_024)?;
     put_root(&mut bytes)?;
     put_file(&mut bytes)?;
-    group.payload = Payload::of(Seq::from_vec(bytes));
+    group.set_payload(Payload::of(Seq::from_vec(bytes)));
     Ok(group)
 }
 

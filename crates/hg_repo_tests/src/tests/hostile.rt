@@ -35,7 +35,7 @@ fn prepared<A: Allocator + Copy>(
 ) -> Result<Vec<Prepared<A>, A>, NoMemory> {
     let mut list = Vec::new(alloc);
     for part in all_made(alloc, push)?.into_vec() {
-        list.push(prepare(alloc, part)?)?;
+        list.push(prepare(alloc, BoxedPart::new(alloc, part)?)?)?;
     }
     Ok(list)
 }

@@ -37,7 +37,7 @@ fn are_run(alloc: Global, state: RandomState) -> Result<bool, NoMemory> {
 fn are_run_prepared(alloc: Global, state: RandomState) -> Result<bool, NoMemory> {
     let mut prepared = Vec::new(alloc);
     for part in replying_parts(alloc)?.into_vec() {
-        prepared.push(prepare(alloc, part)?)?;
+        prepared.push(prepare(alloc, BoxedPart::new(alloc, part)?)?)?;
     }
     let mut repo = Repo::new(alloc, settings(), state);
     Ok(prepared.len() <= PARTS && are_answered(&repo.run_prepared(Source::Push, prepared)))

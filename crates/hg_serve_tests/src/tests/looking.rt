@@ -45,7 +45,7 @@ fn push<J: Naming<Global>, R: Wait + Abort>(
     rt: &R,
     server: &Server<J>,
     client: Client<J>,
-    part: Part,
+    part: BoxedPart,
 ) -> (Answer, usize, Client<J>) {
     let mut sender = open(rt, server, client);
     put(rt, server, &mut sender, part);

@@ -4,7 +4,7 @@ ghost use Rattle.hg_serve.specs.Desks.{OpensWith};
 
 use super::*;
 use hg_serve::Awaiting;
-use hg_types::{Node, Param, Payload, Short};
+use hg_types::{Node, Param, Part, Payload, Short};
 use linked_list_allocator::LocalHeap;
 
 /// Takes all memory that is left, in blocks of 16 bytes, and gives some of them back, or all. A call can pick
@@ -73,13 +73,14 @@ fn try_changegroup<A: Allocator + Copy>(
     alloc: A,
     node: [u8; 20],
     parent: [u8; 20],
-) -> Result<Part<A>, NoMemory> {
-    Ok(Part {
+) -> Result<BoxedPart<A>, NoMemory> {
+    let part = Part {
         kind: Short::copy_of(alloc, b"CHANGEGROUP")?,
         id: 0,
         params: version(alloc)?,
         payload: Payload::of(Seq::copy_of(alloc, &changeset(node, parent))?),
-    })
+    };
+    BoxedPart::new(alloc, part)
 }
 
 fn changegroup<A: Allocator + Copy, R: Abort>(
@@ -87,11 +88,8 @@ fn changegroup<A: Allocator + Copy, R: Abort>(
     alloc: A,
     node: [u8; 20],
     parent: [u8; 20],
-) -> Part<A> {
-    match try_changegroup(alloc, node, parent) {
-        Ok(part) => part,
-        Err(_) => panic!(rt; "no memory for a part"),
-    }
+) -> BoxedPart<A> {
+    made(rt, try_changegroup(alloc, node, parent))
 }
 
 /// The changeset without text and parents, and the child of it without text.

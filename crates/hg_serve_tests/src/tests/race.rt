@@ -33,41 +33,40 @@ fn root_group(node: [u8; 20], letter: u8) -> [u8; 129] {
     bytes
 }
 
-/// A part of a changegroup 02.
-pub fn group<R: Abort>(rt: &R, alloc: Global, payload: &[u8]) -> Part {
-    let mut group = part(rt, alloc, b"CHANGEGROUP", payload);
-    let version = Param {
+fn try_group(alloc: Global, payload: &[u8]) -> Result<BoxedPart, NoMemory> {
+    let mut group = part_of(alloc, b"CHANGEGROUP", 0, payload)?;
+    group.params.push(Param {
         mandatory: true,
-        key: copied(rt, alloc, b"version"),
-        value: copied(rt, alloc, b"02"),
-    };
-    assert!(rt; group.params.push(version).is_ok());
-    group
+        key: Short::copy_of(alloc, b"version")?,
+        value: Short::copy_of(alloc, b"02")?,
+    })?;
+    BoxedPart::new(alloc, group)
 }
 
-fn copied<R: Abort>(rt: &R, alloc: Global, bytes: &[u8]) -> Short {
-    match Short::copy_of(alloc, bytes) {
-        Ok(copy) => copy,
-        Err(_) => panic!(rt; "no memory for a name"),
-    }
+/// A part of a changegroup 02.
+pub fn group<R: Abort>(rt: &R, alloc: Global, payload: &[u8]) -> BoxedPart {
+    made(rt, try_group(alloc, payload))
 }
 
-fn no_heads<R: Abort>(rt: &R, alloc: Global) -> Part {
+fn no_heads<R: Abort>(rt: &R, alloc: Global) -> BoxedPart {
     part(rt, alloc, b"CHECK:HEADS", &NULL)
 }
 
-pub fn a_root<R: Abort>(rt: &R, alloc: Global) -> Part {
+pub fn a_root<R: Abort>(rt: &R, alloc: Global) -> BoxedPart {
     group(rt, alloc, &root_group(A_ROOT, b'a'))
 }
 
-pub fn b_root<R: Abort>(rt: &R, alloc: Global) -> Part {
+pub fn b_root<R: Abort>(rt: &R, alloc: Global) -> BoxedPart {
     group(rt, alloc, &root_group(B_ROOT, b'b'))
 }
 
 /// Whether that is the repository that B's push gives on the empty one, and the report tells B's root.
 fn has_b_alone<R: RandomSource + Abort>(rt: &R, alloc: Global, repo: &Repo) -> bool {
     let mut only_b = Repo::new(alloc, settings(0, 1_024), state(rt));
-    let parts = [no_heads(rt, alloc), b_root(rt, alloc)];
+    let parts = [
+        no_heads(rt, alloc).into_part(),
+        b_root(rt, alloc).into_part(),
+    ];
     let ran = only_b.run(Source::Push, &parts).is_ok();
     match repo.report() {
         Ok(report) => ran && repo.is_same(&only_b) && report.as_slice() == B_REPORT,
@@ -80,7 +79,7 @@ fn put_next<J: Naming<Global>, R: Wait + Abort>(
     rt: &R,
     server: &Server<J>,
     sender: &mut Sender<J>,
-    part: Part,
+    part: BoxedPart,
 ) {
     match server.try_put(rt, sender, part) {
         Ok(()) => {}

@@ -5,6 +5,7 @@ ghost use Rattle.std.specs.Prelude.{◌<◌, ◌≤◌};
 
 use super::race::group;
 use super::*;
+use hg_types::Part;
 use sha1::Sha1;
 use std::sync::Mutex;
 use std::thread;
@@ -65,7 +66,7 @@ fn marker_of(thread: u8, turn: u8) -> [u8; 27] {
 }
 
 /// The parts of a push. One that is checked says before its changeset comes that there is none.
-fn parts_of<R: Abort>(rt: &R, alloc: Global, thread: u8, turn: u8) -> [Part; 5] {
+fn parts_of<R: Abort>(rt: &R, alloc: Global, thread: u8, turn: u8) -> [BoxedPart; 5] {
     let checked: &[u8] = if is_checked(turn) {
         b"CHECK:HEADS"
     } else {
@@ -77,6 +78,18 @@ fn parts_of<R: Abort>(rt: &R, alloc: Global, thread: u8, turn: u8) -> [Part; 5] 
         group(rt, alloc, &group_of(thread, turn)),
         part(rt, alloc, b"BOOKMARKS", &bookmark_of(thread, turn)),
         part(rt, alloc, b"OBSMARKERS", &marker_of(thread, turn)),
+    ]
+}
+
+/// The same parts, without their blocks.
+fn without_blocks(parts: [BoxedPart; 5]) -> [Part; 5] {
+    let [first, second, third, fourth, fifth] = parts;
+    [
+        first.into_part(),
+        second.into_part(),
+        third.into_part(),
+        fourth.into_part(),
+        fifth.into_part(),
     ]
 }
 
@@ -172,7 +185,7 @@ fn replayed<R: RandomSource + Abort>(rt: &R, alloc: Global, report: &[u8]) -> (R
     for line in report.split(|byte| *byte == b'\n') {
         if let Some((thread, turn)) = push_in(line) {
             let parts = parts_of(rt, alloc, thread, turn);
-            assert!(rt; repo.run(Source::Push, &parts).is_ok());
+            assert!(rt; repo.run(Source::Push, &without_blocks(parts)).is_ok());
             count = count.saturating_add(1);
         }
     }

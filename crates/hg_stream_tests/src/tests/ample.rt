@@ -50,7 +50,10 @@ fn most_parts_and_the_greatest_header(rt: HostRuntime) -> Result<(), Fail> {
     assert_eq!(rt; reader.state(), State::Ended);
     for place in 0..10_000usize {
         match reader.next_part() {
-            Some(part) => assert_eq!(rt; part.params.len(), if place == 0 { 510 } else { 0 }),
+            Some(part) => {
+                let count = part.as_part().params.len();
+                assert_eq!(rt; count, if place == 0 { 510 } else { 0 });
+            }
             None => assert!(rt; false, "part {place}"),
         }
     }
@@ -77,7 +80,7 @@ fn greatest_parameters_and_payload(rt: HostRuntime) -> Result<(), Fail> {
     assert_eq!(rt; reader.feed(&[0; 8]), Ok(8));
     assert_eq!(rt; reader.state(), State::Ended);
     match reader.next_part() {
-        Some(part) => assert_eq!(rt; part.payload.len(), 67_108_864),
+        Some(part) => assert_eq!(rt; part.as_part().payload.len(), 67_108_864),
         None => assert!(rt; false, "a part"),
     }
     Ok(())
@@ -100,7 +103,7 @@ fn gives_the_greatest<A: Allocator + Copy>(reader: &mut Unbundler<A>) -> bool {
     let is_begun = reader.feed(&FRONT[8..]) == Ok(12) && reader.feed(b"\x04\0\0\0") == Ok(4);
     let is_fed = feeds_data(reader, 67_108_864) && reader.feed(&[0; 4]) == Ok(4);
     match reader.next_part() {
-        Some(part) => is_begun && is_fed && part.payload.len() == 67_108_864,
+        Some(part) => is_begun && is_fed && part.as_part().payload.len() == 67_108_864,
         None => false,
     }
 }
@@ -148,7 +151,7 @@ fn the_greatest_payloads_are_written(rt: HostRuntime) -> Result<(), Fail> {
     assert!(rt;
         reader
             .next_part()
-            .is_some_and(|part| part.payload.len() == 67_108_864)
+            .is_some_and(|part| part.as_part().payload.len() == 67_108_864)
     );
     Ok(())
 }

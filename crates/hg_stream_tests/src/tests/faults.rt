@@ -250,7 +250,7 @@ fn parts_before_a_fault(rt: HostRuntime) {
             assert_eq!(rt; reader.feed(b"\xff\xff\xff\xfe"), Err(fault));
         }
         match reader.next_part() {
-            Some(part) => assert_eq!(rt; part.kind.as_slice(), b"REPLYCAPS".as_slice()),
+            Some(part) => assert_eq!(rt; part.as_part().kind.as_slice(), b"REPLYCAPS".as_slice()),
             None => assert!(rt; false, "the part before {fault}"),
         }
         assert!(rt; reader.next_part().is_none());

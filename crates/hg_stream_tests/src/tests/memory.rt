@@ -44,7 +44,7 @@ fn gives_two<A: Allocator + Copy>(reader: &mut Unbundler<A>) -> bool {
     let first = reader.next_part();
     let second = reader.next_part();
     let fields = match second {
-        Some(part) => has_fields(&part, PUSH),
+        Some(part) => has_fields(part.as_part(), PUSH),
         None => false,
     };
     fields && first.is_some() && reader.next_part().is_none() && reader.state() == State::Ended

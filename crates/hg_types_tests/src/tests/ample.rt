@@ -31,12 +31,12 @@ fn the_greatest_item_is_cloned(rt: HostRuntime) -> Result<(), Fail> {
     let source = Item {
         push: 4_294_967_294,
         index: 9_999,
-        what: What::Part(greatest_part(&heap)?),
+        what: What::Part(BoxedPart::new(&heap, greatest_part(&heap)?)?),
     };
     let copy = source.try_clone(&heap)?;
     assert!(rt; copy.push == 4_294_967_294 && copy.index == 9_999);
     match (&source.what, &copy.what) {
-        (What::Part(a), What::Part(b)) => assert!(rt; is_same_part(a, b)),
+        (What::Part(a), What::Part(b)) => assert!(rt; is_same_part(a.as_part(), b.as_part())),
         _ => assert!(rt; false),
     }
     Ok(())
