@@ -87,15 +87,6 @@ impl<A: Allocator + Copy> Bookmarks<A> {
             ≡ record { current = with_bookmark self.old.current name.now node; marked = self.old.marked }) }
         ensures err { OnErr result (self.new ≡ self.old) }
     {
-        if !self.is_marked {
-            match node {
-                Some(node) => {
-                    self.names.insert(alloc, name, node)?;
-                }
-                None => self.names.forget(name),
-            }
-            return Ok(());
-        }
         make_room(&mut self.names, &mut self.changes, self.is_marked)?;
         let change = put(alloc, &mut self.names, name, node, self.is_marked)?;
         keep(&mut self.changes, change, self.is_marked);

@@ -1,5 +1,4 @@
-pub mod OrderLemmas
-pub mod Numbers
+pub mod Order
 pub mod Flat
 pub mod Filled
 pub mod Own

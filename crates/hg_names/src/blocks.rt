@@ -9,7 +9,6 @@ ghost use Rattle.hg_names.specs.code.Blocks.{pairs_in, start_of, place_at, IsFil
 ghost use Rattle.hg_names.specs.code.Blocks.{IsLess, IsSpot, IsOpen, IsNamed, IsFree};
 ghost use Rattle.hg_names.specs.code.Places.{IsAt, IsGap, moved};
 
-use crate::order::order;
 use hg_types::{NoMemory, Node, Short};
 use std::alloc::{Allocator, Global};
 use std::cmp::Ordering;
@@ -34,7 +33,7 @@ fn is_behind<A: Allocator>(block: &Block<A>, name: &[u8]) -> bool
     ensures behind { result ≡ true → HoldsAt (IsGreater name.now) block.now.pairs.items 0 }
     ensures upto { result ≡ false → HoldsAt (IsNotGreater name.now) block.now.pairs.items 0 }
 {
-    order(block.pairs[0].0.as_slice(), name) == Ordering::Greater
+    block.pairs[0].0.as_slice().cmp(name) == Ordering::Greater
 }
 
 /// The last block whose first name does not come after a name, or else the first one.
@@ -66,7 +65,7 @@ fn place_in<A: Allocator>(pairs: &[Pair<A>], name: &[u8]) -> Result<usize, usize
     ensures found { IfOk result (IsAt pairs.now name.now) }
     ensures absent { IfErr result (IsGap pairs.now name.now) }
 {
-    pairs.binary_search_by(|pair| order(pair.0.as_slice(), name))
+    pairs.binary_search_by(|pair| pair.0.as_slice().cmp(name))
 }
 
 /// The spot of a name, or else one at which it would go.

@@ -6,6 +6,5 @@
 
 mod blocks;
 mod names;
-mod order;
 
 pub use names::{Entries, Named, Names};
