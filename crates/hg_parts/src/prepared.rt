@@ -18,7 +18,7 @@ use crate::parts::phase_heads::read_phase_heads;
 use crate::table::{PartType, supported_type};
 use hg_cgroup::hash_texts;
 use hg_checks::CheckKind;
-use hg_types::{BoxedPart, Entry, NoMemory, Node, Part, Phase, Seq};
+use hg_types::{BoxedPart, BoxedSeq, Entry, NoMemory, Node, Part, Phase};
 use std::alloc::{Allocator, Global};
 
 /// What a part says without the repository. A type of part that is named alone is read in its turn.
@@ -31,14 +31,14 @@ pub enum Reading<A: Allocator = Global> {
     ReplyCaps,
     Check(CheckKind),
     /// The changesets of `phase-heads`, each after its phase.
-    PhaseHeads(Seq<(Phase, Node), A>),
+    PhaseHeads(BoxedSeq<(Phase, Node), A>),
     Bookmarks,
     /// The markers of `obsmarkers`.
     Obsmarkers(MarkerData<A>),
     /// The changesets of `changegroup`, and the phase that its `targetphase` names.
     ChangeGroup {
         target: Phase,
-        entries: Seq<Entry<A>, A>,
+        entries: BoxedSeq<Entry<A>, A>,
     },
     Pushkey,
     Output,

@@ -18,7 +18,7 @@ use crate::step::{
     closed_place, has_push, open_place, outcome_of, place_of, row_standing, step_row,
 };
 use hg_repo::{Done, Refusal, Repo};
-use hg_types::{Item, Seq};
+use hg_types::{Item, Pages};
 use std::alloc::{Allocator, Global};
 use std::collections::VecDeque;
 use std::marker::Model;
@@ -152,7 +152,7 @@ impl<A: Allocator + Copy> Book<A> {
         let push = self.next;
         let row = Row {
             push,
-            state: State::Open(Seq::new(alloc)),
+            state: State::Open(Pages::new(alloc)),
         };
         if let Err(_) = self.rows.push_back(row) {
             return Err(OpenFault::NoMemory);

@@ -2,14 +2,14 @@
 
 use crate::outcome::Outcome;
 use hg_repo::Prepared;
-use hg_types::Seq;
+use hg_types::Pages;
 use std::alloc::{Allocator, Global};
 
 /// What is kept of a push until its reply is taken.
 #[derive(Drop)]
 pub enum State<D, E, A: Allocator = Global> {
     /// It has these parts so far, each read as far as that goes before its turn.
-    Open(Seq<Prepared<A>, A>),
+    Open(Pages<Prepared<A>, A>),
     Closed(Outcome<D, E>),
 }
 

@@ -18,7 +18,7 @@ ghost use Rattle.hg_push.specs.Reply.{CanBeSent, KeepsTellable};
 use crate::outcome::{Outcome, Reason, Standing};
 use crate::row::{Row, State};
 use hg_repo::{Done, Prepared, Refusal, Repo, Source, prepare};
-use hg_types::{BoxedPart, NoMemory, Seq, What};
+use hg_types::{BoxedPart, NoMemory, Pages, What};
 use std::alloc::Allocator;
 use std::collections::VecDeque;
 use std::mem;
@@ -115,7 +115,7 @@ pub fn outcome_of<D, E, A: Allocator>(row: Row<D, E, A>) -> Outcome<D, E>
 #[tactic(auto, using(crate::proofs::Staging::staged_count, crate::proofs::Staging::can_be_sent))]
 pub fn end<A: Allocator + Copy>(
     repo: &mut Repo<A>,
-    staged: Seq<Prepared<A>, A>,
+    staged: Pages<Prepared<A>, A>,
     index: u32,
 ) -> Result<Done<A>, Reason<Refusal<A>>>
     ensures ends { (parts : List (AnyPart A)) → Stages staged parts →
@@ -125,7 +125,7 @@ pub fn end<A: Allocator + Copy>(
     if index as usize != staged.len() {
         return Err(Reason::WrongIndex);
     }
-    match repo.run_prepared(Source::Push, staged.into_vec()) {
+    match repo.run_prepared(Source::Push, staged) {
         Ok(done) => Ok(done),
         Err(Refusal::NoMemory) => Err(Reason::NoMemory),
         Err(refusal) => Err(Reason::Refused(refusal)),
@@ -140,11 +140,6 @@ fn close<D: Drop, E: Drop, A: Allocator>(row: &mut Row<D, E, A>, outcome: Outcom
 {
     row.state = State::Closed(outcome);
 }
-
-/// How many parts a staged list asks for room for with its first one: about as many as most pushes have, so
-/// that their lists are moved seldom while they grow. A prepared part takes 40 bytes there. With room for 15
-/// or 24, a step beside 1,023 other open pushes of two parts each took half as long again.
-const FIRST_ROOM: usize = 7;
 
 /// Prepares a part and adds it to an open push, or aborts the push where memory is refused for either.
 #[inline(always)]
@@ -182,7 +177,7 @@ fn add<A: Allocator + Copy>(row: &mut Row<Done<A>, Refusal<A>, A>, prepared: Pre
     ensures told { KeepsTellable row.new.state }
 {
     let refused = match &mut row.state {
-        State::Open(staged) => staged.push_with_room(prepared, FIRST_ROOM).is_err(),
+        State::Open(staged) => staged.push(prepared).is_err(),
         State::Closed(_) => unreachable!(),
     };
     if refused {
@@ -192,13 +187,16 @@ fn add<A: Allocator + Copy>(row: &mut Row<Done<A>, Refusal<A>, A>, prepared: Pre
 }
 
 /// Takes the staged parts of an open push out of its row, which is closed next.
-fn take_staged<A: Allocator>(alloc: A, row: &mut Row<Done<A>, Refusal<A>, A>) -> Seq<Prepared<A>, A>
+fn take_staged<A: Allocator + Copy>(
+    alloc: A,
+    row: &mut Row<Done<A>, Refusal<A>, A>,
+) -> Pages<Prepared<A>, A>
     requires { is_open row.old.state ≡ true }
     ensures staged { result ≡ staged_in row.old.state }
     ensures push { row.new.push ≡ row.old.push }
 {
     match &mut row.state {
-        State::Open(staged) => mem::replace(staged, Seq::new(alloc)),
+        State::Open(staged) => mem::replace(staged, Pages::new(alloc)),
         State::Closed(_) => unreachable!(),
     }
 }

@@ -15,10 +15,6 @@ use Rattle.hg_parts.specs.Prepared.{IsMadeOf, AreMadeOf}
 use Rattle.hg_repo.specs.Run.{Progress, start, with_reply, progress_after, and_then, run_from, run_of}
 use Rattle.hg_repo.specs.Run.{done_by}
 
-pub no_items : {X : Type 0} (xs : List X) → length xs ≡ 0 → xs ≡ []
-no_items [] none = refl
-no_items (x ∷ xs) none = absurd (omega (arith, none))
-
 module _ {A : Type 0} (source : Source) (repo : Repository A) where
   -- Of these parts, those that are left give from here what all of them give.
   pub record IsLeft (parts : List (Part A)) (left : List (Prepared A)) (place : ℕ)

@@ -25,7 +25,7 @@ use hg_log::Changelog;
 use hg_obs::{Marker, Markers};
 use hg_parts::laws::sound_stores_are_lawful;
 use hg_parts::{Prepared, Refusal, Source, Store};
-use hg_types::{NoMemory, Node, Part, Phase, Seq, Settings, TryClone};
+use hg_types::{NoMemory, Node, Pages, Part, Phase, Seq, Settings, TryClone};
 use std::alloc::{Allocator, Global};
 use std::hash::RandomState;
 use std::marker::Model;
@@ -196,13 +196,13 @@ impl<A: Allocator + Copy> Repo<A> {
     pub fn run_prepared(
         &mut self,
         source: Source,
-        prepared: Vec<Prepared<A>, A>,
+        prepared: Pages<Prepared<A>, A>,
     ) -> Result<Done<A>, Refusal<A>>
-        requires { length prepared.items < 2 ^ 32 }
-        ensures gives { (parts : List (AnyPart A)) → AreMadeOf parts prepared.items →
+        requires { length prepared < 2 ^ 32 }
+        ensures gives { (parts : List (AnyPart A)) → AreMadeOf parts prepared →
             RunGives (run_of source) self.old parts result self.new }
         ensures err { OnErr result (self.new ≡ self.old) }
-        ensures replies { IfOk result (λ done. AreReplies (length prepared.items) done.replies) }
+        ensures replies { IfOk result (λ done. AreReplies (length prepared) done.replies) }
         ensures settings { self.new.settings ≡ self.old.settings }
     {
         let before = self.store.mark();

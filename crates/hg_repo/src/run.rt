@@ -12,7 +12,7 @@ use crate::done::Done;
 use hg_parts::{
     Prepared, Refusal, Source, Store, Turn, handle_part, handle_prepared, starts_replies,
 };
-use hg_types::{NoMemory, Part, Seq, Settings};
+use hg_types::{NoMemory, Pages, Part, Seq, Settings};
 use std::alloc::Allocator;
 
 /// Runs the parts in order, up to the first that is refused. Then its changes, and those of the parts before
@@ -55,22 +55,23 @@ pub fn run_prepared<A: Allocator + Copy>(
     store: &mut Store<A>,
     settings: &Settings,
     source: Source,
-    prepared: Vec<Prepared<A>, A>,
+    prepared: Pages<Prepared<A>, A>,
 ) -> Result<Done<A>, Refusal<A>>
     requires sound { IsSound settings.now store.old }
-    requires few { length prepared.items < 2 ^ 32 }
+    requires few { length prepared < 2 ^ 32 }
     ensures sound { OnOk result (IsSound settings.now store.new) }
     ensures grown { IsGrown store.old store.new }
-    ensures replies { IfOk result (λ done. AreReplies (length prepared.items) done.replies) }
-    ensures gives { (parts : List (AnyPart A)) → AreMadeOf parts prepared.items →
+    ensures replies { IfOk result (λ done. AreReplies (length prepared) done.replies) }
+    ensures gives { (parts : List (AnyPart A)) → AreMadeOf parts prepared →
         PartsGive (run_of source (repository_of settings.now store.old) parts)
         (repository_of settings.now store.new) result }
 {
     let count = prepared.len();
     let mut replies = Seq::new(alloc);
     let mut replying = false;
-    let mut place = 0;
-    for part in prepared {
+    let mut place = 0u32;
+    let mut left = prepared.into_items();
+    while let Some(part) = left.next() {
         let starts = part.starts_replies();
         let turn = Turn {
             settings: *settings,

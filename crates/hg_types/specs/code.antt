@@ -1,2 +1,3 @@
 pub mod Stretches
 pub mod Short
+pub mod Pages

@@ -1,10 +1,11 @@
-//! A part in a block of memory of its own.
+//! A part, and a list, in a block of memory of its own.
 
 ghost use Rattle.std.specs.Prelude.{◌≡◌, [], IfOk};
 
 use crate::memory::{NoMemory, TryClone};
 use crate::part::Part;
 use crate::payload::Payload;
+use crate::seq::Seq;
 use std::alloc::{Allocator, Global};
 use std::marker::Model;
 use std::mem;
@@ -70,5 +71,47 @@ impl<A: Allocator> BoxedPart<A> {
 impl<A: Allocator + Copy> TryClone<A> for BoxedPart<A> {
     fn try_clone(&self, alloc: A) -> Result<Self, NoMemory> {
         BoxedPart::new(alloc, self.as_part().try_clone(alloc)?)
+    }
+}
+
+/// A list in a block of memory of its own, so that whoever keeps it keeps a pointer. Contracts see the list of
+/// its items.
+#[derive(Drop)]
+pub struct BoxedSeq<T, A: Allocator = Global> {
+    block: Box<Seq<T, A>, A>,
+}
+
+impl<T, A: Allocator> Model for BoxedSeq<T, A> {
+    ghost use Rattle.std.specs.Prelude.{List};
+
+    ghost Value = { List T };
+
+    ghost view = { λ b. b.block.value };
+}
+
+impl<T, A: Allocator> BoxedSeq<T, A> {
+    /// The list, in a block that is asked for. A list that memory is refused for is dropped.
+    pub fn new(alloc: A, list: Seq<T, A>) -> Result<Self, NoMemory>
+    where
+        T: Drop,
+        ensures { IfOk result (λ boxed. boxed ≡ list) }
+    {
+        let block = Box::new(alloc, list)?;
+        Ok(BoxedSeq { block })
+    }
+
+    /// The items as a slice, in their order.
+    pub fn as_slice(&self) -> &[T]
+        ensures { result.now ≡ self.now }
+    {
+        self.block.as_slice()
+    }
+
+    /// The list without its block, which is given back.
+    pub fn into_seq(self) -> Seq<T, A>
+        ensures { result ≡ self }
+    {
+        let BoxedSeq { block: list } = self;
+        Box::into_inner(list)
     }
 }

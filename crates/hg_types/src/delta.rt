@@ -7,6 +7,7 @@ ghost use Rattle.hg_types.specs.Hashes.{IsHashOf};
 use crate::node::Node;
 use crate::payload::TextHash;
 use crate::seq::Seq;
+use crate::words::are_same;
 use std::alloc::{Allocator, Global};
 use std::marker::Model;
 
@@ -93,10 +94,4 @@ fn ends_so(bytes: &[u8], head: usize, text: &[u8]) -> bool
     ensures { IsTrue result → drop head bytes.now ≡ text.now }
 {
     head <= bytes.len() && are_same(&bytes[head..], text)
-}
-
-fn are_same(bytes: &[u8], others: &[u8]) -> bool
-    ensures { IsTrue result ↔ (bytes.now ≡ others.now) }
-{
-    bytes == others
 }

@@ -13,13 +13,15 @@ mod law;
 mod limits;
 mod memory;
 mod node;
+mod pages;
 mod part;
 mod payload;
 mod phase;
 mod seq;
 mod short;
+mod words;
 
-pub use boxed::BoxedPart;
+pub use boxed::{BoxedPart, BoxedSeq};
 pub use delta::Delta;
 pub use entry::Entry;
 pub use item::{CutReason, Item, Taken, What};
@@ -27,6 +29,7 @@ pub use law::{a_key_has_one_value, bytes_are_bytes, phases_are_ordered_by_number
 pub use limits::{Limits, Settings};
 pub use memory::{NoMemory, TryClone};
 pub use node::Node;
+pub use pages::{PageItems, Pages};
 pub use part::{Param, Part};
 pub use payload::{Payload, TextHash};
 pub use phase::Phase;

@@ -76,21 +76,6 @@ impl<T, A: Allocator> Seq<T, A> {
         self.items.push(item)?;
         Ok(())
     }
-
-    /// Adds an item at the end as [`Seq::push`] does. A list that has no item yet asks for room for so many
-    /// first, so that it is not moved while it grows by them; where that is refused, the item takes what it
-    /// needs.
-    pub fn push_with_room(&mut self, item: T, room: usize) -> Result<(), NoMemory>
-    where
-        T: Drop,
-        ensures ok { OnOk result (self.new ≡ self.old ++ item ∷ []) }
-        ensures err { OnErr result (self.new ≡ self.old) }
-    {
-        if self.items.is_empty() {
-            let _room = self.items.reserve(room);
-        }
-        self.push(item)
-    }
 }
 
 impl<A: Allocator + Copy> Seq<u8, A> {

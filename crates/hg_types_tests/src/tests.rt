@@ -6,8 +6,8 @@ mod hashes;
 mod short;
 
 use hg_types::{
-    BoxedPart, CutReason, Item, Limits, NoMemory, Node, Param, Part, Payload, Phase, Seq, Short,
-    TryClone, What, try_clone_each,
+    BoxedPart, BoxedSeq, CutReason, Item, Limits, NoMemory, Node, Pages, Param, Part, Payload, Phase,
+    Seq, Short, TryClone, What, try_clone_each,
 };
 use linked_list_allocator::LocalHeap;
 use std::alloc::Allocator;
@@ -213,48 +213,55 @@ fn memory_is_refused_or_the_clone_is_equal(rt: HostRuntime) -> Result<(), Fail> 
     Ok(())
 }
 
-/// Takes what is left of a heap, sixteen bytes at a time.
-fn fill<'a>(heap: &'a LocalHeap, blocks: &mut Vec<Vec<u8, &'a LocalHeap>>) -> Result<(), Fail> {
-    for _ in 0..1_000 {
-        match Vec::with_capacity(heap, 16) {
-            Ok(block) => blocks.push(block)?,
-            Err(_) => return Ok(()),
+/// Pushes so many numbers, from zero on, until memory is refused for one; and how many there are then.
+fn push_each<A: Allocator + Copy>(list: &mut Pages<u64, A>, count: u64) -> u64 {
+    for item in 0..count {
+        if list.push(item).is_err() {
+            return item;
         }
     }
-    Ok(())
+    count
 }
 
-/// Room that was made with the first item serves the next ones, where there is no more memory; where it was
-/// refused, the first item is there if there was memory for it alone.
+/// A list in pages gives its items in their order, and where memory was refused for one, those before it.
 #[test]
-fn room_is_made_with_the_first_item(rt: HostRuntime) -> Result<(), Fail> {
-    let (mut refused, mut alone, mut made) = (0u32, 0u32, 0u32);
-    for sixteens in 1..64usize {
+fn pages_give_their_items(rt: HostRuntime) -> Result<(), Fail> {
+    let (mut refused, mut made) = (0u32, 0u32);
+    for sixteens in 1..256usize {
         let heap = LocalHeap::new(rt.alloc(), sixteens * 16)?;
-        let mut list: Seq<u64, &LocalHeap> = Seq::new(&heap);
-        if list.push_with_room(0, 40).is_err() {
-            assert!(rt; list.is_empty());
-            refused = refused.saturating_add(1);
-            continue;
+        let mut list = Pages::new(&heap);
+        let pushed = push_each(&mut list, 150);
+        assert_eq!(rt; list.len() as u64, pushed);
+        let mut left = list.into_items();
+        for item in 0..pushed {
+            assert_eq!(rt; left.next(), Some(item));
         }
-        let mut blocks = Vec::new(rt.alloc());
-        fill(&heap, &mut blocks)?;
-        for item in 1..40u64 {
-            if list.push_with_room(item, 40).is_err() {
-                break;
-            }
-        }
-        assert_eq!(rt; list.as_slice().first(), Some(&0));
-        assert_eq!(rt; list.as_slice().last(), Some(&(list.len() as u64 - 1)));
-        if list.len() == 40 {
+        assert_eq!(rt; left.next(), None);
+        assert_eq!(rt; left.next(), None);
+        if pushed == 150 {
             made = made.saturating_add(1);
         } else {
-            alone = alone.saturating_add(1);
+            refused = refused.saturating_add(1);
         }
     }
     assert!(rt; refused > 0);
-    assert!(rt; alone > 0);
     assert!(rt; made > 0);
+    Ok(())
+}
+
+/// A list leaves its block with its items in their order, and memory may be refused for the block.
+#[test]
+fn lists_in_blocks(rt: HostRuntime) -> Result<(), Fail> {
+    let mut items = Vec::new(rt.alloc());
+    for item in 0..5u64 {
+        items.push(item)?;
+    }
+    let boxed = BoxedSeq::new(rt.alloc(), Seq::from_vec(items))?;
+    assert_eq!(rt; boxed.as_slice(), &[0, 1, 2, 3, 4][..]);
+    let list = boxed.into_seq();
+    assert_eq!(rt; list.as_slice(), &[0, 1, 2, 3, 4][..]);
+    let heap = LocalHeap::new(rt.alloc(), 16)?;
+    assert!(rt; BoxedSeq::new(&heap, Seq::<u64, &LocalHeap>::new(&heap)).is_err());
     Ok(())
 }
 

@@ -39,7 +39,7 @@ use crate::turn::Turn;
 use hg_cgroup::{GroupFault, decode};
 use hg_log::{AddFault, Added, Changelog};
 use hg_phases::Phases;
-use hg_types::{Entry, NoMemory, Node, Param, Part, Phase, Settings};
+use hg_types::{BoxedSeq, Entry, NoMemory, Node, Param, Part, Phase, Settings};
 use std::alloc::Allocator;
 
 /// Reads the payload and the parameters. Faults of the format are another version, another `targetphase` and
@@ -55,7 +55,10 @@ pub fn read_changegroup<A: Allocator + Copy>(
     };
     let version = version_of(part.params.as_slice());
     match decode(alloc, version, &part.payload) {
-        Ok(entries) => Ok(Reading::ChangeGroup { target, entries }),
+        Ok(entries) => {
+            let entries = BoxedSeq::new(alloc, entries)?;
+            Ok(Reading::ChangeGroup { target, entries })
+        }
         Err(GroupFault::NoMemory) => Err(NoMemory),
         Err(_) => Ok(Reading::Malformed),
     }

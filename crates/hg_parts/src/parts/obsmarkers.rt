@@ -16,14 +16,14 @@ use crate::replies::reply_part;
 use crate::store::Store;
 use crate::turn::Turn;
 use hg_obs::{Marker, MarkerFault, markers_stay_lawful, read_markers};
-use hg_types::{NoMemory, Part, Seq};
+use hg_types::{BoxedSeq, NoMemory, Part};
 use std::alloc::{Allocator, Global};
 use std::marker::Model;
 
 /// Markers that marker data may have, which contracts see as their list.
 #[derive(Drop)]
 pub struct MarkerData<A: Allocator = Global> {
-    list: Seq<Marker<A>, A>,
+    list: BoxedSeq<Marker<A>, A>,
 }
 
 impl<A: Allocator> Model for MarkerData<A> {
@@ -47,7 +47,10 @@ pub fn read_obsmarkers<A: Allocator + Copy>(
     ensures { IfOk result (λ reading. reading ≡ read_obsmarkers part.now) }
 {
     match read_markers(alloc, part.payload.as_slice()) {
-        Ok(list) => Ok(Reading::Obsmarkers(MarkerData { list })),
+        Ok(list) => {
+            let list = BoxedSeq::new(alloc, list)?;
+            Ok(Reading::Obsmarkers(MarkerData { list }))
+        }
         Err(MarkerFault::NoMemory) => Err(NoMemory),
         Err(
             MarkerFault::BadVersion
@@ -73,7 +76,7 @@ pub fn handle_markers<A: Allocator + Copy>(
 {
     markers_stay_lawful::<A>();
     let MarkerData { list } = markers;
-    let count = store.markers.merge(list)?;
+    let count = store.markers.merge(list.into_seq())?;
     let reply = reply_to_markers(alloc, turn.replying, part.id, count)?;
     Ok(reply)
 }

@@ -21,7 +21,7 @@ use crate::turn::Turn;
 use hg_keys::is_known;
 use hg_log::Changelog;
 use hg_phases::{EntryFault, Phases, read_entries};
-use hg_types::{NoMemory, Node, Part, Phase};
+use hg_types::{BoxedSeq, NoMemory, Node, Part, Phase};
 use std::alloc::Allocator;
 
 /// Reads the payload. One that is no entries is a fault of the format.
@@ -32,7 +32,7 @@ pub fn read_phase_heads<A: Allocator + Copy>(
     ensures { IfOk result (λ reading. reading ≡ read_phase_heads part.now) }
 {
     match read_entries(alloc, part.payload.as_slice()) {
-        Ok(entries) => Ok(Reading::PhaseHeads(entries)),
+        Ok(entries) => Ok(Reading::PhaseHeads(BoxedSeq::new(alloc, entries)?)),
         Err(EntryFault::NoMemory) => Err(NoMemory),
         Err(EntryFault::Short | EntryFault::BadPhase) => Ok(Reading::Malformed),
     }

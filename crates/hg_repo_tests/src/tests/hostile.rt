@@ -7,7 +7,7 @@ use super::pushes::{CAPS, CHILD, LOST, MARKED, NAMED, PUBLISHED, ROOT, Recipe, S
 use super::*;
 use hg_log::AddFault;
 use hg_repo::{Prepared, prepare};
-use hg_types::Phase;
+use hg_types::{Pages, Phase};
 
 static SEEDS: [Recipe; 1] = [SEED];
 
@@ -32,8 +32,8 @@ enum Came {
 fn prepared<A: Allocator + Copy>(
     alloc: A,
     push: &'static [Recipe],
-) -> Result<Vec<Prepared<A>, A>, NoMemory> {
-    let mut list = Vec::new(alloc);
+) -> Result<Pages<Prepared<A>, A>, NoMemory> {
+    let mut list = Pages::new(alloc);
     for part in all_made(alloc, push)?.into_vec() {
         list.push(prepare(alloc, BoxedPart::new(alloc, part)?)?)?;
     }
@@ -54,7 +54,7 @@ fn came_from<A: Allocator>(answer: &Result<Done<A>, Refusal<A>>, same: bool) -> 
 fn ran<A: Allocator + Copy>(
     repo: &mut Repo<A>,
     copy: &Repo<A>,
-    prepared: Vec<Prepared<A>, A>,
+    prepared: Pages<Prepared<A>, A>,
 ) -> Came {
     if prepared.len() > 1_000 {
         return Came::Wrong;

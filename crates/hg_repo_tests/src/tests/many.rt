@@ -3,7 +3,7 @@
 use super::*;
 use hg_log::node_id;
 use hg_repo::prepare;
-use hg_types::Short;
+use hg_types::{Pages, Short};
 
 /// As many parts as a push may have.
 const PARTS: usize = 10_000;
@@ -35,7 +35,7 @@ fn are_run(alloc: Global, state: RandomState) -> Result<bool, NoMemory> {
 
 /// The run of the parts, prepared.
 fn are_run_prepared(alloc: Global, state: RandomState) -> Result<bool, NoMemory> {
-    let mut prepared = Vec::new(alloc);
+    let mut prepared = Pages::new(alloc);
     for part in replying_parts(alloc)?.into_vec() {
         prepared.push(prepare(alloc, BoxedPart::new(alloc, part)?)?)?;
     }

@@ -3,7 +3,7 @@
 
 use super::*;
 use hg_repo::{Prepared, prepare};
-use hg_types::Short;
+use hg_types::{Pages, Short};
 
 /// The id of the changeset of the empty text without parents.
 const ROOT: [u8; 20] = [
@@ -57,8 +57,8 @@ fn whole_group<A: Allocator + Copy>(alloc: A) -> Result<BoxedPart<A>, NoMemory> 
 fn prepared_list<A: Allocator + Copy>(
     alloc: A,
     parts: Seq<Part<A>, A>,
-) -> Result<Vec<Prepared<A>, A>, NoMemory> {
-    let mut list = Vec::new(alloc);
+) -> Result<Pages<Prepared<A>, A>, NoMemory> {
+    let mut list = Pages::new(alloc);
     for part in parts.into_vec() {
         list.push(prepare(alloc, BoxedPart::new(alloc, part)?)?)?;
     }
@@ -69,7 +69,7 @@ fn prepared_list<A: Allocator + Copy>(
 fn answer_to_prepared<A: Allocator + Copy>(
     alloc: A,
     state: RandomState,
-    prepared: Vec<Prepared<A>, A>,
+    prepared: Pages<Prepared<A>, A>,
     expected: Expected,
 ) -> Option<bool> {
     if prepared.len() > 1_000 {
@@ -167,15 +167,15 @@ fn taken_and_kept(heap: &LocalHeap, content: &[u8]) -> Option<(usize, usize)> {
     Some((taken, free.saturating_sub(heap.free())))
 }
 
-/// The content of files is dropped when a part is prepared. What is left takes at most 1,120 bytes: 160 for the block
-/// of the part, 416 for its parameters, and 544 for what was read.
+/// The content of files is dropped when a part is prepared. What is left takes at most 1,152 bytes: 160 for the block
+/// of the part, 416 for its parameters, and 576 for what was read.
 #[test]
 fn file_content_is_dropped(rt: HostRuntime) -> Result<(), Fail> {
     let content = [0u8; CONTENT];
     let heap = LocalHeap::new(rt.alloc(), CONTENT + 1_500)?;
     let told = taken_and_kept(&heap, &content);
     let is = match told {
-        Some((taken, kept)) => taken > CONTENT && kept <= 1_120,
+        Some((taken, kept)) => taken > CONTENT && kept <= 1_152,
         None => false,
     };
     assert!(rt; is, "{told:?}");

@@ -91,7 +91,7 @@ fn marks_are_cloned_without_memory(rt: HostRuntime) -> Result<(), Fail> {
     Ok(())
 }
 
-/// A list grows to 200,000 items, and one that asks for room first to as many as a push has parts.
+/// A list grows to 200,000 items, and one in pages to as many as a push has parts.
 #[test]
 fn the_longest_lists(rt: HostRuntime) -> Result<(), Fail> {
     let heap = LocalHeap::new(rt.alloc(), AMPLE)?;
@@ -99,9 +99,9 @@ fn the_longest_lists(rt: HostRuntime) -> Result<(), Fail> {
     for entry in 0..200_000u32 {
         entries.push(entry)?;
     }
-    let mut parts = Seq::new(&heap);
+    let mut parts = Pages::new(&heap);
     for part in 0..10_000u32 {
-        parts.push_with_room(part, 9)?;
+        parts.push(part)?;
     }
     assert!(rt; entries.len() == 200_000 && parts.len() == 10_000);
     Ok(())

@@ -1,7 +1,6 @@
 use Rattle.std.proofs.Common.{rules, ◌≡◌, ◌∙◌, ◌+◌, ◌||◌, List, length, false, inl, Err, refl, sym, ap, subst}
 use Rattle.std.proofs.Common.{arith}
 use Rattle.std.proofs.lemmas.Bool.{or_left}
-use Rattle.std.specs.Vec.Iter.{into_iter_items}
 use Rattle.hg_types.specs.declared.part.Part.{Part}
 use Rattle.hg_parts.specs.declared.prepared.Prepared.{Prepared}
 use Rattle.hg_parts.specs.declared.refusal.Refusal.TheVariants.{NoMemory}
@@ -11,7 +10,7 @@ use Rattle.hg_parts.specs.Store.{repository_of}
 use Rattle.hg_parts.proofs.CallerLemmas.{grown_same, grown_on}
 use Rattle.hg_repo.specs.Run.{Progress, run_of, PartsGive}
 use Rattle.hg_repo.specs.Replies.{AreReplies}
-use Rattle.hg_repo.proofs.PreparedRuns.{IsReachedBy, no_items, reached_none, next_handled, next_refused}
+use Rattle.hg_repo.proofs.PreparedRuns.{IsReachedBy, reached_none, next_handled, next_refused}
 use Rattle.hg_repo.proofs.PreparedRuns.{all_handled}
 use Rattle.hg_repo.proofs.Replies.{no_replies, one_more}
 use Rattle.hg_repo.proofs.run.run_prepared.Goals as goal
@@ -19,20 +18,19 @@ use Rattle.hg_repo.proofs.run.run_prepared.Goals.{then-replying, else-replying}
 
 pub loop-part-init : goal.loop-part-init
 loop-part-init g c =
-    let all = c.args.prepared.items in
+    let all = c.args.prepared in
     let repo : Repository g.row.A.Denot = repository_of c.args.settings.now c.args.store.now in
-    let gives = c.into_iter-part-iterator.ensures.into_iter_gives in
-    let counts = ap length gives.0 in
+    let counts = ap length c.into_items-left.ensures in
     record {
-      count = omega (arith, counts, c.args.prepared.ok, c.len-count.ensures);
-      all = omega (arith, counts, c.args.prepared.ok, c.len-count.ensures);
-      left = omega (arith, gives.1, counts, c.args.prepared.ok);
+      count = omega (arith, counts, c.len-count.ensures);
+      all = c.len-count.ensures;
       sound = c.requires.sound;
       grown = grown_same _;
       replies = subst (λ (rs : List (Part g.row.A.Denot)). AreReplies 0 rs)
           (sym c.new-replies.ensures) no_replies;
       reached = subst (λ (left : List (Prepared g.row.A.Denot)). IsReachedBy c.args.source repo all left 0
-          (record { repo = repo; replying = false; replies = c.new-replies.result })) (sym gives.0)
+          (record { repo = repo; replying = false; replies = c.new-replies.result }))
+          (sym c.into_items-left.ensures)
           (subst (λ (rs : List (Part g.row.A.Denot)). IsReachedBy c.args.source repo all all 0
           (record { repo = repo; replying = false; replies = rs })) (sym c.new-replies.ensures)
           (reached_none c.args.source repo all));
@@ -40,15 +38,15 @@ loop-part-init g c =
 
 pub loop-part-preserved : goal.loop-part-preserved
 loop-part-preserved g c =
-    let all = c.args.prepared.items in
+    let all = c.args.prepared in
     let settings = c.args.settings.now in
     let repo : Repository g.row.A.Denot = repository_of settings c.args.store.now in
     let now : Repository g.row.A.Denot = repository_of settings c.loop-part.store in
     let next : Repository g.row.A.Denot = repository_of settings c.handle_prepared.new.store in
     let starts = c.starts_replies-starts.result in
-    let steps = c.in-Some.ensures.steps in
-    let counts = ap length steps.0 in
-    let left = into_iter_items c.next.new.self in
+    let steps = c.in-Some.ensures.some in
+    let counts = ap length steps in
+    let left = c.next.new.self in
     let progress : Progress g.row.A.Denot = record {
       repo = now;
       replying = c.loop-part.replying;
@@ -56,7 +54,7 @@ loop-part-preserved g c =
     } in
     let given : Handled g.row.A.Denot = record { repo = next; reply = c.in_ok-reply.reply } in
     let before = subst (λ (left : List (Prepared g.row.A.Denot)).
-    IsReachedBy c.args.source repo all left c.loop-part.place progress) steps.0
+    IsReachedBy c.args.source repo all left c.loop-part.place progress) steps
     c.loop-part.invariant.reached in
     let reached = next_handled c.args.source repo all left c.in-Some.part c.loop-part.place progress given
     starts before (λ part made. c.in_ok-reply.ensures.gives part made)
@@ -70,7 +68,6 @@ loop-part-preserved g c =
     record {
       count = omega (arith, counts, c.loop-part.invariant.count);
       all = c.loop-part.invariant.all;
-      left = omega (arith, counts, steps.1, c.loop-part.invariant.left);
       sound = c.in_ok-reply.ensures.sound;
       grown = grown_on _ _ _ c.loop-part.invariant.grown c.in_ok-reply.ensures.grown;
       replies = subst (λ (rs : List (Part g.row.A.Denot)). AreReplies (c.loop-part.place + 1) rs)
@@ -90,7 +87,7 @@ returns-in_err-reply-clause-grown g c =
 
 pub returns-in_err-reply-clause-gives : goal.returns-in_err-reply-clause-gives
 returns-in_err-reply-clause-gives g c =
-    let all = c.args.prepared.items in
+    let all = c.args.prepared in
     let settings = c.args.settings.now in
     let repo : Repository g.row.A.Denot = repository_of settings c.args.store.now in
     let next : Repository g.row.A.Denot = repository_of settings c.handle_prepared.new.store in
@@ -101,11 +98,11 @@ returns-in_err-reply-clause-gives g c =
       replies = c.loop-part.replies;
     } in
     let before = subst (λ (left : List (Prepared g.row.A.Denot)).
-    IsReachedBy c.args.source repo all left c.loop-part.place progress) c.in-Some.ensures.steps.0
+    IsReachedBy c.args.source repo all left c.loop-part.place progress) c.in-Some.ensures.some
     c.loop-part.invariant.reached in
     let told : c.from_residual.result ≡ Err refusal = search rules in
     λ parts made. subst (λ result. PartsGive (run_of c.args.source repo parts) next result) (sym told)
-    (next_refused c.args.source repo all (into_iter_items c.next.new.self) c.in-Some.part c.loop-part.place
+    (next_refused c.args.source repo all c.next.new.self c.in-Some.part c.loop-part.place
     progress refusal before (λ part one. c.in_err-reply.ensures.gives part one) parts made)
 
 pub returns-in_err-keep_reply-clause-grown : goal.returns-in_err-keep_reply-clause-grown
@@ -123,7 +120,7 @@ returns-in_err-keep_reply-clause-gives g c =
 
 pub returns-clause-gives : goal.returns-clause-gives
 returns-clause-gives g c =
-    let all = c.args.prepared.items in
+    let all = c.args.prepared in
     let settings = c.args.settings.now in
     let repo : Repository g.row.A.Denot = repository_of settings c.args.store.now in
     let progress : Progress g.row.A.Denot = record {
@@ -131,11 +128,11 @@ returns-clause-gives g c =
       replying = c.loop-part.replying;
       replies = c.loop-part.replies;
     } in
-    let none : length (into_iter_items c.loop-part.part-iterator) ≡ 0 = sym c.loop-part.invariant.left
-    ∙ c.in-None.ensures.steps.0 in
-    let here : c.loop-part.place ≡ c.len-count.result = omega (arith, c.loop-part.invariant.count, none) in
+    let none = c.in-None.ensures.none in
+    let counts = ap length none in
+    let here : c.loop-part.place ≡ c.len-count.result = omega (arith, c.loop-part.invariant.count, counts) in
     let reached = subst (λ (left : List (Prepared g.row.A.Denot)).
     IsReachedBy c.args.source repo all left c.loop-part.place progress)
-    (no_items _ none) c.loop-part.invariant.reached in
+    none c.loop-part.invariant.reached in
     λ parts made. all_handled c.args.source repo all c.loop-part.place c.len-count.result progress
     c.in_ok-handled.handled reached here c.in_ok-handled.ensures parts made

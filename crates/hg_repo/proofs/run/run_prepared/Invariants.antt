@@ -1,5 +1,4 @@
 use Rattle.std.proofs.Common.{◌≡◌, ◌+◌, length}
-use Rattle.std.specs.Vec.Iter.{into_iter_items, into_iter_len}
 use Rattle.hg_parts.specs.Store.{repository_of, IsSound, IsGrown}
 use Rattle.hg_repo.specs.Replies.{AreReplies}
 use Rattle.hg_repo.proofs.PreparedRuns.{IsReachedBy}
@@ -8,13 +7,14 @@ use Rattle.hg_repo.proofs.run.run_prepared.Given as goal
 -- the parts so far are handled, what they left is kept, and the others are left
 abbrev pub invariant-loop-part : goal.invariant-loop-part
 invariant-loop-part g l = record {
-  count : l.place + length (into_iter_items l.part-iterator) ≡ l.count;
-  all : l.count ≡ length l.fn.prepared.items;
-  left : into_iter_len l.part-iterator ≡ length (into_iter_items l.part-iterator);
+  count : l.place + length l.left ≡ l.count;
+  all : l.count ≡ length l.fn.prepared;
   sound : IsSound l.settings l.store;
   grown : IsGrown l.fn.store l.store;
   replies : AreReplies l.place l.replies;
-  reached : IsReachedBy l.source (repository_of l.settings l.fn.store) l.fn.prepared.items
-      (into_iter_items l.part-iterator) l.place
+  reached : IsReachedBy l.source (repository_of l.settings l.fn.store) l.fn.prepared l.left l.place
       (record { repo = repository_of l.settings l.store; replying = l.replying; replies = l.replies });
 }
+
+abbrev pub decreases-loop-part : goal.decreases-loop-part
+decreases-loop-part g l = length l.left
