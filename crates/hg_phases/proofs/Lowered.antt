@@ -486,5 +486,17 @@ module _ (parents : ℕ → Option ℕ × Option ℕ) (t : Phase) (heads : List 
               ap number_of (phase_at_told old (get_or listed k 0) (walked.within k 0 low)),
             ) in
             over;
+        lowered = λ k low.
+            let r = get_or listed k 0 in
+            let r_in : r < length old = walked.within k 0 low in
+            phase_at_told now r (omega (arith, r_in, walked.as_long)) ∙ elim (walked.each r r_in) [
+              | inl same ↦ absurd (omega (
+                arith,
+                walked.above k low,
+                reached_low r (walked.reached k low),
+                ap height same,
+              ))
+              | inr down ↦ down.here
+            ];
         each = λ r r_in. elim (walked.each r r_in) [ inl same ↦ inl same | inr down ↦ inr down.place ];
       }

@@ -92,6 +92,19 @@ all_marked marked kept changes all =
     (λ k d k_in. ltb-true (get_or (of_marked marked changes) k d).row marked
     (filter_passes (λ (r : Replaced). ltb r.row marked) changes k d k_in))
 
+-- where all rows that changed are of the mark, all changes are
+pub marked_all : (marked : ℕ) (changes : List Replaced) → All (λ (r : Replaced). r.row < marked) changes
+    → of_marked marked changes ≡ changes
+marked_all marked [] all = refl
+marked_all marked (change ∷ changes) all = elim (cases_Bool (ltb change.row marked)) [
+  | inl before ↦
+      cond-true (ltb change.row marked) (change ∷ of_marked marked changes)
+      (of_marked marked changes) before
+      ∙ ap (λ (cs : List Replaced). change ∷ cs)
+      (marked_all marked changes (λ k d low. all (suc k) d (omega (arith, low))))
+  | inr behind ↦ absurd (omega (arith, ltb-false change.row marked behind, all 0 change (omega arith)))
+]
+
 -- the rows of changes
 pub rows_push : (changes : List Replaced) (change : Replaced)
     → rows_of (changes ++ change ∷ []) ≡ rows_of changes ++ change.row ∷ []

@@ -123,7 +123,8 @@ impl<A: Allocator + Copy> Phases<A> {
         ensures err { OnErr result (self.new ≡ self.old) }
     {
         let _lawful = log.len();
-        let changes = advance_rows(alloc, log, &mut self.index.rows, target, heads)?;
+        let room = self.index.room(alloc);
+        let changes = advance_rows(log, &mut self.index.rows, room, target, heads)?;
         self.index.keep(changes)?;
         Ok(())
     }

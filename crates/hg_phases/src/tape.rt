@@ -6,6 +6,7 @@ ghost use Rattle.hg_phases.specs.code.Tape.{base_of, undone, of_marked, rows_of,
 
 use crate::standing::Standing;
 use std::alloc::{AllocError, Allocator, Global};
+use std::mem;
 
 /// What a row was before a change.
 #[derive(Clone, Copy, Drop)]
@@ -105,6 +106,36 @@ fn keep_marked<A: Allocator>(
 }
 
 impl<A: Allocator> Tape<A> {
+    /// An empty list for changes. Where nothing is kept, it has the memory that the list of what is kept had.
+    pub fn room(&mut self, alloc: A) -> Vec<Replaced, A>
+        ensures none { result.items ≡ [] }
+        ensures rows { self.new.rows.items ≡ self.old.rows.items }
+        ensures kept { self.new.kept.items ≡ self.old.kept.items }
+        ensures marked { self.new.marked ≡ self.old.marked }
+    {
+        let none = Vec::new(alloc);
+        if self.kept.is_empty() {
+            return mem::replace(&mut self.kept, none);
+        }
+        none
+    }
+
+    /// Keeps changes that were made, where none is kept yet: their list itself, without the rows that came
+    /// after the mark.
+    fn take_over(&mut self, changes: Vec<Replaced, A>)
+        requires within { All (λ change. change.row < length self.old.rows.items) changes.items }
+        ensures rows { self.new.rows.items ≡ self.old.rows.items }
+        ensures marked { self.new.marked ≡ self.old.marked }
+        ensures kept { self.new.kept.items ≡ of_marked self.old.marked changes.items }
+    {
+        let marked = self.marked;
+        let mut kept = changes;
+        if marked < self.rows.len() {
+            kept.retain(|change| (change.row as usize) < marked);
+        }
+        self.kept = kept;
+    }
+
     /// Keeps changes that were made, for the way back.
     ///
     /// What is kept is a number and a standing for each change of a row of the mark. Where memory is refused,
@@ -119,6 +150,10 @@ impl<A: Allocator> Tape<A> {
         ensures base { base_of self.new.marked self.new.rows.items self.new.kept.items
             ≡ base_of self.old.marked (undone changes.items self.old.rows.items) self.old.kept.items }
     {
+        if self.marked > 0 && self.kept.is_empty() {
+            self.take_over(changes);
+            return Ok(());
+        }
         match keep_marked(&mut self.kept, self.marked, changes.as_slice()) {
             Ok(()) => Ok(()),
             Err(refused) => {

@@ -3,10 +3,11 @@
 
 ghost use Rattle.std.specs.Prelude.{◌≡◌, ◌<◌, ◌≤◌, [], All, length, slice_set, IfSome, IfOk, OnOk, OnErr};
 ghost use Rattle.hg_log.specs.Parents.{parents_of};
+ghost use Rattle.hg_phases.specs.Order.{phase_at};
 ghost use Rattle.hg_phases.specs.Phases.{AreLawful, advanced};
 ghost use Rattle.hg_phases.specs.Standing.{phases_told};
 ghost use Rattle.hg_phases.specs.code.Tape.{undone, rows_of, TapeFollows};
-ghost use Rattle.hg_phases.specs.code.Walk.{IsLowered, AreLowered, AreRestood, AreStanding, IsTouched};
+ghost use Rattle.hg_phases.specs.code.Walk.{IsLowered, AreAt, AreLowered, AreRestood, AreStanding, IsTouched};
 ghost use Rattle.hg_phases.specs.code.Walk.{IsHigherChild, IsHigherRow, standing_in};
 
 use crate::order::greater;
@@ -74,8 +75,7 @@ impl<A: Allocator> Advance<'_, A> {
         Ok(())
     }
 
-    /// Gives a row the standing that its phase and those of its parents make. A public row has it whatever
-    /// its parents are, so they are not asked for.
+    /// Gives a row the standing that its phase and those of its parents make.
     fn restand(
         &self,
         rows: &mut Vec<Standing, A>,
@@ -88,19 +88,37 @@ impl<A: Allocator> Advance<'_, A> {
             (standing_in (parents_of self.now.log.now.rows) (phases_told rows.old.items) row)) }
         ensures follows { TapeFollows rows.old.items changes.old.items rows.new.items changes.new.items }
     {
-        let all = rows.as_slice();
-        let phase = phase_at(all, row as usize);
-        if matches!(phase, Phase::Public) {
-            return Ok(());
-        }
         let _few = self.log.len();
         let (p1, p2) = self.log.parent_revs(row);
+        let all = rows.as_slice();
+        let phase = phase_at(all, row as usize);
         let above = greater(phase_of(all, p1), phase_of(all, p2));
         let standing = Standing::of(phase, above);
         if standing.is_same(rows[row as usize]) {
             return Ok(());
         }
         replace(rows, changes, row, standing)
+    }
+
+    /// Gives a row that was lowered the standing that its phase and those of its parents make. A public row
+    /// has it whatever its parents are, so where the target is public, no row is looked at.
+    fn restand_lowered(
+        &self,
+        rows: &mut Vec<Standing, A>,
+        changes: &mut Vec<Replaced, A>,
+        row: u32,
+    ) -> Result<(), AllocError>
+        requires row { row < length rows.old.items }
+        requires rows { length rows.old.items ≤ length self.now.log.now.rows }
+        requires lowered { phase_at (phases_told rows.old.items) row ≡ self.now.target }
+        ensures ok { OnOk result (rows.new.items ≡ slice_set rows.old.items row
+            (standing_in (parents_of self.now.log.now.rows) (phases_told rows.old.items) row)) }
+        ensures follows { TapeFollows rows.old.items changes.old.items rows.new.items changes.new.items }
+    {
+        if matches!(self.target, Phase::Public) {
+            return Ok(());
+        }
+        self.restand(rows, changes, row)
     }
 
     /// Gives a row that is there and above the target the standing that its phase and those of its parents
@@ -164,6 +182,7 @@ impl<A: Allocator> Advance<'_, A> {
         requires lowered { lowered ≤ length changes.old.items }
         requires within { All (λ row. row < length rows.old.items) (rows_of changes.old.items) }
         requires rows { length rows.old.items ≤ length self.now.log.now.rows }
+        requires phases { AreAt self.now.target (phases_told rows.old.items) (rows_of changes.old.items) }
         ensures ok { OnOk result (AreRestood (parents_of self.now.log.now.rows)
             (λ r. IsTouched (parents_of self.now.log.now.rows) self.now.target (phases_told rows.old.items)
             (rows_of changes.old.items) lowered r)
@@ -172,7 +191,7 @@ impl<A: Allocator> Advance<'_, A> {
     {
         for place in 0..lowered {
             let row = changes[place].row;
-            self.restand(rows, changes, row)?;
+            self.restand_lowered(rows, changes, row)?;
             self.restand_children(rows, changes, row)?;
         }
         Ok(())
@@ -204,12 +223,12 @@ impl<A: Allocator> Advance<'_, A> {
     }
 }
 
-/// Makes of rows what an advance makes of them, and gives what was changed. Where memory is refused, the rows
-/// are unchanged.
-pub fn advance_rows<A: Allocator + Copy>(
-    alloc: A,
+/// Makes of rows what an advance makes of them, and gives what was changed, in the list that was given as room.
+/// Where memory is refused, the rows are unchanged.
+pub fn advance_rows<A: Allocator>(
     log: &Changelog<A>,
     rows: &mut Vec<Standing, A>,
+    room: Vec<Replaced, A>,
     target: Phase,
     heads: &[u32],
 ) -> Result<Vec<Replaced, A>, AllocError>
@@ -217,13 +236,15 @@ pub fn advance_rows<A: Allocator + Copy>(
     requires rows { length rows.old.items ≤ length log.now.rows }
     requires lawful { AreLawful (parents_of log.now.rows) (phases_told rows.old.items) }
     requires standing { AreStanding (parents_of log.now.rows) rows.old.items }
+    requires none { room.items ≡ [] }
     ensures phases { OnOk result (phases_told rows.new.items
         ≡ advanced (parents_of log.now.rows) target heads.now (phases_told rows.old.items)) }
     ensures standing { OnOk result (AreStanding (parents_of log.now.rows) rows.new.items) }
     ensures changes { IfOk result (λ changes. TapeFollows rows.old.items [] rows.new.items changes.items) }
     ensures err { OnErr result (rows.new.items ≡ rows.old.items) }
 {
-    let mut changes = Vec::with_capacity(alloc, heads.len())?;
+    let mut changes = room;
+    changes.reserve(heads.len())?;
     let advance = Advance { log, target };
     match advance.change_rows(rows, &mut changes, heads) {
         Ok(()) => Ok(changes),

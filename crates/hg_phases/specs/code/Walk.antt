@@ -48,13 +48,19 @@ IsListed listed r = (k : ℕ) × (k < length listed) × (slice_index listed k �
 abbrev pub IsHigher : Phase → List Phase → ℕ → Type 0
 IsHigher target phases r = number_of target < number_of (phase_at phases r)
 
--- the phases are those after an advance; the listed rows were above the target, and each other one is as before
+-- each listed row has that phase
+abbrev pub AreAt : Phase → List Phase → List ℕ → Type 0
+AreAt target phases listed = (k : ℕ) → k < length listed → phase_at phases (slice_index listed k) ≡ target
+
+-- the phases are those after an advance; the listed rows were above the target and have it now, and each other one
+-- is as before
 pub record AreLowered (parents : ℕ → Option ℕ × Option ℕ) (target : Phase) (heads : List ℕ)
     (old new : List Standing) (listed : List ℕ) : Type 0 where
   pub as_long : length new ≡ length old
   pub within : All (λ row. row < length old) listed
   pub phases : phases_told new ≡ advanced parents target heads (phases_told old)
   pub above : (k : ℕ) → k < length listed → IsHigher target (phases_told old) (slice_index listed k)
+  pub lowered : AreAt target (phases_told new) listed
   pub each : (r : ℕ) → r < length old → (standing_at new r ≡ standing_at old r) ⊎ IsListed listed r
 
 -- the phases are the same, and each row is what they make it, or as before and not one of those that are asked

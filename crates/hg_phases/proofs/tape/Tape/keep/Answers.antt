@@ -1,10 +1,34 @@
-use Rattle.std.proofs.Common.{◌≡◌, ◌<◌, ◌++◌, List, sym, ap, ◌∙◌}
+use Rattle.std.proofs.Common.{◌≡◌, ◌<◌, ◌++◌, [], List, vec_len, sym, ap, ◌∙◌, arith}
+use Rattle.std.proofs.lemmas.Bool.{eqb-true}
+use Rattle.std.proofs.lemmas.List.{nil_from_length}
 use Rattle.std.proofs.lemmas.List.Elements.{All-same}
 use Rattle.hg_phases.specs.declared.standing.Standing.{Standing}
 use Rattle.hg_phases.specs.declared.tape.Replaced.{Replaced}
 use Rattle.hg_phases.specs.code.Tape.{base_of, undone, of_marked}
 use Rattle.hg_phases.proofs.Undoing.{base_kept, all_marked}
 use Rattle.hg_phases.proofs.tape.Tape.keep.Goals as goal
+
+pub returns-then-is_empty-clause-replaced : goal.returns-then-is_empty-clause-replaced
+returns-then-is_empty-clause-replaced g c =
+    let self = c.args.self.now in
+    let held = self.kept.ok in
+    let empty : vec_len self.kept ≡ 0 = eqb-true (vec_len self.kept) 0 (sym c.is_empty.ensures ∙ c.if-is_empty.true) in
+    let none : self.kept.items ≡ [] = nil_from_length self.kept.items (omega (arith, empty)) in
+    let kept : c.take_over.new.self.kept.items ≡ self.kept.items ++ of_marked self.marked c.args.changes.items =
+    rw none c.take_over.ensures.kept in
+    rw (kept, c.take_over.ensures.marked)
+    (all_marked self.marked self.kept.items c.args.changes.items c.requires.replaced)
+
+pub returns-then-is_empty-clause-base : goal.returns-then-is_empty-clause-base
+returns-then-is_empty-clause-base g c =
+    let self = c.args.self.now in
+    let held = self.kept.ok in
+    let empty : vec_len self.kept ≡ 0 = eqb-true (vec_len self.kept) 0 (sym c.is_empty.ensures ∙ c.if-is_empty.true) in
+    let none : self.kept.items ≡ [] = nil_from_length self.kept.items (omega (arith, empty)) in
+    let kept : c.take_over.new.self.kept.items ≡ self.kept.items ++ of_marked self.marked c.args.changes.items =
+    rw none c.take_over.ensures.kept in
+    rw (kept, c.take_over.ensures.marked, c.take_over.ensures.rows)
+    (base_kept self.marked self.rows.items self.kept.items c.args.changes.items)
 
 pub returns-in-Ok-clause-replaced : goal.returns-in-Ok-clause-replaced
 returns-in-Ok-clause-replaced g c =
