@@ -223,8 +223,8 @@ impl<A: Allocator> Advance<'_, A> {
     }
 }
 
-/// Makes of rows what an advance makes of them, and gives what was changed, in the list that was given as room.
-/// Where memory is refused, the rows are unchanged.
+/// Makes of rows what an advance makes of them, and gives what was changed, in the list given as
+/// room. Where memory is refused, the rows are unchanged.
 pub fn advance_rows<A: Allocator>(
     log: &Changelog<A>,
     rows: &mut Vec<Standing, A>,

@@ -52,8 +52,8 @@ IsHigher target phases r = number_of target < number_of (phase_at phases r)
 abbrev pub AreAt : Phase → List Phase → List ℕ → Type 0
 AreAt target phases listed = (k : ℕ) → k < length listed → phase_at phases (slice_index listed k) ≡ target
 
--- the phases are those after an advance; the listed rows were above the target and have it now, and each other one
--- is as before
+-- the phases are those after an advance; the listed rows were above the target and have it now, and each other
+-- one is as before
 pub record AreLowered (parents : ℕ → Option ℕ × Option ℕ) (target : Phase) (heads : List ℕ)
     (old new : List Standing) (listed : List ℕ) : Type 0 where
   pub as_long : length new ≡ length old

@@ -1,7 +1,6 @@
-use Rattle.std.proofs.Common.{◌≡◌, ◌∙◌, ℕ, ◌≤◌, length, sym, ap, subst, arith}
+use Rattle.std.proofs.Common.{◌≡◌, ◌∙◌, length, sym, ap, subst, arith}
 use Rattle.std.proofs.lemmas.List.{length-map}
 use Rattle.hg_types.specs.declared.phase.Phase.TheVariants.{Draft, Secret}
-use Rattle.hg_types.specs.Phase.{number_of}
 use Rattle.hg_log.specs.Parents.{parents_of}
 use Rattle.hg_log.proofs.CallerLemmas.{ordered}
 use Rattle.hg_phases.specs.Phases.{advanced, AreFor, AreLawful}
@@ -30,7 +29,8 @@ returns-clause-fits g c =
       secret = told Secret was;
     }) = rw (← c.self.view_is) at c.requires.fits in
     let before : c.room-room.new.self.rows.items ≡ was = c.room-room.ensures.rows in
-    let size : length mid ≡ length was = c.in_ok-changes.ensures.changes.as_long ∙ ap (λ rows. length rows) before in
+    let size : length mid ≡ length was =
+    c.in_ok-changes.ensures.changes.as_long ∙ ap (λ rows. length rows) before in
     let phases : phases_told mid ≡ advanced parents c.args.target c.args.heads.now (phases_told was) =
     c.in_ok-changes.ensures.phases
     ∙ ap (λ rows. advanced parents c.args.target c.args.heads.now (phases_told rows)) before in

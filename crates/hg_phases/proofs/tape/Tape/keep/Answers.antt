@@ -1,10 +1,7 @@
-use Rattle.std.proofs.Common.{◌≡◌, ◌<◌, ◌++◌, [], List, vec_len, sym, ap, ◌∙◌, arith}
+use Rattle.std.proofs.Common.{◌≡◌, ◌++◌, [], true, eqb, vec_len, sym, ◌∙◌, arith}
 use Rattle.std.proofs.lemmas.Bool.{eqb-true}
 use Rattle.std.proofs.lemmas.List.{nil_from_length}
-use Rattle.std.proofs.lemmas.List.Elements.{All-same}
-use Rattle.hg_phases.specs.declared.standing.Standing.{Standing}
-use Rattle.hg_phases.specs.declared.tape.Replaced.{Replaced}
-use Rattle.hg_phases.specs.code.Tape.{base_of, undone, of_marked}
+use Rattle.hg_phases.specs.code.Tape.{of_marked}
 use Rattle.hg_phases.proofs.Undoing.{base_kept, all_marked}
 use Rattle.hg_phases.proofs.tape.Tape.keep.Goals as goal
 
@@ -12,9 +9,11 @@ pub returns-then-is_empty-clause-replaced : goal.returns-then-is_empty-clause-re
 returns-then-is_empty-clause-replaced g c =
     let self = c.args.self.now in
     let held = self.kept.ok in
-    let empty : vec_len self.kept ≡ 0 = eqb-true (vec_len self.kept) 0 (sym c.is_empty.ensures ∙ c.if-is_empty.true) in
+    let is : eqb (vec_len self.kept) 0 ≡ true = sym c.is_empty.ensures ∙ c.if-is_empty.true in
+    let empty : vec_len self.kept ≡ 0 = eqb-true (vec_len self.kept) 0 is in
     let none : self.kept.items ≡ [] = nil_from_length self.kept.items (omega (arith, empty)) in
-    let kept : c.take_over.new.self.kept.items ≡ self.kept.items ++ of_marked self.marked c.args.changes.items =
+    let more = of_marked self.marked c.args.changes.items in
+    let kept : c.take_over.new.self.kept.items ≡ self.kept.items ++ more =
     rw none c.take_over.ensures.kept in
     rw (kept, c.take_over.ensures.marked)
     (all_marked self.marked self.kept.items c.args.changes.items c.requires.replaced)
@@ -23,9 +22,11 @@ pub returns-then-is_empty-clause-base : goal.returns-then-is_empty-clause-base
 returns-then-is_empty-clause-base g c =
     let self = c.args.self.now in
     let held = self.kept.ok in
-    let empty : vec_len self.kept ≡ 0 = eqb-true (vec_len self.kept) 0 (sym c.is_empty.ensures ∙ c.if-is_empty.true) in
+    let is : eqb (vec_len self.kept) 0 ≡ true = sym c.is_empty.ensures ∙ c.if-is_empty.true in
+    let empty : vec_len self.kept ≡ 0 = eqb-true (vec_len self.kept) 0 is in
     let none : self.kept.items ≡ [] = nil_from_length self.kept.items (omega (arith, empty)) in
-    let kept : c.take_over.new.self.kept.items ≡ self.kept.items ++ of_marked self.marked c.args.changes.items =
+    let more = of_marked self.marked c.args.changes.items in
+    let kept : c.take_over.new.self.kept.items ≡ self.kept.items ++ more =
     rw none c.take_over.ensures.kept in
     rw (kept, c.take_over.ensures.marked, c.take_over.ensures.rows)
     (base_kept self.marked self.rows.items self.kept.items c.args.changes.items)

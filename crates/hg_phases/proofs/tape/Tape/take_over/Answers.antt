@@ -1,7 +1,6 @@
-use Rattle.std.proofs.Common.{◌≡◌, ◌∙◌, ◌<◌, ℕ, length, ltb, ap, sym, arith, rules}
+use Rattle.std.proofs.Common.{◌∙◌, ltb, ap, sym, arith, rules}
 use Rattle.std.proofs.lemmas.Fn.{filter_same}
 use Rattle.hg_phases.specs.declared.tape.Replaced.{Replaced}
-use Rattle.hg_phases.specs.code.Tape.{of_marked}
 use Rattle.hg_phases.proofs.Undoing.{marked_all}
 use Rattle.hg_phases.proofs.tape.Tape.take_over.Goals as goal
 use Rattle.hg_phases.proofs.tape.Tape.take_over.Goals.{then-marked-len, else-marked-len}

@@ -1,8 +1,6 @@
-use Rattle.std.proofs.Common.{◌≡◌, ◌∙◌, true, false, sym, ap}
+use Rattle.std.proofs.Common.{◌≡◌, ◌∙◌, true, false, sym}
 use Rattle.hg_types.specs.declared.phase.Phase.TheVariants.{Public}
 use Rattle.hg_log.specs.Parents.{parents_of}
-use Rattle.hg_phases.specs.Order.{phase_at}
-use Rattle.hg_phases.specs.Standing.{phases_told}
 use Rattle.hg_phases.proofs.Restood.{public_stands}
 use Rattle.hg_phases.proofs.walk.Advance.restand_lowered.Goals as goal
 use Rattle.hg_phases.proofs.walk.Advance.restand_lowered.Goals.{in-Public, in_default}
