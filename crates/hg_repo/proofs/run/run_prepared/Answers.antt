@@ -128,7 +128,7 @@ returns-clause-gives g c =
       replying = c.loop-part.replying;
       replies = c.loop-part.replies;
     } in
-    let none = c.in-None.ensures.none in
+    let none = c.in_default.ensures.none in
     let counts = ap length none in
     let here : c.loop-part.place ≡ c.len-count.result = omega (arith, c.loop-part.invariant.count, counts) in
     let reached = subst (λ (left : List (Prepared g.row.A.Denot)).
