@@ -7,7 +7,7 @@ use Rattle.std.proofs.lemmas.List.{append-nil, reverse-append}
 use Rattle.hg_keys.specs.declared.bookmarks.Change.{Change}
 use Rattle.hg_keys.specs.declared.bookmarks.Change.TheVariants.{Added, Moved, Removed}
 use Rattle.hg_keys.specs.Bookmarks.{Pairs, AreInOrder}
-use Rattle.hg_keys.specs.code.Changes.{undone, all_undone, base_of, can_undo, can_undo_all, kept, IsSound}
+use Rattle.hg_keys.specs.code.Changes.{undone, all_undone, base_of, can_undo, can_undo_all, IsSound}
 use Rattle.hg_keys.proofs.StayingLemmas.{in_order_with}
 
 pub both : (p q : Bool) → p ≡ true → q ≡ true → (p && q) ≡ true
@@ -63,31 +63,40 @@ sound_same pairs new changes same room more is_marked pairs_stay changes_stay le
     subst (λ cs. IsSound new cs more is_marked) (sym changes_stay)
     (subst (λ ps. IsSound ps changes more is_marked) (sym pairs_stay) stays)
 
--- after a change that is kept where there is a mark
-pub sound_kept : {A : Type 0} (old new : Pairs) (changes : List (Change A)) (change : Option (Change A))
-    (room more : ℕ) (is_marked : Bool) → IsSound old changes room is_marked → AreInOrder new
-    → (is_marked ≡ true → length changes + 1 ≤ more)
-    → (is_marked ≡ true → all_undone (option_to_list change) new ≡ old)
-    → (is_marked ≡ true → can_undo_all (option_to_list change) new ≡ true)
-    → IsSound new (kept is_marked changes change) more is_marked
-sound_kept old new changes change room more true sound in_order le back can = record {
-  in_order = in_order;
-  back = λ marked. back_kept changes change new old (back marked) (can marked) (sound.back marked);
-  room = λ marked. omega (arith, one_more changes change, le marked);
-}
-sound_kept old new changes change room more false sound in_order le back can = record {
+-- where there is no mark, only the order counts
+pub sound_unmarked : {A : Type 0} (pairs : Pairs) (changes : List (Change A)) (room : ℕ) (is_marked : Bool)
+    → is_marked ≡ false → AreInOrder pairs → IsSound pairs changes room is_marked
+sound_unmarked pairs changes room is_marked unmarked in_order = record {
   in_order = in_order;
   back = λ marked. absurd cc;
   room = λ marked. absurd cc;
 }
 
+-- nor is there what the bookmarks were at the mark
+pub no_mark : (is_marked : Bool) (base other : Pairs) → is_marked ≡ false
+    → cond is_marked (Some base) None ≡ cond is_marked (Some other) None
+no_mark true base other unmarked = absurd cc
+no_mark false base other unmarked = refl
+
+-- after a change that is kept where there is a mark
+pub sound_kept : {A : Type 0} (old new : Pairs) (changes : List (Change A)) (change : Option (Change A))
+    (room more : ℕ) (is_marked : Bool) → is_marked ≡ true → IsSound old changes room is_marked → AreInOrder new
+    → length changes + 1 ≤ more → all_undone (option_to_list change) new ≡ old
+    → can_undo_all (option_to_list change) new ≡ true
+    → IsSound new (changes ++ option_to_list change) more is_marked
+sound_kept old new changes change room more is_marked marked sound in_order le back can = record {
+  in_order = in_order;
+  back = λ _. back_kept changes change new old back can (sound.back marked);
+  room = λ _. omega (arith, one_more changes change, le);
+}
+
 -- the pairs at the mark stay
 pub mark_kept : {A : Type 0} (old new : Pairs) (changes : List (Change A)) (change : Option (Change A))
-    (is_marked : Bool) → (is_marked ≡ true → all_undone (option_to_list change) new ≡ old)
-    → cond is_marked (Some (base_of (kept is_marked changes change) new)) None ≡ cond is_marked
+    (is_marked : Bool) → all_undone (option_to_list change) new ≡ old
+    → cond is_marked (Some (base_of (changes ++ option_to_list change) new)) None ≡ cond is_marked
     (Some (base_of changes old)) None
-mark_kept old new changes change true back = ap (λ ps. Some ps) (base_kept changes change new old (back refl))
-mark_kept old new changes change false back = refl
+mark_kept old new changes change is_marked back =
+    ap (λ (ps : Pairs). cond is_marked (Some ps) None) (base_kept changes change new old back)
 
 -- the last change taken back
 pub base_popped : {A : Type 0} (changes rest : List (Change A)) (change : Change A) (pairs : Pairs)

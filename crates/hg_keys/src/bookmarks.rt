@@ -1,10 +1,10 @@
 //! Bookmarks: names for changesets, which move.
 
-ghost use Rattle.std.specs.Prelude.{◌≡◌, ◌≢◌, ◌+◌, ◌<◌, ◌≤◌, [], length, reverse, true, Some, None, IfSome};
+ghost use Rattle.std.specs.Prelude.{◌≡◌, ◌≢◌, ◌+◌, ◌<◌, ◌≤◌, ◌++◌, [], length, reverse, true, Some, None, IfSome};
 ghost use Rattle.std.specs.Prelude.{IfNone, IfOk, OnOk, OnErr, slice_get, vec_len, vec_capacity};
 ghost use Rattle.std.specs.Option.{option_to_list};
 ghost use Rattle.hg_keys.specs.Bookmarks.{AreInOrder, node_of, set_each, with_bookmark};
-ghost use Rattle.hg_keys.specs.code.Changes.{all_undone, base_of, can_undo, can_undo_all, kept, undone};
+ghost use Rattle.hg_keys.specs.code.Changes.{all_undone, base_of, can_undo, can_undo_all, undone};
 ghost use Rattle.hg_keys.specs.code.Sorting.{HaveSameNames};
 
 use hg_names::{Entries, Named, Names};
@@ -87,9 +87,13 @@ impl<A: Allocator + Copy> Bookmarks<A> {
             ≡ record { current = with_bookmark self.old.current name.now node; marked = self.old.marked }) }
         ensures err { OnErr result (self.new ≡ self.old) }
     {
-        make_room(&mut self.names, &mut self.changes, self.is_marked)?;
-        let change = put(alloc, &mut self.names, name, node, self.is_marked)?;
-        keep(&mut self.changes, change, self.is_marked);
+        if !self.is_marked {
+            put(alloc, &mut self.names, name, node)?;
+            return Ok(());
+        }
+        make_room(&mut self.names, &mut self.changes)?;
+        let change = put_after_mark(alloc, &mut self.names, name, node)?;
+        keep(&mut self.changes, change);
         Ok(())
     }
 
@@ -175,54 +179,40 @@ impl<A: Allocator> Bookmarks<A> {
     }
 }
 
-/// Makes room for one more change where there is a mark, and for all of them to be taken back. Where memory is
-/// refused, nothing is changed.
+/// Makes room for one more change, and for all of them to be taken back. Where memory is refused, nothing is
+/// changed.
 fn make_room<A: Allocator>(
     names: &mut Names<A>,
     changes: &mut Vec<Change<A>, A>,
-    is_marked: bool,
 ) -> Result<(), NoMemory>
     ensures names { names.new.pairs ≡ names.old.pairs }
     ensures changes { changes.new.items ≡ changes.old.items }
     ensures more { names.old.room ≤ names.new.room }
-    ensures place { OnOk result (is_marked ≡ true → vec_len changes.new < vec_capacity changes.new) }
-    ensures room { OnOk result (is_marked ≡ true → length changes.old.items + 2 ≤ names.new.room) }
+    ensures place { OnOk result (vec_len changes.new < vec_capacity changes.new) }
+    ensures room { OnOk result (length changes.old.items + 2 ≤ names.new.room) }
 {
-    if is_marked {
-        let count = changes.len().checked_add(2).ok_or(NoMemory)?;
-        changes.reserve(1)?;
-        names.reserve(count)?;
-    }
+    let count = changes.len().checked_add(2).ok_or(NoMemory)?;
+    changes.reserve(1)?;
+    names.reserve(count)?;
     Ok(())
 }
 
-/// Sets a name or deletes it. Where there is a mark, it reports the change, if there is one.
+/// Sets a name or deletes it.
 fn put<A: Allocator + Copy>(
     alloc: A,
     names: &mut Names<A>,
     name: &[u8],
     node: Option<Node>,
-    is_marked: bool,
-) -> Result<Option<Change<A>>, NoMemory>
+) -> Result<(), NoMemory>
     requires { AreInOrder names.old.pairs }
     ensures set { OnOk result (names.new.pairs ≡ with_bookmark names.old.pairs name.now node) }
-    ensures back { IfOk result (λ change. is_marked ≡ true
-        → all_undone (option_to_list change) names.new.pairs ≡ names.old.pairs) }
-    ensures can { IfOk result (λ change. is_marked ≡ true
-        → can_undo_all (option_to_list change) names.new.pairs ≡ true) }
-    ensures room { names.old.room ≤ names.new.room + 1 }
     ensures err { OnErr result (names.new.pairs ≡ names.old.pairs) }
 {
-    if is_marked {
-        return put_after_mark(alloc, names, name, node);
-    }
     match node {
-        Some(node) => {
-            names.insert(alloc, name, node)?;
-        }
+        Some(node) => names.set(alloc, name, node)?,
         None => names.forget(name),
     }
-    Ok(None)
+    Ok(())
 }
 
 /// Sets a name or deletes it, and reports the change, if there is one.
@@ -255,12 +245,12 @@ fn put_after_mark<A: Allocator + Copy>(
     }
 }
 
-/// Keeps a change where there is a mark. There is room for it.
-fn keep<A: Allocator>(changes: &mut Vec<Change<A>, A>, change: Option<Change<A>>, is_marked: bool)
-    requires { is_marked ≡ true → vec_len changes.old < vec_capacity changes.old }
-    ensures { changes.new.items ≡ kept is_marked changes.old.items change }
+/// Keeps a change, if there is one. There is room for it.
+fn keep<A: Allocator>(changes: &mut Vec<Change<A>, A>, change: Option<Change<A>>)
+    requires { vec_len changes.old < vec_capacity changes.old }
+    ensures { changes.new.items ≡ changes.old.items ++ option_to_list change }
 {
-    if is_marked && let Some(change) = change {
+    if let Some(change) = change {
         changes.push_reserved(change);
     }
 }

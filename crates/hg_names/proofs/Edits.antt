@@ -10,7 +10,7 @@ use Rattle.std.proofs.lemmas.List.{set_split, take-append-drop}
 use Rattle.hg_types.specs.declared.node.Node.{Node}
 use Rattle.hg_names.specs.Names.{Pairs, name_cmp, is_before, AreInOrder, with_name, without}
 use Rattle.hg_names.specs.code.Places.{IsAt, IsGap, moved}
-use Rattle.hg_names.proofs.Order.{turned}
+use Rattle.hg_names.proofs.OrderLemmas.{turned}
 use Rattle.hg_names.proofs.Parts.{filter_front, filter_rest}
 
 equals_itself : (a b : List ℕ) → a ≡ b → name_cmp a b ≡ Equal

@@ -1,4 +1,5 @@
-pub mod Order
+pub mod OrderLemmas
+pub mod Numbers
 pub mod Flat
 pub mod Filled
 pub mod Own

@@ -14,7 +14,7 @@ use Rattle.hg_types.specs.declared.node.Node.{Node}
 use Rattle.hg_names.specs.Names.{Pairs, name_cmp, AreInOrder}
 use Rattle.hg_names.specs.code.Places.{IsAt, IsGap}
 use Rattle.hg_names.specs.code.Blocks.{IsLess, IsGreater, IsNotGreater}
-use Rattle.hg_names.proofs.Order.{turned, names_equal, before_upto, behind_greater}
+use Rattle.hg_names.proofs.OrderLemmas.{turned, names_equal, before_upto, behind_greater}
 use Rattle.hg_names.proofs.Flat.{next_start}
 
 -- ---- a list of pairs

@@ -9,6 +9,7 @@ ghost use Rattle.hg_names.specs.code.Blocks.{pairs_in, start_of, place_at, IsFil
 ghost use Rattle.hg_names.specs.code.Blocks.{IsLess, IsSpot, IsOpen, IsNamed, IsFree};
 ghost use Rattle.hg_names.specs.code.Places.{IsAt, IsGap, moved};
 
+use crate::order::order;
 use hg_types::{NoMemory, Node, Short};
 use std::alloc::{Allocator, Global};
 use std::cmp::Ordering;
@@ -33,7 +34,7 @@ fn is_behind<A: Allocator>(block: &Block<A>, name: &[u8]) -> bool
     ensures behind { result ≡ true → HoldsAt (IsGreater name.now) block.now.pairs.items 0 }
     ensures upto { result ≡ false → HoldsAt (IsNotGreater name.now) block.now.pairs.items 0 }
 {
-    block.pairs[0].0.as_slice().cmp(name) == Ordering::Greater
+    order(block.pairs[0].0.as_slice(), name) == Ordering::Greater
 }
 
 /// The last block whose first name does not come after a name, or else the first one.
@@ -65,7 +66,7 @@ fn place_in<A: Allocator>(pairs: &[Pair<A>], name: &[u8]) -> Result<usize, usize
     ensures found { IfOk result (IsAt pairs.now name.now) }
     ensures absent { IfErr result (IsGap pairs.now name.now) }
 {
-    pairs.binary_search_by(|pair| pair.0.as_slice().cmp(name))
+    pairs.binary_search_by(|pair| order(pair.0.as_slice(), name))
 }
 
 /// The spot of a name, or else one at which it would go.
@@ -226,9 +227,31 @@ pub(crate) fn move_in<A: Allocator>(
     mem::replace(&mut pair.1, node)
 }
 
-/// Puts a name in at a spot at which it goes, and cuts a full block in two before. Where memory is refused, the
-/// names are unchanged.
-pub(crate) fn join<A: Allocator + Copy>(
+/// A spot at which a name goes, in a block that is not full: one that is gets cut in two. Where memory is
+/// refused, the blocks are unchanged.
+fn open_spot<A: Allocator + Copy>(
+    blocks: &mut Vec<Block<A>, A>,
+    spot: (usize, usize),
+    name: &[u8],
+) -> Result<(usize, usize), NoMemory>
+    requires filled { All IsFilled blocks.old.items }
+    requires in_order { AreInOrder (pairs_in blocks.old.items) }
+    requires free { IsFree blocks.old.items name.now spot }
+    ensures free { IfOk result (IsFree blocks.new.items name.now) }
+    ensures pairs { pairs_in blocks.new.items ≡ pairs_in blocks.old.items }
+    ensures filled { All IsFilled blocks.new.items }
+    ensures len { vec_len blocks.new ≤ vec_len blocks.old + 1 }
+    ensures capacity { vec_capacity blocks.old ≤ vec_capacity blocks.new }
+{
+    if blocks[spot.0].pairs.len() < FULL {
+        return Ok(spot);
+    }
+    split(blocks, spot.0)?;
+    Ok(spot_free(blocks.as_slice(), name))
+}
+
+/// Puts a name in at a spot at which it goes. Where memory is refused, the names are unchanged.
+fn join<A: Allocator + Copy>(
     blocks: &mut Vec<Block<A>, A>,
     spot: (usize, usize),
     pair: Pair<A>,
@@ -244,16 +267,12 @@ pub(crate) fn join<A: Allocator + Copy>(
     ensures len { vec_len blocks.new ≤ vec_len blocks.old + 1 }
     ensures capacity { vec_capacity blocks.old ≤ vec_capacity blocks.new }
 {
-    if blocks[spot.0].pairs.len() >= FULL {
-        split(blocks, spot.0)?;
-        let spot = spot_free(blocks.as_slice(), pair.0.as_slice());
-        return put(blocks, spot, pair);
-    }
+    let spot = open_spot(blocks, spot, pair.0.as_slice())?;
     put(blocks, spot, pair)
 }
 
 /// Puts the first pair in. Where memory is refused, there is none.
-pub(crate) fn begin<A: Allocator + Copy>(
+fn begin<A: Allocator + Copy>(
     alloc: A,
     blocks: &mut Vec<Block<A>, A>,
     pair: Pair<A>,
@@ -268,6 +287,61 @@ pub(crate) fn begin<A: Allocator + Copy>(
     let mut pairs = Vec::with_capacity(alloc, 1)?;
     pairs.push_reserved(pair);
     blocks.push(Block { pairs })?;
+    Ok(())
+}
+
+/// Puts the first name in, and counts it. Where memory is refused, there is none.
+pub(crate) fn add_first<A: Allocator + Copy>(
+    alloc: A,
+    blocks: &mut Vec<Block<A>, A>,
+    count: &mut usize,
+    name: &[u8],
+    node: Node,
+) -> Result<(), NoMemory>
+    requires none { vec_len blocks.old ≡ 0 }
+    requires count { count.old ≡ length (pairs_in blocks.old.items) }
+    ensures ok { OnOk result (pairs_in blocks.new.items
+        ≡ with_name (pairs_in blocks.old.items) name.now node) }
+    ensures err { OnErr result (pairs_in blocks.new.items ≡ pairs_in blocks.old.items) }
+    ensures count { count.new ≡ length (pairs_in blocks.new.items) }
+    ensures filled { All IsFilled blocks.new.items }
+    ensures len { vec_len blocks.new ≤ vec_len blocks.old + 1 }
+    ensures capacity { vec_capacity blocks.old ≤ vec_capacity blocks.new }
+{
+    let name = Short::copy_of(alloc, name)?;
+    begin(alloc, blocks, (name, node))?;
+    *count = 1;
+    Ok(())
+}
+
+/// Puts a name in at a spot at which it goes, and counts it. Where memory is refused, the names are
+/// unchanged.
+pub(crate) fn add_at<A: Allocator + Copy>(
+    alloc: A,
+    blocks: &mut Vec<Block<A>, A>,
+    count: &mut usize,
+    spot: (usize, usize),
+    name: &[u8],
+    node: Node,
+) -> Result<(), NoMemory>
+    requires filled { All IsFilled blocks.old.items }
+    requires in_order { AreInOrder (pairs_in blocks.old.items) }
+    requires count { count.old ≡ length (pairs_in blocks.old.items) }
+    requires free { IsFree blocks.old.items name.now spot }
+    ensures ok { OnOk result (pairs_in blocks.new.items
+        ≡ with_name (pairs_in blocks.old.items) name.now node) }
+    ensures err { OnErr result (pairs_in blocks.new.items ≡ pairs_in blocks.old.items) }
+    ensures count { count.new ≡ length (pairs_in blocks.new.items) }
+    ensures filled { All IsFilled blocks.new.items }
+    ensures len { vec_len blocks.new ≤ vec_len blocks.old + 1 }
+    ensures capacity { vec_capacity blocks.old ≤ vec_capacity blocks.new }
+{
+    if *count == usize::MAX {
+        return Err(NoMemory);
+    }
+    let name = Short::copy_of(alloc, name)?;
+    join(blocks, spot, (name, node))?;
+    *count += 1;
     Ok(())
 }
 

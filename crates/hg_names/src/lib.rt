@@ -6,5 +6,6 @@
 
 mod blocks;
 mod names;
+mod order;
 
 pub use names::{Entries, Named, Names};

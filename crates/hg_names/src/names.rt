@@ -6,7 +6,7 @@ ghost use Rattle.hg_names.specs.Names.{AreInOrder, node_of, with_name, without};
 ghost use Rattle.hg_names.specs.code.Blocks.{IsFilled};
 
 use crate::blocks::{
-    Block, Pair, begin, come_back, copies, join, move_in, spot_at, spot_if_there, spot_named,
+    Block, Pair, add_at, add_first, come_back, copies, move_in, spot_at, spot_if_there, spot_named,
     spot_of, take_out,
 };
 use hg_types::{NoMemory, Node, Short};
@@ -158,22 +158,35 @@ impl<A: Allocator + Copy> Names<A> {
         ensures room { self.old.room ≤ self.new.room + 1 }
     {
         if self.blocks.is_empty() {
-            let name = Short::copy_of(alloc, name)?;
-            begin(alloc, &mut self.blocks, (name, node))?;
-            self.len = 1;
+            add_first(alloc, &mut self.blocks, &mut self.len, name, node)?;
             return Ok(None);
         }
         match spot_of(self.blocks.as_slice(), name) {
             Ok(spot) => Ok(Some(move_in(&mut self.blocks, spot, node))),
             Err(spot) => {
-                if self.len == usize::MAX {
-                    return Err(NoMemory);
-                }
-                let name = Short::copy_of(alloc, name)?;
-                join(&mut self.blocks, spot, (name, node))?;
-                self.len += 1;
+                add_at(alloc, &mut self.blocks, &mut self.len, spot, name, node)?;
                 Ok(None)
             }
+        }
+    }
+
+    /// Puts a name on a changeset, as `insert` does, and reports nothing. Where memory is refused, the names
+    /// are unchanged.
+    pub fn set(&mut self, alloc: A, name: &[u8], node: Node) -> Result<(), NoMemory>
+        requires { AreInOrder self.old.pairs }
+        ensures ok { OnOk result (self.new.pairs ≡ with_name self.old.pairs name.now node) }
+        ensures err { OnErr result (self.new.pairs ≡ self.old.pairs) }
+        ensures room { self.old.room ≤ self.new.room + 1 }
+    {
+        if self.blocks.is_empty() {
+            return add_first(alloc, &mut self.blocks, &mut self.len, name, node);
+        }
+        match spot_of(self.blocks.as_slice(), name) {
+            Ok(spot) => {
+                move_in(&mut self.blocks, spot, node);
+                Ok(())
+            }
+            Err(spot) => add_at(alloc, &mut self.blocks, &mut self.len, spot, name, node),
         }
     }
 

@@ -89,6 +89,11 @@ impl<A: Allocator + Copy> Ordered<A> {
         Ok(was)
     }
 
+    fn set(&mut self, alloc: A, name: &[u8], node: Node) -> Result<(), NoMemory> {
+        self.names.set(alloc, name, node)?;
+        Ok(())
+    }
+
     /// Takes a name out for good, and reports whether it was there.
     fn remove(&mut self, alloc: A, name: &[u8]) -> Result<bool, NoMemory> {
         let gone = self.names.remove(alloc, name)?;
@@ -152,6 +157,23 @@ fn names_at_their_places(rt: HostRuntime) -> Result<(), Fail> {
     let copy = names.try_clone(alloc)?;
     assert!(rt; one_leaves_and_comes_back(alloc, &mut names)?);
     assert!(rt; are_four(&copy, 9));
+    Ok(())
+}
+
+/// The first name, one that is there, and one that is not.
+#[test]
+fn names_that_are_set(rt: HostRuntime) -> Result<(), Fail> {
+    let alloc = rt.alloc();
+    let mut names = Ordered::new(alloc);
+    names.set(alloc, b"b", node(8))?;
+    assert!(rt; are(&names, &[(b"b", node(8))]));
+    put_four(alloc, &mut names)?;
+    names.set(alloc, b"b", node(9))?;
+    assert!(rt; are_four(&names, 9));
+    names.set(alloc, b"c", node(6))?;
+    assert!(rt; names.held().len() == 5 && names.held().find(b"c") == Some(node(6)));
+    names.forget(b"c");
+    assert!(rt; are_four(&names, 9));
     Ok(())
 }
 

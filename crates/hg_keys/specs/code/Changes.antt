@@ -1,6 +1,5 @@
 -- The way back: what takes back each change, by the name and what it was on.
-use Rattle.std.specs.Option.{option_to_list}
-use Rattle.std.specs.Prelude.{◌≡◌, ◌≤◌, ◌-◌, ◌^◌, ◌++◌, Option, Some, None, is_some, is_none, if◌then◌else◌, ℕ, Bool, true}
+use Rattle.std.specs.Prelude.{◌≡◌, ◌≤◌, ◌-◌, ◌^◌, Some, None, is_some, is_none, ℕ, Bool, true}
 use Rattle.std.specs.Prelude.{◌&&◌, nat_lt, List, [], ◌∷◌, length, reverse}
 use Rattle.hg_keys.specs.declared.bookmarks.Change.{Change}
 use Rattle.hg_keys.specs.declared.bookmarks.Change.TheVariants.{Added, Moved, Removed}
@@ -31,10 +30,6 @@ abbrev pub can_undo_all : {A : Type 0} → List (Change A) → Pairs → Bool
 can_undo_all [] pairs = true
 can_undo_all (change ∷ changes) pairs =
     can_undo change pairs && can_undo_all changes (undone change pairs)
-
--- the changes with one more, where there is a mark
-abbrev pub kept : {A : Type 0} → Bool → List (Change A) → Option (Change A) → List (Change A)
-kept is_marked changes change = if is_marked then changes ++ option_to_list change else changes
 
 -- The pairs are in order, and there is a way back that takes no memory: as many names as changes were kept can
 -- come back.

@@ -1,26 +1,14 @@
-use Rattle.std.proofs.Common.{◌≡◌, ℕ, List, [], ◌∷◌, Some, None, sym, ap, subst, ◌∙◌, arith, vec_len}
+use Rattle.std.proofs.Common.{◌≡◌, List, [], Some, sym, ap, subst, ◌∙◌, arith, vec_len}
 use Rattle.std.proofs.lemmas.Bool.{eqb-true}
 use Rattle.std.proofs.lemmas.Grind.{common_steps}
 use Rattle.std.proofs.lemmas.List.{nil_from_length}
 use Rattle.hg_types.specs.declared.node.Node.{Node}
 use Rattle.hg_names.specs.declared.blocks.Block.{Block}
-use Rattle.hg_names.specs.Names.{Held, Pairs, AreInOrder, node_of, with_name}
+use Rattle.hg_names.specs.Names.{Held, AreInOrder, node_of, with_name}
 use Rattle.hg_names.specs.code.Blocks.{pairs_in, place_at, IsNamed, IsFree}
-use Rattle.hg_names.proofs.Edits.{with_moved, with_first}
+use Rattle.hg_names.proofs.Edits.{with_moved}
 use Rattle.hg_names.proofs.Lookups.{found_at, none_at, no_pair}
 use Rattle.hg_names.proofs.names.Names.insert.Goals as goal
-
-pub returns-then-is_empty-clause-ok : goal.returns-then-is_empty-clause-ok
-returns-then-is_empty-clause-ok g c =
-    let name = c.args.name.now in
-    let node = c.args.node in
-    let none : vec_len c.self.inside.blocks ≡ 0 = eqb-true _ _ (sym c.is_empty.ensures ∙ c.if-is_empty.true) in
-    let nil : c.self.inside.blocks.items ≡ [] = nil_from_length c.self.inside.blocks.items
-    (grind (arith, common_steps, none)) in
-    c.in_ok-begin.ensures.ok ∙ ap (λ (n : List ℕ). (n, node) ∷ []) c.in_ok-name.ensures
-    ∙ sym (with_first (name, node))
-    ∙ ap (λ (bs : List (Block g.row.A.Denot)). with_name (pairs_in bs) name node) (sym nil)
-    ∙ ap (λ (h : Held). with_name h.pairs name node) c.self.view_is
 
 pub returns-then-is_empty-clause-was : goal.returns-then-is_empty-clause-was
 returns-then-is_empty-clause-was g c =
@@ -57,23 +45,13 @@ returns-in-Ok-clause-was g c =
     ∙ sym (found_at (pairs_in blocks) name (place_at blocks spot) no_pair order named.at)
     ∙ ap (λ (h : Held). node_of h.pairs name) c.self.view_is
 
-pub join-requires-clause-free : goal.join-requires-clause-free
-join-requires-clause-free g c =
-    let blocks = c.self.inside.blocks.items in
-    let spot = c.in-Err.spot in
-    subst (λ (n : List ℕ). IsFree blocks n spot) (sym c.in_ok-name-in-Err.ensures)
-    (subst (λ (bs : List (Block g.row.A.Denot)). IsFree bs c.args.name.now spot)
-    c.as_slice.ensures.value c.in-Err.ensures.absent)
+pub add_at-requires-clause-free : goal.add_at-requires-clause-free
+add_at-requires-clause-free g c =
+    subst (λ (bs : List (Block g.row.A.Denot)). IsFree bs c.args.name.now c.in-Err.spot)
+    c.as_slice.ensures.value c.in-Err.ensures.absent
 
-pub returns-in_ok-join-in-Err-clause-ok : goal.returns-in_ok-join-in-Err-clause-ok
-returns-in_ok-join-in-Err-clause-ok g c =
-    let node = c.args.node in
-    c.in_ok-join-in-Err.ensures.ok
-    ∙ ap (λ (n : List ℕ). with_name (pairs_in c.self.inside.blocks.items) n node) c.in_ok-name-in-Err.ensures
-    ∙ ap (λ (h : Held). with_name h.pairs c.args.name.now node) c.self.view_is
-
-pub returns-in_ok-join-in-Err-clause-was : goal.returns-in_ok-join-in-Err-clause-was
-returns-in_ok-join-in-Err-clause-was g c =
+pub returns-in_ok-add_at-in-Err-clause-was : goal.returns-in_ok-add_at-in-Err-clause-was
+returns-in_ok-add_at-in-Err-clause-was g c =
     let blocks = c.self.inside.blocks.items in
     let name = c.args.name.now in
     let spot = c.in-Err.spot in
