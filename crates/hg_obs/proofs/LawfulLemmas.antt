@@ -1,8 +1,8 @@
 -- Lawful markers stay so: after a merge, and where the last ones are cut off.
 use Rattle.std.proofs.Common.{◌≡◌, ◌≢◌, ℕ, zero, suc, Bool, true, false, cond, not, ◌||◌, List, [], ◌∷◌, ◌++◌}
-use Rattle.std.proofs.Common.{filter, take, get_or, length, AllPairs, refl, sym, ap, ◌∙◌, true≢false, arith}
+use Rattle.std.proofs.Common.{filter, take, get_or, AllPairs, refl, sym, ◌∙◌, true≢false, arith}
 use Rattle.std.proofs.lemmas.List.Elements.{recursion_from_All}
-use Rattle.std.specs.List.{list_any, AllByRecursion, IsDistinct}
+use Rattle.std.specs.List.{AllByRecursion, IsDistinct}
 use Rattle.hg_obs.specs.declared.marker.Marker.{Marker}
 use Rattle.hg_obs.specs.Marker.{IsMarker}
 use Rattle.hg_obs.specs.Same.{is_same, is_same_decides}

@@ -1,4 +1,5 @@
 mod MetadataLemmas
+mod LaterLemmas
 mod MergeLemmas
 mod PlaceLemmas
 mod ReadingLemmas

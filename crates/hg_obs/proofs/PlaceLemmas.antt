@@ -125,7 +125,7 @@ module _ {A : Type 0} where
           rest ∙ ap (λ (n : ℕ). or_else (place_from (suc from) node xs)
           (cond (same_node node m.predecessor) (Some n) None)) e
 
-  place_below : (from : ℕ) (node : Node) (ms : List (Marker A)) (place : ℕ)
+  pub place_below : (from : ℕ) (node : Node) (ms : List (Marker A)) (place : ℕ)
       → place_from from node ms ≡ Some place → place < from + length ms
   place_below from node [] place e = absurd cc
   place_below from node (x ∷ xs) place e =
@@ -192,7 +192,7 @@ module _ {A : Type 0} where
       let size : i ≡ length (take i ms) = omega (arith, length-take i ms) in
       added (take i ms) (take (i + 1) ms) (get_or ms i d) i found node (take_more ms i d within) size k
 
-  some_place : (from : ℕ) (node : Node) (ms : List (Marker A))
+  pub some_place : (from : ℕ) (node : Node) (ms : List (Marker A))
       → is_some (place_from from node ms) ≡ list_any (λ m. same_node node m.predecessor) ms
   some_place from node [] = refl
   some_place from node (x ∷ xs) = by (same_node node x.predecessor) (some_place (suc from) node xs)

@@ -4,8 +4,8 @@ use Rattle.hg_obs.proofs.markers.Markers.is_predecessor.Goals as goal
 
 pub returns : goal.returns
 returns g c =
-    let answer = c.contains_key.ensures ∙ ap is_some (c.self.invariant c.args.node.now) in
+    let answer = c.contains_key.ensures ∙ ap is_some (c.self.invariant.firsts_found c.args.node.now) in
     rw (← c.self.view_is) (
-      (λ yes. has_place c.args.node.now c.self.inside.list.keys (sym answer ∙ yes)),
-      (λ is. answer ∙ gets_place c.args.node.now c.self.inside.list.keys is),
+      (λ yes. has_place c.args.node.now c.self.inside.list.items (sym answer ∙ yes)),
+      (λ is. answer ∙ gets_place c.args.node.now c.self.inside.list.items is),
     )

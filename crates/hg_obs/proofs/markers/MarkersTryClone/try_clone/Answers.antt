@@ -10,5 +10,5 @@ returns g c =
     c.in_ok-merge.ensures.ok
     ∙ ap (λ (ms : List (Marker g.row.A.Denot)). merged ms c.in_ok-copies.copies) c.new-copy.ensures
     ∙ ap (λ (ms : List (Marker g.row.A.Denot)). merged [] ms) (c.in_ok-copies.ensures
-    ∙ c.as_slice.ensures.keys) ∙ merged_distinct c.self.inside.list.keys c.as_slice.ensures.unique
+    ∙ c.as_slice.ensures.value) ∙ merged_distinct c.self.inside.list.items c.self.invariant.distinct
     )

@@ -1,12 +1,12 @@
 use Rattle.std.proofs.Common.{◌≡◌, ◌++◌}
 use Rattle.hg_obs.specs.Markers.{merged}
-use Rattle.hg_obs.proofs.markers.add_each.Given as goal
+use Rattle.hg_obs.proofs.markers.Markers.merge.Given as goal
 
 -- so far the list is a merge of what came, and after that comes what is left
 abbrev pub invariant-loop-marker : goal.invariant-loop-marker
 invariant-loop-marker g l =
     record {
-      markers : l.list.keys ≡ merged l.fn.list.keys l.yielded;
+      markers : l.self ≡ merged l.fn.self l.yielded;
       comes : l.fn.added ≡ l.yielded
           ++ l.marker-iterator.rest.items;
     }
