@@ -5,12 +5,11 @@ use Rattle.hg_push.proofs.step.end.Goals as goal
 
 pub returns-in-Ok-clause-sent : goal.returns-in-Ok-clause-sent
 returns-in-Ok-clause-sent g c =
-    let few : length c.into_vec.result.items < 2 ^ 32 = grind (
+    let few : length c.args.staged < 2 ^ 32 = grind (
       arith,
       nat_tests,
       c.ranges.index.fits,
       c.if-index-len.false,
       c.len.ensures,
-      c.into_vec.ensures,
     ) in
-    can_be_sent (length c.into_vec.result.items) c.in-Ok.done.replies c.in-Ok.ensures.replies few
+    can_be_sent (length c.args.staged) c.in-Ok.done.replies c.in-Ok.ensures.replies few
