@@ -6,8 +6,9 @@
 
 `rt try` makes one module of a program and all that it stands on, with checks, and compiles it as it is. Here the module
 is taken, its checks and the fills of its variables are left out, and it is compiled with -O2. A pause between two looks
-at a lock, for which that module has nothing, is the processor's. A proved program is inlined further than that. So
-compare what was built so with nothing but what was built so.
+at a lock, for which that module has nothing, is the processor's, and functions are written into their callers as the
+sources ask. A proved program is inlined further than that. So compare what was built so with nothing but what was built
+so.
 """
 import os
 import re
@@ -25,6 +26,9 @@ exec {clang} "$@"
 """
 # a variable that is filled before its first use, and a check
 LEFT_OUT = re.compile(r"\s*call void @llvm\.memset\.p0\.i64\(ptr %r\d+, i8 -86, |\s*(?:tail )?call void @\"rattle-llvm-checks::")
+# a function that the sources ask to be written into its callers, or not to be; its line in the module
+HINTED = re.compile(r"#\[inline\((always|never)\)\]\n(?:\s*#\[.*\n)*\s*(?:pub(?:\([^)]*\))? )?fn (\w+)")
+DEFINED = re.compile(r'^define .*@"(\w+(?:::\w+)*)(?:::<[^"]*>)?"\(.*(?= #\d+ )')
 ATTRIBUTES = re.compile(r' sanitize_address| "probe-stack"="inline-asm"| "stack-probe-size"="\d+"')
 TARGET = ["--target=x86_64-unknown-linux-gnu", "-x", "ir"]
 OPTIONS = ["-march=x86-64", "-mllvm", "-no-trap-after-noreturn", "-ffunction-sections", "-fdata-sections", "-fPIE", "-O2"]
@@ -52,12 +56,37 @@ def beside(kit, place, clang):
     os.chmod(f"{place}/toolchain/bin/clang", 0o755)
 
 
-def without_checks(source, target):
+def hints(crates):
+    """What the sources of all crates ask for: by the crate, the module and the name of a function."""
+    told = {}
+    for at, _, names in os.walk(crates):
+        for name in names:
+            if name.endswith(".rt") and "/src" in at and "/out/" not in at:
+                with open(f"{at}/{name}", encoding="utf-8") as file:
+                    for hint, function in HINTED.findall(file.read()):
+                        told[at.split("/src")[0].rpartition("/")[2], name.removesuffix(".rt"), function] = hint
+    return told
+
+
+def hinted(line, told):
+    """The line of a function, with what the sources ask for: `rt try` leaves that out."""
+    found = DEFINED.match(line)
+    if not found:
+        return line
+    path = found[1].split("::")
+    hint = told.get((path[0], path[1] if len(path) > 2 else "lib", path[-1]))
+    if hint is None:
+        return line
+    return f"{found[0]} {'alwaysinline' if hint == 'always' else 'noinline'}{line[found.end():]}"
+
+
+def without_checks(source, target, told):
     pauses = False
     with open(source, encoding="utf-8") as lines, open(target, "w", encoding="utf-8") as out:
         for line in lines:
             if LEFT_OUT.match(line):
                 continue
+            line = hinted(line, told)
             if line.startswith("attributes "):
                 line = ATTRIBUTES.sub("", line).replace('"frame-pointer"="all"', '"frame-pointer"="none"')
             out.write(line)
@@ -78,7 +107,7 @@ def build(folder, out):
         if not os.path.exists(f"{place}/module.bc"):
             sys.exit(tried.stderr[-3000:])
         subprocess.run([clang, *TARGET, "-O0", "-S", "-emit-llvm", f"{place}/module.bc", "-o", f"{place}/read.ll"], check=True)
-        without_checks(f"{place}/read.ll", f"{place}/made.ll")
+        without_checks(f"{place}/read.ll", f"{place}/made.ll", hints(os.path.dirname(os.path.abspath(folder))))
         subprocess.run([clang, *TARGET, *OPTIONS, "-c", f"{place}/made.ll", "-o", f"{place}/made.o"], check=True)
         subprocess.run(["cc", "-pie", "-Wl,--gc-sections", f"{place}/made.o", f"{kit}/c/libos_c.a", f"{kit}/c/liblibc_c.a",
                         "-o", out, "-lpthread", "-lm"], check=True)

@@ -63,6 +63,7 @@ impl<T, A: Allocator + Copy> Pages<T, A> {
     }
 
     /// Adds an item at the end. An item that memory is refused for is dropped.
+    #[inline(always)]
     pub fn push(&mut self, item: T) -> Result<(), NoMemory>
     where
         T: Drop,
