@@ -61,11 +61,11 @@ pub same_behind : (n : ℕ) (xs ys x_front x_rest y_front y_rest : List ℕ)
     → x_front ≡ take n xs → x_rest ≡ drop n xs → y_front ≡ take n ys → y_rest ≡ drop n ys
     → x_front ≡ y_front → (x_rest ≡ y_rest) ↔ (xs ≡ ys)
 same_behind n xs ys x_front x_rest y_front y_rest x_is x_behind y_is y_behind alike = (
-    λ rest. sym (take-append-drop n xs)
-        ∙ ((λ i. (sym x_is ∙ (alike ∙ y_is)) i ++ (sym x_behind ∙ (rest ∙ y_behind)) i)
-        ∙ take-append-drop n ys),
-    λ whole. x_behind ∙ (ap (drop n) whole ∙ sym y_behind)
-  )
+  λ rest. sym (take-append-drop n xs)
+      ∙ ((λ i. (sym x_is ∙ (alike ∙ y_is)) i ++ (sym x_behind ∙ (rest ∙ y_behind)) i)
+      ∙ take-append-drop n ys),
+  λ whole. x_behind ∙ (ap (drop n) whole ∙ sym y_behind),
+)
 
 -- ---- a test of what is left
 

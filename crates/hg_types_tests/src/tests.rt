@@ -6,8 +6,8 @@ mod hashes;
 mod short;
 
 use hg_types::{
-    BoxedPart, BoxedSeq, CutReason, Item, Limits, NoMemory, Node, Pages, Param, Part, Payload, Phase,
-    Seq, Short, TryClone, What, try_clone_each,
+    BoxedPart, BoxedSeq, CutReason, Item, Limits, NoMemory, Node, Pages, Param, Part, Payload,
+    Phase, Seq, Short, TryClone, What, try_clone_each,
 };
 use linked_list_allocator::LocalHeap;
 use std::alloc::Allocator;

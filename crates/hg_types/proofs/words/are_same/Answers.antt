@@ -24,7 +24,7 @@ loop-x-preserved c =
     record {
       same = (
         λ rest. c.loop-x.invariant.same.0 (behind.0 rest),
-        λ whole. behind.1 (c.loop-x.invariant.same.1 whole)
+        λ whole. behind.1 (c.loop-x.invariant.same.1 whole),
       );
       left_bytes = subst AreBytes (sym left_cut.1) (rest_bytes 8 left c.loop-x.invariant.left_bytes);
       right_bytes = subst AreBytes (sym right_cut.1) (rest_bytes 8 right c.loop-x.invariant.right_bytes);
@@ -55,11 +55,10 @@ returns c =
           ((λ i. (w.left-is i).now) ∙ left_cut.1) right_cut.0 ((λ i. (w.right-is i).now) ∙ right_cut.1) alike
       | in_default w ↦ (
         λ same. (λ i. (sym w.left-is i).now) ∙ (same ∙ (λ i. (w.right-is i).now)),
-        λ same. (λ i. (w.left-is i).now) ∙ (same ∙ (λ i. (sym w.right-is i).now))
+        λ same. (λ i. (w.left-is i).now) ∙ (same ∙ (λ i. (sym w.right-is i).now)),
       )
     ] in
-    left_decides c.eq.result rest.left.now rest.right.now c.args.bytes.now c.args.others.now c.eq.ensures
-    (
+    left_decides c.eq.result rest.left.now rest.right.now c.args.bytes.now c.args.others.now c.eq.ensures (
       λ same. c.loop-x.invariant.same.0 (behind.0 same),
-      λ whole. behind.1 (c.loop-x.invariant.same.1 whole)
+      λ whole. behind.1 (c.loop-x.invariant.same.1 whole),
     )
