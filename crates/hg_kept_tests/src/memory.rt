@@ -181,18 +181,29 @@ fn kept_on<R: Abort>(rt: &R, alloc: Global, device: &Memory) -> usize {
     }
 }
 
-/// The same of a server that has no push yet, where so many pushes of a marker each come.
+/// The bundles of so many pushes of so many markers each.
+fn pushes_of<R: Abort>(rt: &R, alloc: Global, pushes: u8, markers: u8) -> Vec<u8> {
+    let mut bundles = Vec::new(alloc);
+    for push in 0..pushes {
+        let mut payload = Vec::new(alloc);
+        assert!(rt; payload.push(0).is_ok());
+        for turn in 0..markers {
+            let [_version, marker @ ..] = marker(push, turn);
+            assert!(rt; payload.extend_from_slice(&marker).is_ok());
+        }
+        assert!(rt; one_part(&mut bundles, &payload));
+    }
+    bundles
+}
+
+/// The same of a server that has no push yet, where these bundles come.
 fn told_of<R: Wait + RandomSource + Abort, G: Gate>(
     rt: &R,
     alloc: Global,
     heap: &LocalHeap,
-    pushes: u8,
+    bundles: &[u8],
     gate: &mut G,
 ) -> Option<Told> {
-    let mut input = Vec::new(alloc);
-    for turn in 0..pushes {
-        assert!(rt; one_part(&mut input, &marker(1, turn)));
-    }
     let Ok((queue, taker)) = PartQueue::new(heap, 1) else {
         return None;
     };
@@ -204,7 +215,7 @@ fn told_of<R: Wait + RandomSource + Abort, G: Gate>(
         panic!(rt; "no store");
     };
     connected::<Brand, _, R, G>(
-        rt, alloc, heap, queue, taker, repo, log, tally, &input, gate,
+        rt, alloc, heap, queue, taker, repo, log, tally, bundles, gate,
     )
 }
 
@@ -235,6 +246,7 @@ fn is_kept(told: Option<Told>, pushes: usize) -> bool {
 // memory is refused for what comes next, the reply or the next push.
 #[test]
 fn a_done_push_is_kept_without_memory(rt: HostRuntime) -> Result<(), Fail> {
+    let bundles = pushes_of(&rt, rt.alloc(), 5, 1);
     for answers in 1..5usize {
         let heap = LocalHeap::new(rt.alloc(), 1 << 16)?;
         let mut gate = Hoarder {
@@ -242,7 +254,7 @@ fn a_done_push_is_kept_without_memory(rt: HostRuntime) -> Result<(), Fail> {
             blocks: Vec::new(rt.alloc()),
             answers,
         };
-        let told = told_of(&rt, rt.alloc(), &heap, 5, &mut gate);
+        let told = told_of(&rt, rt.alloc(), &heap, &bundles, &mut gate);
         drop(gate);
         assert!(rt; is_kept(told, answers), "{answers} answers");
     }
@@ -271,15 +283,18 @@ fn came_of(told: Option<Told>) -> usize
 }
 
 // Heaps of rising size: one growth after another is refused, for the ledger, at the opening, for the bytes as they
-// are read, in the run and for the reply, until none is. Result: each is seen; the store never fails by it, and has
-// the record of each done push and no other.
+// are read, in the run and for the reply, until none is. The run of one marker takes less than its reply, that of
+// twenty more. Result: each is seen; the store never fails by it, and has the record of each done push and no other.
 #[test]
 fn each_growth_is_refused(rt: HostRuntime) -> Result<(), Fail> {
     let mut seen = [false; 7];
-    for sixteens in 1..1024usize {
-        let heap = LocalHeap::new(rt.alloc(), sixteens * 16)?;
-        let told = told_of(&rt, rt.alloc(), &heap, 1, &mut NoGate);
-        seen[came_of(told)] = true;
+    for markers in [1, 20] {
+        let bundle = pushes_of(&rt, rt.alloc(), 1, markers);
+        for sixteens in 1..1024usize {
+            let heap = LocalHeap::new(rt.alloc(), sixteens * 16)?;
+            let told = told_of(&rt, rt.alloc(), &heap, &bundle, &mut NoGate);
+            seen[came_of(told)] = true;
+        }
     }
     assert!(rt;
         seen == [true, true, true, true, true, true, false],
