@@ -1,9 +1,10 @@
 # hg_pushd: see a push, build, test, measure.
 #
-#   make run         shows a push that Mercurial sent, its reply and the report: a few minutes, nothing proved
+#   make run         shows a push that Mercurial sent, its reply and the report: a few minutes, nothing proved. The
+#                    program that it compiles stays at build/unproved/hg_pushd
+#   make host-demo   an unmodified hg pushes to host, which is killed and started again
+#   make serve-demo  shows the server with two clients; both demos run on what make build left, else on what make run did
 #   make build       proves every crate and leaves the program at build/hg_pushd
-#   make serve-demo  shows the server with two clients, on the program that was built
-#   make host-demo   an unmodified hg pushes to host, which is killed and started again, on what was built
 #   make test        the gate: proves everything from nothing, tries the wrong bodies, runs the tests and the program
 #   make test-all    proves everything from nothing, the tests too
 #   make wrong-bodies, make run-tests   two parts of the gate by themselves
@@ -11,10 +12,13 @@
 #   make try-clients   random pushes of three real clients to host, mirrored: a quarter of an hour
 #   make install     installs what was built below PREFIX (/usr/local), in DESTDIR where that is given
 #   make deb         makes a Debian package of what was built
-#   make docs        lists definitions, examples and wrong bodies, from where each stands, in build/docs
+#   make docs        makes build/docs of the sources: the index, definitions, examples and wrong bodies
 #   make bench       measures the program; bench/*/run.sh measure the crates below it
 
 PROGRAM := build/hg_pushd
+UNPROVED := build/unproved/hg_pushd
+# what the demos run: the proved program where it is there
+SHOWN := $(if $(wildcard $(PROGRAM)),$(PROGRAM),$(UNPROVED))
 PREFIX ?= /usr/local
 DESTDIR ?=
 SOURCES := crates.txt $(shell find crates -name out -prune -o -type f \
@@ -27,11 +31,17 @@ PUSHED := examples/pushes/first-changesets/01.hg20
 	bench install deb man try-install try-team try-clients clean \
 	toolchain
 
-run: toolchain
-	@bash examples/run.sh $(PUSHED)
+run: $(UNPROVED)
+	@bash examples/run.sh $(UNPROVED) $(PUSHED)
 
 toolchain:
-	@bash tools/toolchain.sh
+	@python3 tools/gate.py toolchain
+
+$(UNPROVED): $(SOURCES)
+	@$(MAKE) --no-print-directory toolchain
+	@echo 'Compiling the program with checks and without proofs: two or three minutes.'
+	@mkdir -p $(dir $@)
+	@python3 bench/unproved.py --checks crates/hg_pushd $@
 
 build: $(PROGRAM)
 
@@ -39,18 +49,18 @@ $(PROGRAM): $(SOURCES)
 	@$(MAKE) --no-print-directory toolchain
 	@echo 'Proving every crate. From nothing this takes half an hour to an hour and a quarter on four processors,'
 	@echo 'by their speed; where crates did not change, some minutes.'
-	@python3 tools/prove.py
+	@python3 tools/gate.py build
 	@echo 'Building the program.'
 	@cd crates/hg_pushd && rt run -- one < ../../examples/first-push.hg20 > /dev/null
 	@mkdir -p build
 	@cp crates/hg_pushd/out/hg_pushd $(PROGRAM)
 	@echo 'The program is at $(PROGRAM).'
 
-serve-demo: $(PROGRAM)
-	@bash examples/serve-demo.sh $(PROGRAM)
+serve-demo: $(SHOWN)
+	@bash examples/serve-demo.sh $(SHOWN)
 
-host-demo: $(PROGRAM)
-	@bash examples/host-demo.sh $(PROGRAM)
+host-demo: $(SHOWN)
+	@bash examples/host-demo.sh $(SHOWN)
 
 test: toolchain
 	@python3 tools/gate.py
@@ -64,17 +74,17 @@ wrong-bodies: $(PROGRAM)
 	@python3 tools/wrong_bodies.py
 
 run-tests: toolchain
-	@python3 tools/tests.py
+	@python3 tools/gate.py tests
 
 install: $(PROGRAM)
-	@DESTDIR='$(DESTDIR)' PREFIX='$(PREFIX)' bash tools/install.sh $(PROGRAM)
+	@DESTDIR='$(DESTDIR)' PREFIX='$(PREFIX)' python3 tools/package.py install $(PROGRAM)
 	@echo 'Installed below $(DESTDIR)$(PREFIX).'
 
 deb: $(PROGRAM)
-	@bash tools/deb.sh $(PROGRAM)
+	@python3 tools/package.py deb $(PROGRAM)
 
 man:
-	@python3 tools/manual.py all build/manual $(if $(wildcard $(PROGRAM)),$(PROGRAM),--compiled)
+	@python3 tools/package.py manual build/manual $(if $(wildcard $(PROGRAM)),$(PROGRAM),--compiled)
 	@echo 'The manual and the completions are in build/manual.'
 
 try-install: $(PROGRAM)
@@ -87,7 +97,7 @@ try-clients: $(PROGRAM)
 	@python3 tests/clients.py $(PROGRAM)
 
 docs:
-	@python3 tools/docs.py
+	@python3 tools/documents.py
 	@echo 'The lists are in build/docs.'
 
 bench: $(PROGRAM)

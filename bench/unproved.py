@@ -2,6 +2,7 @@
 """Builds a program without its proof, so that two versions can be measured in minutes: bench/unproved.py FOLDER OUT
 
     bench/unproved.py crates/hg_pushd /tmp/hg_pushd        the program itself
+    bench/unproved.py --checks crates/hg_pushd OUT         the same with its checks, to be tried and not measured
     bench/unproved.py --bench keys /tmp/keys_speed         that of bench/keys, over the crates of the last commit
 
 `rt try` makes one module of a program and all that it stands on, with checks, and compiles it as it is. Here the module
@@ -9,6 +10,9 @@ is taken, its checks and the fills of its variables are left out, and it is comp
 at a lock, for which that module has nothing, is the processor's, and functions are written into their callers as the
 sources ask. A proved program is inlined further than that. So compare what was built so with nothing but what was built
 so.
+
+With `--checks` they stay, except for those of addresses: where one fails, the program is ended. `make run` makes its
+program so, at build/unproved/hg_pushd.
 """
 import os
 import re
@@ -25,13 +29,14 @@ done
 exec {clang} "$@"
 """
 # a variable that is filled before its first use, and a check
-LEFT_OUT = re.compile(r"\s*call void @llvm\.memset\.p0\.i64\(ptr %r\d+, i8 -86, |\s*(?:tail )?call void @\"rattle-llvm-checks::")
+FILL = re.compile(r"\s*call void @llvm\.memset\.p0\.i64\(ptr %r\d+, i8 -86, ")
+CHECK = re.compile(r"\s*(?:tail )?call void @\"rattle-llvm-checks::")
 # a function that the sources ask to be written into its callers, or not to be; its line in the module
 HINTED = re.compile(r"#\[inline\((always|never)\)\]\n(?:\s*#\[.*\n)*\s*(?:pub(?:\([^)]*\))? )?fn (\w+)")
 DEFINED = re.compile(r'^define .*@"(\w+(?:::\w+)*)(?:::<[^"]*>)?"\(.*(?= #\d+ )')
 ATTRIBUTES = re.compile(r' sanitize_address| "probe-stack"="inline-asm"| "stack-probe-size"="\d+"')
 TARGET = ["--target=x86_64-unknown-linux-gnu", "-x", "ir"]
-OPTIONS = ["-march=x86-64", "-mllvm", "-no-trap-after-noreturn", "-ffunction-sections", "-fdata-sections", "-fPIE", "-O2"]
+OPTIONS = ["-march=x86-64", "-mllvm", "-no-trap-after-noreturn", "-ffunction-sections", "-fdata-sections", "-fPIE"]
 
 
 def toolchain():
@@ -80,11 +85,12 @@ def hinted(line, told):
     return f"{found[0]} {'alwaysinline' if hint == 'always' else 'noinline'}{line[found.end():]}"
 
 
-def without_checks(source, target, told):
+def stripped(source, target, told, keeps_checks):
+    """The module without what `rt try` adds to it."""
     pauses = False
     with open(source, encoding="utf-8") as lines, open(target, "w", encoding="utf-8") as out:
         for line in lines:
-            if LEFT_OUT.match(line):
+            if FILL.match(line) or not keeps_checks and CHECK.match(line):
                 continue
             line = hinted(line, told)
             if line.startswith("attributes "):
@@ -97,7 +103,7 @@ def without_checks(source, target, told):
                 pauses = False
 
 
-def build(folder, out):
+def build(folder, out, keeps_checks=False):
     kit = toolchain()
     clang = f"{kit}/toolchain/bin/clang"
     with tempfile.TemporaryDirectory() as place:
@@ -107,8 +113,10 @@ def build(folder, out):
         if not os.path.exists(f"{place}/module.bc"):
             sys.exit(tried.stderr[-3000:])
         subprocess.run([clang, *TARGET, "-O0", "-S", "-emit-llvm", f"{place}/module.bc", "-o", f"{place}/read.ll"], check=True)
-        without_checks(f"{place}/read.ll", f"{place}/made.ll", hints(os.path.dirname(os.path.abspath(folder))))
-        subprocess.run([clang, *TARGET, *OPTIONS, "-c", f"{place}/made.ll", "-o", f"{place}/made.o"], check=True)
+        told = hints(os.path.dirname(os.path.abspath(folder)))
+        stripped(f"{place}/read.ll", f"{place}/made.ll", told, keeps_checks)
+        options = [*OPTIONS, "-O1" if keeps_checks else "-O2"]
+        subprocess.run([clang, *TARGET, *options, "-c", f"{place}/made.ll", "-o", f"{place}/made.o"], check=True)
         subprocess.run(["cc", "-pie", "-Wl,--gc-sections", f"{place}/made.o", f"{kit}/c/libos_c.a", f"{kit}/c/liblibc_c.a",
                         "-o", out, "-lpthread", "-lm"], check=True)
 
@@ -134,6 +142,8 @@ def bench(name, out):
 def main(words):
     if len(words) == 3 and words[0] == "--bench":
         bench(words[1], os.path.abspath(words[2]))
+    elif len(words) == 3 and words[0] == "--checks":
+        build(words[1], os.path.abspath(words[2]), keeps_checks=True)
     elif len(words) == 2:
         build(words[0], os.path.abspath(words[1]))
     else:

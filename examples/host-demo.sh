@@ -2,6 +2,7 @@
 # An unmodified hg pushes to `host`, which is killed and started again: examples/host-demo.sh PROGRAM
 set -eu
 program=$(realpath "$1")
+case $program in */unproved/*) echo 'This program was compiled without proofs (make build proves it).' ;; esac
 command -v hg > /dev/null || { echo 'hg is not installed: no push is shown.'; exit 0; }
 room=$(mktemp -d)
 server=

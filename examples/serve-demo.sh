@@ -2,6 +2,7 @@
 # A server on a free port, two clients that push to it, and its report: examples/serve-demo.sh PROGRAM
 set -eu
 program=$1
+case $program in */unproved/*) echo 'This program was compiled without proofs (make build proves it).' ;; esac
 here=$(cd "$(dirname "$0")" && pwd)
 room=$(mktemp -d)
 trap 'rm -rf "$room"' EXIT

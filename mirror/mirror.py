@@ -23,15 +23,18 @@ who pull have the markers::
   [experimental]
   evolution = all
 
-Where hgweb runs with this extension, a pull leaves out heads that are not shown
-here. At one address for pushing and pulling the push server says which heads
-there are, hidden ones and those of the last moment too, and a client asks for
-all of them.
+Where hgweb runs with this extension, a pull waits for changesets that are not
+here yet, and is refused where they do not come within ten seconds, or those of
+``patience`` in ``[mirror]``. At one address for pushing and pulling the push
+server says which heads there are, those of the last moment and obsolete ones
+too, and a client asks for all of them. Of an obsolete one it gets what is shown
+below it.
 '''
 
 import hashlib
 import os
 import struct
+import sys
 import time
 
 from mercurial import (
@@ -44,13 +47,24 @@ from mercurial import (
     util,
 )
 from mercurial.i18n import _
+from mercurial.node import hex, short
 from mercurial.utils import stringutil
+
+# hg loads an extension by its file: what stands beside it is found by this
+sys.path.insert(0, os.path.dirname(os.path.abspath(__file__)))
+import canonical
+import incoming
 
 testedwith = b'6.3'
 minimumhgversion = b'6.3'
 
 cmdtable = {}
 command = registrar.command(cmdtable)
+
+configtable = {}
+configitem = registrar.configitem(configtable)
+# How long a pull waits for what it asks for, in seconds.
+configitem(b'mirror', b'patience', default=10)
 
 # The store: a head of 38 bytes, then records. A record is an open gate, the
 # length of a bundle, a digest, and the bundle.
@@ -277,15 +291,15 @@ class logreader:
         return b''.join(self.pieces)
 
 
-class withoutchecks:
-    """A bundle without its parts `check:*`.
+class onlychanges:
+    """A bundle without the parts `pushkey` that change nothing.
 
-    They say for which state a push was made. The server has compared that, of
-    all heads; Mercurial would compare what it shows, without hidden ones.
+    The push server answers them with 0 or 1. Some of them Mercurial reads in
+    another way: a bookmark on `tip`, a phase of an unknown changeset.
     """
 
-    def __init__(self, bundle):
-        self.bundle = bundle
+    def __init__(self, repo, bundle):
+        self.repo, self.bundle = repo, bundle
 
     @property
     def params(self):
@@ -293,8 +307,28 @@ class withoutchecks:
 
     def iterparts(self):
         for part in self.bundle.iterparts():
-            if not part.type.startswith(b'check:'):
+            if part.type != b'pushkey' or changes(self.repo, part.params):
                 yield part
+
+
+def changes(repo, params):
+    """Whether a pushkey changes the repository, by the rules of the server."""
+    namespace, key = params[b'namespace'], params[b'key']
+    old, new = params[b'old'], params[b'new']
+    if namespace == b'phases':
+        node, phases = incoming.node_in_digits(key), (b'0', b'1', b'2')
+        if node is None or not repo.changelog.hasnode(node):
+            return False
+        if old not in phases or new not in phases or new >= old:
+            return False
+        return repo[node].phase() == int(old)
+    if namespace == b'bookmarks':
+        now = repo._bookmarks.get(key)
+        node = incoming.node_in_digits(new)
+        if (hex(now) if now else b'') != old or now == node:
+            return False
+        return not new or node is not None and repo.changelog.hasnode(node)
+    return namespace == b'obsolete' and key.startswith(b'dump') and not old
 
 
 # What a client says in REPLYCAPS. Mercurial makes a reply where it is there;
@@ -336,19 +370,24 @@ class mirrored:
 
         repo.ui.pushbuffer()
         try:
-            with repo.wlock(), repo.lock(), repo.transaction(b'push') as tr:
-                url = b'mirror:%d' % self.count
-                tr.hookargs.update(
-                    {b'source': b'push', b'url': url, b'bundle2': b'1'}
-                )
+            with repo.wlock(), repo.lock():
                 self.checkalone()
-                tr.addfilegenerator(b'mirror', (KEPT,), note)
-                run(repo, tr, bundle)
+                only = canonical.canonical(bundle)
+                incoming.Incoming(repo, only)
+                with repo.transaction(b'push') as tr:
+                    url = b'mirror:%d' % self.count
+                    tr.hookargs.update(
+                        {b'source': b'push', b'url': url, b'bundle2': b'1'}
+                    )
+                    # Who reads the number finds the changesets too.
+                    tr.addfilegenerator(
+                        b'mirror', (KEPT,), note, post_finalize=True
+                    )
+                    run(repo, tr, only)
         finally:
             told = repo.ui.popbuffer()
         repo.ui.debug(told)
         self.count, self.digest = count, digest
-
 
     def checkalone(self):
         now = mirrored(self.repo)
@@ -366,13 +405,14 @@ def run(repo, tr, bundle):
     )
     op.reply = bundle2.bundle20(repo.ui, CAPABILITIES)
     parts = exchange.readbundle(repo.ui, util.stringio(bundle), None)
-    bundle2.processbundle(repo, withoutchecks(parts), op=op)
+    bundle2.processbundle(repo, onlychanges(repo, parts), op=op)
 
 
 def refused(place, fault):
     """What is said of a push that Mercurial refuses."""
     reason = stringutil.forcebytestr(fault)
-    if not isinstance(fault, error.Abort):
+    ours = (error.Abort, canonical.Fault, incoming.Refused)
+    if not isinstance(fault, ours):
         name = pycompat.sysbytes(type(fault).__name__)
         reason = b'%s: %s' % (name, reason)
     return error.Abort(
@@ -410,11 +450,41 @@ def uisetup(ui):
 
 
 def getbundlechunks(orig, repo, source, heads=None, **kwargs):
-    """Answers a pull by what is shown here of the heads that it asks for."""
+    """Answers a pull by all that it asks for, and by less never."""
     if source == b'serve' and heads:
-        isshown = repo.changelog.hasnode
-        heads = [node for node in heads if isshown(node)] or [repo.nullid]
+        waitfor(repo, heads)
+        heads = shown(repo, heads)
     return orig(repo, source, heads=heads, **kwargs)
+
+
+def waitfor(repo, nodes):
+    """Waits for changesets that were pushed and are not mirrored yet."""
+    end = time.monotonic() + repo.ui.configint(b'mirror', b'patience')
+    while True:
+        has = repo.unfiltered().changelog.hasnode
+        missing = [node for node in nodes if not has(node)]
+        if not missing:
+            return
+        if time.monotonic() > end:
+            raise error.Abort(
+                _(b'the changeset %s is not mirrored yet') % short(missing[0]),
+                hint=_(b'try again in a moment'),
+            )
+        time.sleep(PAUSE)
+        repo.invalidateall()
+
+
+def shown(repo, heads):
+    """These heads; in the place of a hidden one what is shown below it."""
+    log, hidden = repo.unfiltered().changelog, repo.changelog.filteredrevs
+    found, todo = set(), {log.rev(node) for node in heads}
+    while todo:
+        rev = todo.pop()
+        if rev in hidden:
+            todo.update(log.parentrevs(rev))
+        else:
+            found.add(rev)
+    return [log.node(rev) for rev in found - {-1} or found]
 
 
 def configure(ui):

@@ -94,6 +94,18 @@ printf 'HG20\0\0\0\0\0\0\0\x2f\x11reply:changegroup\0\0\0\0\0\x02\x0b\x01\x06\x0
 first="$examples/pushes/first-changesets"
 cp "$first/01.hg20" "$room/in"
 check 'the first changesets' 0 "$room/changesets" '' one
+# With a check of phases behind them: the first of them is public where the repository publishes, and else a
+# draft.
+printf 'HG20\0\0\0\0\0\0\0\x2d\x0fERROR:PUSHRACED\0\0\0\0\x01\0\x07\x0emessagephases changed\0\0\0\0\0\0\0\0' \
+    > "$room/raced"
+{
+    head -c -4 "$first/01.hg20"
+    printf '\0\0\0\x13\x0cCHECK:PHASES\0\0\0\x09\0\0\0\0\0\x18\0\0\0\0'
+    printf '\x59\x77\x0a\xc3\x9f\x1b\xb4\xff\xd3\x1b\x19\xeb\x99\x8c\x38\x15\x54\x06\x93\xf0'
+    printf '\0\0\0\0\0\0\0\0'
+} > "$room/in"
+check 'changesets that are published' 0 "$room/changesets" '' one --publishing
+check 'changesets that are drafts' 1 "$room/raced" 'hg_pushd: push aborted' one
 for row in "$examples"/pushes/*/; do
     words=(one)
     [ -e "$row/publishing" ] && words+=(--publishing)

@@ -1,16 +1,18 @@
 #!/usr/bin/env bash
 # Tries what stands around the program, for the gate: tests/gate.sh PROGRAM
 #
-# The mirror on stores of a script, and the pushes that Mercurial refuses, cut out by the program; three real
-# clients that push to it; each command of docs/team.md in a room of its own; and the installation. They run side
-# by side. What a missing package keeps from being tried is named in lines of their own, and is no fault. It ends
-# by itself within six minutes, and leaves nothing: all that it writes is in one folder, which it removes.
+# The mirror on stores of a script, and the pushes that Mercurial refuses, cut out by the program; every way to stop
+# or mislead the mirror, and the hook; pulls while the mirror is behind; three real clients that push to it; each
+# command of docs/team.md in a room of its own; the installation; and random pushes, whose answers the plain rules of
+# tests/plain give too. They run side by side. What a missing package keeps from being tried is named in lines of their
+# own, and is no fault. It ends by itself within eleven minutes, and leaves nothing: all that it writes is in one
+# folder, which it removes.
 set -u
 [ $# = 1 ] || { sed -n 's/^# //; 2p' "$0"; exit 2; }
 program=$(realpath -e "$1") || exit 2
 cd "$(dirname "$0")/.." || exit 2
 room=$(mktemp -d)
-longest=330 # seconds, for each piece
+longest=600 # seconds, for each piece
 mkdir "$room/tmp" "$room/home"
 export TMPDIR=$room/tmp HOME=$room/home PYTHONDONTWRITEBYTECODE=1
 # Mercurial's own chg runs what clients do in a quarter of the time
@@ -30,9 +32,12 @@ start() {
 }
 start mirror python3 mirror/check.py --short
 start refused python3 mirror/refused.py "$program"
+start hook python3 tests/hook.py
+start pulls python3 tests/pulls.py "$program"
 start clients python3 tests/clients.py "$program" 16
 start team python3 tests/team.py "$program"
 start install bash tests/install.sh "$program"
+start plain bash tests/plain/run.sh "$program"
 
 good=0 failed=0
 # judge PIECE: waits for it, and tells how it ended
@@ -43,7 +48,7 @@ judge() {
     unset "started[$piece]"
     if [ "$status" = 0 ]; then
         good=$((good + 1))
-        grep -E 'skipped|left out|as wanted, 0 not$|: as wanted$|units run' "$room/$piece"
+        grep -E 'skipped|left out|as wanted, 0 not$|passed, 0 failed$|: as wanted$|units run' "$room/$piece"
     else
         failed=$((failed + 1))
         cat "$room/$piece"
@@ -51,7 +56,7 @@ judge() {
         echo "FAILED: $piece, with status $status"
     fi
 }
-for piece in mirror refused clients team install; do
+for piece in mirror refused hook pulls clients team install plain; do
     judge "$piece"
 done
 echo "tests/gate.sh: $good pieces as wanted, $failed not"

@@ -605,6 +605,34 @@ def an_existing_repository_is_brought_in(host):
 
 
 @with_hg
+def a_repository_is_brought_in_by_pieces(host):
+    """40 changesets, three at a time, by examples/import.sh; the server is killed once, and the script run again."""
+    host.start()
+    client, script = f"{host.folder}/client", f"{os.path.dirname(HERE)}/examples/import.sh"
+    host.hg("init", client)
+    want("the repository", host.hg("debugbuilddag", "+20:a +10 *a +9 @other", cwd=client)[0], 0)
+    host.hg("bookmark", "-r", "5", "a b", cwd=client)
+    host.hg("phase", "-f", "-s", "39", cwd=client)
+
+    def bring():
+        return subprocess.run(["bash", script, client, host.url(), "3"], env=host.environment, capture_output=True,
+                              timeout=120, check=False)
+
+    with subprocess.Popen(["bash", script, client, host.url(), "3"], env=host.environment,
+                          stdout=subprocess.PIPE, stderr=subprocess.DEVNULL) as run:
+        want("the first line", run.stdout.readline(), b"3 of 39 changesets\n")
+        host.kill()
+    want("it stops", run.returncode, 1)
+    before = host.start()[1]
+    want("what was done stays", 3 <= before < 39, True)
+    done = bring()
+    want(f"run again: {done.stderr}", done.returncode, 0)
+    want("its first line", done.stdout.splitlines()[0], b"%d of 39 changesets" % min(39, before + 3))
+    want("a secret changeset stays", sum(it.startswith("C ") for it in host.report().splitlines()), 39)
+    want("its bookmark", [it.split()[2] for it in host.report().splitlines() if it.startswith("B ")], ["a%20b"])
+
+
+@with_hg
 def two_clients_race(host):
     host.start()
     first, second = f"{host.folder}/first", f"{host.folder}/second"

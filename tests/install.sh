@@ -20,12 +20,12 @@ see() {
 # without TOOL WHAT: whether a tool is missing, which is said
 without() { ! command -v "$1" > /dev/null && echo "left out, as $1 is not there: $2"; }
 
-DESTDIR=$room/to PREFIX=/opt/push bash "$top/tools/install.sh" "$program" || exit 1
+DESTDIR=$room/to PREFIX=/opt/push python3 "$top/tools/package.py" install "$program" || exit 1
 at=$room/to/opt/push
-for file in bin/hg_pushd share/man/man1/hg_pushd.1 share/bash-completion/completions/hg_pushd \
+for file in bin/hg_pushd bin/deqtorap share/man/man1/hg_pushd.1 share/bash-completion/completions/hg_pushd \
     share/zsh/site-functions/_hg_pushd share/fish/vendor_completions.d/hg_pushd.fish \
-    share/deqtorap/mirror.py lib/systemd/system/deqtorap-host.service lib/sysusers.d/deqtorap.conf \
-    share/doc/deqtorap/docs/team.md share/doc/deqtorap/examples/deqtorap-one.conf \
+    share/deqtorap/{mirror,hook,canonical,incoming}.py lib/systemd/system/deqtorap-host.service lib/sysusers.d/deqtorap.conf \
+    share/doc/deqtorap/docs/team.md share/doc/deqtorap/examples/{deqtorap-one.conf,rules.py} \
     share/doc/deqtorap/LICENSE-MIT share/doc/deqtorap/mirror/COPYING
 do
     see "$file is installed" test -s "$at/$file"
@@ -97,7 +97,7 @@ if ! without fish 'its completions'; then
 fi
 
 if ! without dpkg-deb 'the Debian package'; then
-    see 'the package can be made' bash "$top/tools/deb.sh" "$program" "$room/deb"
+    see 'the package can be made' python3 "$top/tools/package.py" deb "$program" "$room/deb"
     package=$(ls "$room"/deb/*.deb)
     see 'the package is made' dpkg-deb --info "$package"
     dpkg-deb -R "$package" "$room/package"

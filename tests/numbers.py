@@ -30,7 +30,7 @@ def copied(folder):
     for name in ("HANDLES", "crates.txt"):
         shutil.copy(f"{TOP}/{name}", folder)
     shutil.copytree(f"{TOP}/crates", f"{folder}/crates", ignore=shutil.ignore_patterns("out"))
-    path = f"{folder}/crates/hg_board/src/board.rt"
+    path = f"{folder}/crates/hg_status/src/board.rt"
     with open(path, encoding="utf-8") as file:
         text = file.read()
     want("the number of pushes stands there once", text.count(NUMBERS), 1)

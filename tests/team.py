@@ -131,18 +131,27 @@ class Trial:
         self.answers("the clone has what it pushed", "hg log -r tip -T '{desc} {phase}\\n'", "three draft",
                      self.user)
         self.pulls_before_the_mirror()
+        self.slow_bodies_of_one_user()
         self.answers("the web page is hgweb's", f"{CURL} -u ann:secret https://hg.example.org/", "three")
         self.answers("a wrong password is refused",
                      f"{CURL} {ONLY_STATUS} -u ann:wrong 'https://hg.example.org/?cmd=heads'", "401")
 
+    def slow_bodies_of_one_user(self):
+        """24 pushes whose bodies come slowly: 16 of them are served, and the others refused at once."""
+        slow = (f"{CURL} --max-time 4 --limit-rate 100 -u ann:secret -H 'content-type: application/mercurial-0.1' "
+                f"--data-binary @/tmp/slow {ONLY_STATUS} 'https://hg.example.org/?cmd=unbundle&heads=666f726365'")
+        _, told = self.root.type("head -c 1000000 /dev/zero > /tmp/slow; for _ in $(seq 24); do "
+                                 f"({slow}; echo) & done; wait")
+        self.see("a user has sixteen requests at one time", 1 <= told.count("429") <= 8, told)
+
     def pulls_before_the_mirror(self):
-        """A push that is not mirrored yet keeps nobody from pulling."""
+        """A pull before the mirror waits, and is refused: it is never less than what was asked for."""
         self.root.type("systemctl stop deqtorap-mirror")
         self.user.type("hg clone -q https://hg.example.org/ ~/late && hg -R ~/late tag --local late")
         status, told = self.user.type("echo 'three and more' > file && hg commit -m more && hg push")
         self.see("another clone pushes", status == 0, told)
         status, told = self.user.type("hg -R ~/late pull")
-        self.see("a pull before the mirror ends well", status == 0 and "added" not in told, told)
+        self.see("a pull before the mirror ends with an error", status == 255 and "not mirrored yet" in told, told)
         self.root.type("systemctl start deqtorap-mirror")
         self.has_mirrored(5, 5)
         self.answers("a pull after it gets the rest", "hg -R ~/late pull", "added 1 changesets", self.user)
@@ -171,6 +180,42 @@ class Trial:
         status, said = self.user.type("cd ~/other && echo four > file && hg commit -m four && hg push")
         self.see("the clone pushes again", status == 0, said)
         self.has_mirrored(6, 6)
+
+    def after_several_repositories(self):
+        """Twelve of them; then the site of before again."""
+        self.see("both are listed", "first: port 8100, 1 pushes" in self.said
+                 and "second: port 8101, publishing, 0 pushes, 0 mirrored" in self.said, self.said)
+        names = [f"number{number}" for number in range(10)]
+        self.root_types(*(f"deqtorap create {name}" for name in names))
+        for name in ("second", *names):
+            status, told = self.user.type(
+                f"hg clone -q https://hg.example.org/{name} ~/{name} && cd ~/{name} && echo {name} > file && "
+                f"hg commit -q -A -m {name} && hg push -q && hg pull -q && hg phase -r tip")
+            phase = "0: public" if name == "second" else "0: draft"
+            self.see(f"{name} is cloned, pushed to and pulled from", status == 0 and phase in told, told)
+        self.answers("all are mirrored", "for _ in 1 2 3 4 5 6 7 8 9 10; do deqtorap doctor && break; sleep 1; done",
+                     "12 repositories, nothing found")
+        self.answers("each has its own push", "deqtorap list | grep -c '1 pushes, 1 mirrored$'", "12")
+        status, told = self.user.type("cd ~/first && echo two > file && hg commit -q -m two && "
+                                      "hg push https://hg.example.org/first/sub")
+        self.see("a push below a name is refused", status == 255 and "404" in told, told)
+        status, told = self.user.type("cd ~/first && hg push https://hg.example.org/nobody")
+        self.see("a push to no repository is refused", status == 255 and "404" in told, told)
+        self.root_types("systemctl stop deqtorap-mirror@first")
+        status, told = self.user.type("cd ~/first && hg push -q")
+        self.see("a push goes on without the mirror", status == 0, told)
+        status, told = self.root.type("deqtorap doctor")
+        self.see("doctor finds it", status == 1 and "first: 1 pushes are not mirrored" in told, told)
+        self.root_types("systemctl start deqtorap-mirror@first", "deqtorap remove number9")
+        status, told = self.root.type("deqtorap create first")
+        self.see("a name is not given twice", status == 1 and "first is there" in told, told)
+        status, told = self.root.type("deqtorap create ../first")
+        self.see("a path is no name", status == 1, told)
+        self.root_types("deqtorap create number9")
+        self.answers("what was removed is taken up again", "sleep 1; deqtorap list | grep number9", "1 pushes, 1 mirrored")
+        self.root_types("rm /etc/nginx/sites-enabled/deqtorap-many.conf",
+                        "ln -s ../sites-available/deqtorap-one.conf /etc/nginx/sites-enabled/",
+                        "systemctl reload nginx")
 
     # What the text says beside the commands.
 
@@ -296,7 +341,7 @@ def main(words):
     systemd = room.has_systemd() and "--played" not in words
     print(f"team.py: units run under {'systemd' if systemd else 'a played systemctl'}", flush=True)
     with tempfile.TemporaryDirectory() as folder, tempfile.TemporaryDirectory() as shared:
-        subprocess.run(["bash", f"{TOP}/tools/deb.sh", words[0], folder], check=True, stdout=subprocess.DEVNULL)
+        subprocess.run([sys.executable, f"{TOP}/tools/package.py", "deb", words[0], folder], check=True, stdout=subprocess.DEVNULL)
         package = glob.glob(f"{folder}/*.deb")[0]
         files = [package, PAGE, *EXTRA, __file__, room.__file__, *write_pushes(folder)]
         status = room.run(["python3", f"{room.PLACE}/{MAIN}", "--in-the-room"], files,

@@ -1,14 +1,14 @@
 #!/usr/bin/env python3
-"""What each crate's proof, wrong bodies and tests may take, and what they were measured to take.
+"""What each crate's proof, wrong bodies and tests may take, and what they were measured to take, in processor seconds.
 
-    tools/costs.py            writes the table of docs/proof-costs.md
+    tools/costs.py            writes the table of bench/proof-costs.md
     tools/costs.py --check    fails where that table is another one, where a piece takes more than its budget, and
                               where the longest chain of crates does
     tools/costs.py --run      says what took more than its budget in the last run of the gate, by the speed of its
                               machine, and fails where something took more than twice that
-    tools/costs.py --take     takes what the last run of the gate measured into docs/proof-costs.csv
+    tools/costs.py --take     takes what the last run of the gate measured into bench/proof-costs.csv
 
-docs/proof-costs.csv has a line for each piece: its name, processor seconds, budget. Lines of code, tests,
+bench/proof-costs.csv has a line for each piece: its name, processor seconds, budget. Lines of code, tests,
 definitions and proofs are counted in the sources. Its first line, and that of a run, has the seconds of a fixed piece
 of work, by which two machines compare.
 """
@@ -16,16 +16,71 @@ import csv
 import os
 import re
 import sys
+import textwrap
+import threading
+import time
 
-import measure
 import sources
 
-PAGE, FIGURES = f"{sources.ROOT}/docs/proof-costs.md", f"{sources.ROOT}/docs/proof-costs.csv"
+PAGE, FIGURES = f"{sources.ROOT}/bench/proof-costs.md", f"{sources.ROOT}/bench/proof-costs.csv"
 MEASURED = f"{sources.ROOT}/build/gate/costs.csv"
 BEGIN, END = "<!-- table -->\n", "<!-- end -->\n"
 KINDS = ("code", "tests", "definitions", "proofs")
 CHAIN = "longest chain"
-COLUMNS = [it for step in measure.STEPS for it in (step, f"{step}, budget")]
+TICK = os.sysconf("SC_CLK_TCK")
+STEPS = ("proof", "wrong bodies", "tests")
+COLUMNS = [it for step in STEPS for it in (step, f"{step}, budget")]
+
+
+class Watch:
+    """Looks at the processes that work in a stand three times a second, and adds up what each crate takes.
+
+    A process that ends between two looks is counted as it was last seen, so a sum is a little too small.
+    """
+
+    def __init__(self, stand):
+        self.stand, self.seen, self.is_over = f"{os.path.realpath(stand)}/crates/", {}, False
+        self.thread = threading.Thread(target=self.work, daemon=True)
+        self.thread.start()
+
+    def work(self):
+        while not self.is_over:
+            self.look()
+            time.sleep(0.3)
+
+    def look(self):
+        for process in os.listdir("/proc"):
+            if not process.isdigit():
+                continue
+            try:
+                where = os.readlink(f"/proc/{process}/cwd")
+                if where.startswith(self.stand):
+                    stat = sources.stat_of(process)
+                    crate = where.removeprefix(self.stand).split("/")[0]
+                    self.seen[process, stat[19]] = crate, (int(stat[11]) + int(stat[12])) / TICK
+            except (OSError, IndexError):
+                continue
+
+    def end(self):
+        """The seconds of each crate."""
+        self.is_over = True
+        self.thread.join()
+        sums = {}
+        for crate, seconds in self.seen.values():
+            sums[crate] = sums.get(crate, 0) + seconds
+        return sums
+
+
+def write_run(path, costs, minutes, spent, processors, selftest, kept=0):
+    """Writes what each crate took, and a line that tells of the run, and of how many crates the proof was kept."""
+    told = f"{minutes:.0f} minutes on {processors} processors, {spent:.0f} processor minutes"
+    told += f", without the proofs of {kept} crates that were kept" if kept else ""
+    with open(path, "w", encoding="utf-8") as file:
+        file.write(f"# processor seconds; the whole took {told}; `rt selftest` took {selftest:.0f} s\n")
+        file.write(",".join(["crate", *STEPS]) + "\n")
+        for name in dict.fromkeys(name for name, _ in costs):
+            row = [f"{costs[name, it]:.0f}" if (name, it) in costs else "" for it in STEPS]
+            file.write(",".join([name, *row]) + "\n")
 
 
 def lines(crate):
@@ -73,7 +128,7 @@ def shown(number):
 
 def table():
     told, found = figures()
-    crates = [it for it in sources.rows() if not it.endswith("_tests")]
+    crates = sources.crates()
     out = ["| crate | code | tests | definitions | proofs | wrong bodies | proof, s | of | wrong bodies, s | of |",
            "|---" * 10 + "|"]
     sums = [0] * 9
@@ -90,7 +145,8 @@ def table():
     took, names = chain({it: piece.get("proof", 0) for it, piece in found.items()})
     is_whole = all("proof" in found.get(it, {}) for it in crates)
     told_chain = f"{len(names)} crates, `{names[0]}` to `{names[-1]}`: {took:,} s" if is_whole else "no figure yet"
-    out += ["", f"The longest chain: {told_chain}. {told[0].upper()}{told[1:]}."]
+    last = f"The longest chain: {told_chain}. {told[0].upper()}{told[1:]}."
+    out += ["", *textwrap.wrap(last, 110, break_long_words=False, break_on_hyphens=False)]
     return "\n".join(out) + "\n"
 
 
@@ -98,7 +154,7 @@ def beyond():
     """What takes more than its budget."""
     _, found = figures()
     for name, piece in found.items():
-        for step in measure.STEPS:
+        for step in STEPS:
             if step in piece and piece[step] > piece.get(f"{step}, budget", 0):
                 yield f"{name}: {step} take {piece[step]} s of {piece.get(f'{step}, budget', 0)}"
     took, _ = chain({it: piece.get("proof", 0) for it, piece in found.items()})
@@ -118,7 +174,7 @@ def run_beyond():
     told, found = figures()
     slower = max(1, speed_of(first) / speed_of(told))
     for row in csv.DictReader(rows):
-        for step in measure.STEPS:
+        for step in STEPS:
             budget = found.get(row["crate"], {}).get(f"{step}, budget")
             if row[step] and budget and int(row[step]) > budget * slower:
                 yield int(row[step]) / (budget * slower), f"{row['crate']}: {step} took {row[step]} s of {budget * slower:.0f}"
@@ -138,7 +194,7 @@ def take():
     _, found = figures()
     for row in csv.DictReader(rows):
         piece = found.setdefault(row["crate"], {})
-        for step in measure.STEPS:
+        for step in STEPS:
             if row[step]:
                 piece[step] = int(row[step])
                 piece.setdefault(f"{step}, budget", -(-piece[step] * 5 // 40) * 10)
@@ -161,7 +217,7 @@ def main(words):
     if words == ["--check"]:
         said = [f"costs: {it}" for it in beyond()]
         if made != page:
-            said.append("costs: docs/proof-costs.md has another table: python3 tools/costs.py")
+            said.append("costs: bench/proof-costs.md has another table: python3 tools/costs.py")
         for it in said:
             print(it)
         return int(bool(said))

@@ -1,9 +1,15 @@
 #!/usr/bin/env python3
 """The gate: proves every crate from nothing, tries all wrong bodies, runs the tests, and runs the program.
 
-    tools/gate.py            what `make test` calls; the last line is 'N passed, M failed'
+    tools/gate.py                what `make test` calls; the last line is 'N passed, M failed'
+    tools/gate.py build          proves every crate that is not proved, side by side, for `make build`
+    tools/gate.py tests [NAME..] runs tests, compiled with checks and not proved: all, or those of these crates
+                                 (hg_log_tests, hg_tcp, ..) or groups
+    tools/gate.py groups         prints the groups of tests that the gate runs
+    tools/gate.py counts LOG     compares how many functions may wait with what `rt ci` printed
+    tools/gate.py toolchain      compares the toolchain on the path with toolchain.txt
 
-It works in a stand, a folder outside of the repository with copies of the crates, so that nothing is taken from
+The gate works in a stand, a folder outside of the repository with copies of the crates, so that nothing is taken from
 what earlier checks kept and nothing of it is lost. `rt ci` proves there, the longest chain of crates first. What
 processors it leaves idle run the tests, and the wrong bodies of each crate as soon as the crates below it are
 proved, the dearest first. Once all is proved the program is run, beside what is left of these. What each piece took
@@ -21,13 +27,11 @@ import time
 from concurrent.futures import ThreadPoolExecutor
 
 import costs as figures
-import measure
 import sources
-import stands
-import tests
+from gate import checks, proving, stands, testing
 
 LOGS = f"{sources.ROOT}/build/gate"
-CHECKS = ("docs", "index", "pictures", "costs", "headings", "paths", "words")
+CHECKS = ("documents", "costs")
 # the kinds of tasks in their order, and how far each is behind the proofs, which get a processor first; tests have
 # limits of time
 NICE = {"speed": "10", "tests": "10", "judging": "19", "wrong bodies": "19"}
@@ -39,6 +43,7 @@ PIECES = {
     "random bundles": ["bench/fuzz/run.sh", "60", "1"],
     "clients": ["tests/serve.sh"],
     "stores": ["tests/store.sh"],
+    "what is synced": ["tests/synced.py"],
     "examples": ["tests/check.sh"],
 }
 # what looks how long an answer takes, or may lose the end of one on a busy machine: nothing runs beside it
@@ -89,10 +94,6 @@ def counted(said):
     return tuple(map(int, found[-1])) if found else None
 
 
-def crates_with_wrong_bodies():
-    return [it for it in stands.proved() if os.path.isdir(f"{sources.ROOT}/crates/{it}/wrong")]
-
-
 def place_in_row(task, took):
     """Which task comes before which: the speed of the machine, then tests, which are ready from the beginning, and
     then wrong bodies; of each kind the dearest, as it was in an earlier run, or as such a task may be."""
@@ -112,8 +113,8 @@ class Side:
         self.used, self.proved, self.ended = sources.uses(), set(), False
         self.changed = threading.Condition()
         waiting = [("speed", "selftest"), ("judging", "hg_delta")]
-        waiting += [("tests", it) for it in tests.groups()]
-        waiting += [("wrong bodies", it) for it in crates_with_wrong_bodies()]
+        waiting += [("tests", it) for it in testing.groups()]
+        waiting += [("wrong bodies", it) for it in sources.with_wrong_bodies()]
         _, took = figures.figures()
         self.waiting = sorted(waiting, key=lambda it: place_in_row(it, took))
         self.workers, self.speed = [], 0
@@ -173,9 +174,9 @@ class Side:
         """Runs a task, and counts what came of it."""
         words = {
             "speed": ["rt", "selftest"],
-            "tests": [sys.executable, "tools/tests.py", name],
+            "tests": [sys.executable, "tools/gate.py", "tests", name],
             "wrong bodies": [sys.executable, "tools/wrong_bodies.py", "--built", self.stand, name],
-            "judging": [sys.executable, "tools/test_wrong_bodies.py", "--built", self.stand],
+            "judging": [sys.executable, "tools/wrong_bodies.py", "--built", self.stand, "--selftest"],
         }[kind]
         place = f"{kind.replace(' ', '-')}-{name}"
         status, said, seconds = logged(place, ["nice", "-n", NICE[kind], *words], cwd=sources.ROOT)
@@ -192,7 +193,7 @@ class Side:
 
 def prove(stand, count, side):
     """Proves all crates in the stand, and tells what waits for each. Returns those that an earlier run proved."""
-    total, kept = len(stands.proved()), set()
+    total, kept = len(sources.crates()), set()
     # one process for each proof: more of them cost more in all, and what waits beside the proofs has a use for each
     # processor
     alone = {**os.environ, "RT_JOBS": str(len(os.sched_getaffinity(0)))}
@@ -215,7 +216,7 @@ def prove(stand, count, side):
     side.end()
     how = f"all but {len(kept)} from nothing" if kept else "from nothing"
     count.add(f"proofs, {how}", passed, failed or status, f"{passed} passed, {failed} failed", "".join(said))
-    status, said, _ = logged("counts", [sys.executable, "tools/counts.py", f"{LOGS}/proofs.log"], cwd=sources.ROOT)
+    status, said, _ = logged("counts", [sys.executable, "tools/gate.py", "counts", f"{LOGS}/proofs.log"], cwd=sources.ROOT)
     count.add("how many functions may wait", int(not status), status, said=said)
     return kept
 
@@ -237,8 +238,6 @@ def run_pieces(program, count):
 
 def check_documents(count):
     for name in CHECKS:
-        if not os.path.exists(f"{sources.ROOT}/tools/{name}.py"):
-            continue
         status, said, _ = logged(f"check-{name}", [sys.executable, f"tools/{name}.py", "--check"], cwd=sources.ROOT)
         count.add(f"tools/{name}.py --check", int(not status), status, said=said)
 
@@ -258,7 +257,7 @@ def print_costs(costs):
         print(f"{kind}, {sum(took.values()):.0f} s: {', '.join(f'{name} {seconds:.0f}' for name, seconds in dearest)}")
 
 
-def main():
+def run_gate():
     shutil.rmtree(LOGS, ignore_errors=True)
     os.makedirs(LOGS)
     count, costs = Count(), {}
@@ -269,9 +268,9 @@ def main():
         print(f"{count.passed} passed, {len(count.failed)} failed")
         return 1
     with tempfile.TemporaryDirectory(prefix="gate-") as place:
-        stand = stands.make(f"{place}/stand", stands.proved())
+        stand = stands.make(f"{place}/stand", sources.crates())
         side = Side(stand, count, costs)
-        watch = measure.Watch(stand)
+        watch = figures.Watch(stand)
         side.begin(max(1, processors - 1))
         kept = prove(stand, count, side)
         # the processor that the longest chain had
@@ -292,7 +291,7 @@ def main():
     costs.update({(name, "proof"): seconds for name, seconds in took.items() if name not in kept})
     used = resource.getrusage(resource.RUSAGE_CHILDREN)
     minutes, spent = (time.time() - count.start) / 60, (used.ru_utime + used.ru_stime) / 60
-    measure.write(f"{LOGS}/costs.csv", costs, minutes, spent, processors, side.speed, len(kept))
+    figures.write_run(f"{LOGS}/costs.csv", costs, minutes, spent, processors, side.speed, len(kept))
     check_costs(count)
     for it, said in count.failed.items():
         print(f"FAILED: {it}\n{said}".rstrip())
@@ -302,5 +301,26 @@ def main():
     return 1 if count.failed else 0
 
 
+def main(words):
+    command, more = words[0] if words else "", words[1:]
+    if not words:
+        return run_gate()
+    if command == "build" and not more:
+        return proving.run()
+    if command == "toolchain" and not more:
+        return checks.toolchain()
+    if command == "counts" and len(more) == 1:
+        return checks.counts(more[0])
+    groups = testing.groups()
+    if command == "groups" and not more:
+        print("\n".join(groups))
+        return 0
+    if command == "tests" and not sources.shows_usage(__doc__, more, groups):
+        return testing.run_all(more)
+    if command != "tests":
+        print(__doc__.strip())
+    return 2
+
+
 if __name__ == "__main__":
-    sys.exit(main())
+    sys.exit(main(sys.argv[1:]))

@@ -19,12 +19,12 @@ import subprocess
 import sys
 
 import sources
-import wrong_bodies
+from wrong_bodies.prover import Prover, seconds_of
 
 
 def words_for(stand, name, more):
     """The words of the prover for a crate of the repository."""
-    prover = wrong_bodies.Prover(sources.ROOT)
+    prover = Prover(sources.ROOT)
     crate = prover.crates[name]
     for it in crate.below():
         own = f"{sources.ROOT}/crates/{it.name}/out/rlib/{it.name}.rlib"
@@ -42,7 +42,7 @@ def by_function(rattle, words, folder):
                           stderr=subprocess.STDOUT, text=True) as run:
         for line in run.stdout:
             if line.startswith("checked "):
-                now = wrong_bodies.seconds_of(run.pid)
+                now = seconds_of(run.pid)
                 rows.append((now - last, line.split()[1]))
                 last = now
             elif not re.match(r"statements |so far", line):

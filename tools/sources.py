@@ -1,7 +1,6 @@
-"""The functions of the crates, as their files have them, and the crates in their order.
+"""What all tools share: the crates in their order, their files, and their functions.
 
-Tools that speak of functions share it: a function is named as the prover names it, by the module and the type
-that it belongs to.
+A function is named as the prover names it, by the module and the type that it belongs to.
 """
 import os
 import re
@@ -27,6 +26,12 @@ def read(path):
         return file.read()
 
 
+def write(path, text):
+    os.makedirs(os.path.dirname(path), exist_ok=True)
+    with open(path, "w", encoding="utf-8") as file:
+        file.write(text)
+
+
 def rows(top=ROOT):
     """Each crate's line of crates.txt, by its name, in the order of that file."""
     lines = [line for line in read(f"{top}/crates.txt").splitlines() if line.strip() and not line.startswith("#")]
@@ -37,6 +42,15 @@ def uses(top=ROOT):
     """The crates of the repository that each crate uses, from below."""
     lines = rows(top)
     return {name: [it for it in line.partition(":")[2].split() if it in lines] for name, line in lines.items()}
+
+
+def crates():
+    """The crates without those of tests, in their order."""
+    return [it for it in rows() if not it.endswith("_tests")]
+
+
+def with_wrong_bodies():
+    return [it for it in crates() if os.path.isdir(f"{ROOT}/crates/{it}/wrong")]
 
 
 def below(crate, used):
@@ -51,6 +65,11 @@ def files(folder, suffix):
         for name in sorted(names):
             if name.endswith(suffix):
                 yield os.path.join(place, name)
+
+
+def stat_of(process):
+    """The fields after a process's name, as the system has them: its state is the first."""
+    return read(f"/proc/{process}/stat").rpartition(")")[2].split()
 
 
 def without_arguments(text):

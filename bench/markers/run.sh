@@ -3,7 +3,7 @@
 # run.
 set -eu
 . "$(dirname "$0")/../scratch.sh"
-scratch_program markers marker_speed 'anyhow hg_types hg_obs hg_base85'
+scratch_program markers marker_speed 'anyhow hg_types hg_obs'
 scratch_run ' a second\|MB/s'
 python3 - <<'PYTHON'
 import base64, time

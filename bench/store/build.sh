@@ -22,6 +22,6 @@ if [ "$wanted" != store_threads ]; then
     build store store_speed 'anyhow hg_types hg_store libc sha1 thiserror'
 fi
 if [ "$wanted" != store_speed ]; then
-    serving='hg_types hg_parts hg_repo hg_push hg_queue hg_serve hg_connection hg_store hg_ledger hg_kept hg_opening'
-    build store/threads store_threads "anyhow $serving crossbeam_queue atomic_table thiserror"
+    serving='hg_types hg_stream hg_parts hg_repo hg_push hg_queue hg_serve hg_connection hg_store hg_commit hg_durable'
+    build store/threads store_threads "anyhow $serving hg_recovery crossbeam_queue atomic_table thiserror"
 fi

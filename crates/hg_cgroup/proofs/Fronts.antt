@@ -27,9 +27,6 @@ joined_more f xs x bytes rest after spelled first =
 abbrev pub SomeChunks : List ℕ → List ℕ → Type 0
 SomeChunks bytes rest = (chunks : List (List ℕ)) × AreChunks bytes chunks rest
 
-pub no_chunks : (bytes : List ℕ) → SomeChunks bytes bytes
-no_chunks bytes = ([], record { each = tt; spelled = refl })
-
 pub more_chunks : (bytes rest after content : List ℕ) → SomeChunks bytes rest → rest ≡ chunk_bytes content
     ++ after → IsContent content → SomeChunks bytes after
 more_chunks bytes rest after content some first is = (
@@ -43,9 +40,6 @@ more_chunks bytes rest after content some first is = (
 -- some whole files, and then that rest
 abbrev pub SomeFiles : List ℕ → List ℕ → Type 0
 SomeFiles bytes rest = (files : List File) × AreFiles bytes files rest
-
-pub no_files : (bytes : List ℕ) → SomeFiles bytes bytes
-no_files bytes = ([], record { each = tt; spelled = refl })
 
 -- a name, whole chunks and an empty one are a file
 pub more_files : (bytes rest inside after name : List ℕ) → SomeFiles bytes rest → rest ≡ chunk_bytes name

@@ -151,7 +151,6 @@ fn no_phases<A: Allocator + Copy>(alloc: A, log: &Changelog<A>) -> Phases<A>
     ensures fits { AreFor log.now.rows result.current }
     ensures none { length result.current.phases ≡ 0 }
 {
-    let _rows = log.len();
     Phases::new(alloc)
 }
 

@@ -56,9 +56,3 @@ fault_at (stage.Chunk left) fault limit got size whole rest e at = absurd cc
 fault_at stage.Done fault limit got size whole rest e at = absurd cc
 fault_at stage.Handed fault limit got size whole rest e at = absurd cc
 fault_at (stage.Failed f) fault limit got size whole rest e at = rw (← broken_is f fault e) at
-
--- the fault stands at its end
-pub fault_when_broken : {A : Type 0} → (p : PayloadIn A) (fault : ChunkFault) (whole rest : List ℕ)
-    → phase_of p ≡ Broken fault → HasTakenItems p whole rest → IsFault fault (limit_of p) whole rest
-fault_when_broken p fault whole rest e holds =
-    fault_at p.stage fault p.limit p.«data».items p.size whole rest e holds.2

@@ -102,16 +102,3 @@ HasRead-then step p q bytes piece read next =
       spelled = extended read.items more bytes piece read.rest s.2 read.spelled took;
       holds = rw (← whole_now) s.3.holds;
     }
-
--- At the end the bytes are a whole payload, with the data that the reader got.
-pub HasRead-payload : {A : Type 0} → (p : PayloadIn A) (bytes got : List ℕ) → phase_of p ≡ Ended
-    → HasRead p bytes
-    → ((whole rest : List ℕ) → HasTakenItems p whole rest → got ≡ whole) → IsPayload bytes got
-HasRead-payload p bytes got ended read gets =
-    let closed = closed_when_ended p (flat_map item_data read.items) read.rest ended read.holds in
-    record {
-      items = read.items;
-      each = read.each;
-      spelled = read.spelled ∙ ap (λ (x : List ℕ). flat_map item_bytes read.items ++ x) closed;
-      joins = gets (flat_map item_data read.items) read.rest read.holds;
-    }

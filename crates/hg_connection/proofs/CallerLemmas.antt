@@ -18,12 +18,12 @@ use Rattle.hg_queue.specs.Words.{next_item}
 use Rattle.hg_serve.specs.Answers.{Answers}
 use Rattle.hg_serve.specs.Clients.{SenderView, AwaitingView, PutsItsMark, GoesOn}
 use Rattle.hg_serve.specs.Histories.{newest_first}
-use Rattle.hg_devices.specs.Devices.{ReadAnswer, Gave}
-use Rattle.hg_receiving.specs.declared.ending.BundleEnd.{BundleEnd}
-use Rattle.hg_receiving.specs.declared.ending.BundleEnd.TheVariants.{Whole}
-use Rattle.hg_receiving.specs.Receiving.{IsPiece, IsReceived, mark_of, part_items, push_items}
-use Rattle.hg_receiving.proofs.CallerLemmas.{AbortedAreShort, DoneAreShort, PartsAreFew, end_whole}
-use Rattle.hg_receiving.proofs.CallerLemmas.{items_length, mark_empty, put_parts}
+use Rattle.hg_connection.specs.Devices.{ReadAnswer, Gave}
+use Rattle.hg_connection.specs.declared.bundle_end.BundleEnd.{BundleEnd}
+use Rattle.hg_connection.specs.declared.bundle_end.BundleEnd.TheVariants.{Whole}
+use Rattle.hg_connection.specs.Receiving.{IsPiece, IsReceived, mark_of, part_items, push_items}
+use Rattle.hg_connection.proofs.ReceivingLemmas.{AbortedAreShort, DoneAreShort, PartsAreFew, end_whole}
+use Rattle.hg_connection.proofs.ReceivingLemmas.{items_length, mark_empty, put_parts}
 use Rattle.hg_connection.proofs.Exchanges.{received_read}
 use Rattle.hg_connection.proofs.Shortness.{reply_short}
 

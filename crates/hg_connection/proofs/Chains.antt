@@ -18,19 +18,19 @@ use Rattle.hg_push.specs.declared.book.OpenFault.{OpenFault}
 use Rattle.hg_stream.specs.declared.state.State.TheVariants.{Ended}
 use Rattle.hg_stream.specs.Faults.{StateTells}
 use Rattle.hg_serve.specs.declared.desk.Answer.{Answer}
-use Rattle.hg_devices.specs.Devices.{Input, Output, ReadAnswer, WriteAnswer, Gave, Failed, TellsMore}
-use Rattle.hg_devices.proofs.CallerLemmas.{Adds-nil, Adds-trans}
-use Rattle.hg_devices.specs.declared.sending.Sending.{Sending}
-use Rattle.hg_devices.specs.declared.sending.Sending.TheVariants.{Whole as sent_whole, Broken, NoMemory}
-use Rattle.hg_receiving.specs.declared.ending.BundleEnd.{BundleEnd}
-use Rattle.hg_receiving.specs.declared.ending.BundleEnd.TheVariants.{Whole, Fault, InputEnded, ReadFailed}
+use Rattle.hg_connection.specs.Devices.{Input, Output, ReadAnswer, WriteAnswer, Gave, Failed, TellsMore}
+use Rattle.hg_connection.proofs.DeviceLemmas.{Adds-nil, Adds-trans}
+use Rattle.hg_connection.specs.declared.sending.Sending.{Sending}
+use Rattle.hg_connection.specs.declared.sending.Sending.TheVariants.{Whole as sent_whole, Broken, NoMemory}
+use Rattle.hg_connection.specs.declared.bundle_end.BundleEnd.{BundleEnd}
+use Rattle.hg_connection.specs.declared.bundle_end.BundleEnd.TheVariants.{Whole, Fault, InputEnded, ReadFailed}
 use Rattle.hg_connection.specs.declared.coming.Next.TheVariants.{Comes, InputEnded as comes_no_more}
 use Rattle.hg_connection.specs.declared.coming.Next.TheVariants.{ReadFailed as comes_broken}
 use Rattle.hg_connection.specs.declared.served.ConnFault.{ConnFault}
 use Rattle.hg_connection.specs.declared.served.ConnFault.TheVariants.{Open, ReadFailed as read_failed}
 use Rattle.hg_connection.specs.declared.served.Served.{Served}
-use Rattle.hg_receiving.specs.Receiving.{IsPiece, Ran, state_at}
-use Rattle.hg_connection.specs.Receiving.{IsNext}
+use Rattle.hg_connection.specs.Receiving.{IsPiece, Ran, state_at}
+use Rattle.hg_connection.specs.Steps.{IsNext}
 use Rattle.hg_connection.specs.Connections.{Exchange, IsExchange, AreExchanges, AreWhole, Connects, EndsBy}
 use Rattle.hg_connection.specs.Connections.{IsLastAnswer, IsReported, ServesBundle, bytes_of, reads_of, uses_of}
 use Rattle.hg_connection.specs.Connections.{replies_of, gone_of, fault_of}
@@ -178,20 +178,25 @@ module _ {A : Type 0} (limits : Limits) (capacity : ℕ) (first : RepositoryOf A
       ∙ ap (λ (l : List ℕ). bytes_of g.whole ++ l) none)
       (Consumes-trans input.left mid.left left.left (bytes_of g.whole ++ waiting) [] g.read nothing)
 
+  -- what comes after a bundle has one before it
+  one_before : 1 ≤ number → g.whole ≢ []
+  one_before some = λ e. (let z : number ≡ 0 = g.count ∙ ap (λ (l : List (Exchange A)). length l) e in
+      absurd (omega (arith, z, some)))
+
   -- the input ended
   pub at_end : IsNext number waiting after mid left comes_no_more → SameBut served told served.fault
       → Connects limits capacity first most input left out sent before now told
   at_end n is =
-      closes now [] (Gave [] ∷ []) None refl (read_nothing (Gave []) n.0 n.1.bytes)
-      (Adds-trans input.reads mid.reads left.reads (reads_of g.whole) (Gave [] ∷ []) g.reads n.1.told)
-      (omega arith) (is.0, is.1, is.2, is.3 ∙ g.fault) (inr (refl, refl, n.2))
+      closes now [] (Gave [] ∷ []) None refl (read_nothing (Gave []) n.1 n.2.bytes)
+      (Adds-trans input.reads mid.reads left.reads (reads_of g.whole) (Gave [] ∷ []) g.reads n.2.told)
+      (omega arith) (is.0, is.1, is.2, is.3 ∙ g.fault) (inr (one_before n.0, refl, refl, n.3))
 
   -- a read failed between two bundles
   pub at_failure : IsNext number waiting after mid left comes_broken → SameBut served told (Some read_failed)
       → Connects limits capacity first most input left out sent before now told
-  at_failure n is = closes now [] (Failed ∷ []) (Some read_failed) refl (read_nothing Failed n.0 n.1.bytes)
-      (Adds-trans input.reads mid.reads left.reads (reads_of g.whole) (Failed ∷ []) g.reads n.1.told)
-      (omega arith) is (refl, refl)
+  at_failure n is = closes now [] (Failed ∷ []) (Some read_failed) refl (read_nothing Failed n.1 n.2.bytes)
+      (Adds-trans input.reads mid.reads left.reads (reads_of g.whole) (Failed ∷ []) g.reads n.2.told)
+      (omega arith) is (one_before n.0, refl, refl)
 
   none_waits : IsNext number waiting after mid left Comes → g.whole ≡ [] → after ≡ []
   none_waits n e = let z : number ≡ 0 = g.count ∙ ap (λ (l : List (Exchange A)). length l) e in (n.1 z).0

@@ -16,17 +16,17 @@ use Rattle.hg_queue.specs.History.{of, items_of}
 use Rattle.hg_queue.specs.Words.{next_item}
 use Rattle.hg_serve.specs.Answers.{Answers}
 use Rattle.hg_serve.specs.Clients.{SenderView, AwaitingView, PutsItsMark}
-use Rattle.hg_devices.specs.Devices.{Input, Output, ReadAnswer, Gave}
-use Rattle.hg_devices.proofs.CallerLemmas.{Adds-trans}
-use Rattle.hg_devices.specs.declared.sending.Sending.{Sending}
-use Rattle.hg_devices.specs.Sent.{Sends}
-use Rattle.hg_receiving.specs.declared.ending.BundleEnd.{BundleEnd}
-use Rattle.hg_receiving.specs.declared.ending.BundleEnd.TheVariants.{Whole, Fault, InputEnded, ReadFailed}
-use Rattle.hg_receiving.specs.Receiving.{IsPiece, IsReceived, StopsBundle, StopsIn, mark_of}
-use Rattle.hg_connection.specs.Receiving.{Arrives, Receives}
-use Rattle.hg_receiving.specs.Receiving.{push_items}
+use Rattle.hg_connection.specs.Devices.{Input, Output, ReadAnswer, Gave}
+use Rattle.hg_connection.proofs.DeviceLemmas.{Adds-trans}
+use Rattle.hg_connection.specs.declared.sending.Sending.{Sending}
+use Rattle.hg_connection.specs.Sent.{Sends}
+use Rattle.hg_connection.specs.declared.bundle_end.BundleEnd.{BundleEnd}
+use Rattle.hg_connection.specs.declared.bundle_end.BundleEnd.TheVariants.{Whole, Fault, InputEnded, ReadFailed}
+use Rattle.hg_connection.specs.Receiving.{IsPiece, IsReceived, StopsBundle, StopsIn, mark_of}
+use Rattle.hg_connection.specs.Steps.{Arrives, Receives}
+use Rattle.hg_connection.specs.Receiving.{push_items}
 use Rattle.hg_connection.specs.Connections.{Exchange, ServesBundle}
-use Rattle.hg_receiving.proofs.CallerLemmas.{AbortedAreShort, DoneAreShort, PartsAreFew, items_length}
+use Rattle.hg_connection.proofs.ReceivingLemmas.{AbortedAreShort, DoneAreShort, PartsAreFew, items_length}
 use Rattle.hg_connection.proofs.Shortness.{reply_short}
 
 module _ {A : Type 0} (limits : Limits) (capacity : ℕ) (first : RepositoryOf A) (waited waiting : List ℕ)

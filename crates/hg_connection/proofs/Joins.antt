@@ -5,13 +5,13 @@ use Rattle.std.proofs.lemmas.List.{append-nil, flat_map_more}
 use Rattle.std.proofs.Math.Nat.{mul-le-mul_right}
 use Rattle.std.specs.Prelude.{is_some}
 use Rattle.hg_push.specs.Reply.{reply_of}
-use Rattle.hg_devices.specs.Devices.{WriteAnswer}
-use Rattle.hg_devices.specs.declared.sending.Sending.{Sending}
-use Rattle.hg_devices.specs.declared.sending.Sending.TheVariants.{Whole as sent_whole, Broken, NoMemory}
-use Rattle.hg_devices.specs.Sent.{IsSent}
-use Rattle.hg_receiving.specs.declared.ending.BundleEnd.{BundleEnd}
-use Rattle.hg_receiving.specs.declared.ending.BundleEnd.TheVariants.{Whole, Fault, InputEnded, ReadFailed}
-use Rattle.hg_receiving.specs.Receiving.{KeepsWaiting}
+use Rattle.hg_connection.specs.Devices.{WriteAnswer}
+use Rattle.hg_connection.specs.declared.sending.Sending.{Sending}
+use Rattle.hg_connection.specs.declared.sending.Sending.TheVariants.{Whole as sent_whole, Broken, NoMemory}
+use Rattle.hg_connection.specs.Sent.{IsSent}
+use Rattle.hg_connection.specs.declared.bundle_end.BundleEnd.{BundleEnd}
+use Rattle.hg_connection.specs.declared.bundle_end.BundleEnd.TheVariants.{Whole, Fault, InputEnded, ReadFailed}
+use Rattle.hg_connection.specs.Receiving.{KeepsWaiting}
 use Rattle.hg_connection.specs.Connections.{ExchangeOf, AreChained, AreAllWhole}
 use Rattle.hg_connection.specs.Connections.{bytes_of, reads_of, uses_of, replies_of, gone_of}
 

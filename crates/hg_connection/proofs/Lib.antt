@@ -1,3 +1,9 @@
+pub mod DeviceLemmas
+mod Writing
+mod Waiting
+mod Filling
+mod Feeding
+pub mod ReceivingLemmas
 mod Putting
 pub mod Receivings
 mod Shortness

@@ -9,9 +9,9 @@ use Rattle.hg_queue.specs.Words.{next_item}
 use Rattle.hg_stream.specs.declared.unbundler.Unbundler.{Unbundler}
 use Rattle.hg_stream.specs.Unbundler.{HoldsBundle}
 use Rattle.hg_serve.specs.Clients.{SenderView, GoesOn, PutsNext}
-use Rattle.hg_receiving.specs.Receiving.{part_items}
-use Rattle.hg_receiving.proofs.CallerLemmas.{items_append, items_length, items_more}
-use Rattle.hg_connection.specs.Receiving.{PutsParts}
+use Rattle.hg_connection.specs.Receiving.{part_items}
+use Rattle.hg_connection.proofs.ReceivingLemmas.{items_append, items_length, items_more}
+use Rattle.hg_connection.specs.Steps.{PutsParts}
 
 -- none was put yet
 pub puts_none : {A : Type 0} (s : SenderView A) → PutsParts s s []

@@ -12,15 +12,15 @@ use Rattle.hg_stream.specs.Faults.{StateTells}
 use Rattle.hg_stream.specs.Laws.{AreSettledOnce}
 use Rattle.hg_stream.specs.Places.{IsReading}
 use Rattle.hg_serve.specs.Clients.{SenderView, GoesOn}
-use Rattle.hg_devices.specs.Devices.{Input}
-use Rattle.hg_receiving.specs.declared.ending.BundleEnd.{BundleEnd}
-use Rattle.hg_receiving.specs.declared.ending.BundleEnd.TheVariants.{Whole, Fault, InputEnded, ReadFailed}
-use Rattle.hg_receiving.specs.Receiving.{KeepsWaiting, part_items}
-use Rattle.hg_receiving.specs.Turns.{FeedsFront, Fills, IsReceiving, ended_at}
-use Rattle.hg_receiving.proofs.CallerLemmas.{ends, nothing_waits}
+use Rattle.hg_connection.specs.Devices.{Input}
+use Rattle.hg_connection.specs.declared.bundle_end.BundleEnd.{BundleEnd}
+use Rattle.hg_connection.specs.declared.bundle_end.BundleEnd.TheVariants.{Whole, Fault, InputEnded, ReadFailed}
+use Rattle.hg_connection.specs.Receiving.{KeepsWaiting, part_items}
+use Rattle.hg_connection.specs.Turns.{FeedsFront, Fills, IsReceiving, ended_at}
+use Rattle.hg_connection.proofs.ReceivingLemmas.{ends, nothing_waits}
 use Rattle.hg_connection.specs.declared.coming.Next.TheVariants.{Comes, InputEnded as comes_no_more}
 use Rattle.hg_connection.specs.declared.coming.Next.TheVariants.{ReadFailed as comes_broken}
-use Rattle.hg_connection.specs.Receiving.{IsFresh, IsNext}
+use Rattle.hg_connection.specs.Steps.{IsFresh, IsNext}
 use Rattle.hg_connection.specs.Keeping.{ReceivesKept}
 
 -- the law `streams_are_settled_once`
@@ -66,20 +66,20 @@ next_comes before after input left number later f few = elim f [
   )
 ]
 
-pub next_ends : (before after : List ℕ) (input left : Input) (number : ℕ)
+pub next_ends : (before after : List ℕ) (input left : Input) (number : ℕ) → number ≢ 0
     → Fills before after input left (Some InputEnded) → IsNext number before after input left comes_no_more
-next_ends before after input left number f =
-    let n = nothing_waits before after input left InputEnded f in (n.0, n.1.1, n.1.2)
+next_ends before after input left number later f =
+    let n = nothing_waits before after input left InputEnded f in (omega (arith, later), n.0, n.1.1, n.1.2)
 
-pub next_fails : (before after : List ℕ) (input left : Input) (number : ℕ) (ending : BundleEnd)
+pub next_fails : (before after : List ℕ) (input left : Input) (number : ℕ) (ending : BundleEnd) → number ≢ 0
     → Fills before after input left (Some ending) → ending ≢ InputEnded
     → IsNext number before after input left comes_broken
-next_fails before after input left number Whole f other = absurd (nothing_waits before after input left Whole f).1
-next_fails before after input left number (Fault fault) f other =
+next_fails before after input left number Whole later f other = absurd (nothing_waits before after input left Whole f).1
+next_fails before after input left number (Fault fault) later f other =
     absurd (nothing_waits before after input left (Fault fault) f).1
-next_fails before after input left number InputEnded f other = absurd (other refl)
-next_fails before after input left number ReadFailed f other =
-    let n = nothing_waits before after input left ReadFailed f in (n.0, n.1.1)
+next_fails before after input left number InputEnded later f other = absurd (other refl)
+next_fails before after input left number ReadFailed later f other =
+    let n = nothing_waits before after input left ReadFailed f in (omega (arith, later), n.0, n.1.1)
 
 -- nothing was put yet
 pub starts : {A : Type 0} (s : SenderView A) → s.putter.put ≡ []

@@ -16,10 +16,10 @@ use Rattle.hg_push.specs.Run.{RepositoryOf}
 use Rattle.hg_push.specs.World.{all_parts}
 use Rattle.hg_serve.specs.Answers.{Answers}
 use Rattle.hg_serve.specs.Histories.{newest_first}
-use Rattle.hg_receiving.specs.declared.ending.BundleEnd.{BundleEnd}
-use Rattle.hg_receiving.specs.Receiving.{IsReceived, mark_of, push_items, state_at}
-use Rattle.hg_devices.specs.Devices.{ReadAnswer}
-use Rattle.hg_receiving.proofs.CallerLemmas.{AbortedAreShort, DoneAreShort, PartsAreFew, mark_empty, put_parts}
+use Rattle.hg_connection.specs.declared.bundle_end.BundleEnd.{BundleEnd}
+use Rattle.hg_connection.specs.Receiving.{IsReceived, mark_of, push_items, state_at}
+use Rattle.hg_connection.specs.Devices.{ReadAnswer}
+use Rattle.hg_connection.proofs.ReceivingLemmas.{AbortedAreShort, DoneAreShort, PartsAreFew, mark_empty, put_parts}
 
 answer_short : {A : Type 0} → DoneAreShort A → AbortedAreShort A
     → (capacity : ℕ) (first : RepositoryOf A) (push : ℕ) (put : List (Item A)) (before : List (Taken A))

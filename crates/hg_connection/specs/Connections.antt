@@ -16,17 +16,17 @@ use Rattle.hg_push.specs.Run.{RepositoryOf}
 use Rattle.hg_stream.specs.declared.fault.StreamFault.TheVariants.{Truncated}
 use Rattle.hg_serve.specs.declared.desk.Answer.{Answer}
 use Rattle.hg_serve.specs.Answers.{Answers}
-use Rattle.hg_devices.specs.Devices.{Input, Output, ReadAnswer, WriteAnswer, Gave, Failed, TellsMore}
-use Rattle.hg_devices.specs.declared.sending.Sending.{Sending}
-use Rattle.hg_devices.specs.declared.sending.Sending.TheVariants.{Whole as sent_whole, Broken, NoMemory}
-use Rattle.hg_devices.specs.Sent.{IsSent}
-use Rattle.hg_receiving.specs.declared.ending.BundleEnd.{BundleEnd}
-use Rattle.hg_receiving.specs.declared.ending.BundleEnd.TheVariants.{Whole, Fault, InputEnded, ReadFailed}
+use Rattle.hg_connection.specs.Devices.{Input, Output, ReadAnswer, WriteAnswer, Gave, Failed, TellsMore}
+use Rattle.hg_connection.specs.declared.sending.Sending.{Sending}
+use Rattle.hg_connection.specs.declared.sending.Sending.TheVariants.{Whole as sent_whole, Broken, NoMemory}
+use Rattle.hg_connection.specs.Sent.{IsSent}
+use Rattle.hg_connection.specs.declared.bundle_end.BundleEnd.{BundleEnd}
+use Rattle.hg_connection.specs.declared.bundle_end.BundleEnd.TheVariants.{Whole, Fault, InputEnded, ReadFailed}
 use Rattle.hg_connection.specs.declared.served.ConnFault.{ConnFault}
 use Rattle.hg_connection.specs.declared.served.ConnFault.TheVariants.{Open, ReadFailed as read_failed, Stream}
 use Rattle.hg_connection.specs.declared.served.ConnFault.TheVariants.{WriteFailed, NoMemory as without_memory}
 use Rattle.hg_connection.specs.declared.served.Served.{Served}
-use Rattle.hg_receiving.specs.Receiving.{IsReceived, KeepsWaiting, Ran, mark_of, push_items}
+use Rattle.hg_connection.specs.Receiving.{IsReceived, KeepsWaiting, Ran, mark_of, push_items}
 
 -- One bundle of a connection: how its reader was read, the bytes that are the bundle's and those that were
 -- read after them, why no more was read of it, and its parts; its push, how that ended and how many items
@@ -151,14 +151,15 @@ IsLastAnswer {A} {S} {H} (Some answer) xs = (front : List (ExchangeOf A S H)) ×
 -- Why a connection ended between two bundles, after these whole ones, and by which read. Without a fault: so
 -- many were asked for, and nothing more was read; or one read met the end of the input, with no byte of a next
 -- bundle. With one: at an opening, where at most the first piece of the next bundle was read; or by a failed
--- read.
+-- read. Before the first bundle nothing is read: its push is opened first, and it is answered whatever is read.
 abbrev pub EndsBetween : {X : Type 0} → ℕ → List X → List ReadAnswer → List ℕ → Input → Option ConnFault →
     Type 0
 EndsBetween most whole final dropped left None =
-    ((length whole ≡ most) × (final ≡ [])) ⊎ ((dropped ≡ []) × (final ≡ Gave [] ∷ []) × IsAtEnd left.left)
+    ((length whole ≡ most) × (final ≡ [])) ⊎ ((whole ≢ []) × (dropped ≡ []) × (final ≡ Gave [] ∷ []) × IsAtEnd left.left)
 EndsBetween most whole final dropped left (Some (Open fault)) =
     ((final ≡ []) ⊎ ((whole ≢ []) × (final ≡ Gave dropped ∷ []))) × (whole ≡ [] → dropped ≡ [])
-EndsBetween most whole final dropped left (Some read_failed) = (dropped ≡ []) × (final ≡ Failed ∷ [])
+EndsBetween most whole final dropped left (Some read_failed) =
+    (whole ≢ []) × (dropped ≡ []) × (final ≡ Failed ∷ [])
 EndsBetween most whole final dropped left (Some fault) = ⊥
 
 -- Why the connection ended: between two bundles, or with the fault of the bundle that is the last, after which

@@ -2,10 +2,10 @@
 use Rattle.std.specs.Prelude.{ℕ, ◌≡◌, List}
 use Rattle.hg_types.specs.declared.limits.Limits.{Limits}
 use Rattle.hg_serve.specs.Clients.{SenderView}
-use Rattle.hg_devices.specs.Devices.{Input}
-use Rattle.hg_receiving.specs.declared.ending.BundleEnd.{BundleEnd}
-use Rattle.hg_receiving.specs.declared.ending.BundleEnd.TheVariants.{Whole}
-use Rattle.hg_connection.specs.Receiving.{Receives}
+use Rattle.hg_connection.specs.Devices.{Input}
+use Rattle.hg_connection.specs.declared.bundle_end.BundleEnd.{BundleEnd}
+use Rattle.hg_connection.specs.declared.bundle_end.BundleEnd.TheVariants.{Whole}
+use Rattle.hg_connection.specs.Steps.{Receives}
 
 -- A bundle was received from that reader, and its parts were put. Where it was read to its end mark, what was
 -- kept are its bytes, and no others.

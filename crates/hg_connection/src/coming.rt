@@ -1,9 +1,10 @@
 //! What comes after a bundle.
 
-ghost use Rattle.hg_connection.specs.Receiving.{IsNext};
+ghost use Rattle.hg_connection.specs.Steps.{IsNext};
 
-use hg_devices::Reader;
-use hg_receiving::{BundleEnd, Inbox};
+use crate::bundle_end::BundleEnd;
+use crate::device::Reader;
+use crate::inbox::Inbox;
 
 /// What comes after a bundle.
 #[derive(Clone, Copy, Debug, PartialEq, Eq)]
@@ -21,11 +22,13 @@ pub fn next_bundle<I: Reader>(number: u32, inbox: &mut Inbox, reader: &mut I) ->
     ensures { IsNext number inbox.old inbox.new (I.told reader.old) (I.told reader.new) result }
 {
     if number == 0 {
+        // for the proof: at most a piece waits
         let _waiting = inbox.pending();
         return Next::Comes;
     }
     match inbox.fill(reader) {
         None => {
+            // for the proof: at most a piece waits
             let _waiting = inbox.pending();
             Next::Comes
         }

@@ -5,17 +5,20 @@ ghost use Rattle.hg_types.specs.declared.part.Part.{Part as AnyPart};
 ghost use Rattle.hg_stream.specs.Unbundler.{HoldsBundle, limits_of, ready_of, state_of};
 ghost use Rattle.hg_stream.specs.declared.state.State.TheVariants.{Ended as at_end_mark};
 ghost use Rattle.hg_queue.specs.History.{of, items_of};
-ghost use Rattle.hg_receiving.specs.declared.ending.BundleEnd.TheVariants.{Whole};
-ghost use Rattle.hg_connection.specs.Receiving.{IsFresh, PutsParts, Receives};
+ghost use Rattle.hg_connection.specs.declared.bundle_end.BundleEnd.TheVariants.{Whole};
+ghost use Rattle.hg_connection.specs.Steps.{IsFresh, PutsParts, Receives};
 ghost use Rattle.hg_connection.specs.Connections.{Connects, Exchange, IsReported, ServesBundle};
 
+use crate::bundle_end::BundleEnd;
 use crate::coming::{Next, next_bundle};
-use crate::ending::mark;
+use crate::device::{Reader, Writer};
+use crate::inbox::Inbox;
+use crate::marking::mark;
+use crate::receiving::turn;
+use crate::reply::send_reply;
 use crate::served::{ConnFault, Round, Served};
-use hg_devices::{Reader, Writer};
 use hg_parts::hash_ahead;
 use hg_push::laws::replies_are_short;
-use hg_receiving::{BundleEnd, Inbox, send_reply, turn};
 use hg_serve::{Client, Gate, Naming, Point, Sender, Server};
 use hg_stream::Unbundler;
 use hg_stream::laws::{parts_are_few, streams_are_settled_once};
@@ -103,6 +106,7 @@ fn serve_bundle<J: Naming<A>, A: Allocator + Copy, R: Wait, I: Reader, W: Writer
 {
     parts_are_few::<A>();
     replies_are_short::<A>();
+    // for the proof: the limits are those of the first repository
     let _limits = server.limits();
     let ending = receive(server, rt, &mut sender, bundle, inbox, reader, gate);
     let ended = mark(server, rt, sender, ending, gate);
@@ -173,6 +177,7 @@ pub fn serve_connection<J: Naming<A>, A: Allocator + Copy, R: Wait, I: Reader, W
         }
         bundle.restart();
     }
+    // for the proof: at most a piece waits
     let _waiting = inbox.pending();
     (client, served)
 }

@@ -3,13 +3,14 @@
 ghost use Rattle.std.specs.Prelude.{◌≡◌, ◌≤◌, ◌++◌, ◌-◌, ℕ, List, [], length, take, OnOk};
 ghost use Rattle.hg_stream.specs.Unbundler.{limits_of, ready_of, state_of};
 ghost use Rattle.hg_stream.specs.declared.state.State.TheVariants.{Ended as at_end_mark};
-ghost use Rattle.hg_receiving.specs.declared.ending.BundleEnd.TheVariants.{Whole};
-ghost use Rattle.hg_connection.specs.Receiving.{IsFresh};
+ghost use Rattle.hg_connection.specs.declared.bundle_end.BundleEnd.TheVariants.{Whole};
+ghost use Rattle.hg_connection.specs.Steps.{IsFresh};
 ghost use Rattle.hg_connection.specs.Keeping.{ReceivesKept};
 
+use crate::bundle_end::BundleEnd;
 use crate::connection::put_ready;
-use hg_devices::Reader;
-use hg_receiving::{BundleEnd, Inbox};
+use crate::device::Reader;
+use crate::inbox::Inbox;
 use hg_serve::{Gate, Naming, Sender, Server};
 use hg_stream::laws::parts_are_few;
 use hg_stream::{StreamFault, Unbundler};

@@ -3,9 +3,9 @@
 ghost use Rattle.std.specs.Prelude.{◌≡◌, ◌<◌, ◌^◌, ◌+◌, None, Some};
 ghost use Rattle.hg_connection.specs.Connections.{fault_of};
 
-use hg_devices::Sending;
+use crate::bundle_end::BundleEnd;
+use crate::sending::Sending;
 use hg_push::OpenFault;
-use hg_receiving::BundleEnd;
 use hg_serve::Answer;
 use hg_stream::StreamFault;
 use std::alloc::{Allocator, Global};
@@ -88,7 +88,7 @@ impl<A: Allocator> Served<A> {
     }
 
     /// The same, with the bundle of this number, counted from 0.
-    pub fn more(self, number: u32, round: Round<A>) -> Served<A>
+    pub(crate) fn more(self, number: u32, round: Round<A>) -> Served<A>
         requires number { number < 10000 }
         requires fits { self.written + round.written < 2 ^ 64 }
         ensures { (result.bundles ≡ number + 1) × (result.last ≡ Some round.answer)

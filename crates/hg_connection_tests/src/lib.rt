@@ -1,5 +1,7 @@
 //! The tests of `hg_connection`, over its contracts.
 //!
+//! The tests of `hg_connection`, over its contracts.
+//!
 //! The tests of `steps.rt` take a step of a connection alone. Each of the others is one connection to a
 //! server of an empty repository, at capacity 1, over a reader and a writer in memory. `E` is the bundle
 //! without parts (12 bytes), `R` one with `CHECK:HEADS` and an empty payload, `A` the root changeset (193
@@ -25,5 +27,7 @@
 //! (`a_reply_holds_no_other_connection`). Both get `E` back.
 #![tactic(auto)]
 
+#[cfg(test)]
+mod receiving;
 #[cfg(test)]
 mod tests;

@@ -18,8 +18,7 @@ mod steps;
 mod writers;
 
 use crate::tests::devices::{Asker, Counter, Endless};
-use hg_connection::{ConnFault, serve_connection};
-use hg_devices::{Reader, Writer};
+use hg_connection::{ConnFault, Reader, Writer, serve_connection};
 use hg_help_tests::bundles::{EMPTY, INTERRUPTED_ROOT, ROOT, ROOT_REPLY};
 use hg_help_tests::devices::{Sink, Source};
 use hg_queue::{PartQueue, Taker};

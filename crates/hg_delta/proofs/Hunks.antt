@@ -112,16 +112,6 @@ pub record Measured (base delta : List ℕ) (end : ℕ) (rest : List ℕ) (size 
   pub within : end ≤ length base
   pub small : size + length rest ≤ end + length delta
 
-pub measured_none : (base delta : List ℕ) → Measured base delta 0 delta 0
-measured_none base delta =
-    record {
-      text = [];
-      took = took_none base delta;
-      size_is = refl;
-      within = omega arith;
-      small = omega arith;
-    }
-
 length-piece : (base : List ℕ) (end : ℕ) (hunk : Hunk) → IsPlaced (length base) end hunk
     → length (piece_of base (end, hunk)) ≡ hunk.start - end + length hunk.content
 length-piece base end hunk placed =

@@ -5,13 +5,13 @@ use Rattle.std.proofs.Common.{append_assoc, arith, inl, inr}
 use Rattle.std.proofs.lemmas.Bool.{ltb-true, ltb-false}
 use Rattle.std.proofs.lemmas.List.{take-append-drop, length-append, length-take, length-drop, drop-drop}
 use Rattle.std.proofs.lemmas.List.{get_or-drop}
+use Rattle.std.specs.Result.{result_map_both}
 use Rattle.hg_types.specs.Bytes.{IsBytes}
 use Rattle.hg_delta.specs.declared.fault.DeltaFault.{DeltaFault}
 use Rattle.hg_delta.specs.declared.fault.DeltaFault.TheVariants.{Short, Backwards, PastEnd, TooLong, NoMemory}
 use Rattle.hg_delta.specs.Delta.{Hunk, number_bytes, header, hunk_bytes, IsPlaced, piece_of, Applies}
 use Rattle.hg_delta.specs.Faults.{HasHeader, IsHunkFault, BreaksAt, IsOutcome, gives, breaks, exceeds}
-use Rattle.hg_delta.specs.Outcome.{◌>>=◌, number_at, hunk_headed, hunk_at, text_within, outcome_of, DeltaFails}
-use Rattle.hg_delta.specs.Outcome.{DeltaGives}
+use Rattle.hg_delta.specs.Outcome.{◌>>=◌, number_at, hunk_headed, hunk_at, text_within, outcome_of}
 use Rattle.hg_delta.proofs.Numbers.{length-header, taken_fits, number_is}
 use Rattle.hg_delta.proofs.Hunks.{Took, took_none, took_more, took_all, took_broken}
 use Rattle.hg_delta.proofs.Readings.{regrouped, outcome_once}
@@ -239,21 +239,16 @@ outcome_is base delta most outcome fits is =
     outcome_once base delta most (outcome_of base delta most) outcome (has_outcome base delta most fits) is
 
 pub breaks_is : (base delta : List ℕ) (most : ℕ) (fault : DeltaFault) → IsBytes delta
-    → (fault ≢ NoMemory → BreaksAt fault base delta) → DeltaFails fault (outcome_of base delta most)
-breaks_is base delta most Short fits broken =
-    outcome_is base delta most (Err Short) fits (breaks Short (broken (λ e. cc)))
-breaks_is base delta most Backwards fits broken =
-    outcome_is base delta most (Err Backwards) fits (breaks Backwards (broken (λ e. cc)))
-breaks_is base delta most PastEnd fits broken =
-    outcome_is base delta most (Err PastEnd) fits (breaks PastEnd (broken (λ e. cc)))
-breaks_is base delta most TooLong fits broken =
-    outcome_is base delta most (Err TooLong) fits (breaks TooLong (broken (λ e. cc)))
-breaks_is base delta most NoMemory fits broken = tt
+    → (fault ≢ NoMemory → BreaksAt fault base delta) → fault ≢ NoMemory → Err fault ≡ outcome_of base delta most
+breaks_is base delta most fault fits broken other =
+    sym (outcome_is base delta most (Err fault) fits (breaks fault (broken other)))
 
 -- the same of an answer that hands on a fault
 pub fault_is : {X : Type 0} (view : X → List ℕ) (r : Result X DeltaFault) (base delta : List ℕ) (most : ℕ)
     (fault told : DeltaFault) → r ≡ Err told → told ≡ fault → IsBytes delta
-    → (fault ≢ NoMemory → BreaksAt fault base delta) → DeltaGives view r (outcome_of base delta most)
-fault_is {X} view r base delta most fault told e same fits broken =
-    subst (λ (x : Result X DeltaFault). DeltaGives view x (outcome_of base delta most))
-    (sym (e ∙ ap (λ (f : DeltaFault). Err f) same)) (breaks_is base delta most fault fits broken)
+    → (fault ≢ NoMemory → BreaksAt fault base delta) → r ≢ Err NoMemory
+    → result_map_both view (λ (f : DeltaFault). f) r ≡ outcome_of base delta most
+fault_is {X} view r base delta most fault told e same fits broken other =
+    let is : r ≡ Err fault = e ∙ ap (λ (f : DeltaFault). Err f) same in
+    ap (result_map_both view (λ (f : DeltaFault). f)) is
+    ∙ breaks_is base delta most fault fits broken (λ refused. other (is ∙ ap (λ (f : DeltaFault). Err f) refused))

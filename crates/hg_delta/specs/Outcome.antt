@@ -1,9 +1,9 @@
 -- A delta, read from left to right: its text, or its first fault.
-use Rattle.std.specs.Prelude.{◌≡◌, ℕ, zero, suc, List, [], ◌∷◌, ◌++◌, length, take, drop, Result, Ok, Err}
+use Rattle.std.specs.Prelude.{ℕ, zero, suc, List, [], ◌∷◌, ◌++◌, length, take, drop, Result, Ok, Err}
 use Rattle.std.specs.Prelude.{nat_lt, if◌then◌else◌}
 use Rattle.std.specs.Int.{w32, from_be_bytes}
 use Rattle.hg_delta.specs.declared.fault.DeltaFault.{DeltaFault}
-use Rattle.hg_delta.specs.declared.fault.DeltaFault.TheVariants.{Short, Backwards, PastEnd, TooLong, NoMemory}
+use Rattle.hg_delta.specs.declared.fault.DeltaFault.TheVariants.{Short, Backwards, PastEnd, TooLong}
 use Rattle.hg_delta.specs.Delta.{Hunk, piece_of}
 
 infixl 10 ◌>>=◌
@@ -46,16 +46,3 @@ unfoldable pub outcome_of : List ℕ → List ℕ → ℕ → Result (List ℕ) 
 outcome_of base delta most = do
   text ← text_within (length delta) base 0 delta
   if nat_lt most (length text) then Err TooLong else Ok text
-
--- what a function answered, unless memory was refused
-abbrev pub DeltaFails : DeltaFault → Result (List ℕ) DeltaFault → Type 0
-DeltaFails Short read = read ≡ Err Short
-DeltaFails Backwards read = read ≡ Err Backwards
-DeltaFails PastEnd read = read ≡ Err PastEnd
-DeltaFails TooLong read = read ≡ Err TooLong
-DeltaFails NoMemory read = Unit {0}
-
--- What a function returned, seen by view, is what reading gives, unless memory was refused.
-abbrev pub DeltaGives : {X : Type 0} → (X → List ℕ) → Result X DeltaFault → Result (List ℕ) DeltaFault → Type 0
-DeltaGives view (Ok x) read = read ≡ Ok (view x)
-DeltaGives view (Err fault) read = DeltaFails fault read

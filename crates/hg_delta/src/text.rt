@@ -2,11 +2,12 @@
 
 ghost use Rattle.std.specs.Prelude.{ℕ, ◌≡◌, ◌≢◌, ◌≤◌, List, [], ◌++◌, length, IfOk, IfErr, IsErrOf, OnOk};
 ghost use Rattle.std.specs.Prelude.{Result};
+ghost use Rattle.std.specs.Result.{result_map_both};
 ghost use Rattle.hg_types.specs.Bytes.{IsBytes};
 ghost use Rattle.hg_delta.specs.declared.fault.DeltaFault.{DeltaFault};
 ghost use Rattle.hg_delta.specs.Delta.{Applies};
 ghost use Rattle.hg_delta.specs.Faults.{BreaksAt, GivesTooMuch, IsOutcome};
-ghost use Rattle.hg_delta.specs.Outcome.{DeltaGives, outcome_of};
+ghost use Rattle.hg_delta.specs.Outcome.{outcome_of};
 
 use crate::fault::DeltaFault;
 use crate::hunk::read_hunk;
@@ -73,7 +74,8 @@ pub fn apply<A: Allocator + Copy>(
     ensures past_end { IsErrOf result DeltaFault.PastEnd → BreaksAt DeltaFault.PastEnd base.now delta.now }
     ensures too_long { IsErrOf result DeltaFault.TooLong → GivesTooMuch base.now delta.now max }
     // So it is what reading from left to right gives, unless memory is refused.
-    ensures outcome { DeltaGives (λ text. text.items) result (outcome_of base.now delta.now max) }
+    ensures outcome { result ≢ Err DeltaFault.NoMemory →
+        result_map_both (λ text. text.items) (λ fault. fault) result ≡ outcome_of base.now delta.now max }
 {
     let length = text_length(base, delta)?;
     if length > max as usize {

@@ -6,8 +6,8 @@ ghost use Rattle.hg_store.specs.Log.{IsSettled};
 ghost use Rattle.hg_help_serve_tests.specs.Beginning.{first_head};
 
 use hg_help_store_tests::device::Memory;
+use hg_recovery::replay_records;
 use hg_repo::Repo;
-use hg_restore::replay_records;
 use hg_serve::Closed;
 use hg_store::{Device, Head, Log, recover};
 use hg_types::{Limits, Settings};

@@ -1,17 +1,17 @@
 //! How a server and its ledger end.
 
 ghost use Rattle.std.specs.Prelude.{◌≡◌, ◌≤◌, ◌+◌, All, Contains, vec_capacity, vec_len};
-ghost use Rattle.hg_ledger.specs.Clients.{promised};
+ghost use Rattle.hg_commit.specs.Clients.{promised};
 
+use hg_commit::{KeptClient, Ledger, Parts, Promises, Receipt, Storing};
 use hg_help_store_tests::device::Memory;
-use hg_ledger::{KeptClient, Ledger, Parts, Receipt, Storing, Tally};
 use hg_serve::{Client, Closed, Server};
 use hg_store::{Device, Log};
 use std::alloc::{AllocFailed, Allocator, Global};
 use std::sync::{Mutex, Wait};
 
 /// Compares a receipt with the tally of its ledger.
-pub fn compare<J: Storing<A>, A: Allocator>(tally: &mut Tally<A>, receipt: Receipt<J, A>)
+pub fn compare<J: Storing<A>, A: Allocator>(tally: &mut Promises<A>, receipt: Receipt<J, A>)
     requires { tally.old.id ≡ J.tally }
     ensures same { tally.new ≡ record tally.old { order = tally.new.order } }
     ensures promised { All (Contains tally.old.promises) receipt.promises }
@@ -22,7 +22,7 @@ pub fn compare<J: Storing<A>, A: Allocator>(tally: &mut Tally<A>, receipt: Recei
 
 /// Compares the receipt of a client, where it has one. Says whether it has.
 pub fn has_receipt<J: Storing<A>, A: Allocator>(
-    tally: &mut Tally<A>,
+    tally: &mut Promises<A>,
     receipt: Option<Receipt<J, A>>,
 ) -> bool
     requires { tally.old.id ≡ J.tally }

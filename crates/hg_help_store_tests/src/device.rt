@@ -74,7 +74,7 @@ impl Memory {
 
 /// To contracts it is a file that no crash ever meets. What one leaves, tests ask of `crashed`.
 impl Device for Memory {
-    ghost use Rattle.std.specs.Prelude.{length};
+    ghost use Rattle.std.specs.Prelude.{length, ⊤};
 
     ghost seen = { λ m. m.bytes.items };
 
@@ -89,6 +89,10 @@ impl Device for Memory {
     ghost counts_now = { λ _ _ _ _ none. none };
 
     ghost only_now = { λ _ _ none. none };
+
+    ghost goes_on = { λ _ _. ⊤ };
+
+    ghost goes_on_more = { λ _ _ _ _ _. tt };
 
     fn read<A: Allocator + Copy>(&mut self, alloc: A) -> Result<Vec<u8, A>, DeviceError> {
         self.call()?;

@@ -3,11 +3,11 @@ use Rattle.std.specs.Prelude.{ℕ, ◌≡◌, Bool, List, Option}
 use Rattle.hg_parts.specs.Repository.{Repository}
 use Rattle.hg_push.specs.Run.{RepositoryOf}
 use Rattle.hg_store.specs.declared.head.Head.{Head}
-use Rattle.hg_ledger.specs.Clients.{KeptSeen}
-use Rattle.hg_wire.specs.declared.serve.ConnectionEnd.{ConnectionEnd}
-use Rattle.hg_wire.specs.declared.terms.Terms.{Terms}
-use Rattle.hg_wire.specs.Serving.{ServesHttp}
-use Rattle.hg_opening.specs.Opening.{IsRecovered}
+use Rattle.hg_commit.specs.Clients.{KeptSeen}
+use Rattle.hg_web.specs.declared.serve.ConnectionEnd.{ConnectionEnd}
+use Rattle.hg_web.specs.declared.terms.WebTerms.{WebTerms}
+use Rattle.hg_web.specs.Serving.{ServesHttp}
+use Rattle.hg_recovery.specs.Opening.{IsRecovered}
 
 -- what contracts see of a service: how many pushes the store had when it was opened, and whether it publishes
 pub record HostView : Type 0 where
@@ -21,6 +21,6 @@ pub record HostsHttp {A S : Type 0} (capacity : ℕ) (first : RepositoryOf A) (h
     (page metrics : S → Repository A → List ℕ → Type 0) (view : HostView) (before : KeptSeen A)
     (input left out sent : Option (List ℕ)) (end : ConnectionEnd) (after : KeptSeen A) : Type 0 where
   pub recovered : IsRecovered view.publishing head stored first
-  pub terms : Terms S
+  pub terms : WebTerms S
   pub count : terms.stored ≡ view.stored
   pub serves : ServesHttp capacity first kept page metrics terms before input left out sent end after

@@ -3,17 +3,17 @@
 ghost use Rattle.std.specs.Prelude.{◌≡◌, [], length};
 ghost use Rattle.hg_store.specs.Log.{IsSettled};
 ghost use Rattle.hg_serve.specs.Desks.{OpensWith};
-ghost use Rattle.hg_ledger.specs.Receipts.{IsTallyOf};
-ghost use Rattle.hg_opening.specs.Opening.{IsOpened, IsRecovered};
+ghost use Rattle.hg_commit.specs.Receipts.{IsTallyOf};
+ghost use Rattle.hg_recovery.specs.Opening.{IsOpened, IsRecovered};
 
 use crate::runtime::HostingRuntime;
-use crate::service::Service;
+use crate::service::HostService;
 use crate::terms::HostTerms;
-use hg_ledger::{Storing, Tally};
-use hg_opening::Recovered;
+use hg_commit::{Promises, Storing};
 use hg_queue::{PartQueue, Taker};
-use hg_slots::Over;
+use hg_recovery::Recovered;
 use hg_store::Device;
+use hg_tcp::Over;
 use std::alloc::Global;
 use std::marker::Brand;
 use std::net::{SocketAddr, TcpListener, TcpStream};
@@ -33,7 +33,7 @@ const PAUSE: u64 = 100;
 struct Hosted<'s, J: Storing<Global>, D: Device, R: Wait + Clock> {
     rt: &'s R,
     alloc: Global,
-    service: &'s Service<'s, J, D, R>,
+    service: &'s HostService<'s, J, D, R>,
     listener: &'s TcpListener,
     address: SocketAddr,
 }
@@ -147,7 +147,7 @@ fn host_named<J, D, R>(
     queue: PartQueue,
     taker: Taker,
     recovered: Recovered<D>,
-    tally: Tally,
+    tally: Promises,
 ) -> Over
 where
     J: Storing<Global> + Send + Sync,
@@ -160,7 +160,7 @@ where
     requires recovered { IsRecovered J.head.publishing J.head J.stored J.first }
     requires count { recovered.stored ≡ length J.stored }
 {
-    let Ok(service) = Service::<J, D, R>::new(rt, alloc, terms, queue, taker, recovered, tally)
+    let Ok(service) = HostService::<J, D, R>::new(rt, alloc, terms, queue, taker, recovered, tally)
     else {
         return Over::NoMemory;
     };
@@ -173,7 +173,7 @@ where
     };
     hosted.serve_all();
     let over = service.slots().over(rt);
-    let clients = Vec::new(alloc);
+    let clients = service.take_clients(rt, alloc);
     drop(service.close(rt, alloc, clients));
     over.unwrap_or(Over::StoreFailed)
 }
@@ -199,7 +199,7 @@ where
         drop(recovered);
         return Over::NoMemory;
     };
-    let Ok(tally) = Tally::new(alloc) else {
+    let Ok(tally) = Promises::new(alloc) else {
         drop(recovered);
         drop(queue);
         drop(taker);

@@ -1,8 +1,8 @@
 //! A store, served over HTTP for as long as the process runs.
 //!
-//! [`serve_store`] serves the repository of a store that `hg_opening` opened, and adds to the store:
-//! [`Service::serve`] is one connection of it, over any reader and writer. A connection over a socket is
-//! not waited for longer than the terms say; `hg_slots` has the places for connections.
+//! [`serve_store`] serves the repository of a store that `hg_recovery` opened, and adds to the store:
+//! [`HostService::serve`] is one connection of it, over any reader and writer. A connection over a socket is
+//! not waited for longer than the terms say; `hg_tcp` has the places for connections.
 //!
 //! What one connection does never ends another, except where the store fails: then nothing more is answered. And
 //! where the numbers of pushes come to their end, each connection ends at its next read, and another server over
@@ -15,8 +15,8 @@ mod service;
 mod terms;
 mod watch;
 
-pub use hg_slots::Over;
+pub use hg_tcp::Over;
 pub use hosting::serve_store;
 pub use runtime::HostingRuntime;
-pub use service::Service;
+pub use service::HostService;
 pub use terms::HostTerms;

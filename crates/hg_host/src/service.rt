@@ -7,37 +7,36 @@ ghost use Rattle.hg_types.specs.declared.item.Taken.{Taken};
 ghost use Rattle.hg_types.specs.Limits.{IsAllowed};
 ghost use Rattle.hg_store.specs.Log.{IsSettled};
 ghost use Rattle.hg_serve.specs.Desks.{OpensWith};
-ghost use Rattle.hg_ledger.specs.Receipts.{IsTallyOf};
-ghost use Rattle.hg_ledger.specs.Clients.{IsCovered};
-ghost use Rattle.hg_ledger.specs.Orders.{no_receipt};
-ghost use Rattle.hg_kept.specs.Closing.{ClosesKept};
+ghost use Rattle.hg_commit.specs.Receipts.{IsTallyOf};
+ghost use Rattle.hg_commit.specs.Clients.{IsCovered};
+ghost use Rattle.hg_commit.specs.Orders.{no_receipt};
+ghost use Rattle.hg_durable.specs.Closing.{ClosesKept};
 ghost use Rattle.hg_queue.specs.Words.{history};
 ghost use Rattle.hg_serve.specs.Histories.{serial_run};
-ghost use Rattle.hg_opening.specs.Opening.{IsRecovered};
+ghost use Rattle.hg_recovery.specs.Opening.{IsRecovered};
 ghost use Rattle.hg_host.specs.Serving.{HostsHttp};
 
 use crate::terms::HostTerms;
 use crate::watch::Watcher;
-use hg_board::Board;
-use hg_kept::{ClosedKept, close_kept};
-use hg_ledger::{KeptClient, Ledger, Parts, Storing, Tally};
-use hg_listener::drain;
-use hg_opening::Recovered;
+use hg_commit::{KeptClient, Ledger, Parts, Promises, Storing};
+use hg_durable::{ClosedKept, close_kept};
 use hg_queue::{PartQueue, Taker};
+use hg_recovery::Recovered;
 use hg_serve::{Client, Server};
-use hg_slots::{Line, Over, Patience, Sent, Slots, set_up};
+use hg_status::Board;
 use hg_store::Device;
+use hg_tcp::{Line, Over, Patience, Places, Sent, drain, set_up};
 use hg_types::NoMemory;
-use hg_wire::{Budget, ConnectionEnd, Shelf, Shown, Terms, serve_http};
+use hg_web::{Budget, ConnectionEnd, Shown, ViewCache, WebTerms, serve_http};
 use std::alloc::{AllocFailed, Global};
 use std::hash::RandomState;
-use std::io;
 use std::io::{BufRead, BufReader, Write};
 use std::marker::Model;
 use std::net::TcpStream;
 use std::random::RandomSource;
 use std::sync::{Mutex, Wait};
 use std::time::{Clock, Duration};
+use std::{io, mem};
 
 /// How many clients a ledger has.
 const WITNESSES: usize = 2;
@@ -47,24 +46,24 @@ const READ: usize = 16_384;
 
 /// A server over the ledger of a store, and what its connections share. Contracts see how many pushes the store
 /// had when it was opened, and where pulls go.
-pub struct Service<'a, J: Storing<Global>, D: Device, R: Wait + Clock> {
+pub struct HostService<'a, J: Storing<Global>, D: Device, R: Wait + Clock> {
     server: Server<J>,
     ledger: Ledger<J, D>,
     /// The view that all who read share.
-    shelf: Mutex<Shelf<J>>,
+    shelf: Mutex<ViewCache<J>>,
     /// The clients that no connection has.
     free: Mutex<Vec<KeptClient<J>>>,
     budget: Budget,
     board: Board<'a, R>,
-    slots: Slots,
+    slots: Places,
     terms: HostTerms<'a>,
     stored: usize,
 }
 
-impl<'a, J: Storing<Global>, D: Device, R: Wait + Clock> Model for Service<'a, J, D, R> {
+impl<'a, J: Storing<Global>, D: Device, R: Wait + Clock> Model for HostService<'a, J, D, R> {
     ghost use Rattle.std.specs.Prelude.{◌≡◌, length, true, false};
     ghost use Rattle.std.specs.Option.{option_map};
-    ghost use Rattle.hg_opening.specs.Opening.{IsRecovered};
+    ghost use Rattle.hg_recovery.specs.Opening.{IsRecovered};
     ghost use Rattle.hg_host.specs.Serving.{HostView};
 
     ghost Value = { HostView };
@@ -75,7 +74,7 @@ impl<'a, J: Storing<Global>, D: Device, R: Wait + Clock> Model for Service<'a, J
         × IsRecovered J.head.publishing J.head J.stored J.first };
 }
 
-impl<'a, J, D, R> Service<'a, J, D, R>
+impl<'a, J, D, R> HostService<'a, J, D, R>
 where
     J: Storing<Global>,
     D: Device + Drop,
@@ -90,7 +89,7 @@ where
         queue: PartQueue,
         taker: Taker,
         recovered: Recovered<D>,
-        tally: Tally,
+        tally: Promises,
     ) -> Result<Self, NoMemory>
         requires begins { OpensWith J.table J.capacity J.first queue taker recovered.repo }
         requires settled { IsSettled D.seen D.may_leave J.head J.stored recovered.log }
@@ -123,15 +122,15 @@ where
                 return Err(NoMemory);
             }
         };
-        let shelf = Shelf::new(alloc, new_client(rt, &server));
-        Ok(Service {
+        let shelf = ViewCache::new(alloc, new_client(rt, &server));
+        Ok(HostService {
             server,
             ledger,
             shelf: Mutex::new(shelf),
             free: Mutex::new(free),
             budget: Budget::new(terms.memory),
             board,
-            slots: Slots::new(terms.connections),
+            slots: Places::new(terms.connections),
             terms,
             stored,
         })
@@ -147,7 +146,7 @@ where
         ensures left { ClosesKept D.moment D.left_since D.may_leave J.head J.stored J.first J.opened clients.items
             (history result.closed.taker) result.kept result.log.device }
     {
-        let Service {
+        let HostService {
             server,
             ledger,
             shelf,
@@ -183,7 +182,7 @@ where
             self.now client (I.remaining reader.old) (I.remaining reader.new)
             (W.contents writer.old) (W.contents writer.new) result.1 result.0 }
     {
-        let terms = Terms {
+        let terms = WebTerms {
             shown: &self.board,
             budget: &self.budget,
             pull: self.pull(),
@@ -240,8 +239,13 @@ where
         put(rt, &mut *self.free.lock(rt), client);
     }
 
+    /// The clients that no connection has. Once serving is over, these are all that ever had one.
+    pub(crate) fn take_clients(&self, rt: &R, alloc: Global) -> Vec<KeptClient<J>> {
+        mem::replace(&mut *self.free.lock(rt), Vec::new(alloc))
+    }
+
     /// The places for connections.
-    pub(crate) fn slots(&self) -> &Slots {
+    pub(crate) fn slots(&self) -> &Places {
         &self.slots
     }
 

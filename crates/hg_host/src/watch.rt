@@ -1,11 +1,9 @@
 //! Who watches a connection: how long each push took, and a line for it.
 
-use hg_board::{Board, seconds_now};
-use hg_ended::{brought_by, shown_outcome};
-use hg_page::{Push, ShownOutcome, log_line};
 use hg_serve::{Gate, Point};
-use hg_slots::{Over, Slots};
-use hg_wire::{Watch, WatchedPush};
+use hg_status::{Board, Push, ShownOutcome, brought_by, log_line, seconds_now, shown_outcome};
+use hg_tcp::{Over, Places};
+use hg_web::{Watch, WatchedPush};
 use std::alloc::Global;
 use std::str;
 use std::sync::Wait;
@@ -18,7 +16,7 @@ pub struct Watcher<'a, R: Wait + Clock + Eprint> {
     rt: &'a R,
     alloc: Global,
     board: &'a Board<'a, R>,
-    slots: &'a Slots,
+    slots: &'a Places,
     /// How many pushes the store had when it was opened.
     stored: usize,
     logs: bool,
@@ -34,7 +32,7 @@ impl<'a, R: Wait + Clock + Eprint> Watcher<'a, R> {
         rt: &'a R,
         alloc: Global,
         board: &'a Board<'a, R>,
-        slots: &'a Slots,
+        slots: &'a Places,
         stored: usize,
         logs: bool,
     ) -> Self {

@@ -1,3 +1,4 @@
 mod Pieces
 mod Keys
-mod Bodies
+mod Alone
+mod Following

@@ -2,7 +2,7 @@
 use Rattle.std.specs.Prelude.{ℕ, ◌≡◌, nat_le, Bool, true, ◌&&◌, List, [], ◌∷◌, length, codes}
 use Rattle.hg_types.specs.declared.part.Part.{Part}
 use Rattle.hg_types.specs.declared.part.Param.{Param}
-use Rattle.hg_told.specs.declared.form.Field.{Field}
+use Rattle.hg_wireproto.specs.declared.form.Field.{Field}
 use Rattle.hg_http.specs.declared.key.KeyChange.{KeyChange}
 use Rattle.hg_http.specs.Requests.{argument_in}
 

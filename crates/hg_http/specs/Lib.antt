@@ -3,4 +3,4 @@ pub mod Requests
 pub mod Views
 pub mod Responses
 pub mod Keys
-pub mod Bodies
+pub mod Following

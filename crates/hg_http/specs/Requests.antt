@@ -8,8 +8,8 @@ use Rattle.http_uri.specs.Uri.{uri_query}
 use Rattle.http_header.specs.FieldValue.{FieldValue}
 use Rattle.http_header.specs.HeaderMap.{Entries, get}
 use Rattle.http_header.specs.Token.{lowercase}
-use Rattle.hg_told.specs.declared.form.Field.{Field}
-use Rattle.hg_told.specs.Form.{fields_of, value_in}
+use Rattle.hg_wireproto.specs.declared.form.Field.{Field}
+use Rattle.hg_wireproto.specs.Form.{fields_of, value_in}
 
 -- the text after the `?` of its target; the empty one where there is none
 abbrev pub query_of : Request (List ℕ) → List ℕ

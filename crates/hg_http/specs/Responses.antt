@@ -3,21 +3,21 @@ use Rattle.std.specs.Prelude.{ℕ, ◌⊎◌, List, [], ◌∷◌, ◌++◌, cod
 use Rattle.http1.specs.Fields.{Header}
 use Rattle.http_server.specs.declared.response.Response.{Response}
 use Rattle.http_server.specs.Response.{IsResponse}
-use Rattle.hg_http.specs.declared.answer.Answer.{Answer}
-use Rattle.hg_http.specs.declared.answer.Answer.TheVariants.{Text, Refused, Forbidden, NotFound}
-use Rattle.hg_http.specs.declared.answer.Answer.TheVariants.{Shown, Moved}
-use Rattle.hg_http.specs.declared.view.View.{View}
-use Rattle.hg_http.specs.declared.view.View.TheVariants.{Page, Report, Metrics}
-use Rattle.hg_http.specs.declared.answer.Refusal.{Refusal}
-use Rattle.hg_http.specs.declared.answer.Refusal.TheVariants.{NotForced, BadBatch, PushesAlone, NotOpened}
-use Rattle.hg_http.specs.declared.answer.Refusal.TheVariants.{NoMemory, NoAnswer, LongBatch}
+use Rattle.hg_http.specs.declared.answer.HttpAnswer.{HttpAnswer}
+use Rattle.hg_http.specs.declared.answer.HttpAnswer.TheVariants.{Text, Refused, Forbidden, NotFound}
+use Rattle.hg_http.specs.declared.answer.HttpAnswer.TheVariants.{Shown, Moved}
+use Rattle.hg_http.specs.declared.view.StatusView.{StatusView}
+use Rattle.hg_http.specs.declared.view.StatusView.TheVariants.{Page, Report, Metrics}
+use Rattle.hg_http.specs.declared.answer.RequestRefusal.{RequestRefusal}
+use Rattle.hg_http.specs.declared.answer.RequestRefusal.TheVariants.{NotForced, BadBatch, PushesAlone, NotOpened}
+use Rattle.hg_http.specs.declared.answer.RequestRefusal.TheVariants.{NoMemory, NoAnswer, LongBatch}
 
 -- the text and a line feed
 abbrev pub line : List ℕ → List ℕ
 line text = text ++ 10 ∷ []
 
 -- the line that says why a command is not answered
-abbrev pub refusal_text : Refusal → List ℕ
+abbrev pub refusal_text : RequestRefusal → List ℕ
 refusal_text NotForced = line (codes "unbundle takes forced heads alone")
 refusal_text BadBatch = line (codes "batch takes commands that read alone")
 refusal_text PushesAlone = line (codes "this address takes pushes alone")
@@ -31,7 +31,7 @@ abbrev pub of_type : List ℕ → List Header
 of_type text = (codes "content-type", text) ∷ []
 
 -- The fields of a view: its type, and of the page besides what it may load: its own styles alone.
-abbrev pub view_fields : View → List Header
+abbrev pub view_fields : StatusView → List Header
 view_fields Page = (codes "content-type", codes "text/html; charset=utf-8")
     ∷ (codes "content-security-policy", codes "default-src 'none'; style-src 'unsafe-inline'") ∷ []
 view_fields Report = of_type (codes "text/plain; charset=utf-8")
@@ -41,7 +41,7 @@ abbrev pub location_of : List ℕ → List Header
 location_of address = (codes "location", address) ∷ []
 
 -- the status, the fields and the body that report an answer
-abbrev pub Says : {A : Type 0} → Answer A → Response → Type 0
+abbrev pub Says : {A : Type 0} → HttpAnswer A → Response → Type 0
 Says (Text text) response = IsResponse 200 (of_type (codes "application/mercurial-0.1")) text response
 Says (Refused why) response =
     IsResponse 200 (of_type (codes "application/hg-error")) (refusal_text why) response
@@ -57,5 +57,5 @@ SaysNothing response =
     ⊎ IsResponse 500 [] [] response
 
 -- a response says this answer, or that memory was refused for it
-abbrev pub CarriesAnswer : {A : Type 0} → Answer A → Response → Type 0
+abbrev pub CarriesAnswer : {A : Type 0} → HttpAnswer A → Response → Type 0
 CarriesAnswer answer response = Says answer response ⊎ SaysNothing response

@@ -5,7 +5,7 @@ ghost use Rattle.http_server.specs.Response.{IsBlank, IsResponse};
 ghost use Rattle.hg_http.specs.Responses.{CarriesAnswer, location_of, of_type, refusal_text, Says};
 ghost use Rattle.hg_http.specs.Responses.{SaysNothing, view_fields};
 
-use crate::view::View;
+use crate::view::StatusView;
 use bytes::BufMut;
 use hg_types::Seq;
 use http::StatusCode;
@@ -15,7 +15,7 @@ use std::alloc::{AllocError, Allocator, Global};
 
 /// Why a command is not answered.
 #[derive(Clone, Copy, Debug, PartialEq, Eq)]
-pub enum Refusal {
+pub enum RequestRefusal {
     /// 1: the heads of a push are not forced.
     NotForced,
     /// 2: a batch holds another command than those that only read, or none.
@@ -32,43 +32,43 @@ pub enum Refusal {
     LongBatch,
 }
 
-impl Refusal {
+impl RequestRefusal {
     /// The line that says so.
     pub fn text(self) -> &'static [u8]
         ensures { result.now ≡ refusal_text self }
     {
         match self {
-            Refusal::NotForced => b"unbundle takes forced heads alone\n".as_slice(),
-            Refusal::BadBatch => b"batch takes commands that read alone\n".as_slice(),
-            Refusal::PushesAlone => b"this address takes pushes alone\n".as_slice(),
-            Refusal::NotOpened => b"no push can be opened now\n".as_slice(),
-            Refusal::NoMemory => b"out of memory\n".as_slice(),
-            Refusal::NoAnswer => b"there is no memory for the answer\n".as_slice(),
-            Refusal::LongBatch => b"batch takes 16 commands, 4 of them lookup\n".as_slice(),
+            RequestRefusal::NotForced => b"unbundle takes forced heads alone\n".as_slice(),
+            RequestRefusal::BadBatch => b"batch takes commands that read alone\n".as_slice(),
+            RequestRefusal::PushesAlone => b"this address takes pushes alone\n".as_slice(),
+            RequestRefusal::NotOpened => b"no push can be opened now\n".as_slice(),
+            RequestRefusal::NoMemory => b"out of memory\n".as_slice(),
+            RequestRefusal::NoAnswer => b"there is no memory for the answer\n".as_slice(),
+            RequestRefusal::LongBatch => b"batch takes 16 commands, 4 of them lookup\n".as_slice(),
         }
     }
 }
 
 /// What a request is answered.
 #[derive(Drop)]
-pub enum Answer<A: Allocator = Global> {
+pub enum HttpAnswer<A: Allocator = Global> {
     /// The text of a command, or the reply to a push.
     Text(Seq<u8, A>),
     /// A refusal, by a line that says why.
-    Refused(Refusal),
+    Refused(RequestRefusal),
     /// A command that changes something came in a form that a page in a browser could send.
     Forbidden,
     /// No command, and no view.
     NotFound,
     /// What is asked for without a command.
-    Shown(View, Seq<u8, A>),
+    Shown(StatusView, Seq<u8, A>),
     /// It is answered at that address.
     Moved(Seq<u8, A>),
 }
 
 /// Fills a blank response with the answer. Where memory is refused for it, the response says so, by a line,
 /// or by its status where memory is refused for that as well.
-pub fn respond<A: Allocator>(alloc: Global, answer: &Answer<A>, response: &mut Response)
+pub fn respond<A: Allocator>(alloc: Global, answer: &HttpAnswer<A>, response: &mut Response)
     requires { IsBlank response.old }
     ensures { CarriesAnswer answer.now response.new }
 {
@@ -81,7 +81,7 @@ fn respond_nothing(response: &mut Response)
     ensures { SaysNothing response.new }
 {
     response.clear();
-    if refuse(response, Refusal::NoAnswer).is_err() {
+    if refuse(response, RequestRefusal::NoAnswer).is_err() {
         response.clear();
         response.status = StatusCode::INTERNAL_SERVER_ERROR;
     }
@@ -89,29 +89,29 @@ fn respond_nothing(response: &mut Response)
 
 fn try_respond<A: Allocator>(
     alloc: Global,
-    answer: &Answer<A>,
+    answer: &HttpAnswer<A>,
     response: &mut Response,
 ) -> Result<(), AllocError>
     requires { IsBlank response.old }
     ensures { OnOk result (Says answer.now response.new) }
 {
     match answer {
-        Answer::Text(text) => put_text(response, text.as_slice()),
-        Answer::Refused(why) => refuse(response, *why),
-        Answer::Forbidden => {
+        HttpAnswer::Text(text) => put_text(response, text.as_slice()),
+        HttpAnswer::Refused(why) => refuse(response, *why),
+        HttpAnswer::Forbidden => {
             response.status = StatusCode::FORBIDDEN;
             Ok(())
         }
-        Answer::NotFound => {
+        HttpAnswer::NotFound => {
             response.status = StatusCode::NOT_FOUND;
             Ok(())
         }
-        Answer::Shown(view, text) => show(response, *view, text.as_slice()),
-        Answer::Moved(address) => move_to(alloc, response, address.as_slice()),
+        HttpAnswer::Shown(view, text) => show(response, *view, text.as_slice()),
+        HttpAnswer::Moved(address) => move_to(alloc, response, address.as_slice()),
     }
 }
 
-fn show(response: &mut Response, view: View, text: &[u8]) -> Result<(), AllocError>
+fn show(response: &mut Response, view: StatusView, text: &[u8]) -> Result<(), AllocError>
     requires { IsBlank response.old }
     ensures { OnOk result (IsResponse 200 (view_fields view) text.now response.new) }
 {
@@ -120,22 +120,22 @@ fn show(response: &mut Response, view: View, text: &[u8]) -> Result<(), AllocErr
 }
 
 /// The fields of a view's answer: its type, and for the page what it may load.
-fn add_fields(response: &mut Response, view: View) -> Result<(), AllocError>
+fn add_fields(response: &mut Response, view: StatusView) -> Result<(), AllocError>
     requires { IsBlank response.old }
     ensures { OnOk result (IsResponse 200 (view_fields view) [] response.new) }
 {
     match view {
-        View::Page => {
+        StatusView::Page => {
             let kind = HeaderValue::from_static("text/html; charset=utf-8");
             response.add_header(HeaderName::from_static("content-type"), kind)?;
             let policy = HeaderValue::from_static("default-src 'none'; style-src 'unsafe-inline'");
             response.add_header(HeaderName::from_static("content-security-policy"), policy)
         }
-        View::Report => {
+        StatusView::Report => {
             let kind = HeaderValue::from_static("text/plain; charset=utf-8");
             response.add_header(HeaderName::from_static("content-type"), kind)
         }
-        View::Metrics => {
+        StatusView::Metrics => {
             let kind = HeaderValue::from_static("text/plain; version=0.0.4; charset=utf-8");
             response.add_header(HeaderName::from_static("content-type"), kind)
         }
@@ -166,7 +166,7 @@ fn put_text(response: &mut Response, text: &[u8]) -> Result<(), AllocError>
     response.body.put_slice(text)
 }
 
-fn refuse(response: &mut Response, why: Refusal) -> Result<(), AllocError>
+fn refuse(response: &mut Response, why: RequestRefusal) -> Result<(), AllocError>
     requires { IsBlank response.old }
     ensures { OnOk result (IsResponse 200 (of_type (codes "application/hg-error")) (refusal_text why)
         response.new) }

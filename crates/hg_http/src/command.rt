@@ -6,7 +6,7 @@ ghost use Rattle.hg_http.specs.Commands.{command_of as command_named, other_of a
 ghost use Rattle.hg_http.specs.Commands.{read_of as read_named, subject_of as subject};
 ghost use Rattle.hg_http.specs.Requests.{argument_in};
 
-use hg_told::{Field, value_of};
+use hg_wireproto::{Field, value_of};
 use std::alloc::Allocator;
 
 /// What a client asks of the repository.

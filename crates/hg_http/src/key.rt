@@ -7,8 +7,8 @@ ghost use Rattle.hg_http.specs.Keys.{replycaps_part};
 
 use crate::command::argument;
 use hg_stream::write_bundle;
-use hg_told::Field;
 use hg_types::{NoMemory, Param, Part, Payload, Seq, Short};
+use hg_wireproto::Field;
 use std::alloc::Allocator;
 
 /// The most bytes that a header has for a parameter's value.

@@ -10,8 +10,8 @@ ghost use Rattle.hg_http.specs.Requests.{value_named};
 
 use crate::command::argument;
 use bytes::Bytes;
-use hg_told::{Field, read_form};
 use hg_types::{NoMemory, Seq};
+use hg_wireproto::{Field, read_form};
 use http::Request;
 use http_header::{HeaderMap, HeaderValue};
 use std::alloc::Allocator;

@@ -14,7 +14,7 @@ use std::alloc::Allocator;
 
 /// What a browser or a collector of counters asks for.
 #[derive(Clone, Copy, Debug, PartialEq, Eq)]
-pub enum View {
+pub enum StatusView {
     /// The page, at `/`.
     Page,
     /// The report, at `/report`.
@@ -26,7 +26,7 @@ pub enum View {
 /// The view that a request without a command asks for, if it is one: by GET, and by its path. The page has no
 /// query.
 #[tactic(auto, unfolding(crate::specs::Views::view_of))]
-pub fn view_of(request: &Request<Bytes>) -> Option<View>
+pub fn view_of(request: &Request<Bytes>) -> Option<StatusView>
     ensures { result ≡ view_asked request.now }
 {
     if !is_text(request.method().as_str().as_bytes(), b"GET".as_slice()) {
@@ -39,17 +39,17 @@ pub fn view_of(request: &Request<Bytes>) -> Option<View>
 }
 
 #[tactic(auto, unfolding(crate::specs::Views::view_at))]
-fn view_at(path: &[u8], has_query: bool) -> Option<View>
+fn view_at(path: &[u8], has_query: bool) -> Option<StatusView>
     ensures { result ≡ view_at path.now has_query }
 {
     if is_text(path, b"/report".as_slice()) {
-        return Some(View::Report);
+        return Some(StatusView::Report);
     }
     if is_text(path, b"/metrics".as_slice()) {
-        return Some(View::Metrics);
+        return Some(StatusView::Metrics);
     }
     if is_text(path, b"/".as_slice()) && !has_query {
-        return Some(View::Page);
+        return Some(StatusView::Page);
     }
     None
 }

@@ -18,7 +18,7 @@ const ERROR: &[u8] = b"application/hg-error";
 /// header field, or none, and that body.
 fn is_told(
     alloc: Global,
-    answer: &Answer,
+    answer: &HttpAnswer,
     status: StatusCode,
     kind: Option<&[u8]>,
     body: &[u8],
@@ -44,31 +44,48 @@ fn responses_of_answers(rt: HostRuntime) -> Result<(), Fail> {
     let alloc = rt.alloc();
     let heads = b"0000000000000000000000000000000000000000\n".as_slice();
     for text in [heads, b""] {
-        let told = Answer::Text(Seq::copy_of(alloc, text)?);
+        let told = HttpAnswer::Text(Seq::copy_of(alloc, text)?);
         assert!(rt; is_told(alloc, &told, StatusCode::OK, Some(ANSWER), text));
     }
     let refusals = [
         (
-            Refusal::NotForced,
+            RequestRefusal::NotForced,
             b"unbundle takes forced heads alone\n".as_slice(),
         ),
-        (Refusal::BadBatch, b"batch takes commands that read alone\n"),
-        (Refusal::PushesAlone, b"this address takes pushes alone\n"),
-        (Refusal::NotOpened, b"no push can be opened now\n"),
-        (Refusal::NoMemory, b"out of memory\n"),
-        (Refusal::NoAnswer, b"there is no memory for the answer\n"),
         (
-            Refusal::LongBatch,
+            RequestRefusal::BadBatch,
+            b"batch takes commands that read alone\n",
+        ),
+        (
+            RequestRefusal::PushesAlone,
+            b"this address takes pushes alone\n",
+        ),
+        (RequestRefusal::NotOpened, b"no push can be opened now\n"),
+        (RequestRefusal::NoMemory, b"out of memory\n"),
+        (
+            RequestRefusal::NoAnswer,
+            b"there is no memory for the answer\n",
+        ),
+        (
+            RequestRefusal::LongBatch,
             b"batch takes 16 commands, 4 of them lookup\n",
         ),
     ];
     for (refusal, line) in refusals {
-        let refused = Answer::Refused(refusal);
+        let refused = HttpAnswer::Refused(refusal);
         assert!(rt; is_told(alloc, &refused, StatusCode::OK, Some(ERROR), line));
     }
     let forbidden = StatusCode::FORBIDDEN;
-    assert!(rt; is_told(alloc, &Answer::Forbidden, forbidden, None, b""));
-    assert!(rt; is_told(alloc, &Answer::NotFound, StatusCode::NOT_FOUND, None, b""));
+    assert!(rt; is_told(alloc, &HttpAnswer::Forbidden, forbidden, None, b""));
+    assert!(rt;
+        is_told(
+            alloc,
+            &HttpAnswer::NotFound,
+            StatusCode::NOT_FOUND,
+            None,
+            b""
+        )
+    );
     assert!(rt; forbidden.as_u16() == 403 && StatusCode::NOT_FOUND.as_u16() == 404);
     Ok(())
 }

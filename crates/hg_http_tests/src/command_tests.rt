@@ -1,7 +1,7 @@
 //! Commands by their names, and the push that sets one key, as Mercurial 6.3 writes it.
 
 use hg_http::*;
-use hg_told::read_form;
+use hg_wireproto::read_form;
 use std::test::*;
 
 /// What Mercurial's `bundle2.bundle20` writes for a mandatory part `replycaps` without content and an
@@ -90,13 +90,13 @@ fn the_longest_value(rt: HostRuntime) {
 #[test]
 fn lines_of_refusals(rt: HostRuntime) {
     let refusals = [
-        Refusal::NotForced,
-        Refusal::BadBatch,
-        Refusal::PushesAlone,
-        Refusal::NotOpened,
-        Refusal::NoMemory,
-        Refusal::NoAnswer,
-        Refusal::LongBatch,
+        RequestRefusal::NotForced,
+        RequestRefusal::BadBatch,
+        RequestRefusal::PushesAlone,
+        RequestRefusal::NotOpened,
+        RequestRefusal::NoMemory,
+        RequestRefusal::NoAnswer,
+        RequestRefusal::LongBatch,
     ];
     for refusal in refusals {
         assert!(rt; refusal.text().ends_with(b"\n".as_slice()));

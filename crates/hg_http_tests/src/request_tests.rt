@@ -2,7 +2,7 @@
 
 use bytes::Bytes;
 use hg_http::*;
-use hg_told::value_of;
+use hg_wireproto::value_of;
 use http::Request;
 use linked_list_allocator::LocalHeap;
 use std::test::*;

@@ -2,20 +2,18 @@
 use Rattle.std.proofs.Common.{◌≡◌, ℕ, suc, Bool, true, false, true≢false, cond, List, [], ◌∷◌, ◌++◌}
 use Rattle.std.proofs.Common.{get_or, Option, Some, None, refl, sym, ap, ◌∙◌, arith, bytes_eq, subst}
 use Rattle.std.specs.List.{filter, AllByRecursion}
-use Rattle.std.specs.Ordering.{is_lt, is_eq, ordering_reverse}
+use Rattle.std.specs.Ordering.{is_lt, ordering_reverse}
 use Rattle.std.specs.declared.cmp.Ordering.{Ordering}
 use Rattle.std.specs.declared.cmp.Ordering.TheVariants.{Less, Equal, Greater}
-use Rattle.std.proofs.lemmas.Cmp.{nat_list_cmp_total, tied_itself}
+use Rattle.std.proofs.lemmas.Cmp.{nat_list_cmp_total}
 use Rattle.std.proofs.lemmas.List.{append-nil}
 use Rattle.std.proofs.lemmas.List.Elements.{filter-append, recursion_from_All}
-use Rattle.std.proofs.lemmas.Map.Text.{is_eq-slice_cmp}
 use Rattle.std.proofs.lemmas.Slice.Eq.{bytes_eq-Decides}
 use Rattle.hg_types.specs.declared.node.Node.{Node}
-use Rattle.hg_names.specs.Names.{with_name, without}
-use Rattle.hg_keys.specs.Bookmarks.{Pairs, name_cmp, is_before, AreInOrder, node_of, pair_of, with_bookmark}
-
-pub turned : (a b : List ℕ) (o : Ordering) → name_cmp a b ≡ o → name_cmp b a ≡ ordering_reverse o
-turned a b o is = nat_list_cmp_total.antisymm b a ∙ ap ordering_reverse is
+use Rattle.hg_names.specs.Names.{Pairs, name_cmp, is_before, AreInOrder, node_of}
+use Rattle.hg_names.proofs.CallerLemmas.{turned, names_equal, not_before_itself, is_other}
+use Rattle.hg_keys.specs.Bookmarks.{with_bookmark}
+use Rattle.hg_keys.proofs.PartsLemmas.{pair_of, parts}
 
 module _ (name : List ℕ) where
   abbrev lesser : Pairs → Pairs
@@ -24,9 +22,6 @@ module _ (name : List ℕ) where
   abbrev greater : Pairs → Pairs
   greater pairs = filter (λ pair. is_before name pair.0) pairs
 
-  itself : is_before name name ≡ false
-  itself = ap is_lt (tied_itself nat_list_cmp_total name)
-
   -- how a name stands to another, by each of the three tests
   before : (other : List ℕ) (o : Ordering) → name_cmp other name ≡ o → is_before other name ≡ is_lt o
   before other o is = ap is_lt is
@@ -34,9 +29,6 @@ module _ (name : List ℕ) where
   behind : (other : List ℕ) (o : Ordering) → name_cmp other name ≡ o
       → is_before name other ≡ is_lt (ordering_reverse o)
   behind other o is = ap is_lt (turned other name o is)
-
-  pub same : (other : List ℕ) (o : Ordering) → name_cmp other name ≡ o → bytes_eq other name ≡ is_eq o
-  same other o is = sym (is_eq-slice_cmp other name) ∙ ap is_eq is
 
   keeps : (test : List ℕ → Bool) (pair : List ℕ × Node) (pairs : Pairs) → test pair.0 ≡ true
       → filter (λ p. test p.0) (pair ∷ pairs) ≡ pair ∷ filter (λ p. test p.0) pairs
@@ -96,17 +88,17 @@ module _ (name : List ℕ) where
 
   none_lesser : (node : Option Node) → lesser (pair_of name node) ≡ []
   none_lesser None = refl
-  none_lesser (Some node) = drops (λ k. is_before k name) (name, node) [] itself
+  none_lesser (Some node) = drops (λ k. is_before k name) (name, node) [] (not_before_itself name)
 
   none_greater : (node : Option Node) → greater (pair_of name node) ≡ []
   none_greater None = refl
-  none_greater (Some node) = drops (λ k. is_before name k) (name, node) [] itself
+  none_greater (Some node) = drops (λ k. is_before name k) (name, node) [] (not_before_itself name)
 
   module _ (pairs : Pairs) (node : Option Node) where
     lesser_stay : lesser (with_bookmark pairs name node) ≡ lesser pairs
-    unfolding with_bookmark
     lesser_stay =
-        filter-append (λ pair. is_before pair.0 name) (lesser pairs) (pair_of name node ++ greater pairs)
+        ap lesser (parts pairs name node)
+        ∙ filter-append (λ pair. is_before pair.0 name) (lesser pairs) (pair_of name node ++ greater pairs)
         ∙ ap (λ ps. ps ++ lesser (pair_of name node ++ greater pairs))
         (twice (λ k. is_before k name) (λ k. is_before k name) pairs (λ k is. is))
         ∙ ap (λ ps. lesser pairs ++ ps)
@@ -116,9 +108,9 @@ module _ (name : List ℕ) where
         ∙ append-nil (lesser pairs)
 
     greater_stay : greater (with_bookmark pairs name node) ≡ greater pairs
-    unfolding with_bookmark
     greater_stay =
-        filter-append (λ pair. is_before name pair.0) (lesser pairs) (pair_of name node ++ greater pairs)
+        ap greater (parts pairs name node)
+        ∙ filter-append (λ pair. is_before name pair.0) (lesser pairs) (pair_of name node ++ greater pairs)
         ∙ ap (λ ps. ps ++ greater (pair_of name node ++ greater pairs))
         (never (λ k. is_before name k) (λ k. is_before k name) pairs not_behind)
         ∙ filter-append (λ pair. is_before name pair.0) (pair_of name node) (greater pairs)
@@ -143,7 +135,7 @@ module _ (name : List ℕ) where
   not_there : (pairs : Pairs) → Follow pairs → node_of pairs name ≡ None
   not_there [] each = refl
   not_there (pair ∷ pairs) each =
-      ap (λ b. cond b (Some pair.1) (node_of pairs name)) (same pair.0 Greater each.0) ∙ not_there pairs each.1
+      ap (λ b. cond b (Some pair.1) (node_of pairs name)) (is_other pair.0 name Greater each.0) ∙ not_there pairs each.1
 
   -- what follows a pair that does not come before the name
   rest_follows : (pair : List ℕ × Node) (pairs : Pairs) → AreInOrder (pair ∷ pairs)
@@ -155,9 +147,6 @@ module _ (name : List ℕ) where
   tail_order : (pair : List ℕ × Node) (pairs : Pairs) → AreInOrder (pair ∷ pairs) → AreInOrder pairs
   tail_order pair pairs in_order =
       λ i j d less within. in_order (suc i) (suc j) d (omega (arith, less)) (omega (arith, within))
-
-  names_equal : (other : List ℕ) → name_cmp other name ≡ Equal → other ≡ name
-  names_equal other is = (bytes_eq-Decides other name).0 (same other Equal is)
 
   -- pairs in order are those before the name, the name, and those after it
   three_parts : (pairs : Pairs) → AreInOrder pairs
@@ -172,16 +161,16 @@ module _ (name : List ℕ) where
       by others Less is =
           let front = keeps (λ k. is_before k name) pair pairs (before pair.0 Less is) in
           let rest = drops (λ k. is_before name k) pair pairs (behind pair.0 Less is) in
-          let on = ap (λ b. cond b (Some pair.1) (node_of pairs name)) (same pair.0 Less is) in
+          let on = ap (λ b. cond b (Some pair.1) (node_of pairs name)) (is_other pair.0 name Less is) in
           (λ i. front i ++ (pair_of name (on i) ++ rest i))
           ∙ ap (λ ps. pair ∷ ps) others
       by others Equal is =
-          let here : pair.0 ≡ name = names_equal pair.0 is in
+          let here : pair.0 ≡ name = names_equal pair.0 name is in
           let follow = rest_follows pair pairs in_order
           (λ k less. turned name k Less (subst (λ n. name_cmp n k ≡ Less) here less)) in
           let front = drops (λ k. is_before k name) pair pairs (before pair.0 Equal is) ∙ no_lesser pairs follow in
           let rest = drops (λ k. is_before name k) pair pairs (behind pair.0 Equal is) ∙ all_greater pairs follow in
-          let on = ap (λ b. cond b (Some pair.1) (node_of pairs name)) (same pair.0 Equal is) in
+          let on = ap (λ b. cond b (Some pair.1) (node_of pairs name)) (is_other pair.0 name Equal is) in
           (λ i. front i ++ (pair_of name (on i) ++ rest i))
           ∙ ap (λ (n : List ℕ). (n, pair.1) ∷ pairs) (sym here)
       by others Greater is =
@@ -190,20 +179,15 @@ module _ (name : List ℕ) where
           let front = drops (λ k. is_before k name) pair pairs (before pair.0 Greater is) ∙ no_lesser pairs follow in
           let rest = keeps (λ k. is_before name k) pair pairs (behind pair.0 Greater is)
           ∙ ap (λ ps. pair ∷ ps) (all_greater pairs follow) in
-          let on = ap (λ b. cond b (Some pair.1) (node_of pairs name)) (same pair.0 Greater is)
+          let on = ap (λ b. cond b (Some pair.1) (node_of pairs name)) (is_other pair.0 name Greater is)
           ∙ not_there pairs follow in
           λ i. front i ++ (pair_of name (on i) ++ rest i)
-
-  whole : (pairs : Pairs) (target : Option Node)
-      → with_bookmark pairs name target ≡ lesser pairs ++ (pair_of name target ++ greater pairs)
-  unfolding with_bookmark
-  whole pairs target = refl
 
   -- a name that is set and set back
   pub set_back : (pairs : Pairs) (node : Option Node) → AreInOrder pairs
       → with_bookmark (with_bookmark pairs name node) name (node_of pairs name) ≡ pairs
   set_back pairs node in_order =
-      whole (with_bookmark pairs name node) (node_of pairs name)
+      parts (with_bookmark pairs name node) name (node_of pairs name)
       ∙ (λ i. lesser_stay pairs node i ++ (pair_of name (node_of pairs name) ++ greater_stay pairs node i))
       ∙ three_parts pairs in_order
 
@@ -217,9 +201,8 @@ module _ (name : List ℕ) where
   -- a name that is not there is not deleted
   pub stays_away : (pairs : Pairs) → AreInOrder pairs → node_of pairs name ≡ None
       → with_bookmark pairs name None ≡ pairs
-  unfolding with_bookmark
   stays_away pairs in_order is =
-      ap (λ o. lesser pairs ++ (pair_of name o ++ greater pairs)) (sym is) ∙ three_parts pairs in_order
+      parts pairs name None ∙ ap (λ o. lesser pairs ++ (pair_of name o ++ greater pairs)) (sym is) ∙ three_parts pairs in_order
 
 -- where a pair follows a name, the name is not there
 not_yet : (pair other : List ℕ × Node) (pairs : Pairs) → AreInOrder (other ∷ pairs) → name_cmp pair.0 other.0 ≡ Less
@@ -228,7 +211,7 @@ not_yet pair other pairs in_order less =
     let after = turned pair.0 other.0 Less less in
     let follow = rest_follows pair.0 other pairs in_order
     (λ k more. turned pair.0 k Less (nat_list_cmp_total.trans pair.0 other.0 k less more)) in
-    ap (λ b. cond b (Some other.1) (node_of pairs pair.0)) (same pair.0 other.0 Greater after)
+    ap (λ b. cond b (Some other.1) (node_of pairs pair.0)) (is_other other.0 pair.0 Greater after)
     ∙ not_there pair.0 pairs follow
 
 here : (pair : List ℕ × Node) (pairs : Pairs) → node_of (pair ∷ pairs) pair.0 ≡ Some pair.1
@@ -276,20 +259,10 @@ same_pairs (pair ∷ pairs) (other ∷ others) in_order ordered found =
         let clash = sym (here other others) ∙ sym (found other.0)
         ∙ not_yet other pair pairs in_order (turned pair.0 other.0 Greater is) in cc
     by same_rest Equal is =
-        let name : pair.0 ≡ other.0 = names_equal other.0 pair.0 is in
+        let name : pair.0 ≡ other.0 = names_equal pair.0 other.0 is in
         let node : Some pair.1 ≡ Some other.1 =
         sym (here pair pairs) ∙ found pair.0 ∙ ap (node_of (other ∷ others)) name ∙ here other others in
         let one : pair ≡ other = λ i. (name i, node_in pair.1 (node i)) in
         let rest = same_rest
         (λ n. found_later pair other pairs others in_order ordered name found n (bytes_eq pair.0 n) refl) in
         λ i. one i ∷ rest i
-
--- what the names below say of an edit
-pub set_is : (pairs : Pairs) (name : List ℕ) (node : Node)
-    → with_name pairs name node ≡ with_bookmark pairs name (Some node)
-unfolding with_name with_bookmark
-set_is pairs name node = refl
-
-pub unset_is : (pairs : Pairs) (name : List ℕ) → without pairs name ≡ with_bookmark pairs name None
-unfolding without with_bookmark
-unset_is pairs name = refl

@@ -1,11 +1,13 @@
 -- What proofs of other crates may cite of bookmarks.
-use Rattle.std.proofs.Common.{◌≡◌, ℕ, true, List, [], ◌++◌, filter, Option, Some, None, arith}
+use Rattle.std.proofs.Common.{◌≡◌, ℕ, true, List, [], ◌++◌, filter, Option, Some, None, sym, subst, arith}
 use Rattle.std.proofs.lemmas.List.Elements.{All-append, All-cons, All-filter}
 use Rattle.hg_types.specs.declared.node.Node.{Node}
 use Rattle.hg_log.specs.Changeset.{Changeset}
-use Rattle.hg_keys.specs.Bookmarks.{Pairs, pair_of, is_before, with_bookmark}
+use Rattle.hg_names.specs.Names.{Pairs, is_before}
+use Rattle.hg_keys.specs.Bookmarks.{with_bookmark}
 use Rattle.hg_keys.specs.Known.{is_known, AreOnKnown}
 use Rattle.hg_keys.specs.PushKey.{is_known_target}
+use Rattle.hg_keys.proofs.PartsLemmas.{pair_of, parts}
 
 none_on_known : (rows : List Changeset) → AreOnKnown rows []
 none_on_known rows k d low = absurd (omega (arith, low))
@@ -20,12 +22,12 @@ pair_on_known rows name (Some node) known =
 pub with_on_known : (rows : List Changeset) (pairs : Pairs) (name : List ℕ) (target : Option Node)
     → is_known_target rows target ≡ true → AreOnKnown rows pairs
     → AreOnKnown rows (with_bookmark pairs name target)
-unfolding with_bookmark
 with_on_known rows pairs name target known all =
-    All-append (λ pair. is_known rows pair.1 ≡ true) (filter (λ pair. is_before pair.0 name) pairs)
+    subst (AreOnKnown rows) (sym (parts pairs name target))
+    (All-append (λ pair. is_known rows pair.1 ≡ true) (filter (λ pair. is_before pair.0 name) pairs)
     (pair_of name target ++ filter (λ pair. is_before name pair.0) pairs)
     (All-filter (λ pair. is_before pair.0 name) (λ pair. is_known rows pair.1 ≡ true) pairs all)
     (All-append (λ pair. is_known rows pair.1 ≡ true) (pair_of name target)
     (filter (λ pair. is_before name pair.0) pairs)
     (pair_on_known rows name target known)
-    (All-filter (λ pair. is_before name pair.0) (λ pair. is_known rows pair.1 ≡ true) pairs all))
+    (All-filter (λ pair. is_before name pair.0) (λ pair. is_known rows pair.1 ≡ true) pairs all)))

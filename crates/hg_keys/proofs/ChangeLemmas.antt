@@ -5,21 +5,12 @@ use Rattle.std.specs.Option.{option_to_list}
 use Rattle.std.specs.Cmp.{first_so, second_so}
 use Rattle.std.proofs.lemmas.List.{append-nil, reverse-append}
 use Rattle.hg_keys.specs.declared.bookmarks.Change.{Change}
-use Rattle.hg_keys.specs.declared.bookmarks.Change.TheVariants.{Added, Moved, Removed}
-use Rattle.hg_keys.specs.Bookmarks.{Pairs, AreInOrder}
+use Rattle.hg_keys.specs.Bookmarks.{Pairs}
 use Rattle.hg_keys.specs.code.Changes.{undone, all_undone, base_of, can_undo, can_undo_all, IsSound}
-use Rattle.hg_keys.proofs.StayingLemmas.{in_order_with}
 
 pub both : (p q : Bool) → p ≡ true → q ≡ true → (p && q) ≡ true
 both true q h k = k
 both false q h k = h
-
--- the pairs before a change are in order too
-pub in_order_undone : {A : Type 0} (change : Change A) (pairs : Pairs) → AreInOrder pairs
-    → AreInOrder (undone change pairs)
-in_order_undone (Added name) pairs in_order = in_order_with pairs name in_order None
-in_order_undone (Moved name node) pairs in_order = in_order_with pairs name in_order (Some node)
-in_order_undone (Removed named) pairs in_order = in_order_with pairs named.0 in_order (Some named.1)
 
 -- a change that leads back to the pairs before it leads back to what they lead back to
 pub base_kept : {A : Type 0} (changes : List (Change A)) (change : Option (Change A)) (new old : Pairs)
@@ -56,18 +47,16 @@ pub sound_same : {A : Type 0} (pairs new : Pairs) (changes same : List (Change A
     → IsSound pairs changes room is_marked → IsSound new same more is_marked
 sound_same pairs new changes same room more is_marked pairs_stay changes_stay le sound =
     let stays : IsSound pairs changes more is_marked = record {
-      in_order = sound.in_order;
       back = sound.back;
       room = le;
     } in
     subst (λ cs. IsSound new cs more is_marked) (sym changes_stay)
     (subst (λ ps. IsSound ps changes more is_marked) (sym pairs_stay) stays)
 
--- where there is no mark, only the order counts
+-- where there is no mark, no way back is wanted
 pub sound_unmarked : {A : Type 0} (pairs : Pairs) (changes : List (Change A)) (room : ℕ) (is_marked : Bool)
-    → is_marked ≡ false → AreInOrder pairs → IsSound pairs changes room is_marked
-sound_unmarked pairs changes room is_marked unmarked in_order = record {
-  in_order = in_order;
+    → is_marked ≡ false → IsSound pairs changes room is_marked
+sound_unmarked pairs changes room is_marked unmarked = record {
   back = λ marked. absurd cc;
   room = λ marked. absurd cc;
 }
@@ -80,12 +69,11 @@ no_mark false base other unmarked = refl
 
 -- after a change that is kept where there is a mark
 pub sound_kept : {A : Type 0} (old new : Pairs) (changes : List (Change A)) (change : Option (Change A))
-    (room more : ℕ) (is_marked : Bool) → is_marked ≡ true → IsSound old changes room is_marked → AreInOrder new
+    (room more : ℕ) (is_marked : Bool) → is_marked ≡ true → IsSound old changes room is_marked
     → length changes + 1 ≤ more → all_undone (option_to_list change) new ≡ old
     → can_undo_all (option_to_list change) new ≡ true
     → IsSound new (changes ++ option_to_list change) more is_marked
-sound_kept old new changes change room more is_marked marked sound in_order le back can = record {
-  in_order = in_order;
+sound_kept old new changes change room more is_marked marked sound le back can = record {
   back = λ _. back_kept changes change new old back can (sound.back marked);
   room = λ _. omega (arith, one_more changes change, le);
 }
@@ -109,14 +97,6 @@ popped : {A : Type 0} (changes rest : List (Change A)) (change : Change A) (pair
     → can_undo_all (change ∷ reverse rest) pairs ≡ true
 popped changes rest change pairs is can =
     ap (λ cs. can_undo_all cs pairs) (sym (ap reverse is ∙ reverse-append rest (change ∷ []))) ∙ can
-
--- the last change can be taken back, and then the others
-pub can_last : {A : Type 0} (changes rest : List (Change A)) (change : Change A) (pairs : Pairs)
-    → changes ≡ rest ++ change ∷ [] → can_undo_all (reverse changes) pairs ≡ true
-    → can_undo change pairs ≡ true
-can_last changes rest change pairs is can =
-    first_so (can_undo change pairs) (can_undo_all (reverse rest) (undone change pairs))
-    (popped changes rest change pairs is can)
 
 pub can_rest : {A : Type 0} (changes rest : List (Change A)) (change : Change A) (pairs new : Pairs)
     → changes ≡ rest ++ change ∷ [] → new ≡ undone change pairs

@@ -1,8 +1,9 @@
-pub mod PayloadLemmas
 pub mod CallerLemmas
-pub mod GrammarLemmas
-pub mod SetLemmas
-pub mod StayingLemmas
-pub mod BackLemmas
-pub mod ChangeLemmas
-pub mod SortLemmas
+mod PayloadLemmas
+mod GrammarLemmas
+mod SetLemmas
+mod StayingLemmas
+mod BackLemmas
+mod ChangeLemmas
+mod SortLemmas
+mod PartsLemmas

@@ -3,14 +3,15 @@ use Rattle.std.proofs.Common.{◌≡◌, ◌≢◌, ℕ, Bool, true, false, true
 use Rattle.std.proofs.Common.{Some, None, refl, sym, ap, ◌∙◌, bytes_eq}
 use Rattle.std.specs.List.{filter}
 use Rattle.std.specs.Map.{lookup}
-use Rattle.std.specs.Ordering.{is_lt, is_eq, ordering_reverse}
+use Rattle.std.specs.Ordering.{is_lt}
 use Rattle.std.specs.declared.cmp.Ordering.{Ordering}
 use Rattle.std.specs.declared.cmp.Ordering.TheVariants.{Less, Equal, Greater}
-use Rattle.std.proofs.lemmas.Cmp.{nat_list_cmp_total, tied_itself}
-use Rattle.std.proofs.lemmas.Map.Text.{is_eq-slice_cmp}
 use Rattle.std.proofs.lemmas.Slice.Eq.{bytes_eq-Decides}
 use Rattle.hg_types.specs.declared.node.Node.{Node}
-use Rattle.hg_keys.specs.Bookmarks.{Pairs, name_cmp, is_before, node_of, pair_of, with_bookmark}
+use Rattle.hg_names.specs.Names.{Pairs, name_cmp, is_before, node_of}
+use Rattle.hg_names.proofs.CallerLemmas.{turned, names_equal, not_before_itself}
+use Rattle.hg_keys.specs.Bookmarks.{with_bookmark}
+use Rattle.hg_keys.proofs.PartsLemmas.{pair_of, parts}
 
 -- ---- look-ups in lists
 
@@ -95,12 +96,6 @@ module _ (test : List ℕ → Bool) where
 same_name : (a b : List ℕ) → bytes_eq a b ≡ true → a ≡ b
 same_name a b is = (bytes_eq-Decides a b).0 is
 
-itself : (name : List ℕ) → is_before name name ≡ false
-itself name = ap is_lt (tied_itself nat_list_cmp_total name)
-
-turned : (a b : List ℕ) (o : Ordering) → name_cmp a b ≡ o → name_cmp b a ≡ ordering_reverse o
-turned a b o is = nat_list_cmp_total.antisymm b a ∙ ap ordering_reverse is
-
 other_name : (a b : List ℕ) → a ≢ b → bytes_eq a b ≡ false
 other_name a b other = by (bytes_eq a b) refl
   where
@@ -108,18 +103,17 @@ other_name a b other = by (bytes_eq a b) refl
     by true is = absurd (other (same_name a b is))
     by false is = is
 
--- a map with a name set is three lists: what comes before the name, the name, and what comes after
+-- a look-up in a map with a name set
 parted : (pairs : Pairs) (name other : List ℕ) (node : Option Node)
     → node_of (with_bookmark pairs name node) other
     ≡ first_found (node_of (filter (λ pair. is_before pair.0 name) pairs) other)
     (first_found (node_of (pair_of name node) other)
     (node_of (filter (λ pair. is_before name pair.0) pairs) other))
-unfolding with_bookmark
 parted pairs name other node =
     let test : List ℕ → Bool = λ k. bytes_eq k other in
     let front = filter (λ pair. is_before pair.0 name) pairs in
     let behind = filter (λ pair. is_before name pair.0) pairs in
-    joined test front (pair_of name node ++ behind)
+    ap (lookup test) (parts pairs name node) ∙ joined test front (pair_of name node ++ behind)
     ∙ ap (first_found (node_of front other)) (joined test (pair_of name node) behind)
 
 -- ---- the laws
@@ -139,9 +133,9 @@ pub set_found : (pairs : Pairs) (name : List ℕ) (node : Option Node)
 unfolding first_found
 set_found pairs name node =
     let front = none_kept (λ k. bytes_eq k name) (λ k. is_before k name) pairs
-    (λ k is. ap (λ n. is_before n name) (same_name k name is) ∙ itself name) in
+    (λ k is. ap (λ n. is_before n name) (same_name k name is) ∙ not_before_itself name) in
     let behind = none_kept (λ k. bytes_eq k name) (λ k. is_before name k) pairs
-    (λ k is. ap (λ n. is_before name n) (same_name k name is) ∙ itself name) in
+    (λ k is. ap (λ n. is_before name n) (same_name k name is) ∙ not_before_itself name) in
     parted pairs name name node
     ∙ ap (λ o. first_found o
     (first_found (node_of (pair_of name node) name)
@@ -155,7 +149,7 @@ others_by : (pairs : Pairs) (name other : List ℕ) (node : Option Node) (o : Or
     → node_of (with_bookmark pairs name node) other ≡ node_of pairs other
 unfolding first_found
 others_by pairs name other _ Equal is differs =
-    absurd (differs (same_name other name (sym (is_eq-slice_cmp other name) ∙ ap is_eq is)))
+    absurd (differs (names_equal other name is))
 others_by pairs name other node Less is differs =
     let front = found_kept (λ k. bytes_eq k other) (λ k. is_before k name) pairs
     (λ k same. ap (λ n. is_before n name) (same_name k other same) ∙ ap is_lt is) in

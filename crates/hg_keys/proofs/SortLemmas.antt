@@ -1,7 +1,7 @@
 -- Entries that are set in another order, where those of one name keep theirs.
-use Rattle.std.proofs.Common.{◌≡◌, ℕ, Bool, true, false, cond, List, [], ◌∷◌, Option, None, refl, sym, ap, ◌∙◌}
-use Rattle.std.proofs.Common.{◌+◌, ◌<◌, bytes_eq, drop, get_or, length}
-use Rattle.std.proofs.lemmas.List.{drop_more}
+use Rattle.std.proofs.Common.{◌≡◌, ℕ, Bool, true, false, cond, List, [], ◌∷◌, ◌++◌, Option, None, refl, sym, ap, ◌∙◌}
+use Rattle.std.proofs.Common.{◌+◌, ◌<◌, bytes_eq, take, drop, get_or, length, subst}
+use Rattle.std.proofs.lemmas.List.{take_more, take-append-drop}
 use Rattle.std.specs.List.{filter}
 use Rattle.std.specs.List.Sorted.{IsStableBy, ties}
 use Rattle.std.specs.Ordering.{is_eq, is_lt, ordering_reverse}
@@ -10,12 +10,13 @@ use Rattle.std.specs.declared.cmp.Ordering.{Ordering}
 use Rattle.std.specs.declared.cmp.Ordering.TheVariants.{Less, Equal, Greater}
 use Rattle.std.proofs.lemmas.Slice.Eq.{bytes_eq-Decides}
 use Rattle.hg_types.specs.declared.node.Node.{Node}
-use Rattle.hg_keys.specs.Bookmarks.{Pairs, name_cmp, is_before, AreInOrder, node_of, set_each, with_bookmark}
+use Rattle.hg_names.specs.Names.{Pairs, name_cmp, is_before, AreInOrder, node_of}
+use Rattle.hg_names.proofs.CallerLemmas.{turned, is_other}
+use Rattle.hg_keys.specs.Bookmarks.{set_each, with_bookmark, HaveSameNames, of_name, ArePartlySet}
 use Rattle.hg_keys.specs.Payload.{Entry}
-use Rattle.hg_keys.specs.code.Sorting.{HaveSameNames, of_name}
-use Rattle.hg_keys.proofs.BackLemmas.{same, same_pairs, turned}
+use Rattle.hg_keys.proofs.BackLemmas.{same_pairs}
 use Rattle.hg_keys.proofs.SetLemmas.{others_kept, set_found}
-use Rattle.hg_keys.proofs.StayingLemmas.{in_order_with}
+use Rattle.hg_keys.proofs.PartsLemmas.{in_order_with}
 
 -- by which entries are sorted
 abbrev pub by_name : Entry → Entry → Bool
@@ -29,7 +30,7 @@ ties_are_names entry other = by (name_cmp other.1 entry.1) refl
     by o is =
         ap (λ b. not b && not (is_before other.1 entry.1)) (ap is_lt (turned other.1 entry.1 o is))
         ∙ ap (λ b. not (is_lt (ordering_reverse o)) && not b) (ap is_lt is) ∙ neither o
-        ∙ sym (same entry.1 other.1 o is)
+        ∙ sym (is_other other.1 entry.1 o is)
       where
         neither : (o : Ordering) → (not (is_lt (ordering_reverse o)) && not (is_lt o)) ≡ is_eq o
         neither Less = refl
@@ -83,11 +84,37 @@ any_order_of_names entries others pairs in_order names =
     (λ name. found_after name others pairs
     ∙ ap (λ (es : List Entry). left_on es (node_of pairs name)) (names name) ∙ sym (found_after name entries pairs))
 
+-- entries after others
+set_after : (entries others : List Entry) (pairs : Pairs)
+    → set_each (entries ++ others) pairs ≡ set_each others (set_each entries pairs)
+set_after [] others pairs = refl
+set_after (entry ∷ entries) others pairs = set_after entries others (with_bookmark pairs entry.1 entry.0)
+
 -- the next entry is set
-pub set_next : (entries : List Entry) (i : ℕ) (entry : Entry) (pairs : Pairs) → i < length entries →
-    entry ≡ get_or entries i entry →
-    set_each (drop (i + 1) entries) (with_bookmark pairs entry.1 entry.0) ≡ set_each (drop i entries) pairs
-set_next entries i entry pairs within here =
-    let next : drop i entries ≡ entry ∷ drop (i + 1) entries = drop_more entries i entry within
-    ∙ ap (λ (e : Entry). e ∷ drop (i + 1) entries) (sym here) in
-    sym (ap (λ (es : List Entry). set_each es pairs) next)
+pub set_next : (entries : List Entry) (i : ℕ) (entry : Entry) (before pairs : Pairs) → i < length entries →
+    entry ≡ get_or entries i entry → pairs ≡ set_each (take i entries) before →
+    with_bookmark pairs entry.1 entry.0 ≡ set_each (take (i + 1) entries) before
+set_next entries i entry before pairs within here is =
+    let next : take (i + 1) entries ≡ take i entries ++ entry ∷ [] = take_more entries i entry within
+    ∙ ap (λ (e : Entry). take i entries ++ e ∷ []) (sym here) in
+    sym (ap (λ (es : List Entry). set_each es before) next ∙ set_after (take i entries) (entry ∷ []) before
+    ∙ ap (λ (ps : Pairs). with_bookmark ps entry.1 entry.0) (sym is))
+
+-- some are set, and the others left
+pub partly_set : (entries sorted : List Entry) (i : ℕ) (before after : Pairs) → HaveSameNames entries sorted →
+    after ≡ set_each (take i sorted) before → ArePartlySet entries before after
+partly_set entries sorted i before after same is = record {
+  done = take i sorted;
+  left = drop i sorted;
+  same = subst (HaveSameNames entries) (sym (take-append-drop i sorted)) same;
+  is = is;
+}
+
+-- and where none is
+pub none_set : (entries : List Entry) (pairs : Pairs) → ArePartlySet entries pairs pairs
+none_set entries pairs = record {
+  done = [];
+  left = entries;
+  same = λ name. refl;
+  is = refl;
+}

@@ -1,24 +1,18 @@
--- Bookmarks stay in order, and keys stay lawful.
+-- Keys stay lawful.
 use Rattle.std.proofs.Common.{◌≡◌, ◌+◌, ◌%◌, ◌&&◌, ℕ, zero, suc, Bool, true, false}
-use Rattle.std.proofs.Common.{true≢false, cond, List, [], ◌∷◌, ◌++◌, length, get_or, filter, AllPairs}
-use Rattle.std.proofs.Common.{All, Option, Some, None, Result, Ok, Err, IfOk, refl, sym, ◌∙◌, subst}
+use Rattle.std.proofs.Common.{cond, List, [], ◌∷◌, ◌++◌, length}
+use Rattle.std.proofs.Common.{Option, Some, None, Result, Ok, Err, IfOk, refl, sym, ◌∙◌, subst}
 use Rattle.std.proofs.Common.{arith}
-use Rattle.std.proofs.lemmas.List.Elements.{All-append, All-cons, filter_passes}
-use Rattle.std.proofs.lemmas.List.Kept.{AllPairs-filter, AllPairs-cons}
-use Rattle.std.proofs.lemmas.Cmp.{nat_list_cmp_total}
 use Rattle.std.specs.Int.{w32, to_be_bytes}
 use Rattle.std.specs.List.{flat_map, AllByRecursion}
-use Rattle.std.specs.Ordering.{is_lt}
-use Rattle.std.specs.declared.cmp.Ordering.{Ordering}
-use Rattle.std.specs.declared.cmp.Ordering.TheVariants.{Less, Equal, Greater}
 use Rattle.std.proofs.lemmas.List.Concat.{flat_map-cons}
 use Rattle.hg_types.specs.Bytes.{IsBytes}
 use Rattle.hg_types.specs.declared.node.Node.{Node}
 use Rattle.hg_types.specs.declared.phase.Phase.{Phase}
-use Rattle.hg_keys.specs.Bookmarks.{Pairs, name_cmp, is_before, AreInOrder, pair_of, with_bookmark}
+use Rattle.hg_keys.specs.Bookmarks.{Pairs, AreInOrder, node_of}
 use Rattle.hg_keys.proofs.GrammarLemmas.{bytes_before}
-use Rattle.hg_base85.specs.Base85.{group_bytes, filled_value, fives, fits, is_digit, decoded}
-use Rattle.hg_base85.specs.declared.fault.Base85Fault.{Base85Fault}
+use Rattle.hg_obs.specs.Base85.{group_bytes, filled_value, fives, fits, is_digit, decoded}
+use Rattle.hg_obs.specs.declared.fault.Base85Fault.{Base85Fault}
 use Rattle.hg_keys.specs.declared.fault.KeyFault.{KeyFault}
 use Rattle.hg_keys.specs.declared.keys.KeyCall.{KeyCall}
 use Rattle.hg_keys.specs.Known.{phase_of_node, AreOnKnown}
@@ -27,8 +21,8 @@ use Rattle.hg_keys.specs.PushKey.{moved_known, moved_as_read, phase_pushed, is_d
 use Rattle.hg_keys.specs.PushKey.{is_known_target, are_same, value_of, bookmark_set, bookmark_pushed}
 use Rattle.hg_keys.specs.PushKey.{merged_as_read, merged_as_decoded, markers_pushed, is_empty, with_phases}
 use Rattle.hg_keys.specs.PushKey.{with_bookmarks, with_markers, key_pushed}
-use Rattle.hg_keys.specs.Bookmarks.{node_of}
 use Rattle.hg_keys.proofs.CallerLemmas.{with_on_known}
+use Rattle.hg_keys.proofs.PartsLemmas.{in_order_with}
 use Rattle.hg_log.specs.Changeset.{Changeset}
 use Rattle.hg_log.specs.Parents.{parents_of, rev_of}
 use Rattle.hg_log.specs.Rows.{AreLawful as AreLawfulRows}
@@ -44,64 +38,6 @@ use Rattle.std.proofs.lemmas.Bool.{and_parts}
 use Rattle.std.specs.Option.{option_to_list}
 use Rattle.std.specs.List.{list_all, starts_with}
 use Rattle.std.specs.Prelude.{◌↔◌, ◌||◌, ◌==◌, bytes_eq, codes, nat_eq, nat_lt}
-
--- ---- bookmarks in order
-
-less_is : (o : Ordering) → is_lt o ≡ true → o ≡ Less
-less_is Less is = refl
-less_is Equal is = absurd (true≢false (sym is))
-less_is Greater is = absurd (true≢false (sym is))
-
-pairs_append : {X : Type 0} (R : X → X → Type 0) (xs ys : List X) → AllPairs R xs → AllPairs R ys →
-    All (λ x. All (R x) ys) xs → AllPairs R (xs ++ ys)
-pairs_append R [] ys first second across = second
-pairs_append {X} R (x ∷ xs) ys first second across =
-    let behind : All (R x) xs = λ k d low. first 0 (suc k) d (omega arith) (omega (arith, low)) in
-    let tail : AllPairs R xs =
-    λ i j d less within. first (suc i) (suc j) d (omega (arith, less)) (omega (arith, within)) in
-    let others : All (λ z. All (R z) ys) xs = λ k d low. across (suc k) d (omega (arith, low)) in
-    AllPairs-cons R x (xs ++ ys) (All-append (R x) xs ys behind (across 0 x (omega arith)))
-    (pairs_append R xs ys tail second others)
-
-abbrev Follows : List ℕ × Node → List ℕ × Node → Type 0
-Follows pair other = name_cmp pair.0 other.0 ≡ Less
-
-module _ (pairs : Pairs) (name : List ℕ) (in_order : AreInOrder pairs) where
-  front : Pairs
-  front = filter (λ pair. is_before pair.0 name) pairs
-
-  behind : Pairs
-  behind = filter (λ pair. is_before name pair.0) pairs
-
-  front_before : All (λ pair. name_cmp pair.0 name ≡ Less) front
-  unfolding front
-  front_before k d low = less_is _ (filter_passes (λ pair. is_before pair.0 name) pairs k d low)
-
-  behind_after : All (λ pair. name_cmp name pair.0 ≡ Less) behind
-  unfolding behind
-  behind_after k d low = less_is _ (filter_passes (λ pair. is_before name pair.0) pairs k d low)
-
-  from_name : (node : Option Node) → AllPairs Follows (pair_of name node ++ behind)
-  unfolding behind
-  from_name None = AllPairs-filter Follows (λ pair. is_before name pair.0) pairs in_order
-  from_name (Some node) =
-      AllPairs-cons Follows (name, node) behind behind_after
-      (AllPairs-filter Follows (λ pair. is_before name pair.0) pairs in_order)
-
-  before_name : (pair : List ℕ × Node) → name_cmp pair.0 name ≡ Less → (node : Option Node) →
-      All (Follows pair) (pair_of name node ++ behind)
-  before_name pair less None =
-      λ k d low. nat_list_cmp_total.trans pair.0 name (get_or behind k d).0 less (behind_after k d low)
-  before_name pair less (Some node) =
-      All-cons (Follows pair) (name, node) behind less
-      (λ k d low. nat_list_cmp_total.trans pair.0 name (get_or behind k d).0 less (behind_after k d low))
-
-  pub in_order_with : (node : Option Node) → AreInOrder (with_bookmark pairs name node)
-  unfolding with_bookmark front behind
-  in_order_with node =
-      pairs_append Follows front (pair_of name node ++ behind)
-      (AllPairs-filter Follows (λ pair. is_before pair.0 name) pairs in_order) (from_name node)
-      (λ k d low. before_name (get_or front k d) (front_before k d low) node)
 
 -- ---- what is decoded is bytes
 

@@ -1,8 +1,8 @@
 -- Faults of text and of markers, reported as faults of pushkey; out of memory is reported as such.
 use Rattle.hg_obs.specs.declared.fault.MarkerFault.{MarkerFault}
 use Rattle.hg_obs.specs.declared.fault.MarkerFault.TheVariants as markers
-use Rattle.hg_base85.specs.declared.fault.Base85Fault.{Base85Fault}
-use Rattle.hg_base85.specs.declared.fault.Base85Fault.TheVariants as text
+use Rattle.hg_obs.specs.declared.fault.Base85Fault.{Base85Fault}
+use Rattle.hg_obs.specs.declared.fault.Base85Fault.TheVariants as text
 use Rattle.hg_keys.specs.declared.fault.KeyFault.{KeyFault}
 use Rattle.hg_keys.specs.declared.fault.KeyFault.TheVariants.{BadBase85, BadMarkers, NoMemory}
 

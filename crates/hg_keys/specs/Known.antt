@@ -1,7 +1,5 @@
 -- What a log and its phases report of an id. The null id is known everywhere, and public.
-use Rattle.std.specs.Prelude.{◌≡◌, Bool, true, ◌||◌, List, All, Option, Some, option_map, is_some, bytes_eq}
-use Rattle.std.specs.Prelude.{if◌then◌else◌}
-use Rattle.hg_types.specs.NullId.{null_id}
+use Rattle.std.specs.Prelude.{◌≡◌, true, List, All, Option, Some, option_map, if◌then◌else◌}
 use Rattle.hg_types.specs.declared.node.Node.{Node}
 use Rattle.hg_types.specs.declared.phase.Phase.{Phase}
 use Rattle.hg_types.specs.declared.phase.Phase.TheVariants.{Public}
@@ -9,14 +7,7 @@ use Rattle.hg_log.specs.Changeset.{Changeset}
 use Rattle.hg_log.specs.Parents.{rev_of}
 use Rattle.hg_phases.specs.Order.{phase_at}
 use Rattle.hg_keys.specs.Bookmarks.{Pairs}
-
--- the null id
-abbrev pub is_null : Node → Bool
-is_null node = bytes_eq node.0 null_id
-
--- a changeset of the log, or the null id
-abbrev pub is_known : List Changeset → Node → Bool
-is_known rows node = is_null node || is_some (rev_of rows node.0)
+pub use Rattle.hg_log.specs.Known.{is_null, is_known}
 
 -- the phase of a known id
 abbrev pub phase_of_node : List Changeset → List Phase → Node → Option Phase

@@ -17,11 +17,11 @@ use Rattle.hg_obs.specs.declared.marker.Marker.{Marker}
 use Rattle.hg_obs.specs.declared.fault.MarkerFault.{MarkerFault}
 use Rattle.hg_obs.specs.Markers.{merged, AreLawful as AreLawfulMarkers}
 use Rattle.hg_obs.specs.Reading.{markers_of}
-use Rattle.hg_base85.specs.declared.fault.Base85Fault.{Base85Fault}
+use Rattle.hg_obs.specs.declared.fault.Base85Fault.{Base85Fault}
 use Rattle.hg_keys.specs.declared.fault.KeyFault.{KeyFault}
 use Rattle.hg_keys.specs.declared.fault.KeyFault.TheVariants.{BadBase85, BadMarkers}
 use Rattle.hg_keys.specs.declared.keys.KeyCall.{KeyCall}
-use Rattle.hg_base85.specs.Base85.{decoded}
+use Rattle.hg_obs.specs.Base85.{decoded}
 use Rattle.hg_keys.specs.Bookmarks.{Pairs, AreInOrder, node_of, with_bookmark}
 use Rattle.hg_keys.specs.Known.{is_known, phase_of_node, AreOnKnown}
 

@@ -3,9 +3,9 @@
 ghost use Rattle.std.specs.Prelude.{◌≡◌, ◌≢◌, ◌+◌, ◌<◌, ◌≤◌, ◌++◌, [], length, reverse, true, Some, None, IfSome};
 ghost use Rattle.std.specs.Prelude.{IfNone, IfOk, OnOk, OnErr, slice_get, vec_len, vec_capacity};
 ghost use Rattle.std.specs.Option.{option_to_list};
-ghost use Rattle.hg_keys.specs.Bookmarks.{AreInOrder, node_of, set_each, with_bookmark};
+ghost use Rattle.hg_keys.specs.Bookmarks.{AreInOrder, ArePartlySet, HaveSameNames, node_of, set_each};
+ghost use Rattle.hg_keys.specs.Bookmarks.{with_bookmark};
 ghost use Rattle.hg_keys.specs.code.Changes.{all_undone, base_of, can_undo, can_undo_all, undone};
-ghost use Rattle.hg_keys.specs.code.Sorting.{HaveSameNames};
 
 use hg_names::{Entries, Named, Names};
 use hg_types::{NoMemory, Node, Seq, Short};
@@ -19,6 +19,10 @@ enum Change<A: Allocator = Global> {
     Moved(Short<A>, Node),
     Removed(Named<A>),
 }
+
+/// For so many changes a mark leaves what memory there is. With less, pushes of a few bookmarks would ask for it
+/// again each time; a push of millions leaves hundreds of megabytes.
+const KEPT: usize = 1_024;
 
 /// A moment to which the bookmarks can go back. What they were then is a part of the value that contracts
 /// see.
@@ -98,15 +102,19 @@ impl<A: Allocator + Copy> Bookmarks<A> {
     }
 
     /// Sets each name on its changeset, or deletes it, as if in the order of the entries. It takes them in the
-    /// order of their names, where most come next to the one before. Where memory is refused, some are set.
+    /// order of their names, where most come next to the one before. Where memory is refused, some are set; the
+    /// mark stays, so that the bookmarks can go back to what they were then.
     pub fn set_each(
         &mut self,
         alloc: A,
         entries: Seq<(Option<Node>, Short<A>), A>,
     ) -> Result<(), NoMemory>
         ensures ok { OnOk result (self.new.current ≡ set_each entries self.old.current) }
+        ensures err { OnErr result (ArePartlySet entries self.old.current self.new.current) }
         ensures marked { self.new.marked ≡ self.old.marked }
     {
+        // `len` says that the names are in order. So entries give the same in any order that keeps those of each
+        // name in theirs.
         let _in_order = self.len();
         let entries = in_name_order(entries)?;
         for entry in entries.as_slice() {
@@ -158,11 +166,14 @@ impl<A: Allocator> Bookmarks<A> {
         self.names.entries()
     }
 
-    /// Marks the bookmarks as they are. It takes no memory, and an earlier mark is gone.
+    /// Marks the bookmarks as they are. An earlier mark is gone, and what memory many changes since then took
+    /// is given back.
     pub fn mark(&mut self) -> BookmarkMark
         ensures { self.new ≡ record { current = self.old.current; marked = Some self.old.current } }
     {
         self.changes.clear();
+        self.changes.shrink_to(KEPT);
+        self.names.shrink_room(KEPT);
         self.is_marked = true;
         BookmarkMark { _private: () }
     }
@@ -204,7 +215,6 @@ fn put<A: Allocator + Copy>(
     name: &[u8],
     node: Option<Node>,
 ) -> Result<(), NoMemory>
-    requires { AreInOrder names.old.pairs }
     ensures set { OnOk result (names.new.pairs ≡ with_bookmark names.old.pairs name.now node) }
     ensures err { OnErr result (names.new.pairs ≡ names.old.pairs) }
 {
@@ -222,7 +232,6 @@ fn put_after_mark<A: Allocator + Copy>(
     name: &[u8],
     node: Option<Node>,
 ) -> Result<Option<Change<A>>, NoMemory>
-    requires { AreInOrder names.old.pairs }
     ensures set { OnOk result (names.new.pairs ≡ with_bookmark names.old.pairs name.now node) }
     ensures back { IfOk result (λ change. all_undone (option_to_list change) names.new.pairs
         ≡ names.old.pairs) }
@@ -257,11 +266,9 @@ fn keep<A: Allocator>(changes: &mut Vec<Change<A>, A>, change: Option<Change<A>>
 
 /// Takes back all changes, the last first. There is room for each name that comes back.
 fn go_back<A: Allocator>(names: &mut Names<A>, changes: &mut Vec<Change<A>, A>)
-    requires in_order { AreInOrder names.old.pairs }
     requires can { can_undo_all (reverse changes.old.items) names.old.pairs ≡ true }
     requires room { length changes.old.items ≤ names.old.room }
-    ensures back { names.new.pairs ≡ base_of changes.old.items names.old.pairs }
-    ensures in_order { AreInOrder names.new.pairs }
+    ensures { names.new.pairs ≡ base_of changes.old.items names.old.pairs }
 {
     while let Some(change) = changes.pop() {
         undo(names, change);
@@ -270,7 +277,6 @@ fn go_back<A: Allocator>(names: &mut Names<A>, changes: &mut Vec<Change<A>, A>)
 
 /// Takes back one change. It takes no memory.
 fn undo<A: Allocator>(names: &mut Names<A>, change: Change<A>)
-    requires in_order { AreInOrder names.old.pairs }
     requires can { can_undo change names.old.pairs ≡ true }
     requires room { 0 < names.old.room }
     ensures pairs { names.new.pairs ≡ undone change names.old.pairs }

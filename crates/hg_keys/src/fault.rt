@@ -1,7 +1,11 @@
-//! What can be wrong with a payload of bookmarks, and a pushed key.
+//! What can be wrong with a payload of bookmarks, and with a pushed key.
 
-use hg_base85::Base85Fault;
-use hg_obs::MarkerFault;
+ghost use Rattle.std.specs.Prelude.{◌≡◌};
+ghost use Rattle.hg_keys.specs.KeyFaults.{told_markers, told_text};
+ghost use Rattle.hg_keys.specs.declared.fault.BookmarkFault.TheVariants as bookmarks;
+ghost use Rattle.hg_keys.specs.declared.fault.KeyFault.TheVariants.{NoMemory as Refused};
+
+use hg_obs::{Base85Fault, MarkerFault};
 use hg_types::NoMemory;
 use thiserror::Error;
 
@@ -14,18 +18,6 @@ pub enum BookmarkFault {
     /// 2: a growth was refused.
     #[error("out of memory")]
     NoMemory,
-}
-
-/// Whatever says that memory was refused.
-impl<E: Into<NoMemory> + Drop> From<E> for BookmarkFault {
-    ghost use Rattle.std.specs.Prelude.{◌≡◌};
-    ghost use Rattle.hg_keys.specs.declared.fault.BookmarkFault.TheVariants.{NoMemory as Refused};
-
-    ghost from_gives = { λ _ fault. fault ≡ Refused };
-
-    fn from(_refused: E) -> Self {
-        BookmarkFault::NoMemory
-    }
 }
 
 /// Why a call of pushkey is refused. A call whose answer is false is not: it changes nothing.
@@ -42,11 +34,17 @@ pub enum KeyFault {
     NoMemory,
 }
 
+/// Whatever says that memory was refused.
+impl<E: Into<NoMemory> + Drop> From<E> for BookmarkFault {
+    ghost from_gives = { λ _ fault. fault ≡ bookmarks.NoMemory };
+
+    fn from(_refused: E) -> Self {
+        BookmarkFault::NoMemory
+    }
+}
+
 /// For `NoMemory` alone: beside the impls for faults of other crates, the compiler refuses a general one.
 impl From<NoMemory> for KeyFault {
-    ghost use Rattle.std.specs.Prelude.{◌≡◌};
-    ghost use Rattle.hg_keys.specs.declared.fault.KeyFault.TheVariants.{NoMemory as Refused};
-
     ghost from_gives = { λ _ fault. fault ≡ Refused };
 
     fn from(_refused: NoMemory) -> Self {
@@ -56,9 +54,6 @@ impl From<NoMemory> for KeyFault {
 
 /// Out of memory is reported as such.
 impl From<Base85Fault> for KeyFault {
-    ghost use Rattle.std.specs.Prelude.{◌≡◌};
-    ghost use Rattle.hg_keys.specs.KeyFaults.{told_text};
-
     ghost from_gives = { λ fault told. told ≡ told_text fault };
 
     fn from(fault: Base85Fault) -> Self {
@@ -73,9 +68,6 @@ impl From<Base85Fault> for KeyFault {
 
 /// Out of memory is reported as such.
 impl From<MarkerFault> for KeyFault {
-    ghost use Rattle.std.specs.Prelude.{◌≡◌};
-    ghost use Rattle.hg_keys.specs.KeyFaults.{told_markers};
-
     ghost from_gives = { λ fault told. told ≡ told_markers fault };
 
     fn from(fault: MarkerFault) -> Self {

@@ -5,7 +5,6 @@ ghost use Rattle.hg_keys.specs.PushKey.{are_same as same_test, is_divergent as d
 ghost use Rattle.hg_keys.specs.PushKey.{is_known_target as known_target_test, node_in_hex as hex_node};
 ghost use Rattle.hg_keys.specs.PushKey.{phase_in_text as text_phase, target_in_text as text_target, value_of};
 
-use crate::known::is_known;
 use hg_log::Changelog;
 use hg_types::{Node, Phase};
 use std::alloc::Allocator;
@@ -87,7 +86,7 @@ pub fn is_known_target<A: Allocator>(log: &Changelog<A>, target: Option<Node>) -
     ensures { result ≡ known_target_test log.now.rows target }
 {
     match target {
-        Some(node) => is_known(log, &node),
+        Some(node) => log.knows(&node),
         None => true,
     }
 }

@@ -15,9 +15,8 @@ use crate::key_text::{
     are_same, is_divergent, is_known_target, is_value, node_in_hex, phase_in_text, target_in_text,
 };
 use crate::known::phase_of_node;
-use hg_base85::base85_decode;
 use hg_log::Changelog;
-use hg_obs::{Markers, markers_stay_lawful, read_markers};
+use hg_obs::{Markers, base85_decode, markers_stay_lawful, read_markers};
 use hg_phases::Phases;
 use hg_types::{NoMemory, Node, Phase, Seq};
 use std::alloc::{Allocator, Global};
@@ -236,6 +235,7 @@ fn push_markers<A: Allocator + Copy>(
     }
     let bytes = base85_decode(alloc, new)?;
     let added = read_markers(alloc, bytes.as_slice())?;
+    // markers that were read, merged into lawful ones, leave lawful ones
     markers_stay_lawful::<A>();
     markers.merge(added)?;
     Ok(true)

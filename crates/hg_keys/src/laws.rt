@@ -44,7 +44,10 @@ pub fn keys_stay_lawful<A: Allocator>()
         AreLawful rows keys
         → IfOk (key_pushed rows keys call) (λ pushed. AreLawful rows pushed.0) }
 {
+    // a phase that is moved leaves lawful phases, and as many
     phases_stay_lawful();
+    // what is read of bytes is markers
     markers_are_read::<A>();
+    // and markers that are merged stay lawful
     markers_stay_lawful::<A>();
 }

@@ -22,7 +22,7 @@
 //!   is false for a name with `@` that does not end in `@`, and where the present value, in lower case
 //!   digits, is neither the old one nor the new one. Else the bookmark is set, or deleted.
 //! - `obsolete`: the key begins with `dump`, and the old value is empty. The new one is marker data in
-//!   base-85, which is merged.
+//!   base-85, which is merged ([`base85_decode`], of `hg_obs`).
 //!
 //! Any other call is answered false. The null id is known, and public.
 #![tactic(auto)]
@@ -37,10 +37,10 @@ mod payload;
 
 pub use bookmarks::{BookmarkMark, Bookmarks};
 pub use fault::{BookmarkFault, KeyFault};
-pub use hg_base85::Base85Fault;
-pub use key_text::{are_same, is_known_target};
+pub use hg_obs::{Base85Fault, base85_decode, base85_encode};
+pub use key_text::{are_same, is_known_target, phase_in_text};
 pub use keys::{KeyCall, push_key};
-pub use known::{is_known, phase_of_node};
+pub use known::phase_of_node;
 pub use laws::{
     a_set_name_is_found, bookmarks_stay_lawful, keys_stay_lawful, reading_is_the_grammar,
 };

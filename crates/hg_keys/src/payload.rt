@@ -1,7 +1,6 @@
 //! The payload of the parts `bookmarks` and `check:bookmarks`.
 
-ghost use Rattle.std.specs.Prelude.{◌≡◌, IfOk, IfSome, IfNone, Some, None};
-ghost use Rattle.std.specs.Option.{option_map};
+ghost use Rattle.std.specs.Prelude.{◌≡◌};
 ghost use Rattle.hg_keys.specs.code.LentEntry.{Finds};
 ghost use Rattle.hg_keys.specs.Payload.{PayloadGives, entries_of, entry_at, name_at, sized_at, target_in};
 

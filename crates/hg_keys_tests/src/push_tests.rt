@@ -3,10 +3,9 @@
 ghost use Rattle.std.specs.Prelude.{◌≡◌, IfSome, length};
 ghost use Rattle.hg_phases.specs.Phases.{AreFor};
 
-use hg_base85::base85_encode;
 use hg_keys::*;
 use hg_log::{Added, Changelog};
-use hg_obs::{MarkerFault, Markers};
+use hg_obs::{Base85Fault, MarkerFault, Markers, base85_encode};
 use hg_phases::Phases;
 use hg_types::{Delta, Entry, Limits, NoMemory, Node, Phase, Seq};
 use linked_list_allocator::LocalHeap;
@@ -454,6 +453,17 @@ fn each_growth_of_a_call_refused(rt: HostRuntime) -> Result<(), Fail> {
     Ok(())
 }
 
+// The digits 0, 1, 2 and 3, two digits, and nothing. Result: the three phases, and none.
+#[test]
+fn phases_in_text(rt: HostRuntime) -> Result<(), Fail> {
+    assert!(rt;
+        phase_in_text(b"0") == Some(Phase::Public) && phase_in_text(b"1") == Some(Phase::Draft)
+    );
+    assert!(rt; phase_in_text(b"2") == Some(Phase::Secret) && phase_in_text(b"3").is_none());
+    assert!(rt; phase_in_text(b"00").is_none() && phase_in_text(b"").is_none());
+    Ok(())
+}
+
 // A log of the changeset of the empty text. Asked: the null id, its id, the id of 20 bytes 11; and
 // the same as targets of a bookmark, with none. Result: known, known, unknown; and none is a target.
 #[test]
@@ -461,7 +471,7 @@ fn known_ids_and_targets(rt: HostRuntime) -> Result<(), Fail> {
     let mut log = Changelog::new(rt.alloc(), RandomState::new(&rt)?, Limits::standard());
     assert!(rt; put_root(rt.alloc(), &mut log));
     let other = Node([0x11; 20]);
-    assert!(rt; is_known(&log, &Node::NULL) && is_known(&log, &ROOT) && !is_known(&log, &other));
+    assert!(rt; log.knows(&Node::NULL) && log.knows(&ROOT) && !log.knows(&other));
     assert!(rt; is_known_target(&log, None) && is_known_target(&log, Some(Node::NULL)));
     assert!(rt; is_known_target(&log, Some(ROOT)) && !is_known_target(&log, Some(other)));
     Ok(())

@@ -1,6 +1,6 @@
 -- A list has each head once just where it is as long as that of the heads, no id stands in it twice, and each
 -- is a head's.
-use Rattle.std.proofs.Common.{◌≡◌, ◌≢◌, ℕ, ◌<◌, ◌≤◌, Bool, true, false, cond, List, [], ◌∷◌, length, Option}
+use Rattle.std.proofs.Common.{◌≡◌, ◌≢◌, ℕ, ◌<◌, ◌≤◌, Bool, true, false, List, [], ◌∷◌, length, Option}
 use Rattle.std.proofs.Common.{Some}
 use Rattle.std.proofs.Common.{None, refl, sym, ap, ◌∙◌, subst, inl, inr, arith, AllPairs, Contains, bytes_eq}
 use Rattle.std.proofs.Common.{map, get_or, ◌||◌}
@@ -10,14 +10,13 @@ use Rattle.std.specs.Set.{is_member}
 use Rattle.std.specs.Cmp.{IsEquivalence, both_ways}
 use Rattle.std.proofs.lemmas.Bool.{or_cases, and_from, and_parts, lt-ltb, true≢false}
 use Rattle.std.proofs.lemmas.Map.Made.{is_member-Decides, length-le_from_is_member, IsDistinct-from_AllPairs}
-use Rattle.std.proofs.lemmas.Map.Made.{AllPairs-from_IsDistinct}
 use Rattle.std.proofs.lemmas.Slice.Eq.{bytes_eq-Decides}
 use Rattle.hg_types.specs.NullId.{null_id}
 use Rattle.hg_log.specs.Changeset.{Changeset}
 use Rattle.hg_log.specs.Rows.{AreLawful}
 use Rattle.hg_log.specs.Parents.{rev_of}
 use Rattle.hg_log.specs.Heads.{IsHead}
-use Rattle.hg_log.specs.HeadCount.{head_revs, head_count, head_ids, id_at, is_head, is_head_at, is_head_id}
+use Rattle.hg_log.specs.HeadCount.{head_revs, head_count, head_ids, id_at, is_head_at, is_head_id}
 use Rattle.hg_log.specs.HeadCount.{is_childless, AreSameIds}
 use Rattle.hg_log.proofs.RowLemmas.{has_within, unnamed, no_parent}
 use Rattle.hg_log.proofs.ParentLemmas.{rev_found, found_row}

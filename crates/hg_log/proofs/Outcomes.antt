@@ -1,11 +1,10 @@
 -- What the outcome of a delta makes of an entry.
-use Rattle.std.proofs.Common.{◌≡◌, ◌≢◌, ℕ, List, Result, Err, refl, sym, ap}
+use Rattle.std.proofs.Common.{◌≡◌, ◌≢◌, ℕ, List, Result, Err, refl, ap}
 use Rattle.hg_types.specs.declared.entry.Entry.{Entry}
 use Rattle.hg_delta.specs.declared.fault.DeltaFault.{DeltaFault}
 use Rattle.hg_delta.specs.declared.fault.DeltaFault.TheVariants as fault
 use Rattle.hg_delta.specs.Faults.{BreaksAt, GivesTooMuch}
 use Rattle.hg_delta.specs.Faults.IsOutcome.{breaks, exceeds}
-use Rattle.hg_delta.specs.Outcome.{DeltaFails}
 use Rattle.hg_log.specs.declared.add.AddFault.TheVariants.{NoMemory}
 use Rattle.hg_log.specs.Changeset.{Log}
 use Rattle.hg_log.specs.Add.{HasParentsIn, IsBase, IsAnswer, told_as}
@@ -51,10 +50,10 @@ told {A} log entry base fault.TooLong parents base_is short backwards past long 
 told {A} log entry base fault.NoMemory parents base_is short backwards past long ne = absurd (ne refl)
 
 -- the same as a value
-pub told_value : (f : DeltaFault) (read : Result (List ℕ) DeltaFault) → DeltaFails f read → told_as f ≢ NoMemory
-    → Err (told_as f) ≡ told_text read
-told_value fault.Short read is ne = sym (ap told_text is)
-told_value fault.Backwards read is ne = sym (ap told_text is)
-told_value fault.PastEnd read is ne = sym (ap told_text is)
-told_value fault.TooLong read is ne = sym (ap told_text is)
+pub told_value : (f : DeltaFault) (read : Result (List ℕ) DeltaFault) → (f ≢ fault.NoMemory → Err f ≡ read)
+    → told_as f ≢ NoMemory → Err (told_as f) ≡ told_text read
+told_value fault.Short read is ne = ap told_text (is (λ other. cc))
+told_value fault.Backwards read is ne = ap told_text (is (λ other. cc))
+told_value fault.PastEnd read is ne = ap told_text (is (λ other. cc))
+told_value fault.TooLong read is ne = ap told_text (is (λ other. cc))
 told_value fault.NoMemory read is ne = absurd (ne refl)

@@ -29,13 +29,6 @@ pub has_taken : (rows : List Changeset) (n r : ℕ) (node : List ℕ) → r < n 
 has_taken rows n r node low has =
     record { row = has.row; row_at = slice_get_take rows n r low ∙ has.row_at; node_is = has.node_is }
 
-pub lacks_has : (rows : List Changeset) (r : ℕ) (node : List ℕ) → LacksNode rows node → HasNode rows r node
-    → ⊥
-lacks_has rows r node lacks has =
-    lacks r has.row (has_within rows r node has)
-    (ap (λ (x : Changeset). x.node) (get_or_from_slice_get rows r has.row has.row has.row_at)
-    ∙ has.node_is)
-
 pub earlier_pushed : (rows : List Changeset) (row : Changeset) (r : ℕ) (node : List ℕ) → IsEarlier rows r node
     → IsEarlier (rows ++ row ∷ []) r node
 earlier_pushed rows row r node (inl e) = inl e

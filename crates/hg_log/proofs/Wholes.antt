@@ -8,7 +8,7 @@ use Rattle.hg_types.specs.NullId.{null_id}
 use Rattle.hg_log.specs.declared.graph.Parents.{Parents}
 use Rattle.hg_log.specs.NodeId.{node_id_of}
 use Rattle.hg_log.specs.Changeset.{Changeset}
-use Rattle.hg_log.specs.Rows.{HasNode, LacksNode, IsKnown, IsEarlier}
+use Rattle.hg_log.specs.Rows.{HasNode, LacksNode, IsEarlier}
 use Rattle.hg_log.specs.Ancestors.{IsParent, IsAncestor}
 use Rattle.hg_log.specs.Ancestors.IsAncestor.{itself, of_parent}
 use Rattle.hg_log.specs.code.Graph.{HasParent, Reaches, AreEarlier}
@@ -39,11 +39,6 @@ at_low : (rows : List Changeset) (r : ℕ) (node : List ℕ) (o : Option ℕ) �
     → IfSome o (λ p. p < r)
 at_low rows r node None at = search rules
 at_low rows r node (Some p) at = at.0
-
-pub at_known : (rows : List Changeset) (r : ℕ) (node : List ℕ) (o : Option ℕ) → IsAt rows r node o
-    → IsKnown rows node
-at_known rows r node None at = inl at
-at_known rows r node (Some p) at = inr (p, at.1)
 
 pub early : (rows : List Changeset) (new : Changeset) (parents : Parents) (n : ℕ) → n ≡ length rows
     → IsAt rows (length rows) new.p1 parents.p1 → IsAt rows (length rows) new.p2 parents.p2

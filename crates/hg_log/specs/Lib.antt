@@ -3,6 +3,7 @@ pub mod Changeset
 pub mod Rows
 pub mod Ancestors
 pub mod Parents
+pub mod Known
 pub mod Heads
 pub mod HeadCount
 pub mod Children

@@ -9,6 +9,7 @@ ghost use Rattle.hg_log.specs.NodeId.{node_id_of};
 ghost use Rattle.hg_log.specs.Ancestors.{IsAncestor};
 ghost use Rattle.hg_log.specs.Parents.{parents_of, rev_of, is_ancestor, IsParentIn};
 ghost use Rattle.hg_log.specs.Children.{child_before};
+ghost use Rattle.hg_log.specs.Known.{is_known};
 ghost use Rattle.hg_log.specs.HeadCount.{head_count, head_ids, is_head, AreSameIds};
 ghost use Rattle.hg_log.specs.Heads.{AreHeads, ids};
 ghost use Rattle.hg_log.specs.code.Inside.{IsAt, changeset};
@@ -171,7 +172,8 @@ impl<A: Allocator> Changelog<A> {
 
     /// Whether the id is null or that of a changeset of the log.
     pub fn knows(&self, node: &Node) -> bool
-        ensures { IsTrue result ↔ IsKnown self.now.rows node.now.0 }
+        ensures row { IsTrue result ↔ IsKnown self.now.rows node.now.0 }
+        ensures value { result ≡ is_known self.now.rows node.now }
     {
         *node == Node::NULL || self.rev(node).is_some()
     }

@@ -4,8 +4,7 @@ ghost use Rattle.std.specs.Prelude.{◌≡◌, ◌++◌, ℕ, List};
 ghost use Rattle.sha1.specs.Sha1.{sha1};
 ghost use Rattle.hg_log.specs.NodeId.{node_id_of};
 
-use hg_types::{Delta, Node};
-use sha1::Sha1;
+use hg_types::{Delta, Node, digest};
 use std::alloc::Allocator;
 
 /// The id of a changeset with these parents and this text: SHA-1 of the lesser parent id, the greater parent
@@ -37,14 +36,4 @@ fn in_order<'n>(p1: &'n Node, p2: &'n Node) -> (&'n Node, &'n Node)
     } else {
         (p2, p1)
     }
-}
-
-fn digest(first: &Node, second: &Node, text: &[u8]) -> Node
-    ensures { result.0 ≡ sha1 (first.now.0 ++ second.now.0 ++ text.now) }
-{
-    let mut hasher = Sha1::new();
-    hasher.update(&first.0);
-    hasher.update(&second.0);
-    hasher.update(text);
-    Node(hasher.finalize())
 }

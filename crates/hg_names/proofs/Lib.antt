@@ -1,9 +1,11 @@
-pub mod OrderLemmas
-pub mod Numbers
-pub mod Flat
-pub mod Filled
-pub mod Own
-pub mod Search
-pub mod Lookups
-pub mod Parts
-pub mod Edits
+pub mod CallerLemmas
+mod OrderLemmas
+mod Numbers
+mod Flat
+mod Filled
+mod Own
+mod Search
+mod Lookups
+mod Parts
+mod Edits
+mod InOrder

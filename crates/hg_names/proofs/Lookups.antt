@@ -2,13 +2,10 @@
 use Rattle.std.proofs.Common.{◌≡◌, ℕ, ◌+◌, ◌<◌, true, false, List, [], ◌∷◌, ◌++◌, length, get_or, take, drop}
 use Rattle.std.proofs.Common.{is_some, true≢false, cond, Some, None, refl, sym, ap, ◌∙◌, subst, arith, inl, inr, bytes_eq}
 use Rattle.std.specs.List.{flat_map, AllByRecursion, AllWithin}
-use Rattle.std.specs.Ordering.{is_eq}
-use Rattle.std.specs.declared.cmp.Ordering.{Ordering}
 use Rattle.std.specs.declared.cmp.Ordering.TheVariants.{Less, Greater}
 use Rattle.std.proofs.lemmas.Bool.{cases_lt}
 use Rattle.std.proofs.lemmas.List.{take-append-drop, drop_more, length-take, get_or-take}
 use Rattle.std.proofs.lemmas.List.Elements.{recursion_from_All}
-use Rattle.std.proofs.lemmas.Map.Text.{is_eq-slice_cmp}
 use Rattle.std.proofs.lemmas.Slice.Eq.{bytes_eq-Decides}
 use Rattle.hg_types.specs.declared.node.Node.{Node}
 use Rattle.hg_names.specs.declared.blocks.Block.{Block}
@@ -16,11 +13,8 @@ use Rattle.hg_names.specs.Names.{Pairs, name_cmp, AreInOrder, node_of}
 use Rattle.hg_names.specs.code.Places.{IsAt, IsGap}
 use Rattle.hg_names.specs.code.Blocks.{IsLess, IsGreater}
 use Rattle.hg_names.proofs.Search.{own_order, at_joined, gap_joined}
+use Rattle.hg_names.proofs.OrderLemmas.{is_other}
 use Rattle.hg_names.proofs.Own.{items, read_of}
-
--- a name that comes before or after is another
-is_other : (a b : List ℕ) (o : Ordering) → name_cmp a b ≡ o → bytes_eq a b ≡ is_eq o
-is_other a b o is = sym (is_eq-slice_cmp a b) ∙ ap is_eq is
 
 module _ (name : List ℕ) where
   none_of : (pairs : Pairs) → AllByRecursion (λ pair. bytes_eq pair.0 name ≡ false) pairs

@@ -191,12 +191,14 @@ fn put<A: Allocator>(
 /// Takes the pair at a spot out. A block that gets empty goes.
 pub(crate) fn take_out<A: Allocator>(blocks: &mut Vec<Block<A>, A>, spot: (usize, usize)) -> Pair<A>
     requires filled { All IsFilled blocks.old.items }
+    requires in_order { AreInOrder (pairs_in blocks.old.items) }
     requires spot { IsSpot blocks.old.items spot }
     ensures pairs { pairs_in blocks.new.items
         ≡ remove (pairs_in blocks.old.items) (place_at blocks.old.items spot) }
     ensures fewer { length (pairs_in blocks.old.items) ≡ length (pairs_in blocks.new.items) + 1 }
     ensures pair { slice_get (pairs_in blocks.old.items) (place_at blocks.old.items spot) ≡ Some result }
     ensures filled { All IsFilled blocks.new.items }
+    ensures in_order { AreInOrder (pairs_in blocks.new.items) }
     ensures len { vec_len blocks.new ≤ vec_len blocks.old }
     ensures capacity { vec_capacity blocks.new ≡ vec_capacity blocks.old }
 {
@@ -215,11 +217,13 @@ pub(crate) fn move_in<A: Allocator>(
     node: Node,
 ) -> Node
     requires filled { All IsFilled blocks.old.items }
+    requires in_order { AreInOrder (pairs_in blocks.old.items) }
     requires spot { IsSpot blocks.old.items spot }
     ensures pairs { pairs_in blocks.new.items
         ≡ moved (pairs_in blocks.old.items) (place_at blocks.old.items spot) node }
     ensures was { HoldsAt (λ pair. result ≡ pair.1) (pairs_in blocks.old.items) (place_at blocks.old.items spot) }
     ensures filled { All IsFilled blocks.new.items }
+    ensures in_order { AreInOrder (pairs_in blocks.new.items) }
     ensures len { vec_len blocks.new ≡ vec_len blocks.old }
     ensures capacity { vec_capacity blocks.new ≡ vec_capacity blocks.old }
 {
@@ -264,6 +268,7 @@ fn join<A: Allocator + Copy>(
     ensures more { OnOk result (length (pairs_in blocks.new.items) ≡ length (pairs_in blocks.old.items) + 1) }
     ensures err { OnErr result (pairs_in blocks.new.items ≡ pairs_in blocks.old.items) }
     ensures filled { All IsFilled blocks.new.items }
+    ensures in_order { AreInOrder (pairs_in blocks.new.items) }
     ensures len { vec_len blocks.new ≤ vec_len blocks.old + 1 }
     ensures capacity { vec_capacity blocks.old ≤ vec_capacity blocks.new }
 {
@@ -305,6 +310,7 @@ pub(crate) fn add_first<A: Allocator + Copy>(
     ensures err { OnErr result (pairs_in blocks.new.items ≡ pairs_in blocks.old.items) }
     ensures count { count.new ≡ length (pairs_in blocks.new.items) }
     ensures filled { All IsFilled blocks.new.items }
+    ensures in_order { AreInOrder (pairs_in blocks.new.items) }
     ensures len { vec_len blocks.new ≤ vec_len blocks.old + 1 }
     ensures capacity { vec_capacity blocks.old ≤ vec_capacity blocks.new }
 {
@@ -333,6 +339,7 @@ pub(crate) fn add_at<A: Allocator + Copy>(
     ensures err { OnErr result (pairs_in blocks.new.items ≡ pairs_in blocks.old.items) }
     ensures count { count.new ≡ length (pairs_in blocks.new.items) }
     ensures filled { All IsFilled blocks.new.items }
+    ensures in_order { AreInOrder (pairs_in blocks.new.items) }
     ensures len { vec_len blocks.new ≤ vec_len blocks.old + 1 }
     ensures capacity { vec_capacity blocks.old ≤ vec_capacity blocks.new }
 {
@@ -356,6 +363,7 @@ pub(crate) fn come_back<A: Allocator>(blocks: &mut Vec<Block<A>, A>, pair: Pair<
     ensures pairs { pairs_in blocks.new.items ≡ with_name (pairs_in blocks.old.items) pair.0 pair.1 }
     ensures more { length (pairs_in blocks.new.items) ≡ length (pairs_in blocks.old.items) + 1 }
     ensures filled { All IsFilled blocks.new.items }
+    ensures in_order { AreInOrder (pairs_in blocks.new.items) }
     ensures len { vec_len blocks.new ≤ vec_len blocks.old + 1 }
     ensures capacity { vec_capacity blocks.old ≤ vec_capacity blocks.new }
 {

@@ -1,6 +1,6 @@
 //! Names in the order of their bytes, each with the changeset that it is on.
 
-ghost use Rattle.std.specs.Prelude.{◌≡◌, ◌<◌, ◌≤◌, ◌+◌, ◌-◌, ◌^◌, [], ◌∷◌, All, IfOk, IfErr, IfSome, IfNone};
+ghost use Rattle.std.specs.Prelude.{◌≡◌, ◌<◌, ◌≤◌, ◌+◌, ◌-◌, ◌^◌, [], ◌∷◌, min, All, IfOk, IfErr, IfSome, IfNone};
 ghost use Rattle.std.specs.Prelude.{OnOk, OnErr, Some, None, is_some, true, length, slice_get};
 ghost use Rattle.hg_names.specs.Names.{AreInOrder, node_of, with_name, without};
 ghost use Rattle.hg_names.specs.code.Blocks.{IsFilled};
@@ -44,19 +44,19 @@ pub struct Names<A: Allocator = Global> {
 }
 
 impl<A: Allocator> Model for Names<A> {
-    ghost use Rattle.std.specs.Prelude.{◌≡◌, ◌-◌, length, All, vec_len, vec_capacity};
+    ghost use Rattle.std.specs.Prelude.{◌-◌, vec_len, vec_capacity};
     ghost use Rattle.hg_names.specs.Names.{Held};
 
     ghost Value = { Held };
 
-    ghost use Rattle.hg_names.specs.code.Blocks.{pairs_in, IsFilled};
+    ghost use Rattle.hg_names.specs.code.Blocks.{pairs_in, AreKept};
 
     ghost view = { λ n. record {
       pairs = pairs_in n.blocks.items;
       room = vec_capacity n.blocks - vec_len n.blocks;
     } };
 
-    ghost invariant = { λ n. (All IsFilled n.blocks.items) × (n.len ≡ length (pairs_in n.blocks.items)) };
+    ghost invariant = { λ n. AreKept n.blocks.items n.len };
 }
 
 impl<A: Allocator> Names<A> {
@@ -72,7 +72,8 @@ impl<A: Allocator> Names<A> {
 
     /// The number of names.
     pub fn len(&self) -> usize
-        ensures { result ≡ length self.now.pairs }
+        ensures len { result ≡ length self.now.pairs }
+        ensures in_order { AreInOrder self.now.pairs }
     {
         self.len
     }
@@ -90,9 +91,8 @@ impl<A: Allocator> Names<A> {
         Some((pair.0.as_slice(), pair.1))
     }
 
-    /// The changeset that a name is on, in names that are in the order of their bytes.
+    /// The changeset that a name is on.
     pub fn find(&self, name: &[u8]) -> Option<Node>
-        requires { AreInOrder self.now.pairs }
         ensures { result ≡ node_of self.now.pairs name.now }
     {
         let spot = spot_if_there(self.blocks.as_slice(), name)?;
@@ -101,8 +101,7 @@ impl<A: Allocator> Names<A> {
 
     /// Puts a name that is there on another changeset. It takes no memory.
     pub fn move_to(&mut self, name: &[u8], node: Node)
-        requires in_order { AreInOrder self.old.pairs }
-        requires there { is_some (node_of self.old.pairs name.now) ≡ true }
+        requires { is_some (node_of self.old.pairs name.now) ≡ true }
         ensures moved { self.new.pairs ≡ with_name self.old.pairs name.now node }
         ensures room { self.new.room ≡ self.old.room }
     {
@@ -112,7 +111,6 @@ impl<A: Allocator> Names<A> {
 
     /// Drops a name, if it is there. It takes no memory.
     pub fn forget(&mut self, name: &[u8])
-        requires { AreInOrder self.old.pairs }
         ensures names { self.new.pairs ≡ without self.old.pairs name.now }
         ensures room { self.old.room ≤ self.new.room }
     {
@@ -132,9 +130,19 @@ impl<A: Allocator> Names<A> {
         Ok(())
     }
 
+    /// Gives back room for more than so many names to come back. Where the smaller list of blocks is refused
+    /// memory, the room stays.
+    pub fn shrink_room(&mut self, count: usize)
+        ensures pairs { self.new.pairs ≡ self.old.pairs }
+        ensures room { min count self.old.room ≤ self.new.room }
+    {
+        if let Some(most) = self.blocks.len().checked_add(count) {
+            self.blocks.shrink_to(most);
+        }
+    }
+
     /// Puts a name that left in again. It takes no memory.
     pub fn put_back(&mut self, named: Named<A>)
-        requires in_order { AreInOrder self.old.pairs }
         requires absent { node_of self.old.pairs named.0 ≡ None }
         requires fits { length self.old.pairs < 2 ^ 64 - 1 }
         requires room { 0 < self.old.room }
@@ -151,9 +159,9 @@ impl<A: Allocator + Copy> Names<A> {
     /// Puts a name on a changeset, and reports on which it was. A name that is there moves, which takes no memory;
     /// one that is not there joins. Where memory is refused, the names are unchanged.
     pub fn insert(&mut self, alloc: A, name: &[u8], node: Node) -> Result<Option<Node>, NoMemory>
-        requires { AreInOrder self.old.pairs }
         ensures ok { OnOk result (self.new.pairs ≡ with_name self.old.pairs name.now node) }
         ensures was { IfOk result (λ was. was ≡ node_of self.old.pairs name.now) }
+        ensures in_order { AreInOrder self.old.pairs }
         ensures err { OnErr result (self.new.pairs ≡ self.old.pairs) }
         ensures room { self.old.room ≤ self.new.room + 1 }
     {
@@ -173,7 +181,6 @@ impl<A: Allocator + Copy> Names<A> {
     /// Puts a name on a changeset, as `insert` does, and reports nothing. Where memory is refused, the names
     /// are unchanged.
     pub fn set(&mut self, alloc: A, name: &[u8], node: Node) -> Result<(), NoMemory>
-        requires { AreInOrder self.old.pairs }
         ensures ok { OnOk result (self.new.pairs ≡ with_name self.old.pairs name.now node) }
         ensures err { OnErr result (self.new.pairs ≡ self.old.pairs) }
         ensures room { self.old.room ≤ self.new.room + 1 }
@@ -193,13 +200,13 @@ impl<A: Allocator + Copy> Names<A> {
     /// Takes a name out, if it is there, with memory in which it can come back. Where memory is refused, the
     /// names are unchanged.
     pub fn remove(&mut self, alloc: A, name: &[u8]) -> Result<Option<Named<A>>, NoMemory>
-        requires { AreInOrder self.old.pairs }
         ensures names { OnOk result (self.new.pairs ≡ without self.old.pairs name.now) }
         ensures name { IfOk result (λ gone. IfSome gone (λ named. named.0 ≡ name.now)) }
         ensures node { IfOk result (λ gone. IfSome gone
             (λ named. node_of self.old.pairs name.now ≡ Some named.1)) }
         ensures none { IfOk result (λ gone. IfNone gone (node_of self.old.pairs name.now ≡ None)) }
         ensures fits { IfOk result (λ gone. IfSome gone (λ named. length self.new.pairs < 2 ^ 64 - 1)) }
+        ensures in_order { AreInOrder self.old.pairs }
         ensures err { OnErr result (self.new.pairs ≡ self.old.pairs) }
         ensures room { self.old.room ≤ self.new.room }
     {

@@ -1,13 +1,11 @@
 //! Names at their places, among few and among many, and memory refused in turn.
 
-ghost use Rattle.std.specs.Prelude.{◌≡◌, ◌<◌, ◌≤◌, ◌+◌, OnOk, vec_len};
-ghost use Rattle.hg_names.specs.Names.{AreInOrder};
+ghost use Rattle.std.specs.Prelude.{◌≡◌, ◌<◌, ◌≤◌, ◌+◌, vec_len};
 
 use hg_names::{Entries, Named, Names};
 use hg_types::{NoMemory, Node};
 use linked_list_allocator::LocalHeap;
 use std::alloc::{Allocator, Global};
-use std::marker::Model;
 use std::test::*;
 
 /// How many names the larger test has.
@@ -20,101 +18,6 @@ fn node(byte: u8) -> Node {
     Node([byte; 20])
 }
 
-/// Names that are in the order of their bytes, as most calls want them.
-#[derive(Drop)]
-struct Ordered<A: Allocator = Global> {
-    names: Names<A>,
-}
-
-impl<A: Allocator> Model for Ordered<A> {
-    ghost use Rattle.hg_names.specs.Names.{AreInOrder, Held};
-
-    ghost Value = { Held };
-
-    ghost view = { λ o. o.names };
-
-    ghost invariant = { λ o. AreInOrder o.names.pairs };
-}
-
-impl<A: Allocator> Ordered<A> {
-    fn new(alloc: A) -> Self {
-        Ordered {
-            names: Names::new(alloc),
-        }
-    }
-
-    /// What they are, to be asked.
-    fn held(&self) -> &Names<A>
-        ensures in_order { AreInOrder result.now.pairs }
-    {
-        &self.names
-    }
-
-    /// Moves a name, and reports whether it was there.
-    fn move_to(&mut self, name: &[u8], node: Node) -> bool {
-        let is_there = self.names.find(name).is_some();
-        if is_there {
-            self.names.move_to(name, node);
-        }
-        is_there
-    }
-
-    fn forget(&mut self, name: &[u8]) {
-        self.names.forget(name);
-    }
-
-    fn reserve(&mut self, count: usize) -> Result<(), NoMemory>
-        ensures { OnOk result (count ≤ self.new.room) }
-    {
-        self.names.reserve(count)
-    }
-
-    /// Puts a name back, and reports whether it could come: it was not there.
-    fn put_back(&mut self, gone: Gone<A>) -> bool
-        requires { 0 < self.old.room }
-        ensures { self.old.room ≤ self.new.room + 1 }
-    {
-        let Gone { name, named } = gone;
-        if self.names.find(&name).is_some() || self.names.len() == usize::MAX {
-            return false;
-        }
-        self.names.put_back(named);
-        true
-    }
-}
-
-impl<A: Allocator + Copy> Ordered<A> {
-    fn insert(&mut self, alloc: A, name: &[u8], node: Node) -> Result<Option<Node>, NoMemory> {
-        let was = self.names.insert(alloc, name, node)?;
-        Ok(was)
-    }
-
-    fn set(&mut self, alloc: A, name: &[u8], node: Node) -> Result<(), NoMemory> {
-        self.names.set(alloc, name, node)?;
-        Ok(())
-    }
-
-    /// Takes a name out for good, and reports whether it was there.
-    fn remove(&mut self, alloc: A, name: &[u8]) -> Result<bool, NoMemory> {
-        let gone = self.names.remove(alloc, name)?;
-        Ok(gone.is_some())
-    }
-
-    /// Takes a name of two bytes out, if it is there.
-    fn take(&mut self, alloc: A, name: [u8; 2]) -> Result<Option<Gone<A>>, NoMemory> {
-        match self.names.remove(alloc, &name)? {
-            Some(named) => Ok(Some(Gone { name, named })),
-            None => Ok(None),
-        }
-    }
-
-    fn try_clone(&self, alloc: A) -> Result<Self, NoMemory> {
-        Ok(Ordered {
-            names: self.names.try_clone(alloc)?,
-        })
-    }
-}
-
 /// A name of two bytes that left.
 #[derive(Drop)]
 struct Gone<A: Allocator = Global> {
@@ -123,9 +26,42 @@ struct Gone<A: Allocator = Global> {
     ghost same: { named.0 ≡ name },
 }
 
+/// Takes a name of two bytes out, if it is there.
+fn take<A: Allocator + Copy>(
+    alloc: A,
+    names: &mut Names<A>,
+    name: [u8; 2],
+) -> Result<Option<Gone<A>>, NoMemory> {
+    match names.remove(alloc, &name)? {
+        Some(named) => Ok(Some(Gone { name, named })),
+        None => Ok(None),
+    }
+}
+
+/// Puts a name back, and reports whether it could come: it was not there.
+fn put_back<A: Allocator>(names: &mut Names<A>, gone: Gone<A>) -> bool
+    requires { 0 < names.old.room }
+    ensures { names.old.room ≤ names.new.room + 1 }
+{
+    let Gone { name, named } = gone;
+    if names.find(&name).is_some() || names.len() == usize::MAX {
+        return false;
+    }
+    names.put_back(named);
+    true
+}
+
+/// Moves a name, and reports whether it was there.
+fn move_if_there<A: Allocator>(names: &mut Names<A>, name: &[u8], node: Node) -> bool {
+    let is_there = names.find(name).is_some();
+    if is_there {
+        names.move_to(name, node);
+    }
+    is_there
+}
+
 /// Whether the names are these, in this order, each at its place and once on the walk.
-fn are<A: Allocator>(names: &Ordered<A>, wanted: &[(&[u8], Node)]) -> bool {
-    let names = names.held();
+fn are<A: Allocator>(names: &Names<A>, wanted: &[(&[u8], Node)]) -> bool {
     let mut same = names.len() == wanted.len() && names.get(wanted.len()).is_none();
     let mut walk = names.entries();
     for (place, pair) in wanted.iter().enumerate() {
@@ -144,16 +80,16 @@ fn are<A: Allocator>(names: &Ordered<A>, wanted: &[(&[u8], Node)]) -> bool {
 #[test]
 fn names_at_their_places(rt: HostRuntime) -> Result<(), Fail> {
     let alloc = rt.alloc();
-    let mut names = Ordered::new(alloc);
-    assert!(rt; are(&names, &[]) && names.held().find(b"a").is_none());
+    let mut names = Names::new(alloc);
+    assert!(rt; are(&names, &[]) && names.find(b"a").is_none());
     put_four(alloc, &mut names)?;
     assert!(rt; are_four(&names, 1));
-    assert!(rt; names.held().find(b"a").is_none() && names.held().find(&[255, 0]).is_none());
-    assert!(rt; names.move_to(b"b", node(9)));
+    assert!(rt; names.find(b"a").is_none() && names.find(&[255, 0]).is_none());
+    assert!(rt; move_if_there(&mut names, b"b", node(9)));
     assert!(rt; names.insert(alloc, b"ab", node(5))? == Some(node(4)));
     assert!(rt; names.insert(alloc, b"ab", node(4))? == Some(node(5)));
     names.forget(b"c");
-    assert!(rt; !names.remove(alloc, b"c")? && names.held().len() == 4);
+    assert!(rt; names.remove(alloc, b"c")?.is_none() && names.len() == 4);
     let copy = names.try_clone(alloc)?;
     assert!(rt; one_leaves_and_comes_back(alloc, &mut names)?);
     assert!(rt; are_four(&copy, 9));
@@ -164,20 +100,20 @@ fn names_at_their_places(rt: HostRuntime) -> Result<(), Fail> {
 #[test]
 fn names_that_are_set(rt: HostRuntime) -> Result<(), Fail> {
     let alloc = rt.alloc();
-    let mut names = Ordered::new(alloc);
+    let mut names = Names::new(alloc);
     names.set(alloc, b"b", node(8))?;
     assert!(rt; are(&names, &[(b"b", node(8))]));
     put_four(alloc, &mut names)?;
     names.set(alloc, b"b", node(9))?;
     assert!(rt; are_four(&names, 9));
     names.set(alloc, b"c", node(6))?;
-    assert!(rt; names.held().len() == 5 && names.held().find(b"c") == Some(node(6)));
+    assert!(rt; names.len() == 5 && names.find(b"c") == Some(node(6)));
     names.forget(b"c");
     assert!(rt; are_four(&names, 9));
     Ok(())
 }
 
-fn put_four<A: Allocator + Copy>(alloc: A, names: &mut Ordered<A>) -> Result<(), NoMemory> {
+fn put_four<A: Allocator + Copy>(alloc: A, names: &mut Names<A>) -> Result<(), NoMemory> {
     names.insert(alloc, b"b", node(1))?;
     names.insert(alloc, b"", node(2))?;
     names.insert(alloc, &[255], node(3))?;
@@ -186,7 +122,7 @@ fn put_four<A: Allocator + Copy>(alloc: A, names: &mut Ordered<A>) -> Result<(),
 }
 
 /// Whether the names are the four, with `b` on that changeset.
-fn are_four<A: Allocator>(names: &Ordered<A>, b: u8) -> bool {
+fn are_four<A: Allocator>(names: &Names<A>, b: u8) -> bool {
     are(
         names,
         &[
@@ -201,16 +137,17 @@ fn are_four<A: Allocator>(names: &Ordered<A>, b: u8) -> bool {
 /// Of the four `ab` leaves, the empty one is forgotten, and `ab` comes back. Whether each was right.
 fn one_leaves_and_comes_back<A: Allocator + Copy>(
     alloc: A,
-    names: &mut Ordered<A>,
+    names: &mut Names<A>,
 ) -> Result<bool, NoMemory> {
-    let Some(gone) = names.take(alloc, *b"ab")? else {
+    let Some(gone) = take(alloc, names, *b"ab")? else {
         return Ok(false);
     };
     let left = are(names, &[(b"", node(2)), (b"b", node(9)), (&[255], node(3))]);
     names.forget(b"");
     let few = are(names, &[(b"b", node(9)), (&[255], node(3))]);
-    names.reserve(1)?;
-    let back = names.put_back(gone);
+    names.reserve(400)?;
+    names.shrink_room(1);
+    let back = put_back(names, gone);
     let again = are(
         names,
         &[(b"ab", node(4)), (b"b", node(9)), (&[255], node(3))],
@@ -221,7 +158,7 @@ fn one_leaves_and_comes_back<A: Allocator + Copy>(
 /// Puts many names in, each before the first or after the last.
 fn put_many<A: Allocator + Copy>(
     alloc: A,
-    names: &mut Ordered<A>,
+    names: &mut Names<A>,
     half: u16,
 ) -> Result<(), NoMemory> {
     for number in 0..half {
@@ -246,8 +183,7 @@ fn is_at<A: Allocator>(names: &Names<A>, place: u16, name: &[u8]) -> bool {
 }
 
 /// Whether the names are so many numbers from 0 on, found, at their places and on the walk.
-fn are_numbers<A: Allocator>(names: &Ordered<A>, count: u16) -> bool {
-    let names = names.held();
+fn are_numbers<A: Allocator>(names: &Names<A>, count: u16) -> bool {
     let mut same = names.len() == usize::from(count);
     let mut walk = names.entries();
     for number in 0..count {
@@ -260,8 +196,7 @@ fn are_numbers<A: Allocator>(names: &Ordered<A>, count: u16) -> bool {
 }
 
 /// Whether of so many pairs of numbers the odd ones are there, each at its place, and the even ones are not.
-fn are_odd<A: Allocator>(names: &Ordered<A>, pairs: u16) -> bool {
-    let names = names.held();
+fn are_odd<A: Allocator>(names: &Names<A>, pairs: u16) -> bool {
     let mut same = true;
     for number in 0..pairs {
         let even = number.saturating_mul(2);
@@ -276,7 +211,7 @@ fn are_odd<A: Allocator>(names: &Ordered<A>, pairs: u16) -> bool {
 #[test]
 fn many_names_at_their_places(rt: HostRuntime) -> Result<(), Fail> {
     let alloc = rt.alloc();
-    let mut names = Ordered::new(alloc);
+    let mut names = Names::new(alloc);
     put_many(alloc, &mut names, MANY / 2)?;
     assert!(rt; are_numbers(&names, MANY));
     for number in 0..MANY / 2 {
@@ -288,7 +223,7 @@ fn many_names_at_their_places(rt: HostRuntime) -> Result<(), Fail> {
         let odd = number.saturating_mul(2).saturating_add(1);
         names.forget(&odd.to_be_bytes());
     }
-    assert!(rt; names.held().len() == 0 && names.held().entries().next().is_none());
+    assert!(rt; names.len() == 0 && names.entries().next().is_none());
     Ok(())
 }
 
@@ -301,7 +236,7 @@ fn next_chance(seed: u64) -> u64 {
 /// A name of the list leaves or moves, in the names and in the list alike. Whether both said the same.
 fn one_that_is_there<A: Allocator + Copy>(
     alloc: A,
-    names: &mut Ordered<A>,
+    names: &mut Names<A>,
     model: &mut Vec<(u64, u8)>,
     place: usize,
     turn: u32,
@@ -311,12 +246,12 @@ fn one_that_is_there<A: Allocator + Copy>(
 {
     let (name, was) = model[place];
     let bytes = name.to_be_bytes();
-    if names.held().find(&bytes) != Some(node(was)) {
+    if names.find(&bytes) != Some(node(was)) {
         return Ok(false);
     }
     if turn % 3 == 0 {
         model.remove(place);
-        return names.remove(alloc, &bytes);
+        return Ok(names.remove(alloc, &bytes)?.is_some());
     }
     if turn % 3 == 1 {
         model.remove(place);
@@ -325,7 +260,7 @@ fn one_that_is_there<A: Allocator + Copy>(
     }
     model[place].1 = byte;
     if turn % 2 == 0 {
-        return Ok(names.move_to(&bytes, node(byte)));
+        return Ok(move_if_there(names, &bytes, node(byte)));
     }
     let before = names.insert(alloc, &bytes, node(byte))?;
     Ok(before == Some(node(was)))
@@ -334,7 +269,7 @@ fn one_that_is_there<A: Allocator + Copy>(
 /// A name that is not in the list comes, in the names and in the list alike. Whether it was not there.
 fn one_that_comes<A: Allocator + Copy>(
     alloc: A,
-    names: &mut Ordered<A>,
+    names: &mut Names<A>,
     model: &mut Vec<(u64, u8)>,
     place: usize,
     name: u64,
@@ -343,17 +278,16 @@ fn one_that_comes<A: Allocator + Copy>(
     requires { place ≤ vec_len model.old }
 {
     let bytes = name.to_be_bytes();
-    let absent = names.held().find(&bytes).is_none();
+    let absent = names.find(&bytes).is_none();
     names.forget(&bytes);
-    let removed = names.remove(alloc, &bytes)?;
+    let removed = names.remove(alloc, &bytes)?.is_some();
     let before = names.insert(alloc, &bytes, node(byte))?;
     model.insert(place, (name, byte))?;
     Ok(absent && !removed && before.is_none())
 }
 
 /// Whether the names are those of the list, in its order.
-fn are_of<A: Allocator>(names: &Ordered<A>, model: &[(u64, u8)]) -> bool {
-    let names = names.held();
+fn are_of<A: Allocator>(names: &Names<A>, model: &[(u64, u8)]) -> bool {
     let mut same = true;
     let mut walk = names.entries();
     for pair in model {
@@ -369,7 +303,7 @@ fn are_of<A: Allocator>(names: &Ordered<A>, model: &[(u64, u8)]) -> bool {
 #[test]
 fn names_like_a_sorted_list(rt: HostRuntime) -> Result<(), Fail> {
     let alloc = rt.alloc();
-    let mut names = Ordered::new(alloc);
+    let mut names = Names::new(alloc);
     let mut model: Vec<(u64, u8)> = Vec::new(alloc);
     let mut seed = 12_345u64;
     let mut same = true;
@@ -396,11 +330,11 @@ fn between(number: u16) -> [u8; 4] {
 /// Takes the numbers from 800 up to 1,200 out.
 fn take_upper<A: Allocator + Copy>(
     alloc: A,
-    names: &mut Ordered<A>,
+    names: &mut Names<A>,
 ) -> Result<Vec<Gone<A>, A>, NoMemory> {
     let mut gone = Vec::new(alloc);
     for number in 800..1_200u16 {
-        if let Some(one) = names.take(alloc, number.to_be_bytes())? {
+        if let Some(one) = take(alloc, names, number.to_be_bytes())? {
             gone.push(one)?;
         }
     }
@@ -409,26 +343,26 @@ fn take_upper<A: Allocator + Copy>(
 
 /// Puts those back, the last one first. Whether each could come.
 fn put_all_back<A: Allocator + Copy>(
-    names: &mut Ordered<A>,
+    names: &mut Names<A>,
     gone: Vec<Gone<A>, A>,
 ) -> Result<bool, NoMemory> {
     let mut gone = gone;
     let mut same = gone.len() == 400;
     names.reserve(gone.len())?;
     while let Some(one) = gone.pop() {
-        let back = names.put_back(one);
+        let back = put_back(names, one);
         same = same && back;
     }
-    Ok(same && names.held().len() == 4_400)
+    Ok(same && names.len() == 4_400)
 }
 
 /// Takes the names between out, one by one. Whether one less was left each time.
-fn take_between<A: Allocator + Copy>(alloc: A, names: &mut Ordered<A>) -> Result<bool, NoMemory> {
+fn take_between<A: Allocator + Copy>(alloc: A, names: &mut Names<A>) -> Result<bool, NoMemory> {
     let mut same = true;
     for number in 0..2_000u16 {
-        let was_there = names.remove(alloc, &between(number))?;
+        let was_there = names.remove(alloc, &between(number))?.is_some();
         let left = usize::from(4_399u16.saturating_sub(number));
-        same = same && was_there && names.held().len() == left;
+        same = same && was_there && names.len() == left;
     }
     Ok(same)
 }
@@ -437,7 +371,7 @@ fn take_between<A: Allocator + Copy>(alloc: A, names: &mut Ordered<A>) -> Result
 #[test]
 fn names_come_back(rt: HostRuntime) -> Result<(), Fail> {
     let alloc = rt.alloc();
-    let mut names = Ordered::new(alloc);
+    let mut names = Names::new(alloc);
     put_many(alloc, &mut names, 1_200)?;
     let gone = take_upper(alloc, &mut names)?;
     for number in 0..2_000u16 {
@@ -449,8 +383,40 @@ fn names_come_back(rt: HostRuntime) -> Result<(), Fail> {
     Ok(())
 }
 
+/// What a heap keeps for 300 names: before room for many to come back is made, with it, and after all but a little of
+/// it is given back.
+fn kept_for_room(heap: &LocalHeap) -> Result<[usize; 3], NoMemory> {
+    let mut names = Names::new(heap);
+    let count = put_numbers(heap, &mut names);
+    let before = heap.used();
+    names.reserve(4_096)?;
+    let large = heap.used();
+    names.shrink_room(2);
+    let small = heap.used();
+    let is_same = are_put(&names, count);
+    drop(names);
+    Ok(if is_same && count == 300 {
+        [before, large, small]
+    } else {
+        [0; 3]
+    })
+}
+
+/// Room that is given back is free: it takes 32 bytes for each name that could come back.
+#[test]
+fn room_is_given_back(rt: HostRuntime) -> Result<(), Fail> {
+    let heap = LocalHeap::new(rt.alloc(), 1 << 20)?;
+    let [before, large, small] = kept_for_room(&heap)?;
+    let is_large = large >= before.saturating_add(32 * 4_000);
+    assert!(rt;
+        is_large && before > 0 && small <= before.saturating_add(64),
+        "{before} {large} {small}"
+    );
+    Ok(())
+}
+
 /// Puts up to 300 numbers in, each on the same changeset, and reports how many came before memory was refused.
-fn put_numbers<A: Allocator + Copy>(alloc: A, names: &mut Ordered<A>) -> u16 {
+fn put_numbers<A: Allocator + Copy>(alloc: A, names: &mut Names<A>) -> u16 {
     for number in 0..300u16 {
         if names.insert(alloc, &number.to_be_bytes(), node(1)).is_err() {
             return number;
@@ -460,8 +426,7 @@ fn put_numbers<A: Allocator + Copy>(alloc: A, names: &mut Ordered<A>) -> u16 {
 }
 
 /// Whether the names are so many numbers from 0 on, each on that changeset.
-fn are_put<A: Allocator>(names: &Ordered<A>, count: u16) -> bool {
-    let names = names.held();
+fn are_put<A: Allocator>(names: &Names<A>, count: u16) -> bool {
     let mut same = names.len() == usize::from(count);
     let mut walk = names.entries();
     for number in 0..count {
@@ -475,20 +440,20 @@ fn are_put<A: Allocator>(names: &Ordered<A>, count: u16) -> bool {
 }
 
 /// The first of so many numbers leaves and comes back, where memory is not refused. Whether each was right.
-fn first_comes_back<A: Allocator + Copy>(alloc: A, names: &mut Ordered<A>, count: u16) -> bool {
+fn first_comes_back<A: Allocator + Copy>(alloc: A, names: &mut Names<A>, count: u16) -> bool {
     let first = 0u16.to_be_bytes();
     let all = usize::from(count);
-    let gone = match names.take(alloc, first) {
+    let gone = match take(alloc, names, first) {
         Ok(Some(gone)) => gone,
         Ok(None) => return false,
-        Err(_) => return names.held().len() == all,
+        Err(_) => return names.len() == all,
     };
-    let is_less = names.held().len().saturating_add(1) == all;
+    let is_less = names.len().saturating_add(1) == all;
     match names.reserve(1) {
         Ok(()) => {
-            let back = names.put_back(gone);
-            let is_found = names.held().find(&first) == Some(node(1));
-            is_less && back && is_found && names.held().len() == all
+            let back = put_back(names, gone);
+            let is_found = names.find(&first) == Some(node(1));
+            is_less && back && is_found && names.len() == all
         }
         Err(_) => is_less,
     }
@@ -504,11 +469,11 @@ struct Growth {
 
 /// Puts numbers in, copies the names, and takes the first out and back.
 fn grow<A: Allocator + Copy>(alloc: A) -> Growth {
-    let mut names = Ordered::new(alloc);
+    let mut names = Names::new(alloc);
     let count = put_numbers(alloc, &mut names);
     let is_put = are_put(&names, count);
     let (is_copied, is_same) = match names.try_clone(alloc) {
-        Ok(copy) => (true, copy.held().len() == names.held().len()),
+        Ok(copy) => (true, copy.len() == names.len()),
         Err(_) => (false, true),
     };
     let comes_back = count == 0 || first_comes_back(alloc, &mut names, count);

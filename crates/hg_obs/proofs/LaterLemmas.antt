@@ -11,7 +11,8 @@ use Rattle.std.proofs.lemmas.List.Folds.{list_any-append}
 use Rattle.hg_types.specs.declared.node.Node.{Node}
 use Rattle.hg_obs.specs.declared.marker.Marker.{Marker}
 use Rattle.hg_obs.specs.Same.{is_same, is_same_decides, same_node, same_node_decides}
-use Rattle.hg_obs.specs.Markers.{place_from, or_else, without, is_in}
+use Rattle.hg_obs.specs.Markers.{is_in}
+use Rattle.hg_obs.specs.code.Places.{place_from, or_else, without}
 use Rattle.hg_obs.specs.code.Later.{AreKept, has_predecessor, later_from, seal_of}
 use Rattle.hg_obs.proofs.PlaceLemmas.{added, dropped, place_below, some_place}
 
@@ -363,12 +364,6 @@ module _ {A : Type 0} (state : RandomState) (ms : List (Marker A)) (firsts other
       later_below (seal_of state) [] 0 node ms at (sym (kept.others_found node) ∙ e) in
       omega arith
 
-  -- where the first of its predecessor stands, as what was noted says
-  pub first_there : (at : ℕ) → at ≡ unwrap_or (lookup (same_node m.predecessor) firsts) place → at < place
-      → place_from 0 m.predecessor ms ≡ Some at
-  first_there at e less = sym first_look
-      ∙ was_there (lookup (same_node m.predecessor) firsts) at place e less
-
   -- or that there is none
   pub first_none : (at : ℕ) → at ≡ unwrap_or (lookup (same_node m.predecessor) firsts) place → place ≤ at
       → lookup (same_node m.predecessor) firsts ≡ None
@@ -425,17 +420,6 @@ module _ {A : Type 0} (state : RandomState) (ms : List (Marker A)) (firsts other
           ∙ ap (without (same_node node m.predecessor) place) (notes node)
           ∙ unnoted (same_node node m.predecessor) place (lookup (same_node node) firsts)
           (first_before node)
-          ∙ kept.firsts_found node;
-      others_found = kept.others_found;
-      distinct = kept.distinct;
-    }
-
-    -- or stays as it was
-    pub first_stays : (at : ℕ) → Notes firsts noted m.predecessor place
-        → place_from 0 m.predecessor ms ≡ Some at → AreKept state ms noted others
-    first_stays at notes e = record {
-      firsts_found = λ node. notes node
-          ∙ stays (λ n. lookup (same_node n) firsts) m.predecessor at place node (first_look ∙ e)
           ∙ kept.firsts_found node;
       others_found = kept.others_found;
       distinct = kept.distinct;

@@ -7,4 +7,7 @@ mod MarkerLaws
 mod DataLaws
 mod EachLemmas
 mod LawfulLemmas
+mod Base85Tables
+mod Base85Groups
+mod Base85RoundTrip
 pub mod CallerLemmas

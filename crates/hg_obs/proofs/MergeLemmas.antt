@@ -1,8 +1,7 @@
 -- A merge, one marker at a time.
-use Rattle.std.proofs.Common.{◌≡◌, ℕ, Bool, true, false, cond, not, ◌||◌, List, [], ◌∷◌, ◌++◌, filter, refl}
-use Rattle.std.proofs.Common.{sym, ap, ◌∙◌, append_assoc, true≢false, ◌≢◌, zero, suc, length, take, get_or}
-use Rattle.std.proofs.Common.{AllPairs, ◌≤◌, ◌+◌, arith}
-use Rattle.std.proofs.Math.Seq.{take-append_seam}
+use Rattle.std.proofs.Common.{◌≡◌, Bool, true, false, cond, not, ◌||◌, List, [], ◌∷◌, ◌++◌, filter, refl}
+use Rattle.std.proofs.Common.{sym, ap, ◌∙◌, append_assoc, true≢false, ◌≢◌, zero, suc, get_or}
+use Rattle.std.proofs.Common.{AllPairs, arith}
 use Rattle.std.proofs.lemmas.List.Folds.{list_any-append}
 use Rattle.std.proofs.lemmas.List.Elements.{All-get_or, All-from_recursion}
 use Rattle.std.specs.List.{list_any, AllByRecursion, IsDistinct}
@@ -156,10 +155,6 @@ module _ {A : Type 0} where
       either true = refl
       either false = refl
 
-  -- the list of before is what stands in front of those that are new
-  pub merged_front : (old xs : List (Marker A)) (len : ℕ) → len ≡ length old → take len (merged old xs) ≡ old
-  merged_front old xs len e = ap (λ (n : ℕ). take n (merged old xs)) e ∙ take-append_seam old (fresh old xs)
-
   keeps_others : (m : Marker A) (ns : List (Marker A)) → AllByRecursion (λ n. is_same m n ≡ false) ns
       → filter (λ n. not (is_same m n)) ns ≡ ns
   keeps_others m [] h = refl
@@ -183,7 +178,3 @@ module _ {A : Type 0} where
   -- distinct markers, merged into an empty list
   pub merged_distinct : (ms : List (Marker A)) → IsDistinct is_same ms → merged [] ms ≡ ms
   merged_distinct ms d = ap (filter (λ m. not (is_in [] m))) (firsts_distinct ms d) ∙ none_there ms
-
--- as many places as before, of which one is used
-pub room_stays : (size at old left : ℕ) → size ≤ at + old → old ≤ left + 1 → size ≤ at + 1 + left
-room_stays size at old left enough used = omega (arith)

@@ -1,8 +1,7 @@
 -- The place of the first marker of each predecessor.
-use Rattle.std.proofs.Common.{◌≡◌, ◌≢◌, ◌+◌, ◌<◌, ◌==◌, ◌||◌, ℕ, suc, Bool, true, false, cond, Option, Some}
-use Rattle.std.proofs.Common.{None, is_some, List, [], ◌∷◌, ◌++◌, length, take, get_or, unwrap_or, refl, sym}
+use Rattle.std.proofs.Common.{◌≡◌, ◌+◌, ◌<◌, ◌==◌, ◌||◌, ℕ, suc, Bool, true, false, cond, Option, Some}
+use Rattle.std.proofs.Common.{None, is_some, List, [], ◌∷◌, ◌++◌, length, unwrap_or, refl, sym}
 use Rattle.std.proofs.Common.{ap, ◌∙◌, arith, eq-eqb, ne_eqb, true≢false, eqb-true, nat_eq}
-use Rattle.std.proofs.lemmas.List.{length-take, take_more}
 use Rattle.std.specs.Option.{option_eq}
 use Rattle.std.specs.Cmp.{IsEquivalence, decided}
 use Rattle.std.specs.List.{list_any}
@@ -11,7 +10,8 @@ use Rattle.std.proofs.lemmas.List.Folds.{Any-from_list_any, list_any-from_Any}
 use Rattle.hg_types.specs.declared.node.Node.{Node}
 use Rattle.hg_obs.specs.declared.marker.Marker.{Marker}
 use Rattle.hg_obs.specs.Same.{same_node, same_node_decides}
-use Rattle.hg_obs.specs.Markers.{place_from, or_else, without, IsPredecessor}
+use Rattle.hg_obs.specs.Markers.{IsPredecessor}
+use Rattle.hg_obs.specs.code.Places.{place_from, or_else, without}
 
 pub same_node_equiv : IsEquivalence same_node
 same_node_equiv = decided same_node same_node_decides
@@ -90,22 +90,6 @@ module _ (old new : List (Node × ℕ)) (predecessor : Node) (place : ℕ) (node
           ∙ ap (λ (c : Bool). cond c None (Some place)) (eq-eqb place place refl))
       by false e = refl
 
-  pub not_forgotten : (lookup (same_node predecessor) old ≢ Some place)
-      → lookup (same_node node) old ≡ without (same_node node predecessor) place (lookup (same_node node) old)
-  not_forgotten other = by (same_node node predecessor) (lookup (same_node predecessor) old) refl refl
-    where
-      by : (b : Bool) (found : Option ℕ) → same_node node predecessor ≡ b
-          → lookup (same_node predecessor) old ≡ found
-          → lookup (same_node node) old ≡ without b place (lookup (same_node node) old)
-      by false found e h = refl
-      by true None e h = let look : lookup (same_node node) old ≡ None = same_look e ∙ h in
-          look ∙ sym (ap (without true place) look)
-      by true (Some first) e h =
-          let look : lookup (same_node node) old ≡ Some first = same_look e ∙ h in
-          let apart : (first == place) ≡ false = ne_eqb first place
-          (λ same. other (h ∙ ap (λ (n : ℕ). Some n) same)) in
-          look ∙ sym (ap (without true place) look ∙ ap (λ (c : Bool). cond c None (Some first)) apart)
-
 module _ {A : Type 0} where
   place-push : (from : ℕ) (node : Node) (ms : List (Marker A)) (m : Marker A)
       → place_from from node (ms ++ m ∷ []) ≡ or_else (place_from from node ms)
@@ -182,15 +166,6 @@ module _ {A : Type 0} where
       ap (λ (o : Option ℕ). or_else o (cond (same_node node m.predecessor) (Some n) None)) k
       ∙ ap (λ (i : ℕ). or_else (place_from 0 node old) (cond (same_node node m.predecessor) (Some i) None)) h
       ∙ sym (noted old m node) ∙ ap (place_from 0 node) (sym e)
-
-  -- and noted for one marker more of a list
-  pub noted_next : (ms : List (Marker A)) (i : ℕ) (d : Marker A) (found : Option ℕ) (node : Node)
-      → i < length ms → found ≡ place_from 0 node (take i ms)
-      → or_else found (cond (same_node node (get_or ms i d).predecessor) (Some i) None) ≡ place_from 0 node
-      (take (i + 1) ms)
-  noted_next ms i d found node within k =
-      let size : i ≡ length (take i ms) = omega (arith, length-take i ms) in
-      added (take i ms) (take (i + 1) ms) (get_or ms i d) i found node (take_more ms i d within) size k
 
   pub some_place : (from : ℕ) (node : Node) (ms : List (Marker A))
       → is_some (place_from from node ms) ≡ list_any (λ m. same_node node m.predecessor) ms

@@ -1,3 +1,5 @@
+pub mod Places
 pub mod Later
 pub mod Lent
 pub mod Pieces
+pub mod GroupNumber

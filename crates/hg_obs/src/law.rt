@@ -5,6 +5,7 @@ ghost use Rattle.hg_types.specs.Bytes.{IsBytes};
 ghost use Rattle.hg_obs.specs.declared.marker.Marker.{Marker as AMarker};
 ghost use Rattle.hg_obs.specs.declared.fault.MarkerFault.{MarkerFault as AFault};
 ghost use Rattle.hg_obs.specs.declared.fault.MarkerFault.TheVariants.{NoMemory as Refused};
+ghost use Rattle.hg_obs.specs.Base85.{decoded, encoded};
 ghost use Rattle.hg_obs.specs.Grammar.{AreMarkers, IsFault};
 ghost use Rattle.std.specs.List.{AllByRecursion, flat_map};
 ghost use Rattle.hg_obs.specs.Marker.{MarkerFits, HasIds, IsMarker, marker_bytes};
@@ -20,6 +21,11 @@ pub fn reading_is_the_grammar<A: Allocator>()
         (markers_of bytes ≡ Ok markers) ↔ AreMarkers bytes markers }
     ensures faults { (bytes : List ℕ) (fault : AFault) → IsBytes bytes → fault ≢ Refused →
         (markers_of {A = A} bytes ≡ Err fault) ↔ IsFault A fault bytes }
+{}
+
+/// Decoding gives back what was encoded.
+pub fn decoding_gives_back()
+    ensures { (bytes : List ℕ) → IsBytes bytes → decoded (encoded bytes) ≡ Ok bytes }
 {}
 
 /// Markers with the same bytes are equal.

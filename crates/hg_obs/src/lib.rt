@@ -14,16 +14,23 @@
 //! | 20 | the predecessor, which is obsolete |
 //! | 20 N | the successors |
 //! | M | the metadata: strings `key:value`, with a NUL between them or after each |
+//!
+//! A pushed key carries marker data as text: [`base85_decode`] reads base-85, and [`base85_encode`] writes it. Its
+//! digits are those of RFC 1924, section 4.2, and five of them give four bytes.
 #![tactic(auto)]
 
+mod base85;
 mod fault;
 mod law;
 mod marker;
 mod markers;
 mod read;
 
-pub use fault::MarkerFault;
-pub use law::{bytes_tell_markers, markers_stay_lawful, reading_is_the_grammar};
+pub use base85::{base85_decode, base85_encode};
+pub use fault::{Base85Fault, MarkerFault};
+pub use law::{
+    bytes_tell_markers, decoding_gives_back, markers_stay_lawful, reading_is_the_grammar,
+};
 pub use marker::Marker;
 pub use markers::Markers;
 pub use read::read_markers;

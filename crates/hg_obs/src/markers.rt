@@ -7,7 +7,8 @@ ghost use Rattle.std.specs.Map.{lookup};
 ghost use Rattle.indexmap.specs.IndexMap.{spare as places_room};
 ghost use Rattle.hg_types.specs.declared.node.Node.{Node as AnId};
 ghost use Rattle.hg_obs.specs.Same.{same_node};
-ghost use Rattle.hg_obs.specs.Markers.{fresh, is_in, merged, or_else, without, place_from};
+ghost use Rattle.hg_obs.specs.Markers.{fresh, is_in, merged};
+ghost use Rattle.hg_obs.specs.code.Places.{or_else, without, place_from};
 ghost use Rattle.hg_obs.specs.code.Later.{seal_of};
 
 use crate::marker::Marker;

@@ -9,4 +9,6 @@
 #![tactic(auto)]
 
 #[cfg(test)]
+mod base85_tests;
+#[cfg(test)]
 mod tests;

@@ -70,10 +70,6 @@ pub record ReadSo {A : Type 0} (bytes : List ℕ) (params : List (StreamParam A)
   pub says : params ≡ map stream_param done
   pub all : pieces bytes ≡ done ++ pieces_of rest
 
-pub read_none : {A : Type 0} (bytes : List ℕ) (params : List (StreamParam A)) (rest : Option (List ℕ))
-    → params ≡ [] → pieces_of rest ≡ pieces bytes → ReadSo bytes params rest
-read_none bytes params rest none all = record { done = []; sound = refl; says = none; all = sym all }
-
 pieces_left : (done : List (List ℕ)) (text piece : List ℕ) (more : Option (List ℕ))
     → piece ≡ before_first is_space text → more ≡ behind_first is_space text → done
     ++ pieces_of (Some text) ≡ done ++ (piece ∷ pieces_of more)

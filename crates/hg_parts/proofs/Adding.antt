@@ -38,7 +38,7 @@ use Rattle.hg_parts.specs.Handled.{Handled}
 use Rattle.hg_parts.specs.Store.{IsSound, IsGrown}
 use Rattle.hg_parts.specs.parts.Changegroup.{Grown, grown_by, then_grow, add_each, phases_after}
 use Rattle.hg_parts.specs.parts.Changegroup.{reply_to_group, handled_of, handled_by, handle_entries}
-use Rattle.hg_parts.specs.parts.Changegroup.{refusal_for}
+use Rattle.hg_parts.specs.code.Changegroup.{refusal_for}
 
 -- ---- what is known stays known
 

@@ -54,19 +54,6 @@ module _ {A : Type 0} where
     bookmarks_marked = two.bookmarks_marked ∙ one.bookmarks_marked;
   }
 
-  -- the phases alone changed, with the same mark
-  pub grown_phases : (old : Store A) (phases : MarkedPhases) → phases.marked ≡ old.phases.marked
-      → IsGrown old (record old { phases = phases })
-  grown_phases old phases same = record {
-    rows_within = omega arith;
-    rows_front = take-length old.log.rows;
-    limits = refl;
-    markers_within = omega arith;
-    markers_front = take-length old.markers;
-    phases_marked = same;
-    bookmarks_marked = refl;
-  }
-
   -- markers alone came
   pub grown_markers : (old : Store A) (markers : List (Marker A)) → length old.markers ≤ length markers
       → take (length old.markers) markers ≡ old.markers → IsGrown old (record old { markers = markers })
@@ -89,31 +76,7 @@ module _ {A : Type 0} where
       (take-append-le (length old.markers) old.markers (fresh old.markers added) (omega arith)
       ∙ take-length old.markers)
 
-  -- the bookmarks alone changed, with the same mark
-  pub grown_bookmarks : (old : Store A) (bookmarks : MarkedBookmarks)
-      → bookmarks.marked ≡ old.bookmarks.marked → IsGrown old (record old { bookmarks = bookmarks })
-  grown_bookmarks old bookmarks same = record {
-    rows_within = omega arith;
-    rows_front = take-length old.log.rows;
-    limits = refl;
-    markers_within = omega arith;
-    markers_front = take-length old.markers;
-    phases_marked = refl;
-    bookmarks_marked = same;
-  }
-
   -- ---- what stays sound
-
-  pub sound_phases : (settings : Settings) (old : Store A) (phases : MarkedPhases) → IsSound settings old
-      → AreFor old.log.rows phases.current → length phases.current.phases ≡ length old.log.rows
-      → IsSound settings (record old { phases = phases })
-  sound_phases settings old phases sound fits count = record {
-    fits = fits;
-    count = count;
-    limits = sound.limits;
-    markers = sound.markers;
-    bookmarks = sound.bookmarks;
-  }
 
   pub sound_markers : (settings : Settings) (old : Store A) (markers : List (Marker A))
       → IsSound settings old → AreLawfulMarkers markers
@@ -124,17 +87,6 @@ module _ {A : Type 0} where
     limits = sound.limits;
     markers = lawful;
     bookmarks = sound.bookmarks;
-  }
-
-  pub sound_bookmarks : (settings : Settings) (old : Store A) (bookmarks : MarkedBookmarks)
-      → IsSound settings old → AreOnKnown old.log.rows bookmarks.current
-      → IsSound settings (record old { bookmarks = bookmarks })
-  sound_bookmarks settings old bookmarks sound known = record {
-    fits = sound.fits;
-    count = sound.count;
-    limits = sound.limits;
-    markers = sound.markers;
-    bookmarks = known;
   }
 
   pub sound_marked : (settings : Settings) (store : Store A) → IsSound settings store
@@ -171,14 +123,6 @@ module _ {A : Type 0} where
   }
 
   -- ---- the way back
-
-  pub can_go_back : (before : Store A) (mark : StoreMark) → mark.rows ≡ length before.log.rows
-      → mark.markers ≡ length before.markers → CanGoBack before mark (with_marks before)
-  can_go_back before mark rows markers = record {
-    rows = rows;
-    markers = markers;
-    grown = grown_same (with_marks before);
-  }
 
   -- it has grown since
   pub can_go_back_on : (before : Store A) (mark : StoreMark) (now next : Store A)

@@ -10,7 +10,8 @@ use Rattle.hg_log.specs.Changeset.{Changeset}
 use Rattle.hg_log.specs.Parents.{parents_of, rev_of}
 use Rattle.hg_phases.specs.Phases.{advanced}
 use Rattle.hg_phases.proofs.CallerLemmas.{advances_joined, advances_either, advances_none}
-use Rattle.hg_parts.specs.parts.PhaseHeads.{head_in, heads_of, advanced_by, advance_each, advanced_to}
+use Rattle.hg_parts.specs.parts.PhaseHeads.{advanced_by, advance_each}
+use Rattle.hg_parts.specs.code.PhaseHeads.{head_in, heads_of, advanced_to}
 use Rattle.hg_parts.proofs.Revs.{some_more}
 
 -- the heads of one entry more

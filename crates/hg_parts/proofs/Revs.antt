@@ -19,7 +19,8 @@ use Rattle.hg_log.specs.Rows.{AreLawful, HasNode}
 use Rattle.hg_log.specs.Changeset.{Changeset}
 use Rattle.hg_log.specs.Parents.{rev_of}
 use Rattle.hg_types.specs.declared.part.Part.{Part}
-use Rattle.hg_parts.specs.Replies.{reply_where, CanReply}
+use Rattle.hg_parts.specs.Replies.{reply_where}
+use Rattle.hg_parts.specs.code.Replies.{CanReply}
 use Rattle.hg_parts.specs.parts.Changegroup.{revs_of, result_text}
 
 -- what a test gives of one more

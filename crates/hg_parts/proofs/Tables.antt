@@ -41,33 +41,6 @@ some_unknown part_type known (param ∷ params) some =
       | false ↦ λ some. some_unknown part_type known params some
     ] some
 
--- one parameter more, which is unknown
-pub unknown_names-more_yes : {A : Type 0} (known : List (List ℕ)) (params : List (Param A)) (i : ℕ)
-    (param : Param A)
-    → i < length params → param ≡ get_or params i param → is_unknown known param ≡ true
-    → unknown_names known (take (i + 1) params) ≡ unknown_names known (take i params) ++ param.key ∷ []
-unknown_names-more_yes known params i param within here unknown =
-    let more : filter (is_unknown known) (take (i + 1) params) ≡ filter (is_unknown known) (take i params)
-    ++ param ∷ [] =
-    filter_more (is_unknown known) params i param within
-    ∙ ap (λ p. filter (is_unknown known) (take i params) ++ cond (is_unknown known p) (p ∷ []) [])
-    (sym here) ∙ ap (λ b. filter (is_unknown known) (take i params) ++ cond b (param ∷ []) []) unknown in
-    ap (map (λ p. p.key)) more
-    ∙ map-append (λ p. p.key) (filter (is_unknown known) (take i params)) (param ∷ [])
-
--- one parameter more, which is not
-pub unknown_names-more_no : {A : Type 0} (known : List (List ℕ)) (params : List (Param A)) (i : ℕ)
-    (param : Param A)
-    → i < length params → param ≡ get_or params i param → is_unknown known param ≡ false
-    → unknown_names known (take (i + 1) params) ≡ unknown_names known (take i params)
-unknown_names-more_no known params i param within here unknown =
-    let more : filter (is_unknown known) (take (i + 1) params) ≡ filter (is_unknown known) (take i params)
-    ++ [] =
-    filter_more (is_unknown known) params i param within
-    ∙ ap (λ p. filter (is_unknown known) (take i params) ++ cond (is_unknown known p) (p ∷ []) [])
-    (sym here) ∙ ap (λ b. filter (is_unknown known) (take i params) ++ cond b (param ∷ []) []) unknown in
-    ap (map (λ p. p.key)) (more ∙ append-nil (filter (is_unknown known) (take i params)))
-
 -- what is found among values is the value of what is found
 pub found-map : {X Y : Type 0} (p : Y → Bool) (f : X → Y) (xs : List X) (found : Option X)
     → found ≡ find (λ x. p (f x)) xs → option_map f found ≡ find p (map f xs)

@@ -5,7 +5,8 @@ use Rattle.std.proofs.lemmas.List.Elements.{All-push}
 use Rattle.hg_types.specs.declared.part.Param.{Param}
 use Rattle.hg_params.specs.Header.{AreDistinct}
 use Rattle.hg_params.specs.Writing.{FitsParam}
-use Rattle.hg_parts.specs.Replies.{answering, reply_part, IsReply, CanReply}
+use Rattle.hg_parts.specs.Replies.{answering, reply_part, IsReply}
+use Rattle.hg_parts.specs.code.Replies.{CanReply}
 
 no_params : {A : Type 0} → All (FitsParam {A = A}) []
 no_params k d low = absurd (omega (arith, low))

@@ -29,12 +29,6 @@ HandleGives given new result = MatchResult result
     (λ reply. given ≡ Ok (record { repo = new; reply = reply }))
     (λ refusal. (refusal ≡ NoMemory) ⊎ (given ≡ Err refusal))
 
--- The same for a part that changes nothing and leaves no reply.
-abbrev pub NothingGives : {A : Type 0} → Outcome A → Repository A → Result (Unit {0}) (Refusal A) → Type 0
-NothingGives given repo result = MatchResult result
-    (λ done. given ≡ Ok (nothing_done repo))
-    (λ refusal. (refusal ≡ NoMemory) ⊎ (given ≡ Err refusal))
-
 -- What each handler of a type of part owes, in that turn. Where the part is handled, the store holds a lawful
 -- repository again. Changesets and markers came at their ends, and the marks stay, also where it is refused. A
 -- reply can be written. The answer and the store are what the definition gives, or memory was refused.

@@ -1,9 +1,8 @@
 -- The parts of a reply: advisory, with two advisory parameters and no payload.
-use Rattle.std.specs.Prelude.{◌≡◌, ◌≢◌, ◌<◌, ℕ, Bool, true, false, List, [], ◌∷◌, length, codes}
+use Rattle.std.specs.Prelude.{◌≡◌, ℕ, Bool, true, false, List, [], ◌∷◌, codes}
 use Rattle.std.specs.Prelude.{decimal, Option, Some, None}
 use Rattle.hg_types.specs.declared.part.Part.{Part}
 use Rattle.hg_types.specs.declared.part.Param.{Param}
-use Rattle.hg_params.specs.Header.{is_kind}
 use Rattle.hg_params.specs.Writing.{IsWritable}
 
 -- an advisory parameter
@@ -29,11 +28,3 @@ reply_where false reply = None
 pub record IsReply {A : Type 0} (reply : Part A) : Type 0 where
   pub writable : IsWritable reply
   pub bare : reply.payload ≡ []
-
--- the type, the name and the value can stand in the header of a reply
-pub record CanReply (kind key value : List ℕ) : Type 0 where
-  pub kind_is : is_kind kind ≡ true
-  pub kind_fits : length kind < 256
-  pub key_fits : length key < 256
-  pub key_differs : codes "in-reply-to" ≢ key
-  pub value_fits : length value < 256

@@ -1,1 +1,6 @@
 pub mod Table
+pub mod Changegroup
+pub mod PhaseHeads
+pub mod Pushkey
+pub mod Handled
+pub mod Replies

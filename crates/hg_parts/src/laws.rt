@@ -7,15 +7,12 @@ ghost use Rattle.hg_types.specs.declared.limits.Settings.{Settings as AnySetting
 ghost use Rattle.hg_types.specs.declared.part.Part.{Part as AnyPart};
 ghost use Rattle.hg_parts.specs.declared.refusal.Refusal.{Refusal as AnyRefusal};
 ghost use Rattle.hg_parts.specs.declared.source.Source.{Source as AnySource};
-ghost use Rattle.hg_parts.specs.declared.store.Store.{Store as AnyStore};
-ghost use Rattle.hg_parts.specs.declared.store.StoreMark.{StoreMark as AnyMark};
 ghost use Rattle.hg_parts.specs.Repository.{IsLawful, Repository, empty_with};
 ghost use Rattle.hg_parts.specs.Handle.{handle};
 ghost use Rattle.hg_parts.specs.Handled.{Handled};
 ghost use Rattle.hg_parts.specs.PartTypes.{support_of};
 ghost use Rattle.hg_parts.specs.Refusing.{CanBeRefused};
-ghost use Rattle.hg_parts.specs.Store.{repository_of, empty_store, with_marks, without_marks, CanGoBack};
-ghost use Rattle.hg_parts.specs.Store.{IsGrown, IsSound};
+ghost use Rattle.hg_parts.specs.Store.{repository_of, IsSound};
 
 use crate::store::Store;
 use hg_checks::laws::checks_tell_their_faults;
@@ -59,28 +56,13 @@ pub fn handled_parts_keep_repositories_lawful<A: Allocator>()
     keys_stay_lawful::<A>();
 }
 
-/// A store that has grown and grows on has grown, so a mark stays one to which it can go back.
-pub fn growing_adds_up<A: Allocator>()
-    ensures same { (store : AnyStore A) → IsGrown store store }
-    ensures on { (old middle new : AnyStore A) → IsGrown old middle → IsGrown middle new → IsGrown old new }
-    ensures back { (before : AnyStore A) (mark : AnyMark) (now next : AnyStore A)
-        → CanGoBack before mark now → IsGrown now next → CanGoBack before mark next }
-{}
-
-/// The empty store is sound, and a mark changes nothing of that.
-pub fn marks_keep_stores_sound<A: Allocator>()
-    ensures none { (settings : AnySettings) → IsSound settings (empty_store {A = A} settings.limits) }
-    ensures marked { (settings : AnySettings) (store : AnyStore A)
-        → IsSound settings store → IsSound settings (with_marks store) }
-    ensures unmarked { (settings : AnySettings) (store : AnyStore A)
-        → IsSound settings store → IsSound settings (without_marks store) }
-{}
-
 /// A sound store holds a lawful repository.
 pub fn sound_stores_are_lawful<A: Allocator>(settings: &Settings, store: &Store<A>)
     requires { IsSound settings.now store.now }
     ensures { IsLawful (repository_of settings.now store.now) }
 {
+    // for the proof: the rows are lawful
     let _rows = store.log.len();
+    // and the names of bookmarks stand in their order
     let _names = store.bookmarks.len();
 }

@@ -4,7 +4,8 @@
 //! of the part that it answers and one value more, in advisory parameters, and has no payload.
 
 ghost use Rattle.std.specs.Prelude.{◌≡◌, IfOk};
-ghost use Rattle.hg_parts.specs.Replies.{answering, reply_part, CanReply, IsReply};
+ghost use Rattle.hg_parts.specs.Replies.{answering, reply_part, IsReply};
+ghost use Rattle.hg_parts.specs.code.Replies.{CanReply};
 
 use hg_types::{NoMemory, Param, Part, Payload, Seq, Short};
 use std::alloc::Allocator;

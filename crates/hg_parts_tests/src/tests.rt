@@ -9,7 +9,6 @@ mod steps;
 ghost use Rattle.hg_parts.specs.Store.{IsSound};
 
 use hg_log::node_id;
-use hg_parts::laws::marks_keep_stores_sound;
 use hg_parts::{
     Prepared, RaceText, Refusal, Source, Store, Turn, handle_part, handle_prepared, prepare,
     starts_replies,
@@ -328,12 +327,12 @@ fn came_on(
 }
 
 /// The same on a clone of a store. `None` where memory was refused for it.
+#[tactic(auto, using(hg_parts::proofs::CallerLemmas::sound_unmarked))]
 fn came_on_clone(
     alloc: Global,
     held: &Held<Global>,
     prepared: Prepared<Global>,
 ) -> Option<(Came, usize)> {
-    marks_keep_stores_sound::<Global>();
     match held.store.try_clone(alloc) {
         Ok(copy) => Some(came_on(alloc, copy, held.settings, prepared)),
         Err(_) => None,

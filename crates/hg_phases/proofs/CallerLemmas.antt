@@ -14,7 +14,6 @@ use Rattle.hg_log.proofs.CallerLemmas.{parents_kept, ordered, ancestor_leads}
 use Rattle.hg_phases.specs.Order.{greater, phase_at, phase_of, phase_above}
 use Rattle.hg_phases.specs.Roots.{begins, is_root, roots_from, roots, HasRoot}
 use Rattle.hg_phases.specs.Phases.{registered, advanced, advanced_at, Phasing, no_rows, AreLawful, AreFor}
-use Rattle.hg_phases.specs.Phases.{AreForSame}
 use Rattle.hg_phases.proofs.Ranges.{filter_same}
 use Rattle.hg_phases.proofs.Rising.{rises, registered_lawful, advanced_lawful}
 use Rattle.hg_phases.proofs.Joining as joining
@@ -104,12 +103,6 @@ for_none rows = record {
   draft = refl;
   secret = refl;
 }
-
--- what is_same asks for
-pub for_same : (rows : List Changeset) (kept other : Phasing) → AreLawfulRows rows → AreFor rows kept →
-    AreFor rows other → AreForSame kept other
-for_same rows kept other lawful first second =
-    record { rows = rows; lawful = lawful; first = first; second = second }
 
 -- ---- lawful phases stay lawful
 

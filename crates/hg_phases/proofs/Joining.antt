@@ -11,7 +11,7 @@ use Rattle.hg_types.specs.Phase.{number_of}
 use Rattle.hg_log.specs.Parents.{leads}
 use Rattle.hg_phases.specs.Order.{lesser, phase_at}
 use Rattle.hg_phases.specs.Phases.{advanced, advanced_at, is_reached}
-use Rattle.hg_phases.proofs.Numbers.{lesser_first, lesser_second, lesser_low}
+use Rattle.hg_phases.proofs.Numbers.{lesser_first, lesser_second}
 
 -- ---- one phase
 

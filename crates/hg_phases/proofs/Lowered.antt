@@ -1,11 +1,11 @@
 -- The walk down from the heads: what is listed is lowered, and at its end all that is to be lowered is listed.
-use Rattle.std.proofs.Common.{◌≡◌, ◌≢◌, ◌⊎◌, ℕ, zero, suc, ◌+◌, ◌<◌, ◌≤◌, Bool, true, false, cond, List, []}
-use Rattle.std.proofs.Common.{◌∷◌, ◌++◌, length, set, get_or, sum_by, Option, Some, refl, sym, ap, ◌∙◌, subst}
+use Rattle.std.proofs.Common.{◌≡◌, ◌≢◌, ◌⊎◌, ℕ, ◌+◌, ◌<◌, ◌≤◌, true, List, []}
+use Rattle.std.proofs.Common.{◌∷◌, length, get_or, sum_by, Option, Some, refl, sym, ap, ◌∙◌, subst}
 use Rattle.std.proofs.Common.{inl, inr, arith}
 use Rattle.std.specs.List.{All}
 use Rattle.std.proofs.lemmas.Bool.{cases_eq, cases_lt, cases_Bool, cond-true, cond-false}
 use Rattle.std.proofs.lemmas.List.{get_or-set_same, get_or-set_other, get_or_append_left, get_or_push}
-use Rattle.std.proofs.lemmas.List.{length_push, length-set, length-map, ext_get_or, get_or_default}
+use Rattle.std.proofs.lemmas.List.{length_push, length-set, length-map, ext_get_or}
 use Rattle.std.proofs.lemmas.List.Sums.{sum_by-set}
 use Rattle.hg_types.specs.declared.phase.Phase.{Phase}
 use Rattle.hg_types.specs.declared.phase.Phase.TheVariants.{Public}
@@ -15,10 +15,10 @@ use Rattle.hg_log.specs.Parents.Leads.{itself, of_parent}
 use Rattle.hg_log.proofs.CallerLemmas.{leads_on}
 use Rattle.hg_phases.specs.declared.standing.Standing.{Standing}
 use Rattle.hg_phases.specs.declared.standing.Standing.TheVariants.{PublicOnPublic}
-use Rattle.hg_phases.specs.Order.{lesser, phase_at, phase_above}
+use Rattle.hg_phases.specs.Order.{lesser, phase_at}
 use Rattle.hg_phases.specs.Phases.{is_reached, advanced, advanced_at, AreLawful}
 use Rattle.hg_phases.specs.Standing.{standing_of, standing_at, phase_told, phases_told}
-use Rattle.hg_phases.specs.code.Walk.{IsMoved, IsLeft, IsLowered, IsListed, AreLowered}
+use Rattle.hg_phases.specs.code.Walk.{IsMoved, IsLowered, IsListed, AreLowered}
 use Rattle.hg_phases.proofs.Numbers.{lesser_first, lesser_second}
 use Rattle.hg_phases.proofs.Rising.{parent_below, reached_by, reached_from, advanced_length, advanced_is}
 use Rattle.hg_phases.proofs.Told.{phase_of_standing}

@@ -1,20 +1,17 @@
 -- The roots that are told and the standings of rows: each says the other.
-use Rattle.std.proofs.Common.{◌≡◌, ℕ, zero, suc, ◌+◌, ◌<◌, ◌≤◌, Bool, true, false, cond, List, [], ◌∷◌, length}
+use Rattle.std.proofs.Common.{◌≡◌, ℕ, zero, suc, ◌+◌, ◌<◌, Bool, true, false, cond, List, [], ◌∷◌, length}
 use Rattle.std.proofs.Common.{drop, map, get_or, filter, Option, refl, sym, ap, ◌∙◌, arith}
 use Rattle.std.specs.List.{range_with_len}
 use Rattle.std.proofs.lemmas.List.{get_or-map, length-map, ext_get_or}
 use Rattle.std.proofs.lemmas.List.FromFn.{length-map-range_with_len, get_or-map-range_with_len}
 use Rattle.hg_types.specs.declared.phase.Phase.{Phase}
 use Rattle.hg_types.specs.declared.phase.Phase.TheVariants.{Public, Draft, Secret}
-use Rattle.hg_log.specs.Changeset.{Changeset}
-use Rattle.hg_log.specs.Parents.{parents_of}
 use Rattle.hg_phases.specs.declared.standing.Standing.{Standing}
 use Rattle.hg_phases.specs.declared.standing.Standing.TheVariants.{PublicOnPublic, DraftOnPublic}
 use Rattle.hg_phases.specs.declared.standing.Standing.TheVariants.{DraftOnDraft, SecretOnPublic}
 use Rattle.hg_phases.specs.declared.standing.Standing.TheVariants.{SecretOnDraft, SecretOnSecret}
 use Rattle.hg_phases.specs.Order.{phase_at, phase_above}
 use Rattle.hg_phases.specs.Roots.{begins, is_root, roots, roots_from}
-use Rattle.hg_phases.specs.Phases.{AreFor}
 use Rattle.hg_phases.specs.Standing.{standing_of, standing_at, phase_told, phases_told, is_told, told}
 use Rattle.hg_phases.specs.Standing.{told_from}
 use Rattle.hg_phases.specs.code.Walk.{standing_in, AreStanding}

@@ -1,20 +1,14 @@
 -- What the standings of rows tell: their phases, and the roots among them.
-use Rattle.std.proofs.Common.{◌≡◌, ℕ, zero, suc, ◌+◌, ◌-◌, ◌<◌, ◌≤◌, Bool, true, false, cond, List, [], ◌∷◌}
-use Rattle.std.proofs.Common.{◌++◌, length, take, drop, map, get_or, Option, None, Some, refl, sym, ap, ◌∙◌}
-use Rattle.std.proofs.Common.{subst, arith, filter, length-append}
+use Rattle.std.proofs.Common.{◌≡◌, ℕ, zero, suc, ◌+◌, ◌<◌, ◌≤◌, Bool, cond, List, [], ◌∷◌}
+use Rattle.std.proofs.Common.{◌++◌, length, map, refl, sym, ap, ◌∙◌}
+use Rattle.std.proofs.Common.{arith, filter}
 use Rattle.std.specs.List.{range_with_len}
 use Rattle.std.proofs.lemmas.Bool.{cond_both}
-use Rattle.std.proofs.lemmas.List.{append-nil, append_assoc, take-append-drop, take_more, length-map}
-use Rattle.std.proofs.lemmas.List.{length-take-le}
-use Rattle.std.proofs.lemmas.List.{get_or_append_left, get_or-append_right}
-use Rattle.std.proofs.Math.Seq.{take-append_seam}
 use Rattle.hg_types.specs.declared.phase.Phase.{Phase}
 use Rattle.hg_types.specs.declared.phase.Phase.TheVariants.{Public, Draft, Secret}
 use Rattle.hg_phases.specs.declared.standing.Standing.{Standing}
-use Rattle.hg_phases.specs.declared.standing.Standing.TheVariants.{PublicOnPublic}
 use Rattle.hg_phases.specs.Roots.{begins}
-use Rattle.hg_phases.specs.Standing.{standing_of, phase_told, phases_told, is_told, told_from, told}
-use Rattle.hg_phases.specs.Standing.{standing_at}
+use Rattle.hg_phases.specs.Standing.{standing_of, phase_told, is_told, told_from}
 use Rattle.hg_phases.proofs.Ranges.{AreWithin, first_within}
 
 -- the phase that went in comes out
@@ -113,8 +107,3 @@ told_range t f p low (suc n) same =
     ap (λ b. cond b (low ∷ told_from t (low + 1) (map f (range_with_len (low + 1) n)))
     (told_from t (low + 1) (map f (range_with_len (low + 1) n)))) first
     ∙ ap (λ (ks : List ℕ). cond (p low) (low ∷ ks) ks) rest
-
-pub phases_range : (f : ℕ → Standing) (h : ℕ → Phase) (ks : List ℕ) → ((r : ℕ) → phase_told (f r) ≡ h r)
-    → phases_told (map f ks) ≡ map h ks
-phases_range f h [] same = refl
-phases_range f h (k ∷ ks) same = λ i. same k i ∷ phases_range f h ks same i

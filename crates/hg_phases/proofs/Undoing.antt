@@ -1,13 +1,12 @@
 -- The way back: what is kept leads back to the rows of the mark.
-use Rattle.std.proofs.Common.{◌≡◌, ◌≢◌, ℕ, zero, suc, ◌+◌, ◌-◌, ◌<◌, ◌≤◌, List, [], ◌∷◌, ◌++◌, length, take}
-use Rattle.std.proofs.Common.{set, get_or, refl, sym, ap, ◌∙◌, inl, inr, arith, length-append}
+use Rattle.std.proofs.Common.{◌≡◌, ℕ, suc, ◌<◌, ◌≤◌, List, [], ◌∷◌, ◌++◌, length, take}
+use Rattle.std.proofs.Common.{set, get_or, refl, sym, ap, ◌∙◌, inl, inr, arith}
 use Rattle.std.specs.List.{All}
 use Rattle.std.proofs.Common.{subst, ltb}
 use Rattle.std.proofs.lemmas.Bool.{cases_lt, cases_Bool, cond-true, cond-false, ltb-true, ltb-false}
 use Rattle.std.proofs.lemmas.List.Elements.{All-append, All-push, filter_passes}
-use Rattle.std.proofs.lemmas.List.{set-set, set-get_or, get_or-set_other, get_or-set_same, take-set-le}
-use Rattle.std.proofs.lemmas.List.{take-append-le, length-set, length-take-le, get_or_append_left}
-use Rattle.std.proofs.lemmas.List.{get_or-append_right, get_or-take, ext_get_or}
+use Rattle.std.proofs.lemmas.List.{set-set, set-get_or, take-set-le}
+use Rattle.std.proofs.lemmas.List.{take-append-le, length-set, get_or_append_left}
 use Rattle.std.proofs.lemmas.List.{length-map, length_push, map_push, get_or-map}
 use Rattle.std.proofs.Math.Seq.{take-set-lt}
 use Rattle.hg_phases.specs.declared.standing.Standing.{Standing}

@@ -6,7 +6,6 @@ use Rattle.hg_types.specs.declared.phase.Phase.TheVariants.{Draft, Secret}
 use Rattle.hg_types.specs.Phase.{number_of}
 use Rattle.hg_log.specs.Changeset.{Changeset}
 use Rattle.hg_log.specs.Parents.{parents_of, leads}
-use Rattle.hg_log.specs.Rows.{AreLawful as AreLawfulRows}
 use Rattle.hg_phases.specs.Order.{lesser, greater, phase_at, phase_above}
 use Rattle.hg_phases.specs.Roots.{roots}
 
@@ -54,10 +53,3 @@ pub record AreFor (rows : List Changeset) (kept : Phasing) : Type 0 where
   pub lawful : AreLawful (parents_of rows) kept.phases
   pub draft : kept.draft ≡ roots (parents_of rows) kept.phases Draft
   pub secret : kept.secret ≡ roots (parents_of rows) kept.phases Secret
-
--- Both are for the same rows.
-pub record AreForSame (kept other : Phasing) : Type 0 where
-  pub rows : List Changeset
-  pub lawful : AreLawfulRows rows
-  pub first : AreFor rows kept
-  pub second : AreFor rows other

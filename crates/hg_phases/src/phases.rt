@@ -3,7 +3,7 @@
 ghost use Rattle.std.specs.Prelude.{◌≡◌, ◌≢◌, ◌↔◌, ◌<◌, All, length, Some, None, IsTrue, IfOk, OnOk, OnErr};
 ghost use Rattle.hg_log.specs.Parents.{parents_of};
 ghost use Rattle.hg_phases.specs.Order.{phase_at};
-ghost use Rattle.hg_phases.specs.Phases.{registered, advanced, no_rows, AreFor, AreForSame};
+ghost use Rattle.hg_phases.specs.Phases.{registered, advanced, no_rows, AreFor};
 
 use crate::order::greater;
 use crate::roots::draft_roots;
@@ -91,6 +91,7 @@ impl<A: Allocator + Copy> Phases<A> {
         ensures marked { self.new.marked ≡ self.old.marked }
         ensures err { OnErr result (self.new ≡ self.old) }
     {
+        // Brings that the log is lawful.
         let _lawful = log.len();
         let (p1, p2) = log.parent_revs(rev);
         let rows = self.index.rows.as_slice();
@@ -122,6 +123,7 @@ impl<A: Allocator + Copy> Phases<A> {
         ensures marked { self.new.marked ≡ self.old.marked }
         ensures err { OnErr result (self.new ≡ self.old) }
     {
+        // Brings that the log is lawful.
         let _lawful = log.len();
         let room = self.index.room(alloc);
         let changes = advance_rows(log, &mut self.index.rows, room, target, heads)?;
@@ -156,7 +158,6 @@ impl<A: Allocator> Phases<A> {
 
     /// Whether both have the same phases, where both are for the same rows.
     pub fn is_same(&self, other: &Phases<A>) -> bool
-        requires { AreForSame self.now.current other.now.current }
         ensures { IsTrue result ↔ (self.now.current.phases ≡ other.now.current.phases) }
     {
         are_same(self.index.rows.as_slice(), other.index.rows.as_slice())

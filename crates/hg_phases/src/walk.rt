@@ -61,7 +61,8 @@ impl<A: Allocator> Advance<'_, A> {
             rows.old.items rows.new.items (rows_of changes.new.items)) }
         ensures follows { TapeFollows rows.old.items changes.old.items rows.new.items changes.new.items }
     {
-        let _few = self.log.len();
+        // Brings that the log is lawful.
+        let _lawful = self.log.len();
         for head in heads {
             self.lower(rows, changes, Some(*head))?;
         }
@@ -88,7 +89,6 @@ impl<A: Allocator> Advance<'_, A> {
             (standing_in (parents_of self.now.log.now.rows) (phases_told rows.old.items) row)) }
         ensures follows { TapeFollows rows.old.items changes.old.items rows.new.items changes.new.items }
     {
-        let _few = self.log.len();
         let (p1, p2) = self.log.parent_revs(row);
         let all = rows.as_slice();
         let phase = phase_at(all, row as usize);
@@ -160,7 +160,6 @@ impl<A: Allocator> Advance<'_, A> {
             rows.old.items rows.new.items) }
         ensures follows { TapeFollows rows.old.items changes.old.items rows.new.items changes.new.items }
     {
-        let _few = self.log.len();
         let mut next = self.log.last_child(row);
         'children: while let Some(child) = next {
             self.restand_higher(rows, changes, child)?;
@@ -169,7 +168,7 @@ impl<A: Allocator> Advance<'_, A> {
         Ok(())
     }
 
-    /// Gives the rows of the first changes, so many as are reported, and those of their children that are
+    /// Gives the rows of the first changes, as many as were lowered, and those of their children that are
     /// above the target the standing that their phases and those of their parents make.
     ///
     /// A child that is not above the target was lowered too, and is one of these rows itself.
@@ -215,6 +214,7 @@ impl<A: Allocator> Advance<'_, A> {
         ensures standing { OnOk result (AreStanding (parents_of self.now.log.now.rows) rows.new.items) }
         ensures follows { TapeFollows rows.old.items changes.old.items rows.new.items changes.new.items }
     {
+        // Brings that the log is lawful.
         let _lawful = self.log.len();
         self.lower_all(rows, changes, heads)?;
         let lowered = changes.len();

@@ -46,7 +46,6 @@ fn new_log(rt: HostRuntime) -> Result<Changelog, Fail> {
 fn no_phases<A: Allocator + Copy>(alloc: A, log: &Changelog<A>) -> Phases<A>
     ensures { AreFor log.now.rows result.current }
 {
-    let _rows = log.len();
     Phases::new(alloc)
 }
 
@@ -130,14 +129,6 @@ fn mark<A: Allocator>(phases: &mut Phases<A>, log: &Changelog<A>) -> Mark
     ensures marked { phases.new.marked ≡ Some phases.old.current }
 {
     phases.mark()
-}
-
-fn is_same<A: Allocator>(log: &Changelog<A>, phases: &Phases<A>, other: &Phases<A>) -> bool
-    requires phases { AreFor log.now.rows phases.now.current }
-    requires other { AreFor log.now.rows other.now.current }
-{
-    let _lawful = log.len();
-    phases.is_same(other)
 }
 
 /// Whether these are the phases of all rows that have one.
@@ -245,14 +236,12 @@ fn a_merge_and_its_diamond(rt: HostRuntime) -> Result<(), Fail> {
 }
 
 /// Whether phases that were registered alone are those of all rows, until a row of them is lowered.
-fn is_same_until_lowered(alloc: Global, log: &Changelog, phases: &Phases) -> bool
-    requires { AreFor log.now.rows phases.now.current }
-{
+fn is_same_until_lowered(alloc: Global, log: &Changelog, phases: &Phases) -> bool {
     let mut other = no_phases(alloc, log);
     let is_registered = register_all(&mut other, log, &[D, D, D, D, P]);
-    let was_same = is_same(log, phases, &other);
+    let was_same = phases.is_same(&other);
     let is_advanced = advance(alloc, &mut other, log, P, &[2]);
-    let is_other = !is_same(log, phases, &other);
+    let is_other = !phases.is_same(&other);
     is_registered & was_same & is_advanced & is_other
 }
 
@@ -441,7 +430,7 @@ fn many_are_told<'h>(heap: &'h LocalHeap, log: &Changelog<&'h LocalHeap>, heads:
     let is_advanced = advance(heap, &mut phases, log, P, heads);
     let are_public = are_all(&phases, P) & are_rooted(heap, &phases, 0, 0);
     let advanced = heap.used().saturating_sub(before);
-    let is_itself = is_same(log, &phases, &phases);
+    let is_itself = phases.is_same(&phases);
     phases.back_to(marked);
     let are_draft = are_all(&phases, D);
     let is_back = heap.used().saturating_sub(before) == advanced;

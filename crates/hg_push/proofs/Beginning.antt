@@ -1,5 +1,5 @@
 -- A book in which no push is opened.
-use Rattle.std.proofs.Common.{ℕ, ◌≡◌, [], sym, arith, nat_le, nat_lt}
+use Rattle.std.proofs.Common.{◌≡◌, [], sym, arith, nat_le, nat_lt}
 use Rattle.std.proofs.lemmas.Bool.{and_parts, leb-true, ltb-true}
 use Rattle.hg_push.specs.History.{Running}
 use Rattle.hg_push.specs.Book.{Book, HoldsHistory}

@@ -1,5 +1,5 @@
 -- The items of a push that is complete: one more than its parts.
-use Rattle.std.proofs.Common.{ℕ, Bool, true, false, ◌≡◌, ◌≢◌, ◌<◌, ◌+◌, ◌||◌, List, [], ◌∷◌, ◌++◌, refl, sym}
+use Rattle.std.proofs.Common.{ℕ, Bool, true, false, ◌≡◌, ◌≢◌, ◌+◌, ◌||◌, List, [], ◌∷◌, ◌++◌, refl, sym}
 use Rattle.std.proofs.Common.{ap, ◌∙◌, subst, inl, inr, arith, length, length-append, get_or}
 use Rattle.std.specs.List.{Contains}
 use Rattle.std.proofs.lemmas.List.{get_or_append_left, get_or_at}
@@ -10,7 +10,7 @@ use Rattle.hg_types.specs.declared.item.Item.{Item}
 use Rattle.hg_types.specs.declared.item.What.{What}
 use Rattle.hg_types.specs.declared.item.What.TheVariants.{Part as a_part, End, Cut}
 use Rattle.hg_types.specs.declared.part.Part.{Part}
-use Rattle.hg_push.specs.Complete.{EndsOnce, IsComplete}
+use Rattle.hg_push.specs.Complete.{IsComplete}
 use Rattle.hg_push.specs.History.{is_mark, part_in}
 use Rattle.hg_push.specs.World.{all_parts, has_mark}
 

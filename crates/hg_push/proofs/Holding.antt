@@ -15,9 +15,10 @@ use Rattle.hg_push.specs.declared.outcome.Outcome.{Outcome}
 use Rattle.hg_push.specs.declared.row.Row.{Row}
 use Rattle.hg_push.specs.declared.row.State.{State}
 use Rattle.hg_push.specs.declared.row.State.TheVariants.{Open, Closed}
-use Rattle.hg_push.specs.History.{History, Running, is_of, closes, is_closed, kept, parts, parts_after}
+use Rattle.hg_push.specs.History.{History, Running, is_of, closes, is_closed, kept, parts}
 use Rattle.hg_push.specs.History.{serial, outcome, decided, decided_by, is_mark, told}
-use Rattle.hg_push.specs.Rows.{row_of, is_open, staged_in, Stages, RowTells, TellsState, StepsRow}
+use Rattle.hg_push.specs.Rows.{row_of, is_open, Stages, RowTells, TellsState}
+use Rattle.hg_push.specs.code.Rows.{staged_in, StepsRow}
 use Rattle.hg_push.specs.Book.{Book, HoldsHistory, is_opened, stepped}
 use Rattle.hg_push.proofs.Trims.{either_way}
 use Rattle.hg_push.proofs.Withouts.{outcome_open}
@@ -31,15 +32,6 @@ outcome_same run first p x h late = rw late
 parts_same : {A : Type 0} (p : ℕ) (x : Taken A) (h : History A) → (is_of p x && not (is_closed p h)) ≡ false
     → parts p (x ∷ h) ≡ parts p h
 parts_same p x h late = grind (arith, late)
-
-parts_next : {A : Type 0} (p : ℕ) (x : Taken A) (h : History A) → is_of p x ≡ true → is_closed p h ≡ false
-    → parts p (x ∷ h) ≡ parts_after (parts p h) x
-parts_next p x h own here = grind (arith, own, here)
-
-outcome_next : {A R D E : Type 0} (run : Running A R D E) (first : R) (p : ℕ) (x : Taken A) (h : History A)
-    → is_of p x ≡ true → is_closed p h ≡ false
-    → outcome run first p (x ∷ h) ≡ told (decided run (serial run first h).repo (parts p h) x)
-outcome_next run first p x h own here = rw (own, here)
 
 different : {T : Type 0} (o : Option T) → o ≡ None → IsSome o → ⊥
 different o none some = let h : is_some o ≡ false = ap is_some none in cc

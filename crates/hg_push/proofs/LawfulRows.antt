@@ -1,5 +1,5 @@
 -- Pushes that are run one by one from a lawful repository lead to a lawful one.
-use Rattle.std.proofs.Common.{ℕ, ◌≡◌, List, [], ◌∷◌, Ok, IfOk, subst}
+use Rattle.std.proofs.Common.{ℕ, List, [], ◌∷◌, IfOk, subst}
 use Rattle.hg_types.specs.declared.part.Part.{Part}
 use Rattle.hg_parts.specs.declared.source.Source.{Source}
 use Rattle.hg_parts.specs.Repository.{Repository, IsLawful}

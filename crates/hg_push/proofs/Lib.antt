@@ -23,7 +23,7 @@ pub mod CallerLemmas
 mod Beginning
 mod Places
 mod Closings
-mod Resting
+mod Placing
 mod Refused
 mod Counts
 mod Steps

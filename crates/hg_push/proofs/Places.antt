@@ -1,6 +1,6 @@
 -- The places of the journal, which only grows.
-use Rattle.std.proofs.Common.{ℕ, Bool, true, false, ◌≡◌, ◌==◌, ◌+◌, ◌<◌, ◌≤◌, List, [], ◌∷◌, ◌++◌, refl, sym}
-use Rattle.std.proofs.Common.{◌∙◌, ap, subst, cond, arith, length, length-append, append_assoc, Option, Some}
+use Rattle.std.proofs.Common.{ℕ, Bool, true, false, ◌≡◌, ◌==◌, ◌+◌, ◌≤◌, List, [], ◌∷◌, ◌++◌, refl, sym}
+use Rattle.std.proofs.Common.{◌∙◌, ap, subst, cond, arith, length, length-append, append_assoc, Some}
 use Rattle.std.proofs.Common.{if◌then◌else◌}
 use Rattle.std.specs.List.{count_by, list_any}
 use Rattle.std.proofs.lemmas.Bool.Decides.{nat_tests}
@@ -9,7 +9,7 @@ use Rattle.std.proofs.lemmas.List.Sums.{sum_by-append}
 use mathlib.Core.List.{IsPrefix}
 use Rattle.hg_push.specs.declared.outcome.Outcome.{Outcome}
 use Rattle.hg_push.specs.declared.outcome.Outcome.TheVariants.{Done, Aborted}
-use Rattle.hg_push.specs.History.{History, Running, is_closed, outcome, parts, serial}
+use Rattle.hg_push.specs.History.{History, Running, outcome, parts, serial}
 use Rattle.hg_push.specs.Changed.{RanInTurn, is_done}
 use Rattle.hg_push.specs.Places.{IsPlace, RestsOn}
 use Rattle.hg_push.proofs.Journals.{done_journal}

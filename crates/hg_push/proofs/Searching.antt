@@ -11,7 +11,7 @@ use Rattle.std.proofs.Math.ListN.{get_or}
 use Rattle.std.proofs.lemmas.Cmp.{ranked}
 use Rattle.std.proofs.lemmas.Bool.Decides.{nat_tests}
 use Rattle.hg_push.specs.declared.row.Row.{Row}
-use Rattle.hg_push.specs.Rows.{AreAscending, AreInOrder}
+use Rattle.hg_push.specs.code.Rows.{AreAscending, AreInOrder}
 use Rattle.hg_push.specs.Book.{AreNumbers, AreRows}
 use Rattle.hg_push.proofs.Trims.{either_way}
 

@@ -1,5 +1,5 @@
 -- How long the reply to a push is.
-use Rattle.std.proofs.Common.{ℕ, ◌≡◌, ◌<◌, ◌≤◌, ◌+◌, ◌*◌, ◌^◌, List, [], ◌∷◌, length, refl, arith, All, Ok}
+use Rattle.std.proofs.Common.{ℕ, ◌≡◌, ◌<◌, ◌≤◌, ◌^◌, List, [], ◌∷◌, length, refl, arith, All, Ok}
 use Rattle.std.proofs.Common.{Some}
 use Rattle.std.proofs.lemmas.List.Elements.{All-cons}
 use Rattle.hg_types.specs.declared.part.Part.{Part}
@@ -14,7 +14,6 @@ use Rattle.hg_parts.specs.declared.source.Source.{Source}
 use Rattle.hg_parts.specs.declared.source.Source.TheVariants.{Push}
 use Rattle.hg_repo.specs.declared.done.Done.{Done}
 use Rattle.hg_repo.specs.Run.{run_of}
-use Rattle.hg_push.specs.declared.outcome.Outcome.{Outcome}
 use Rattle.hg_push.specs.declared.outcome.Outcome.TheVariants.{Done as done_with, Aborted}
 use Rattle.hg_push.specs.declared.outcome.Reason.{Reason}
 use Rattle.hg_push.specs.declared.outcome.Reason.TheVariants.{Refused, Cut, WrongIndex}

@@ -1,13 +1,13 @@
 -- What a part, a cut and an end mark do to a row, whatever parts its staged list stands for.
 use Rattle.std.proofs.Common.{ℕ, Bool, true, false, true≢false, ◌≡◌, ◌==◌, ◌<◌, ◌^◌, ◌+◌, List, [], ◌∷◌, ◌++◌}
-use Rattle.std.proofs.Common.{length, refl, sym, ◌∙◌, ap, subst, arith, Option, Some, None, Result, Ok, Err}
+use Rattle.std.proofs.Common.{length, refl, sym, ap, subst, arith, Ok, Err}
 use Rattle.std.specs.Bool.{OnTrue, OnFalse}
 use Rattle.std.proofs.lemmas.Bool.Decides.{nat_tests}
 use Rattle.hg_types.specs.declared.part.Part.{Part}
 use Rattle.hg_types.specs.declared.item.What.TheVariants.{Part as a_part, End, Cut}
 use Rattle.hg_types.specs.declared.item.CutReason.{CutReason}
 use Rattle.hg_parts.specs.declared.prepared.Prepared.{Prepared}
-use Rattle.hg_parts.specs.Prepared.{IsMadeOf, AreMadeOf}
+use Rattle.hg_parts.specs.Prepared.{IsMadeOf}
 use Rattle.hg_push.specs.declared.outcome.Reason.{Reason}
 use Rattle.hg_push.specs.declared.outcome.Reason.TheVariants.{Refused, Cut as cut, WrongIndex, NoMemory}
 use Rattle.hg_push.specs.declared.outcome.Outcome.TheVariants.{Done, Aborted}
@@ -16,7 +16,8 @@ use Rattle.hg_push.specs.declared.row.State.TheVariants.{Open, Closed}
 use Rattle.hg_push.specs.History.{Running, Serial}
 use Rattle.hg_repo.specs.Replies.{AreReplies}
 use Rattle.hg_push.specs.Reply.{CanBeSent}
-use Rattle.hg_push.specs.Rows.{is_no_memory, staged_in, EndsAs, Stages, StepsRow, StepsWith}
+use Rattle.hg_push.specs.Rows.{Stages}
+use Rattle.hg_push.specs.code.Rows.{is_no_memory, staged_in, EndsAs, StepsRow}
 
 -- a list stands for as many parts as it has
 pub staged_count : {A : Type 0} (parts : List (Part A)) (staged : List (Prepared A)) → Stages staged parts

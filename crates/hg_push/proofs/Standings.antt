@@ -13,7 +13,8 @@ use Rattle.hg_types.specs.declared.part.Part.{Part}
 use Rattle.hg_push.specs.declared.outcome.Standing.TheVariants.{Done as done_now, Aborted as aborted_now}
 use Rattle.hg_push.specs.History.{History, Running, parts, outcome}
 use Rattle.hg_push.specs.Changed.{is_done}
-use Rattle.hg_push.specs.Rows.{RowTells, TellsState, standing_of, standing_in}
+use Rattle.hg_push.specs.Rows.{RowTells, TellsState, standing_of}
+use Rattle.hg_push.specs.code.Rows.{standing_in}
 use Rattle.hg_push.specs.Book.{Book, HoldsHistory, is_between, is_opened}
 use Rattle.hg_push.proofs.Finding.{find_nowhere, found_at}
 use Rattle.hg_push.proofs.Journals.{done_journal}

@@ -8,7 +8,8 @@ use Rattle.std.proofs.lemmas.List.Sums.{sum_by-set, sum_by-remove}
 use Rattle.hg_types.specs.declared.item.What.{What}
 use Rattle.hg_push.specs.declared.row.Row.{Row}
 use Rattle.hg_push.specs.History.{History, Running}
-use Rattle.hg_push.specs.Rows.{row_of, is_open, StepsRow, IsOpenAt, IsShut}
+use Rattle.hg_push.specs.Rows.{row_of, is_open, IsShut}
+use Rattle.hg_push.specs.code.Rows.{StepsRow, IsOpenAt}
 use Rattle.hg_push.specs.Book.{Book, HoldsHistory, AreRows, AreNumbers, IsSameOpenings, is_between, stepped}
 use Rattle.hg_push.specs.Book.{is_opened}
 use Rattle.hg_push.proofs.Finding.{found_at, row_set, other_set, pushes_set, row_opened}

@@ -196,7 +196,3 @@ pub book_taken : {A R D E : Type 0} (b now new : Book A R D E) (p : ℕ) → b �
 book_taken {A} {R} {D} {E} b now new p same kept rows =
     kept ∙ (ap (λ (rs : List (Row D E A)). record b { rows = rs }) rows
     ∙ ap (λ (k : Book A R D E). record k { rows = rows_without p k.rows }) same)
-
-pub some_row : {A D E : Type 0} (row : Option (Row D E A)) → IsSome (reply_in row) → IsSome row
-some_row None has = cc
-some_row (Some row) has = refl

@@ -9,3 +9,4 @@ pub mod Reply
 pub mod Lengths
 pub mod Complete
 pub mod Places
+pub mod code

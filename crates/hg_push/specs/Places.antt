@@ -23,9 +23,3 @@ RestsOn run first h p (Aborted reason) rests = rests ≡ length (serial run firs
 abbrev pub TellsPlace : {A R D E : Type 0} → Running A R D E → R → History A → ℕ → Option ℕ → Type 0
 TellsPlace run first h p None = is_done (outcome run first p h) ≡ false
 TellsPlace run first h p (Some place) = IsPlace run first h p place
-
--- how many done pushes the answer to a push rests on, and none where it has no answer yet
-abbrev pub TellsRests : {A R D E : Type 0} → Running A R D E → R → History A → ℕ → Option ℕ → Type 0
-TellsRests run first h p None = outcome run first p h ≡ None
-TellsRests {A} {R} {D} {E} run first h p (Some rests) =
-    (how : Outcome D E) × (outcome run first p h ≡ Some how) × RestsOn run first h p how rests

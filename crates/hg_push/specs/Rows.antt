@@ -1,14 +1,10 @@
 -- The rows of a book.
-use Rattle.std.specs.Prelude.{ℕ, Bool, true, false, ◌≡◌, ◌≢◌, ◌==◌, ◌<◌, map, List, [], ◌∷◌, length, find}
-use Rattle.std.specs.Prelude.{filter, not, position, slice_index_or, Option, None, Some, Result, Ok, Err}
+use Rattle.std.specs.Prelude.{ℕ, Bool, true, false, ◌≡◌, ◌==◌, List, find}
+use Rattle.std.specs.Prelude.{filter, not, Option, None, Some}
 use Rattle.std.specs.Prelude.{IsSome}
-use Rattle.std.specs.List.{AllByRecursion}
 use Rattle.hg_types.specs.declared.part.Part.{Part}
-use Rattle.hg_types.specs.declared.item.Taken.{Taken}
 use Rattle.hg_parts.specs.declared.prepared.Prepared.{Prepared}
 use Rattle.hg_parts.specs.Prepared.{AreMadeOf}
-use Rattle.hg_push.specs.declared.outcome.Reason.{Reason}
-use Rattle.hg_push.specs.declared.outcome.Reason.TheVariants.{Refused, Cut, WrongIndex, NoMemory}
 use Rattle.hg_push.specs.declared.outcome.Outcome.{Outcome}
 use Rattle.hg_push.specs.declared.outcome.Outcome.TheVariants.{Done as done_as, Aborted as aborted_as}
 use Rattle.hg_push.specs.declared.outcome.Standing.{Standing}
@@ -17,7 +13,6 @@ use Rattle.hg_push.specs.declared.outcome.Standing.TheVariants.{Aborted as is_ab
 use Rattle.hg_push.specs.declared.row.State.{State}
 use Rattle.hg_push.specs.declared.row.State.TheVariants.{Open, Closed}
 use Rattle.hg_push.specs.declared.row.Row.{Row}
-use Rattle.hg_push.specs.History.{Running, Serial, decided, kept, told, takes_memory, parts_after}
 
 -- the row of p
 abbrev pub row_of : {A D E : Type 0} → ℕ → List (Row D E A) → Option (Row D E A)
@@ -28,19 +23,9 @@ abbrev pub is_open : {A D E : Type 0} → State D E A → Bool
 is_open (Open staged) = true
 is_open (Closed outcome) = false
 
--- the parts that an open push staged
-abbrev pub staged_in : {A D E : Type 0} → State D E A → List (Prepared A)
-staged_in (Open staged) = staged
-staged_in (Closed outcome) = []
-
 -- p has no row, or a closed one
 abbrev pub IsShut : {A D E : Type 0} → ℕ → List (Row D E A) → Type 0
 IsShut {A} {D} {E} p rows = (r : Row D E A) → row_of p rows ≡ Some r → is_open r.state ≡ false
-
--- the first row of p is at this place, and is open
-abbrev pub IsOpenAt : {A D E : Type 0} → ℕ → List (Row D E A) → ℕ → Type 0
-IsOpenAt {A} {D} {E} p rows i = (position (λ r. r.push == p) rows ≡ Some i)
-    × ((r : Row D E A) → r ≡ slice_index_or rows i r → is_open r.state ≡ true)
 
 -- the list that is staged of a push stands for these parts: each may have been made of the one in its place
 abbrev pub Stages : {A : Type 0} → List (Prepared A) → List (Part A) → Type 0
@@ -56,50 +41,11 @@ abbrev pub RowTells : {A D E : Type 0} → List (Part A) → Option (Outcome D E
 RowTells ps how None = IsSome how
 RowTells ps how (Some row) = TellsState ps how row.state
 
--- memory was refused
-abbrev pub is_no_memory : {E : Type 0} → Reason E → Bool
-is_no_memory NoMemory = true
-is_no_memory (Refused e) = false
-is_no_memory WrongIndex = false
-is_no_memory (Cut reason) = false
-
--- how a push with these parts ends at an end mark with this index, and what it leaves of the repository
-abbrev pub EndsAs : {A R D E : Type 0} → Running A R D E → R → List (Part A) → ℕ → Result D (Reason E) → R →
-    Type 0
-EndsAs run old ps index (Ok done) new = (index ≡ length ps) × (run old ps ≡ Ok (new, done))
-EndsAs run old ps index (Err NoMemory) new = (index ≡ length ps) × (new ≡ old)
-EndsAs run old ps index (Err (Refused e)) new = (index ≡ length ps) × (run old ps ≡ Err e) × (new ≡ old)
-EndsAs run old ps index (Err WrongIndex) new = (index ≢ length ps) × (new ≡ old)
-EndsAs run old ps index (Err (Cut reason)) new = ⊥
-
--- What a place does to its row, which is open with these parts, and to the state.
-pub record StepsWith {A R D E : Type 0} (run : Running A R D E) (old : Serial R) (row : Row D E A)
-    (ps : List (Part A)) (x : Taken A) (new : Serial R) (row' : Row D E A) : Type 0 where
-  pub may : x.refused ≡ true → takes_memory (length ps) x.item.index x.item.what ≡ true
-  pub state : new ≡ kept old row.push (decided run old.repo ps x)
-  pub told : TellsState (parts_after ps x) (told (decided run old.repo ps x)) row'.state
-
--- The same, whatever parts the staged list stands for.
-pub record StepsRow {A R D E : Type 0} (run : Running A R D E) (old : Serial R) (row : Row D E A)
-    (x : Taken A) (new : Serial R) (row' : Row D E A) : Type 0 where
-  pub push : row'.push ≡ row.push
-  pub steps : (ps : List (Part A)) → Stages (staged_in row.state) ps → StepsWith run old row ps x new row'
-
 -- the standing of an opened push that ended so, or not yet
 abbrev pub standing_of : {D E : Type 0} → Option (Outcome D E) → Standing
 standing_of None = is_open_now
 standing_of (Some (done_as done)) = is_done_now
 standing_of (Some (aborted_as reason)) = is_aborted_now
-
--- where the push stands, by its row
-abbrev pub standing_in : {A D E : Type 0} → State D E A → Standing
-standing_in (Open staged) = is_open_now
-standing_in (Closed outcome) = standing_of (Some outcome)
-
--- the first row of p is at this place, and is closed
-abbrev pub IsClosedAt : {A D E : Type 0} → ℕ → List (Row D E A) → ℕ → Type 0
-IsClosedAt {A} {D} {E} p rows i = (position (λ r. r.push == p) rows ≡ Some i)
-    × ((r : Row D E A) → r ≡ slice_index_or rows i r → is_open r.state ≡ false)
 
 -- how the push ended, by its row
 abbrev pub ending_in : {A D E : Type 0} → State D E A → Option (Outcome D E)
@@ -114,12 +60,3 @@ reply_in (Some row) = ending_in row.state
 -- the rows without that of p
 abbrev pub rows_without : {A D E : Type 0} → ℕ → List (Row D E A) → List (Row D E A)
 rows_without p rows = filter (λ r. not (r.push == p)) rows
-
--- each number is below those after it
-abbrev pub AreAscending : List ℕ → Type 0
-AreAscending [] = Unit {0}
-AreAscending (p ∷ ps) = AllByRecursion (λ q. p < q) ps × AreAscending ps
-
--- the rows stand in the order of their numbers
-abbrev pub AreInOrder : {A D E : Type 0} → List (Row D E A) → Type 0
-AreInOrder rows = AreAscending (map (λ r. r.push) rows)

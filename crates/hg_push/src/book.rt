@@ -8,7 +8,7 @@ ghost use Rattle.hg_push.specs.Book.{HoldsHistory, IsSameOpenings, is_opened, st
 ghost use Rattle.hg_push.specs.Calls.{BookFollows, course_of_new};
 ghost use Rattle.hg_push.specs.Rows.{IsShut, reply_in, row_of, rows_without, standing_of};
 ghost use Rattle.hg_push.specs.Reply.{CanBeTold};
-ghost use Rattle.hg_push.specs.Places.{TellsPlace, TellsRests};
+ghost use Rattle.hg_push.specs.Places.{TellsPlace};
 ghost use Rattle.hg_push.specs.Run.{RepositoryOf, run_push};
 
 use crate::journal::last_place;
@@ -213,20 +213,6 @@ impl<A: Allocator + Copy> Book<A> {
             TellsPlace run_push first h push result }
     {
         last_place(self.journal.as_slice(), push)
-    }
-
-    /// How many done pushes, the first of the journal, the answer to a push rests on: where it is done, those
-    /// up to it and with it; where it is aborted, all that are done now. `None` while it has no answer. Asked
-    /// before the push's reply is taken, it searches the journal as `place` does.
-    pub fn rests(&self, push: u32) -> Option<usize>
-        ensures { (first : RepositoryOf A) (h : History A) → HoldsHistory run_push first h self.now →
-            TellsRests run_push first h push result }
-    {
-        match self.standing(push) {
-            Standing::Unknown | Standing::Open => None,
-            Standing::Aborted => Some(self.journal.len()),
-            Standing::Done => Some(last_place(self.journal.as_slice(), push)? + 1),
-        }
     }
 
     /// The numbers of the done pushes, in the order in which they were done.

@@ -3,10 +3,9 @@
 //!
 //! A [`Book`] stands over a repository. [`Book::open`] gives a push its number, [`Book::step`] takes an item,
 //! [`Book::take_reply`] hands out the [`Outcome`] of a push that is closed, and [`reply_bytes`] is the bundle
-//! that reports it. [`Book::rests`] says how many done pushes an answer rests on, and [`Book::place`] which place
-//! of the journal a push has. A book stores no history: its contracts speak of every history that it holds, by the words
-//! of `specs/`, and [`laws`] says what holds of histories, over every list of events. Nothing here starts a
-//! thread or waits.
+//! that reports it. [`Book::place`] says which place of the journal a push has. A book stores no history: its
+//! contracts speak of every history that it holds, by the words of `specs/`, and [`laws`] says what holds of
+//! histories, over every list of events. Nothing here starts a thread or waits.
 #![tactic(auto)]
 
 mod book;

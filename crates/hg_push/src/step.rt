@@ -9,9 +9,12 @@ ghost use Rattle.std.specs.List.{list_any};
 ghost use Rattle.std.specs.Prelude.{if◌then◌else◌, false};
 ghost use Rattle.hg_types.specs.declared.part.Part.{Part as AnyPart};
 ghost use Rattle.hg_push.specs.History.{Serial};
-ghost use Rattle.hg_push.specs.Rows.{AreInOrder, EndsAs, IsClosedAt, IsOpenAt, IsShut, Stages, StepsRow};
-ghost use Rattle.hg_push.specs.Rows.{is_no_memory, is_open};
-ghost use Rattle.hg_push.specs.Rows.{reply_in, row_of, staged_in, standing_in};
+ghost use Rattle.hg_push.specs.Rows.{IsShut, Stages};
+ghost use Rattle.hg_push.specs.code.Rows.{AreInOrder, EndsAs, IsClosedAt, IsOpenAt, StepsRow};
+ghost use Rattle.hg_push.specs.Rows.{is_open};
+ghost use Rattle.hg_push.specs.code.Rows.{is_no_memory};
+ghost use Rattle.hg_push.specs.Rows.{reply_in, row_of};
+ghost use Rattle.hg_push.specs.code.Rows.{staged_in, standing_in};
 ghost use Rattle.hg_push.specs.Run.{RepositoryOf, run_push};
 ghost use Rattle.hg_push.specs.Reply.{CanBeSent, KeepsTellable};
 

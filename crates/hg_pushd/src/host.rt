@@ -1,13 +1,12 @@
 //! A store that is served over HTTP: how it begins, and what is printed of it.
 
-ghost use Rattle.hg_opening.specs.Opening.{IsOpened};
+ghost use Rattle.hg_recovery.specs.Opening.{IsOpened};
 
-use hg_archive::TornNote;
-use hg_command::{Hosting, tell};
+use hg_commands::{Hosting, device_status, tell};
 use hg_host::{HostTerms, HostingRuntime, Over, serve_store};
-use hg_opening::{OpeningFault, Recovered, recover_store};
-use hg_program::device_status;
-use hg_store::{Device, HostFile, StoreFile};
+use hg_recovery::{OpeningFault, Recovered, recover_store};
+use hg_store::{Device, HostFile, StoreFile, StoreFolder};
+use hg_store_tools::TornNote;
 use std::fs::{File, Files};
 use std::hash::RandomState;
 use std::io;
@@ -21,7 +20,8 @@ pub fn host<R: Files<File = File> + AllocGlobal + HostingRuntime>(
     state: RandomState,
     hosting: &Hosting<'_>,
 ) -> u8 {
-    match recover_store(rt, rt.alloc(), state, hosting.store, hosting.publishing) {
+    let mut folder = StoreFolder::new(rt, hosting.store);
+    match recover_store(rt.alloc(), state, &mut folder, hosting.publishing) {
         Ok(recovered) => listen(rt, hosting, recovered),
         Err(fault) => not_opened(rt, hosting.store, &fault),
     }
@@ -97,7 +97,8 @@ fn serve_anew<R: Files<File = File> + AllocGlobal + HostingRuntime>(
         tell(rt, 3);
         return Some(3);
     };
-    match recover_store(rt, rt.alloc(), state, hosting.store, hosting.publishing) {
+    let mut folder = StoreFolder::new(rt, hosting.store);
+    match recover_store(rt.alloc(), state, &mut folder, hosting.publishing) {
         Ok(recovered) => serve(rt, hosting, listener, address, recovered),
         Err(fault) => Some(not_opened(rt, hosting.store, &fault)),
     }

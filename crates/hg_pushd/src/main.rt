@@ -3,15 +3,18 @@
 //! `hg_pushd one` reads a bundle from standard input, runs it and writes the reply bundle to standard output.
 //! `hg_pushd replay` runs the bundles of files, one after the other, and writes a report of what the
 //! repository then holds. `hg_pushd serve` accepts connections and serves each on a thread. `hg_pushd report`,
-//! `hg_pushd log` and `hg_pushd cut` read a store and end it. All of these are functions of `hg_program`.
+//! `hg_pushd log` and `hg_pushd cut` read a store and end it. All of these are functions of `hg_commands`.
 //! `hg_pushd host` answers HTTP, and keeps each push in a store: [`host`] begins it, over `hg_host`. The command
-//! line is read by `hg_command`.
+//! line is read by `hg_commands`.
 #![tactic(auto)]
 
 mod host;
 
-use hg_command::{Job, asked_for, tell, words};
-use hg_program::{cut, device_status, log, log_to, one, replay, report, serve, take_closed};
+use hg_commands::{
+    Job, asked_for, cut, device_status, log, log_to, one, replay, report, serve, take_closed, tell,
+    words,
+};
+use hg_host::HostingRuntime;
 use std::fs::{File, Files};
 use std::hash::RandomState;
 use std::io;
@@ -32,17 +35,7 @@ fn printed<R: Eprint>(rt: &R, status: u8) -> u8 {
 /// Does what a job asks for, and gives the status, which is printed.
 fn run<R>(rt: &R, state: RandomState, job: &Job<'_>) -> u8
 where
-    R: RandomSource
-        + Files<File = File>
-        + Input
-        + Print
-        + Eprint
-        + AllocGlobal
-        + Net<Listener = TcpListener, Stream = TcpStream>
-        + Threads
-        + Wait
-        + Clock
-        + Sync,
+    R: Files<File = File> + Input + Print + AllocGlobal + HostingRuntime,
 {
     match job {
         Job::One { publishing } => printed(rt, one(rt, state, *publishing)),
@@ -78,17 +71,7 @@ where
 /// that gives no random bytes is a device that failed.
 fn begin<R>(rt: &R, job: &Job<'_>) -> u8
 where
-    R: RandomSource
-        + Files<File = File>
-        + Input
-        + Print
-        + Eprint
-        + AllocGlobal
-        + Net<Listener = TcpListener, Stream = TcpStream>
-        + Threads
-        + Wait
-        + Clock
-        + Sync,
+    R: Files<File = File> + Input + Print + AllocGlobal + HostingRuntime,
 {
     let Ok(state) = RandomState::new(rt) else {
         return printed(rt, 3);

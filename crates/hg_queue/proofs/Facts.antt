@@ -10,7 +10,7 @@ use Rattle.hg_queue.specs.declared.view.View.{View}
 use Rattle.hg_queue.specs.declared.view.View.TheVariants.{AsTaker}
 use Rattle.hg_queue.specs.History.{is_part, of, items_of, has, IsOrderly, IsDistinct}
 use Rattle.hg_queue.specs.Rules.{World, whole, log_of, Stands, IsSound, FitsTaker}
-use Rattle.hg_queue.specs.Steps.{took, TakesOne}
+use Rattle.hg_queue.specs.code.Steps.{took, TakesOne}
 use Rattle.hg_queue.specs.Words.{taker_of}
 use Rattle.hg_queue.proofs.Lists.{of_inside}
 

@@ -14,7 +14,7 @@ use Rattle.hg_types.specs.declared.item.Taken.{Taken}
 use Rattle.hg_queue.specs.History.{is_part, of, items_of, has, AllParts, IsOrderly}
 use Rattle.hg_queue.specs.declared.seat.Mark.{Mark}
 use Rattle.hg_queue.specs.declared.seat.Mark.TheVariants.{End as an_end, Cut as a_cut}
-use Rattle.hg_queue.specs.Steps.{settle}
+use Rattle.hg_queue.specs.Seats.{settle}
 use Rattle.hg_queue.specs.Words.{what_of}
 
 pub same_or : {P : Type 0} (m n : ℕ) → (m ≡ n → P) → (m ≢ n → P) → P

@@ -10,8 +10,8 @@ use Rattle.hg_queue.specs.declared.view.View.{View}
 use Rattle.hg_queue.specs.declared.view.View.TheVariants.{AsTaker, AsPutter, AsMarked, AsVisitor, Spent}
 use Rattle.hg_queue.specs.History.{is_part, has}
 use Rattle.hg_queue.specs.Rules.{Rule}
-use Rattle.hg_queue.specs.Steps.{unsized, sized, noted, opened, put_by, Marks, counted_full, TakesOne}
-use Rattle.hg_queue.specs.Steps.{counted_empty, settled, history_note, joined, heard}
+use Rattle.hg_queue.specs.code.Steps.{unsized, sized, noting, opened, put_by, Marks, counted_full, TakesOne}
+use Rattle.hg_queue.specs.code.Steps.{counted_empty, settling, history_note, joined, heard}
 use Rattle.hg_queue.proofs.Steps.{MayPut, sizes, puts, marks, counts_full, takes, counts_empty, settles}
 use Rattle.hg_queue.proofs.SeatSteps.{opens, copies, dismisses, joins, notes, hears}
 
@@ -20,9 +20,9 @@ module _ {A : Type 0} where
   sizes_as port n v is = subst (λ (u : View A). Forks Rule port u (sized n u) Spent) (sym is) (sizes port n)
 
   pub opens_as : (port n : ℕ) (v : View A) (t : TakerView A) → v ≡ AsTaker t → has n t.noted ≡ false
-      → Forks Rule port v (noted n v) (opened n v)
+      → Forks Rule port v (noting n v) (opened n v)
   opens_as port n v t is free =
-      subst (λ (u : View A). Forks Rule port u (noted n u) (opened n u)) (sym is) (opens port n t free)
+      subst (λ (u : View A). Forks Rule port u (noting n u) (opened n u)) (sym is) (opens port n t free)
 
   pub puts_as : (capacity port : ℕ) (v : View A) (x : Item A) (p : PutterView A) → v ≡ AsPutter p
       → MayPut capacity p x → is_part x.what ≡ true → Pushes Rule capacity port v x (λ w. w ≡ put_by v x)
@@ -53,9 +53,9 @@ module _ {A : Type 0} where
       (counts_empty port t refused)
 
   pub settles_as : (port : ℕ) (v : View A) (t : TakerView A) (refused : Bool) → v ≡ AsTaker t
-      → Forks Rule port v (settled refused v) (history_note refused v)
+      → Forks Rule port v (settling refused v) (history_note refused v)
   settles_as port v t refused is =
-      subst (λ (u : View A). Forks Rule port u (settled refused u) (history_note refused u)) (sym is)
+      subst (λ (u : View A). Forks Rule port u (settling refused u) (history_note refused u)) (sym is)
       (settles port t refused)
 
   pub copies_as : (port other : ℕ) (v u : View A) (old new : List (Taken A)) → v ≡ AsVisitor old

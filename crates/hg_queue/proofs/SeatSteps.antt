@@ -13,11 +13,9 @@ use Rattle.hg_queue.specs.declared.view.Claim.{Claim}
 use Rattle.hg_queue.specs.declared.view.TakerView.{TakerView}
 use Rattle.hg_queue.specs.declared.view.View.{View}
 use Rattle.hg_queue.specs.declared.view.View.TheVariants.{AsTaker, AsPutter, AsMarked, AsVisitor, Spent}
-use Rattle.hg_queue.specs.History.{of, has}
+use Rattle.hg_queue.specs.History.{has}
 use Rattle.hg_queue.specs.Rules.{World, whole, IsClaim, Kind, SeatFits, IsSound, AllFit, Rule}
-use Rattle.hg_queue.specs.Steps.{noted, opened}
-use Rattle.hg_queue.specs.Steps.{settled, joined}
-use Rattle.hg_queue.specs.Steps.{heard}
+use Rattle.hg_queue.specs.code.Steps.{noting, opened, joined, heard}
 use Rattle.hg_queue.proofs.Lists.{same_or}
 use Rattle.hg_queue.proofs.Lists.{has_here, has_more, has_less, has_split}
 use Rattle.hg_queue.proofs.Lists.{within}
@@ -109,7 +107,7 @@ module _ {A : Type 0} where
           (has_split p n w.noted is)
 
   pub opens : (port n : ℕ) (t : TakerView A) → has n t.noted ≡ false
-      → Forks Rule port (AsTaker t) (noted n (AsTaker t)) (opened n (AsTaker t))
+      → Forks Rule port (AsTaker t) (noting n (AsTaker t)) (opened n (AsTaker t))
   opens port n t free' items views h at =
       let w = h.0 in
       let f = h.2 port (AsTaker t) at in
@@ -119,7 +117,7 @@ module _ {A : Type 0} where
       let new = length views in
       let w' = with_number w n new in
       let all = whole w items in
-      let l = noted n (AsTaker t) in
+      let l = noting n (AsTaker t) in
       let r = opened n (AsTaker t) in
       let vs = set views port l in
       let ends : length vs ≡ new = length-set views port l in

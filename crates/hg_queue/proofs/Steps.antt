@@ -18,9 +18,9 @@ use Rattle.hg_queue.specs.declared.view.View.{View}
 use Rattle.hg_queue.specs.declared.view.View.TheVariants.{AsTaker, AsPutter, AsMarked, AsVisitor, Spent}
 use Rattle.hg_queue.specs.History.{is_part, of, has, AllParts, IsOrderly, IsDistinct}
 use Rattle.hg_queue.specs.Rules.{World, log_of, whole, IsClaim, Kind, SeatFits, IsSound, AllFit, Rule, Stands}
-use Rattle.hg_queue.specs.Steps.{unsized, sized, settle, noted, put_by, claim, Marks, counted_full}
-use Rattle.hg_queue.specs.Steps.{settled_view, took, TakesOne, counted_empty, settled, history_note, joined}
-use Rattle.hg_queue.specs.Steps.{heard}
+use Rattle.hg_queue.specs.Seats.{settle}
+use Rattle.hg_queue.specs.code.Steps.{unsized, sized, put_by, claim, Marks, counted_full}
+use Rattle.hg_queue.specs.code.Steps.{settled_view, took, TakesOne, counted_empty, settling, history_note}
 use Rattle.hg_queue.proofs.Lists.{same_or, of_mine, of_other, of_nobody, parts_more, parts_end, orderly_more}
 use Rattle.hg_queue.proofs.Lists.{get_end, get_front, items_settle}
 use Rattle.hg_queue.proofs.Lists.{prefix_longer, at_new, within}
@@ -536,7 +536,7 @@ module _ {A : Type 0} where
   counts_empty port t refused = far_fork port t refused (t.empties + 1) Spent (λ w all j a b new. tt)
 
   pub settles : (port : ℕ) (t : TakerView A) (refused : Bool)
-      → Forks Rule port (AsTaker t) (settled refused (AsTaker t)) (history_note refused (AsTaker t))
+      → Forks Rule port (AsTaker t) (settling refused (AsTaker t)) (history_note refused (AsTaker t))
   settles port t refused =
       far_fork port t refused t.empties (history_note refused (AsTaker t))
       (λ w all j a b new. record { seen = ([], end _ ∙ (λ i. a i ++ settle (b i) refused)); apart = new })

@@ -1,4 +1,5 @@
 pub mod History
 pub mod Rules
-pub mod Steps
+pub mod Seats
 pub mod Words
+pub mod code

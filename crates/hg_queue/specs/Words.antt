@@ -18,7 +18,7 @@ use Rattle.hg_queue.specs.declared.seat.Putter.{Putter}
 use Rattle.hg_queue.specs.declared.seat.Marked.{Marked}
 use Rattle.hg_queue.specs.declared.seat.Visitor.{Visitor}
 use Rattle.hg_queue.specs.declared.queue.PartQueue.{PartQueue}
-use Rattle.hg_queue.specs.Steps.{fresh, putter, settle}
+use Rattle.hg_queue.specs.Seats.{fresh, putter, settle}
 
 module _ {A : Type 0} where
   -- the view as a Taker's

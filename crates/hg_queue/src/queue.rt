@@ -11,8 +11,9 @@ ghost use Rattle.hg_types.specs.declared.item.What.TheVariants.{Part as a_part};
 ghost use Rattle.hg_queue.specs.declared.view.View.TheVariants.{AsTaker, AsPutter};
 ghost use Rattle.hg_queue.specs.History.{has};
 ghost use Rattle.hg_queue.specs.Rules.{Stands};
-ghost use Rattle.hg_queue.specs.Steps.{fresh, unsized, putter, noted, opened, TakesOne, counted_empty};
-ghost use Rattle.hg_queue.specs.Steps.{settled, history_note, joined};
+ghost use Rattle.hg_queue.specs.Seats.{fresh, putter};
+ghost use Rattle.hg_queue.specs.code.Steps.{unsized, noting, opened, TakesOne, counted_empty};
+ghost use Rattle.hg_queue.specs.code.Steps.{settling, history_note, joined};
 ghost use Rattle.hg_queue.specs.Words.{taker_of, taker_view, putter_view, claim_at, seen, history};
 ghost use Rattle.hg_queue.specs.Words.{capacity_of, taken, next_item, what_of, IsTakerOf, IsPutterOf};
 ghost use Rattle.hg_queue.specs.Words.{IsMarkedOf, IsVisitorOf};
@@ -231,7 +232,7 @@ impl<A: Allocator> PartQueue<A> {
     }
 
     /// Shows a Visitor all that this Taker took. What was reported of the item taken last is settled first.
-    pub fn show(&self, taker: &mut Taker<A>, visitor: &mut Visitor<A>)
+    fn show(&self, taker: &mut Taker<A>, visitor: &mut Visitor<A>)
         requires { IsTakerOf self.now taker.old × IsVisitorOf self.now visitor.old }
         ensures taker { IsTakerOf self.now taker.new × (history taker.new ≡ history taker.old) }
         ensures view { taker_view taker.new ≡ record (taker_view taker.old) {
@@ -296,7 +297,7 @@ impl<A: Allocator> PartQueue<A> {
     }
 
     /// Looks at the queue, for a proof: the rule holds there beside the Taker's view.
-    pub fn learn(&self, taker: &mut Taker<A>)
+    fn learn(&self, taker: &mut Taker<A>)
         requires { IsTakerOf self.now taker.old }
         ensures taker { IsTakerOf self.now taker.new × (taker_view taker.new ≡ taker_view taker.old)
             × (history taker.new ≡ history taker.old) }
@@ -322,7 +323,7 @@ fn open_seat<N: Number, A: Allocator>(ring: &Ring<A>, seat: &mut Seat<A>, push: 
     requires queue { IsPassOf ring.now seat.old × (view seat.old ≡ AsTaker (taker_of (view seat.old))) }
     requires free { has push (taker_of (view seat.old)).noted ≡ false }
     ensures queue { IsSamePass seat.old seat.new × IsPassOf ring.now result }
-    ensures view { (view seat.new ≡ noted push (view seat.old))
+    ensures view { (view seat.new ≡ noting push (view seat.old))
         × (view result ≡ opened push (view seat.old)) }
 {
     ring.another::<Opens<N>>(seat)
@@ -359,7 +360,7 @@ fn settle_seat<N: Answer, A: Allocator>(
     requires answer { N.answer ≡ refused }
     requires queue { IsPassOf ring.now seat.old × (view seat.old ≡ AsTaker (taker_of (view seat.old))) }
     ensures queue { IsSamePass seat.old seat.new × IsPassOf ring.now result }
-    ensures view { (view seat.new ≡ settled refused (view seat.old))
+    ensures view { (view seat.new ≡ settling refused (view seat.old))
         × (view result ≡ history_note refused (view seat.old)) }
 {
     ring.another::<Settles<N>>(seat)

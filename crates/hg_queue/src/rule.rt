@@ -36,7 +36,7 @@ pub struct Law;
 
 impl<A: Allocator> Protocol<Item<A>, View<A>> for Law {
     ghost use Rattle.hg_queue.specs.Rules.{Rule};
-    ghost use Rattle.hg_queue.specs.Steps.{unsized};
+    ghost use Rattle.hg_queue.specs.code.Steps.{unsized};
 
     ghost holds = { Rule };
 
@@ -59,7 +59,7 @@ pub struct Sizes<N> {
 
 impl<N: Number, A: Allocator> Split<View<A>> for Sizes<N> {
     ghost use Rattle.hg_queue.specs.declared.view.View.TheVariants.{Spent};
-    ghost use Rattle.hg_queue.specs.Steps.{sized};
+    ghost use Rattle.hg_queue.specs.code.Steps.{sized};
 
     ghost left = { sized N.number };
 
@@ -84,9 +84,9 @@ pub struct Opens<N> {
 }
 
 impl<N: Number, A: Allocator> Split<View<A>> for Opens<N> {
-    ghost use Rattle.hg_queue.specs.Steps.{noted, opened};
+    ghost use Rattle.hg_queue.specs.code.Steps.{noting, opened};
 
-    ghost left = { noted N.number };
+    ghost left = { noting N.number };
 
     ghost right = { opened N.number };
 }
@@ -96,7 +96,7 @@ pub struct Puts;
 
 impl<A: Allocator> Outcome<Item<A>, View<A>> for Puts {
     ghost use Rattle.std.specs.Prelude.{◌≡◌};
-    ghost use Rattle.hg_queue.specs.Steps.{put_by};
+    ghost use Rattle.hg_queue.specs.code.Steps.{put_by};
 
     ghost then = { λ v x w. w ≡ put_by v x };
 }
@@ -111,7 +111,7 @@ impl<A: Allocator> Lesson<Item<A>, View<A>> for Puts {
 pub struct PutsMark;
 
 impl<A: Allocator> Outcome<Item<A>, View<A>> for PutsMark {
-    ghost use Rattle.hg_queue.specs.Steps.{Marks};
+    ghost use Rattle.hg_queue.specs.code.Steps.{Marks};
 
     ghost then = { Marks };
 }
@@ -127,7 +127,7 @@ pub struct CountsFull;
 
 impl<A: Allocator> Split<View<A>> for CountsFull {
     ghost use Rattle.hg_queue.specs.declared.view.View.TheVariants.{Spent};
-    ghost use Rattle.hg_queue.specs.Steps.{counted_full};
+    ghost use Rattle.hg_queue.specs.code.Steps.{counted_full};
 
     ghost left = { counted_full };
 
@@ -140,7 +140,7 @@ pub struct Takes<N> {
 }
 
 impl<N: Answer, A: Allocator> Outcome<Item<A>, View<A>> for Takes<N> {
-    ghost use Rattle.hg_queue.specs.Steps.{TakesOne};
+    ghost use Rattle.hg_queue.specs.code.Steps.{TakesOne};
 
     ghost then = { TakesOne N.answer };
 }
@@ -158,7 +158,7 @@ pub struct CountsEmpty<N> {
 
 impl<N: Answer, A: Allocator> Split<View<A>> for CountsEmpty<N> {
     ghost use Rattle.hg_queue.specs.declared.view.View.TheVariants.{Spent};
-    ghost use Rattle.hg_queue.specs.Steps.{counted_empty};
+    ghost use Rattle.hg_queue.specs.code.Steps.{counted_empty};
 
     ghost left = { counted_empty N.answer };
 
@@ -171,9 +171,9 @@ pub struct Settles<N> {
 }
 
 impl<N: Answer, A: Allocator> Split<View<A>> for Settles<N> {
-    ghost use Rattle.hg_queue.specs.Steps.{settled, history_note};
+    ghost use Rattle.hg_queue.specs.code.Steps.{settling, history_note};
 
-    ghost left = { settled N.answer };
+    ghost left = { settling N.answer };
 
     ghost right = { history_note N.answer };
 }
@@ -194,7 +194,7 @@ pub struct Joins;
 
 impl<A: Allocator> Join<View<A>> for Joins {
     ghost use Rattle.hg_queue.specs.declared.view.View.TheVariants.{Spent};
-    ghost use Rattle.hg_queue.specs.Steps.{joined};
+    ghost use Rattle.hg_queue.specs.code.Steps.{joined};
 
     ghost both = { joined };
 
@@ -226,7 +226,7 @@ pub struct Hears;
 
 impl<A: Allocator> Join<View<A>> for Hears {
     ghost use Rattle.hg_queue.specs.declared.view.View.TheVariants.{Spent};
-    ghost use Rattle.hg_queue.specs.Steps.{heard};
+    ghost use Rattle.hg_queue.specs.code.Steps.{heard};
 
     ghost both = { heard };
 

@@ -3,7 +3,7 @@
 
 ghost use Rattle.std.specs.Prelude.{◌≡◌, ◌++◌, IsSome, length};
 ghost use Rattle.atomic_table.specs.Seated.{TableId};
-ghost use Rattle.hg_queue.specs.Steps.{settle};
+ghost use Rattle.hg_queue.specs.Seats.{settle};
 ghost use Rattle.hg_queue.specs.Words.{taker_view, putter_view, history, IsTakerIn, IsPutter};
 
 use crate::view::View;

@@ -315,7 +315,8 @@ fn take_and_show<R: Wait>(
     let Some(_) = queue.take(rt, taker) else {
         return false;
     };
-    queue.show(taker, visitor);
+    queue.hear(taker, visitor);
+    queue.copy_history(taker, visitor);
     true
 }
 
@@ -382,13 +383,12 @@ fn told_refusals_are_copied(rt: HostRuntime) -> Result<(), Fail> {
     Ok(())
 }
 
-// Looks at the queue, hears a Visitor, and gives it a copy of the history.
+// Hears a Visitor, and gives it a copy of the history.
 fn look_on<A: Allocator>(queue: &PartQueue<A>, taker: &mut Taker<A>, visitor: &mut Visitor<A>)
     requires { IsTakerOf queue.now taker.old × IsVisitorOf queue.now visitor.old }
     ensures queue { IsTakerOf queue.now taker.new × IsVisitorOf queue.now visitor.new }
     ensures seen { seen visitor.new ≡ history taker.old }
 {
-    queue.learn(taker);
     queue.hear(taker, visitor);
     queue.copy_history(taker, visitor);
 }

@@ -1,4 +1,4 @@
-mod Settings
-mod Fronts
-mod Seen
-mod Had
+mod Feeding
+mod Running
+mod Stops
+mod Folders

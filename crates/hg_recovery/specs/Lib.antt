@@ -1,1 +1,4 @@
-pub mod Recovering
+pub mod Replays
+pub mod Recovery
+pub mod Faults
+pub mod Opening

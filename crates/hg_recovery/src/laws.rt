@@ -1,106 +1,68 @@
-//! What an end leaves of a store, opened again. The functions do nothing: what they ensure is a theorem.
+//! What holds of all records that are run. The functions do nothing: what they ensure is a theorem.
 
-ghost use Rattle.std.specs.Prelude.{◌≡◌, ◌<◌, ℕ, Bool, List, Ok, length};
-ghost use mathlib.Core.List.{IsPrefix};
-ghost use Rattle.hg_types.specs.declared.item.Taken.{Taken as TakenItem};
+ghost use Rattle.std.specs.Prelude.{◌≡◌, ◌≤◌, ◌++◌, ℕ, List};
 ghost use Rattle.hg_types.specs.declared.limits.Limits.{Limits as AnyLimits};
 ghost use Rattle.hg_types.specs.declared.part.Part.{Part as AnyPart};
-ghost use Rattle.hg_repo.specs.declared.done.Done.{Done};
-ghost use Rattle.hg_push.specs.Places.{IsPlace};
-ghost use Rattle.hg_push.specs.Run.{RepositoryOf, run_push};
-ghost use Rattle.hg_serve.specs.Histories.{newest_first, serial_run};
+ghost use Rattle.hg_push.specs.Run.{RepositoryOf};
+ghost use Rattle.hg_push.specs.Changed.{OneByOne};
+ghost use Rattle.hg_push.specs.Run.{run_push};
+ghost use Rattle.hg_recovery.specs.Recovery.{FrontRuns};
+ghost use Rattle.hg_recovery.specs.Replays.{AreBundlesOf, Replays, StopsAt};
+ghost use Rattle.hg_recovery.specs.declared.restore.RestoreFault.{RestoreFault as AnyFault};
 ghost use Rattle.hg_store.specs.declared.head.Head.{Head};
-ghost use Rattle.hg_ledger.specs.Lives.{IsFront, IsKeptSince, Lives};
-ghost use Rattle.hg_ledger.specs.Promises.{Promise};
-ghost use Rattle.hg_ledger.specs.Records.{done_in};
-ghost use Rattle.hg_restore.specs.Replays.{Replays};
-ghost use Rattle.hg_opening.specs.Opening.{IsRecovered};
-ghost use Rattle.hg_recovery.specs.Recovering.{IsAfter, IsAmong, Recovers, WasThere};
+ghost use Rattle.hg_types.specs.Limits.{IsAllowed};
 
-use hg_push::laws::{
-    closed_pushes_have_ended, done_pushes_have_a_place, journals_grow, one_by_one,
-};
-use hg_restore::laws::{
-    a_front_of_records_runs, records_lead_to_one_repository, records_of_a_journal_run_as_it,
-};
-use hg_store::Device;
-use hg_store::laws::one_reading;
+use crate::restore::RestoreFault;
+use hg_store::laws::a_front_is_read;
+use hg_stream::laws::bundles_are_read_in_one_way;
 use std::alloc::Allocator;
 
-/// A push that is run leaves the settings of the repository as they are, and so do records that are run.
-pub fn runs_keep_settings<A: Allocator>()
-    ensures push { (repo new : RepositoryOf A) (parts : List (AnyPart A)) (done : Done A) →
-        run_push repo parts ≡ Ok (new, done) → new.settings ≡ repo.settings }
-    ensures records { (limits : AnyLimits) (first last : RepositoryOf A) (records : List (List ℕ)) →
-        Replays limits first records last → last.settings ≡ first.settings }
+/// The records, and the repository that they are run on, determine the repository that they lead to.
+pub fn records_lead_to_one_repository<A: Allocator>()
+    ensures { (limits : AnyLimits) (first a b : RepositoryOf A) (records : List (List ℕ)) →
+        Replays limits first records a → Replays limits first records b → a ≡ b }
+{
+    bundles_are_read_in_one_way::<A>();
+}
+
+/// What records lead to is what the last of them lead to from where the first of them do. So a front of
+/// records that run runs too.
+pub fn a_front_of_records_runs<A: Allocator>()
+    ensures split { (limits : AnyLimits) (first last : RepositoryOf A) (front back : List (List ℕ)) →
+        Replays limits first (front ++ back) last →
+        (mid : RepositoryOf A) × Replays limits first front mid × Replays limits mid back last }
+    ensures joined { (limits : AnyLimits) (first mid last : RepositoryOf A) (front back : List (List ℕ)) →
+        Replays limits first front mid → Replays limits mid back last →
+        Replays limits first (front ++ back) last }
 {}
 
-/// A file with the records of a front of a journal is opened as the repository which that front gives: as many pushes,
-/// run one by one from the repository that the server began with.
-pub fn fronts_are_recovered<A: Allocator>()
-    ensures { (publishing : Bool) (head : Head) (stored : List (List ℕ)) (first : RepositoryOf A)
-        (h : List (TakenItem A)) (least : ℕ) (file : List ℕ) → IsRecovered publishing head stored first →
-        IsFront head stored first h least file → Recovers publishing head stored first h least file }
+/// Nothing reports records that run as damaged: where they do not run to their end, memory was refused.
+pub fn records_that_run_are_not_damaged<A: Allocator>()
+    ensures { (limits : AnyLimits) (first last mid : RepositoryOf A) (records : List (List ℕ))
+        (fault : AnyFault) → Replays limits first records last →
+        StopsAt limits first records fault mid → fault ≡ RestoreFault.NoMemory }
 {
-    one_reading();
-    one_by_one::<A>();
-    records_of_a_journal_run_as_it::<A>();
-    a_front_of_records_runs::<A>();
-    records_lead_to_one_repository::<A>();
-    runs_keep_settings::<A>();
+    bundles_are_read_in_one_way::<A>();
 }
 
-/// The repository after the first pushes of a journal is one that the server had itself, when so many were done. Where
-/// these are all, it is the one that the server has.
-pub fn what_is_recovered_was_there<A: Allocator>()
-    ensures before { (first : RepositoryOf A) (h : List (TakenItem A)) (count : ℕ) (repo : RepositoryOf A) →
-        IsAfter first h count repo → WasThere first h count repo }
-    ensures whole { (first : RepositoryOf A) (h : List (TakenItem A)) (repo : RepositoryOf A) →
-        IsAfter first h (done_in first h) repo → repo ≡ (serial_run first h).repo }
-{
-    journals_grow::<A>();
-    done_pushes_have_a_place::<A>();
-    closed_pushes_have_ended::<A>();
-    one_by_one::<A>();
-}
+/// Where the records are the bundles of the pushes of a journal, in its order, running them is running the
+/// journal: they lead to the repository of the serial run.
+pub fn records_of_a_journal_run_as_it<A: Allocator>()
+    ensures { (limits : AnyLimits) (of : ℕ → List (AnyPart A)) (first last : RepositoryOf A)
+        (journal : List ℕ) (records : List (List ℕ)) →
+        OneByOne run_push of first journal last → AreBundlesOf limits of journal records →
+        Replays limits first records last }
+{}
 
-/// **Recovery.** Whatever an end leaves at any moment of a ledger's life, opened again, gives the repository of the
-/// first pushes of the server's journal, run one by one, as many as there are new records. What an end leaves from now
-/// on has each record that was brought to the device, and what one has left since a promise as many as that counts.
-pub fn what_an_end_leaves_is_recovered<A: Allocator, D: Device>()
-    ensures always { (publishing : Bool) (head : Head) (stored : List (List ℕ)) (first : RepositoryOf A)
-        (opened : ℕ) (h : List (TakenItem A)) (count : ℕ) (device : D) →
-        IsRecovered publishing head stored first →
-        Lives D.moment D.left_since D.may_leave head stored first opened h count device → (file : List ℕ) →
-        D.left_since device opened file → Recovers publishing head stored first h 0 file }
-    ensures now { (publishing : Bool) (head : Head) (stored : List (List ℕ)) (first : RepositoryOf A) (opened : ℕ)
-        (h : List (TakenItem A)) (count : ℕ) (device : D) → IsRecovered publishing head stored first →
-        Lives D.moment D.left_since D.may_leave head stored first opened h count device → (file : List ℕ) →
-        D.may_leave device file → Recovers publishing head stored first h count file }
-    ensures promised { (publishing : Bool) (head : Head) (stored : List (List ℕ)) (first : RepositoryOf A)
-        (h : List (TakenItem A)) (count : ℕ) (device : D) (promise : Promise) →
-        IsRecovered publishing head stored first →
-        IsKeptSince D.moment D.left_since head stored first h count device promise → (file : List ℕ) →
-        D.left_since device promise.moment file → Recovers publishing head stored first h promise.count file }
+/// **Recovery.** Where the records of a store are the bundles of the pushes of a journal, in its order, any
+/// front of the store is read as the records that stand whole in it, and these, run, lead to the repository
+/// of the serial run of as many pushes of the journal.
+pub fn a_front_of_a_store_runs_as_the_front_of_its_journal<A: Allocator>()
+    ensures { (limits : AnyLimits) (of : ℕ → List (AnyPart A)) (first last : RepositoryOf A)
+        (journal : List ℕ) (head : Head) (records : List (List ℕ)) (n : ℕ) →
+        IsAllowed limits → IsAllowed head.limits →
+        OneByOne run_push of first journal last → AreBundlesOf limits of journal records → 38 ≤ n →
+        FrontRuns limits of first journal head records n }
 {
-    fronts_are_recovered::<A>();
-}
-
-/// **What a client saw done is recovered.** A push that is done by the history of a client, at a place that a promise
-/// counts, is one of those, at its place and with its parts: whatever an end has left since the promise. The client's
-/// history and the one by which the promise is kept begin one history, as those of two clients of a server do.
-pub fn what_a_client_saw_done_is_recovered<A: Allocator, D: Device>()
-    ensures { (publishing : Bool) (head : Head) (stored : List (List ℕ)) (first : RepositoryOf A)
-        (client witness whole : List (TakenItem A)) (count : ℕ) (device : D) (promise : Promise) (p place : ℕ) →
-        IsRecovered publishing head stored first → IsPrefix client whole → IsPrefix witness whole →
-        IsKeptSince D.moment D.left_since head stored first witness count device promise →
-        IsPlace run_push first (newest_first client) p place → place < promise.count → (file : List ℕ) →
-        D.left_since device promise.moment file →
-        (opened : Recovers publishing head stored first witness promise.count file)
-        × IsAmong first client witness (length opened.records) p place }
-{
-    fronts_are_recovered::<A>();
-    journals_grow::<A>();
-    done_pushes_have_a_place::<A>();
-    closed_pushes_have_ended::<A>();
+    a_front_is_read();
 }

@@ -1,7 +1,21 @@
-//! What an end leaves, opened again: what the records of a ledger and the run of a store's records say together.
+//! The records of a store, run: each is a bundle, and they are run as pushes, one after the other.
 //!
-//! A function does nothing: its contract is a law of the definitions that the contracts below cite. No code stands on
-//! this crate. Nothing here starts a thread or waits.
+//! [`replay_records`] runs them on a repository. [`laws`] says that the repository is determined by the
+//! records, that a front of them gives the repository of the first pushes, and **recovery**: any front of a
+//! store, cut anywhere, is read as the records that stand whole in it, and running these gives the
+//! repository of the serial run of as many pushes. Nothing here starts a thread or waits.
+//!
+//! A store that is opened, and the repository that its records lead to.
+//!
+//! [`recover_store`] opens a store in a folder, or makes it, and runs its records, one by one, on the empty
+//! repository; [`recover_records`] does so for a log over any device that is open. What both give is
+//! [`Recovered`]: the log, for more records, and the repository. [`OpeningFault`] says why a store is not opened.
+//! Nothing here starts a thread, and nothing waits but a device.
 #![tactic(auto)]
 
 pub mod laws;
+mod opening;
+mod restore;
+
+pub use opening::{OpeningFault, Recovered, empty_repository, recover_records, recover_store};
+pub use restore::{RestoreFault, replay_records};

@@ -9,15 +9,15 @@ use Rattle.hg_push.specs.Book.{HoldsHistory, Opens, is_opened}
 use Rattle.hg_push.specs.History.{History}
 use Rattle.hg_push.specs.Lengths.{greatest_reply}
 use Rattle.hg_push.specs.Reply.{reply_of}
-use Rattle.hg_push.specs.Run.{RepositoryOf, run_push}
-use Rattle.hg_receiving.specs.declared.ending.BundleEnd.{BundleEnd}
-use Rattle.hg_devices.specs.declared.sending.Sending.{Sending}
-use Rattle.hg_devices.specs.Devices.{Input, Output}
-use Rattle.hg_receiving.specs.Receiving.{mark_of, push_items, state_at}
+use Rattle.hg_push.specs.Run.{BookOf, RepositoryOf, run_push}
+use Rattle.hg_connection.specs.declared.bundle_end.BundleEnd.{BundleEnd}
+use Rattle.hg_connection.specs.declared.sending.Sending.{Sending}
+use Rattle.hg_connection.specs.Devices.{Input, Output}
+use Rattle.hg_connection.specs.Receiving.{mark_of, push_items, state_at}
 use Rattle.hg_replay.specs.Receiving.{Received}
-use Rattle.hg_replay.specs.Taking.{BookOf, PushEnds, HasTaken, IsIdle, PushLeaves, PushTakes}
+use Rattle.hg_replay.specs.Taking.{PushEnds, HasTaken, IsIdle, PushLeaves, PushTakes}
 use Rattle.hg_replay.specs.Answering.{Answered, IsSentTo, empty_repository, status_of}
-use Rattle.hg_receiving.proofs.CallerLemmas.{PartsAreFew}
+use Rattle.hg_connection.proofs.ReceivingLemmas.{PartsAreFew}
 use Rattle.hg_replay.proofs.Items.{begins}
 
 pub allowed : IsAllowed standard_limits

@@ -16,14 +16,14 @@ use Rattle.hg_push.specs.History.{History, is_closed, is_mark, outcome}
 use Rattle.hg_push.specs.Book.{HoldsHistory, IsSameOpenings, Opens, is_opened, stepped}
 use Rattle.hg_push.specs.Reply.{CanBeTold}
 use Rattle.hg_push.specs.Rows.{row_of, rows_without}
-use Rattle.hg_push.specs.Run.{RepositoryOf, run_push}
-use Rattle.hg_receiving.specs.declared.ending.BundleEnd.{BundleEnd}
-use Rattle.hg_receiving.specs.declared.ending.BundleEnd.TheVariants.{Whole, Fault, InputEnded, ReadFailed}
+use Rattle.hg_push.specs.Run.{BookOf, RepositoryOf, run_push}
+use Rattle.hg_connection.specs.declared.bundle_end.BundleEnd.{BundleEnd}
+use Rattle.hg_connection.specs.declared.bundle_end.BundleEnd.TheVariants.{Whole, Fault, InputEnded, ReadFailed}
 use Rattle.hg_types.specs.declared.item.What.{What}
 use Rattle.hg_types.specs.declared.item.Taken.{Taken}
-use Rattle.hg_receiving.specs.Receiving.{mark_of, part_items, push_items}
-use Rattle.hg_receiving.proofs.CallerLemmas.{items_more}
-use Rattle.hg_replay.specs.Taking.{BookOf, HasTaken, IsIdle, PushLeaves}
+use Rattle.hg_connection.specs.Receiving.{mark_of, part_items, push_items}
+use Rattle.hg_connection.proofs.ReceivingLemmas.{items_more}
+use Rattle.hg_replay.specs.Taking.{HasTaken, IsIdle, PushLeaves}
 
 -- a step of the book, as its contract tells it
 pub record Steps {A : Type 0} (b new : BookOf A) (item : Item A) (refused : Bool) : Type 0 where

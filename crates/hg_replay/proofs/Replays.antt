@@ -10,12 +10,12 @@ use Rattle.hg_repo.specs.declared.done.Done.{Done}
 use Rattle.hg_parts.specs.declared.refusal.Refusal.{Refusal}
 use Rattle.hg_push.specs.History.{History}
 use Rattle.hg_push.specs.declared.outcome.Outcome.{Outcome}
-use Rattle.hg_push.specs.Run.{RepositoryOf}
-use Rattle.hg_devices.specs.declared.sending.Sending.TheVariants.{Whole as sent_whole}
-use Rattle.hg_devices.specs.Devices.{Input, Output}
-use Rattle.hg_devices.specs.declared.sending.Sending.{Sending}
-use Rattle.hg_receiving.specs.declared.ending.BundleEnd.{BundleEnd}
-use Rattle.hg_replay.specs.Taking.{BookOf, IsIdle, PushTakes}
+use Rattle.hg_push.specs.Run.{BookOf, RepositoryOf}
+use Rattle.hg_connection.specs.declared.sending.Sending.TheVariants.{Whole as sent_whole}
+use Rattle.hg_connection.specs.Devices.{Input, Output}
+use Rattle.hg_connection.specs.declared.sending.Sending.{Sending}
+use Rattle.hg_connection.specs.declared.bundle_end.BundleEnd.{BundleEnd}
+use Rattle.hg_replay.specs.Taking.{IsIdle, PushTakes}
 use Rattle.hg_replay.specs.Answering.{IsSentTo, empty_repository, status_of}
 use Rattle.hg_repo.specs.Report.{report_of}
 use Rattle.hg_replay.specs.Replaying.{AreReplayed, IsPlayed, NotOpened, Plays, PlaysOne, Ran, Replay, Replayed}

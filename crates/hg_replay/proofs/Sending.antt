@@ -1,11 +1,11 @@
 -- What was sent, and that nothing was where memory was refused.
 use Rattle.std.proofs.Common.{ℕ, ◌≡◌, ◌∙◌, List, [], refl, rules, subst}
 use Rattle.std.proofs.KnownBytes.{Appends-nil}
-use Rattle.hg_devices.specs.declared.sending.Sending.{Sending}
-use Rattle.hg_devices.specs.declared.sending.Sending.TheVariants.{NoMemory}
-use Rattle.hg_devices.specs.Devices.{Output}
-use Rattle.hg_devices.specs.Sent.{Sends}
-use Rattle.hg_devices.proofs.CallerLemmas.{Adds-nil}
+use Rattle.hg_connection.specs.declared.sending.Sending.{Sending}
+use Rattle.hg_connection.specs.declared.sending.Sending.TheVariants.{NoMemory}
+use Rattle.hg_connection.specs.Devices.{Output}
+use Rattle.hg_connection.specs.Sent.{Sends}
+use Rattle.hg_connection.proofs.DeviceLemmas.{Adds-nil}
 use Rattle.hg_replay.specs.Answering.{IsSentTo}
 
 pub unsent : (writer : Output) (bytes : List ℕ) → IsSentTo NoMemory writer writer bytes

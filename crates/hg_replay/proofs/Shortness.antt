@@ -15,12 +15,12 @@ use Rattle.hg_push.specs.Lengths.{greatest_reply, most_parts}
 use Rattle.hg_push.specs.Reply.{CanBeTold, reply_of}
 use Rattle.hg_push.specs.Run.{RepositoryOf, run_push}
 use Rattle.hg_push.specs.World.{all_parts, items_in}
-use Rattle.hg_devices.specs.Devices.{Input}
-use Rattle.hg_receiving.specs.declared.ending.BundleEnd.{BundleEnd}
-use Rattle.hg_receiving.specs.Receiving.{mark_of, push_items, state_at}
+use Rattle.hg_connection.specs.Devices.{Input}
+use Rattle.hg_connection.specs.declared.bundle_end.BundleEnd.{BundleEnd}
+use Rattle.hg_connection.specs.Receiving.{mark_of, push_items, state_at}
 use Rattle.hg_replay.specs.Receiving.{Received}
 use Rattle.hg_replay.specs.Taking.{PushEnds}
-use Rattle.hg_receiving.proofs.CallerLemmas.{AbortedAreShort, DoneAreShort, PartsAreFew, mark_empty, put_parts}
+use Rattle.hg_connection.proofs.ReceivingLemmas.{AbortedAreShort, DoneAreShort, PartsAreFew, mark_empty, put_parts}
 
 more_parts : {A : Type 0} (items : List (Item A)) (item : Item A)
     → length (all_parts (items ++ item ∷ [])) ≡ length (all_parts items) + length (part_in item.what)

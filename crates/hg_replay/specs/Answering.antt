@@ -11,13 +11,13 @@ use Rattle.hg_push.specs.declared.outcome.Outcome.TheVariants.{Done as done_with
 use Rattle.hg_push.specs.declared.outcome.Reason.TheVariants.{NoMemory as without_memory}
 use Rattle.hg_push.specs.Lengths.{greatest_reply}
 use Rattle.hg_push.specs.Reply.{reply_of}
-use Rattle.hg_receiving.specs.declared.ending.BundleEnd.{BundleEnd}
-use Rattle.hg_receiving.specs.declared.ending.BundleEnd.TheVariants.{Fault, ReadFailed}
-use Rattle.hg_devices.specs.declared.sending.Sending.{Sending}
-use Rattle.hg_devices.specs.declared.sending.Sending.TheVariants.{Whole as sent_whole, Broken, NoMemory}
-use Rattle.hg_devices.specs.Devices.{Input, Output}
-use Rattle.hg_devices.specs.Sent.{Sends}
-use Rattle.hg_receiving.specs.Receiving.{mark_of, push_items}
+use Rattle.hg_connection.specs.declared.bundle_end.BundleEnd.{BundleEnd}
+use Rattle.hg_connection.specs.declared.bundle_end.BundleEnd.TheVariants.{Fault, ReadFailed}
+use Rattle.hg_connection.specs.declared.sending.Sending.{Sending}
+use Rattle.hg_connection.specs.declared.sending.Sending.TheVariants.{Whole as sent_whole, Broken, NoMemory}
+use Rattle.hg_connection.specs.Devices.{Input, Output}
+use Rattle.hg_connection.specs.Sent.{Sends}
+use Rattle.hg_connection.specs.Receiving.{mark_of, push_items}
 use Rattle.hg_replay.specs.Receiving.{Received}
 use Rattle.hg_replay.specs.Taking.{PushEnds}
 

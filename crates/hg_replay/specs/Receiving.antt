@@ -2,9 +2,9 @@
 use Rattle.std.specs.Prelude.{ℕ, List, []}
 use Rattle.hg_types.specs.declared.part.Part.{Part}
 use Rattle.hg_types.specs.declared.limits.Limits.{Limits}
-use Rattle.hg_devices.specs.Devices.{Input}
-use Rattle.hg_receiving.specs.declared.ending.BundleEnd.{BundleEnd}
-use Rattle.hg_receiving.specs.Receiving.{IsReceivedFrom}
+use Rattle.hg_connection.specs.Devices.{Input}
+use Rattle.hg_connection.specs.declared.bundle_end.BundleEnd.{BundleEnd}
+use Rattle.hg_connection.specs.Receiving.{IsReceivedFrom}
 
 -- A push was received from that reader, where no bytes waited before. What waits after it is dropped.
 abbrev pub Received : {A : Type 0} → Limits → Input → Input → BundleEnd → List (Part A) → Type 0

@@ -9,14 +9,14 @@ use Rattle.hg_repo.specs.Report.{report_of}
 use Rattle.hg_parts.specs.declared.refusal.Refusal.{Refusal}
 use Rattle.hg_push.specs.History.{History, serial}
 use Rattle.hg_push.specs.declared.outcome.Outcome.{Outcome}
-use Rattle.hg_push.specs.Run.{RepositoryOf, run_push}
-use Rattle.hg_devices.specs.declared.sending.Sending.{Sending}
-use Rattle.hg_devices.specs.declared.sending.Sending.TheVariants.{Whole as sent_whole, Broken, NoMemory}
-use Rattle.hg_devices.specs.Devices.{Input, Output}
-use Rattle.hg_receiving.specs.declared.ending.BundleEnd.{BundleEnd}
-use Rattle.hg_receiving.specs.Receiving.{mark_of, push_items}
+use Rattle.hg_push.specs.Run.{BookOf, RepositoryOf, run_push}
+use Rattle.hg_connection.specs.declared.sending.Sending.{Sending}
+use Rattle.hg_connection.specs.declared.sending.Sending.TheVariants.{Whole as sent_whole, Broken, NoMemory}
+use Rattle.hg_connection.specs.Devices.{Input, Output}
+use Rattle.hg_connection.specs.declared.bundle_end.BundleEnd.{BundleEnd}
+use Rattle.hg_connection.specs.Receiving.{mark_of, push_items}
 use Rattle.hg_replay.specs.Receiving.{Received}
-use Rattle.hg_replay.specs.Taking.{BookOf, PushEnds, IsIdle, PushLeaves}
+use Rattle.hg_replay.specs.Taking.{PushEnds, IsIdle, PushLeaves}
 use Rattle.hg_replay.specs.Answering.{IsSentTo, empty_repository, status_of}
 
 -- What became of the push of a reader: it was received so and ended so; or it was not opened, and nothing was

@@ -9,9 +9,9 @@ use Rattle.hg_parts.specs.declared.refusal.Refusal.TheVariants.{NoMemory as with
 use Rattle.hg_parts.specs.declared.source.Source.TheVariants.{Seed}
 use Rattle.hg_parts.specs.Repository.{Repository}
 use Rattle.hg_stream.specs.declared.fault.StreamFault.TheVariants.{NoMemory as stream_without_memory}
-use Rattle.hg_devices.specs.Devices.{Input}
-use Rattle.hg_receiving.specs.declared.ending.BundleEnd.{BundleEnd}
-use Rattle.hg_receiving.specs.declared.ending.BundleEnd.TheVariants.{Whole, Fault, InputEnded, ReadFailed}
+use Rattle.hg_connection.specs.Devices.{Input}
+use Rattle.hg_connection.specs.declared.bundle_end.BundleEnd.{BundleEnd}
+use Rattle.hg_connection.specs.declared.bundle_end.BundleEnd.TheVariants.{Whole, Fault, InputEnded, ReadFailed}
 use Rattle.hg_replay.specs.declared.seed.SeedFault.{SeedFault}
 use Rattle.hg_replay.specs.declared.seed.SeedFault.TheVariants.{Aborted, ReadFailed as read_failed, NoMemory}
 use Rattle.hg_replay.specs.Receiving.{Received}

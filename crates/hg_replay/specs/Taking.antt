@@ -5,20 +5,16 @@ use Rattle.hg_types.specs.declared.part.Part.{Part}
 use Rattle.hg_types.specs.declared.item.Item.{Item}
 use Rattle.hg_repo.specs.declared.done.Done.{Done}
 use Rattle.hg_parts.specs.declared.refusal.Refusal.{Refusal}
-use Rattle.hg_push.specs.Book.{Book, HoldsHistory, is_opened}
+use Rattle.hg_push.specs.Book.{HoldsHistory, is_opened}
 use Rattle.hg_push.specs.History.{History, IsHistory, outcome}
 use Rattle.hg_push.specs.Reply.{CanBeTold}
 use Rattle.hg_push.specs.declared.outcome.Outcome.{Outcome}
-use Rattle.hg_push.specs.Run.{RepositoryOf, run_push}
+use Rattle.hg_push.specs.Run.{BookOf, RepositoryOf, run_push}
 use Rattle.hg_push.specs.World.{items_in}
-use Rattle.hg_devices.specs.Devices.{Input}
-use Rattle.hg_receiving.specs.declared.ending.BundleEnd.{BundleEnd}
-use Rattle.hg_receiving.specs.Receiving.{mark_of, push_items}
+use Rattle.hg_connection.specs.Devices.{Input}
+use Rattle.hg_connection.specs.declared.bundle_end.BundleEnd.{BundleEnd}
+use Rattle.hg_connection.specs.Receiving.{mark_of, push_items}
 use Rattle.hg_replay.specs.Receiving.{Received}
-
--- a book of pushes to a repository
-abbrev pub BookOf : Type 0 → Type 0
-BookOf A = Book A (RepositoryOf A) (Done A) (Refusal A)
 
 -- The book, over that first repository, has taken these items after the history before, and has a row for
 -- that push and no other.

@@ -4,14 +4,13 @@ ghost use Rattle.std.specs.Prelude.{◌≡◌, ◌<◌, ◌^◌, [], length, IfN
 ghost use Rattle.hg_push.specs.History.{History};
 ghost use Rattle.hg_push.specs.Run.{RepositoryOf};
 ghost use Rattle.hg_stream.specs.Unbundler.{ready_of};
-ghost use Rattle.hg_receiving.specs.Receiving.{mark_of, part_items, push_items};
+ghost use Rattle.hg_connection.specs.Receiving.{mark_of, part_items, push_items};
 ghost use Rattle.hg_replay.specs.Taking.{HasTaken, IsIdle, PushLeaves, PushTakes};
 
 use crate::receiving::receive;
-use hg_devices::Reader;
+use hg_connection::{BundleEnd, Reader, cut_of};
 use hg_push::laws::closed_pushes_have_ended;
 use hg_push::{Book, Outcome};
-use hg_receiving::{BundleEnd, cut_of};
 use hg_repo::{Done, Refusal};
 use hg_stream::Unbundler;
 use hg_stream::laws::parts_are_few;

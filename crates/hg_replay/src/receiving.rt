@@ -6,8 +6,7 @@ ghost use Rattle.hg_stream.specs.Unbundler.{HoldsBundle, limits_of, ready_of, st
 ghost use Rattle.hg_stream.specs.declared.state.State.TheVariants.{Reading};
 ghost use Rattle.hg_replay.specs.Receiving.{Received};
 
-use hg_devices::Reader;
-use hg_receiving::{BundleEnd, Inbox, turn};
+use hg_connection::{BundleEnd, Inbox, Reader, turn};
 use hg_stream::Unbundler;
 use std::alloc::Allocator;
 

@@ -10,7 +10,7 @@ use crate::push::take_push;
 use crate::report::send_report;
 use crate::run::empty_repository;
 use crate::status::{first_told, sending_status, status_of};
-use hg_devices::{Reader, Sending, Writer};
+use hg_connection::{Reader, Sending, Writer};
 use hg_push::Book;
 use std::alloc::Allocator;
 use std::hash::RandomState;

@@ -3,7 +3,7 @@
 ghost use Rattle.hg_replay.specs.Answering.{IsSentTo};
 ghost use Rattle.hg_repo.specs.Report.{report_of};
 
-use hg_devices::{Sending, Writer, send};
+use hg_connection::{Sending, Writer, send};
 use hg_repo::Repo;
 use std::alloc::Allocator;
 

@@ -5,10 +5,9 @@ ghost use Rattle.hg_replay.specs.Answering.{Answered, NotOpened, empty_repositor
 
 use crate::push::take_push;
 use crate::status::status_of;
-use hg_devices::{Reader, Writer};
+use hg_connection::{Reader, Writer, send_reply};
 use hg_push::Book;
 use hg_push::laws::replies_are_short;
-use hg_receiving::send_reply;
 use hg_repo::Repo;
 use hg_stream::laws::parts_are_few;
 use hg_types::{Limits, Settings};

@@ -7,8 +7,7 @@ ghost use Rattle.hg_replay.specs.Seeding.{Grows, IsRefused, Seeds, ending_fault}
 
 use crate::receiving::receive;
 use crate::run::empty_repository;
-use hg_devices::Reader;
-use hg_receiving::BundleEnd;
+use hg_connection::{BundleEnd, Reader};
 use hg_repo::{Refusal, Repo, Source};
 use hg_stream::laws::parts_are_few;
 use hg_stream::{StreamFault, Unbundler, all_parts};

@@ -4,9 +4,8 @@ ghost use Rattle.std.specs.Prelude.{◌≡◌, ◌∷◌, []};
 ghost use Rattle.hg_replay.specs.Answering.{outcome_status, status_of};
 ghost use Rattle.hg_replay.specs.Replaying.{first_told, sending_status};
 
-use hg_devices::Sending;
+use hg_connection::{BundleEnd, Sending};
 use hg_push::{Outcome, Reason};
-use hg_receiving::BundleEnd;
 use hg_repo::{Done, Refusal};
 use hg_stream::StreamFault;
 use std::alloc::Allocator;

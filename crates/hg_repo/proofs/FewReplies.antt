@@ -58,8 +58,8 @@ module _ {A : Type 0} where
   module _ (law : LeaveBare A) (source : Source) where
     at_part : (place : ℕ) (progress : Progress A) (part : Part A) (parts : List (Part A)) (last : Progress A)
         (result : Outcome A) → handle source progress.repo progress.replying place part ≡ result
-        → ((given : Handled A) → RunAdds source (place + 1) (progress_after progress part given) parts last)
-        → and_then result (λ given. run_from source (place + 1) (progress_after progress part given) parts)
+        → ((given : Handled A) → RunAdds source (place + 1) (progress_after place progress part given) parts last)
+        → and_then result (λ given. run_from source (place + 1) (progress_after place progress part given) parts)
         ≡ Ok last → Adds (suc (length parts)) progress.replies last.replies
     at_part place progress part parts last (Ok given) handled rest is =
         let bare = law source progress.repo progress.replying place part given handled in
@@ -78,22 +78,22 @@ module _ {A : Type 0} where
     run_adds place progress (part ∷ parts) last is =
         let result = handle source progress.repo progress.replying place part in
         at_part place progress part parts last result refl
-        (λ given. run_adds (place + 1) (progress_after progress part given) parts last) is
+        (λ given. run_adds (place + 1) (progress_after place progress part given) parts last) is
 
     replies_of : Result (Repository A × Done A) (Refusal A) → List (Part A)
     replies_of (Ok done) = done.1.replies
     replies_of (Err refusal) = []
 
-    done_adds : (repo new : Repository A) (parts : List (Part A)) (count : ℕ) (done : Done A)
+    done_adds : (repo new : Repository A) (parts : List (Part A)) (done : Done A)
         (result : Result (Progress A) (Refusal A)) → run_from source 0 (start repo) parts ≡ result
-        → done_by count result ≡ Ok (new, done) → Adds (length parts) [] done.replies
+        → done_by result ≡ Ok (new, done) → Adds (length parts) [] done.replies
     unfolding replies_of
-    done_adds repo new parts count done (Ok progress) ran is =
+    done_adds repo new parts done (Ok progress) ran is =
         subst (Adds (length parts) []) (ap replies_of is) (run_adds 0 (start repo) parts progress ran)
-    done_adds repo new parts count done (Err refusal) ran is = cc
+    done_adds repo new parts done (Err refusal) ran is = cc
 
     pub run_of-adds : (repo : Repository A) (parts : List (Part A)) (new : Repository A) (done : Done A)
         → run_of source repo parts ≡ Ok (new, done) → Adds (length parts) [] done.replies
     unfolding run_of
     run_of-adds repo parts new done is =
-        done_adds repo new parts (length parts) done (run_from source 0 (start repo) parts) refl is
+        done_adds repo new parts done (run_from source 0 (start repo) parts) refl is

@@ -1,5 +1,5 @@
 -- A run on a lawful repository leaves a lawful one.
-use Rattle.std.proofs.Common.{ℕ, ◌+◌, Bool, List, [], ◌∷◌, length, Result, Ok, Err, IfOk}
+use Rattle.std.proofs.Common.{ℕ, ◌+◌, Bool, List, [], ◌∷◌, Result, Ok, Err, IfOk}
 use Rattle.hg_types.specs.Bytes.{IsBytes}
 use Rattle.hg_types.specs.declared.part.Part.{Part}
 use Rattle.hg_parts.specs.declared.source.Source.{Source}
@@ -32,18 +32,18 @@ module _ {A : Type 0} (stay : PartsStay A) (source : Source) where
   comes_lawful place progress [] lawful bytes = lawful
   comes_lawful place progress (part ∷ parts) lawful bytes =
       after_part (handle source progress.repo progress.replying place part)
-      (λ given. run_from source (place + 1) (progress_after progress part given) parts)
+      (λ given. run_from source (place + 1) (progress_after place progress part given) parts)
       (stay source progress.repo progress.replying place part lawful bytes.0)
-      (λ given still. comes_lawful (place + 1) (progress_after progress part given) parts still bytes.1)
+      (λ given still. comes_lawful (place + 1) (progress_after place progress part given) parts still bytes.1)
 
-  done_lawful : (count : ℕ) (run : Result (Progress A) (Refusal A)) → ComesLawful run
-      → IfOk (done_by count run) (λ done. IsLawful done.0)
-  done_lawful count (Ok progress) lawful = lawful
-  done_lawful count (Err refusal) lawful = tt
+  done_lawful : (run : Result (Progress A) (Refusal A)) → ComesLawful run
+      → IfOk (done_by run) (λ done. IsLawful done.0)
+  done_lawful (Ok progress) lawful = lawful
+  done_lawful (Err refusal) lawful = tt
 
   pub run_lawful : (repo : Repository A) (parts : List (Part A)) → IsLawful repo → HaveBytes parts
       → IfOk (run_of source repo parts) (λ done. IsLawful done.0)
   unfolding run_of
   run_lawful repo parts lawful bytes =
-      done_lawful (length parts) (run_from source 0 (start repo) parts)
+      done_lawful (run_from source 0 (start repo) parts)
       (comes_lawful 0 (start repo) parts lawful bytes)

@@ -1,5 +1,6 @@
 mod Ranges
 mod Runs
+mod HandledRuns
 mod Replies
 mod FewReplies
 mod LawfulRuns

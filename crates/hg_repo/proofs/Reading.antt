@@ -10,7 +10,8 @@ use Rattle.hg_obs.specs.Same.{same_node, same_node_decides}
 use Rattle.hg_parts.specs.declared.store.Store.{Store}
 use Rattle.hg_parts.specs.Repository.{Repository}
 use Rattle.hg_parts.specs.Store.{repository_of}
-use Rattle.hg_repo.specs.Reading.{is_predecessor, HoldSame, IsSame}
+use Rattle.hg_repo.specs.Reading.{is_predecessor, IsSame}
+use Rattle.hg_repo.specs.code.Same.{HoldSame}
 
 module _ {A : Type 0} where
   pub predecessor_test : (b : Bool) (markers : List (Marker A)) (node : Node)

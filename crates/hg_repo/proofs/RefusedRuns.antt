@@ -1,5 +1,5 @@
 -- A run that is refused is refused by one of its parts.
-use Rattle.std.proofs.Common.{◌≡◌, ℕ, suc, ◌+◌, Bool, List, [], ◌∷◌, length, Some, Result, Ok, Err}
+use Rattle.std.proofs.Common.{◌≡◌, ℕ, suc, ◌+◌, Bool, List, [], ◌∷◌, Some, Result, Ok, Err}
 use Rattle.std.proofs.Common.{slice_get, refl, subst, arith}
 use Rattle.hg_types.specs.declared.part.Part.{Part}
 use Rattle.hg_parts.specs.declared.source.Source.{Source}
@@ -56,21 +56,21 @@ module _ {A : Type 0} (tell : PartsTell A) (source : Source) where
   refused_from place progress [] refusal is = cc
   refused_from place progress (part ∷ parts) refusal is =
       at_part place part parts refusal (handle source progress.repo progress.replying place part)
-      (λ given. run_from source (place + 1) (progress_after progress part given) parts)
+      (λ given. run_from source (place + 1) (progress_after place progress part given) parts)
       (λ told is. tell source progress.repo progress.replying place part told is)
-      (λ given is. refused_from (place + 1) (progress_after progress part given) parts refusal is) is
+      (λ given is. refused_from (place + 1) (progress_after place progress part given) parts refusal is) is
 
-  refused_done : (count : ℕ) (run : Result (Progress A) (Refusal A)) (refusal : Refusal A)
-      → done_by count run ≡ Err refusal → run ≡ Err refusal
-  refused_done count (Ok progress) refusal is = cc
-  refused_done count (Err told) refusal is = cc
+  refused_done : (run : Result (Progress A) (Refusal A)) (refusal : Refusal A)
+      → done_by run ≡ Err refusal → run ≡ Err refusal
+  refused_done (Ok progress) refusal is = cc
+  refused_done (Err told) refusal is = cc
 
   pub refused_in : (repo : Repository A) (parts : List (Part A)) (refusal : Refusal A)
       → run_of source repo parts ≡ Err refusal → IsRefusedIn parts refusal
   unfolding run_of
   refused_in repo parts refusal is =
       let it = refused_from 0 (start repo) parts refusal
-      (refused_done (length parts) (run_from source 0 (start repo) parts) refusal is) in
+      (refused_done (run_from source 0 (start repo) parts) refusal is) in
       let here : 0 + it.behind ≡ it.behind = omega arith in (
         it.behind,
         it.part,

@@ -1,11 +1,8 @@
--- How far a run has come, and what a run that is done has handled.
-use Rattle.std.proofs.Common.{ℕ, ◌≡◌, ◌<◌, ◌+◌, true≢false, List, [], ◌∷◌, length, drop, get_or, sym, ap, ◌∙◌}
-use Rattle.std.proofs.Common.{Result, Ok, Err, is_ok}
+-- How far a run has come.
+use Rattle.std.proofs.Common.{ℕ, ◌≡◌, ◌<◌, ◌+◌, List, ◌∷◌, length, drop, get_or, sym, ap, ◌∙◌, Ok, Err}
 use Rattle.std.proofs.lemmas.List.{drop_more}
 use Rattle.std.proofs.Math.Seq.{drop-length}
-use Rattle.std.specs.List.{range_with_len}
 use Rattle.hg_types.specs.declared.part.Part.{Part}
-use Rattle.hg_repo.specs.declared.done.Done.{Done}
 use Rattle.hg_parts.specs.declared.source.Source.{Source}
 use Rattle.hg_parts.specs.declared.refusal.Refusal.{Refusal}
 use Rattle.hg_parts.specs.Repository.{Repository}
@@ -32,11 +29,11 @@ pub reached_more : {A : Type 0} (source : Source) (repo : Repository A) (parts :
     (part : Part A) (progress : Progress A) (given : Handled A) → IsReached source repo parts i progress
     → i < length parts → part ≡ get_or parts i part
     → handle source progress.repo progress.replying i part ≡ Ok given
-    → IsReached source repo parts (i + 1) (progress_after progress part given)
+    → IsReached source repo parts (i + 1) (progress_after i progress part given)
 reached_more source repo parts i part progress given reached within here handled =
     at_part source repo parts i part progress reached within here
     ∙ ap (λ result. and_then result
-    (λ given. run_from source (i + 1) (progress_after progress part given) (drop (i + 1) parts)))
+    (λ given. run_from source (i + 1) (progress_after i progress part given) (drop (i + 1) parts)))
     handled
 
 -- a part that is refused
@@ -47,34 +44,16 @@ pub reached_refused : {A : Type 0} (source : Source) (repo : Repository A) (part
     → run_of source repo parts ≡ Err refusal
 unfolding run_of
 reached_refused source repo parts i part refusal progress reached within here refused =
-    ap (done_by (length parts)) (at_part source repo parts i part progress reached within here
+    ap done_by (at_part source repo parts i part progress reached within here
     ∙ ap (λ result. and_then result
-    (λ given. run_from source (i + 1) (progress_after progress part given) (drop (i + 1) parts)))
+    (λ given. run_from source (i + 1) (progress_after i progress part given) (drop (i + 1) parts)))
     refused)
 
 -- all parts
 pub reached_end : {A : Type 0} (source : Source) (repo : Repository A) (parts : List (Part A))
     (progress : Progress A) → IsReached source repo parts (length parts) progress
     → run_of source repo parts ≡ Ok
-    (progress.repo, record { replies = progress.replies; handled = range_with_len 0 (length parts) })
+    (progress.repo, record { replies = progress.replies; handled = progress.handled })
 unfolding run_of
 reached_end source repo parts progress reached =
-    ap (done_by (length parts)) (reached ∙ ap (run_from source (length parts) progress) (drop-length parts))
-
-handled_in : {A : Type 0} → Result (Repository A × Done A) (Refusal A) → List ℕ
-handled_in (Ok done) = done.1.handled
-handled_in (Err refusal) = []
-
-done_by-handled : {A : Type 0} (count : ℕ) (run : Result (Progress A) (Refusal A)) (repo : Repository A)
-    (done : Done A) → done_by count run ≡ Ok (repo, done) → done.handled ≡ range_with_len 0 count
-unfolding handled_in
-done_by-handled count (Ok progress) repo done is = sym (ap handled_in is)
-done_by-handled count (Err refusal) repo done is = absurd (true≢false (sym (ap is_ok is)))
-
--- a run that is done has handled each place once, in order
-pub done_handled : {A : Type 0} (source : Source) (repo : Repository A) (parts : List (Part A))
-    (new : Repository A) (done : Done A) → run_of source repo parts ≡ Ok (new, done)
-    → done.handled ≡ range_with_len 0 (length parts)
-unfolding run_of
-done_handled source repo parts new done is =
-    done_by-handled (length parts) (run_from source 0 (start repo) parts) new done is
+    ap done_by (reached ∙ ap (run_from source (length parts) progress) (drop-length parts))

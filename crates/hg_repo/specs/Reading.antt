@@ -7,19 +7,11 @@ use Rattle.hg_types.specs.declared.phase.Phase.TheVariants.{Public}
 use Rattle.hg_obs.specs.declared.marker.Marker.{Marker}
 use Rattle.hg_obs.specs.Same.{same_node}
 use Rattle.hg_keys.specs.Known.{phase_of_node}
-use Rattle.hg_parts.specs.declared.store.Store.{Store}
 use Rattle.hg_parts.specs.Repository.{Repository}
 
 -- both hold the same: all but their settings is equal
 abbrev pub IsSame : {A : Type 0} → Repository A → Repository A → Type 0
 IsSame repo other = repo ≡ record other { settings = repo.settings }
-
--- the same of two stores
-pub record HoldSame {A : Type 0} (store other : Store A) : Type 0 where
-  pub rows : store.log.rows ≡ other.log.rows
-  pub phases : store.phases.current.phases ≡ other.phases.current.phases
-  pub markers : store.markers ≡ other.markers
-  pub bookmarks : store.bookmarks.current ≡ other.bookmarks.current
 
 -- a changeset that may be obsolete: it is known, and not public; the null id is public
 abbrev pub can_be_obsolete : Option Phase → Bool

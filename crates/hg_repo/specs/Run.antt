@@ -1,7 +1,7 @@
 -- Running the parts of a push.
 use Rattle.std.specs.Prelude.{ℕ, ◌≡◌, Bool, false, ◌||◌, ◌+◌, ◌⊎◌, List, [], ◌∷◌, ◌++◌, length, Option, Some}
 use Rattle.std.specs.Prelude.{None, Result, Ok, Err, MatchResult, slice_get}
-use Rattle.std.specs.List.{range_with_len, AllByRecursion}
+use Rattle.std.specs.List.{AllByRecursion}
 use Rattle.hg_types.specs.Bytes.{IsBytes}
 use Rattle.hg_types.specs.declared.part.Part.{Part}
 use Rattle.hg_repo.specs.declared.done.Done.{Done}
@@ -14,27 +14,31 @@ use Rattle.hg_parts.specs.PartTypes.{support_of, is_reply_caps}
 use Rattle.hg_parts.specs.Handle.{handle}
 use Rattle.hg_parts.specs.Refusing.{CanBeRefused}
 
--- How far a run has come: the repository so far, whether parts leave replies, and the replies so far.
+-- How far a run has come: the repository so far, whether parts leave replies, the replies so far, and the
+-- places of the parts that were handled so far.
 pub record Progress (A : Type 0) : Type 0 where
   pub repo : Repository A
   pub replying : Bool
   pub replies : List (Part A)
+  pub handled : List ℕ
 
 -- no part was run yet
 abbrev pub start : {A : Type 0} → Repository A → Progress A
-start repo = record { repo = repo; replying = false; replies = [] }
+start repo = record { repo = repo; replying = false; replies = []; handled = [] }
 
 -- a reply has its place among the replies as its id
 abbrev pub with_reply : {A : Type 0} → List (Part A) → Option (Part A) → List (Part A)
 with_reply replies None = replies
 with_reply replies (Some reply) = replies ++ record reply { id = length replies } ∷ []
 
--- parts leave replies after the first `replycaps` that is supported
-abbrev pub progress_after : {A : Type 0} → Progress A → Part A → Handled A → Progress A
-progress_after progress part given = record {
+-- The part at this place was handled, which is noted. Parts leave replies after the first `replycaps` that is
+-- supported.
+abbrev pub progress_after : {A : Type 0} → ℕ → Progress A → Part A → Handled A → Progress A
+progress_after place progress part given = record {
   repo = given.repo;
   replying = progress.replying || is_reply_caps (support_of part);
   replies = with_reply progress.replies given.reply;
+  handled = progress.handled ++ place ∷ [];
 }
 
 -- what comes next, unless there is a refusal
@@ -47,20 +51,20 @@ abbrev pub run_from : {A : Type 0} → Source → ℕ → Progress A → List (P
 run_from source place progress [] = Ok progress
 run_from source place progress (part ∷ parts) =
     and_then (handle source progress.repo progress.replying place part)
-    (λ given. run_from source (place + 1) (progress_after progress part given) parts)
+    (λ given. run_from source (place + 1) (progress_after place progress part given) parts)
 
--- the end of a run: done, with the repository and the replies, or refused
-abbrev pub done_by : {A : Type 0} → ℕ → Result (Progress A) (Refusal A) →
+-- the end of a run: done, with the repository, the replies and the places of the handled parts, or refused
+abbrev pub done_by : {A : Type 0} → Result (Progress A) (Refusal A) →
     Result (Repository A × Done A) (Refusal A)
-done_by count (Ok progress) =
-    Ok (progress.repo, record { replies = progress.replies; handled = range_with_len 0 count })
-done_by count (Err refusal) = Err refusal
+done_by (Ok progress) =
+    Ok (progress.repo, record { replies = progress.replies; handled = progress.handled })
+done_by (Err refusal) = Err refusal
 
--- The run of the parts on the repository: the repository after them, the replies and the places, or the first
--- refusal.
+-- The run of the parts on the repository: the repository after them, the replies and the places of the handled
+-- parts, or the first refusal.
 unfoldable pub run_of : {A : Type 0} → Source → Repository A → List (Part A) →
     Result (Repository A × Done A) (Refusal A)
-run_of source repo parts = done_by (length parts) (run_from source 0 (start repo) parts)
+run_of source repo parts = done_by (run_from source 0 (start repo) parts)
 
 -- the payload of each part is bytes, as it is of each part that code has
 abbrev pub HaveBytes : {A : Type 0} → List (Part A) → Type 0
@@ -78,9 +82,3 @@ abbrev pub RunGives : {A R P D : Type 0} → (R → P → Result (R × D) (Refus
 RunGives run old parts result new =
     MatchResult result (λ done. run old parts ≡ Ok (new, done)) (λ refusal. (new ≡ old)
     × ((refusal ≡ NoMemory) ⊎ (run old parts ≡ Err refusal)))
-
--- The same of code that may leave what it changed where a part is refused.
-abbrev pub PartsGive : {A R D : Type 0} → Result (R × D) (Refusal A) → R → Result D (Refusal A) → Type 0
-PartsGive given new result =
-    MatchResult result (λ done. given ≡ Ok (new, done)) (λ refusal. (refusal ≡ NoMemory)
-    ⊎ (given ≡ Err refusal))

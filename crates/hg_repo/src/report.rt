@@ -11,7 +11,7 @@
 //! that in which they came. Numbers are decimal, and ids and bytes are lower case hexadecimal digits. Each
 //! line ends with a line feed.
 
-ghost use Rattle.std.specs.Prelude.{◌≡◌, ◌<◌, ◌++◌, length, OnOk, string_bytes};
+ghost use Rattle.std.specs.Prelude.{◌≡◌, ◌<◌, ◌++◌, ℕ, length, OnOk, OnErr, string_bytes};
 ghost use Rattle.std.specs.List.{flat_map, range_with_len};
 ghost use Rattle.hg_obs.specs.Marker.{MarkerFits};
 ghost use Rattle.hg_obs.specs.Markers.{AreLawful};
@@ -125,13 +125,16 @@ fn write_marker<A: Allocator + Copy>(
     Ok(())
 }
 
-/// Adds a line for each of so many pushes, numbered from 0 on.
+/// Adds a line for each of so many pushes, numbered from 0 on. Where memory is refused, it has added the lines of
+/// the first ones, and no part of a line.
 pub fn add_journal_lines<A: Allocator + Copy>(
     alloc: A,
     text: &mut Vec<u8, A>,
     count: usize,
 ) -> Result<(), NoMemory>
-    ensures { OnOk result (text.new.items ≡ text.old.items ++ journal_lines count) }
+    ensures ok { OnOk result (text.new.items ≡ text.old.items ++ journal_lines count) }
+    ensures err { OnErr result ((added : ℕ) × (added < count)
+        × (text.new.items ≡ text.old.items ++ journal_lines added)) }
 {
     for number in 0..count {
         add_journal_line(alloc, text, number)?;
@@ -139,13 +142,14 @@ pub fn add_journal_lines<A: Allocator + Copy>(
     Ok(())
 }
 
-/// Adds the line of a push.
+/// Adds the line of a push. Where memory is refused, nothing is added.
 pub fn add_journal_line<A: Allocator + Copy>(
     alloc: A,
     text: &mut Vec<u8, A>,
     number: usize,
 ) -> Result<(), NoMemory>
-    ensures { OnOk result (text.new.items ≡ text.old.items ++ journal_line number) }
+    ensures ok { OnOk result (text.new.items ≡ text.old.items ++ journal_line number) }
+    ensures err { OnErr result (text.new.items ≡ text.old.items) }
 {
     let line = format!(in alloc; "J {number}\n")?;
     text.extend_from_slice(line.as_bytes())?;

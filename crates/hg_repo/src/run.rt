@@ -1,11 +1,11 @@
 //! The run of a push's parts on a store, in place.
 
 ghost use Rattle.std.specs.Prelude.{List, ◌≡◌, ◌<◌, ◌≤◌, ◌+◌, ◌^◌, length, IfOk, OnOk};
-ghost use Rattle.std.specs.List.{range_with_len};
 ghost use Rattle.hg_types.specs.declared.part.Part.{Part as AnyPart};
 ghost use Rattle.hg_parts.specs.Prepared.{AreMadeOf};
 ghost use Rattle.hg_parts.specs.Store.{repository_of, IsSound, IsGrown};
-ghost use Rattle.hg_repo.specs.Run.{run_of, with_reply, PartsGive};
+ghost use Rattle.hg_repo.specs.Run.{run_of, with_reply};
+ghost use Rattle.hg_repo.specs.code.Runs.{PartsGive};
 ghost use Rattle.hg_repo.specs.Replies.{AreReplies};
 
 use crate::done::Done;
@@ -33,6 +33,7 @@ pub fn run_parts<A: Allocator + Copy>(
         (repository_of settings.now store.new) result }
 {
     let mut replies = Seq::new(alloc);
+    let mut handled = Vec::with_capacity(alloc, parts.len())?;
     let mut replying = false;
     for (place, part) in parts.iter().enumerate() {
         let turn = Turn {
@@ -43,10 +44,13 @@ pub fn run_parts<A: Allocator + Copy>(
         };
         let reply = handle_part(alloc, store, turn, part)?;
         keep_reply(&mut replies, reply)?;
+        handled.push_reserved(place as u32);
         replying = replying || starts_replies(part);
     }
-    let handled = places(alloc, parts.len())?;
-    Ok(Done { replies, handled })
+    Ok(Done {
+        replies,
+        handled: Seq::from_vec(handled),
+    })
 }
 
 /// Runs parts that were prepared, as [`run_parts`] runs each list of parts that they may have been made of.
@@ -66,8 +70,8 @@ pub fn run_prepared<A: Allocator + Copy>(
         PartsGive (run_of source (repository_of settings.now store.old) parts)
         (repository_of settings.now store.new) result }
 {
-    let count = prepared.len();
     let mut replies = Seq::new(alloc);
+    let mut handled = Vec::with_capacity(alloc, prepared.len())?;
     let mut replying = false;
     let mut place = 0u32;
     let mut left = prepared.into_items();
@@ -81,11 +85,14 @@ pub fn run_prepared<A: Allocator + Copy>(
         };
         let reply = handle_prepared(alloc, store, turn, part)?;
         keep_reply(&mut replies, reply)?;
+        handled.push_reserved(place);
         replying = replying || starts;
         place += 1;
     }
-    let handled = places(alloc, count)?;
-    Ok(Done { replies, handled })
+    Ok(Done {
+        replies,
+        handled: Seq::from_vec(handled),
+    })
 }
 
 /// Keeps the reply of a part, where it has one, with its place among the replies as its id.
@@ -104,17 +111,4 @@ fn keep_reply<A: Allocator>(
             replies.push(reply)
         }
     }
-}
-
-/// The places of that many parts.
-#[tactic(auto, using(crate::proofs::Ranges::range_more))]
-fn places<A: Allocator>(alloc: A, count: usize) -> Result<Seq<u32, A>, NoMemory>
-    requires { count < 2 ^ 32 }
-    ensures { IfOk result (λ places. places ≡ range_with_len 0 count) }
-{
-    let mut places = Vec::with_capacity(alloc, count)?;
-    for place in 0..count {
-        places.push_reserved(place as u32);
-    }
-    Ok(Seq::from_vec(places))
 }

@@ -1,8 +1,7 @@
 //! Whether two stores hold the same. It takes no memory.
 
 ghost use Rattle.std.specs.Prelude.{◌≡◌, ◌<◌, length, slice_get, IsTrue, ◌↔◌};
-ghost use Rattle.hg_phases.specs.Phases.{AreFor};
-ghost use Rattle.hg_repo.specs.Reading.{HoldSame};
+ghost use Rattle.hg_repo.specs.code.Same.{HoldSame};
 
 use hg_keys::Bookmarks;
 use hg_log::Changelog;
@@ -12,11 +11,8 @@ use std::alloc::Allocator;
 
 /// Whether both have the same changesets, phases, markers and bookmarks.
 pub fn are_same<A: Allocator>(store: &Store<A>, other: &Store<A>) -> bool
-    requires first { AreFor store.now.log.rows store.now.phases.current }
-    requires second { AreFor other.now.log.rows other.now.phases.current }
     ensures { IsTrue result ↔ HoldSame store.now other.now }
 {
-    let _lawful = store.log.len();
     if !are_same_rows(&store.log, &other.log) {
         return false;
     }

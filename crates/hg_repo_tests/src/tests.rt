@@ -330,19 +330,9 @@ fn count_answers(alloc: Global, state: RandomState, example: Example) -> Result<
     Ok(told)
 }
 
-/// Whether the run takes no memory: a race told without sorting, a fault of format, an abort.
+/// Whether the run takes no memory: there is no part whose place would be noted.
 fn takes_none(example: Example) -> bool {
-    matches!(
-        example,
-        Example::NoParts
-            | Example::RaceOnHeads
-            | Example::RaceAtPlaceOne
-            | Example::TwiceTheNullId
-            | Example::RaceBeforeUnsupported
-            | Example::ShortIds
-            | Example::KnownParameters
-            | Example::ClientAbort
-    )
+    matches!(example, Example::NoParts)
 }
 
 // Each growth is refused in turn: the answer, or out of memory, and no third. An example whose run takes no

@@ -1,5 +1,5 @@
 -- What a desk keeps.
-use Rattle.std.proofs.Common.{◌≡◌, ◌≢◌, ℕ, ◌+◌, ◌≤◌, ◌==◌, ◌||◌, not, ◌∷◌, ◌++◌, [], List, Bool, true, false}
+use Rattle.std.proofs.Common.{◌≡◌, ◌≢◌, ℕ, ◌+◌, ◌==◌, ◌||◌, not, ◌∷◌, ◌++◌, [], List, Bool, true, false}
 use Rattle.std.proofs.Common.{true≢false, Option, Some, None, sym, ap, ◌∙◌, subst, refl, length, map, arith}
 use Rattle.std.proofs.Common.{cond, ne_eqb, append_assoc}
 use mathlib.Core.List.{IsPrefix}
@@ -13,7 +13,7 @@ use Rattle.hg_queue.specs.declared.seat.Taker.{Taker}
 use Rattle.hg_types.specs.declared.item.Taken.{Taken}
 use Rattle.hg_queue.specs.History.{has, items_of}
 use Rattle.hg_queue.specs.declared.view.TakerView.{TakerView}
-use Rattle.hg_queue.specs.Steps.{fresh}
+use Rattle.hg_queue.specs.Seats.{fresh}
 use Rattle.hg_queue.specs.Words.{taker_view, history, taken, IsTakerIn}
 use Rattle.hg_queue.proofs.CallerLemmas.{items_settle, has_here}
 use Rattle.hg_push.specs.declared.outcome.Outcome.{Outcome}
@@ -22,9 +22,9 @@ use Rattle.hg_push.specs.declared.row.State.TheVariants.{Open}
 use Rattle.hg_push.specs.Book.{HoldsHistory, IsSameOpenings, Opens, is_opened, is_between, stepped}
 use Rattle.hg_push.specs.History.{History}
 use Rattle.hg_push.specs.Rows.{row_of, rows_without}
-use Rattle.hg_push.specs.Run.{RepositoryOf, run_push}
+use Rattle.hg_push.specs.Run.{BookOf, RepositoryOf, run_push}
 use Rattle.hg_serve.specs.Histories.{newest_first}
-use Rattle.hg_serve.specs.Desks.{BookOf, DeskView, rows_of, IsInOrder, IsSameBut}
+use Rattle.hg_serve.specs.Desks.{DeskView, rows_of, IsInOrder, IsSameBut}
 use Rattle.hg_serve.proofs.Lists.{one_more}
 
 pub history_items : {A : Type 0} (t : Taker A) → items_of (history t) ≡ items_of (taker_view t).settled

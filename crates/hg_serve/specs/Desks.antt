@@ -5,19 +5,16 @@ use Rattle.atomic_table.specs.Seated.{TableId}
 use Rattle.hg_types.specs.declared.item.Item.{Item}
 use Rattle.hg_types.specs.declared.item.Taken.{Taken}
 use Rattle.hg_types.specs.Limits.{IsAllowed}
-use Rattle.hg_repo.specs.declared.done.Done.{Done}
-use Rattle.hg_parts.specs.declared.refusal.Refusal.{Refusal}
 use Rattle.hg_queue.specs.declared.queue.PartQueue.{PartQueue}
 use Rattle.hg_queue.specs.declared.seat.Taker.{Taker}
-use Rattle.hg_queue.specs.declared.view.Claim.{Claim}
 use Rattle.hg_queue.specs.declared.view.TakerView.{TakerView}
 use Rattle.hg_queue.specs.declared.view.View.TheVariants.{AsTaker}
 use Rattle.hg_queue.specs.History.{has, items_of}
 use Rattle.hg_queue.specs.Rules.{Stands}
-use Rattle.hg_queue.specs.Steps.{fresh}
+use Rattle.hg_queue.specs.Seats.{fresh}
 use Rattle.hg_queue.specs.Words.{taker_view, history, id_of, capacity_of, IsTakerIn}
-use Rattle.hg_push.specs.Book.{Book, HoldsHistory, is_opened}
-use Rattle.hg_push.specs.Run.{RepositoryOf, run_push}
+use Rattle.hg_push.specs.Book.{HoldsHistory, is_opened}
+use Rattle.hg_push.specs.Run.{BookOf, RepositoryOf, run_push}
 use Rattle.hg_serve.specs.Histories.{newest_first}
 
 -- It is the queue of this name and capacity.
@@ -34,10 +31,6 @@ pub record OpensWith {A : Type 0} (id : TableId) (capacity : ℕ) (first : Repos
   pub empty : history t ≡ []
   pub named : repo ≡ first
   pub allowed : IsAllowed repo.settings.limits
-
--- a book of pushes to a repository
-abbrev pub BookOf : Type 0 → Type 0
-BookOf A = Book A (RepositoryOf A) (Done A) (Refusal A)
 
 -- the pushes that have a row
 abbrev pub rows_of : {A : Type 0} → BookOf A → List ℕ
@@ -125,14 +118,3 @@ pub record IsKnown {A : Type 0} (capacity : ℕ) (d : DeskView A) : Type 0 where
   pub stands : Stands (AsTaker d.taker) items
   pub taken : items_of d.history ≡ items_of d.taker.settled ++ option_to_list d.taker.last
   pub room : d.taker.capacity ≡ capacity
-
--- this push's mark is awaited
-pub record Awaits {A : Type 0} (d : DeskView A) (push : ℕ) : Type 0 where
-  pub claim : Claim A
-  pub awaited : d.taker.awaited ≡ Some claim
-  pub mine : claim.push ≡ push
-
--- where the awaited mark stands among all items that were ever put
-abbrev pub mark_place : {A : Type 0} → Option (Claim A) → ℕ
-mark_place None = 0
-mark_place (Some c) = c.place

@@ -8,7 +8,7 @@ ghost use Rattle.hg_types.specs.declared.item.Taken.{Taken};
 ghost use Rattle.hg_queue.specs.declared.view.View.TheVariants.{AsTaker};
 ghost use Rattle.hg_queue.specs.History.{has, of, items_of};
 ghost use Rattle.hg_queue.specs.Rules.{Stands};
-ghost use Rattle.hg_queue.specs.Steps.{fresh, putter};
+ghost use Rattle.hg_queue.specs.Seats.{fresh, putter};
 ghost use Rattle.hg_queue.specs.Words.{taker_view, putter_view, claim_at, seen, history, IsTakerIn};
 ghost use Rattle.hg_queue.specs.Words.{IsPutterIn, IsMarkedIn, IsVisitorIn};
 ghost use Rattle.hg_push.specs.Reply.{CanBeTold};
@@ -16,10 +16,10 @@ ghost use Rattle.hg_push.specs.History.{IsHistory};
 ghost use Rattle.hg_serve.specs.Histories.{newest_first, ending, serial_run, ClosesLast};
 ghost use Rattle.hg_push.specs.Run.{RepositoryOf};
 ghost use Rattle.hg_serve.specs.Answers.{Answers, Looks};
-ghost use Rattle.hg_serve.specs.Desks.{IsQueueIn, IsSameBut, IsKnown, Awaits, HasNoRoom, HasNoNumber};
+ghost use Rattle.hg_serve.specs.Desks.{IsQueueIn, IsSameBut, IsKnown, HasNoRoom, HasNoNumber};
+ghost use Rattle.hg_serve.specs.code.Waiting.{Awaits};
 ghost use Rattle.hg_serve.specs.Desks.{next_of, keeping, seating};
 
-mod looking;
 mod meeting;
 
 use crate::client::{Awaiting, Client};
@@ -306,7 +306,7 @@ impl<J: Naming<A>, A: Allocator + Copy> Desk<J, A> {
 
     /// Asks the question of the repository as it is. Its visitor has then seen the whole history, which goes
     /// on from what it had seen. Nothing is taken.
-    pub(crate) fn look<T, Q: Question<A, T>>(
+    fn look<T, Q: Question<A, T>>(
         &mut self,
         queue: &PartQueue<A>,
         visitor: &mut Visitor<A>,

@@ -1,6 +1,7 @@
-//! Where a test may hold a thread.
+//! Who hears how far a thread has come with a push: a server that measures how long the lock was held, or a test
+//! that holds the thread.
 
-/// A place in a call of the server.
+/// A place on the way of a push.
 #[derive(Clone, Copy, Debug, PartialEq, Eq)]
 pub enum Point {
     /// A push was opened.
@@ -15,12 +16,12 @@ pub enum Point {
     Answered,
 }
 
-/// Hears of each place that a thread reaches.
+/// Hears of each place that a thread reaches. At [`Point::Locked`] the lock is held meanwhile.
 pub trait Gate {
     fn at(&mut self, point: Point);
 }
 
-/// Holds nobody.
+/// Hears nothing, and holds nobody.
 #[derive(Drop)]
 pub struct NoGate;
 

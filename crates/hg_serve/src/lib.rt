@@ -4,8 +4,7 @@
 //! [`Sender`] while its push is open, and an [`Awaiting`] once its mark was put. Parts are put without the lock.
 //! What was put is taken under it, by whoever waits for an answer or finds the queue full. Under the lock
 //! stands a [`Desk`]: the book, and the taker whose history the book holds. No part is read, no reply is
-//! written and nothing is put while the lock is held. A [`Question`] is asked of the repository under it, and a
-//! [`Keeper`] brought up to it.
+//! written and nothing is put while the lock is held. A [`Question`] is asked of the repository under it.
 #![tactic(auto)]
 
 mod client;
@@ -20,5 +19,5 @@ pub use client::{Awaiting, Client, Sender};
 pub use desk::{Answer, Closed, Desk};
 pub use gate::{Gate, NoGate, Point};
 pub use naming::Naming;
-pub use question::{Keeper, Question};
+pub use question::Question;
 pub use server::{PutFault, Server};

@@ -5,15 +5,13 @@ ghost use mathlib.Core.List.{IsPrefix};
 ghost use Rattle.hg_types.specs.Limits.{IsAllowed};
 ghost use Rattle.hg_types.specs.declared.item.What.TheVariants.{Part as a_part, End, Cut};
 ghost use Rattle.hg_queue.specs.History.{of, items_of};
-ghost use Rattle.hg_queue.specs.Steps.{putter};
+ghost use Rattle.hg_queue.specs.Seats.{putter};
 ghost use Rattle.hg_queue.specs.Words.{history, what_of, IsTakerIn};
-ghost use Rattle.hg_push.specs.Run.{RepositoryOf};
-ghost use Rattle.hg_serve.specs.Answers.{Answers, Looks};
+ghost use Rattle.hg_serve.specs.Answers.{Answers};
 ghost use Rattle.hg_serve.specs.Clients.{GoesOn, PutsNext, PutsItsMark, TriesPut};
 ghost use Rattle.hg_serve.specs.Desks.{OpensWith};
 ghost use Rattle.hg_serve.specs.Histories.{serial_run};
 
-mod looking;
 mod meeting;
 
 use crate::client::{Awaiting, Client, Sender};
@@ -21,7 +19,6 @@ use crate::desk::{Answer, Closed, Desk};
 use crate::gate::{Gate, Point};
 use crate::naming::Naming;
 use crate::pauses::Pauses;
-use crate::question::Question;
 use hg_push::OpenFault;
 use hg_queue::{Full, Mark, PartQueue, Taker};
 use hg_repo::Repo;
@@ -301,23 +298,6 @@ impl<J: Naming<A>, A: Allocator + Copy> Server<J, A> {
             .answer(rt, &self.queue, ended, gate);
         gate.at(Point::Answered);
         answered
-    }
-
-    /// Asks the question of the repository, under the lock. Its client has then seen the whole history up to
-    /// now, which goes on from what it had seen, and the repository was that of this history's serial run: so
-    /// with all pushes that were answered before. Nothing that is queued is taken. The lock is held for what
-    /// the question costs, and for nothing else.
-    pub fn look<R: Wait, T, Q: Question<A, T>>(
-        &self,
-        rt: &R,
-        client: &mut Client<J, A>,
-        question: &Q,
-    ) -> T
-        ensures { (repo : RepositoryOf A) × Looks J.first client.old client.new repo
-            × Q.tells question.now repo result }
-    {
-        let mut desk = self.lock(rt, &mut client.pauses);
-        desk.look(&self.queue, &mut client.visitor, question)
     }
 
     /// Takes one item under the lock, and steps. It is false where there was none.

@@ -6,10 +6,12 @@ use Rattle.std.specs.List.{AllByRecursion}
 use Rattle.hg_types.specs.Limits.{IsAllowed}
 use Rattle.hg_store.specs.declared.head.Head.{Head}
 use Rattle.hg_store.specs.code.Fronts.{Begins}
-use Rattle.hg_store.specs.Device.{Overwrites, Torn, MayBeTorn, Only}
+use Rattle.hg_store.specs.Device.{Overwrites, Torn, Only}
+use Rattle.hg_store.specs.code.Batches.{ungated}
+use Rattle.hg_store.specs.code.Steps.{MayBeTorn}
 use Rattle.hg_store.specs.Files.{IsStore, StandsFor, digest_behind, stored}
 use Rattle.hg_store.specs.Head.{first_digest, head_bytes}
-use Rattle.hg_store.specs.Log.{at_rest, ungated, IsBeforeOrAfter}
+use Rattle.hg_store.specs.Log.{at_rest, IsBeforeOrAfter}
 use Rattle.hg_store.specs.Records.{IsRecord, frames, shut}
 use Rattle.hg_store.proofs.Frames.{stored-append, each-append}
 

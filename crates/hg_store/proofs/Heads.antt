@@ -7,7 +7,8 @@ use Rattle.hg_types.specs.Limits.{IsAllowed}
 use Rattle.hg_store.specs.declared.head.Head.{Head}
 use Rattle.hg_store.specs.declared.head.HeadFault.{HeadFault}
 use Rattle.hg_store.specs.declared.head.HeadFault.TheVariants.{TooShort, Magic, Version, Publishing, BadLimits}
-use Rattle.hg_store.specs.Head.{LimitsFit, HasBadLimits, magic, publishing_byte, limit_bytes, limits_bytes, head_bytes, BeginsWithHead, HasHead, IsRefusedFor, HasOneHead}
+use Rattle.hg_store.specs.code.Heads.{LimitsFit}
+use Rattle.hg_store.specs.Head.{HasBadLimits, magic, publishing_byte, limit_bytes, limits_bytes, head_bytes, BeginsWithHead, HasHead, IsRefusedFor, HasOneHead}
 use Rattle.hg_store.proofs.Frames.{size_is}
 
 pub length-head : (head : Head) → length (head_bytes head) ≡ 38

@@ -9,7 +9,6 @@ mod Moments
 mod Crash
 mod Staying
 mod Repair
-mod Walks
 mod FileSteps
 mod Opens
-mod Cutting
+mod AtRest

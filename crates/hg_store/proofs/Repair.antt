@@ -5,8 +5,10 @@ use Rattle.std.specs.Prelude.{OnOk}
 use Rattle.std.proofs.lemmas.List.{take_at, take_all, drop_all, append-nil}
 use Rattle.std.specs.List.{AllByRecursion}
 use Rattle.hg_store.specs.declared.head.Head.{Head}
-use Rattle.hg_store.specs.Device.{Cut, Overwrites, MayBeCut, MayBeTorn, Only, Torn}
-use Rattle.hg_store.specs.Files.{EndsAt, IsStore, IsTornStore, StandsFor, stored}
+use Rattle.hg_store.specs.code.Batches.{EndsAt}
+use Rattle.hg_store.specs.code.Steps.{MayBeCut, MayBeTorn}
+use Rattle.hg_store.specs.Device.{Cut, Overwrites, Only, Torn}
+use Rattle.hg_store.specs.Files.{IsStore, IsTornStore, StandsFor, stored}
 use Rattle.hg_store.specs.Head.{first_digest, head_bytes}
 use Rattle.hg_store.specs.Log.{at_rest}
 use Rattle.hg_store.specs.Records.{IsEnd, IsTorn, over, shut, frames}

@@ -30,6 +30,14 @@ gave_up = (4, 0, [], false)
 abbrev pub placed : Bool → Event
 placed ok = (5, 0, [], ok)
 
+-- in a folder: no file had the name of the store
+abbrev pub missed : Event
+missed = (6, 0, [], true)
+
+-- in a folder: a file was made that may get the name of the store, in the place of one that has it
+abbrev pub renewed : Event
+renewed = (7, 0, [], true)
+
 -- What is known of a file.
 pub record FileState : Type 0 where
   -- the bytes that a read returns
@@ -74,6 +82,10 @@ state_from held (call ∷ earlier) = after_call call.0 call.1 call.2 call.3 (sta
 -- a file after these calls: what it held before its bytes were read is of no matter
 abbrev pub state_of : List Event → FileState
 state_of calls = state_from [] calls
+
+-- the calls that were made until then, and more after them, or none
+abbrev pub Continue : List Event → List Event → Type 0
+Continue earlier calls = (more : List Event) × (calls ≡ more ++ earlier)
 
 -- a call of these failed
 abbrev pub HasFailed : List Event → Type 0

@@ -44,14 +44,6 @@ pub record LeavesOnly {D : Type 0} (moment : D → ℕ) (left_since : D → ℕ 
   -- for a run that began earlier
   pub before : (t : ℕ) (c : List ℕ) → t ≤ moment old → left_since new t c → left_since old t c ⊎ P c
 
--- what a crash may leave that came before a write of these bytes, or while it was made
-abbrev pub MayBeTorn : ℕ → List ℕ → (List ℕ → Type 0) → List ℕ → Type 0
-MayBeTorn at bytes old c = old c ⊎ ((d : List ℕ) × old d × Torn at bytes d c)
-
--- what a crash may leave that came before a cut to a length, or while it was made
-abbrev pub MayBeCut : ℕ → (List ℕ → Type 0) → List ℕ → Type 0
-MayBeCut len old c = old c ⊎ ((d : List ℕ) × old d × Cut len d c)
-
 -- a read returns the same, and a crash leaves nothing else than before
 pub record IsUnchanged {D : Type 0} (seen : D → List ℕ) (may_leave : D → List ℕ → Type 0) (old new : D) : Type 0
   where

@@ -1,7 +1,7 @@
 -- What holds of each file that is known by its calls.
-use Rattle.std.specs.Prelude.{ℕ, ◌≡◌, ◌⊎◌, ◌≤◌, ◌<◌, List, [], ◌∷◌, length}
-use Rattle.std.proofs.Common.{inl, inr, arith}
-use Rattle.hg_store.specs.Calls.{Event, LeftBefore, LeftSince, MayLeave, state_of}
+use Rattle.std.specs.Prelude.{ℕ, ◌≡◌, ◌⊎◌, ◌≤◌, ◌<◌, List, [], ◌∷◌, ◌++◌, length}
+use Rattle.std.proofs.Common.{inl, inr, arith, ap, sym, ◌∙◌, append_assoc}
+use Rattle.hg_store.specs.Calls.{Continue, Event, LeftBefore, LeftSince, MayLeave, state_of}
 
 -- the present moment is one of those since an earlier one
 pub now_counts : (calls : List Event) (t : ℕ) (left : List ℕ) → t ≤ length calls → MayLeave (state_of calls) left
@@ -19,3 +19,10 @@ now_alone calls left (inl may) = may
 now_alone calls left (inr before) =
     let past : length calls < length calls = earlier_is_past calls (length calls) left before in
     absurd (omega (arith, past))
+
+-- more calls after more are more calls
+pub more_continue : (first next last : List Event) → Continue first next → Continue next last → Continue first last
+more_continue first next last early late = (
+  late.0 ++ early.0,
+  late.1 ∙ ap (λ (calls : List Event). late.0 ++ calls) early.1 ∙ sym (append_assoc late.0 early.0 first),
+)

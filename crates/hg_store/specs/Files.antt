@@ -25,11 +25,6 @@ pub record IsStore (file : List ℕ) (head : Head) (records : List (List ℕ)) (
 abbrev pub StandsFor : Head → List (List ℕ) → List ℕ → Type 0
 StandsFor head records file = (tail : List ℕ) × IsStore file head records tail × IsEnd tail
 
--- the file stands for these records, and the last of them ends there
-pub record EndsAt (head : Head) (records : List (List ℕ)) (end : ℕ) (file : List ℕ) : Type 0 where
-  pub stands : StandsFor head records file
-  pub place : end ≡ length (stored head records)
-
 -- After so many whole records stands a torn one.
 pub record IsTornStore (file : List ℕ) (whole : ℕ) : Type 0 where
   pub head : Head

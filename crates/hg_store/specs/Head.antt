@@ -1,5 +1,5 @@
 -- The head of a store: what it is, and how the server was set up that writes it.
-use Rattle.std.specs.Prelude.{ℕ, ◌≡◌, ◌≢◌, ◌<◌, ◌^◌, Bool, true, false, List, [], ◌∷◌, ◌++◌, length, take}
+use Rattle.std.specs.Prelude.{ℕ, ◌≡◌, ◌≢◌, ◌<◌, Bool, true, false, List, [], ◌∷◌, ◌++◌, length, take}
 use Rattle.std.specs.Int.{w32, to_be_bytes}
 use Rattle.sha1.specs.Sha1.{sha1}
 use Rattle.hg_types.specs.declared.limits.Limits.{Limits}
@@ -27,16 +27,6 @@ limits_bytes limits =
     limit_bytes limits.params ++ (limit_bytes limits.payload ++ (limit_bytes limits.stream
     ++ (limit_bytes limits.parts ++ (limit_bytes limits.text ++ (limit_bytes limits.rows
     ++ limit_bytes limits.revisions)))))
-
--- each limit has four bytes
-pub record LimitsFit (limits : Limits) : Type 0 where
-  pub params : limits.params < 2 ^ 32
-  pub payload : limits.payload < 2 ^ 32
-  pub stream : limits.stream < 2 ^ 32
-  pub parts : limits.parts < 2 ^ 32
-  pub text : limits.text < 2 ^ 32
-  pub rows : limits.rows < 2 ^ 32
-  pub revisions : limits.revisions < 2 ^ 32
 
 -- the magic, the version 1, the publishing byte, and the limits: 38 bytes
 abbrev pub head_bytes : Head → List ℕ

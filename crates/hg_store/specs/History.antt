@@ -1,8 +1,8 @@
 -- What is noted of a call.
 use Rattle.std.specs.Prelude.{ℕ, List}
 use Rattle.hg_store.specs.declared.history.Call.{Call}
-use Rattle.hg_store.specs.declared.history.Call.TheVariants.{Began, Wrote, Shortened, Synced, Placed, GaveUp}
-use Rattle.hg_store.specs.Calls.{Event, began, wrote, shortened, synced, placed, gave_up}
+use Rattle.hg_store.specs.declared.history.Call.TheVariants.{Began, Wrote, Shortened, Synced, Placed, GaveUp, Missed, Renewed}
+use Rattle.hg_store.specs.Calls.{Event, began, wrote, shortened, synced, placed, gave_up, missed, renewed}
 
 -- what a call was, and what it answered
 abbrev pub event_of : Call → Event
@@ -12,3 +12,5 @@ event_of (Shortened len ok) = shortened len ok
 event_of (Synced ok) = synced ok
 event_of (Placed ok) = placed ok
 event_of GaveUp = gave_up
+event_of Missed = missed
+event_of Renewed = renewed

@@ -6,6 +6,6 @@ pub mod Log
 pub mod Calls
 pub mod History
 pub mod FileLaws
-pub mod Cuts
 pub mod Openings
+pub mod Folders
 pub mod code

@@ -1,20 +1,16 @@
 -- A log on a device.
-use Rattle.std.specs.Prelude.{ℕ, ◌≡◌, ◌⊎◌, List, [], ◌∷◌, ◌++◌, length, drop}
+use Rattle.std.specs.Prelude.{ℕ, ◌≡◌, ◌⊎◌, List, [], ◌∷◌, ◌++◌, length}
 use Rattle.std.specs.List.{AllByRecursion}
 use Rattle.hg_types.specs.Limits.{IsAllowed}
 use Rattle.hg_store.specs.Device.{Only}
 use Rattle.hg_store.specs.Files.{StandsFor, digest_behind, stored}
-use Rattle.hg_store.specs.Records.{IsRecord, frames}
+use Rattle.hg_store.specs.Records.{IsRecord}
 use Rattle.hg_store.specs.declared.head.Head.{Head}
 use Rattle.hg_store.specs.declared.log.Log.{Log}
 
 -- a store of these records, after which a shut gate stands
 abbrev pub at_rest : Head → List (List ℕ) → List ℕ
 at_rest head records = stored head records ++ 0 ∷ []
-
--- a batch but the gate of its first record, and a shut gate after it
-abbrev pub ungated : List ℕ → List (List ℕ) → List ℕ
-ungated before batch = drop 1 (frames before batch) ++ 0 ∷ []
 
 -- the file stands for these records, or for these and all of the others after them
 abbrev pub IsBeforeOrAfter : Head → List (List ℕ) → List (List ℕ) → List ℕ → Type 0

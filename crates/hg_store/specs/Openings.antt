@@ -1,12 +1,21 @@
--- Why a store in a file is not opened.
-use Rattle.std.specs.Prelude.{ℕ, ◌≡◌, ◌≢◌, List, ◌∷◌, ⊤}
+-- What was found where a store in a file is opened, and why one is not opened.
+use Rattle.std.specs.Prelude.{ℕ, ◌≡◌, ◌≢◌, ◌⊎◌, ◌+◌, List, ◌∷◌, length, ⊤}
 use Rattle.hg_store.specs.declared.head.Head.{Head}
 use Rattle.hg_store.specs.declared.opening.RecoverFault.TheVariants.{Read, Torn, Device}
 use Rattle.hg_store.specs.declared.start.StoreFault.{StoreFault}
 use Rattle.hg_store.specs.declared.start.StoreFault.TheVariants.{Missing, Exists, Held, OtherPublishing, OtherLimits, Recover}
-use Rattle.hg_store.specs.Calls.{Event, began}
-use Rattle.hg_store.specs.Files.{IsTornStore, IsUnread}
+use Rattle.hg_store.specs.Calls.{Continue, Event, LeftSince, MayLeave, began, state_of}
+use Rattle.hg_store.specs.Device.{Only}
+use Rattle.hg_store.specs.Files.{IsTornStore, IsUnread, StandsFor}
 use Rattle.hg_store.specs.Head.{HasHead}
+
+-- A store in a file is open for more records. The first call on the file read it: the bytes that were found stand for
+-- these records, and so does what a crash may have left of it at any moment since.
+pub record IsFound (head : Head) (records : List (List ℕ)) (before now : List Event) : Type 0 where
+  pub bytes : List ℕ
+  pub read_first : Continue (began bytes ∷ before) now
+  pub stands : StandsFor head records bytes
+  pub any_moment : (left : List ℕ) → LeftSince now (length before + 1) left → StandsFor head records left
 
 -- what a folder may answer in the place of a store: there is none, there is one already, or it is held; or a device
 -- failed, or memory was refused
@@ -25,9 +34,22 @@ IsRefusedAs (Recover (Read fault)) head bytes = IsUnread fault bytes
 IsRefusedAs (Recover (Torn whole)) head bytes = IsTornStore bytes whole
 IsRefusedAs other head bytes = ⊥
 
--- The same of a file, by the calls on it before and those up to where it was read: nothing is asked of it between.
--- Of memory, and of a device that failed, nothing is said.
+-- A file was read, and holds the bytes that were found, all of them on the disk.
+pub record IsLeft (bytes : List ℕ) (before now : List Event) : Type 0 where
+  pub read_first : Continue (began bytes ∷ before) now
+  pub same : (state_of now).seen ≡ bytes
+  pub durable : Only bytes (MayLeave (state_of now))
+
+-- A file was read. Whatever records the bytes stood for that were found, what a crash may have left at any moment
+-- since stands for them.
+pub record IsInterrupted (bytes : List ℕ) (before now : List Event) : Type 0 where
+  pub read_first : Continue (began bytes ∷ before) now
+  pub any_moment : (head : Head) (records : List (List ℕ)) → StandsFor head records bytes → (left : List ℕ)
+      → LeftSince now (length before + 1) left → StandsFor head records left
+
+-- Why a file is not opened, by the calls on it before and those up to now, and what is left of it. Where a device
+-- failed, or memory was refused, it was not read, or no record is lost.
 abbrev pub IsUnopened : StoreFault → Head → List Event → List Event → Type 0
-IsUnopened (Recover (Device fault)) head before after = ⊤
-IsUnopened fault head before after =
-    (bytes : List ℕ) × (after ≡ began bytes ∷ before) × IsRefusedAs fault head bytes
+IsUnopened (Recover (Device fault)) head before now =
+    (now ≡ before) ⊎ ((bytes : List ℕ) × IsInterrupted bytes before now)
+IsUnopened fault head before now = (bytes : List ℕ) × IsLeft bytes before now × IsRefusedAs fault head bytes

@@ -1,2 +1,5 @@
 pub mod Fronts
 pub mod Held
+pub mod Steps
+pub mod Batches
+pub mod Heads

@@ -48,6 +48,9 @@ pub trait Device {
     /// How often the disk has failed.
     ghost faults: { Self → ℕ };
 
+    /// A file, and the same one after more calls, or none.
+    ghost goes_on: { Self → Self → Type 0 };
+
     /// All the bytes.
     fn read<A: Allocator + Copy>(&mut self, alloc: A) -> Result<Vec<u8, A>, DeviceError>
         ensures bytes { IfOk result (λ bytes. bytes.items ≡ seen self.old) }
@@ -55,6 +58,7 @@ pub trait Device {
         ensures crash { (c : List ℕ) → may_leave self.new c → may_leave self.old c }
         ensures time { Elapses (moment self.old) (moment self.new) (left_since self.old) (left_since self.new)
             (may_leave self.new) }
+        ensures same_file { goes_on self.old self.new }
         ensures cause { HasCause (faults self.old) (faults self.new) result };
 
     /// Writes over what is there, and past the end. Until a sync, a crash may leave any bytes in the range;
@@ -65,6 +69,7 @@ pub trait Device {
         ensures crash { CrashesFollow (Torn at bytes.now) (may_leave self.old) (may_leave self.new) }
         ensures time { Elapses (moment self.old) (moment self.new) (left_since self.old) (left_since self.new)
             (may_leave self.new) }
+        ensures same_file { goes_on self.old self.new }
         ensures cause { HasCause (faults self.old) (faults self.new) result };
 
     /// Cuts the file to a length. Until a sync, a crash may leave any length from that one on.
@@ -74,6 +79,7 @@ pub trait Device {
         ensures crash { CrashesFollow (Cut len) (may_leave self.old) (may_leave self.new) }
         ensures time { Elapses (moment self.old) (moment self.new) (left_since self.old) (left_since self.new)
             (may_leave self.new) }
+        ensures same_file { goes_on self.old self.new }
         ensures cause { HasCause (faults self.old) (faults self.new) result };
 
     /// After it, a crash leaves what a read returns.
@@ -83,6 +89,7 @@ pub trait Device {
         ensures crash { (c : List ℕ) → may_leave self.new c → may_leave self.old c }
         ensures time { Elapses (moment self.old) (moment self.new) (left_since self.old) (left_since self.new)
             (may_leave self.new) }
+        ensures same_file { goes_on self.old self.new }
         ensures cause { HasCause (faults self.old) (faults self.new) result };
 
     /// This moment is one of those since an earlier one.
@@ -91,4 +98,8 @@ pub trait Device {
 
     /// Since this moment there is no other.
     ghost only_now: { (file : Self) (c : List ℕ) → left_since file (moment file) c → may_leave file c };
+
+    /// More calls on top of more calls are more calls.
+    ghost goes_on_more: { (first next last : Self) → goes_on first next → goes_on next last →
+        goes_on first last };
 }

@@ -2,8 +2,8 @@
 //! answered.
 
 ghost use Rattle.std.specs.Prelude.{◌≡◌, ◌∷◌, List, ℕ, Some, Ok, IfOk, MatchResult, false, is_ok, length};
-ghost use Rattle.hg_store.specs.Calls.{Event, LeftSince, MayLeave, began, gave_up, state_of};
-ghost use Rattle.hg_store.specs.FileLaws.{now_alone, now_counts};
+ghost use Rattle.hg_store.specs.Calls.{Continue, Event, LeftSince, MayLeave, began, gave_up, state_of};
+ghost use Rattle.hg_store.specs.FileLaws.{more_continue, now_alone, now_counts};
 
 use crate::calls::Calls;
 use crate::device::{Device, DeviceError};
@@ -83,9 +83,14 @@ impl<C: Calls, A: Allocator + Copy> Device for StoreFile<C, A> {
 
     ghost faults = { λ f. (state_of (C.Calls.history f.calls)).faults };
 
+    ghost goes_on = { λ f g. Continue (C.Calls.history f.calls) (C.Calls.history g.calls) };
+
     ghost counts_now = { λ f. now_counts (C.Calls.history f.calls) };
 
     ghost only_now = { λ f. now_alone (C.Calls.history f.calls) };
+
+    ghost goes_on_more = { λ f g h. more_continue (C.Calls.history f.calls) (C.Calls.history g.calls)
+        (C.Calls.history h.calls) };
 
     /// The bytes that were read at first. They are given out once.
     fn read<B: Allocator + Copy>(&mut self, alloc: B) -> Result<Vec<u8, B>, DeviceError> {

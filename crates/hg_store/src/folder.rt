@@ -1,23 +1,21 @@
 //! A store in its folder: a file `pushes`, and `pushes.new` while that is made.
 
-ghost use Rattle.std.specs.Prelude.{◌≡◌, ◌⊎◌, [], List, ℕ, IfErr, IfOk, drop, false, true};
-ghost use Rattle.hg_store.specs.Calls.{Event};
-ghost use Rattle.hg_store.specs.Cuts.{IsCutAt};
-ghost use Rattle.hg_store.specs.Files.{IsStore};
+ghost use Rattle.std.specs.Prelude.{◌≡◌, ◌⊎◌, [], ◌∷◌, IfErr, IfOk, MatchResult};
+ghost use Rattle.hg_store.specs.Calls.{renewed};
+ghost use Rattle.hg_store.specs.Folders.{IsLookedFor, IsMadeAtMost};
 ghost use Rattle.hg_store.specs.Log.{IsSettled};
-ghost use Rattle.hg_store.specs.Openings.{IsOfFolder, IsUnopened};
-ghost use Rattle.hg_store.specs.Records.{IsEnd, IsTorn};
+ghost use Rattle.hg_store.specs.Openings.{IsFound, IsOfFolder, IsUnopened};
 
 use crate::calls::Calls;
-use crate::device::Device;
+use crate::device::{Device, DeviceError};
 use crate::file::StoreFile;
 use crate::head::Head;
+use crate::history::Call;
 use crate::host::{HostFile, device_error, read_all};
-use crate::place::{create_file, cut_file};
+use crate::names::StoreFolder;
+use crate::place::create_file;
 use crate::placed::{PlacedFile, hold, path_in, sync_folder};
-use crate::read::{Found, read_records};
 use crate::start::{Opened, StoreFault, open_file};
-use hg_types::Seq;
 use std::alloc::Allocator;
 use std::fs::{File, Files, OpenOptions};
 use std::{fs, io};
@@ -31,16 +29,16 @@ const NEW_NAME: &str = "pushes.new";
 /// Makes a store with no record in a folder, which is made if it is not there. Where a store is there it is
 /// refused, and nothing is changed.
 pub fn create_store<R: Files<File = File>, A: Allocator + Copy>(
-    files: &R,
     alloc: A,
-    folder: &str,
+    folder: &mut StoreFolder<'_, R>,
     head: &Head,
 ) -> Result<(), StoreFault>
-    ensures { IfErr result IsOfFolder }
+    ensures err { IfErr result IsOfFolder }
+    ensures names { IsMadeAtMost folder.old folder.new }
 {
-    make_folder(files, alloc, folder)?;
-    let mut new = new_file(files, alloc, folder)?;
-    let result = create_in(files, alloc, &mut new, head);
+    make_folder(folder.files(), alloc, folder.path())?;
+    let mut new = new_store(alloc, folder)?;
+    let result = create_in(folder.files(), alloc, &mut new, head);
     if result.is_err() {
         new.remove();
     }
@@ -67,58 +65,58 @@ fn create_in<R: Files<File = File>, A: Allocator + Copy>(
 /// whoever gave the file its name may have ended before that; where this fails the store is not opened. Then it is
 /// read and brought in order as [`open_file`] does.
 pub fn open_store<R: Files<File = File>, A: Allocator + Copy>(
-    files: &R,
     alloc: A,
-    folder: &str,
+    folder: &mut StoreFolder<'_, R>,
     head: &Head,
 ) -> Result<Opened<HostFile, A>, StoreFault>
     ensures settled { IfOk result (λ opened. IsSettled ⟦<StoreFile<HostFile, A> as Device>⟧.seen
         ⟦<StoreFile<HostFile, A> as Device>⟧.may_leave head.now opened.records opened.log) }
+    ensures found { IfOk result (λ opened. IsFound head.now opened.records []
+        (⟦<HostFile as Calls>⟧.history opened.log.device.calls)) }
     ensures err { IfErr result (λ fault. IsOfFolder fault ⊎ ((read : HostFile)
         × IsUnopened fault head.now [] (⟦<HostFile as Calls>⟧.history read))) }
+    ensures names { MatchResult result (λ _. folder.new ≡ folder.old)
+        (λ fault. IsLookedFor fault folder.old folder.new) }
 {
-    let name = path_in(alloc, folder, NAME)?;
-    let file = open_held(files, name.as_str())?;
-    sync_names(files, alloc, folder)?;
-    open_file(alloc, HostFile::new(file), head)
-}
-
-/// Ends the store in a folder before the record at this place, as [`cut_file`] does, and returns what that
-/// leaves out.
-pub fn cut_store<R: Files<File = File>, A: Allocator + Copy>(
-    files: &R,
-    alloc: A,
-    folder: &str,
-    at: usize,
-) -> Result<Seq<Seq<u8, A>, A>, StoreFault>
-    ensures { IfOk result (λ left_out. (bytes : List ℕ) × (calls : List Event)
-        × IsCutAt bytes at left_out calls) }
-{
-    let name = path_in(alloc, folder, NAME)?;
-    let mut old = HostFile::new(open_held(files, name.as_str())?);
-    let mut new = new_file(files, alloc, folder)?;
-    let result = cut_file(alloc, &mut old, &mut new, at);
-    if result.is_err() {
-        new.remove();
+    let file = find(alloc, folder)?;
+    sync_names(folder.files(), alloc, folder.path())?;
+    match open_file(alloc, HostFile::new(file), head) {
+        Ok(opened) => Ok(opened),
+        Err(left) => Err(left.fault),
     }
-    result
 }
 
-/// The records of the store in a folder, also while another process holds it. A torn store gives the whole
-/// ones, and says that it is torn. Nothing is changed, and nothing is held.
-pub fn read_store<R: Files<File = File>, A: Allocator + Copy>(
+/// The file of the store, which is held. Where there is none, that is noted.
+fn find<R: Files<File = File>, A: Allocator + Copy>(
+    alloc: A,
+    folder: &mut StoreFolder<'_, R>,
+) -> Result<File, StoreFault>
+    ensures err { IfErr result IsOfFolder }
+    ensures names { MatchResult result (λ _. folder.new ≡ folder.old)
+        (λ fault. IsLookedFor fault folder.old folder.new) }
+{
+    match open_held(folder.files(), alloc, folder.path()) {
+        Ok(file) => Ok(file),
+        Err(StoreFault::Missing) => {
+            folder.note(&Call::Missed);
+            Err(StoreFault::Missing)
+        }
+        Err(fault) => Err(fault),
+    }
+}
+
+/// The bytes of the store in a folder, also while another process holds it. Nothing is changed, and nothing is
+/// held.
+pub fn store_bytes<R: Files<File = File>, A: Allocator + Copy>(
     files: &R,
     alloc: A,
     folder: &str,
-) -> Result<Found<A>, StoreFault>
-    ensures { IfOk result (λ found. (file : List ℕ)
-        × IsStore file found.head found.records (drop found.end file)
-        × (found.is_torn ≡ true → IsTorn (drop found.end file))
-        × (found.is_torn ≡ false → IsEnd (drop found.end file))) }
+) -> Result<Vec<u8, A>, StoreFault>
+    ensures { IfErr result IsOfFolder }
 {
     let name = path_in(alloc, folder, NAME)?;
     match read_file(files, alloc, name.as_str()) {
-        Ok(bytes) => Ok(read_records(alloc, &bytes)?),
+        Ok(bytes) => Ok(bytes),
         Err(error) => Err(store_fault(error)),
     }
 }
@@ -131,18 +129,8 @@ fn read_file<R: Files<File = File>, A: Allocator + Copy>(
     read_all(alloc, &mut File::open(files, name)?)
 }
 
-/// The error of the system as a fault of a store.
-fn store_fault(error: io::Error) -> StoreFault
-    ensures { IsOfFolder result }
-{
-    match error.kind() {
-        io::ErrorKind::NotFound => StoreFault::Missing,
-        _ => StoreFault::from(device_error(error)),
-    }
-}
-
 /// Makes the folder and syncs the one that has it, unless it is there.
-fn make_folder<R: Files<File = File>, A: Allocator + Copy>(
+pub fn make_folder<R: Files<File = File>, A: Allocator + Copy>(
     files: &R,
     alloc: A,
     folder: &str,
@@ -159,23 +147,37 @@ fn make_folder<R: Files<File = File>, A: Allocator + Copy>(
     }
 }
 
+/// The error of the system as a fault of a store.
+fn store_fault(error: io::Error) -> StoreFault
+    ensures { IsOfFolder result }
+{
+    match error.kind() {
+        io::ErrorKind::NotFound => StoreFault::Missing,
+        _ => StoreFault::from(device_error(error)),
+    }
+}
+
 /// Syncs a folder, and the one that has it where that can be opened and synced.
 fn sync_names<R: Files<File = File>, A: Allocator + Copy>(
     files: &R,
     alloc: A,
     folder: &str,
-) -> Result<(), StoreFault>
-    ensures { IfErr result IsOfFolder }
-{
+) -> Result<(), DeviceError> {
     let above = path_in(alloc, folder, "..")?;
     let _above = sync_folder(files, above.as_str());
-    sync_folder(files, folder).map_err(store_fault)
+    sync_folder(files, folder).map_err(device_error)
 }
 
-/// Opens the file of a store for reading and writing, and holds it.
-fn open_held<R: Files<File = File>>(files: &R, name: &str) -> Result<File, StoreFault>
+/// Opens the file of the store in a folder for reading and writing, and holds it.
+pub fn open_held<R: Files<File = File>, A: Allocator + Copy>(
+    files: &R,
+    alloc: A,
+    folder: &str,
+) -> Result<File, StoreFault>
     ensures { IfErr result IsOfFolder }
 {
+    let name = path_in(alloc, folder, NAME)?;
+    let name = name.as_str();
     match OpenOptions::new().read(true).write(true).open(files, name) {
         Ok(file) => held(files, file, name),
         Err(error) => Err(store_fault(error)),
@@ -193,18 +195,54 @@ fn held<R: Files<File = File>>(files: &R, file: File, name: &str) -> Result<File
     }
 }
 
-/// The file `pushes.new` of a folder, which is held.
-fn new_file<'a, R: Files<File = File>, A: Allocator + Copy>(
+/// The file of a new store in a folder, which is held, and takes the place of one that is there.
+pub fn new_store<'a, R: Files<File = File>, A: Allocator + Copy>(
+    alloc: A,
+    folder: &mut StoreFolder<'a, R>,
+) -> Result<PlacedFile<'a, R, A>, StoreFault>
+    ensures ok { IfOk result (λ new. ⟦<PlacedFile<'a, R, A> as Calls>⟧.history new ≡ []) }
+    ensures err { IfErr result IsOfFolder }
+    ensures names { folder.new ≡ renewed ∷ folder.old }
+{
+    folder.note(&Call::Renewed);
+    let beside = path_in(alloc, folder.path(), NEW_NAME)?;
+    let name = path_in(alloc, folder.path(), NAME)?;
+    placed_file(folder.files(), folder.path(), beside, name, true)
+}
+
+/// A new file of a folder that is kept beside the store, which is held. One of its name is not written over.
+pub fn kept_file<'a, R: Files<File = File>, A: Allocator + Copy>(
     files: &'a R,
     alloc: A,
     folder: &'a str,
+    name: &str,
 ) -> Result<PlacedFile<'a, R, A>, StoreFault>
-    ensures ok { IfOk result (λ new. new.host.history.events ≡ []) }
+    ensures ok { IfOk result (λ new. ⟦<PlacedFile<'a, R, A> as Calls>⟧.history new ≡ []) }
     ensures err { IfErr result IsOfFolder }
 {
-    let beside = path_in(alloc, folder, NEW_NAME)?;
-    let name = path_in(alloc, folder, NAME)?;
-    match PlacedFile::make(files, folder, beside, name, true) {
+    let name = path_in(alloc, folder, name)?;
+    match fs::exists(files, name.as_str()) {
+        Ok(false) => {}
+        Ok(true) => return Err(StoreFault::Exists),
+        Err(error) => return Err(store_fault(error)),
+    }
+    let mut beside = String::from_str(alloc, name.as_str())?;
+    beside.push_str(".new")?;
+    placed_file(files, folder, beside, name, false)
+}
+
+/// A file beside its place, which is held.
+fn placed_file<'a, R: Files<File = File>, A: Allocator + Copy>(
+    files: &'a R,
+    folder: &'a str,
+    beside: String<A>,
+    name: String<A>,
+    replaces: bool,
+) -> Result<PlacedFile<'a, R, A>, StoreFault>
+    ensures ok { IfOk result (λ new. ⟦<PlacedFile<'a, R, A> as Calls>⟧.history new ≡ []) }
+    ensures err { IfErr result IsOfFolder }
+{
+    match PlacedFile::make(files, folder, beside, name, replaces) {
         Ok(Some(new)) => Ok(new),
         Ok(None) => Err(StoreFault::Held),
         Err(error) => Err(store_fault(error)),

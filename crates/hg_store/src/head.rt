@@ -2,7 +2,8 @@
 
 ghost use Rattle.std.specs.Prelude.{◌≡◌, ◌<◌, ◌≤◌, ◌+◌, ◌^◌, ◌++◌, ◌∷◌, ◌↔◌, List, ℕ, IfErr, IfOk, IsTrue, OnOk};
 ghost use Rattle.std.specs.Prelude.{length};
-ghost use Rattle.hg_store.specs.Head.{LimitsFit, HasHead, IsRefusedFor, head_bytes, limit_bytes, limits_bytes};
+ghost use Rattle.hg_store.specs.Head.{HasHead, IsRefusedFor, head_bytes, limit_bytes, limits_bytes};
+ghost use Rattle.hg_store.specs.code.Heads.{LimitsFit};
 
 use hg_types::{Limits, NoMemory};
 use std::alloc::Allocator;

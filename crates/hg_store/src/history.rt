@@ -6,7 +6,7 @@ ghost use Rattle.hg_store.specs.Calls.{Event};
 
 use std::marker::Model;
 
-/// Each call on a file with its answer, the newest first. It has no bytes, and its functions do nothing
+/// Each call on a file with its answer, or what was done in a folder, the newest first. It has no bytes, and its functions do nothing
 /// when they run: so what it says is as true as the code that notes it.
 #[derive(Drop)]
 pub struct History {
@@ -17,7 +17,7 @@ impl Model for History {
     ghost also_owns = { λ _. ftrue };
 }
 
-/// A call on a file, and whether it answered Ok.
+/// A call on a file, and whether it answered Ok; or what was done in the folder of a store.
 #[derive(Clone, Copy, Drop)]
 pub enum Call<'a> {
     /// The file was synced, what the system kept of it was dropped, and these bytes were read.
@@ -32,6 +32,10 @@ pub enum Call<'a> {
     Placed(bool),
     /// No call was made.
     GaveUp,
+    /// In a folder: no file had the name of the store.
+    Missed,
+    /// In a folder: a file was made that may get the name of the store, in the place of one that has it.
+    Renewed,
 }
 
 impl History {

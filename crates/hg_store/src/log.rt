@@ -5,10 +5,12 @@
 
 ghost use Rattle.std.specs.Prelude.{◌≡◌, ◌<◌, ◌≤◌, ◌+◌, ◌^◌, ◌++◌, ℕ, List, drop, length, OnOk, IfOk, IsErrOf};
 ghost use Rattle.std.specs.List.{AllByRecursion};
-ghost use Rattle.hg_store.specs.Device.{Overwrites, LeavesOnly, MayBeTorn, Only};
+ghost use Rattle.hg_store.specs.Device.{Overwrites, LeavesOnly, Only};
 ghost use Rattle.hg_store.specs.Records.{IsRecord, frames, last_digest};
 ghost use Rattle.hg_store.specs.declared.head.Head.{Head};
-ghost use Rattle.hg_store.specs.Log.{IsBeforeOrAfter, IsSettled, ungated};
+ghost use Rattle.hg_store.specs.Log.{IsBeforeOrAfter, IsSettled};
+ghost use Rattle.hg_store.specs.code.Batches.{ungated};
+ghost use Rattle.hg_store.specs.code.Steps.{MayBeTorn};
 ghost use Rattle.hg_store.specs.code.Fronts.{Begin, KeepsFront};
 
 use crate::device::{Device, DeviceError};
@@ -130,6 +132,7 @@ pub(crate) fn put_synced<D: Device>(
     ensures durable { OnOk result (Only (D.seen device.new) (D.may_leave device.new)) }
     ensures any_moment { LeavesOnly D.moment D.left_since device.old device.new
         (MayBeTorn at bytes.now (D.may_leave device.old)) }
+    ensures same_file { D.goes_on device.old device.new }
     ensures later { D.faults device.old ≤ D.faults device.new }
     ensures failed { IsErrOf result DeviceError.Failed → D.faults device.old < D.faults device.new }
     ensures full { IsErrOf result DeviceError.Full → ⊥ }

@@ -1,9 +1,11 @@
 //! A store that is opened again.
 
 ghost use Rattle.std.specs.Prelude.{◌≡◌, ◌<◌, ◌≤◌, ◌+◌, List, ℕ, IfOk, IsErrOf, OnOk, length, take};
-ghost use Rattle.hg_store.specs.Device.{IsUnchanged, LeavesOnly, MayBeCut, Only};
-ghost use Rattle.hg_store.specs.Files.{EndsAt, IsTornStore, IsUnread, StandsFor};
+ghost use Rattle.hg_store.specs.Device.{IsUnchanged, LeavesOnly, Only};
+ghost use Rattle.hg_store.specs.Files.{IsTornStore, IsUnread, StandsFor};
 ghost use Rattle.hg_store.specs.Log.{IsSettledAt, at_rest};
+ghost use Rattle.hg_store.specs.code.Batches.{EndsAt};
+ghost use Rattle.hg_store.specs.code.Steps.{MayBeCut};
 ghost use Rattle.hg_store.specs.declared.head.Head.{Head};
 ghost use Rattle.hg_store.specs.declared.device.DeviceError.TheVariants.{Failed, Full};
 ghost use Rattle.hg_store.specs.declared.read.ReadFault.{ReadFault as AnyReadFault};
@@ -68,6 +70,7 @@ pub fn recover<A: Allocator + Copy, D: Device>(
         Only (D.seen device.old) (D.may_leave device.old) →
         LeavesOnly D.moment D.left_since device.old device.new (StandsFor head records) }
 
+    ensures same_file { D.goes_on device.old device.new }
     ensures torn { (whole : ℕ) → IsErrOf result (torn_behind whole) →
         IsTornStore (D.seen device.old) whole × IsUnchanged D.seen D.may_leave device.old device.new }
     ensures unread { (fault : AnyReadFault) → IsErrOf result (unread fault) →
@@ -94,6 +97,7 @@ fn shut_gate<D: Device>(device: &mut D, end: usize, len: usize) -> Result<(), De
     ensures any_moment { (head : Head) (records : List (List ℕ)) → EndsAt head records end (D.seen device.old) →
         Only (D.seen device.old) (D.may_leave device.old) →
         LeavesOnly D.moment D.left_since device.old device.new (StandsFor head records) }
+    ensures same_file { D.goes_on device.old device.new }
     ensures later { D.faults device.old ≤ D.faults device.new }
     ensures failed { IsErrOf result DeviceError.Failed → D.faults device.old < D.faults device.new }
     ensures full { IsErrOf result DeviceError.Full → ⊥ }
@@ -111,6 +115,7 @@ fn cut_synced<D: Device>(device: &mut D, len: usize) -> Result<(), DeviceError>
     ensures durable { OnOk result (Only (D.seen device.new) (D.may_leave device.new)) }
     ensures any_moment { LeavesOnly D.moment D.left_since device.old device.new
         (MayBeCut len (D.may_leave device.old)) }
+    ensures same_file { D.goes_on device.old device.new }
     ensures later { D.faults device.old ≤ D.faults device.new }
     ensures failed { IsErrOf result DeviceError.Failed → D.faults device.old < D.faults device.new }
     ensures full { IsErrOf result DeviceError.Full → ⊥ }

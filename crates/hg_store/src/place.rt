@@ -1,9 +1,8 @@
 //! A new file that gets the name of a store once it is whole.
 
-ghost use Rattle.std.specs.Prelude.{◌≡◌, ◌≤◌, ◌<◌, ◌∷◌, ◌⊎◌, [], List, ℕ, IfErr, IfOk, OnOk, is_ok, true, false};
+ghost use Rattle.std.specs.Prelude.{◌≡◌, ◌∷◌, ◌⊎◌, [], IfErr, IfOk, OnOk, is_ok};
 ghost use Rattle.std.specs.List.{AllByRecursion};
-ghost use Rattle.hg_store.specs.Calls.{HasFailed, IsPlaced, IsPlacedWhole, began, placed};
-ghost use Rattle.hg_store.specs.Cuts.{IsCutAt, IsUncut};
+ghost use Rattle.hg_store.specs.Calls.{HasFailed, IsPlaced, IsPlacedWhole, placed};
 ghost use Rattle.hg_store.specs.Log.{at_rest};
 ghost use Rattle.hg_store.specs.Records.{IsRecord};
 ghost use Rattle.hg_store.specs.declared.opening.RecoverFault.TheVariants.{Device as device_fault};
@@ -14,7 +13,6 @@ use crate::device::DeviceError;
 use crate::file::told;
 use crate::head::Head;
 use crate::log::batch_bytes;
-use crate::read::read_records;
 use crate::start::StoreFault;
 use hg_types::{NoMemory, Seq};
 use sha1::Sha1;
@@ -59,48 +57,6 @@ pub fn create_file<N: NewFile, A: Allocator + Copy>(
     let bytes = bytes_at_rest(alloc, head, &none)?;
     put_whole(new, &bytes)?;
     Ok(())
-}
-
-/// Ends a store before the record at this place: writes the records before it to a new file, and puts that
-/// in the place of the old one, in which nothing is changed. What it leaves out is returned. A place at
-/// which no record stands, and no torn one, is refused; then no new file gets the name.
-pub fn cut_file<C: Calls, N: NewFile, A: Allocator + Copy>(
-    alloc: A,
-    old: &mut C,
-    new: &mut N,
-    at: usize,
-) -> Result<Seq<Seq<u8, A>, A>, StoreFault>
-    requires { N.Calls.history new.old ≡ [] }
-    ensures cut { IfOk result (λ left_out. (bytes : List ℕ)
-        × (C.Calls.history old.new ≡ began bytes ∷ C.Calls.history old.old)
-        × IsCutAt bytes at left_out (N.Calls.history new.new)) }
-    ensures err { IfErr result (λ fault. IsUncut fault at (C.Calls.history old.old) (C.Calls.history old.new)
-        (N.Calls.history new.new)) }
-{
-    let bytes = old.begin(alloc)?;
-    let found = read_records(alloc, bytes.as_slice())?;
-    drop(bytes);
-    let count = found.records.len();
-    if !has_place(at, count, found.is_torn) {
-        return Err(StoreFault::NoPlace(count));
-    }
-    let mut records = found.records.into_vec();
-    let left_out = records.split_off(at)?;
-    let whole = bytes_at_rest(alloc, &found.head, &records)?;
-    put_whole(new, &whole)?;
-    Ok(Seq::from_vec(left_out))
-}
-
-/// Whether a record stands at the place, or a torn one after so many whole ones.
-fn has_place(at: usize, count: usize, is_torn: bool) -> bool
-    ensures within { result ≡ true → at ≤ count }
-    ensures place { result ≡ true → (at < count) ⊎ ((at ≡ count) × (is_torn ≡ true)) }
-    ensures refused { result ≡ false → (count < at) ⊎ ((at ≡ count) × (is_torn ≡ false)) }
-{
-    if at == count {
-        return is_torn;
-    }
-    at < count
 }
 
 /// The bytes of a store with these records and a shut gate after them.

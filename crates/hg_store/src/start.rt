@@ -1,9 +1,9 @@
-//! A store in a file that is opened for more records, or cut.
+//! A store in a file that is opened for more records.
 
 ghost use Rattle.std.specs.Prelude.{◌≡◌, IfErr, IfOk, OnOk};
 ghost use Rattle.hg_store.specs.Head.{HasHead};
 ghost use Rattle.hg_store.specs.Log.{IsSettled};
-ghost use Rattle.hg_store.specs.Openings.{IsRefusedAs, IsUnopened};
+ghost use Rattle.hg_store.specs.Openings.{IsFound, IsRefusedAs, IsUnopened};
 ghost use Rattle.hg_store.specs.declared.head.Head.{Head as AnyHead};
 
 use crate::calls::Calls;
@@ -17,7 +17,7 @@ use hg_types::{NoMemory, Seq};
 use std::alloc::{Allocator, Global};
 use thiserror::Error;
 
-/// Why a store is not made, opened, read or cut.
+/// Why a store is not made, opened or read.
 #[derive(Clone, Copy, Debug, PartialEq, Eq, Error)]
 pub enum StoreFault {
     /// There is none.
@@ -35,9 +35,6 @@ pub enum StoreFault {
     /// It was made with other limits.
     #[error("a store of other limits")]
     OtherLimits,
-    /// It has no such place, since it has so many records.
-    #[error("no such place behind {0} records")]
-    NoPlace(usize),
     /// It is not read, or torn, or the device failed, or memory was refused.
     #[error("{0}")]
     Recover(RecoverFault),
@@ -99,6 +96,13 @@ pub struct Opened<C: Calls, A: Allocator + Copy = Global> {
     pub records: Seq<Seq<u8, A>, A>,
 }
 
+/// A file that is not opened, and why.
+#[derive(Drop)]
+pub struct Unopened<C: Calls> {
+    pub fault: StoreFault,
+    pub calls: C,
+}
+
 /// Opens the store of a server that is set up in this way: reads it, and brings its end in order as
 /// [`recover`] does. A store with another head is refused, and so is one that [`recover`] refuses, each for what
 /// was read; then nothing in it is changed.
@@ -106,17 +110,27 @@ pub fn open_file<C: Calls, A: Allocator + Copy>(
     alloc: A,
     calls: C,
     head: &Head,
-) -> Result<Opened<C, A>, StoreFault>
+) -> Result<Opened<C, A>, Unopened<C>>
     ensures settled { IfOk result (λ opened. IsSettled ⟦<StoreFile<C, A> as Device>⟧.seen
         ⟦<StoreFile<C, A> as Device>⟧.may_leave head.now opened.records opened.log) }
-    ensures err { IfErr result (λ fault. (read : C)
-        × IsUnopened fault head.now (C.Calls.history calls) (C.Calls.history read)) }
+    ensures found { IfOk result (λ opened. IsFound head.now opened.records (C.Calls.history calls)
+        (C.Calls.history opened.log.device.calls)) }
+    ensures err { IfErr result (λ left. IsUnopened left.fault head.now (C.Calls.history calls)
+        (C.Calls.history left.calls)) }
 {
     let mut calls = calls;
-    let bytes = calls.begin(alloc)?;
-    has_no_other_head(bytes.as_slice(), head)?;
+    let bytes = match calls.begin(alloc) {
+        Ok(bytes) => bytes,
+        Err(error) => return Err(left_over(StoreFault::from(error), calls)),
+    };
+    if let Err(fault) = has_no_other_head(bytes.as_slice(), head) {
+        return Err(left_over(fault, calls));
+    }
     let mut device = StoreFile::of(calls, bytes);
-    let found = recover(alloc, &mut device)?;
+    let found = match recover(alloc, &mut device) {
+        Ok(found) => found,
+        Err(fault) => return Err(left_over(StoreFault::from(fault), device.into_calls())),
+    };
     let log = Log {
         device,
         end: found.end,
@@ -126,6 +140,12 @@ pub fn open_file<C: Calls, A: Allocator + Copy>(
         log,
         records: found.records,
     })
+}
+
+fn left_over<C: Calls>(fault: StoreFault, calls: C) -> Unopened<C>
+    ensures { (result.fault ≡ fault) × (result.calls ≡ calls) }
+{
+    Unopened { fault, calls }
 }
 
 /// Refuses a file that has another head than this one. One that has none is not refused here.

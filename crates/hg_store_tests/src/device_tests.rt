@@ -92,8 +92,10 @@ fn opened<A: Allocator + Copy>(alloc: A, paper: Paper) -> Result<Opened<Paper, A
         × IsSettled ⟦<StoreFile<Paper, A> as Device>⟧.seen ⟦<StoreFile<Paper, A> as Device>⟧.may_leave
         head records opened.log) }
 {
-    let opened = open_file(alloc, paper, &standard())?;
-    Ok(opened)
+    match open_file(alloc, paper, &standard()) {
+        Ok(opened) => Ok(opened),
+        Err(left) => Err(left.fault),
+    }
 }
 
 /// Adds a batch to a log, and gives up the log: whether it was added, and the file.
@@ -284,7 +286,7 @@ fn refusal(alloc: Global, file: &[u8], head: &Head) -> Result<Option<StoreFault>
     let paper = Paper::new(alloc, file, 1)?;
     match open_file(alloc, paper, head) {
         Ok(_) => Ok(None),
-        Err(fault) => Ok(Some(fault)),
+        Err(left) => Ok(Some(left.fault)),
     }
 }
 
@@ -456,42 +458,6 @@ fn a_store_that_is_made(rt: HostRuntime) -> Result<(), Fail> {
     Ok(())
 }
 
-// A store of three records is ended before each of them, and not after them; a torn one also before the
-// torn record.
-#[test]
-fn a_store_that_is_cut(rt: HostRuntime) -> Result<(), Fail> {
-    let alloc = rt.alloc();
-    let rest = store_of(alloc, 3)?;
-    for at in 0..5usize {
-        for torn in [false, true] {
-            let less = if torn { 2 } else { 0 };
-            let file = front(&rest, rest.len().saturating_sub(less));
-            let count = if torn { 2usize } else { 3 };
-            let mut old = Paper::new(alloc, file, 1)?;
-            let mut new = Paper::new(alloc, &[], NO_LIMIT)?;
-            let has_place = at < 3;
-            match cut_file(alloc, &mut old, &mut new, at) {
-                Ok(left_out) => {
-                    assert!(rt; has_place, "place {at}");
-                    assert!(rt; new.is_named);
-                    assert_eq!(rt; new.synced.as_slice(), store_of(alloc, at)?.as_slice());
-                    assert_eq!(rt; left_out.len(), count - at.min(count), "place {at}");
-                    for (left, record) in left_out.as_slice().iter().zip(&RECORDS[at..]) {
-                        assert_eq!(rt; left.as_slice(), *record);
-                    }
-                }
-                Err(fault) => {
-                    assert!(rt; !has_place, "place {at}");
-                    assert_eq!(rt; fault, StoreFault::NoPlace(count));
-                    assert!(rt; !new.is_named);
-                }
-            }
-            assert_eq!(rt; old.bytes.as_slice(), file);
-        }
-    }
-    Ok(())
-}
-
 /// All that is left of a heap.
 fn rest_of<'h>(alloc: Global, heap: &'h LocalHeap) -> Result<Vec<Vec<u8, &'h LocalHeap>>, Fail> {
     let mut blocks = Vec::new(alloc);
@@ -569,39 +535,6 @@ fn memory_refused_to_a_store(rt: HostRuntime) -> Result<(), Fail> {
     }
     assert!(rt; refused > 0);
     assert!(rt; added > 0);
-    Ok(())
-}
-
-// Heaps of each size: a store is cut, or memory is refused, and no file gets the name of a store.
-#[test]
-fn memory_refused_to_a_cut(rt: HostRuntime) -> Result<(), Fail> {
-    let alloc = rt.alloc();
-    let rest = store_of(alloc, 3)?;
-    let before = store_of(alloc, 1)?;
-    let mut refused = 0usize;
-    let mut cut = 0usize;
-    for size in 0..1600usize {
-        let heap = LocalHeap::new(alloc, size)?;
-        let mut old = Paper::new(alloc, &rest, 1)?;
-        let mut new = Paper::new(alloc, &[], NO_LIMIT)?;
-        match cut_file(&heap, &mut old, &mut new, 1) {
-            Ok(left_out) => {
-                assert_eq!(rt; left_out.len(), 2, "a heap of {size}");
-                assert_eq!(rt;
-                    new.synced.as_slice(),
-                    before.as_slice(),
-                    "a heap of {size}"
-                );
-                cut = cut.saturating_add(1);
-            }
-            Err(_) => {
-                assert!(rt; !new.is_named, "a heap of {size}");
-                refused = refused.saturating_add(1);
-            }
-        }
-    }
-    assert!(rt; refused > 0);
-    assert!(rt; cut > 0);
     Ok(())
 }
 

@@ -23,7 +23,7 @@ fn standard() -> Head {
 
 /// Why a store is not opened.
 fn refusal(rt: &HostRuntime, folder: &str, head: &Head) -> Option<StoreFault> {
-    match open_store(rt, rt.alloc(), folder, head) {
+    match open_store(rt.alloc(), &mut StoreFolder::new(rt, folder), head) {
         Ok(_) => None,
         Err(fault) => Some(fault),
     }
@@ -51,10 +51,11 @@ fn batch_of(alloc: Global, record: &[u8]) -> Result<Vec<Sealed>, NoMemory>
 fn fill(rt: &HostRuntime, folder: &str) -> Result<(), Fail> {
     let alloc = rt.alloc();
     let _ = fs::remove_dir_all(rt, folder);
-    create_store(rt, alloc, folder, &standard())?;
+    let mut place = StoreFolder::new(rt, folder);
+    create_store(alloc, &mut place, &standard())?;
     let first = batch_of(alloc, b"first")?;
     let next = batch_of(alloc, b"next")?;
-    let mut opened = open_store(rt, alloc, folder, &standard())?;
+    let mut opened = open_store(alloc, &mut place, &standard())?;
     opened.log.append(&first)?;
     opened.log.append(&next)?;
     Ok(())
@@ -71,19 +72,20 @@ fn a_store_in_a_folder(rt: HostRuntime) -> Result<(), Fail> {
         Some(StoreFault::Missing)
     );
     fill(&rt, folder)?;
+    let mut place = StoreFolder::new(&rt, folder);
     assert_eq!(rt;
-        create_store(&rt, alloc, folder, &standard()),
+        create_store(alloc, &mut place, &standard()),
         Err(StoreFault::Exists)
     );
     assert_eq!(rt; fs::exists(&rt, "hg_store_in_a_folder/pushes.new")?, false);
 
-    let opened = open_store(&rt, alloc, folder, &standard())?;
+    let opened = open_store(alloc, &mut place, &standard())?;
     assert_eq!(rt; opened.records.len(), 2);
     assert!(rt; begin_with(opened.records.as_slice(), b"first"));
     assert_eq!(rt; opened.log.end, ENDS[2]);
     assert_eq!(rt; refusal(&rt, folder, &standard()), Some(StoreFault::Held));
-    let beside = read_store(&rt, alloc, folder)?;
-    assert_eq!(rt; beside.records.len(), 2);
+    let bytes = store_bytes(&rt, alloc, folder)?;
+    assert_eq!(rt; read_records(alloc, &bytes)?.records.len(), 2);
     drop(opened);
 
     let mut other = standard();
@@ -142,7 +144,8 @@ fn a_file_cut_anywhere(rt: HostRuntime) -> Result<(), Fail> {
             usize::from(len >= ENDS[1])
         };
         let is_whole = len == 98 || ENDS.contains(&len);
-        let beside = read_store(&rt, alloc, folder);
+        let bytes = store_bytes(&rt, alloc, folder)?;
+        let beside = read_records(alloc, &bytes);
         let refused = refusal(&rt, folder, &standard());
         if len < 38 {
             let short = ReadFault::Head(HeadFault::TooShort);
@@ -169,38 +172,25 @@ fn a_file_cut_anywhere(rt: HostRuntime) -> Result<(), Fail> {
     Ok(())
 }
 
-// A cut at a place that is not there changes nothing, and one that is there leaves the records before it.
+// A file that is kept beside a store gets its name once, and one of that name stays.
 #[test]
-fn a_cut_in_a_folder(rt: HostRuntime) -> Result<(), Fail> {
-    let folder = "hg_store_cut_in_a_folder";
-    let name = "hg_store_cut_in_a_folder/pushes";
+fn a_file_that_is_kept(rt: HostRuntime) -> Result<(), Fail> {
+    let folder = "hg_store_kept";
+    let name = "hg_store_kept/pushes.tail-1";
     let alloc = rt.alloc();
-    fill(&rt, folder)?;
-    let file = fs::read(&rt, name)?;
-    match cut_store(&rt, alloc, folder, 2) {
-        Ok(_) => assert!(rt; false, "a place behind the records"),
-        Err(fault) => assert_eq!(rt; fault, StoreFault::NoPlace(2)),
+    let _ = fs::remove_dir_all(&rt, folder);
+    make_folder(&rt, alloc, folder)?;
+    make_folder(&rt, alloc, folder)?;
+    let mut kept = kept_file(&rt, alloc, folder, "pushes.tail-1")?;
+    put_whole(&mut kept, b"tail")?;
+    drop(kept);
+    assert_eq!(rt; fs::read(&rt, name)?.as_slice(), b"tail".as_slice());
+    assert!(rt; !fs::exists(&rt, "hg_store_kept/pushes.tail-1.new")?);
+    match kept_file(&rt, alloc, folder, "pushes.tail-1") {
+        Ok(_) => assert!(rt; false, "a file that is there"),
+        Err(fault) => assert_eq!(rt; fault, StoreFault::Exists),
     }
-    assert_eq!(rt; fs::read(&rt, name)?.as_slice(), file.as_slice());
-    assert_eq!(rt;
-        fs::exists(&rt, "hg_store_cut_in_a_folder/pushes.new")?,
-        false
-    );
-
-    let held = open_store(&rt, alloc, folder, &standard())?;
-    match cut_store(&rt, alloc, folder, 1) {
-        Ok(_) => assert!(rt; false, "a store that is held"),
-        Err(fault) => assert_eq!(rt; fault, StoreFault::Held),
-    }
-    drop(held);
-
-    let left_out = cut_store(&rt, alloc, folder, 1)?;
-    assert_eq!(rt; left_out.len(), 1);
-    assert!(rt; begin_with(left_out.as_slice(), b"next"));
-    let opened = open_store(&rt, alloc, folder, &standard())?;
-    assert_eq!(rt; opened.records.len(), 1);
-    assert_eq!(rt; opened.log.end, ENDS[1]);
-    drop(opened);
+    assert_eq!(rt; fs::read(&rt, name)?.as_slice(), b"tail".as_slice());
     fs::remove_dir_all(&rt, folder)?;
     Ok(())
 }

@@ -19,7 +19,8 @@ use Rattle.hg_stream.specs.Frames.{IsPiece, IsInner, inner_bytes, Frame, frame_b
 use Rattle.hg_stream.specs.Frames.{AreFrames, HasParts}
 use Rattle.hg_stream.specs.Places.{IsInPayload, IsInterrupted, IsInInner, IsBeforeChunk, IsReading, at_chunk}
 use Rattle.hg_stream.specs.code.Told.{of_chunk}
-use Rattle.hg_stream.specs.Unbundler.{BreaksBundle, TakesPayload}
+use Rattle.hg_stream.specs.Unbundler.{TakesPayload}
+use Rattle.hg_stream.specs.code.Steps.{BreaksBundle}
 use Rattle.hg_stream.proofs.Steps.{further}
 
 -- ---- chunks as pieces

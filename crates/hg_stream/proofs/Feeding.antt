@@ -13,8 +13,10 @@ use Rattle.hg_stream.specs.declared.unbundler.Stage.{Stage}
 use Rattle.hg_stream.specs.declared.unbundler.Stage.TheVariants as stage
 use Rattle.hg_stream.specs.declared.unbundler.Unbundler.{Unbundler}
 use Rattle.hg_stream.specs.Faults.{StopsReading, StateTells}
-use Rattle.hg_stream.specs.Unbundler.{Fields, fields_of, HasFinished, IsAt, IsAtStage, MeetsFault, Halts, Meets}
-use Rattle.hg_stream.specs.Unbundler.{PassesBy, FeedsBundle, KeepsFinished, HoldsBundle, ready_of, limits_of, state_at, state_of}
+use Rattle.hg_stream.specs.Unbundler.{Fields, fields_of, HasFinished, IsAt, IsAtStage}
+use Rattle.hg_stream.specs.code.Steps.{MeetsFault, Halts, Meets}
+use Rattle.hg_stream.specs.Unbundler.{KeepsFinished, HoldsBundle, ready_of, limits_of, state_at, state_of}
+use Rattle.hg_stream.specs.code.Steps.{PassesBy, FeedsBundle}
 use Rattle.hg_stream.proofs.Telling.{is_no_memory, met, met_stops, holds, reading_of}
 
 -- the same bytes of a front of a piece as of the piece

@@ -12,7 +12,8 @@ use Rattle.hg_stream.specs.Frames.{max_header, HasHead}
 use Rattle.hg_stream.specs.Places.{IsInterrupted, IsInInner, of_interrupting}
 use Rattle.hg_stream.specs.Faults.{EndsInnerHeader}
 use Rattle.hg_stream.specs.code.Told.{JudgesHeader, ReadsInterrupting, RefusesInterrupting}
-use Rattle.hg_stream.specs.Unbundler.{BreaksBundle, Waits}
+use Rattle.hg_stream.specs.Unbundler.{Waits}
+use Rattle.hg_stream.specs.code.Steps.{BreaksBundle}
 use Rattle.hg_stream.proofs.Steps.{further, header_err, EndsBlock}
 
 has_head : {A : Type 0} (block : List ℕ) (verdict : Verdict) → IsBlock max_header block

@@ -19,13 +19,14 @@ use Rattle.hg_stream.specs.declared.payloads.Level.{Level}
 use Rattle.hg_stream.specs.declared.payloads.Level.TheVariants as level
 use Rattle.hg_stream.specs.declared.payloads.Payloads.{Payloads}
 use Rattle.hg_stream.specs.Block.{sized, IsBlock}
-use Rattle.hg_stream.specs.Payloads.{reader_at, other}
+use Rattle.hg_stream.specs.Payloads.{reader_at}
 use Rattle.hg_stream.specs.Places.{IsBeforeHeader, IsBeforeChunk, of_part, of_interrupting}
 use Rattle.hg_stream.specs.code.Going.{IsGoing}
-use Rattle.hg_stream.specs.code.Readers.{ReadsPayload}
+use Rattle.hg_stream.specs.code.Readers.{other, ReadsPayload}
 use Rattle.hg_stream.specs.code.Stages.{stage_after}
 use Rattle.hg_stream.specs.code.Told.{RefusesHeaderAt, ReadsHeaderAt}
-use Rattle.hg_stream.specs.Unbundler.{BreaksBundle, Fields, IsAtStage, IsBeforeHeaderAt, IsInsideAt, Waits, room_at}
+use Rattle.hg_stream.specs.Unbundler.{Fields, IsAtStage, IsBeforeHeaderAt, IsInsideAt, Waits, room_at}
+use Rattle.hg_stream.specs.code.Steps.{BreaksBundle}
 use Rattle.hg_stream.proofs.Steps.{EndsBlock, header_err, opens}
 use Rattle.hg_stream.proofs.Chunks.{CarriesOn, more_chunks, more_inner, ends_pause}
 use Rattle.hg_stream.proofs.Interruptions.{interrupting_err, opens_inner}

@@ -6,7 +6,8 @@ use Rattle.std.proofs.lemmas.List.{append-nil, take_all, length-drop}
 use Rattle.hg_types.specs.declared.part.Part.{Part}
 use Rattle.hg_stream.specs.declared.fault.StreamFault.{StreamFault}
 use Rattle.hg_stream.specs.declared.unbundler.Unbundler.{Unbundler}
-use Rattle.hg_stream.specs.Unbundler.{IsAt, KeepsParts, Moves, BreaksBundle, MeetsFault, Halts, Steps, limits_of}
+use Rattle.hg_stream.specs.Unbundler.{IsAt, limits_of}
+use Rattle.hg_stream.specs.code.Steps.{KeepsParts, Moves, BreaksBundle, MeetsFault, Halts, Steps}
 use Rattle.hg_stream.specs.Unbundler.{ready_of}
 use Rattle.hg_stream.proofs.Steps.{finishes_none}
 

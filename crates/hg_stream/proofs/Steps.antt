@@ -22,7 +22,8 @@ use Rattle.hg_stream.specs.Frames.{magic, max_header, HasParts}
 use Rattle.hg_stream.specs.Places.{IsBeforeBlock, params, header, IsBeforeHeader, IsInPayload, IsReading}
 use Rattle.hg_stream.specs.Places.{at_block, header_room}
 use Rattle.hg_stream.specs.code.Told.{of_block, room_left, ReadsParams, RefusesParams, RefusesHeader}
-use Rattle.hg_stream.specs.Unbundler.{BreaksBundle, IsAt, Waits, Finishes, ready_of}
+use Rattle.hg_stream.specs.Unbundler.{IsAt, Waits, ready_of}
+use Rattle.hg_stream.specs.code.Steps.{BreaksBundle, Finishes}
 
 -- ---- blocks
 

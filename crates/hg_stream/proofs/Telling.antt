@@ -20,7 +20,8 @@ use Rattle.hg_stream.specs.Frames.{magic, IsWhole}
 use Rattle.hg_stream.specs.Payloads.{reader_at}
 use Rattle.hg_stream.specs.Places.{IsReading, at_magic, params, header}
 use Rattle.hg_stream.specs.Faults.{by_grammar, by_length, StopsReading, StateTells}
-use Rattle.hg_stream.specs.Unbundler.{Fields, fields_of, IsAt, IsAtStage, BreaksBundle, Meets, KeepsFinished, HoldsBundle}
+use Rattle.hg_stream.specs.Unbundler.{Fields, fields_of, IsAt, IsAtStage, KeepsFinished, HoldsBundle}
+use Rattle.hg_stream.specs.code.Steps.{BreaksBundle, Meets}
 use Rattle.hg_stream.specs.Unbundler.{ready_of, state_at, state_of}
 use Rattle.hg_stream.proofs.Steps.{still_reading}
 use Rattle.hg_stream.proofs.Chunks.{chunk_reading}
@@ -124,9 +125,6 @@ reading_or_whole_of u bytes parts at = reading_or_whole u.stage (fields_of u) by
 
 pub reading_not_ended : Reading ≡ Ended → ⊥
 reading_not_ended e = cc
-
-pub ended_not_reading : Ended ≡ Reading → ⊥
-ended_not_reading e = cc
 
 -- ---- what a reader keeps of the whole
 

@@ -8,8 +8,3 @@ use Rattle.hg_stream.specs.declared.payloads.Payloads.{Payloads}
 abbrev pub reader_at : {A : Type 0} → Level → Payloads A → PayloadIn A
 reader_at level.Part payloads = payloads.part
 reader_at level.Interrupting payloads = payloads.interrupting
-
--- the other level
-abbrev pub other : Level → Level
-other level.Part = level.Interrupting
-other level.Interrupting = level.Part

@@ -2,8 +2,8 @@
 
 ghost use Rattle.std.specs.Prelude.{◌≡◌};
 ghost use Rattle.hg_chunks.specs.PayloadIn.{Reading, phase_of};
-ghost use Rattle.hg_stream.specs.Payloads.{reader_at, other};
-ghost use Rattle.hg_stream.specs.code.Readers.{ReadsPayload, HasTakenNothing};
+ghost use Rattle.hg_stream.specs.Payloads.{reader_at};
+ghost use Rattle.hg_stream.specs.code.Readers.{other, ReadsPayload, HasTakenNothing};
 
 use hg_chunks::{ChunkFault, PayloadIn, Step};
 use std::alloc::{Allocator, Global};
@@ -48,7 +48,7 @@ impl<A: Allocator + Copy> Payloads<A> {
         }
     }
 
-    /// HasTakenNothing the next payload at that level, and gives the reader of the one before.
+    /// Begins the next payload at that level, and gives the reader of the one before.
     pub fn begin(&mut self, level: Level, alloc: A, limit: u32) -> PayloadIn<A>
         ensures before { result ≡ reader_at level self.old }
         ensures begins { HasTakenNothing limit (reader_at level self.new) }

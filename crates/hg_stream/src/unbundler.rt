@@ -77,9 +77,9 @@ pub struct Unbundler<A: Allocator = Global> {
 }
 
 impl<A: Allocator + Copy> Unbundler<A> {
-    ghost use Rattle.hg_stream.specs.Unbundler.{HoldsBundle, IsStillReading, FeedsBundle, KeepsParts, Steps, Moves};
-    ghost use Rattle.hg_stream.specs.Unbundler.{MeetsFault, Halts, PassesBy, Finished, state_of, limits_of};
-    ghost use Rattle.hg_stream.specs.Unbundler.{ready_of, Opened, Interrupted, Closed};
+    ghost use Rattle.hg_stream.specs.Unbundler.{HoldsBundle, IsStillReading, state_of, limits_of, ready_of};
+    ghost use Rattle.hg_stream.specs.code.Steps.{FeedsBundle, KeepsParts, Steps, Moves, MeetsFault, Halts};
+    ghost use Rattle.hg_stream.specs.code.Steps.{PassesBy, Finished, Opened, Interrupted, Closed};
     ghost use Rattle.hg_stream.specs.code.Told.{RefusesHeaderAt};
 
     /// A reader that was fed nothing.
@@ -140,6 +140,13 @@ impl<A: Allocator + Copy> Unbundler<A> {
         ensures limits { limits_of self.new ≡ limits_of self.old }
     {
         self.ready.pop_front()
+    }
+
+    /// How many parts were finished and not yet given.
+    pub(crate) fn ready_len(&self) -> usize
+        ensures { result ≡ length (ready_of self.now) }
+    {
+        self.ready.len()
     }
 
     /// Says that no more bytes come. Truncated where the end mark is missing.

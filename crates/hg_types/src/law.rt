@@ -28,6 +28,4 @@ pub fn a_key_has_one_value<A: Allocator>()
 /// What a program has as bytes are bytes to the definitions.
 pub fn bytes_are_bytes(bytes: &[u8])
     ensures { IsBytes bytes.now }
-{
-    let _ = bytes;
-}
+{}

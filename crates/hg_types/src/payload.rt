@@ -133,7 +133,7 @@ fn hash_at(bytes: &[u8], first: u32, second: u32, from: u32, to: u32) -> Option<
 {
     let ids = (id_at(bytes, first)?, id_at(bytes, second)?);
     let text = text_at(bytes, from, to)?;
-    let digest = Node(digest(&ids.0.0, &ids.1.0, text));
+    let digest = digest(&ids.0, &ids.1, text);
     Some(Stretch {
         first,
         second,
@@ -163,14 +163,14 @@ fn text_at(bytes: &[u8], from: u32, to: u32) -> Option<&[u8]>
 }
 
 /// SHA-1 of two ids and a text, one after the other.
-fn digest(first: &[u8], second: &[u8], text: &[u8]) -> [u8; 20]
-    ensures { result ≡ sha1 (first.now ++ second.now ++ text.now) }
+pub fn digest(first: &Node, second: &Node, text: &[u8]) -> Node
+    ensures { result.0 ≡ sha1 (first.now.0 ++ second.now.0 ++ text.now) }
 {
     let mut hasher = Sha1::new();
-    hasher.update(first);
-    hasher.update(second);
+    hasher.update(&first.0);
+    hasher.update(&second.0);
     hasher.update(text);
-    hasher.finalize()
+    Node(hasher.finalize())
 }
 
 /// A copy has the bytes, and no hashes.

@@ -1,7 +1,6 @@
 //! The phase of a changeset, and its number.
 
-ghost use Rattle.std.specs.Prelude.{◌≡◌, ◌≢◌, pos, IfSome, IfNone};
-ghost use Rattle.hg_types.specs.declared.phase.Phase.{Phase as APhase};
+ghost use Rattle.std.specs.Prelude.{◌≡◌};
 
 /// How far a changeset is from being shared for good. No changeset is in a lower phase than an ancestor of
 /// it.
@@ -23,18 +22,5 @@ impl Phase {
         ensures { result ≡ number_of self }
     {
         self as u8
-    }
-
-    /// The phase with that number, which phase entries carry as a signed number; none where no phase has it.
-    pub fn from_number(number: i32) -> Option<Phase>
-        ensures found { IfSome result (λ phase. number ≡ pos (number_of phase)) }
-        ensures none { IfNone result ((phase : APhase) → number ≢ pos (number_of phase)) }
-    {
-        match number {
-            0 => Some(Phase::Public),
-            1 => Some(Phase::Draft),
-            2 => Some(Phase::Secret),
-            _ => None,
-        }
     }
 }

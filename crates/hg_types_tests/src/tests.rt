@@ -3,11 +3,12 @@
 mod ample;
 mod boxed;
 mod hashes;
+mod noted;
 mod short;
 
 use hg_types::{
-    BoxedPart, BoxedSeq, CutReason, Item, Limits, NoMemory, Node, Pages, Param, Part, Payload,
-    Phase, Seq, Short, TryClone, What, try_clone_each,
+    BoxedPart, BoxedSeq, CutReason, Item, Limits, NoMemory, Node, Noted, Pages, Param, Part,
+    Payload, Phase, Seq, Short, TryClone, What, try_clone_each,
 };
 use linked_list_allocator::LocalHeap;
 use std::alloc::Allocator;
@@ -179,9 +180,6 @@ fn the_null_id_and_the_phases(rt: HostRuntime) {
     assert_eq!(rt; Phase::Secret as u8, 2);
     assert!(rt; Phase::Public < Phase::Draft);
     assert_eq!(rt; Phase::Secret.number(), 2);
-    assert_eq!(rt; Phase::from_number(1), Some(Phase::Draft));
-    assert_eq!(rt; Phase::from_number(3), None);
-    assert_eq!(rt; Phase::from_number(-1), None);
 }
 
 /// Whether a part and its clone could be made.

@@ -3,10 +3,10 @@
 ghost use Rattle.hg_serve.specs.Desks.{OpensWith};
 
 use super::*;
-use hg_connection::{Next, Served, fault_of, mark, next_bundle, receive_kept};
-use hg_devices::Sending;
+use hg_connection::{
+    BundleEnd, Inbox, Next, Sending, Served, fault_of, mark, next_bundle, receive_kept,
+};
 use hg_push::{OpenFault, Outcome, Reason};
-use hg_receiving::{BundleEnd, Inbox};
 use hg_serve::Answer;
 use hg_stream::Unbundler;
 use hg_stream::laws::streams_are_settled_once;

@@ -3,7 +3,7 @@ use Rattle.std.specs.Prelude.{◌≡◌, ◌≤◌, ◌-◌, ◌^◌, Some, None
 use Rattle.std.specs.Prelude.{◌&&◌, nat_lt, List, [], ◌∷◌, length, reverse}
 use Rattle.hg_keys.specs.declared.bookmarks.Change.{Change}
 use Rattle.hg_keys.specs.declared.bookmarks.Change.TheVariants.{Added, Moved, Removed}
-use Rattle.hg_keys.specs.Bookmarks.{Pairs, AreInOrder, node_of, with_bookmark}
+use Rattle.hg_keys.specs.Bookmarks.{Pairs, node_of, with_bookmark}
 
 -- the pairs before a change
 abbrev pub undone : {A : Type 0} → Change A → Pairs → Pairs
@@ -31,10 +31,8 @@ can_undo_all [] pairs = true
 can_undo_all (change ∷ changes) pairs =
     can_undo change pairs && can_undo_all changes (undone change pairs)
 
--- The pairs are in order, and there is a way back that takes no memory: as many names as changes were kept can
--- come back.
+-- After a mark there is a way back that takes no memory: as many names as changes were kept can come back.
 pub record IsSound {A : Type 0} (pairs : Pairs) (changes : List (Change A)) (space : ℕ)
     (is_marked : Bool) : Type 0 where
-  pub in_order : AreInOrder pairs
   pub back : is_marked ≡ true → can_undo_all (reverse changes) pairs ≡ true
   pub room : is_marked ≡ true → length changes ≤ space

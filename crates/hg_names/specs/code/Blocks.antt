@@ -1,10 +1,10 @@
 -- What blocks of names are seen as.
-use Rattle.std.specs.Prelude.{◌≡◌, ◌≢◌, ℕ, ◌+◌, ◌<◌, ◌≤◌, List, length, take, flat_map}
+use Rattle.std.specs.Prelude.{◌≡◌, ◌≢◌, ℕ, ◌+◌, ◌<◌, ◌≤◌, List, All, length, take, flat_map}
 use Rattle.std.specs.List.{HoldsAt}
 use Rattle.std.specs.declared.cmp.Ordering.TheVariants.{Less, Greater}
 use Rattle.hg_types.specs.declared.node.Node.{Node}
 use Rattle.hg_names.specs.declared.blocks.Block.{Block}
-use Rattle.hg_names.specs.Names.{Pairs, name_cmp}
+use Rattle.hg_names.specs.Names.{Pairs, name_cmp, AreInOrder}
 use Rattle.hg_names.specs.code.Places.{IsAt, IsGap}
 
 -- the pairs of all blocks, in their order
@@ -18,6 +18,12 @@ start_of blocks block = length (pairs_in (take block blocks))
 -- a block has a name
 abbrev pub IsFilled : {A : Type 0} → Block A → Type 0
 IsFilled block = 0 < length block.pairs.items
+
+-- how names are kept: no block is empty, the names are in the order of their bytes, and they are counted
+pub record AreKept {A : Type 0} (blocks : List (Block A)) (count : ℕ) : Type 0 where
+  pub filled : All IsFilled blocks
+  pub in_order : AreInOrder (pairs_in blocks)
+  pub counted : count ≡ length (pairs_in blocks)
 
 abbrev pub IsLess : List ℕ → List ℕ × Node → Type 0
 IsLess name pair = name_cmp pair.0 name ≡ Less

@@ -9,7 +9,7 @@ use Rattle.std.specs.Int.{w64, to_be_bytes}
 use Rattle.std.specs.declared.random_state.RandomState.{RandomState}
 use Rattle.hg_types.specs.declared.node.Node.{Node}
 use Rattle.hg_obs.specs.declared.marker.Marker.{Marker}
-use Rattle.hg_obs.specs.Markers.{ArePlaces}
+use Rattle.hg_obs.specs.code.Places.{ArePlaces}
 use Rattle.hg_obs.specs.Same.{is_same, same_node, marker_writes}
 
 -- a marker of the list has the predecessor of this one

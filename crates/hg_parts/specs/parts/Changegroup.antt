@@ -1,7 +1,6 @@
 -- The part `changegroup`: its entries become rows, in order, and the phases follow.
-use Rattle.std.specs.Prelude.{◌≡◌, ◌⊎◌, MatchResult, ℕ, ◌+◌, ◌-◌, Bool, List, [], ◌∷◌, ◌++◌, codes}
-use Rattle.std.specs.Prelude.{decimal, Option, Some, None, unwrap_or, Result, Ok, Err, bytes_eq, nat_le}
-use Rattle.std.specs.Prelude.{if◌then◌else◌}
+use Rattle.std.specs.Prelude.{ℕ, ◌+◌, ◌-◌, Bool, List, [], ◌∷◌, ◌++◌, codes, decimal, Option, Some, None}
+use Rattle.std.specs.Prelude.{unwrap_or, Result, Ok, Err, nat_le, if◌then◌else◌}
 use Rattle.std.specs.List.{filter_map}
 use Rattle.hg_types.specs.declared.entry.Entry.{Entry}
 use Rattle.hg_types.specs.declared.limits.Limits.{Limits}
@@ -9,25 +8,23 @@ use Rattle.hg_types.specs.declared.limits.Settings.{Settings}
 use Rattle.hg_types.specs.declared.part.Part.{Part}
 use Rattle.hg_types.specs.declared.part.Param.{Param}
 use Rattle.hg_types.specs.declared.phase.Phase.{Phase}
-use Rattle.hg_types.specs.declared.phase.Phase.TheVariants.{Public, Draft, Secret}
+use Rattle.hg_types.specs.declared.phase.Phase.TheVariants.{Public, Draft}
 use Rattle.hg_cgroup.specs.Outcome.{outcome_of}
 use Rattle.hg_log.specs.declared.add.Added.{Added}
 use Rattle.hg_log.specs.declared.add.Added.TheVariants.{New, Known}
 use Rattle.hg_log.specs.declared.add.AddFault.{AddFault}
-use Rattle.hg_log.specs.declared.add.AddFault.TheVariants.{NoMemory}
 use Rattle.hg_log.specs.Changeset.{Changeset, Log}
 use Rattle.hg_log.specs.Parents.{parents_of, rev_of}
 use Rattle.hg_log.specs.HeadCount.{head_count}
 use Rattle.hg_log.specs.Answer.{answer_of}
+use Rattle.hg_keys.specs.PushKey.{phase_in_text}
 use Rattle.hg_phases.specs.Phases.{registered, advanced}
-use Rattle.hg_parts.specs.declared.store.Store.{Store}
 use Rattle.hg_parts.specs.declared.prepared.Reading.{Reading}
 use Rattle.hg_parts.specs.declared.prepared.Reading.TheVariants.{ChangeGroup, Malformed}
 use Rattle.hg_parts.specs.declared.source.Source.{Source}
 use Rattle.hg_parts.specs.declared.source.Source.TheVariants.{Push, Seed}
 use Rattle.hg_parts.specs.declared.refusal.Refusal.{Refusal}
 use Rattle.hg_parts.specs.declared.refusal.Refusal.TheVariants.{BadPart, BadChangeset}
-use Rattle.hg_parts.specs.declared.refusal.Refusal.TheVariants.{NoMemory as OutOfMemory}
 use Rattle.hg_parts.specs.Repository.{Repository}
 use Rattle.hg_parts.specs.Handled.{Handled, Outcome}
 use Rattle.hg_parts.specs.Params.{value_of}
@@ -35,17 +32,10 @@ use Rattle.hg_parts.specs.Replies.{reply_part, reply_where}
 
 -- ---- its parameters
 
--- the phase of that number in digits
-abbrev pub phase_named : List ℕ → Option Phase
-phase_named value =
-    if bytes_eq value (codes "0") then Some Public else
-    if bytes_eq value (codes "1") then Some Draft else
-    if bytes_eq value (codes "2") then Some Secret else None
-
 -- the phase that `targetphase` names: draft where it is absent, and none where it names no phase
 abbrev pub target_in : Option (List ℕ) → Option Phase
 target_in None = Some Draft
-target_in (Some value) = phase_named value
+target_in (Some value) = phase_in_text value
 
 -- the phase that the parameter `targetphase` names; none where it is another value
 unfoldable pub target_of : {A : Type 0} → List (Param A) → Option Phase
@@ -163,24 +153,3 @@ handle_group source repo replying place part target entries =
 abbrev pub handle_changegroup : {A : Type 0} → Source → Repository A → Bool → ℕ → Part A → Outcome A
 handle_changegroup source repo replying place part =
     handle_target source repo replying place part (target_of part.params)
-
--- ---- the code
-
--- a fault as the refusal of its part; out of memory is reported as such
-abbrev pub refusal_for : {A : Type 0} → ℕ → AddFault → Refusal A
-refusal_for place NoMemory = OutOfMemory
-refusal_for place fault = BadChangeset place fault
-
--- What adding by code may answer and leave: what the definition says, or that memory was refused.
-abbrev pub AddGives : Result Grown AddFault → Grown → Result (Unit {0}) AddFault → Type 0
-AddGives given new result =
-    MatchResult result (λ done. given ≡ Ok new) (λ fault. (fault ≡ NoMemory) ⊎ (given ≡ Err fault))
-
--- a store's rows and their phases
-abbrev pub grown_of : {A : Type 0} → Store A → Grown
-grown_of store = record { rows = store.log.rows; phases = store.phases.current.phases }
-
--- markers and bookmarks are as they were
-pub record AreOthersSame {A : Type 0} (old new : Store A) : Type 0 where
-  pub markers : new.markers ≡ old.markers
-  pub bookmarks : new.bookmarks ≡ old.bookmarks

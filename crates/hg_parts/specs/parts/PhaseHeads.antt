@@ -1,12 +1,11 @@
 -- The part `phase-heads`: changesets, and the phase that each of them and its ancestors are to be in at most.
-use Rattle.std.specs.Prelude.{ℕ, ◌==◌, Bool, List, [], ◌∷◌, Option, None, Result, Ok, Err}
+use Rattle.std.specs.Prelude.{ℕ, Bool, List, [], ◌∷◌, None, Result, Ok, Err}
 use Rattle.std.specs.Prelude.{if◌then◌else◌}
-use Rattle.std.specs.List.{list_all, filter_map}
+use Rattle.std.specs.List.{list_all}
 use Rattle.std.specs.Option.{option_to_list}
 use Rattle.hg_types.specs.declared.node.Node.{Node}
 use Rattle.hg_types.specs.declared.part.Part.{Part}
 use Rattle.hg_types.specs.declared.phase.Phase.{Phase}
-use Rattle.hg_types.specs.Phase.{number_of}
 use Rattle.hg_log.specs.Changeset.{Changeset}
 use Rattle.hg_log.specs.Parents.{parents_of, rev_of}
 use Rattle.hg_phases.specs.declared.fault.EntryFault.{EntryFault}
@@ -60,18 +59,3 @@ read_phase_heads part = reading_in (entries_of part.payload)
 -- what a `phase-heads` part makes of a repository
 abbrev pub handle_phase_heads : {A : Type 0} → Repository A → ℕ → Part A → Outcome A
 handle_phase_heads repo place part = handle_read repo place (entries_of part.payload)
-
--- ---- the code
-
--- the number of an entry's changeset, where the entry has that phase
-abbrev pub head_in : List Changeset → Phase → Phase × Node → Option ℕ
-head_in rows target entry =
-    if number_of entry.0 == number_of target then rev_of rows entry.1.0 else None
-
--- the numbers of the changesets of the entries of a phase
-unfoldable pub heads_of : List Changeset → Phase → List (Phase × Node) → List ℕ
-heads_of rows target entries = filter_map (head_in rows target) entries
-
--- those are advanced to it
-abbrev pub advanced_to : List Changeset → Phase → List (Phase × Node) → List Phase → List Phase
-advanced_to rows target entries phases = advanced (parents_of rows) target (heads_of rows target entries) phases

@@ -4,11 +4,9 @@ use Rattle.std.specs.Prelude.{Err, if◌then◌else◌}
 use Rattle.hg_types.specs.declared.part.Part.{Part}
 use Rattle.hg_types.specs.declared.part.Param.{Param}
 use Rattle.hg_keys.specs.declared.fault.KeyFault.{KeyFault}
-use Rattle.hg_keys.specs.declared.fault.KeyFault.TheVariants.{NoMemory}
 use Rattle.hg_keys.specs.declared.keys.KeyCall.{KeyCall}
 use Rattle.hg_keys.specs.PushKey.{Keys, key_pushed}
-use Rattle.hg_parts.specs.declared.refusal.Refusal.{Refusal}
-use Rattle.hg_parts.specs.declared.refusal.Refusal.TheVariants.{BadPart, KeyFailed, NoMemory as OutOfMemory}
+use Rattle.hg_parts.specs.declared.refusal.Refusal.TheVariants.{BadPart, KeyFailed}
 use Rattle.hg_parts.specs.Repository.{Repository}
 use Rattle.hg_parts.specs.Handled.{Outcome}
 use Rattle.hg_parts.specs.Params.{value_of}
@@ -76,8 +74,3 @@ handle_call repo replying place part None = Err (BadPart place)
 -- what a `pushkey` part makes of a repository
 abbrev pub handle_pushkey : {A : Type 0} → Repository A → Bool → ℕ → Part A → Outcome A
 handle_pushkey repo replying place part = handle_call repo replying place part (call_of part.params)
-
--- a fault as the refusal of its part; out of memory is reported as such
-abbrev pub refusal_of : {A : Type 0} → ℕ → KeyFault → Refusal A
-refusal_of place NoMemory = OutOfMemory
-refusal_of place fault = BadPart place

@@ -24,10 +24,10 @@ ghost use Rattle.hg_phases.specs.Phases.{AreFor};
 ghost use Rattle.hg_parts.specs.Handled.{Handles};
 ghost use Rattle.hg_parts.specs.Replies.{IsReply};
 ghost use Rattle.hg_parts.specs.Store.{repository_of, IsSound, IsGrown};
-ghost use Rattle.hg_parts.specs.parts.Changegroup.{phase_named, target_of, version_of, phase_for, grown_by};
-ghost use Rattle.hg_parts.specs.parts.Changegroup.{grown_of, add_each, revs_of, phases_after, result_text};
-ghost use Rattle.hg_parts.specs.parts.Changegroup.{reply_to_group, refusal_for};
-ghost use Rattle.hg_parts.specs.parts.Changegroup.{read_changegroup, handle_group, AddGives, AreOthersSame};
+ghost use Rattle.hg_parts.specs.parts.Changegroup.{target_of, version_of, phase_for, grown_by, add_each};
+ghost use Rattle.hg_parts.specs.parts.Changegroup.{revs_of, phases_after, result_text, reply_to_group};
+ghost use Rattle.hg_parts.specs.parts.Changegroup.{read_changegroup, handle_group};
+ghost use Rattle.hg_parts.specs.code.Changegroup.{grown_of, refusal_for, AddGives, AreOthersSame};
 
 use crate::params::value_of;
 use crate::prepared::Reading;
@@ -37,6 +37,7 @@ use crate::source::Source;
 use crate::store::Store;
 use crate::turn::Turn;
 use hg_cgroup::{GroupFault, decode};
+use hg_keys::phase_in_text;
 use hg_log::{AddFault, Added, Changelog};
 use hg_phases::Phases;
 use hg_types::{BoxedSeq, Entry, NoMemory, Node, Param, Part, Phase, Settings};
@@ -182,6 +183,7 @@ fn add_one<A: Allocator + Copy>(
         Err(fault) => Err(fault),
         Ok(Added::Known) => Ok(()),
         Ok(Added::New(rev)) => {
+            // for the proof: the rows are lawful with the new one too
             let _lawful = store.log.len();
             match store.phases.register(&store.log, rev, t) {
                 Ok(()) => Ok(()),
@@ -252,23 +254,8 @@ fn target_of<A: Allocator>(params: &[Param<A>]) -> Option<Phase>
 {
     match value_of(params, b"targetphase") {
         None => Some(Phase::Draft),
-        Some(value) => phase_named(value),
+        Some(value) => phase_in_text(value),
     }
-}
-
-fn phase_named(value: &[u8]) -> Option<Phase>
-    ensures { result ≡ phase_named value.now }
-{
-    if value == b"0".as_slice() {
-        return Some(Phase::Public);
-    }
-    if value == b"1".as_slice() {
-        return Some(Phase::Draft);
-    }
-    if value == b"2".as_slice() {
-        return Some(Phase::Secret);
-    }
-    None
 }
 
 /// The version of the changegroup.

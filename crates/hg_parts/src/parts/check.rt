@@ -6,7 +6,7 @@
 
 ghost use Rattle.std.specs.Prelude.{◌≡◌, ◌≤◌, length};
 ghost use Rattle.hg_types.specs.declared.limits.Settings.{Settings};
-ghost use Rattle.hg_parts.specs.Handled.{NothingGives};
+ghost use Rattle.hg_parts.specs.code.Handled.{NothingGives};
 ghost use Rattle.hg_parts.specs.Store.{repository_of};
 ghost use Rattle.hg_parts.specs.parts.Check.{refusal_of, handle_check};
 

@@ -10,7 +10,8 @@ ghost use Rattle.std.specs.Prelude.{◌≡◌, ◌<◌, All, length, IfOk, IfSom
 ghost use Rattle.hg_phases.specs.Phases.{AreFor};
 ghost use Rattle.hg_parts.specs.Handled.{Handles};
 ghost use Rattle.hg_parts.specs.Store.{repository_of, IsSound};
-ghost use Rattle.hg_parts.specs.parts.PhaseHeads.{are_known, advance_each, advanced_to, head_in, heads_of};
+ghost use Rattle.hg_parts.specs.parts.PhaseHeads.{are_known, advance_each};
+ghost use Rattle.hg_parts.specs.code.PhaseHeads.{advanced_to, head_in, heads_of};
 ghost use Rattle.hg_parts.specs.parts.PhaseHeads.{handle_entries, read_phase_heads};
 
 use crate::parts::changegroup::push_some;
@@ -18,7 +19,6 @@ use crate::prepared::Reading;
 use crate::refusal::Refusal;
 use crate::store::Store;
 use crate::turn::Turn;
-use hg_keys::is_known;
 use hg_log::Changelog;
 use hg_phases::{EntryFault, Phases, read_entries};
 use hg_types::{BoxedSeq, NoMemory, Node, Part, Phase};
@@ -61,7 +61,7 @@ pub fn handle_phase_heads<A: Allocator + Copy>(
 fn are_known<A: Allocator>(log: &Changelog<A>, entries: &[(Phase, Node)]) -> bool
     ensures { result ≡ are_known log.now.rows entries.now }
 {
-    entries.iter().all(|entry| is_known(log, &entry.1))
+    entries.iter().all(|entry| log.knows(&entry.1))
 }
 
 /// Advances the changesets of the entries, those of one phase together.
@@ -107,7 +107,7 @@ fn advance_to<A: Allocator + Copy>(
 }
 
 /// The numbers of the changesets of the entries of one phase.
-#[tactic(auto, unfolding(crate::specs::parts::PhaseHeads::heads_of))]
+#[tactic(auto, unfolding(crate::specs::code::PhaseHeads::heads_of))]
 fn heads_of<A: Allocator + Copy>(
     alloc: A,
     log: &Changelog<A>,

@@ -10,7 +10,8 @@ ghost use Rattle.std.specs.Prelude.{◌≡◌, Some, IfOk, IfSome};
 ghost use Rattle.hg_parts.specs.Handled.{Handles};
 ghost use Rattle.hg_parts.specs.Replies.{reply_where, IsReply};
 ghost use Rattle.hg_parts.specs.Store.{repository_of, IsSound};
-ghost use Rattle.hg_parts.specs.parts.Pushkey.{call_of, is_refused, refusal_of, reply_to_key, result_text};
+ghost use Rattle.hg_parts.specs.parts.Pushkey.{call_of, is_refused, reply_to_key, result_text};
+ghost use Rattle.hg_parts.specs.code.Pushkey.{refusal_of};
 ghost use Rattle.hg_parts.specs.parts.Pushkey.{handle_call, handle_pushkey};
 
 use crate::params::value_of;

@@ -2,7 +2,7 @@
 
 ghost use Rattle.std.specs.Prelude.{◌≡◌, IfOk};
 ghost use Rattle.hg_parts.specs.declared.refusal.Refusal.{Refusal};
-ghost use Rattle.hg_parts.specs.Handled.{NothingGives};
+ghost use Rattle.hg_parts.specs.code.Handled.{NothingGives};
 ghost use Rattle.hg_parts.specs.PartTypes.{lower, unsupported_names};
 ghost use Rattle.hg_parts.specs.Repository.{Repository as ARepository};
 ghost use Rattle.hg_parts.specs.parts.Unsupported.{handle_unsupported};

@@ -6,7 +6,6 @@ ghost use Rattle.hg_parts.specs.Store.{IsSound, IsGrown};
 
 use super::*;
 use hg_help_tests::parts::put_param;
-use hg_parts::laws::growing_adds_up;
 use hg_types::Short;
 
 /// A part: its type, its parameters, all mandatory, the pieces of its payload, and what becomes of it.
@@ -472,6 +471,7 @@ fn keys_of_a_client(rt: HostRuntime) -> Result<(), Fail> {
 // ---- two parts of one push
 
 /// Handles two parts whose replies are read, and gives the second reply.
+#[tactic(auto, using(hg_parts::proofs::CallerLemmas::grown_on))]
 fn handle_both<A: Allocator + Copy>(
     alloc: A,
     store: &mut Store<A>,
@@ -483,7 +483,6 @@ fn handle_both<A: Allocator + Copy>(
     ensures sound { OnOk result (IsSound settings.now store.new) }
     ensures grown { IsGrown store.old store.new }
 {
-    growing_adds_up::<A>();
     let turn = Turn {
         settings: *settings,
         source: Source::Push,

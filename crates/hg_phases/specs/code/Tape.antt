@@ -1,5 +1,5 @@
 -- The way back: what was replaced since the mark.
-use Rattle.std.specs.Prelude.{◌≡◌, ℕ, zero, suc, ◌+◌, ◌<◌, ◌≤◌, ◌^◌, List, [], ◌∷◌, All, length, take}
+use Rattle.std.specs.Prelude.{◌≡◌, ℕ, ◌<◌, ◌≤◌, ◌^◌, List, [], ◌∷◌, All, length, take}
 use Rattle.std.specs.Prelude.{slice_index, slice_set, map, filter, nat_lt}
 use Rattle.hg_phases.specs.declared.standing.Standing.{Standing}
 use Rattle.hg_phases.specs.declared.tape.Replaced.{Replaced}

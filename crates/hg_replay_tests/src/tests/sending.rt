@@ -2,7 +2,7 @@
 
 use super::*;
 use crate::tests::telling::{TellingWriter, Use};
-use hg_devices::{Sending, send};
+use hg_connection::{Sending, send};
 
 /// What is sent.
 const BYTES: &[u8] = b"The quick brown fox";

@@ -3,12 +3,12 @@
 //! refused, the process ends.
 
 ghost use Rattle.std.specs.Prelude.{◌≡◌, ◌++◌, ◌∷◌, [], Some, None, map, option_map, unwrap_or};
-ghost use Rattle.hg_devices.specs.Devices.{Gave, Failed, Took, Refused, Flushed, NotFlushed};
+ghost use Rattle.hg_connection.specs.Devices.{Gave, Failed, Took, Refused, Flushed, NotFlushed};
 ghost use Rattle.hg_replay_tests.specs.declared.tests.telling.Use.TheVariants.{Took as a_write, Flushed as a_flush};
 ghost use Rattle.hg_replay_tests.specs.declared.tests.telling.Use.TheVariants.{Refused as a_failed_write};
 ghost use Rattle.hg_replay_tests.specs.declared.tests.telling.Use.TheVariants.{NotFlushed as a_failed_flush};
 
-use hg_devices::{Reader, Writer};
+use hg_connection::{Reader, Writer};
 use std::alloc::Global;
 use std::io::{Error, ErrorKind, Result};
 use std::process::Abort;

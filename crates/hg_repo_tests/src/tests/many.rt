@@ -141,3 +141,30 @@ fn thousands_are_told(rt: HostRuntime) -> Result<(), Fail> {
     assert!(rt; are_told(&heap, state)?);
     Ok(())
 }
+
+/// What a heap keeps after a push of all bookmarks, and after one without parts that follows it.
+fn kept_after(heap: &LocalHeap, state: RandomState) -> Result<(usize, usize), NoMemory> {
+    let mut repo = Repo::new(heap, settings(), state);
+    let parts = list(heap, many_bookmarks(heap)?, None)?;
+    let is_done = answers(&mut repo, parts.as_slice(), Expected::Done(1));
+    drop(parts);
+    let many = heap.used();
+    let is_done = answers(&mut repo, &[], Expected::Done(0)) && is_done;
+    let few = heap.used();
+    drop(repo);
+    Ok(if is_done { (many, few) } else { (0, 0) })
+}
+
+/// The savepoint of the next push gives back what 5,000 changes of bookmarks took for their way back: more than
+/// 100 bytes for each.
+#[test]
+fn memory_of_many_changes_is_given_back(rt: HostRuntime) -> Result<(), Fail> {
+    let state = RandomState::new(&rt)?;
+    let heap = LocalHeap::new(rt.alloc(), 1 << 23)?;
+    let (many, few) = kept_after(&heap, state)?;
+    assert!(rt;
+        few > 0 && few.saturating_add(500_000) <= many,
+        "{few} {many}"
+    );
+    Ok(())
+}

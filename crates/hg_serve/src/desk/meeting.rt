@@ -57,7 +57,7 @@ impl<J: Naming<A>, A: Allocator + Copy> Desk<J, A> {
         (answer, rests, client)
     }
 
-    /// Asks as `look` does, and says how many pushes were done then.
+    /// Asks as [`Desk::look`] does, and says how many pushes were done then.
     pub(crate) fn look_resting<T, Q: Question<A, T>>(
         &mut self,
         queue: &PartQueue<A>,

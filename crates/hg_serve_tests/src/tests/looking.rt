@@ -2,7 +2,7 @@
 
 use super::race::{a_root, b_root};
 use super::*;
-use hg_serve::{Keeper, Question};
+use hg_serve::Question;
 
 /// How many changesets there are.
 #[derive(Drop)]
@@ -15,28 +15,6 @@ impl Question<Global, usize> for Count {
 
     fn ask(&self, repo: &Repo) -> usize {
         repo.store().log.len()
-    }
-}
-
-/// How many changesets were seen.
-#[derive(Drop)]
-struct Seen {
-    count: usize,
-}
-
-impl Keeper<Global, usize> for Seen {
-    ghost use Rattle.std.specs.Prelude.{◌≡◌, ⊤, length};
-
-    ghost fits = { λ seen repo. ⊤ };
-
-    ghost tells = { λ old new repo told. new.count ≡ length repo.rows };
-
-    /// Answers how many more there are.
-    fn keep_up(&mut self, repo: &Repo) -> usize {
-        let count = repo.store().log.len();
-        let more = count.saturating_sub(self.count);
-        self.count = count;
-        more
     }
 }
 
@@ -53,20 +31,6 @@ fn push<J: Naming<Global>, R: Wait + Abort>(
     server.answer_resting(rt, ended, &mut NoGate)
 }
 
-/// Two clients look after two pushes, both at once, twice: two changesets come with the first look, and none
-/// with the second.
-fn are_seen_once<J: Naming<Global>, R: Wait>(
-    rt: &R,
-    server: &Server<J>,
-    client: &mut Client<J>,
-    witness: &mut Client<J>,
-) -> bool {
-    let mut seen = Seen { count: 0 };
-    let came = server.look_both(rt, client, witness, &mut seen);
-    let more = server.look_both(rt, client, witness, &mut seen);
-    came == 2 && more == 0 && seen.count == 2
-}
-
 /// Two clients push a root each, and the first a check that fails; a third one looks before, between and
 /// after them.
 pub fn looks<J: Naming<Global>, R: Wait + Abort>(
@@ -75,17 +39,17 @@ pub fn looks<J: Naming<Global>, R: Wait + Abort>(
     server: &Server<J>,
 ) -> Vec<Client<J>> {
     let mut reader = client(rt, server);
-    let none = server.look(rt, &mut reader, &Count);
+    let none = server.look_resting(rt, &mut reader, &Count);
     let (of_a, rests_a, a) = push(rt, server, client(rt, server), a_root(rt, alloc));
-    let one = server.look(rt, &mut reader, &Count);
+    let one = server.look_resting(rt, &mut reader, &Count);
     let (of_b, rests_b, mut b) = push(rt, server, client(rt, server), b_root(rt, alloc));
     let no_heads = part(rt, alloc, b"CHECK:HEADS", &NULL);
     let (raced, rests_raced, mut a) = push(rt, server, a, no_heads);
     server.meet(rt, &mut b, &mut a);
-    let two = server.look(rt, &mut b, &Count);
-    assert!(rt; none == 0 && one == 1 && two == 2);
+    let two = server.look_resting(rt, &mut b, &Count);
+    assert!(rt; none == (0, 0) && one == (1, 1) && two == (2, 2));
     assert_eq!(rt; server.look_resting(rt, &mut a, &Count), (2, 2));
-    assert!(rt; are_seen_once(rt, server, &mut b, &mut reader) && server.limits().rows == 1_024);
+    assert_eq!(rt; server.limits().rows, 1_024);
     assert!(rt; is_done(&of_a, 1) && is_done(&of_b, 1) && is_race(&raced, 0));
     assert!(rt; rests_a == 1 && rests_b == 2 && rests_raced == 2);
     let mut clients = Vec::new(alloc);
@@ -96,9 +60,8 @@ pub fn looks<J: Naming<Global>, R: Wait + Abort>(
 }
 
 // A pushes a root, B another one, A a check with Z that there is no changeset; a look before, after A
-// and after all, where A and B have met. Result: 0, 1 and 2 changesets; A's answer rests on 1 done
-// push, B's on 2, and that of the check, a race, on 2. A look that says what it rests on: 2 changesets, 2
-// pushes. A keeper that two clients look by, twice: 2 changesets more, and then none.
+// and after all, where A and B have met. Result: 0, 1 and 2 changesets, each on as many done pushes; A's
+// answer rests on 1 done push, B's on 2, and that of the check, a race, on 2.
 #[test]
 fn looks_see_what_was_answered(rt: HostRuntime) -> Result<(), Fail> {
     let closed = played(&rt, rt.alloc(), 8, settings(0, 1_024), Scene::Looks);

@@ -4,7 +4,14 @@ use Rattle.hg_chunks.specs.declared.fault.ChunkFault.{ChunkFault}
 use Rattle.hg_chunks.specs.declared.fault.Step.{Step}
 use Rattle.hg_chunks.specs.declared.payload.PayloadIn.{PayloadIn}
 use Rattle.hg_chunks.specs.PayloadIn.{HasTakenItems, StopsWithin, FailsWithin, Reading, limit_of, phase_of, phase_after}
+use Rattle.hg_stream.specs.declared.payloads.Level.{Level}
+use Rattle.hg_stream.specs.declared.payloads.Level.TheVariants as level
 use Rattle.hg_stream.specs.code.Going.{IsGoing}
+
+-- the other level
+abbrev pub other : Level → Level
+other level.Part = level.Interrupting
+other level.Interrupting = level.Part
 
 -- a reader that has taken nothing
 pub record HasTakenNothing {A : Type 0} (limit : ℕ) (p : PayloadIn A) : Type 0 where

@@ -1,7 +1,7 @@
 //! Hashes that stand beside a payload and a delta. The digests are those of `sha1sum`.
 
 use super::*;
-use hg_types::Delta;
+use hg_types::{Delta, digest};
 use std::alloc::Global;
 
 /// The bytes 0 to 39, as two ids, and after them `text`.
@@ -34,13 +34,15 @@ fn both(alloc: Global) -> Result<Payload, NoMemory> {
 }
 
 // The ids at 0 and 20 and the text at 40 to 44, and the same with the ids at 20 and 0. Result: the two digests, in
-// this order, of the text `text`, and no third; the bytes as before. A copy has the bytes and no hash.
+// this order, of the text `text`, and no third; the bytes as before; `digest` of the ids and the text gives the same.
+// A copy has the bytes and no hash.
 #[test]
 fn stretches_are_hashed(rt: HostRuntime) -> Result<(), Fail> {
     let payload = both(rt.alloc())?;
-    for (number, digest) in [IN_ORDER, TURNED].iter().enumerate() {
+    for (number, wanted) in [IN_ORDER, TURNED].iter().enumerate() {
         let (hash, text) = payload.hashed(number).ok_or("a hash")?;
-        assert!(rt; hash.digest.0 == *digest && text == b"text".as_slice());
+        assert!(rt; hash.digest.0 == *wanted && text == b"text".as_slice());
+        assert_eq!(rt; digest(&hash.first, &hash.second, text), Node(*wanted));
     }
     assert!(rt; payload.hashed(2).is_none());
     assert!(rt; payload.as_slice() == BYTES.as_slice() && payload.len() == 44);

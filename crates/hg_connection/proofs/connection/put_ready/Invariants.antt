@@ -1,7 +1,7 @@
 use Rattle.std.proofs.Common.{◌≡◌, ◌++◌, ℕ, List, length}
 use Rattle.hg_types.specs.declared.part.Part.{Part}
 use Rattle.hg_stream.specs.Unbundler.{HoldsBundle, limits_of, ready_of, state_of}
-use Rattle.hg_connection.specs.Receiving.{PutsParts}
+use Rattle.hg_connection.specs.Steps.{PutsParts}
 use Rattle.hg_connection.proofs.connection.put_ready.Given as goal
 
 abbrev pub invariant-parts : goal.invariant-parts

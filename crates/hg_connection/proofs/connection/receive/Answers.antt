@@ -1,9 +1,9 @@
 use Rattle.std.proofs.Common.{[], ◌++◌, ◌∙◌, ap, refl, subst, arith, Option, Some}
 use Rattle.std.proofs.lemmas.List.{length-append}
 use Rattle.hg_stream.specs.Unbundler.{ready_of}
-use Rattle.hg_receiving.specs.declared.ending.BundleEnd.{BundleEnd}
-use Rattle.hg_receiving.specs.Turns.{Turned}
-use Rattle.hg_receiving.proofs.CallerLemmas.{begins, parts_few, parts_taken, within_limit}
+use Rattle.hg_connection.specs.declared.bundle_end.BundleEnd.{BundleEnd}
+use Rattle.hg_connection.specs.Turns.{Turned}
+use Rattle.hg_connection.proofs.ReceivingLemmas.{begins, parts_few, parts_taken, within_limit}
 use Rattle.hg_connection.proofs.Putting.{put_more, room_for}
 use Rattle.hg_connection.proofs.Receivings.{starts}
 use Rattle.hg_connection.proofs.connection.receive.Goals as goal

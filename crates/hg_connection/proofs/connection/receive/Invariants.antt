@@ -2,8 +2,8 @@ use Rattle.std.proofs.Common.{◌≡◌, ◌≤◌, ℕ, List, length}
 use Rattle.hg_types.specs.declared.part.Part.{Part}
 use Rattle.hg_stream.specs.Unbundler.{limits_of}
 use Rattle.hg_serve.specs.Clients.{GoesOn}
-use Rattle.hg_receiving.specs.Receiving.{part_items}
-use Rattle.hg_receiving.specs.Turns.{IsReceiving}
+use Rattle.hg_connection.specs.Receiving.{part_items}
+use Rattle.hg_connection.specs.Turns.{IsReceiving}
 use Rattle.hg_connection.proofs.connection.receive.Given as goal
 
 abbrev pub invariant-turns : goal.invariant-turns

@@ -1,4 +1,4 @@
-use Rattle.hg_connection.specs.Receiving.{IsFresh}
+use Rattle.hg_connection.specs.Steps.{IsFresh}
 use Rattle.hg_connection.proofs.Chains.{Goes}
 use Rattle.hg_connection.proofs.connection.serve_connection.Given as goal
 

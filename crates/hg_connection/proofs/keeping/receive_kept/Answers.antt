@@ -2,8 +2,8 @@ use Rattle.std.proofs.Common.{◌≡◌, [], ◌++◌, ◌∙◌, ◌-◌, ap, r
 use Rattle.std.proofs.Common.{Some}
 use Rattle.std.proofs.lemmas.List.{length-append}
 use Rattle.hg_stream.specs.Unbundler.{ready_of}
-use Rattle.hg_receiving.proofs.CallerLemmas.{begins, ends_refused, ends_unfed, goes_on, not_whole, parts_few}
-use Rattle.hg_receiving.proofs.CallerLemmas.{parts_taken, turn_made, waits_on, whole_ended, within_limit}
+use Rattle.hg_connection.proofs.ReceivingLemmas.{begins, ends_refused, ends_unfed, goes_on, not_whole, parts_few}
+use Rattle.hg_connection.proofs.ReceivingLemmas.{parts_taken, turn_made, waits_on, whole_ended, within_limit}
 use Rattle.hg_connection.proofs.Putting.{put_more, room_for}
 use Rattle.hg_connection.proofs.Receivings.{kept_ends, starts, unready}
 use Rattle.hg_connection.proofs.keeping.receive_kept.Goals as goal

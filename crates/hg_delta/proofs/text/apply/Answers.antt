@@ -1,4 +1,4 @@
-use Rattle.std.proofs.Common.{◌<◌, ◌≤◌, arith, length, ap, Ok, Err}
+use Rattle.std.proofs.Common.{◌<◌, ◌≤◌, arith, length, ap, sym, Ok, Err}
 use Rattle.std.proofs.lemmas.Result.{err_from_is_err_and}
 use Rattle.hg_delta.specs.declared.fault.DeltaFault.TheVariants.{TooLong}
 use Rattle.hg_delta.specs.Faults.{exceeds, gives}
@@ -24,9 +24,9 @@ pub returns-then-length-max-clause-outcome : goal.returns-then-length-max-clause
 returns-then-length-max-clause-outcome g c =
     let measured = c.in_ok-length.ensures.length in
     let long : c.args.max < length measured.0 = omega (arith, c.if-length-max.true, measured.2) in
-    outcome_is c.args.base.now c.args.delta.now c.args.max (Err TooLong)
+    λ _. sym (outcome_is c.args.base.now c.args.delta.now c.args.max (Err TooLong)
     (λ i. omega (arith, c.type_inv.delta i))
-    (exceeds (record { text = measured.0; applies = measured.1; long = long }))
+    (exceeds (record { text = measured.0; applies = measured.1; long = long })))
 
 pub returns-in_err-write_text-clause-outcome : goal.returns-in_err-write_text-clause-outcome
 returns-in_err-write_text-clause-outcome g c =
@@ -47,6 +47,6 @@ returns-clause-outcome g c =
       measured.2,
       c.if-length-max.false,
     ) in
-    outcome_is c.args.base.now c.args.delta.now c.args.max (Ok c.write_text.new.text.items)
+    λ _. sym (outcome_is c.args.base.now c.args.delta.now c.args.max (Ok c.write_text.new.text.items)
     (λ i. omega (arith, c.type_inv.delta i))
-    (gives c.write_text.new.text.items c.in_ok-write_text.ensures.ok few)
+    (gives c.write_text.new.text.items c.in_ok-write_text.ensures.ok few))

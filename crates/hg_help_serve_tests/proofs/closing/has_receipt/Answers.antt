@@ -1,7 +1,7 @@
 use Rattle.std.proofs.Common.{ap}
 use Rattle.std.specs.List.{Contains}
 use Rattle.std.proofs.lemmas.List.Elements.{All-same}
-use Rattle.hg_ledger.specs.Clients.{promised}
+use Rattle.hg_commit.specs.Clients.{promised}
 use Rattle.hg_help_serve_tests.proofs.closing.has_receipt.Goals as goal
 
 pub returns-in-Some-clause-promised : goal.returns-in-Some-clause-promised

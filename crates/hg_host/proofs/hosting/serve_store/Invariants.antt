@@ -1,5 +1,5 @@
 use Rattle.hg_queue.specs.Words.{id_of, capacity_of}
-use Rattle.hg_opening.specs.Opening.{head_of, records_of}
+use Rattle.hg_recovery.specs.Opening.{head_of, records_of}
 use Rattle.hg_host.proofs.hosting.serve_store.Given as goal
 
 abbrev pub ghosts-host_named-J-Naming : goal.ghosts-host_named-J-Naming

@@ -1,7 +1,6 @@
-use Rattle.std.proofs.Common.{[], ◌∷◌, length, length-append, ap, ◌∙◌, sym, subst, arith}
-use Rattle.hg_keys.specs.Bookmarks.{AreInOrder}
+use Rattle.std.proofs.Common.{[], ◌∷◌, length, length-append, ap, ◌∙◌, arith}
 use Rattle.hg_keys.specs.code.Changes.{base_of}
-use Rattle.hg_keys.proofs.ChangeLemmas.{base_popped, can_rest, in_order_undone}
+use Rattle.hg_keys.proofs.ChangeLemmas.{base_popped, can_rest}
 use Rattle.hg_keys.proofs.bookmarks.go_back.Goals as goal
 
 pub loop-change-preserved : goal.loop-change-preserved
@@ -14,8 +13,6 @@ loop-change-preserved g c =
     record {
       base = ap (base_of rest) c.undo.ensures.pairs ∙ base_popped changes rest change pairs popped
           ∙ c.loop-change.invariant.base;
-      in_order = subst AreInOrder (sym c.undo.ensures.pairs)
-          (in_order_undone change pairs c.loop-change.invariant.in_order);
       can = can_rest changes rest change pairs c.undo.new.names.pairs popped c.undo.ensures.pairs
           c.loop-change.invariant.can;
       room = omega (

@@ -1,5 +1,4 @@
 use Rattle.std.proofs.Common.{◌≡◌, ◌≤◌, true, reverse, length}
-use Rattle.hg_keys.specs.Bookmarks.{AreInOrder}
 use Rattle.hg_keys.specs.code.Changes.{base_of, can_undo_all}
 use Rattle.hg_keys.proofs.bookmarks.go_back.Given as goal
 
@@ -7,7 +6,6 @@ use Rattle.hg_keys.proofs.bookmarks.go_back.Given as goal
 abbrev pub invariant-loop-change : goal.invariant-loop-change
 invariant-loop-change g l = record {
   base : base_of l.changes.items l.names.pairs ≡ base_of l.fn.changes.items l.fn.names.pairs;
-  in_order : AreInOrder l.names.pairs;
   can : can_undo_all (reverse l.changes.items) l.names.pairs ≡ true;
   room : length l.changes.items ≤ l.names.room;
 }

@@ -4,7 +4,7 @@ use Rattle.std.specs.Prelude.{IfNone}
 use Rattle.std.proofs.lemmas.Bool.{lt-ltb}
 use Rattle.hg_types.specs.declared.node.Node.{Node}
 use Rattle.hg_keys.specs.Bookmarks.{node_of, with_bookmark}
-use Rattle.hg_keys.proofs.BackLemmas.{set_is, unset_is, set_back_to, stays_away}
+use Rattle.hg_keys.proofs.BackLemmas.{set_back_to, stays_away}
 use Rattle.hg_keys.proofs.ChangeLemmas.{both}
 use Rattle.hg_keys.proofs.SetLemmas.{set_found}
 use Rattle.hg_keys.proofs.bookmarks.put_after_mark.Goals as goal
@@ -15,24 +15,23 @@ pub returns-in-Some-2-clause-set : goal.returns-in-Some-2-clause-set
 returns-in-Some-2-clause-set g c =
     let pairs = c.args.names.now.pairs in
     let name = c.args.name.now in
-    c.in_ok-was-in-Some.ensures.ok ∙ set_is pairs name c.in-Some.node
-    ∙ ap (with_bookmark pairs name) (sym c.in-Some.is)
+    c.in_ok-was-in-Some.ensures.ok ∙ ap (with_bookmark pairs name) (sym c.in-Some.is)
 
 pub returns-in-Some-2-clause-back : goal.returns-in-Some-2-clause-back
 returns-in-Some-2-clause-back g c =
     let pairs = c.args.names.now.pairs in
     let name = c.args.name.now in
-    let new = c.in_ok-was-in-Some.ensures.ok ∙ set_is pairs name c.in-Some.node in
+    let new = c.in_ok-was-in-Some.ensures.ok in
     let named = c.in_ok-kept-in-Some.ensures in
     (λ i. with_bookmark (new i) (named i) (Some c.in-Some-2.was))
-    ∙ set_back_to name pairs (Some c.in-Some.node) (Some c.in-Some-2.was) c.requires
+    ∙ set_back_to name pairs (Some c.in-Some.node) (Some c.in-Some-2.was) c.in_ok-was-in-Some.ensures.in_order
     (sym c.in_ok-was-in-Some.ensures.was ∙ c.in-Some-2.is)
 
 pub returns-in-Some-2-clause-can : goal.returns-in-Some-2-clause-can
 returns-in-Some-2-clause-can g c =
     let pairs = c.args.names.now.pairs in
     let name = c.args.name.now in
-    let new = c.in_ok-was-in-Some.ensures.ok ∙ set_is pairs name c.in-Some.node in
+    let new = c.in_ok-was-in-Some.ensures.ok in
     let named = c.in_ok-kept-in-Some.ensures in
     ap (λ (o : Option Node). is_some o && true)
     ((λ i. node_of (new i) (named i)) ∙ set_found pairs name (Some c.in-Some.node))
@@ -43,24 +42,23 @@ pub returns-in-None-2-clause-set : goal.returns-in-None-2-clause-set
 returns-in-None-2-clause-set g c =
     let pairs = c.args.names.now.pairs in
     let name = c.args.name.now in
-    c.in_ok-was-in-Some.ensures.ok ∙ set_is pairs name c.in-Some.node
-    ∙ ap (with_bookmark pairs name) (sym c.in-Some.is)
+    c.in_ok-was-in-Some.ensures.ok ∙ ap (with_bookmark pairs name) (sym c.in-Some.is)
 
 pub returns-in-None-2-clause-back : goal.returns-in-None-2-clause-back
 returns-in-None-2-clause-back g c =
     let pairs = c.args.names.now.pairs in
     let name = c.args.name.now in
-    let new = c.in_ok-was-in-Some.ensures.ok ∙ set_is pairs name c.in-Some.node in
+    let new = c.in_ok-was-in-Some.ensures.ok in
     let named = c.in_ok-kept-in-Some.ensures in
     (λ i. with_bookmark (new i) (named i) None)
-    ∙ set_back_to name pairs (Some c.in-Some.node) None c.requires
+    ∙ set_back_to name pairs (Some c.in-Some.node) None c.in_ok-was-in-Some.ensures.in_order
     (sym c.in_ok-was-in-Some.ensures.was ∙ c.in-None-2.is)
 
 pub returns-in-None-2-clause-can : goal.returns-in-None-2-clause-can
 returns-in-None-2-clause-can g c =
     let pairs = c.args.names.now.pairs in
     let name = c.args.name.now in
-    let new = c.in_ok-was-in-Some.ensures.ok ∙ set_is pairs name c.in-Some.node in
+    let new = c.in_ok-was-in-Some.ensures.ok in
     let named = c.in_ok-kept-in-Some.ensures in
     ap (λ (o : Option Node). is_some o && true)
     ((λ i. node_of (new i) (named i)) ∙ set_found pairs name (Some c.in-Some.node))
@@ -71,13 +69,13 @@ pub returns-in-Some-3-clause-set : goal.returns-in-Some-3-clause-set
 returns-in-Some-3-clause-set g c =
     let pairs = c.args.names.now.pairs in
     let name = c.args.name.now in
-    c.in_ok-gone-in-None.ensures.names ∙ unset_is pairs name ∙ ap (with_bookmark pairs name) (sym c.in-None.is)
+    c.in_ok-gone-in-None.ensures.names ∙ ap (with_bookmark pairs name) (sym c.in-None.is)
 
 pub returns-in-Some-3-clause-back : goal.returns-in-Some-3-clause-back
 returns-in-Some-3-clause-back g c =
     let pairs = c.args.names.now.pairs in
     let name = c.args.name.now in
-    let new = c.in_ok-gone-in-None.ensures.names ∙ unset_is pairs name in
+    let new = c.in_ok-gone-in-None.ensures.names in
     let gone = c.in-Some-3.gone in
     let named : gone.0 ≡ name = subst
     (λ (o : Option (List ℕ × Node)). IfSome o (λ n. n.0 ≡ name)) c.in-Some-3.is c.in_ok-gone-in-None.ensures.name in
@@ -85,14 +83,14 @@ returns-in-Some-3-clause-back g c =
     (λ (o : Option (List ℕ × Node)). IfSome o (λ n. node_of pairs name ≡ Some n.1)) c.in-Some-3.is
     c.in_ok-gone-in-None.ensures.node in
     (λ i. with_bookmark (new i) (named i) (Some gone.1))
-    ∙ set_back_to name pairs None (Some gone.1) c.requires node
+    ∙ set_back_to name pairs None (Some gone.1) c.in_ok-gone-in-None.ensures.in_order node
 
 pub returns-in-Some-3-clause-can : goal.returns-in-Some-3-clause-can
 returns-in-Some-3-clause-can g c =
     let pairs = c.args.names.now.pairs in
     let name = c.args.name.now in
     let left = c.remove.new.self.pairs in
-    let new = c.in_ok-gone-in-None.ensures.names ∙ unset_is pairs name in
+    let new = c.in_ok-gone-in-None.ensures.names in
     let gone = c.in-Some-3.gone in
     let named : gone.0 ≡ name = subst
     (λ (o : Option (List ℕ × Node)). IfSome o (λ n. n.0 ≡ name)) c.in-Some-3.is c.in_ok-gone-in-None.ensures.name in
@@ -109,7 +107,7 @@ pub returns-in-None-3-clause-set : goal.returns-in-None-3-clause-set
 returns-in-None-3-clause-set g c =
     let pairs = c.args.names.now.pairs in
     let name = c.args.name.now in
-    c.in_ok-gone-in-None.ensures.names ∙ unset_is pairs name ∙ ap (with_bookmark pairs name) (sym c.in-None.is)
+    c.in_ok-gone-in-None.ensures.names ∙ ap (with_bookmark pairs name) (sym c.in-None.is)
 
 pub returns-in-None-3-clause-back : goal.returns-in-None-3-clause-back
 returns-in-None-3-clause-back g c =
@@ -118,4 +116,4 @@ returns-in-None-3-clause-back g c =
     let none : node_of pairs name ≡ None = subst
     (λ (o : Option (List ℕ × Node)). IfNone o (node_of pairs name ≡ None)) c.in-None-3.is
     c.in_ok-gone-in-None.ensures.none in
-    c.in_ok-gone-in-None.ensures.names ∙ unset_is pairs name ∙ stays_away name pairs c.requires none
+    c.in_ok-gone-in-None.ensures.names ∙ stays_away name pairs c.in_ok-gone-in-None.ensures.in_order none

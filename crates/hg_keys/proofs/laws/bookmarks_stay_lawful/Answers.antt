@@ -1,5 +1,5 @@
 use Rattle.hg_keys.proofs.CallerLemmas.{with_on_known}
-use Rattle.hg_keys.proofs.StayingLemmas.{in_order_with}
+use Rattle.hg_keys.proofs.PartsLemmas.{in_order_with}
 use Rattle.hg_keys.proofs.laws.bookmarks_stay_lawful.Goals as goal
 
 pub returns-clause-in_order : goal.returns-clause-in_order

@@ -6,6 +6,8 @@ use Rattle.hg_names.specs.declared.blocks.Block.{Block}
 use Rattle.hg_names.specs.Names.{with_name}
 use Rattle.hg_names.specs.code.Blocks.{pairs_in, place_at, IsFree}
 use Rattle.hg_names.proofs.Edits.{with_gap, with_first}
+use Rattle.hg_names.specs.Names.{AreInOrder}
+use Rattle.hg_names.proofs.InOrder.{in_order_with}
 use Rattle.hg_names.proofs.blocks.come_back.Goals as goal
 
 pub returns-then-is_empty-clause-pairs : goal.returns-then-is_empty-clause-pairs
@@ -27,3 +29,15 @@ returns-clause-pairs g c =
     c.spot_free-spot.ensures) in
     c.come_back_at.ensures.pairs
     ∙ sym (with_gap (pairs_in blocks) pair.0 (place_at blocks spot) pair.1 free.gap)
+
+pub returns-then-is_empty-clause-in_order : goal.returns-then-is_empty-clause-in_order
+returns-then-is_empty-clause-in_order g c =
+    let pair = c.args.pair in
+    subst AreInOrder (sym (returns-then-is_empty-clause-pairs g c))
+    (in_order_with (pairs_in c.args.blocks.now.items) pair.0 c.requires.in_order pair.1)
+
+pub returns-clause-in_order : goal.returns-clause-in_order
+returns-clause-in_order g c =
+    let pair = c.args.pair in
+    subst AreInOrder (sym (returns-clause-pairs g c))
+    (in_order_with (pairs_in c.args.blocks.now.items) pair.0 c.requires.in_order pair.1)

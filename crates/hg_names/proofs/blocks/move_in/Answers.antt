@@ -1,9 +1,11 @@
-use Rattle.std.proofs.Common.{ℕ, ◌<◌, List, [], ap, ◌∙◌, set, length}
+use Rattle.std.proofs.Common.{ℕ, ◌<◌, List, [], sym, ap, subst, ◌∙◌, set, length}
 use Rattle.hg_types.specs.declared.node.Node.{Node}
 use Rattle.hg_names.specs.declared.blocks.Block.{Block}
 use Rattle.hg_names.specs.code.Blocks.{pairs_in, place_at}
 use Rattle.hg_names.proofs.Flat.{changed}
-use Rattle.hg_names.proofs.Own.{items, read_of}
+use Rattle.hg_names.proofs.Own.{items, read_of, in_range}
+use Rattle.hg_names.specs.Names.{AreInOrder}
+use Rattle.hg_names.proofs.InOrder.{in_order_moved}
 use Rattle.hg_names.proofs.blocks.move_in.Goals as goal
 
 pub returns-clause-pairs : goal.returns-clause-pairs
@@ -34,3 +36,11 @@ returns-clause-was g c d =
     let lt : spot.1 < length (items block) = rw is own in
     let read = read_of blocks spot.0 spot.1 block pair c.requires.spot.block is lt c.index_mut-pair.ensures.value d in
     c.replace.ensures.value ∙ ap (λ (p : List ℕ × Node). p.1) read
+
+pub returns-clause-in_order : goal.returns-clause-in_order
+returns-clause-in_order g c =
+    let blocks = c.args.blocks.now.items in
+    let spot = c.args.spot in
+    subst AreInOrder (sym (returns-clause-pairs g c))
+    (in_order_moved (pairs_in blocks) (place_at blocks spot) c.args.node
+    (in_range blocks c.index_mut.result.now spot c.requires.spot) c.requires.in_order)

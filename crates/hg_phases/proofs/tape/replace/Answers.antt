@@ -1,9 +1,8 @@
-use Rattle.std.proofs.Common.{◌≡◌, ◌++◌, ◌∷◌, [], set, sym, ap, subst, ◌∙◌}
+use Rattle.std.proofs.Common.{◌≡◌, ap, ◌∙◌}
 use Rattle.std.proofs.lemmas.List.{get_or_read}
 use Rattle.hg_phases.specs.declared.standing.Standing.TheVariants.{PublicOnPublic}
-use Rattle.hg_phases.specs.declared.tape.Replaced.{Replaced}
 use Rattle.hg_phases.specs.Standing.{standing_at}
-use Rattle.hg_phases.specs.code.Tape.{rows_of, TapeFollows}
+use Rattle.hg_phases.specs.code.Tape.{rows_of}
 use Rattle.hg_phases.proofs.Undoing.{follows_set, rows_push}
 use Rattle.hg_phases.proofs.tape.replace.Goals as goal
 

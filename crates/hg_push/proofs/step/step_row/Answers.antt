@@ -1,6 +1,6 @@
 use Rattle.std.proofs.Common.{sym, subst}
 use Rattle.hg_push.specs.History.{Serial}
-use Rattle.hg_push.specs.Rows.{StepsRow}
+use Rattle.hg_push.specs.code.Rows.{StepsRow}
 use Rattle.hg_push.specs.Run.{RepositoryOf, run_push}
 use Rattle.hg_push.proofs.step.step_row.Goals as goal
 

@@ -1,8 +1,8 @@
 use Rattle.std.proofs.Common.{List, ℕ, [], ◌++◌, sym, subst, arith}
 use Rattle.std.proofs.lemmas.List.{length-append}
 use Rattle.hg_types.specs.Limits.{standard_limits}
-use Rattle.hg_receiving.specs.Turns.{IsReceiving}
-use Rattle.hg_receiving.proofs.CallerLemmas.{begins, within_limit}
+use Rattle.hg_connection.specs.Turns.{IsReceiving}
+use Rattle.hg_connection.proofs.ReceivingLemmas.{begins, within_limit}
 use Rattle.hg_replay.proofs.receiving.receive.Goals as goal
 
 pub loop-turn-init : goal.loop-turn-init

@@ -1,6 +1,6 @@
 use Rattle.std.proofs.Common.{ℕ, ◌≤◌, List, [], length}
 use Rattle.hg_types.specs.Limits.{standard_limits}
-use Rattle.hg_receiving.specs.Turns.{IsReceiving}
+use Rattle.hg_connection.specs.Turns.{IsReceiving}
 use Rattle.hg_replay.proofs.receiving.receive.Given as goal
 
 abbrev pub invariant-loop-turn : goal.invariant-loop-turn

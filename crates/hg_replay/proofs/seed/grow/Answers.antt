@@ -5,4 +5,4 @@ use Rattle.hg_replay.proofs.seed.grow.Goals as goal
 pub returns-clause-gives : goal.returns-clause-gives
 returns-clause-gives g c =
     refused_so _ _ _ _ _ _ c.empty_repository-repo.ensures (c.as_slice.ensures.value
-    ∙ c.in-Ok.ensures) c.refused.ensures c.in-Err.ensures.gives.1
+    ∙ c.in-Ok.ensures.parts) c.refused.ensures c.in-Err.ensures.gives.1

@@ -8,7 +8,8 @@ use Rattle.hg_parts.specs.PartTypes.{is_reply_caps, support_of}
 use Rattle.hg_parts.specs.Handled.{Handled}
 use Rattle.hg_parts.specs.Store.{repository_of}
 use Rattle.hg_parts.proofs.CallerLemmas.{grown_on}
-use Rattle.hg_repo.specs.Run.{Progress, run_of, PartsGive}
+use Rattle.hg_repo.specs.Run.{Progress, run_of}
+use Rattle.hg_repo.specs.code.Runs.{PartsGive}
 use Rattle.hg_repo.specs.Replies.{AreReplies}
 use Rattle.hg_repo.proofs.Runs.{IsReached, reached_more, reached_refused, reached_end}
 use Rattle.hg_repo.proofs.Replies.{one_more}
@@ -26,6 +27,7 @@ loop-place-preserved g c =
       repo = now;
       replying = c.loop-place.replying;
       replies = c.loop-place.replies;
+      handled = c.loop-place.handled.items;
     } in
     let given : Handled g.row.A.Denot = record { repo = next; reply = c.in_ok-reply.reply } in
     let reached = reached_more c.args.source repo c.args.parts.now c.loop-place.place part progress given
@@ -45,14 +47,8 @@ loop-place-preserved g c =
           (sym c.in_ok-keep_reply.ensures.kept)
           (one_more c.loop-place.place c.loop-place.replies c.in_ok-reply.reply c.loop-place.invariant.replies
           c.in_ok-reply.ensures.reply);
-      reached = subst (λ b. IsReached c.args.source repo c.args.parts.now (c.loop-place.place + 1)
-          (record { repo = next; replying = b; replies = c.keep_reply.new.replies })) replying
-          (subst (λ rs. IsReached c.args.source repo c.args.parts.now (c.loop-place.place + 1)
-          (record {
-            repo = next;
-            replying = c.loop-place.replying || is_reply_caps (support_of part);
-            replies = rs;
-          })) (sym c.in_ok-keep_reply.ensures.kept) reached);
+      reached = rw (c.in_ok-keep_reply.ensures.kept, c.push_reserved.ensures.items, sym replying) reached;
+      room = omega (arith, c.loop-place.invariant.room, c.push_reserved.ensures.len, c.push_reserved.ensures.capacity);
     }
 
 pub returns-in_err-reply-clause-gives : goal.returns-in_err-reply-clause-gives
@@ -65,9 +61,10 @@ returns-in_err-reply-clause-gives g c =
       repo = repository_of settings c.loop-place.store;
       replying = c.loop-place.replying;
       replies = c.loop-place.replies;
+      handled = c.loop-place.handled.items;
     } in
-    let p = err_from_is_err_and c.from_residual.result c.from_residual.ensures.1 in
-    let told : c.from_residual.result ≡ Err refusal = p.1 ∙ ap Err p.2 in
+    let p = err_from_is_err_and c.from_residual-in_err-reply.result c.from_residual-in_err-reply.ensures.1 in
+    let told : c.from_residual-in_err-reply.result ≡ Err refusal = p.1 ∙ ap Err p.2 in
     subst (λ result. PartsGive (run_of c.args.source repo c.args.parts.now) next result) (sym told)
     (elim c.in_err-reply.ensures.gives [
       | inl none ↦ inl none
@@ -84,6 +81,7 @@ returns-clause-gives g c =
       repo = repository_of settings c.loop-place.store;
       replying = c.loop-place.replying;
       replies = c.loop-place.replies;
+      handled = c.loop-place.handled.items;
     } in
     let all : c.loop-place.place ≡ length c.args.parts.now = omega
     (arith, c.loop-place-test.false, c.loop-place.auto.place-end) in
@@ -91,4 +89,4 @@ returns-clause-gives g c =
     c.loop-place.invariant.reached in
     reached_end c.args.source repo c.args.parts.now progress reached
     ∙ ap (λ ps. Ok (progress.repo, record { replies = c.loop-place.replies; handled = ps }))
-    (sym c.in_ok-handled.ensures)
+    (sym c.from_vec.ensures)

@@ -1,4 +1,4 @@
-use Rattle.std.proofs.Common.{rules, ◌≡◌, ◌∙◌, ◌+◌, ◌||◌, List, length, false, inl, Err, refl, sym, ap, subst}
+use Rattle.std.proofs.Common.{rules, ◌≡◌, ◌∙◌, ◌+◌, ◌||◌, List, length, false, inl, Ok, Err, refl, sym, ap, subst}
 use Rattle.std.proofs.Common.{arith}
 use Rattle.std.proofs.lemmas.Bool.{or_left}
 use Rattle.hg_types.specs.declared.part.Part.{Part}
@@ -8,7 +8,8 @@ use Rattle.hg_parts.specs.Repository.{Repository}
 use Rattle.hg_parts.specs.Handled.{Handled}
 use Rattle.hg_parts.specs.Store.{repository_of}
 use Rattle.hg_parts.proofs.CallerLemmas.{grown_same, grown_on}
-use Rattle.hg_repo.specs.Run.{Progress, run_of, PartsGive}
+use Rattle.hg_repo.specs.Run.{Progress, run_of}
+use Rattle.hg_repo.specs.code.Runs.{PartsGive}
 use Rattle.hg_repo.specs.Replies.{AreReplies}
 use Rattle.hg_repo.proofs.PreparedRuns.{IsReachedBy, reached_none, next_handled, next_refused}
 use Rattle.hg_repo.proofs.PreparedRuns.{all_handled}
@@ -22,18 +23,14 @@ loop-part-init g c =
     let repo : Repository g.row.A.Denot = repository_of c.args.settings.now c.args.store.now in
     let counts = ap length c.into_items-left.ensures in
     record {
-      count = omega (arith, counts, c.len-count.ensures);
-      all = c.len-count.ensures;
+      count = omega (arith, counts);
+      room = omega (arith, counts, c.len.ensures, c.in_ok-handled.ensures.len, c.in_ok-handled.ensures.capacity);
       sound = c.requires.sound;
       grown = grown_same _;
       replies = subst (λ (rs : List (Part g.row.A.Denot)). AreReplies 0 rs)
           (sym c.new-replies.ensures) no_replies;
-      reached = subst (λ (left : List (Prepared g.row.A.Denot)). IsReachedBy c.args.source repo all left 0
-          (record { repo = repo; replying = false; replies = c.new-replies.result }))
-          (sym c.into_items-left.ensures)
-          (subst (λ (rs : List (Part g.row.A.Denot)). IsReachedBy c.args.source repo all all 0
-          (record { repo = repo; replying = false; replies = rs })) (sym c.new-replies.ensures)
-          (reached_none c.args.source repo all));
+      reached = rw (c.into_items-left.ensures, c.new-replies.ensures, c.in_ok-handled.ensures.items)
+          (reached_none c.args.source repo all);
     }
 
 pub loop-part-preserved : goal.loop-part-preserved
@@ -51,6 +48,7 @@ loop-part-preserved g c =
       repo = now;
       replying = c.loop-part.replying;
       replies = c.loop-part.replies;
+      handled = c.loop-part.handled.items;
     } in
     let given : Handled g.row.A.Denot = record { repo = next; reply = c.in_ok-reply.reply } in
     let before = subst (λ (left : List (Prepared g.row.A.Denot)).
@@ -67,18 +65,14 @@ loop-part-preserved g c =
     ] in
     record {
       count = omega (arith, counts, c.loop-part.invariant.count);
-      all = c.loop-part.invariant.all;
+      room = omega (arith, counts, c.loop-part.invariant.room, c.push_reserved.ensures.len, c.push_reserved.ensures.capacity);
       sound = c.in_ok-reply.ensures.sound;
       grown = grown_on _ _ _ c.loop-part.invariant.grown c.in_ok-reply.ensures.grown;
       replies = subst (λ (rs : List (Part g.row.A.Denot)). AreReplies (c.loop-part.place + 1) rs)
           (sym c.in_ok-keep_reply.ensures.kept)
           (one_more c.loop-part.place c.loop-part.replies c.in_ok-reply.reply c.loop-part.invariant.replies
           c.in_ok-reply.ensures.reply);
-      reached = subst (λ b. IsReachedBy c.args.source repo all left (c.loop-part.place + 1)
-          (record { repo = next; replying = b; replies = c.keep_reply.new.replies })) replying
-          (subst (λ rs. IsReachedBy c.args.source repo all left (c.loop-part.place + 1)
-          (record { repo = next; replying = c.loop-part.replying || starts; replies = rs }))
-          (sym c.in_ok-keep_reply.ensures.kept) reached);
+      reached = rw (c.in_ok-keep_reply.ensures.kept, c.push_reserved.ensures.items, sym replying) reached;
     }
 
 pub returns-in_err-reply-clause-grown : goal.returns-in_err-reply-clause-grown
@@ -96,11 +90,12 @@ returns-in_err-reply-clause-gives g c =
       repo = repository_of settings c.loop-part.store;
       replying = c.loop-part.replying;
       replies = c.loop-part.replies;
+      handled = c.loop-part.handled.items;
     } in
     let before = subst (λ (left : List (Prepared g.row.A.Denot)).
     IsReachedBy c.args.source repo all left c.loop-part.place progress) c.in-Some.ensures.some
     c.loop-part.invariant.reached in
-    let told : c.from_residual.result ≡ Err refusal = search rules in
+    let told : c.from_residual-in_err-reply.result ≡ Err refusal = search rules in
     λ parts made. subst (λ result. PartsGive (run_of c.args.source repo parts) next result) (sym told)
     (next_refused c.args.source repo all c.next.new.self c.in-Some.part c.loop-part.place
     progress refusal before (λ part one. c.in_err-reply.ensures.gives part one) parts made)
@@ -127,12 +122,11 @@ returns-clause-gives g c =
       repo = repository_of settings c.loop-part.store;
       replying = c.loop-part.replying;
       replies = c.loop-part.replies;
+      handled = c.loop-part.handled.items;
     } in
     let none = c.in_default.ensures.none in
-    let counts = ap length none in
-    let here : c.loop-part.place ≡ c.len-count.result = omega (arith, c.loop-part.invariant.count, counts) in
     let reached = subst (λ (left : List (Prepared g.row.A.Denot)).
     IsReachedBy c.args.source repo all left c.loop-part.place progress)
     none c.loop-part.invariant.reached in
-    λ parts made. all_handled c.args.source repo all c.loop-part.place c.len-count.result progress
-    c.in_ok-handled.handled reached here c.in_ok-handled.ensures parts made
+    λ parts made. all_handled c.args.source repo all c.loop-part.place progress reached parts made
+    ∙ ap (λ ns. Ok (progress.repo, record { replies = progress.replies; handled = ns })) (sym c.from_vec.ensures)

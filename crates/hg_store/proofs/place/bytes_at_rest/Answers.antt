@@ -1,4 +1,4 @@
-use Rattle.hg_store.proofs.Cutting.{rest_is}
+use Rattle.hg_store.proofs.AtRest.{rest_is}
 use Rattle.hg_store.proofs.place.bytes_at_rest.Goals as goal
 
 pub returns : goal.returns

@@ -1,37 +1,42 @@
-use Rattle.std.proofs.Common.{◌≡◌, ◌∙◌, ap, subst, sym}
+use Rattle.std.proofs.Common.{◌≡◌, ◌∙◌, ap, length, subst, sym}
 use Rattle.hg_types.specs.Limits.{IsAllowed}
 use Rattle.hg_store.specs.Calls.{state_of}
-use Rattle.hg_store.specs.Files.{digest_behind, stored}
+use Rattle.hg_store.specs.declared.head.Head.{Head}
+use Rattle.hg_store.specs.declared.start.StoreFault.TheVariants.{Recover}
+use Rattle.hg_store.specs.Files.{StandsFor, digest_behind, stored}
 use Rattle.hg_store.specs.Head.{HasHead}
 use Rattle.hg_store.specs.Log.{at_rest}
-use Rattle.std.proofs.Common.{length}
 use Rattle.hg_store.specs.Openings.{IsUnopened}
-use Rattle.hg_store.proofs.Opens.{err_is, head_is, refused_is}
+use Rattle.hg_store.proofs.Opens.{found_is, head_is, only_first, stopped_is}
 use Rattle.hg_store.proofs.start.open_file.Goals as goal
 
-pub returns-in_err-has_no_other_head-clause-err : goal.returns-in_err-has_no_other_head-clause-err
-returns-in_err-has_no_other_head-clause-err g c =
+pub returns-in-Err-recover-clause-err : goal.returns-in-Err-recover-clause-err
+returns-in-Err-recover-clause-err g c =
     let before = g.C.Calls.history c.args.calls in
-    let after = g.C.Calls.history c.begin.new.self in
-    err_is _ _ (λ f. (read : g.row.C.Denot) × IsUnopened f c.args.head.now before (g.C.Calls.history read))
-    c.from_residual-in_err-has_no_other_head.ensures.1 (λ told is. (
-      c.begin.new.self,
-      subst (λ f. IsUnopened f c.args.head.now before after) (sym is) (
-          refused_is c.in_err-has_no_other_head.field-0.0 c.args.head.now c.as_slice.result.now
-          c.in_ok-bytes.bytes before after c.as_slice.ensures c.in_ok-bytes.ensures
-          c.in_err-has_no_other_head.ensures.other
-          ),
-    ))
+    let at_first = g.C.Calls.history c.of-device.result.calls in
+    let now = g.C.Calls.history c.recover.new.device.calls in
+    let read = ap g.C.Calls.history c.of-device.ensures ∙ c.in-Ok.ensures in
+    let why = stopped_is c.in-Ok.bytes before at_first read c.recover.result c.args.head.now now
+    c.recover.ensures.same_file
+    (λ whole is. let t = c.recover.ensures.torn whole is in (t.0, t.1.same, t.1.outcomes))
+    (λ fault is. let t = c.recover.ensures.unread fault is in (t.0, t.1.same, t.1.outcomes))
+    (λ its records stands. (c.recover.ensures.any_moment its records stands
+    (only_first c.in-Ok.bytes before at_first read)).each)
+    c.in-Err-recover.fault c.in-Err-recover.is in
+    let told = c.left_over-in-Err-recover.ensures.0 ∙ c.from-in-Err-recover.ensures in
+    let calls = ap g.C.Calls.history (c.left_over-in-Err-recover.ensures.1 ∙ c.into_calls.ensures) in
+    subst (λ f. IsUnopened f c.args.head.now before (g.C.Calls.history c.left_over-in-Err-recover.result.calls))
+    (sym told) (subst (IsUnopened (Recover c.in-Err-recover.fault) c.args.head.now before) (sym calls) why)
 
 pub returns-clause-settled : goal.returns-clause-settled
 returns-clause-settled g c =
-    let s = c.in_ok-found.ensures.settled in
-    let records = c.in_ok-found.found.records in
-    let is = head_is c.args.head.now c.in_ok-found.found.head records
-    (state_of (g.C.Calls.history c.of-device.result.calls)).seen c.in_ok-bytes.bytes
+    let s = c.in-Ok-recover.ensures.settled in
+    let records = c.in-Ok-recover.found.records in
+    let is = head_is c.args.head.now c.in-Ok-recover.found.head records
+    (state_of (g.C.Calls.history c.of-device.result.calls)).seen c.in-Ok.bytes
     (ap (λ calls. (state_of (g.C.Calls.history calls)).seen) c.of-device.ensures
-    ∙ ap (λ calls. (state_of calls).seen) c.in_ok-bytes.ensures) c.in_ok-found.ensures.read
-    (λ other has. c.in_ok-has_no_other_head.ensures.one other (subst (λ f. HasHead f other) (sym c.as_slice.ensures) has)) in
+    ∙ ap (λ calls. (state_of calls).seen) c.in-Ok.ensures) c.in-Ok-recover.ensures.read
+    (λ other has. c.in_default.ensures.one other (subst (λ f. HasHead f other) (sym c.as_slice.ensures) has)) in
     record {
       allowed = subst (λ h. IsAllowed h.limits) is s.allowed;
       each = s.each;
@@ -40,3 +45,17 @@ returns-clause-settled g c =
       chained = s.chained ∙ ap (λ h. digest_behind h records) is;
       durable = s.durable;
     }
+
+pub returns-clause-found : goal.returns-clause-found
+returns-clause-found g c =
+    let records = c.in-Ok-recover.found.records in
+    let before = g.C.Calls.history c.args.calls in
+    let at_first = g.C.Calls.history c.of-device.result.calls in
+    let now = g.C.Calls.history c.recover.new.device.calls in
+    let read = ap g.C.Calls.history c.of-device.ensures ∙ c.in-Ok.ensures in
+    let is = head_is c.args.head.now c.in-Ok-recover.found.head records (state_of at_first).seen c.in-Ok.bytes
+    (ap (λ calls. (state_of calls).seen) read) c.in-Ok-recover.ensures.read
+    (λ other has. c.in_default.ensures.one other (subst (λ f. HasHead f other) (sym c.as_slice.ensures) has)) in
+    let stands = subst (λ (h : Head). StandsFor h records (state_of at_first).seen) is c.in-Ok-recover.ensures.read in
+    found_is c.in-Ok.bytes before at_first read c.args.head.now records now stands c.recover.ensures.same_file
+    (c.recover.ensures.any_moment c.args.head.now records stands (only_first c.in-Ok.bytes before at_first read)).each

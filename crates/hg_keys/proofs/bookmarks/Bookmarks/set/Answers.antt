@@ -1,9 +1,8 @@
 use Rattle.std.proofs.Common.{◌≡◌, ◌≤◌, ◌+◌, ◌++◌, Some, None, cond, List, length, sym, ap, subst, ◌∙◌, arith}
 use Rattle.std.specs.Option.{option_to_list}
 use Rattle.hg_keys.specs.declared.bookmarks.Change.{Change}
-use Rattle.hg_keys.specs.Bookmarks.{Marked, Pairs, AreInOrder, with_bookmark}
+use Rattle.hg_keys.specs.Bookmarks.{Marked, Pairs, with_bookmark}
 use Rattle.hg_keys.specs.code.Changes.{IsSound, base_of}
-use Rattle.hg_keys.proofs.StayingLemmas.{in_order_with}
 use Rattle.hg_keys.proofs.ChangeLemmas.{sound_unmarked, sound_same, sound_kept, mark_kept, no_mark}
 use Rattle.hg_keys.proofs.bookmarks.Bookmarks.set.Goals as goal
 
@@ -14,15 +13,12 @@ invariant_of-self g c =
     let old = c.self.inside in
     let new = c.put.new.names in
     sound_unmarked new.pairs old.changes.items new.room old.is_marked c.if-not-self.true
-    (subst AreInOrder (sym c.in_err-put.ensures.err) c.self.invariant.in_order)
 
 pub invariant_of-self-then-not-self : goal.invariant_of-self-then-not-self
 invariant_of-self-then-not-self g c =
     let old = c.self.inside in
     let new = c.put.new.names in
     sound_unmarked new.pairs old.changes.items new.room old.is_marked c.if-not-self.true
-    (subst AreInOrder (sym c.in_ok-put.ensures.set)
-    (in_order_with old.names.pairs c.args.name.now c.self.invariant.in_order c.args.node))
 
 pub returns-then-not-self-clause-ok : goal.returns-then-not-self-clause-ok
 returns-then-not-self-clause-ok g c =
@@ -48,9 +44,6 @@ invariant_of-self-in_err-make_room g c =
     old.is_marked c.make_room.ensures.names c.make_room.ensures.changes
     (λ marked. omega (arith, c.self.invariant.room marked, c.make_room.ensures.more)) c.self.invariant
 
-pub put_after_mark-requires : goal.put_after_mark-requires
-put_after_mark-requires g c = subst AreInOrder (sym c.make_room.ensures.names) c.self.invariant.in_order
-
 pub invariant_of-self-in_err-change : goal.invariant_of-self-in_err-change
 invariant_of-self-in_err-change g c =
     let old = c.self.inside in
@@ -69,14 +62,11 @@ invariant_of-self-2 g c =
     let same = c.make_room.ensures.names in
     let changes : c.keep.new.changes.items ≡ old.changes.items ++ option_to_list change = c.keep.ensures
     ∙ ap (λ (cs : List (Change g.row.A.Denot)). cs ++ option_to_list change) c.make_room.ensures.changes in
-    let in_order : AreInOrder new.pairs = subst AreInOrder (sym c.in_ok-change.ensures.set)
-    (in_order_with c.make_room.new.names.pairs c.args.name.now (subst AreInOrder (sym same) c.self.invariant.in_order)
-    c.args.node) in
     let room : length old.changes.items + 1 ≤ new.room = omega
     (arith, c.in_ok-make_room.ensures.room, c.in_ok-change.ensures.room) in
     subst (λ (cs : List (Change g.row.A.Denot)). IsSound new.pairs cs new.room old.is_marked) (sym changes)
     (sound_kept old.names.pairs new.pairs old.changes.items change old.names.room new.room old.is_marked
-    c.if-not-self.false c.self.invariant in_order room (c.in_ok-change.ensures.back ∙ same) c.in_ok-change.ensures.can)
+    c.if-not-self.false c.self.invariant room (c.in_ok-change.ensures.back ∙ same) c.in_ok-change.ensures.can)
 
 pub returns-clause-ok : goal.returns-clause-ok
 returns-clause-ok g c =

@@ -11,14 +11,14 @@ use Rattle.hg_log.proofs.Answering.{answer_added}
 use Rattle.hg_log.proofs.changelog.Changelog.add.Goals as goal
 
 pub returns-then-knows-clause-answer : goal.returns-then-knows-clause-answer
-returns-then-knows-clause-answer g c = λ _. known (c.if-knows.ensures.0 refl)
+returns-then-knows-clause-answer g c = λ _. known (c.if-knows.ensures.row.0 refl)
 
 pub returns-then-knows-clause-value : goal.returns-then-knows-clause-value
 returns-then-knows-clause-value g c =
-    λ _. answer_known c.args.self.now c.args.entry.now (c.if-knows.ensures.0 refl)
+    λ _. answer_known c.args.self.now c.args.entry.now (c.if-knows.ensures.row.0 refl)
 
 pub returns-then-knows-clause-leaves : goal.returns-then-knows-clause-leaves
-returns-then-knows-clause-leaves g c = (c.if-knows.ensures.0 refl, refl)
+returns-then-knows-clause-leaves g c = (c.if-knows.ensures.row.0 refl, refl)
 
 pub returns-in_err-text-clause-value : goal.returns-in_err-text-clause-value
 returns-in_err-text-clause-value g c = λ other.

@@ -1,7 +1,6 @@
-use Rattle.std.proofs.Common.{◌≡◌, ◌<◌, ℕ, length, ap, sym, ◌∙◌, arith}
+use Rattle.std.proofs.Common.{◌<◌, length, ◌∙◌, arith}
 use Rattle.hg_log.specs.code.Inside.{rows_of}
 use Rattle.hg_log.specs.code.Family.{numbers}
-use Rattle.hg_log.specs.Children.{child_before}
 use Rattle.hg_log.specs.Parents.{parents_of, IsParentIn}
 use Rattle.hg_log.proofs.Children.{before_same}
 use Rattle.hg_log.proofs.ParentLemmas.{parent_is}

@@ -1,4 +1,4 @@
-use Rattle.std.proofs.Common.{◌≡◌, length, ap, sym, ◌∙◌, arith}
+use Rattle.std.proofs.Common.{length, ap, ◌∙◌}
 use Rattle.hg_log.specs.code.Inside.{rows_of}
 use Rattle.hg_log.specs.code.Family.{numbers}
 use Rattle.hg_log.specs.Children.{child_before}

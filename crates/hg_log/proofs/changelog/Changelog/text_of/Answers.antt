@@ -1,9 +1,9 @@
-use Rattle.std.proofs.Common.{◌≡◌, ◌≢◌, length, ◌≤◌, Ok, Err, sym, ap, ◌∙◌}
+use Rattle.std.proofs.Common.{◌≡◌, ◌≢◌, length, ◌≤◌, Ok, Err, ap, ◌∙◌}
 use Rattle.hg_delta.specs.declared.fault.DeltaFault.TheVariants as fault
 use Rattle.hg_delta.specs.Delta.{Applies}
 use Rattle.hg_delta.specs.Faults.{BreaksAt, GivesTooMuch}
 use Rattle.hg_delta.specs.Faults.IsOutcome.{gives}
-use Rattle.hg_delta.specs.Outcome.{DeltaFails, outcome_of}
+use Rattle.hg_delta.specs.Outcome.{outcome_of}
 use Rattle.hg_log.specs.declared.add.AddFault.{AddFault}
 use Rattle.hg_log.specs.declared.add.AddFault.TheVariants.{NoMemory}
 use Rattle.hg_log.specs.Rows.{AreLawful}
@@ -38,9 +38,9 @@ pub returns-in-Ok-clause-value : goal.returns-in-Ok-clause-value
 returns-in-Ok-clause-value g c = λ _.
     let base = c.in-Some.base.now in
     let lawful : AreLawful c.args.self.now.rows = rw (← c.self.view_is) c.self.invariant.lawful in
-    let read : outcome_of base c.args.entry.now.delta c.args.self.now.limits.text ≡ Ok c.in-Ok.text.items =
-    rw (← c.as_slice.ensures, ← c.self.view_is) c.in-Ok.ensures.outcome in
-    rw c.from_vec.ensures (sym (ap told_text read)
+    let read : Ok c.in-Ok.text.items ≡ outcome_of base c.args.entry.now.delta c.args.self.now.limits.text =
+    rw (← c.as_slice.ensures, ← c.self.view_is) (c.in-Ok.ensures.outcome (λ refused. cc)) in
+    rw c.from_vec.ensures (ap told_text read
     ∙ text_on_base c.args.self.now c.args.entry.now base lawful c.in-Some.ensures.known)
 
 pub returns-in-Err : goal.returns-in-Err
@@ -59,8 +59,8 @@ returns-in-Err g c =
     → GivesTooMuch base delta c.args.self.now.limits.text = λ is.
     rw (← c.as_slice.ensures, ← c.self.view_is) (e.too_long (cc)) in
     let lawful : AreLawful c.args.self.now.rows = rw (← c.self.view_is) c.self.invariant.lawful in
-    let read : DeltaFails f (outcome_of base delta c.args.self.now.limits.text) =
-    rw (← c.as_slice.ensures, ← c.self.view_is) e.outcome in
+    let read : f ≢ fault.NoMemory → Err f ≡ outcome_of base delta c.args.self.now.limits.text = λ other.
+    rw (← c.as_slice.ensures, ← c.self.view_is) (e.outcome (λ refused. other (cc))) in
     let value : told_as f ≢ NoMemory → Err (told_as f) ≡ text_of c.args.self.now c.args.entry.now = λ other.
     told_value f (outcome_of base delta c.args.self.now.limits.text) read other
     ∙ text_on_base c.args.self.now c.args.entry.now base lawful c.in-Some.ensures.known in

@@ -1,7 +1,7 @@
-use Rattle.std.proofs.Common.{rules, ◌≡◌, ◌+◌, ◌<◌, ◌^◌, [], ◌∷◌, ◌++◌, length, arith, slice_get, Some, refl, sym, ap, ◌∙◌}
+use Rattle.std.proofs.Common.{◌≡◌, ◌<◌, length, arith, slice_get, Some, refl, sym, ap, ◌∙◌}
 use Rattle.std.proofs.lemmas.List.{length_push}
 use Rattle.std.proofs.lemmas.Option.{slice_get_read}
-use Rattle.hg_log.proofs.Linked.{linked_popped, popped_first, popped_second, linked_same}
+use Rattle.hg_log.proofs.Linked.{linked_popped, popped_first, popped_second}
 use Rattle.hg_log.proofs.family.Family.pop.Goals as goal
 
 pub put_child-requires : goal.put_child-requires

@@ -1,4 +1,4 @@
-use Rattle.std.proofs.Common.{rules, ◌≡◌, ℕ, List, Option, ◌+◌, ◌<◌, ◌^◌, [], ◌∷◌, ◌++◌, length, None, Some, refl, arith, ap, ◌∙◌}
+use Rattle.std.proofs.Common.{rules, ◌≡◌, ℕ, List, Option, ◌+◌, ◌<◌, ◌^◌, [], ◌∷◌, ◌++◌, length, None, refl, arith, ap, ◌∙◌}
 use Rattle.hg_log.specs.code.Graph.{AreEarlier}
 use Rattle.hg_log.specs.code.Family.{child_at}
 use Rattle.hg_log.proofs.Linked.{linked_pushed, linked_same}

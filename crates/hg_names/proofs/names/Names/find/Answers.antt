@@ -1,7 +1,7 @@
 use Rattle.std.proofs.Common.{◌≡◌, ℕ, ◌<◌, List, length, Some, None, sym, ap, subst, ◌∙◌, rules}
 use Rattle.hg_types.specs.declared.node.Node.{Node}
 use Rattle.hg_names.specs.declared.blocks.Block.{Block}
-use Rattle.hg_names.specs.Names.{Held, AreInOrder, node_of}
+use Rattle.hg_names.specs.Names.{Held, node_of}
 use Rattle.hg_names.specs.code.Blocks.{pairs_in, place_at, IsNamed}
 use Rattle.hg_names.proofs.Own.{items, read_of}
 use Rattle.hg_names.proofs.Lookups.{found_at}
@@ -14,14 +14,12 @@ returns g c =
     let spot = c.in_ok-spot.spot in
     let block = c.index.result.now in
     let pair = c.index-2.result.now in
-    let order : AreInOrder (pairs_in blocks) = subst (λ (h : Held). AreInOrder h.pairs) (sym c.self.view_is)
-    c.requires in
     let named : IsNamed blocks name spot = subst (λ (bs : List (Block g.row.A.Denot)). IsNamed bs name spot)
     c.as_slice.ensures.value c.in_ok-spot.ensures.found in
     let lt : spot.1 < length (items block) = rw c.index.ensures (named.within.within block) in
     let read = read_of blocks spot.0 spot.1 block pair named.within.block c.index.ensures lt c.index-2.ensures pair in
     ap (λ (p : List ℕ × Node). Some p.1) read
-    ∙ sym (found_at (pairs_in blocks) name (place_at blocks spot) pair order named.at)
+    ∙ sym (found_at (pairs_in blocks) name (place_at blocks spot) pair c.self.invariant.in_order named.at)
     ∙ ap (λ (h : Held). node_of h.pairs name) c.self.view_is
 
 pub returns-in_err-spot : goal.returns-in_err-spot

@@ -4,7 +4,7 @@ use Rattle.std.proofs.lemmas.Grind.{common_steps}
 use Rattle.std.proofs.lemmas.List.{nil_from_length}
 use Rattle.hg_types.specs.declared.node.Node.{Node}
 use Rattle.hg_names.specs.declared.blocks.Block.{Block}
-use Rattle.hg_names.specs.Names.{Held, AreInOrder, node_of, with_name}
+use Rattle.hg_names.specs.Names.{Held, node_of, with_name}
 use Rattle.hg_names.specs.code.Blocks.{pairs_in, place_at, IsNamed, IsFree}
 use Rattle.hg_names.proofs.Edits.{with_moved}
 use Rattle.hg_names.proofs.Lookups.{found_at, none_at, no_pair}
@@ -24,12 +24,10 @@ returns-in-Ok-clause-ok g c =
     let blocks = c.self.inside.blocks.items in
     let name = c.args.name.now in
     let spot = c.in-Ok.spot in
-    let order : AreInOrder (pairs_in blocks) = subst (λ (h : Held). AreInOrder h.pairs) (sym c.self.view_is)
-    c.requires in
     let named : IsNamed blocks name spot = subst (λ (bs : List (Block g.row.A.Denot)). IsNamed bs name spot)
     c.as_slice.ensures.value c.in-Ok.ensures.found in
     c.move_in.ensures.pairs
-    ∙ sym (with_moved (pairs_in blocks) name (place_at blocks spot) named.at order c.args.node)
+    ∙ sym (with_moved (pairs_in blocks) name (place_at blocks spot) named.at c.self.invariant.in_order c.args.node)
     ∙ ap (λ (h : Held). with_name h.pairs name c.args.node) c.self.view_is
 
 pub returns-in-Ok-clause-was : goal.returns-in-Ok-clause-was
@@ -37,12 +35,10 @@ returns-in-Ok-clause-was g c =
     let blocks = c.self.inside.blocks.items in
     let name = c.args.name.now in
     let spot = c.in-Ok.spot in
-    let order : AreInOrder (pairs_in blocks) = subst (λ (h : Held). AreInOrder h.pairs) (sym c.self.view_is)
-    c.requires in
     let named : IsNamed blocks name spot = subst (λ (bs : List (Block g.row.A.Denot)). IsNamed bs name spot)
     c.as_slice.ensures.value c.in-Ok.ensures.found in
     ap (λ (n : Node). Some n) (c.move_in.ensures.was no_pair)
-    ∙ sym (found_at (pairs_in blocks) name (place_at blocks spot) no_pair order named.at)
+    ∙ sym (found_at (pairs_in blocks) name (place_at blocks spot) no_pair c.self.invariant.in_order named.at)
     ∙ ap (λ (h : Held). node_of h.pairs name) c.self.view_is
 
 pub add_at-requires-clause-free : goal.add_at-requires-clause-free

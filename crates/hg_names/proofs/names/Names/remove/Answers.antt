@@ -1,7 +1,7 @@
 use Rattle.std.proofs.Common.{◌≡◌, ℕ, List, Some, None, sym, ap, subst, ◌∙◌}
 use Rattle.hg_types.specs.declared.node.Node.{Node}
 use Rattle.hg_names.specs.declared.blocks.Block.{Block}
-use Rattle.hg_names.specs.Names.{Held, AreInOrder, node_of, without}
+use Rattle.hg_names.specs.Names.{Held, node_of, without}
 use Rattle.hg_names.specs.code.Blocks.{pairs_in, place_at, IsNamed}
 use Rattle.std.proofs.lemmas.Option.{get_or_from_slice_get}
 use Rattle.hg_names.proofs.Edits.{without_place}
@@ -13,12 +13,10 @@ returns-clause-names g c =
     let blocks = c.self.inside.blocks.items in
     let name = c.args.name.now in
     let spot = c.in-Some.spot in
-    let order : AreInOrder (pairs_in blocks) = subst (λ (h : Held). AreInOrder h.pairs) (sym c.self.view_is)
-    c.requires in
     let named : IsNamed blocks name spot = subst (λ (bs : List (Block g.row.A.Denot)). IsNamed bs name spot)
     c.as_slice.ensures.value c.in-Some.ensures.found in
     c.take_out-pair.ensures.pairs
-    ∙ sym (without_place (pairs_in blocks) name (place_at blocks spot) named.at order)
+    ∙ sym (without_place (pairs_in blocks) name (place_at blocks spot) named.at c.self.invariant.in_order)
     ∙ ap (λ (h : Held). without h.pairs name) c.self.view_is
 
 pub returns-clause-name : goal.returns-clause-name
@@ -26,8 +24,6 @@ returns-clause-name g c =
     let blocks = c.self.inside.blocks.items in
     let name = c.args.name.now in
     let spot = c.in-Some.spot in
-    let order : AreInOrder (pairs_in blocks) = subst (λ (h : Held). AreInOrder h.pairs) (sym c.self.view_is)
-    c.requires in
     let named : IsNamed blocks name spot = subst (λ (bs : List (Block g.row.A.Denot)). IsNamed bs name spot)
     c.as_slice.ensures.value c.in-Some.ensures.found in
     let pair = c.take_out-pair.result in
@@ -40,13 +36,11 @@ returns-clause-node g c =
     let blocks = c.self.inside.blocks.items in
     let name = c.args.name.now in
     let spot = c.in-Some.spot in
-    let order : AreInOrder (pairs_in blocks) = subst (λ (h : Held). AreInOrder h.pairs) (sym c.self.view_is)
-    c.requires in
     let named : IsNamed blocks name spot = subst (λ (bs : List (Block g.row.A.Denot)). IsNamed bs name spot)
     c.as_slice.ensures.value c.in-Some.ensures.found in
     let pair = c.take_out-pair.result in
     ap (λ (h : Held). node_of h.pairs name) (sym c.self.view_is)
-    ∙ found_at (pairs_in blocks) name (place_at blocks spot) pair order named.at
+    ∙ found_at (pairs_in blocks) name (place_at blocks spot) pair c.self.invariant.in_order named.at
     ∙ ap (λ (p : List ℕ × Node). Some p.1)
     (get_or_from_slice_get (pairs_in blocks) (place_at blocks spot) pair pair c.take_out-pair.ensures.pair)
 

@@ -3,7 +3,8 @@ use Rattle.std.proofs.Common.{Bool, Some, List, length, subst, unwrap_or}
 use Rattle.std.specs.Map.{lookup}
 use Rattle.hg_types.specs.declared.node.Node.{Node}
 use Rattle.hg_obs.specs.declared.marker.Marker.{Marker}
-use Rattle.hg_obs.specs.Markers.{is_in, place_from, without}
+use Rattle.hg_obs.specs.Markers.{is_in}
+use Rattle.hg_obs.specs.code.Places.{place_from, without}
 use Rattle.hg_obs.specs.Same.{is_same, same_node}
 use Rattle.hg_obs.specs.code.Later.{AreKept}
 use Rattle.hg_obs.proofs.PlaceLemmas.{place_below}

@@ -2,7 +2,7 @@ use Rattle.std.proofs.Common.{ap, ◌∙◌}
 use Rattle.std.specs.Map.{lookup}
 use Rattle.hg_types.specs.declared.node.Node.{Node}
 use Rattle.hg_obs.specs.Same.{same_node}
-use Rattle.hg_obs.specs.Markers.{without}
+use Rattle.hg_obs.specs.code.Places.{without}
 use Rattle.hg_obs.proofs.LaterLemmas.{kept_dropped}
 use Rattle.hg_obs.proofs.markers.Markers.drop_last.Goals as goal
 

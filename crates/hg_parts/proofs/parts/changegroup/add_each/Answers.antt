@@ -1,6 +1,7 @@
 use Rattle.std.proofs.Common.{◌≡◌, ◌∙◌, length, inl, inr, Err, sym, subst, arith}
 use Rattle.std.proofs.lemmas.Result.{err_from_is_err_and}
-use Rattle.hg_parts.specs.parts.Changegroup.{Grown, add_each, grown_of, AddGives}
+use Rattle.hg_parts.specs.parts.Changegroup.{Grown, add_each}
+use Rattle.hg_parts.specs.code.Changegroup.{grown_of, AddGives}
 use Rattle.hg_parts.proofs.Growing.{grown_on}
 use Rattle.hg_parts.proofs.Adding.{add_step, add_fault, add_all}
 use Rattle.hg_parts.proofs.parts.changegroup.add_each.Goals as goal

@@ -1,6 +1,7 @@
 use Rattle.std.proofs.Common.{◌≡◌, drop}
 use Rattle.hg_parts.specs.Store.{IsSound, IsGrown}
-use Rattle.hg_parts.specs.parts.Changegroup.{add_each, grown_of, AreOthersSame}
+use Rattle.hg_parts.specs.parts.Changegroup.{add_each}
+use Rattle.hg_parts.specs.code.Changegroup.{grown_of, AreOthersSame}
 use Rattle.hg_parts.proofs.parts.changegroup.add_each.Given as goal
 
 -- the entries so far are added

@@ -2,7 +2,7 @@ use Rattle.std.proofs.Common.{rules, ap}
 use Rattle.hg_keys.specs.Bookmarks.{Marked}
 use Rattle.hg_parts.specs.Repository.{Repository}
 use Rattle.hg_parts.specs.Store.{repository_of}
-use Rattle.hg_parts.specs.parts.Changegroup.{grown_of}
+use Rattle.hg_parts.specs.code.Changegroup.{grown_of}
 use Rattle.hg_parts.proofs.Adding.{entries_done, entries_refused}
 use Rattle.hg_parts.proofs.parts.changegroup.handle_group.Goals as goal
 

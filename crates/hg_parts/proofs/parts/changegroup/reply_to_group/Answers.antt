@@ -1,6 +1,7 @@
 use Rattle.std.proofs.Common.{◌≡◌, ◌∙◌, ℕ, List, codes, sym, ap, subst}
 use Rattle.hg_types.specs.declared.part.Part.{Part}
-use Rattle.hg_parts.specs.Replies.{reply_part, CanReply}
+use Rattle.hg_parts.specs.Replies.{reply_part}
+use Rattle.hg_parts.specs.code.Replies.{CanReply}
 use Rattle.hg_parts.specs.parts.Changegroup.{result_text}
 use Rattle.hg_parts.proofs.Revs.{can_reply, replied}
 use Rattle.hg_parts.proofs.parts.changegroup.reply_to_group.Goals as goal

@@ -1,6 +1,7 @@
 use Rattle.std.proofs.Common.{◌≡◌, ◌≢◌, ◌<◌, ◌^◌, ◌∙◌, ℕ, List, refl, arith, codes, decimal, sym, ap, subst}
 use Rattle.hg_types.specs.declared.part.Part.{Part}
-use Rattle.hg_parts.specs.Replies.{reply_part, CanReply}
+use Rattle.hg_parts.specs.Replies.{reply_part}
+use Rattle.hg_parts.specs.code.Replies.{CanReply}
 use Rattle.hg_parts.proofs.Numbers.{number_short, replied}
 use Rattle.hg_parts.proofs.parts.obsmarkers.reply_to_markers.Goals as goal
 

@@ -1,7 +1,7 @@
 use Rattle.std.proofs.Common.{◌∙◌, List, ap}
 use Rattle.hg_types.specs.declared.phase.Phase.{Phase}
 use Rattle.hg_types.specs.declared.phase.Phase.TheVariants.{Draft, Secret}
-use Rattle.hg_parts.specs.parts.PhaseHeads.{advanced_to}
+use Rattle.hg_parts.specs.code.PhaseHeads.{advanced_to}
 use Rattle.hg_parts.proofs.Heads.{in_phases_each}
 use Rattle.hg_parts.proofs.parts.phase_heads.advance_each.Goals as goal
 

@@ -1,6 +1,6 @@
 use Rattle.std.proofs.Common.{◌∙◌, ◌++◌, ◌<◌, All, length, take, ap, sym, subst}
 use Rattle.std.specs.Option.{option_to_list}
-use Rattle.hg_parts.specs.parts.PhaseHeads.{heads_of}
+use Rattle.hg_parts.specs.code.PhaseHeads.{heads_of}
 use Rattle.hg_parts.proofs.Heads.{heads_more}
 use Rattle.hg_parts.proofs.Revs.{within_more, some_within}
 use Rattle.hg_parts.proofs.parts.phase_heads.heads_of.Goals as goal

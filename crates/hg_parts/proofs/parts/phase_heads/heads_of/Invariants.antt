@@ -1,5 +1,5 @@
 use Rattle.std.proofs.Common.{◌≡◌, ◌<◌, take, length, All}
-use Rattle.hg_parts.specs.parts.PhaseHeads.{heads_of}
+use Rattle.hg_parts.specs.code.PhaseHeads.{heads_of}
 use Rattle.hg_parts.proofs.parts.phase_heads.heads_of.Given as goal
 
 -- the heads of the entries so far

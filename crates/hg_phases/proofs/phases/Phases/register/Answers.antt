@@ -1,4 +1,4 @@
-use Rattle.std.proofs.Common.{◌≡◌, ◌∙◌, ◌+◌, ◌<◌, ◌≤◌, ◌^◌, [], ◌∷◌, ◌++◌, cond, length, refl, sym, ap, arith}
+use Rattle.std.proofs.Common.{◌≡◌, ◌∙◌, ◌+◌, ◌<◌, [], ◌∷◌, ◌++◌, cond, length, refl, ap, arith}
 use Rattle.std.proofs.lemmas.List.{length-map, length_push, map_push}
 use Rattle.hg_types.specs.declared.phase.Phase.TheVariants.{Draft, Secret}
 use Rattle.hg_log.specs.Parents.{parents_of}

@@ -1,4 +1,4 @@
-use Rattle.std.proofs.Common.{◌≤◌, ◌^◌, length, ap, arith}
+use Rattle.std.proofs.Common.{length, ap, arith}
 use Rattle.hg_phases.proofs.Soundness.{sound_unmarked}
 use Rattle.hg_phases.proofs.phases.Phases.try_clone.Goals as goal
 

@@ -1,5 +1,4 @@
-use Rattle.std.proofs.Common.{◌≡◌, ◌∙◌, ◌<◌, length, sym, ap}
-use Rattle.std.specs.List.{All}
+use Rattle.std.proofs.Common.{◌∙◌, ◌<◌, sym, ap}
 use Rattle.std.specs.Prelude.{Some}
 use Rattle.std.proofs.lemmas.List.{length-set}
 use Rattle.std.proofs.lemmas.List.Elements.{All-pop}

@@ -1,9 +1,9 @@
-use Rattle.std.proofs.Common.{◌≡◌, ℕ, ◌+◌, ◌-◌, ◌<◌, ◌≤◌, length, get_or, sum_by, refl, sym, ap, ◌∙◌, arith}
+use Rattle.std.proofs.Common.{◌≡◌, ℕ, ◌<◌, length, get_or, refl, ap, ◌∙◌, arith}
 use Rattle.hg_log.specs.Parents.{parents_of}
 use Rattle.hg_log.proofs.CallerLemmas.{ordered}
 use Rattle.hg_phases.specs.code.Tape.{rows_of}
 use Rattle.hg_phases.proofs.Undoing.{follows_same, follows_on, rows_length, rows_read}
-use Rattle.hg_phases.proofs.Lowered.{walked_start, walked_head, walked_row, walked_all, comes_down, height}
+use Rattle.hg_phases.proofs.Lowered.{walked_start, walked_head, walked_row, walked_all, comes_down}
 use Rattle.hg_phases.proofs.walk.Advance.lower_all.Goals as goal
 
 pub loop-head-init : goal.loop-head-init
@@ -17,7 +17,7 @@ pub loop-head-preserved : goal.loop-head-preserved
 loop-head-preserved g c = record {
   follows = follows_on _ _ _ _ _ _ c.loop-head.invariant.follows c.in_ok-lower.ensures.follows;
   walked = walked_head (parents_of c.args.self.now.log.now.rows) c.args.self.now.target c.args.heads.now
-      c.args.rows.now.items (ordered c.args.self.now.log.now.rows c.len-few.ensures.lawful) c.loop-head.head-index
+      c.args.rows.now.items (ordered c.args.self.now.log.now.rows c.len-lawful.ensures.lawful) c.loop-head.head-index
       (get_or c.args.heads.now c.loop-head.head-index 0) c.loop-head.rows.items c.lower.new.rows.items
       (rows_of c.loop-head.changes.items) (rows_of c.lower.new.changes.items) c.in_ok-lower.ensures.ok
       c.loop-head.invariant.walked c.loop-head-test.true refl
@@ -40,7 +40,7 @@ down-preserved g c =
       follows = follows_on _ _ _ _ _ _ (follows_on _ _ _ _ _ _ c.down.invariant.follows
           c.in_ok-lower-2.ensures.follows) c.in_ok-lower-3.ensures.follows;
       walked = walked_row parents c.args.self.now.target c.args.heads.now c.args.rows.now.items
-          (ordered log c.len-few.ensures.lawful) (length c.args.heads.now) place
+          (ordered log c.len-lawful.ensures.lawful) (length c.args.heads.now) place
           c.parent_revs-p1.result.0 c.parent_revs-p1.result.1 c.down.rows.items
           c.lower-in-down.new.rows.items c.lower-in-down-2.new.rows.items listed
           (rows_of c.lower-in-down.new.changes.items) (rows_of c.lower-in-down-2.new.changes.items)
@@ -73,7 +73,7 @@ pub returns-clause-ok : goal.returns-clause-ok
 returns-clause-ok g c =
     let held = c.down.changes.ok in
     walked_all (parents_of c.args.self.now.log.now.rows) c.args.self.now.target c.args.heads.now
-    c.args.rows.now.items (ordered c.args.self.now.log.now.rows c.len-few.ensures.lawful) c.requires.lawful
+    c.args.rows.now.items (ordered c.args.self.now.log.now.rows c.len-lawful.ensures.lawful) c.requires.lawful
     c.down.place c.down.rows.items (rows_of c.down.changes.items) c.down.invariant.walked
     (omega (arith, c.down-test.false, c.len.ensures, rows_length c.down.changes.items))
     (λ k k_in. c.requires.heads k 0 k_in)

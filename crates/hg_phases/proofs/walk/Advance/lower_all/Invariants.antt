@@ -1,4 +1,4 @@
-use Rattle.std.proofs.Common.{◌≤◌, ◌+◌, ◌-◌, length, sum_by}
+use Rattle.std.proofs.Common.{◌+◌, ◌-◌, length, sum_by}
 use Rattle.hg_log.specs.Parents.{parents_of}
 use Rattle.hg_phases.specs.code.Tape.{rows_of, TapeFollows}
 use Rattle.hg_phases.proofs.Lowered.{AreWalked, height}

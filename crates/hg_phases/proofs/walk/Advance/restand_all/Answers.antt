@@ -1,10 +1,10 @@
-use Rattle.std.proofs.Common.{◌≡◌, ℕ, ◌+◌, ◌<◌, ◌⊎◌, List, length, refl, inl, inr, ap, sym, ◌∙◌, arith, get_or, subst}
+use Rattle.std.proofs.Common.{◌≡◌, ◌+◌, ◌<◌, ◌⊎◌, List, length, inl, inr, ap, sym, ◌∙◌, arith, get_or, subst}
 use Rattle.hg_types.specs.declared.phase.Phase.{Phase}
 use Rattle.hg_log.specs.Parents.{parents_of}
 use Rattle.hg_phases.specs.Order.{phase_at}
 use Rattle.hg_phases.specs.Standing.{phases_told}
 use Rattle.hg_phases.specs.code.Tape.{rows_of}
-use Rattle.hg_phases.specs.code.Walk.{IsTouched, IsHigher, IsHigherChild, AreRestood}
+use Rattle.hg_phases.specs.code.Walk.{IsTouched, IsHigher, IsHigherChild}
 use Rattle.hg_phases.proofs.Undoing.{follows_same, follows_on, rows_length, rows_read}
 use Rattle.hg_phases.proofs.Restood.{restood_none, restood_fewer, restood_set, restood_on, touched_more}
 use Rattle.hg_phases.proofs.Restood.{none_touched}

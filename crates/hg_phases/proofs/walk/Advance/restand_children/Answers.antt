@@ -1,10 +1,10 @@
-use Rattle.std.proofs.Common.{◌≡◌, ℕ, ◌<◌, ◌≤◌, List, length, Option, Some, sym, ap, ◌∙◌, subst, inl, inr, arith}
+use Rattle.std.proofs.Common.{◌<◌, List, length, Some, sym, subst, inl, inr, arith}
 use Rattle.hg_types.specs.declared.phase.Phase.{Phase}
-use Rattle.hg_log.specs.Parents.{parents_of, IsParentIn}
+use Rattle.hg_log.specs.Parents.{parents_of}
 use Rattle.hg_phases.specs.Standing.{phases_told}
 use Rattle.hg_phases.specs.code.Walk.{AreRestood, IsHigher, IsHigherRow}
 use Rattle.hg_phases.proofs.Undoing.{follows_same, follows_on}
-use Rattle.hg_phases.proofs.Restood.{restood_none, restood_on, IsLater, IsNext, steps}
+use Rattle.hg_phases.proofs.Restood.{restood_none, restood_on, IsLater, IsNext}
 use Rattle.hg_phases.proofs.Restood.{next_is, next_within, none_behind, behind_next, fewer_steps}
 use Rattle.hg_phases.proofs.walk.Advance.restand_children.Goals as goal
 

@@ -1,4 +1,4 @@
-use Rattle.std.proofs.Common.{◌≡◌, ◌<◌, length, inr, arith}
+use Rattle.std.proofs.Common.{◌<◌, length, inr, arith}
 use Rattle.std.proofs.lemmas.Result.{on_ok_weaker}
 use Rattle.hg_log.specs.Parents.{parents_of}
 use Rattle.hg_phases.specs.Standing.{phases_told}

@@ -1,7 +1,7 @@
 use Rattle.std.proofs.Common.{sym, subst}
 use Rattle.hg_push.specs.Run.{run_push}
 use Rattle.hg_push.specs.Book.{HoldsHistory}
-use Rattle.hg_push.proofs.Resting.{tells_place}
+use Rattle.hg_push.proofs.Placing.{tells_place}
 use Rattle.hg_push.proofs.book.Book.place.Goals as goal
 
 pub returns : goal.returns

@@ -1,4 +1,4 @@
-use Rattle.std.proofs.Common.{◌≡◌, true, sym, ap, subst, ◌∙◌, refl, arith}
+use Rattle.std.proofs.Common.{◌≡◌, true, sym, ap, subst, refl, arith}
 use Rattle.hg_push.specs.Rows.{IsShut}
 use Rattle.hg_push.specs.Run.{run_push}
 use Rattle.hg_push.specs.Book.{AreRows, is_between, is_opened}

@@ -1,5 +1,5 @@
 use Rattle.std.proofs.Common.{ap, ◌∙◌}
-use Rattle.hg_queue.specs.Steps.{history_note}
+use Rattle.hg_queue.specs.code.Steps.{history_note}
 use Rattle.hg_queue.proofs.Moves.{copies_as}
 use Rattle.hg_queue.proofs.queue.PartQueue.copy_history.Goals as goal
 

@@ -2,7 +2,8 @@ use Rattle.std.proofs.Common.{◌++◌, ap, ◌∙◌, subst, refl}
 use mathlib.Core.List.{IsPrefix}
 use Rattle.hg_queue.specs.declared.view.TakerView.{TakerView}
 use Rattle.hg_queue.specs.declared.view.View.TheVariants.{AsTaker}
-use Rattle.hg_queue.specs.Steps.{heard, settle}
+use Rattle.hg_queue.specs.Seats.{settle}
+use Rattle.hg_queue.specs.code.Steps.{heard}
 use Rattle.hg_queue.specs.Words.{taker_of, taker_view}
 use Rattle.hg_queue.proofs.Facts.{knows}
 use Rattle.hg_queue.proofs.Moves.{notes_as, hears_as}

@@ -1,7 +1,7 @@
 use Rattle.std.proofs.Common.{◌<◌, ◌+◌, ◌-◌, ◌∷◌, [], length, ap, sym, subst, ◌∙◌, arith, length-append}
 use mathlib.Core.List.{IsPrefix}
 use Rattle.hg_queue.proofs.CallerLemmas.{prefix_longer}
-use Rattle.hg_serve.specs.Desks.{mark_place}
+use Rattle.hg_serve.specs.code.Waiting.{mark_place}
 use Rattle.hg_serve.proofs.Orders.{same_again}
 use Rattle.hg_serve.proofs.Waits.{waits, not_empty, near, none_of}
 use Rattle.hg_serve.proofs.desk.Desk.finish.Goals as goal

@@ -1,7 +1,8 @@
 use Rattle.std.proofs.Common.{◌<◌, ◌≡◌, ◌≤◌, ◌+◌, ◌-◌, length}
 use mathlib.Core.List.{IsPrefix}
 use Rattle.hg_serve.specs.Histories.{ClosesLast}
-use Rattle.hg_serve.specs.Desks.{IsKnown, IsSameBut, mark_place}
+use Rattle.hg_serve.specs.Desks.{IsKnown, IsSameBut}
+use Rattle.hg_serve.specs.code.Waiting.{mark_place}
 use Rattle.hg_serve.proofs.desk.Desk.finish.Given as goal
 
 abbrev pub invariant-closing : goal.invariant-closing

@@ -2,7 +2,7 @@ use Rattle.std.proofs.Common.{[], ◌≡◌, ◌∷◌, ◌++◌, Some, ap, sym,
 use Rattle.hg_queue.specs.declared.view.TakerView.{TakerView}
 use Rattle.hg_queue.specs.declared.view.View.TheVariants.{AsTaker}
 use Rattle.hg_queue.specs.History.{has}
-use Rattle.hg_queue.specs.Steps.{settle}
+use Rattle.hg_queue.specs.Seats.{settle}
 use Rattle.hg_queue.specs.Words.{taker_view, history, taken}
 use Rattle.hg_queue.proofs.CallerLemmas.{stands_at}
 use Rattle.hg_serve.specs.Desks.{DeskView}

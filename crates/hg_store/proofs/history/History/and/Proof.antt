@@ -1,31 +1,13 @@
 -- A struct without bytes is made, and its ghost value is the one that the contract names.
 use Rattle.std.proofs.Common.{List, [], ◌∷◌, ◌++◌, refl}
-use seplogic.Ra.Ura.{Ura}
-use mir.Syntax.{Fn}
-use mir.Val.{Val, vptr}
-use base.Logic.{SProp, ent}
-use prog.Memory.{Memory}
-use prog.Routine.{Routine}
-use prog.Wp.{Calls, Loops, WpFn, Tables}
-use contract.Monad.{Fun}
 use contract.Running.{tables, tables_of}
-use sound.WpLaws.{WpFn-mono}
-use types.Logic.{Logic}
-use types.Kit.{‵, raw, ◌⊛◌, prop, ◌$◌, ◌∵◌, !, qed, move, keep, drop, split, fsplit, fjoin, feq_l, regoal, suffices, done}
-use types.Part.{agg}
-use types.Run.{enter, returns, no_more}
-use types.ByLocal.{alloc_all, pass_all, free_all, look_at, sets}
-use denote.Exit.{yes}
-use denote.RattleType.{RattleType, owns}
-use denote.Builtin.{RefOf}
-use denote.Signature.{plain, types_at, named_lft}
-use denote.Steps.{nothing}
-use denote.Triple.Clauses.{Clauses, Ended, closing}
-use denote.Triple.Entry.{alive}
-use denote.Triple.Spec.{Meets, triple_of}
-use denote.Triple.Table.{entered}
-use denote.Triple.Walked.{says, Stays, stay_dropped, walk_of, ends_at, walk_Meets, Goes-dropped}
-use Rattle.hg_store.proofs.Walks.{no_bytes, makes_empty}
+use denote.Signature.{named_lft}
+use Rattle.hg_types.proofs.Walks.{Ura, Val, vptr, SProp, ent, Memory, Routine, Calls, Loops, WpFn, Tables, Fun}
+use Rattle.hg_types.proofs.Walks.{WpFn-mono, Logic, ‵, raw, ◌⊛◌, prop, ◌$◌, ◌∵◌, !, qed, move, keep, drop, split}
+use Rattle.hg_types.proofs.Walks.{fsplit, fjoin, feq_l, regoal, suffices, done, agg, enter, returns, no_more}
+use Rattle.hg_types.proofs.Walks.{alloc_all, pass_all, free_all, look_at, sets, yes, owns, RefOf, plain, types_at}
+use Rattle.hg_types.proofs.Walks.{nothing, Clauses, closing, alive, Meets, triple_of, entered, says, Stays}
+use Rattle.hg_types.proofs.Walks.{stay_dropped, walk_of, ends_at, walk_Meets, Goes-dropped, none, makes_none}
 use Rattle.hg_store.specs.History.{event_of}
 use Rattle.hg_store.specs.contracts.history.History as History
 use Rattle.hg_store.specs.contracts.history.Call as Call
@@ -70,9 +52,9 @@ module _ {M : Type 1} {𝓤 : Ura M} (𝓛 : Logic 𝓤) (memory : Memory → SP
         second refl $
         enter ! C Λ code.function (before ∷ call ∷ []) Left $
         alloc_all ! (λ l. pass_all ! refl ((tt, tt), ((tt, tt), tt)) $
-        sets ! (agg ! (no_more !)) refl (tt, tt) $ nothing ! $ makes_empty ! $ fjoin ! $
+        sets ! (agg ! (no_more !)) refl (tt, tt) $ nothing ! $ makes_none ! $ fjoin ! $
         returns ! (look_at ! 0 refl) $ free_all ! refl $
-        suffices ! _ (ends_at 𝓛 F.ended stays clauses z no_bytes made (tt, (tt, tt)) (tt, (tt, tt))) $
+        suffices ! _ (ends_at 𝓛 F.ended stays clauses z none made (tt, (tt, tt)) (tt, (tt, tt))) $
         says ! refl $ nothing ! $ nothing ! $ fjoin ! $ nothing ! $ fjoin ! $ move ! (2 ∷ 0 ∷ 1 ∷ []) $ done !)))
 
   meets : (𝓣 : Tables 𝓤 H)

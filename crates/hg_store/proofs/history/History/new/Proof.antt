@@ -1,29 +1,11 @@
 -- A struct without bytes is made, and its ghost value is the one that the contract names.
 use Rattle.std.proofs.Common.{[], ◌∷◌, refl}
-use seplogic.Ra.Ura.{Ura}
-use mir.Syntax.{Fn}
-use mir.Val.{Val}
-use base.Logic.{SProp, ent}
-use prog.Memory.{Memory}
-use prog.Routine.{Routine}
-use prog.Wp.{Calls, Loops, WpFn, Tables}
-use contract.Monad.{Fun}
 use contract.Running.{tables, tables_of}
-use sound.WpLaws.{WpFn-mono}
-use types.Logic.{Logic}
-use types.Kit.{‵, raw, ◌⊛◌, ◌$◌, ◌∵◌, !, qed, move, keep, drop, split, fjoin, suffices, done}
-use types.Part.{agg}
-use types.Run.{enter, returns, no_more}
-use types.ByLocal.{alloc_all, pass_all, free_all, look_at, sets}
-use denote.RattleType.{owns}
-use denote.Signature.{types_at}
-use denote.Steps.{nothing}
-use denote.Triple.Clauses.{Clauses, Ended, closing}
-use denote.Triple.Entry.{alive}
-use denote.Triple.Spec.{Meets, triple_of}
-use denote.Triple.Table.{entered}
-use denote.Triple.Walked.{says, Stays, walk_of, ends_at, walk_Meets}
-use Rattle.hg_store.proofs.Walks.{no_bytes, makes_empty}
+use Rattle.hg_types.proofs.Walks.{Ura, Val, SProp, ent, Memory, Routine, Calls, Loops, WpFn, Tables, Fun, WpFn-mono}
+use Rattle.hg_types.proofs.Walks.{Logic, ‵, raw, ◌⊛◌, ◌$◌, ◌∵◌, !, qed, move, keep, drop, split, fjoin, suffices}
+use Rattle.hg_types.proofs.Walks.{done, agg, enter, returns, no_more, alloc_all, pass_all, free_all, look_at, sets}
+use Rattle.hg_types.proofs.Walks.{owns, types_at, nothing, Clauses, closing, alive, Meets, triple_of, entered, says}
+use Rattle.hg_types.proofs.Walks.{Stays, walk_of, ends_at, walk_Meets, none, makes_none}
 use Rattle.hg_store.specs.contracts.history.History as History
 use Rattle.hg_store.specs.contracts.history.History.new as F
 use Rattle.hg_store.specs.contracts.history.History.new.Key.{name as #self}
@@ -54,9 +36,9 @@ module _ {M : Type 1} {𝓤 : Ura M} (𝓛 : Logic 𝓤) (memory : Memory → SP
         ∷ raw ((clauses z.0.0 z.0.3).requires z.1) ∷ []) ∵
         keep ! (0 ∷ []) $ split ! $ move ! (1 ∷ []) $ drop ! $
         enter ! C Λ code.function [] Left $ alloc_all ! (λ l. pass_all ! refl tt $
-        sets ! (agg ! (no_more !)) refl (tt, tt) $ nothing ! $ makes_empty ! $ fjoin ! $
+        sets ! (agg ! (no_more !)) refl (tt, tt) $ nothing ! $ makes_none ! $ fjoin ! $
         returns ! (look_at ! 0 refl) $ free_all ! refl $
-        suffices ! _ (ends_at 𝓛 F.ended stays clauses z no_bytes made tt tt) $ says ! refl $
+        suffices ! _ (ends_at 𝓛 F.ended stays clauses z none made tt tt) $ says ! refl $
         nothing ! $ move ! (2 ∷ 0 ∷ 1 ∷ []) $ done !)
 
   meets : (𝓣 : Tables 𝓤 H)

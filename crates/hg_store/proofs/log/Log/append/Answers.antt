@@ -1,7 +1,9 @@
 use Rattle.std.proofs.Common.{◌≡◌, inl, ℕ, ◌+◌, ◌++◌, List, [], ◌∷◌, length, subst, sym, ap, refl, ◌∙◌}
 use Rattle.std.proofs.Common.{arith, length-append}
-use Rattle.hg_store.specs.Device.{Only, MayBeTorn}
-use Rattle.hg_store.specs.Log.{IsBeforeOrAfter, at_rest, ungated}
+use Rattle.hg_store.specs.Device.{Only}
+use Rattle.hg_store.specs.code.Batches.{ungated}
+use Rattle.hg_store.specs.code.Steps.{MayBeTorn}
+use Rattle.hg_store.specs.Log.{IsBeforeOrAfter, at_rest}
 use Rattle.hg_store.specs.code.Fronts.{Begins}
 use Rattle.hg_store.specs.Files.{digest_behind, stored}
 use Rattle.hg_store.specs.Head.{first_digest}

@@ -2,7 +2,8 @@ use Rattle.std.proofs.Common.{◌≡◌, ℕ, ◌+◌, ◌<◌, List, length, ta
 use Rattle.std.proofs.lemmas.Result.{err_from_is_err_and}
 use Rattle.std.proofs.lemmas.List.{length-take, take_all}
 use Rattle.hg_stream.specs.declared.state.State.TheVariants.{Ended}
-use Rattle.hg_stream.specs.Unbundler.{FeedsBundle, Halts, Moves, state_of}
+use Rattle.hg_stream.specs.Unbundler.{state_of}
+use Rattle.hg_stream.specs.code.Steps.{FeedsBundle, Halts, Moves}
 use Rattle.hg_stream.proofs.Feeding.{front_take, front_within, past_take, halted, fed, passed}
 use Rattle.hg_stream.proofs.unbundler.Unbundler.feed_on.Goals as goal
 

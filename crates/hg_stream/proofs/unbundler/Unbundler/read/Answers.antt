@@ -1,5 +1,5 @@
 use Rattle.std.proofs.Common.{◌+◌, arith, refl, ◌∙◌, subst}
-use Rattle.hg_stream.specs.Unbundler.{Moves, Halts}
+use Rattle.hg_stream.specs.code.Steps.{Moves, Halts}
 use Rattle.hg_stream.proofs.Moves.{moves_none, moves_then, halts_then, piece_then, within_piece}
 use Rattle.hg_stream.proofs.unbundler.Unbundler.read.Goals as goal
 

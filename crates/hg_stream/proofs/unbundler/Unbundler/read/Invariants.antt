@@ -1,5 +1,6 @@
 use Rattle.std.proofs.Common.{length, ◌-◌, ◌≡◌, ◌≤◌, take}
-use Rattle.hg_stream.specs.Unbundler.{Moves, limits_of}
+use Rattle.hg_stream.specs.Unbundler.{limits_of}
+use Rattle.hg_stream.specs.code.Steps.{Moves}
 use Rattle.hg_stream.proofs.unbundler.Unbundler.read.Given as goal
 
 abbrev pub invariant-loop-taken : goal.invariant-loop-taken

@@ -8,7 +8,8 @@ use Rattle.hg_types.specs.declared.part.Part.{Part}
 use Rattle.hg_stream.specs.declared.fault.StreamFault.TheVariants.{NestedInterrupt}
 use Rattle.hg_stream.specs.declared.payloads.Level.{Level}
 use Rattle.hg_stream.specs.declared.unbundler.Unbundler.{Unbundler}
-use Rattle.hg_stream.specs.Unbundler.{BreaksBundle, IsAt, IsInsideAt}
+use Rattle.hg_stream.specs.Unbundler.{IsAt, IsInsideAt}
+use Rattle.hg_stream.specs.code.Steps.{BreaksBundle}
 use Rattle.hg_stream.proofs.Steps.{finishes_none}
 use Rattle.hg_stream.proofs.Chunks.{CarriesOn, behind, chunk_err, chunk_reading}
 use Rattle.hg_stream.proofs.Levels.{chunk_at, more_at, inside_still, nested}

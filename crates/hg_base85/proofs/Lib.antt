@@ -1,3 +1,0 @@
-mod Tables
-mod GroupLemmas
-mod RoundTrip

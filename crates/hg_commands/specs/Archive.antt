@@ -1,0 +1,17 @@
+-- What is written of a store that is read beside its server.
+use Rattle.std.specs.Prelude.{ℕ, List, Option}
+use Rattle.hg_connection.specs.Devices.{Output}
+use Rattle.hg_connection.specs.declared.sending.Sending.TheVariants.{Whole as sent_whole}
+use Rattle.hg_connection.specs.Sent.{Sends}
+use Rattle.hg_store_tools.specs.declared.fault.StoreEnd.{StoreEnd}
+use Rattle.hg_store_tools.specs.Logging.{IsLogged}
+use Rattle.hg_store_tools.specs.Reporting.{Reports}
+
+-- the report of some file that is a store was written, whole, and flushed
+abbrev pub ReportsStore : (A : Type 0) → Output → Output → Type 0
+ReportsStore A before after = (file : List ℕ) × (ending : StoreEnd) × (text : List ℕ) × (count : ℕ)
+    × Reports A file ending text × Sends sent_whole count before after text
+
+-- the bundles of some file that is a store were written from a place on, one after the other
+abbrev pub LogsStore : ℕ → Option (List ℕ) → Option (List ℕ) → Type 0
+LogsStore from before after = (file : List ℕ) × (ending : StoreEnd) × IsLogged file from ending before after

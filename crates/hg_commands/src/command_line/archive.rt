@@ -1,0 +1,90 @@
+//! The words after `report`, `log` and `cut`, the commands that look at a store or end it.
+
+use crate::command_line::command::Job;
+use crate::command_line::options::{CommandRow, Kind, OptionRow, STORE, word_of};
+use clap::ArgMatches;
+use clap::builder::ValueParser;
+
+/// The command `report`.
+pub const REPORT: CommandRow<'static> = CommandRow {
+    name: "report",
+    about: "Reports what a store holds, and the places of its pushes",
+    after: "Example: hg_pushd report --store /var/lib/deqtorap/store > report.txt",
+    options: &[STORE],
+};
+
+/// The command `log`.
+pub const LOG: CommandRow<'static> = CommandRow {
+    name: "log",
+    about: "Writes the pushes of a store as bundles, one after the other",
+    after: "Example: hg_pushd log --store /var/lib/deqtorap/store --to bundles",
+    options: &[
+        STORE,
+        OptionRow {
+            name: "from",
+            kind: PLACE,
+            value: "N",
+            is_required: false,
+            default: &["0"],
+            help: "The place of the first push that is written",
+        },
+        OptionRow {
+            name: "to",
+            kind: Kind::Word,
+            value: "FOLDER",
+            is_required: false,
+            default: &[],
+            help: "Where each push gets a file of its own, named by its place; made if it is not there",
+        },
+    ],
+};
+
+/// The command `cut`.
+pub const CUT: CommandRow<'static> = CommandRow {
+    name: "cut",
+    about: "Ends a store before one of its pushes, and keeps what it cuts off beside it",
+    after: "Example: hg_pushd cut --store /var/lib/deqtorap/store --at 5",
+    options: &[
+        STORE,
+        OptionRow {
+            name: "at",
+            kind: PLACE,
+            value: "N",
+            is_required: true,
+            default: &[],
+            help: "The place of the first push that is cut off, from 0",
+        },
+    ],
+};
+
+/// The number of a push in its store.
+const PLACE: Kind = Kind::Number(ValueParser::Unsigned(0, u64::MAX));
+
+/// Reads what stands after `report`.
+pub fn read_report<'a>(matches: &ArgMatches<'a>) -> Job<'a> {
+    Job::Report {
+        store: word_of(matches, "store"),
+    }
+}
+
+/// Reads what stands after `log`.
+pub fn read_log<'a>(matches: &ArgMatches<'a>) -> Job<'a> {
+    Job::Log {
+        store: word_of(matches, "store"),
+        from: place_of(matches, "from"),
+        to: matches.get_str("to"),
+    }
+}
+
+/// Reads what stands after `cut`.
+pub fn read_cut<'a>(matches: &ArgMatches<'a>) -> Job<'a> {
+    Job::Cut {
+        store: word_of(matches, "store"),
+        at: place_of(matches, "at"),
+    }
+}
+
+/// The place that an option names.
+fn place_of(matches: &ArgMatches<'_>, name: &str) -> usize {
+    matches.get_one(name).unwrap_or(0)
+}

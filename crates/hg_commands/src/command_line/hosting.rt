@@ -1,0 +1,114 @@
+//! The words after `host`.
+
+use crate::command_line::options::{
+    CAPACITY, CommandRow, Kind, OptionRow, PUBLISHING, STORE, number_of, word_of,
+};
+use clap::ArgMatches;
+use clap::builder::ValueParser;
+
+/// What `host` is asked for.
+#[derive(Clone, Copy, Debug)]
+pub struct Hosting<'a> {
+    /// The folder of the store.
+    pub store: &'a str,
+    /// Where connections are accepted.
+    pub listen: &'a str,
+    /// How many connections are served at one time.
+    pub connections: u32,
+    /// How many items the queue holds.
+    pub capacity: u32,
+    pub publishing: bool,
+    /// How many seconds a connection may be silent.
+    pub idle: u64,
+    /// How many bytes the bodies of all open pushes hold together at most.
+    pub memory: u64,
+    /// Where who pulls is sent on to.
+    pub pull: Option<&'a str>,
+    /// Whether each push is printed on standard error.
+    pub log: bool,
+}
+
+/// An example.
+const AFTER: &str =
+    "Example: hg_pushd host --store /var/lib/deqtorap/store --listen 127.0.0.1:8000";
+
+/// The command `host`.
+pub const HOST: CommandRow<'static> = CommandRow {
+    name: "host",
+    about: "Answers hg push over HTTP, and keeps each push in a store before it is answered",
+    after: AFTER,
+    options: &[
+        OptionRow {
+            help: "The folder of the store, made if it is not there",
+            ..STORE
+        },
+        OptionRow {
+            name: "listen",
+            kind: Kind::Word,
+            value: "ADDR",
+            is_required: false,
+            default: &["127.0.0.1:8000"],
+            help: "Where connections are accepted",
+        },
+        OptionRow {
+            name: "connections",
+            kind: Kind::Number(ValueParser::Signed(1, 1024)),
+            value: "N",
+            is_required: false,
+            default: &["100"],
+            help: "How many connections are served at one time, 1 to 1024",
+        },
+        OptionRow {
+            value: "C",
+            ..CAPACITY
+        },
+        PUBLISHING,
+        OptionRow {
+            name: "idle",
+            kind: Kind::Number(ValueParser::Unsigned(1, 86_400)),
+            value: "SECONDS",
+            is_required: false,
+            default: &["300"],
+            help: "How long a connection may be silent before it is closed, 1 to 86400",
+        },
+        OptionRow {
+            name: "memory",
+            kind: Kind::Number(ValueParser::Unsigned(1_048_576, u64::MAX)),
+            value: "BYTES",
+            is_required: false,
+            default: &["1073741824"],
+            help: "How much the bodies of all open pushes hold together at most, 1048576 or more",
+        },
+        OptionRow {
+            name: "pull",
+            kind: Kind::Word,
+            value: "URL",
+            is_required: false,
+            default: &[],
+            help: "Where who pulls is sent on to",
+        },
+        OptionRow {
+            name: "log",
+            kind: Kind::Flag,
+            value: "",
+            is_required: false,
+            default: &[],
+            help: "Writes a line to standard error for each push",
+        },
+    ],
+};
+
+/// Reads what stands after `host`.
+pub fn read_hosting<'a>(matches: &ArgMatches<'a>) -> Hosting<'a> {
+    Hosting {
+        store: word_of(matches, "store"),
+        listen: word_of(matches, "listen"),
+        connections: number_of(matches, "connections"),
+        capacity: number_of(matches, "capacity"),
+        publishing: matches.get_flag("publishing"),
+        idle: matches.get_one("idle").unwrap_or(1),
+        memory: matches.get_one("memory").unwrap_or(1),
+        pull: matches.get_str("pull"),
+        log: matches.get_flag("log"),
+    }
+}

@@ -1,0 +1,142 @@
+use Rattle.std.proofs.Common.{◌≡◌, ◌≤◌, ◌+◌, ◌++◌, ◌∷◌, [], false, true, ℕ, List, sym, subst, ◌∙◌}
+use Rattle.std.proofs.Common.{arith, length}
+use Rattle.std.specs.List.{AllByRecursion}
+use Rattle.hg_store.specs.Device.{LeavesOnly}
+use Rattle.hg_store.specs.Records.{IsRecord}
+use Rattle.hg_store.specs.Log.{IsBeforeOrAfter, IsSettled}
+use Rattle.std.specs.Prelude.{Contains}
+use Rattle.std.proofs.lemmas.List.Elements.{All-push, All-same, All-weaker, Contains-push}
+use Rattle.hg_commit.specs.Lives.{IsFront, IsKeptSince}
+use Rattle.hg_commit.specs.Promises.{Promise}
+use Rattle.hg_commit.specs.Locks.{DiskView}
+use Rattle.hg_commit.specs.Records.{AreRecordsFrom, KeepsRecords}
+use Rattle.hg_commit.proofs.Keeping.{keeps_more}
+use Rattle.hg_commit.proofs.Lists.{fit, went_well}
+use Rattle.hg_commit.proofs.Living.{kept_front, lives_after, lives_failed, promise_now, promises_after, written_front}
+use Rattle.hg_commit.proofs.disk.Disk.write.Goals as goal
+
+pub append-requires-clause-each : goal.append-requires-clause-each
+append-requires-clause-each g c =
+    let d = c.self.inside in
+    let i = c.self.invariant in
+    subst (λ (l : List (List ℕ)). AllByRecursion IsRecord l) (sym c.as_slice.ensures.value)
+    (fit g.J.Naming.first i.0 d.witness d.count d.batch.items i.2)
+
+-- no promise counts more than the records that are there now
+pub raise-requires : goal.raise-requires
+raise-requires g c =
+    let d = c.self.inside in
+    All-weaker (IsKeptSince g.D.Device.moment g.D.Device.left_since g.J.Storing.head g.J.Storing.stored
+    g.J.Naming.first d.witness d.count d.log.device) (λ p. p.count ≤ d.count + c.len.result)
+    (λ p k. let few = k.few in omega (arith, few)) d.keeper c.self.invariant.4
+
+-- an append that failed leaves what was there, too
+pub invariant_of-self-then-is_err : goal.invariant_of-self-then-is_err
+invariant_of-self-then-is_err g c =
+    let d = c.self.inside in
+    let i = c.self.invariant in
+    let first = g.J.Naming.first in
+    let moment = g.D.Device.moment in
+    let left_since = g.D.Device.left_since in
+    let head = g.J.Storing.head in
+    let stored = g.J.Storing.stored in
+    let k = i.1 c.if-self.false in
+    let run = written_front g.D.Device.seen g.D.Device.may_leave head stored first moment left_since d.witness d.count
+    d.batch.items d.log k i.2 d.log.device c.append.new.self.device
+    (subst (λ (l : List (List ℕ)). LeavesOnly moment left_since d.log.device c.append.new.self.device
+    (IsBeforeOrAfter head (stored ++ k.records) l)) c.as_slice.ensures.value
+    (c.append.ensures.any_moment head (stored ++ k.records) k.settled)) in (
+      i.0,
+      λ b. absurd (let e : true ≡ false = b in cc),
+      i.2,
+      lives_failed moment left_since g.D.Device.may_leave head stored first g.J.Storing.opened d.witness d.count
+          d.log.device c.append.new.self.device (g.met.D.Device.counts_now c.append.new.self.device) i.3 run,
+      promises_after moment left_since head stored first d.witness d.count d.count d.log.device
+          c.append.new.self.device (omega arith) run d.keeper i.4,
+      λ b. absurd (let e : true ≡ false = b in cc),
+    )
+
+pub returns-then-is_err-clause-any_moment : goal.returns-then-is_err-clause-any_moment
+returns-then-is_err-clause-any_moment g c =
+    let d = c.self.inside in
+    let i = c.self.invariant in
+    let first = g.J.Naming.first in
+    let moment = g.D.Device.moment in
+    let left_since = g.D.Device.left_since in
+    let head = g.J.Storing.head in
+    let stored = g.J.Storing.stored in
+    let k = i.1 c.if-self.false in
+    subst (λ (v : DiskView g.row.A.Denot g.row.D.Denot). LeavesOnly moment left_since v.device
+    c.append.new.self.device (IsFront head stored first v.history v.count)) c.self.view_is
+    (written_front g.D.Device.seen g.D.Device.may_leave head stored first moment left_since d.witness d.count
+    d.batch.items d.log k i.2 d.log.device c.append.new.self.device
+    (subst (λ (l : List (List ℕ)). LeavesOnly moment left_since d.log.device c.append.new.self.device
+    (IsBeforeOrAfter head (stored ++ k.records) l)) c.as_slice.ensures.value
+    (c.append.ensures.any_moment head (stored ++ k.records) k.settled)))
+
+pub returns-clause-any_moment : goal.returns-clause-any_moment
+returns-clause-any_moment g c =
+    let d = c.self.inside in
+    let i = c.self.invariant in
+    let first = g.J.Naming.first in
+    let moment = g.D.Device.moment in
+    let left_since = g.D.Device.left_since in
+    let head = g.J.Storing.head in
+    let stored = g.J.Storing.stored in
+    let k = i.1 c.if-self.false in
+    subst (λ (v : DiskView g.row.A.Denot g.row.D.Denot). LeavesOnly moment left_since v.device
+    c.append.new.self.device (IsFront head stored first v.history v.count)) c.self.view_is
+    (written_front g.D.Device.seen g.D.Device.may_leave head stored first moment left_since d.witness d.count
+    d.batch.items d.log k i.2 d.log.device c.append.new.self.device
+    (subst (λ (l : List (List ℕ)). LeavesOnly moment left_since d.log.device c.append.new.self.device
+    (IsBeforeOrAfter head (stored ++ k.records) l)) c.as_slice.ensures.value
+    (c.append.ensures.any_moment head (stored ++ k.records) k.settled)))
+
+-- one that went well leaves the batch besides
+pub invariant_of-self-2 : goal.invariant_of-self-2
+invariant_of-self-2 g c =
+    let d = c.self.inside in
+    let i = c.self.invariant in
+    let first = g.J.Naming.first in
+    let seen = g.D.Device.seen in
+    let may_leave = g.D.Device.may_leave in
+    let moment = g.D.Device.moment in
+    let left_since = g.D.Device.left_since in
+    let head = g.J.Storing.head in
+    let stored = g.J.Storing.stored in
+    let k = i.1 c.if-self.false in
+    let ack = went_well c.append.result (sym c.is_err.ensures.value ∙ c.if-is_err.false)
+    (c.append.ensures.acknowledged head (stored ++ k.records) k.settled) in
+    let settled = subst (λ (l : List (List ℕ)). IsSettled seen may_leave head ((stored ++ k.records) ++ l)
+    c.append.new.self) c.as_slice.ensures.value ack in
+    let ok = d.batch.ok in
+    let more : d.count + length d.batch.items ≡ d.count + c.len.result = omega (arith, c.len.ensures, ok) in
+    let keeps = subst (λ (n : ℕ). KeepsRecords seen may_leave head stored first d.witness n c.append.new.self) more
+    (keeps_more seen may_leave head stored first d.witness d.count d.batch.items d.log c.append.new.self k settled
+    i.2) in
+    let run = written_front seen may_leave head stored first moment left_since d.witness d.count d.batch.items d.log
+    k i.2 d.log.device c.append.new.self.device
+    (subst (λ (l : List (List ℕ)). LeavesOnly moment left_since d.log.device c.append.new.self.device
+    (IsBeforeOrAfter head (stored ++ k.records) l)) c.as_slice.ensures.value
+    (c.append.ensures.any_moment head (stored ++ k.records) k.settled)) in
+    let now = c.append.new.self.device in
+    let count : ℕ = d.count + c.len.result in
+    let one : Promise = record { count = count; moment = moment now } in
+    let Kept : Promise → Type 0 = IsKeptSince moment left_since head stored first d.witness count now in
+    let front = kept_front seen may_leave head stored first c.records_are_read_back.ensures d.witness count
+    c.append.new.self keeps in (
+      i.0,
+      λ b. keeps,
+      subst (λ (l : List (List ℕ)). AreRecordsFrom first d.witness (d.count + c.len.result) l)
+          (sym c.clear.ensures.items) tt,
+      lives_after moment left_since may_leave head stored first g.J.Storing.opened d.witness d.count
+          (d.count + c.len.result) d.log.device c.append.new.self.device i.3 run
+          front,
+      All-same Kept c.raise.new.keeper (d.keeper ++ one ∷ []) c.raise.ensures
+          (All-push Kept d.keeper one
+          (promises_after moment left_since head stored first d.witness d.count count d.log.device now (omega arith)
+          run d.keeper i.4)
+          (promise_now moment left_since head stored first may_leave d.witness count now
+          (g.met.D.Device.only_now now) front)),
+      λ b. subst (λ (l : List Promise). Contains l one) (sym c.raise.ensures) (Contains-push d.keeper one),
+    )

@@ -1,0 +1,147 @@
+-- The rule of a tally, and what each step at it reports.
+use Rattle.std.specs.Prelude.{◌≡◌, ℕ, ◌<◌, ◌≤◌, ◌+◌, List, [], ◌∷◌, ◌++◌, length, true, false, All, Contains}
+use mathlib.Core.List.{IsPrefix}
+use mathlib.Core.Option.{some}
+use lib.ListN.{get_elem?}
+use Rattle.atomic_table.specs.Table.{State, Me, Step}
+use Rattle.atomic_table.specs.Seated.{TableId}
+use Rattle.atomic_table.specs.declared.shared.Seat.{Seat}
+use Rattle.hg_commit.specs.declared.known.Known.{Known}
+use Rattle.hg_commit.specs.Orders.{Came, comings_to, Event, promises_in, ReceiptView}
+use Rattle.hg_commit.specs.Promises.{Promise}
+
+-- each promise of the first list is one of the second
+abbrev pub AreAmong : List Promise → List Promise → Type 0
+AreAmong promises all = All (Contains all) promises
+
+-- none of them counts more than that
+abbrev pub CountAtMost : ℕ → List Promise → Type 0
+CountAtMost count promises = All (λ p. p.count ≤ count) promises
+
+-- the keeper at the beginning
+abbrev pub keeper : Known
+keeper = record {
+  is_keeper = true;
+  is_spent = false;
+  promises = [];
+  order = [];
+  came = 0;
+  heard = [];
+  heard_order = [];
+}
+
+-- another seat knows these promises
+abbrev pub seat_with : List Promise → Known
+seat_with promises = record {
+  is_keeper = false;
+  is_spent = false;
+  promises = promises;
+  order = [];
+  came = 0;
+  heard = [];
+  heard_order = [];
+}
+
+-- a seat that is used no more
+abbrev pub spent : Known
+spent = record {
+  is_keeper = false;
+  is_spent = true;
+  promises = [];
+  order = [];
+  came = 0;
+  heard = [];
+  heard_order = [];
+}
+
+-- What one seat knows, by the one order and by the seat of the keeper: the keeper knows all promises. What a seat has
+-- seen begins the order, and the comings to it are its own. Whatever it knows or heard of was promised.
+pub record KnownFits (seat : ℕ) (order : List Event) (at : ℕ) (v : Known) : Type 0 where
+  pub kept : v.is_keeper ≡ true → (at ≡ seat) × (v.promises ≡ promises_in order)
+  pub low : AreAmong v.promises (promises_in order)
+  pub begins : IsPrefix v.order order
+  pub own : v.is_spent ≡ false → comings_to at order ≡ v.came
+  pub heard : AreAmong v.heard (promises_in order)
+  pub heard_begins : IsPrefix v.heard_order order
+
+-- There is one order of all events: of the promises, of which the word counts as many as each, or more, and of the
+-- requests that came, each at its seat.
+pub record IsTallied (s : State (Unit {0}) Known) : Type 0 where
+  pub word : ℕ
+  pub words : s.words ≡ word ∷ []
+  pub seat : ℕ
+  pub order : List Event
+  pub counts : CountAtMost word (promises_in order)
+  pub unseated : (at : ℕ) → length s.views ≤ at → comings_to at order ≡ 0
+  pub fits : (at : ℕ) (v : Known) → get_elem? s.views at ≡ some v → KnownFits seat order at v
+
+-- the promises, and one more: of so many records, at that moment
+abbrev pub one_more : List Promise → ℕ → ℕ → List Promise
+one_more promises count moment = promises ++ record { count = count; moment = moment } ∷ []
+
+-- there is one promise more: of the number that was stored, at that moment
+abbrev pub raised : ℕ → Step (Unit {0}) → Me (Unit {0}) Known → ℕ → Me (Unit {0}) Known → Type 0
+raised moment st me n after =
+    (order : List Event) × IsPrefix me.0.order order
+    × (after ≡ (record me.0 { promises = one_more me.0.promises n moment; order = order }, me.1))
+
+-- A request came to a seat that knew this, and it knows that then. The number that was found is what all promises so
+-- far count at most.
+pub record CameTo (v : Known) (n : ℕ) (w : Known) : Type 0 where
+  pub seat : ℕ
+  pub between : List Event
+  pub is : w ≡ record v { order = (v.order ++ between) ++ Came seat ∷ []; came = v.came + 1 }
+  pub own : comings_to seat w.order ≡ w.came
+  pub among : AreAmong w.promises (promises_in w.order)
+  pub counts : CountAtMost n (promises_in w.order)
+
+abbrev pub comes : Step (Unit {0}) → Me (Unit {0}) Known → ℕ → Me (Unit {0}) Known → Type 0
+comes st me n after = CameTo me.0 n after.0 × (after.1 ≡ me.1)
+
+-- the same, of a seat that is new
+abbrev pub arrives : Step (Unit {0}) → Me (Unit {0}) Known → ℕ → Me (Unit {0}) Known → Type 0
+arrives st me n after = CameTo (seat_with []) n after.0 × (after.1 ≡ [])
+
+-- A seat has seen the order so far: all that it knows and heard of is in it, and what it had seen begins it.
+pub record Sees (v : Known) (w : Known) : Type 0 where
+  pub order : List Event
+  pub is : w ≡ record v { order = order }
+  pub begins : IsPrefix v.order order
+  pub among : AreAmong v.promises (promises_in order)
+  pub heard : v.is_keeper ≡ true → AreAmong v.heard v.promises
+  pub heard_begins : IsPrefix v.heard_order order
+
+abbrev pub looks : Step (Unit {0}) → Me (Unit {0}) Known → ℕ → Me (Unit {0}) Known → Type 0
+looks st me n after = Sees me.0 after.0 × (after.1 ≡ me.1)
+
+-- a new seat knows and has seen what another has
+abbrev pub shown_by : Known → Known
+shown_by v = record (seat_with v.promises) { order = v.order }
+
+-- the first heard what the second knows
+abbrev pub heard_from : Known → Known → Known
+heard_from v w = record v { heard = w.promises; heard_order = w.order }
+
+-- the first knows what both know
+abbrev pub united : Known → Known → Known
+united v w = record v { is_keeper = false; promises = v.promises ++ w.promises }
+
+-- what a client's receipt has
+abbrev pub receipt_of : Known → ReceiptView
+receipt_of v = record { promises = v.promises; order = v.order; came = v.came }
+
+-- it is a seat at this tally that is in use
+abbrev pub IsSeatAt : TableId → Seat (Unit {0}) Known → Type 0
+IsSeatAt id seat = (seat.table_id ≡ id) × (0 < id.words) × (seat.me.1 ≡ []) × (seat.me.0.is_spent ≡ false)
+
+-- it is the keeper's
+abbrev pub IsKeeperAt : TableId → Seat (Unit {0}) Known → Type 0
+IsKeeperAt id seat = (seat.me.0.is_keeper ≡ true) × IsSeatAt id seat
+
+-- it has promises that were granted, and no request came to it
+abbrev pub IsGrantAt : TableId → Seat (Unit {0}) Known → Type 0
+IsGrantAt id seat = (seat.me.0.came ≡ 0) × IsSeatAt id seat
+
+-- it is a client's: its promises are in the order that it has seen
+abbrev pub IsClientAt : TableId → Seat (Unit {0}) Known → Type 0
+IsClientAt id seat = AreAmong seat.me.0.promises (promises_in seat.me.0.order) × IsSeatAt id seat

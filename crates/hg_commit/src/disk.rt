@@ -1,0 +1,220 @@
+//! The device under its lock, with the records that are on it and the batch that is written next.
+
+ghost use Rattle.std.specs.Prelude.{◌≡◌, ◌≤◌, ◌<◌, ◌+◌, ◌++◌, ◌∷◌, [], false, true, length};
+ghost use Rattle.std.specs.Prelude.{All, IfOk, IfErr, IfSome};
+ghost use mathlib.Core.List.{IsPrefix};
+ghost use Rattle.hg_types.specs.Limits.{IsAllowed};
+ghost use Rattle.hg_store.specs.Device.{LeavesOnly};
+ghost use Rattle.hg_store.specs.Log.{IsSettled};
+ghost use Rattle.hg_commit.specs.Clients.{Covers};
+ghost use Rattle.hg_commit.specs.Lives.{IsFront, IsKeptSince, Lives};
+ghost use Rattle.hg_commit.specs.Records.{IsRecordOf, KeepsRecords};
+
+use crate::laws::records_stay;
+use crate::promises::{Grant, Keeper, OpenTally};
+use crate::storing::Storing;
+use hg_serve::{Client, Server};
+use hg_store::laws::records_are_read_back;
+use hg_store::{Device, Log, Sealed};
+use std::alloc::{Allocator, Global};
+use std::marker::Model;
+use std::sync::Wait;
+
+/// How many records a batch has at most.
+pub const BATCH: usize = 64;
+
+/// How many records there are at most.
+const MOST: usize = 1 << 62;
+
+/// The device, how many records are on it after those that it was opened with, and a batch that is not
+/// written yet. The records and the batch are, in order, the bundles of the first pushes of the journal that
+/// the witness has seen. Each promise of the tally is kept, and unless it is broken the keeper has one of all these
+/// records, at this moment. After a write or a sync that failed the device is not called again.
+pub struct Disk<J: Storing<A>, D: Device, A: Allocator = Global> {
+    log: Log<D>,
+    count: usize,
+    batch: Vec<Sealed<A>, A>,
+    is_broken: bool,
+    witness: Client<J, A>,
+    keeper: Keeper<J, A>,
+}
+
+impl<J: Storing<A>, D: Device, A: Allocator> Model for Disk<J, D, A> {
+    ghost use Rattle.std.specs.Prelude.{◌≡◌, ◌-◌, false, All, Contains, vec_len, vec_capacity};
+    ghost use Rattle.hg_commit.specs.Lives.{IsKeptSince, Lives};
+    ghost use Rattle.hg_commit.specs.Locks.{DiskView};
+    ghost use Rattle.hg_commit.specs.Records.{AreRecordsFrom, KeepsRecords};
+    ghost use Rattle.hg_types.specs.Limits.{IsAllowed};
+
+    ghost Value = { DiskView A D };
+
+    ghost view = { λ d. record {
+      device = d.log.device;
+      count = d.count;
+      batch = d.batch.items;
+      room = vec_capacity d.batch - vec_len d.batch;
+      is_broken = d.is_broken;
+      history = d.witness;
+    } };
+
+    ghost invariant = { λ d. IsAllowed J.first.settings.limits
+        × (d.is_broken ≡ false → KeepsRecords D.seen D.may_leave J.head J.stored J.first d.witness d.count d.log)
+        × AreRecordsFrom J.first d.witness d.count d.batch.items
+        × Lives D.moment D.left_since D.may_leave J.head J.stored J.first J.opened d.witness d.count
+        d.log.device
+        × All (IsKeptSince D.moment D.left_since J.head J.stored J.first d.witness d.count d.log.device) d.keeper
+        × (d.is_broken ≡ false →
+        Contains d.keeper (record { count = d.count; moment = D.moment d.log.device })) };
+}
+
+impl<J: Storing<A>, D: Device, A: Allocator + Copy> Disk<J, D, A> {
+    /// A device with what it was opened with, and the keeper of a tally that promised no more.
+    pub fn new(
+        alloc: A,
+        log: Log<D>,
+        witness: Client<J, A>,
+        keeper: Keeper<J, A>,
+    ) -> Result<Self, (Log<D>, Client<J, A>, Keeper<J, A>)>
+        requires settled { IsSettled D.seen D.may_leave J.head J.stored log }
+        requires opened { J.opened ≡ D.moment log.device }
+        requires allowed { IsAllowed J.first.settings.limits }
+        requires nothing { keeper ≡ record { count = 0; moment = D.moment log.device } ∷ [] }
+        ensures made { IfOk result (λ disk. (disk.device ≡ log.device) × (disk.count ≡ 0) × (disk.batch ≡ [])
+            × (disk.is_broken ≡ false) × (disk.history ≡ witness)) }
+        ensures refused { IfErr result (λ back. back ≡ (log, witness, keeper)) }
+    {
+        records_are_read_back();
+        match Vec::with_capacity(alloc, BATCH) {
+            Ok(batch) => Ok(Disk {
+                log,
+                count: 0,
+                batch,
+                is_broken: false,
+                witness,
+                keeper,
+            }),
+            Err(_) => Err((log, witness, keeper)),
+        }
+    }
+
+    /// How many records are on the device after those that it was opened with.
+    pub fn count(&self) -> usize
+        ensures { result ≡ self.now.count }
+    {
+        self.count
+    }
+
+    /// Whether a write or a sync failed.
+    pub fn is_broken(&self) -> bool
+        ensures { result ≡ self.now.is_broken }
+    {
+        self.is_broken
+    }
+
+    /// The place of the record that the batch takes next. `None` where it has room for no more.
+    pub fn next_place(&self) -> Option<usize>
+        ensures place { IfSome result (λ place. place ≡ self.now.count + length self.now.batch) }
+        ensures room { IfSome result (λ _. 0 < self.now.room) }
+    {
+        if self.count >= MOST || self.batch.len() >= self.batch.capacity() {
+            return None;
+        }
+        Some(self.count + self.batch.len())
+    }
+
+    /// The witness sees all that another client has seen.
+    pub fn hear<R: Wait>(&mut self, rt: &R, server: &Server<J, A>, client: &mut Client<J, A>)
+        ensures same { client.new ≡ client.old }
+        ensures all { IsPrefix client.old self.new.history }
+        ensures later { IsPrefix self.old.history self.new.history }
+        ensures records { (self.new.count ≡ self.old.count) × (self.new.batch ≡ self.old.batch)
+            × (self.new.is_broken ≡ self.old.is_broken) × (self.new.device ≡ self.old.device) }
+    {
+        records_stay::<A>();
+        server.meet(rt, client, &mut self.witness);
+    }
+
+    /// Another client sees all that the witness has seen.
+    pub fn show<R: Wait>(&mut self, rt: &R, server: &Server<J, A>, client: &mut Client<J, A>)
+        ensures same { self.new ≡ self.old }
+        ensures all { IsPrefix self.old.history client.new }
+        ensures later { IsPrefix client.old client.new }
+    {
+        server.meet(rt, &mut self.witness, client);
+    }
+
+    /// A grant for all that is on the device.
+    pub fn counted(&mut self, tally: &OpenTally<J, A>) -> Grant<J, A>
+        requires { self.old.is_broken ≡ false }
+        ensures same { self.new ≡ self.old }
+        ensures covered { Covers D.seen D.may_leave D.moment J.head J.stored J.first self.old.history result
+            self.old.count }
+    {
+        tally.grant(&mut self.keeper)
+    }
+
+    /// Takes the record of the push at the next place into the batch. It has room, so no memory is asked for.
+    pub fn take_in(&mut self, bytes: Sealed<A>)
+        requires next { IsRecordOf J.first self.old.history (self.old.count + length self.old.batch) bytes }
+        requires room { 0 < self.old.room }
+        ensures same { (self.new.history ≡ self.old.history) × (self.new.count ≡ self.old.count)
+            × (self.new.device ≡ self.old.device) }
+        ensures taken { self.new.is_broken ≡ self.old.is_broken }
+    {
+        self.batch.push_reserved(bytes);
+    }
+
+    /// Writes the batch, syncs it and promises it, and asks for no memory. Where that fails, the device is broken from
+    /// then on.
+    pub fn write(&mut self, tally: &OpenTally<J, A>)
+        ensures lasting { self.old.is_broken ≡ true → self.new.is_broken ≡ true }
+        ensures history { self.new.history ≡ self.old.history }
+        ensures written { self.new.is_broken ≡ false →
+            (self.new.count ≡ self.old.count + length self.old.batch) × (self.new.batch ≡ []) }
+        ensures more { self.old.count ≤ self.new.count }
+
+        // At any moment of the call an end leaves the records that were on the device before it.
+        ensures any_moment { LeavesOnly D.moment D.left_since self.old.device self.new.device
+            (IsFront J.head J.stored J.first self.old.history self.old.count) }
+    {
+        records_are_read_back();
+        if self.is_broken || self.batch.is_empty() {
+            return;
+        }
+        if self.count >= MOST {
+            self.is_broken = true;
+            return;
+        }
+        if self.log.append(self.batch.as_slice()).is_err() {
+            self.is_broken = true;
+            return;
+        }
+        self.count += self.batch.len();
+        self.batch.clear();
+        tally.raise(&mut self.keeper, self.count, &self.log);
+    }
+
+    /// The log, how many records are on it after those that it was opened with, whether it is broken, the client
+    /// that has seen the history of its records, and the keeper, whose promises are kept.
+    pub fn into_parts(self) -> (Log<D>, usize, bool, Client<J, A>, Keeper<J, A>)
+        ensures kept { result.2 ≡ false →
+            KeepsRecords D.seen D.may_leave J.head J.stored J.first result.3 result.1 result.0 }
+        ensures life { Lives D.moment D.left_since D.may_leave J.head J.stored J.first J.opened result.3 result.1
+            result.0.device }
+        ensures count { result.1 ≡ self.count }
+        ensures broken { result.2 ≡ self.is_broken }
+        ensures history { result.3 ≡ self.history }
+        ensures keeper { All (IsKeptSince D.moment D.left_since J.head J.stored J.first result.3 result.1
+            result.0.device) result.4 }
+    {
+        let Disk {
+            log,
+            count,
+            batch: _,
+            is_broken,
+            witness,
+            keeper,
+        } = self;
+        (log, count, is_broken, witness, keeper)
+    }
+}

@@ -1,0 +1,244 @@
+//! A ledger: what a server keeps, for threads.
+
+ghost use Rattle.std.specs.Prelude.{◌≡◌, ◌≤◌, ◌<◌, ◌-◌, ℕ, [], false, All, IfErr, IfOk, IfSome};
+ghost use mathlib.Core.List.{IsPrefix};
+ghost use Rattle.hg_types.specs.Limits.{IsAllowed};
+ghost use Rattle.hg_store.specs.Log.{IsSettled};
+ghost use Rattle.hg_commit.specs.Clients.{Covers, IsCovered, IsGranted};
+ghost use Rattle.hg_commit.specs.Lives.{IsKeptSince, Lives};
+ghost use Rattle.hg_commit.specs.Orders.{Comes, HasGrown};
+ghost use Rattle.hg_commit.specs.Receipts.{IsTallyOf};
+ghost use Rattle.hg_commit.specs.Records.{IsRecordOf, KeepsRecords, done_in};
+
+use crate::client::KeptClient;
+use crate::disk::Disk;
+use crate::doors::Doors;
+use crate::kept::Kept;
+use crate::promises::{Grant, OpenTally, Promises};
+use crate::rooms::{Room, Rooms};
+use crate::storing::Storing;
+use crate::waiting::{NextStep, Record, Waiting};
+use hg_serve::{Client, Server};
+use hg_store::{Device, Log, Sealed};
+use hg_types::NoMemory;
+use std::alloc::{Allocator, Global};
+use std::sync::{Mutex, MutexGuard, Wait};
+use thiserror::Error;
+
+/// A write or a sync failed, now or earlier: whether the push will be there after the next start is not known.
+#[derive(Clone, Copy, Debug, PartialEq, Eq, Error)]
+#[error("the store failed")]
+pub struct NotStored;
+
+/// The records of a server's done pushes, on a device and on the way to it.
+///
+/// The locks are got in the order of the fields, and the server's lock after them.
+pub struct Ledger<J: Storing<A>, D: Device, A: Allocator = Global> {
+    waiting: Mutex<Waiting<J, D, A>>,
+    disk: Mutex<Disk<J, D, A>>,
+    doors: Doors,
+    tally: OpenTally<J, A>,
+}
+
+/// What is left of a ledger: its log, how many records were brought to the device after those that it was opened
+/// with, whether a write or a sync failed, the two clients, and the tally, with which receipts are compared.
+pub struct Parts<J: Storing<A>, D: Device, A: Allocator = Global> {
+    pub log: Log<D>,
+    pub kept: usize,
+    pub is_broken: bool,
+    pub witnesses: (Client<J, A>, Client<J, A>),
+    pub tally: Promises<A>,
+}
+
+impl<J: Storing<A>, D: Device, A: Allocator + Copy> Ledger<J, D, A> {
+    /// A ledger over a log that is open, with two clients of the server that have seen nothing, and with a new
+    /// tally. They come back with the log where memory is refused.
+    pub fn new(
+        alloc: A,
+        log: Log<D>,
+        witnesses: (Client<J, A>, Client<J, A>),
+        tally: Promises<A>,
+    ) -> Result<Self, Parts<J, D, A>>
+        requires settled { IsSettled D.seen D.may_leave J.head J.stored log }
+        requires opened { J.opened ≡ D.moment log.device }
+        requires allowed { IsAllowed J.first.settings.limits }
+        requires tally { IsTallyOf J.tally J.name J.parts tally × (tally.promises ≡ []) }
+    {
+        let (first, second) = witnesses;
+        let (tally, mut keeper, rooms) = tally.open::<J>();
+        tally.raise(&mut keeper, 0, &log);
+        match Disk::new(alloc, log, first, keeper) {
+            Ok(mut disk) => {
+                let counted = disk.counted(&tally);
+                Ok(Ledger {
+                    waiting: Mutex::new(Waiting::new(alloc, second, counted, Rooms::new(rooms))),
+                    disk: Mutex::new(disk),
+                    doors: Doors::new(),
+                    tally,
+                })
+            }
+            Err((log, first, keeper)) => Err(Parts {
+                log,
+                kept: 0,
+                is_broken: false,
+                witnesses: (first, second),
+                tally: tally.close(keeper),
+            }),
+        }
+    }
+
+    /// Takes room for the record of a push that is not opened yet.
+    pub fn room<R: Wait>(&self, rt: &R) -> Result<Room<J, A>, NoMemory> {
+        self.waiting.lock(rt).room()
+    }
+
+    /// Gives back the room of a push that was not opened, or was not done.
+    pub fn give_back<R: Wait>(&self, rt: &R, room: Room<J, A>) {
+        self.waiting.lock(rt).give_back(room);
+    }
+
+    /// Keeps what a reply rests on: so many done pushes, of which the last is this record's, if there is one. Waits
+    /// until they are on the device; where no other thread writes, it writes. The client has a receipt for them then,
+    /// and comes with what says so. Where the store failed, it comes back.
+    pub fn keep<R: Wait>(
+        &self,
+        rt: &R,
+        server: &Server<J, A>,
+        client: KeptClient<J, A>,
+        room: Room<J, A>,
+        rests: usize,
+        bundle: Option<Sealed<A>>,
+    ) -> Result<Kept<J, D, A>, (KeptClient<J, A>, NotStored)>
+        requires rests { rests ≤ done_in J.first client.history }
+        requires bundle { IfSome bundle (λ bytes. (1 ≤ rests)
+            × IsRecordOf J.first client.history (rests - 1) bytes) }
+        ensures kept { IfOk result (λ kept. (kept.rests ≡ rests) × IsGranted client kept.client
+            × IsCovered D.seen D.may_leave D.moment J.head J.stored J.first kept.client rests) }
+        ensures failed { IfErr result (λ back. IsGranted client back.0) }
+    {
+        let mut client = client;
+        match bundle {
+            None => self.give_back(rt, room),
+            Some(bytes) => {
+                let place = rests - 1;
+                let record = Record { place, bytes };
+                self.waiting
+                    .lock(rt)
+                    .hand_in(rt, server, &mut client.client, room, record);
+            }
+        }
+        match self.receipt(rt, server, &mut client, rests) {
+            Ok(()) => Ok(Kept::new(client, rests)),
+            Err(fault) => Err((client, fault)),
+        }
+    }
+
+    /// **A request of a client comes.** Says how many done pushes were promised to be on the device by then, to whomever:
+    /// whatever was answered before rests on these or on fewer. An answer to the request is to rest on as many, or more.
+    pub fn come(&self, client: &mut KeptClient<J, A>) -> u64
+        ensures same { client.new.history ≡ client.old.history }
+        ensures comes { Comes client.old.receipt client.new.receipt result }
+    {
+        client.come(&self.tally)
+    }
+
+    /// Waits until so many done pushes are on the device. The client has a receipt for them then.
+    pub fn receipt<R: Wait>(
+        &self,
+        rt: &R,
+        server: &Server<J, A>,
+        client: &mut KeptClient<J, A>,
+        rests: usize,
+    ) -> Result<(), NotStored>
+        requires { rests ≤ done_in J.first client.old.history }
+        ensures same { client.new.history ≡ client.old.history }
+        ensures grows { HasGrown client.old.receipt client.new.receipt }
+        ensures came { client.new.receipt.came ≡ client.old.receipt.came }
+        ensures covered { IfOk result (λ _. IsCovered D.seen D.may_leave D.moment J.head J.stored J.first client.new
+            rests) }
+    {
+        match self.await_records(rt, server, &mut client.client, rests) {
+            Ok(grant) => {
+                client.take_in(&self.tally, grant);
+                Ok(())
+            }
+            Err(fault) => Err(fault),
+        }
+    }
+
+    /// A grant for so many done pushes, once they are on the device.
+    fn await_records<R: Wait>(
+        &self,
+        rt: &R,
+        server: &Server<J, A>,
+        client: &mut Client<J, A>,
+        rests: usize,
+    ) -> Result<Grant<J, A>, NotStored>
+        requires { rests ≤ done_in J.first client.old }
+        ensures same { client.new ≡ client.old }
+        ensures covered { IfOk result (λ grant. Covers D.seen D.may_leave D.moment J.head J.stored J.first client.old
+            grant rests) }
+    {
+        let mut waiting = self.waiting.lock(rt);
+        'waiting: for _ in rt.forever() {
+            match waiting.step(rt, server, client, &self.tally, rests) {
+                Ok(grant) => return Ok(grant),
+                Err(NextStep::Stop) => return Err(NotStored),
+                Err(NextStep::Wait(door)) => waiting = self.doors.at(door).wait(rt, waiting),
+                Err(NextStep::Write) => {
+                    self.write(rt, server, waiting);
+                    waiting = self.waiting.lock(rt);
+                }
+            }
+        }
+        unreachable!()
+    }
+
+    /// Writes a batch, and wakes those who wait for it. Others may hand in their records meanwhile.
+    fn write<R: Wait>(
+        &self,
+        rt: &R,
+        server: &Server<J, A>,
+        mut waiting: MutexGuard<'_, Waiting<J, D, A>>,
+    ) {
+        let mut disk = self.disk.lock(rt);
+        waiting.load(rt, server, &mut *disk);
+        drop(waiting);
+        disk.write(&self.tally);
+        let mut waiting = self.waiting.lock(rt);
+        waiting.note(rt, server, &self.tally, &mut *disk);
+        let door = waiting.opened();
+        drop(waiting);
+        drop(disk);
+        self.doors.open(door);
+    }
+
+    /// The log, and what is known of it. **Whatever an end might have left at any moment of the ledger's life is a
+    /// front of the journal**, also where a write or a sync failed; and what one leaves from now on has each record
+    /// that was brought to the device. **Each promise is kept since its moment.**
+    pub fn into_parts(self) -> Parts<J, D, A>
+        ensures kept { result.is_broken ≡ false →
+            KeepsRecords D.seen D.may_leave J.head J.stored J.first result.witnesses.0 result.kept result.log }
+        ensures life { Lives D.moment D.left_since D.may_leave J.head J.stored J.first J.opened
+            result.witnesses.0 result.kept result.log.device }
+        ensures tally { result.tally.id ≡ J.tally }
+        ensures promises { All (IsKeptSince D.moment D.left_since J.head J.stored J.first
+            result.witnesses.0 result.kept result.log.device) result.tally.promises }
+    {
+        let Ledger {
+            waiting,
+            disk,
+            doors: _,
+            tally,
+        } = self;
+        let (log, kept, is_broken, first, keeper) = disk.into_inner().into_parts();
+        let second = waiting.into_inner().into_witness();
+        Parts {
+            log,
+            kept,
+            is_broken,
+            witnesses: (first, second),
+            tally: tally.close(keeper),
+        }
+    }
+}

@@ -1,0 +1,279 @@
+//! The records that wait, under their lock.
+
+ghost use Rattle.std.specs.Prelude.{◌≡◌, ◌≤◌, false, true, length, IfOk, IfSome};
+ghost use Rattle.hg_commit.specs.Clients.{Covers};
+ghost use mathlib.Core.List.{IsPrefix};
+ghost use Rattle.hg_commit.specs.Records.{IsRecordOf, done_in};
+
+use crate::disk::{BATCH, Disk};
+use crate::doors::BatchDoor;
+use crate::laws::records_stay;
+use crate::promises::{Grant, OpenTally};
+use crate::rooms::{Room, Rooms};
+use crate::storing::Storing;
+use hg_serve::{Client, Server};
+use hg_store::{Device, Sealed};
+use hg_types::NoMemory;
+use std::alloc::{Allocator, Global};
+use std::marker::{Model, PhantomData};
+use std::sync::Wait;
+
+/// A record that is not on the device, and the place of its push in the journal.
+#[derive(Drop)]
+pub struct Record<A: Allocator = Global> {
+    pub place: usize,
+    pub bytes: Sealed<A>,
+}
+
+/// What a thread does next whose records are not on the device.
+#[derive(Drop)]
+pub enum NextStep {
+    /// A write or a sync failed.
+    Stop,
+    /// Another thread writes, or the next record was not handed in yet. It waits at that door.
+    Wait(BatchDoor),
+    /// It writes. The next record waits here.
+    Write,
+}
+
+/// The records that wait, the highest place first, and room for more; how many are on the device, with a grant
+/// for them; whether a thread writes, how many are on the device after that, and at which door that is waited for;
+/// and whether a write or a sync failed.
+pub struct Waiting<J: Storing<A>, D: Device, A: Allocator = Global> {
+    records: Vec<Record<A>, A>,
+    rooms: Rooms<J, A>,
+    count: usize,
+    counted: Grant<J, A>,
+    is_writing: bool,
+    coming: usize,
+    door: BatchDoor,
+    is_broken: bool,
+    witness: Client<J, A>,
+    of: PhantomData<D>,
+}
+
+impl<J: Storing<A>, D: Device, A: Allocator> Model for Waiting<J, D, A> {
+    ghost use Rattle.std.specs.Prelude.{◌≡◌, ◌≤◌, ◌+◌, false, vec_len, vec_capacity};
+    ghost use Rattle.hg_commit.specs.Clients.{Covers};
+    ghost use Rattle.hg_commit.specs.Locks.{AreWaiting, WaitingView};
+
+    ghost Value = { WaitingView A };
+
+    ghost view = { λ w. record { count = w.count; is_broken = w.is_broken; history = w.witness } };
+
+    ghost invariant = { λ w. AreWaiting J.first w.witness w.records.items
+        × (w.is_broken ≡ false → Covers D.seen D.may_leave D.moment J.head J.stored J.first w.witness w.counted w.count)
+        × (vec_len w.records + w.rooms ≤ vec_capacity w.records) };
+}
+
+impl<J: Storing<A>, D: Device, A: Allocator + Copy> Waiting<J, D, A> {
+    /// None wait.
+    pub fn new(alloc: A, witness: Client<J, A>, counted: Grant<J, A>, rooms: Rooms<J, A>) -> Self
+        requires kept { Covers D.seen D.may_leave D.moment J.head J.stored J.first witness counted 0 }
+        requires rooms { rooms ≡ 0 }
+    {
+        Waiting {
+            records: Vec::new(alloc),
+            rooms,
+            count: 0,
+            counted,
+            is_writing: false,
+            coming: 0,
+            door: BatchDoor::First,
+            is_broken: false,
+            witness,
+            of: PhantomData,
+        }
+    }
+
+    /// Takes room for a record more.
+    pub fn room(&mut self) -> Result<Room<J, A>, NoMemory> {
+        let Some(room) = self.rooms.take() else {
+            return Err(NoMemory);
+        };
+        if self.records.reserve(self.rooms.count()).is_err() {
+            self.rooms.give_back(room);
+            return Err(NoMemory);
+        }
+        Ok(room)
+    }
+
+    /// Gives room back.
+    pub fn give_back(&mut self, room: Room<J, A>) {
+        self.rooms.give_back(room);
+    }
+
+    /// Takes a record. There is room for it, so no memory is asked for.
+    pub fn hand_in<R: Wait>(
+        &mut self,
+        rt: &R,
+        server: &Server<J, A>,
+        client: &mut Client<J, A>,
+        room: Room<J, A>,
+        entry: Record<A>,
+    )
+        requires { IsRecordOf J.first client.old entry.place entry.bytes }
+        ensures client { client.new ≡ client.old }
+        ensures taken { self.new.is_broken ≡ self.old.is_broken }
+    {
+        records_stay::<A>();
+        self.rooms.give_back(room);
+        server.meet(rt, client, &mut self.witness);
+        let at = place_for(self.records.as_slice(), entry.place);
+        let Ok(()) = self.records.insert(at, entry) else {
+            unreachable!()
+        };
+    }
+
+    /// The grant of a thread whose reply rests on so many done pushes, or what comes next for it.
+    pub fn step<R: Wait>(
+        &mut self,
+        rt: &R,
+        server: &Server<J, A>,
+        client: &mut Client<J, A>,
+        tally: &OpenTally<J, A>,
+        rests: usize,
+    ) -> Result<Grant<J, A>, NextStep>
+        requires { rests ≤ done_in J.first client.old }
+        ensures same { client.new ≡ client.old }
+        ensures covered { IfOk result (λ grant. Covers D.seen D.may_leave D.moment J.head J.stored J.first client.old
+            grant rests) }
+    {
+        if self.is_broken {
+            return Err(NextStep::Stop);
+        }
+        if rests <= self.count {
+            return Ok(self.grant(rt, server, client, tally, rests));
+        }
+        if self.is_writing || !self.has_next() {
+            return Err(NextStep::Wait(self.door_for(rests)));
+        }
+        Err(NextStep::Write)
+    }
+
+    /// Where a thread waits whose reply rests on so many done pushes: with those of the batch that is written, if these
+    /// are in it, and else for the next one.
+    fn door_for(&self, rests: usize) -> BatchDoor {
+        if self.is_writing && rests <= self.coming {
+            return self.door;
+        }
+        self.door.other()
+    }
+
+    /// The grant for so many done pushes, which are on the device.
+    fn grant<R: Wait>(
+        &mut self,
+        rt: &R,
+        server: &Server<J, A>,
+        client: &mut Client<J, A>,
+        tally: &OpenTally<J, A>,
+        rests: usize,
+    ) -> Grant<J, A>
+        requires whole { self.old.is_broken ≡ false }
+        requires low { rests ≤ self.old.count }
+        requires done { rests ≤ done_in J.first client.old }
+        ensures same { client.new ≡ client.old }
+        ensures covered { Covers D.seen D.may_leave D.moment J.head J.stored J.first client.old result rests }
+    {
+        records_stay::<A>();
+        server.meet(rt, client, &mut self.witness);
+        tally.again(&mut self.counted)
+    }
+
+    /// Whether the record that is written next waits here.
+    fn has_next(&self) -> bool {
+        match self.records.last() {
+            Some(record) => record.place == self.count,
+            None => false,
+        }
+    }
+
+    /// Moves the records that come next into the batch of a thread that writes. Those who waited for the next batch wait
+    /// for this one.
+    pub fn load<R: Wait>(&mut self, rt: &R, server: &Server<J, A>, disk: &mut Disk<J, D, A>) {
+        records_stay::<A>();
+        self.is_writing = true;
+        self.coming = self.count;
+        self.door = self.door.other();
+        disk.hear(rt, server, &mut self.witness);
+        'loading: for _ in 0..BATCH {
+            let Some(place) = disk.next_place() else {
+                return;
+            };
+            match self.pop_at(place) {
+                Some(record) => {
+                    disk.take_in(record.bytes);
+                    self.coming = place.saturating_add(1);
+                }
+                None => return,
+            }
+        }
+    }
+
+    /// The last record of those that wait, if it is the one at this place.
+    fn pop_at(&mut self, place: usize) -> Option<Record<A>>
+        ensures same { self.new.history ≡ self.old.history }
+        ensures found { IfSome result (λ found. IsRecordOf J.first self.old.history place found.bytes) }
+    {
+        match self.records.last() {
+            Some(record) if record.place == place => self.records.pop(),
+            _ => None,
+        }
+    }
+
+    /// The door at which those wait who may go on after a batch. `None` where a write or a sync failed, and so all may.
+    pub fn opened(&self) -> Option<BatchDoor> {
+        if self.is_broken {
+            return None;
+        }
+        Some(self.door)
+    }
+
+    /// Notes how far a thread came that wrote.
+    pub fn note<R: Wait>(
+        &mut self,
+        rt: &R,
+        server: &Server<J, A>,
+        tally: &OpenTally<J, A>,
+        disk: &mut Disk<J, D, A>,
+    )
+        ensures lasting { self.old.is_broken ≡ true → self.new.is_broken ≡ true }
+    {
+        records_stay::<A>();
+        self.is_writing = false;
+        if disk.is_broken() {
+            self.is_broken = true;
+            return;
+        }
+        self.count = disk.count();
+        self.counted = disk.counted(tally);
+        disk.show(rt, server, &mut self.witness);
+    }
+
+    /// The client that has seen the history of the records. Those that wait are dropped.
+    pub fn into_witness(self) -> Client<J, A> {
+        let Waiting {
+            records: _,
+            rooms: _,
+            count: _,
+            counted: _,
+            is_writing: _,
+            coming: _,
+            door: _,
+            is_broken: _,
+            witness,
+            of: _,
+        } = self;
+        witness
+    }
+}
+
+/// How many of the records, the highest place first, have no lower place than this one.
+fn place_for<A: Allocator>(records: &[Record<A>], place: usize) -> usize
+    ensures { result ≤ length records.now }
+{
+    match records.iter().position(|other| other.place < place) {
+        Some(at) => at,
+        None => records.len(),
+    }
+}

@@ -1,0 +1,2 @@
+mod Exchanges
+mod Ends

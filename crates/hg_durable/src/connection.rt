@@ -1,0 +1,208 @@
+//! A bundle whose push is kept before it is answered.
+
+ghost use Rattle.std.specs.Prelude.{◌≡◌, [], IfOk, IfErr};
+ghost use Rattle.hg_stream.specs.Unbundler.{limits_of, ready_of, state_of};
+ghost use Rattle.hg_stream.specs.declared.state.State.TheVariants.{Ended as at_end_mark};
+ghost use Rattle.hg_queue.specs.History.{of, items_of};
+ghost use Rattle.hg_connection.specs.declared.bundle_end.BundleEnd.TheVariants.{Whole};
+ghost use Rattle.hg_connection.specs.Steps.{IsFresh};
+ghost use Rattle.hg_push.specs.Reply.{reply_of};
+ghost use Rattle.hg_commit.specs.Clients.{HasCome};
+ghost use Rattle.hg_durable.specs.Kept.{IsRound, KeepsBundle, KeptExchange, MayBeTold, RepliesBy, record_of};
+
+use crate::served::{KeptRound, Replied};
+use hg_commit::{KeptClient, Ledger, Receipt, Room, Storing};
+use hg_connection::{Inbox, Keep, Reader, Writer, mark, receive_kept, send_reply};
+use hg_push::laws::{journals_grow, replies_are_short};
+use hg_push::{OpenFault, Outcome};
+use hg_repo::{Done, Refusal};
+use hg_serve::{Gate, Sender, Server};
+use hg_store::{Device, Sealed};
+use hg_stream::Unbundler;
+use hg_stream::laws::parts_are_few;
+use hg_types::Seq;
+use std::alloc::{Allocator, Global};
+use std::marker::Model;
+use std::sync::Wait;
+
+/// What a kept push needs beside its client: a server, and the ledger that keeps its pushes.
+#[derive(Drop)]
+pub struct Keeping<'a, J: Storing<A>, D: Device, R: Wait, A: Allocator = Global> {
+    pub server: &'a Server<J, A>,
+    pub ledger: &'a Ledger<J, D, A>,
+    pub rt: &'a R,
+    pub alloc: A,
+}
+
+/// A push that was opened as a request of its client came, with room for its record, and the client's receipt. It put
+/// nothing yet, and its client has seen no item of it. Only [`open_kept`] makes one.
+pub struct OpenedKept<J: Storing<A>, A: Allocator = Global> {
+    room: Room<J, A>,
+    sender: Sender<J, A>,
+    receipt: Option<Receipt<J, A>>,
+}
+
+impl<J: Storing<A>, A: Allocator> Model for OpenedKept<J, A> {
+    ghost use Rattle.std.specs.Prelude.{◌≡◌, []};
+    ghost use Rattle.hg_queue.specs.History.{of, items_of};
+    ghost use Rattle.hg_commit.specs.Clients.{promised};
+    ghost use Rattle.hg_durable.specs.Kept.{OpenedView};
+
+    ghost Value = { OpenedView A };
+
+    ghost view = { λ o. record {
+      push = o.sender.putter.push;
+      client = record { history = o.sender.history; receipt = promised o.receipt };
+    } };
+
+    ghost invariant = { λ o. (o.sender.putter.put ≡ [])
+        × (of o.sender.putter.push (items_of o.sender.history) ≡ []) };
+}
+
+/// What keeps the bytes of a bundle, and makes a record of them.
+pub trait Recorder<A: Allocator>: Keep {
+    /// The record of what is kept. It asks for no memory.
+    fn seal(self) -> Sealed<A>
+    where
+        Self: Sized,
+        ensures { result ≡ Self.kept self };
+}
+
+/// A record of its own memory.
+impl<A: Allocator> Recorder<A> for Vec<u8, A> {
+    fn seal(self) -> Sealed<A> {
+        Sealed::new(Seq::from_vec(self))
+    }
+}
+
+/// The record of a push that ended so: its bytes where it is done, and else none. It asks for no memory.
+fn record_of<A: Allocator, K: Recorder<A>>(
+    outcome: &Outcome<Done<A>, Refusal<A>>,
+    kept: K,
+) -> Option<Sealed<A>>
+    ensures { result ≡ record_of outcome.now (K.kept kept) }
+{
+    match outcome {
+        Outcome::Done(_) => Some(kept.seal()),
+        Outcome::Aborted(_) => None,
+    }
+}
+
+/// Opens a push with room for its record, which is taken first: **a request of its client comes**, and this is the one
+/// push for it. Where either is refused, the client comes back, and nothing is taken.
+pub fn open_kept<J: Storing<A>, D: Device, A: Allocator + Copy, R: Wait>(
+    keeping: &Keeping<'_, J, D, R, A>,
+    client: KeptClient<J, A>,
+) -> Result<OpenedKept<J, A>, (KeptClient<J, A>, OpenFault)>
+    ensures ok { IfOk result (λ opened. HasCome client opened.client
+        × (of opened.push (items_of opened.client.history) ≡ [])) }
+    ensures err { IfErr result (λ back. HasCome client back.0) }
+{
+    let mut client = client;
+    keeping.ledger.come(&mut client);
+    let room = match keeping.ledger.room(keeping.rt) {
+        Ok(room) => room,
+        Err(_) => return Err((client, OpenFault::NoMemory)),
+    };
+    let (client, receipt) = client.into_parts();
+    match keeping.server.open(keeping.rt, client) {
+        Ok(sender) => Ok(OpenedKept {
+            room,
+            sender,
+            receipt,
+        }),
+        Err((client, fault)) => {
+            keeping.ledger.give_back(keeping.rt, room);
+            Err((KeptClient::of(client, receipt), fault))
+        }
+    }
+}
+
+/// Keeps one bundle on a push that was opened with room for its record: receives it and has its bytes kept, puts its
+/// mark, waits for its answer, hands in the record of a done push, and waits until all that the answer rests on is on
+/// the device, also where the push was aborted. The client has the receipt that it had, or one that has its promises
+/// and all that the answer rests on. **No writer is here**: what is told of the answer, [`reply_kept`] tells.
+pub fn keep_bundle<
+    J: Storing<A>,
+    D: Device,
+    A: Allocator + Copy,
+    R: Wait,
+    I: Reader,
+    K: Recorder<A>,
+    G: Gate,
+>(
+    keeping: &Keeping<'_, J, D, R, A>,
+    opened: OpenedKept<J, A>,
+    bundle: &mut Unbundler<A>,
+    inbox: &mut Inbox,
+    reader: &mut I,
+    mut recorder: K,
+    gate: &mut G,
+) -> KeptRound<J, D, A>
+    requires bundle { IsFresh keeping.now.server.now bundle.old }
+    requires recorder { K.kept recorder ≡ [] }
+    ensures kept { (x : KeptExchange A)
+        × KeepsBundle keeping.now.server.now J.capacity J.first inbox.old inbox.new (I.told reader.old)
+        (I.told reader.new) opened x
+        × IsRound D.seen D.may_leave D.moment J.head J.stored J.first x result }
+    ensures told { IfOk result.kept (λ kept. MayBeTold J.first result.answer.outcome kept) }
+    ensures whole { result.ending ≡ Whole
+        → (state_of bundle.new ≡ at_end_mark) × (ready_of bundle.new ≡ []) }
+    ensures limits { limits_of bundle.new ≡ limits_of bundle.old }
+{
+    parts_are_few::<A>();
+    replies_are_short::<A>();
+    journals_grow::<A>();
+    // for the proof: the limits are those of the first repository
+    let _limits = keeping.server.limits();
+    let OpenedKept {
+        room,
+        mut sender,
+        receipt,
+    } = opened;
+    let ending = receive_kept(
+        keeping.server,
+        keeping.rt,
+        &mut sender,
+        bundle,
+        inbox,
+        reader,
+        &mut recorder,
+        gate,
+    );
+    let ended = mark(keeping.server, keeping.rt, sender, ending, gate);
+    let (answer, rests, client) = keeping.server.answer_resting(keeping.rt, ended, gate);
+    let client = KeptClient::of(client, receipt);
+    let record = record_of(&answer.outcome, recorder);
+    let kept = keeping
+        .ledger
+        .keep(keeping.rt, keeping.server, client, room, rests, record);
+    KeptRound {
+        answer,
+        rests,
+        ending,
+        kept,
+    }
+}
+
+/// Sends the reply to a push, of which all that its answer rests on is kept. Where the store failed, the writer is not
+/// used. **It cannot wait**: who holds the writer of a reply has what is kept, or knows that the store failed.
+pub fn reply_kept<J: Storing<A>, D: Device, A: Allocator + Copy, W: Writer>(
+    alloc: A,
+    round: &KeptRound<J, D, A>,
+    writer: &mut W,
+) -> (Replied, usize)
+    requires kept { IfOk round.now.kept (λ kept. MayBeTold J.first round.now.answer.outcome kept) }
+    ensures { RepliesBy D.seen D.may_leave D.moment J.head J.stored J.first round.now.kept
+        (reply_of round.now.answer.outcome) (W.told writer.old) (W.told writer.new) result.0 result.1 }
+{
+    match &round.kept {
+        Ok(kept) => {
+            // for the proof: so many are kept
+            let _rests = kept.rests();
+            let (sending, written) = send_reply(alloc, writer, &round.answer.outcome);
+            (Replied::Sent(sending), written)
+        }
+        Err(_) => (Replied::NotStored, 0),
+    }
+}

@@ -1,2 +1,0 @@
-mod Feeding
-mod Steps

@@ -1,3 +1,0 @@
-mod Exchanges
-mod Chains
-mod Ends

@@ -1,5 +1,0 @@
-use Rattle.hg_laws.proofs.Bytes.{below_256}
-use Rattle.hg_laws.proofs.laws.bytes_are_below_256.Goals as goal
-
-pub returns : goal.returns
-returns c = below_256

@@ -1,4 +1,0 @@
-use Rattle.hg_ledger.proofs.tally.OpenTally.raise.Given as goal
-
-abbrev pub ghosts-raise_at : goal.ghosts-raise_at
-ghosts-raise_at g a = record { moment = g.D.Device.moment a.log.now.device }

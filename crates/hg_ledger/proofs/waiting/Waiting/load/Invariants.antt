@@ -1,5 +1,0 @@
-use mathlib.Core.List.{IsPrefix}
-use Rattle.hg_ledger.proofs.waiting.Waiting.load.Given as goal
-
-abbrev pub invariant-loading : goal.invariant-loading
-invariant-loading g l = IsPrefix l.self.history l.disk.history

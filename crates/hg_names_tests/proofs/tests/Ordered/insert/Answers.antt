@@ -1,5 +1,0 @@
-use Rattle.hg_names_tests.proofs.InOrder.{in_order_with}
-use Rattle.hg_names_tests.proofs.tests.Ordered.insert.Goals as goal
-
-pub invariant_of-self-2 : goal.invariant_of-self-2
-invariant_of-self-2 g c = rw c.in_ok-was.ensures.ok (in_order_with c.self.inside.names.pairs _ c.self.invariant _)

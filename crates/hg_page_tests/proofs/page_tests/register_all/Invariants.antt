@@ -1,5 +1,0 @@
-use Rattle.hg_phases.specs.Phases.{AreFor}
-use Rattle.hg_page_tests.proofs.page_tests.register_all.Given as goal
-
-abbrev pub invariant-rows : goal.invariant-rows
-invariant-rows g l = AreFor l.log.rows l.phases.current

@@ -1,0 +1,5 @@
+mod Lists
+mod Copied
+mod Shelves
+mod PartGrowth
+mod RunGrowth

@@ -1,0 +1,4 @@
+pub mod Texts
+pub mod Copied
+pub mod Views
+pub mod Growth

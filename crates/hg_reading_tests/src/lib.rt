@@ -1,5 +1,0 @@
-//! The tests of `hg_reading`, over its contracts.
-#![tactic(auto)]
-
-#[cfg(test)]
-mod tests;

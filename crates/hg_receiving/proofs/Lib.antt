@@ -1,4 +1,0 @@
-mod Waiting
-mod Filling
-mod Feeding
-pub mod CallerLemmas

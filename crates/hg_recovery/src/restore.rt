@@ -1,0 +1,159 @@
+//! Records that are run as pushes.
+
+ghost use Rattle.std.specs.Prelude.{◌≡◌, ◌≢◌, ◌<◌, ◌^◌, [], List, ℕ, IfErr, IfOk, OnErr, OnOk, length};
+ghost use Rattle.hg_types.specs.declared.limits.Limits.{Limits as AnyLimits};
+ghost use Rattle.hg_types.specs.Limits.{IsAllowed};
+ghost use Rattle.hg_stream.specs.declared.state.State.TheVariants.{Reading};
+ghost use Rattle.hg_stream.specs.Frames.{IsBundle};
+ghost use Rattle.hg_stream.specs.Unbundler.{HoldsBundle, limits_of, ready_of, state_of};
+ghost use Rattle.hg_parts.specs.declared.refusal.Refusal.{Refusal as AnyRefusal};
+ghost use Rattle.hg_push.specs.Run.{RepositoryOf};
+ghost use Rattle.hg_recovery.specs.declared.restore.RestoreFault.TheVariants.{NoMemory as OutOfMemory};
+ghost use Rattle.hg_recovery.specs.Replays.{IsUnrun, Replays, ReplaysOne, StopsAt};
+
+use hg_push::laws::memory_refuses_no_part;
+use hg_repo::{Refusal, Repo, Source};
+use hg_stream::laws::{parts_are_few, streams_have_one_verdict};
+use hg_stream::{State, StreamFault, Unbundler, all_parts};
+use hg_types::{NoMemory, Part, Seq};
+use std::alloc::Allocator;
+use thiserror::Error;
+
+/// Why records are not run to their end. A place counts from 0.
+#[derive(Clone, Copy, Debug, PartialEq, Eq, Error)]
+pub enum RestoreFault {
+    /// 1: the record at this place is no whole bundle within the limits.
+    #[error("record {0} is no bundle")]
+    NoBundle(usize),
+    /// 2: the record at this place is a bundle whose push is not done.
+    #[error("the push of record {0} is not done")]
+    Refused(usize),
+    /// 3: a growth was refused.
+    #[error("out of memory")]
+    NoMemory,
+}
+
+/// Whatever says that memory was refused.
+impl<E: Into<NoMemory> + Drop> From<E> for RestoreFault {
+    ghost from_gives = { λ _ told. told ≡ OutOfMemory };
+
+    fn from(_refused: E) -> Self {
+        RestoreFault::NoMemory
+    }
+}
+
+/// Runs the records as pushes, one after the other. An `Err` says why one is not run: its place, where it is
+/// damaged, as it is no bundle or its push is not done; or that memory was refused. The repository is then the
+/// one that the records before it lead to.
+pub fn replay_records<A: Allocator + Copy>(
+    alloc: A,
+    repo: &mut Repo<A>,
+    records: &[Seq<u8, A>],
+) -> Result<(), RestoreFault>
+    requires { IsAllowed repo.old.settings.limits }
+    ensures ok { OnOk result (Replays repo.old.settings.limits repo.old records.now repo.new) }
+    ensures err { IfErr result (λ fault.
+        StopsAt repo.old.settings.limits repo.old records.now fault repo.new) }
+    ensures settings { repo.new.settings ≡ repo.old.settings }
+{
+    for (place, bytes) in records.iter().enumerate() {
+        replay_record(alloc, repo, place, bytes.as_slice())?;
+    }
+    Ok(())
+}
+
+/// Runs the record at a place as a push.
+fn replay_record<A: Allocator + Copy>(
+    alloc: A,
+    repo: &mut Repo<A>,
+    place: usize,
+    bytes: &[u8],
+) -> Result<(), RestoreFault>
+    requires { IsAllowed repo.old.settings.limits }
+    ensures ok { OnOk result (ReplaysOne repo.old.settings.limits repo.old bytes.now repo.new) }
+    ensures err { OnErr result (repo.new ≡ repo.old) }
+    ensures fault { IfErr result (λ fault.
+        IsUnrun fault place repo.old.settings.limits repo.old bytes.now) }
+    ensures settings { repo.new.settings ≡ repo.old.settings }
+{
+    let limits = repo.settings().limits;
+    let mut bundle = Unbundler::new(alloc, limits);
+    if let Err(fault) = feed_whole(&mut bundle, place, bytes) {
+        return Err(fault);
+    }
+    // so the bundle has few parts
+    parts_are_few::<A>();
+    let parts = all_parts(alloc, &mut bundle)?;
+    run_parts(repo, place, parts.as_slice())
+}
+
+/// Runs the parts of the record at a place as a push.
+fn run_parts<A: Allocator + Copy>(
+    repo: &mut Repo<A>,
+    place: usize,
+    parts: &[Part<A>],
+) -> Result<(), RestoreFault>
+    requires { length parts.now < 2 ^ 32 }
+    ensures ok { (limits : AnyLimits) (bytes : List ℕ) → IsBundle limits bytes parts.now →
+        OnOk result (ReplaysOne limits repo.old bytes repo.new) }
+    ensures err { OnErr result (repo.new ≡ repo.old) }
+    ensures fault { (limits : AnyLimits) (bytes : List ℕ) → IsBundle limits bytes parts.now →
+        IfErr result (λ fault. IsUnrun fault place limits repo.old bytes) }
+    ensures settings { repo.new.settings ≡ repo.old.settings }
+{
+    // so a part that is refused is not refused for memory
+    memory_refuses_no_part::<A>();
+    match repo.run(Source::Push, parts) {
+        Ok(_) => Ok(()),
+        Err(refusal) => Err(refused_fault(place, &refusal)),
+    }
+}
+
+/// What the refusal of a record's push is reported as.
+fn refused_fault<A: Allocator>(place: usize, refusal: &Refusal<A>) -> RestoreFault
+    ensures memory { refusal.now ≡ AnyRefusal.NoMemory → result ≡ RestoreFault.NoMemory }
+    ensures other { refusal.now ≢ AnyRefusal.NoMemory → result ≡ RestoreFault.Refused place }
+{
+    match refusal {
+        Refusal::NoMemory => RestoreFault::NoMemory,
+        _ => RestoreFault::Refused(place),
+    }
+}
+
+/// Feeds a whole bundle, and nothing after it.
+fn feed_whole<A: Allocator + Copy>(
+    bundle: &mut Unbundler<A>,
+    place: usize,
+    bytes: &[u8],
+) -> Result<(), RestoreFault>
+    requires empty { HoldsBundle bundle.old [] [] }
+    requires reading { state_of bundle.old ≡ Reading }
+    ensures ok { OnOk result (IsBundle (limits_of bundle.old) bytes.now (ready_of bundle.new)) }
+    ensures err { (repo : RepositoryOf A) →
+        IfErr result (λ fault. IsUnrun fault place (limits_of bundle.old) repo bytes.now) }
+{
+    // so bytes that are a bundle are reported as no fault
+    streams_have_one_verdict::<A>();
+    let count = match bundle.feed(bytes) {
+        Ok(count) => count,
+        Err(fault) => return Err(stream_fault(place, fault)),
+    };
+    if count < bytes.len() {
+        return Err(RestoreFault::NoBundle(place));
+    }
+    match bundle.state() {
+        State::Ended => Ok(()),
+        _ => Err(RestoreFault::NoBundle(place)),
+    }
+}
+
+/// What a fault of a record's bytes is reported as.
+fn stream_fault(place: usize, fault: StreamFault) -> RestoreFault
+    ensures memory { fault ≡ StreamFault.NoMemory → result ≡ RestoreFault.NoMemory }
+    ensures other { fault ≢ StreamFault.NoMemory → result ≡ RestoreFault.NoBundle place }
+{
+    match fault {
+        StreamFault::NoMemory => RestoreFault::NoMemory,
+        _ => RestoreFault::NoBundle(place),
+    }
+}

@@ -1,0 +1,5 @@
+mod Showing
+mod Harmless
+mod Feeding
+mod Steps
+mod Paging

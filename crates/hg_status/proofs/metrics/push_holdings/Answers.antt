@@ -1,0 +1,15 @@
+use Rattle.std.proofs.Common.{append_assoc}
+use Rattle.hg_status.specs.Metrics.{holdings_lines}
+use Rattle.hg_status.proofs.metrics.push_holdings.Goals as goal
+
+pub returns : goal.returns
+unfolding holdings_lines
+returns g c =
+    rw (
+      c.in_ok-push_gauge-6.ensures,
+      c.in_ok-push_gauge-5.ensures,
+      c.in_ok-push_gauge-4.ensures,
+      c.in_ok-push_gauge-3.ensures,
+      c.in_ok-push_gauge-2.ensures,
+      c.in_ok-push_gauge.ensures,
+    ) (simp append_assoc)

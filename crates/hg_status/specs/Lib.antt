@@ -1,0 +1,14 @@
+pub mod Shown
+pub mod Name
+pub mod Holdings
+pub mod Reasons
+pub mod Numbers
+pub mod Line
+pub mod PushCounts
+pub mod Heads
+pub mod Rows
+pub mod Page
+pub mod Metrics
+pub mod Showing
+pub mod Brought
+pub mod Outcomes

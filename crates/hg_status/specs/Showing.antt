@@ -1,0 +1,16 @@
+-- What is shown of a repository.
+use Rattle.std.specs.Prelude.{ℕ, ◌≡◌, ◌≤◌, List, length}
+use Rattle.hg_parts.specs.Repository.{Repository}
+use Rattle.hg_status.specs.declared.summary.Summary.{Summary}
+use Rattle.hg_status.specs.Holdings.{AreCounted}
+use Rattle.hg_status.specs.Metrics.{metrics_of}
+
+-- a page has less than 64 KiB
+abbrev pub IsPage : List ℕ → Type 0
+IsPage text = length text ≤ 65535
+
+-- The counters of a summary whose numbers are those of the repository.
+pub record ArePageMetrics {A : Type 0} (repo : Repository A) (text : List ℕ) : Type 0 where
+  pub summary : Summary A
+  pub counted : AreCounted repo.rows repo.markers repo.bookmarks summary.holdings
+  pub told : text ≡ metrics_of summary

@@ -1,0 +1,108 @@
+//! What is shown of a repository.
+
+ghost use Rattle.std.specs.Prelude.{◌≡◌, ◌<◌, ◌≤◌, length, IfOk};
+ghost use Rattle.hg_status.specs.Holdings.{heads_of, AreCounted};
+ghost use Rattle.hg_status.specs.Heads.{IsOf};
+
+pub use crate::heads::ShownHead;
+use crate::heads::{add_bookmarks, last_heads, shown_branch};
+use hg_keys::Bookmarks;
+use hg_log::Changelog;
+use hg_obs::Markers;
+use hg_phases::Phases;
+use hg_types::{NoMemory, Seq};
+use std::alloc::{Allocator, Global};
+
+/// How many bookmarks are looked at for those on shown heads.
+const LOOKED_AT: usize = 10_000;
+
+/// What is shown of a repository: how much it holds, and its last heads.
+#[derive(Drop)]
+pub struct Holdings<A: Allocator = Global> {
+    pub changesets: u64,
+    /// How many changesets are nobody's parent: 0 where there are no changesets.
+    pub heads: u64,
+    pub bookmarks: u64,
+    pub markers: u64,
+    /// The last heads in the order of the changelog, the last first: at most 100.
+    pub shown: Seq<ShownHead<A>, A>,
+    /// How many bookmarks, the first in the order of their names, were looked at for those on shown heads: at
+    /// most 10,000.
+    pub looked_at: u64,
+}
+
+/// What is shown of a repository. It costs by the number of its heads, as the answer to `heads` does, and by
+/// what is kept: a hundred heads, at most 4 KiB of the text of each, and a look at 10,000 bookmarks.
+pub fn holdings_of<A: Allocator + Copy>(
+    alloc: A,
+    log: &Changelog<A>,
+    phases: &Phases<A>,
+    markers: &Markers<A>,
+    bookmarks: &Bookmarks<A>,
+) -> Result<Holdings<A>, NoMemory>
+    requires { length log.now.rows ≤ length phases.now.current.phases }
+    ensures { IfOk result (λ holdings. AreCounted log.now.rows markers.now bookmarks.now.current holdings) }
+{
+    let mut heads = read_heads(alloc, log, phases)?;
+    let looked_at = bookmarks.len().min(LOOKED_AT);
+    add_bookmarks(alloc, &mut heads, bookmarks, looked_at)?;
+    Ok(Holdings {
+        changesets: log.len() as u64,
+        heads: count_heads(log),
+        bookmarks: bookmarks.len() as u64,
+        markers: markers.list().len() as u64,
+        shown: Seq::from_vec(heads),
+        looked_at: looked_at as u64,
+    })
+}
+
+/// How many changesets are nobody's parent.
+#[tactic(auto, unfolding(crate::specs::Holdings::heads_of, hg_log::specs::HeadCount::head_count))]
+fn count_heads<A: Allocator>(log: &Changelog<A>) -> u64
+    ensures { result ≡ heads_of log.now.rows }
+{
+    if log.len() == 0 {
+        0
+    } else {
+        log.head_count() as u64
+    }
+}
+
+/// The heads that are shown, without their bookmarks.
+fn read_heads<A: Allocator + Copy>(
+    alloc: A,
+    log: &Changelog<A>,
+    phases: &Phases<A>,
+) -> Result<Vec<ShownHead<A>, A>, NoMemory>
+    requires { length log.now.rows ≤ length phases.now.current.phases }
+{
+    let nodes = last_heads(alloc, log)?;
+    let mut heads = Vec::new(alloc);
+    for node in nodes.as_slice() {
+        if let Some(rev) = log.rev(node) {
+            heads.push(read_head(alloc, log, phases, rev)?)?;
+        }
+    }
+    Ok(heads)
+}
+
+/// A head without its bookmarks.
+fn read_head<A: Allocator + Copy>(
+    alloc: A,
+    log: &Changelog<A>,
+    phases: &Phases<A>,
+    rev: u32,
+) -> Result<ShownHead<A>, NoMemory>
+    requires row { rev < length log.now.rows }
+    requires phases { length log.now.rows ≤ length phases.now.current.phases }
+    ensures { IfOk result (λ head. IsOf log.now.rows phases.now.current.phases rev head) }
+{
+    let branch = shown_branch(alloc, log.text(rev))?;
+    Ok(ShownHead {
+        node: log.node(rev),
+        phase: phases.phase(rev),
+        branch,
+        bookmarks: Seq::new(alloc),
+        more: 0,
+    })
+}

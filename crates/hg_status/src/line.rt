@@ -1,0 +1,67 @@
+//! The line of a push.
+
+ghost use Rattle.std.specs.Prelude.{◌≡◌, ◌++◌, IfOk, OnOk, string_bytes};
+ghost use Rattle.hg_status.specs.Line.{cost_text, outcome_text, reason_text, IsLine};
+
+use crate::date::{date_of, push_day, push_time};
+use crate::numbers::push_millis;
+use crate::push::{AbortReason, Push, ShownOutcome};
+use hg_types::{NoMemory, Seq};
+use std::alloc::Allocator;
+
+/// The line of a push: when it was answered, its place or the reason, its changesets, its bytes, and the
+/// milliseconds that it held the lock and waited for the disk. A line feed ends it.
+pub fn log_line<A: Allocator + Copy>(alloc: A, push: &Push) -> Result<Seq<u8, A>, NoMemory>
+    ensures { IfOk result (λ line. IsLine push.now line) }
+{
+    let mut line = String::new(alloc);
+    let date = date_of(push.time);
+    push_day(&mut line, &date)?;
+    line.push('T')?;
+    push_time(&mut line, &date)?;
+    line.push_str("Z ")?;
+    push_outcome(&mut line, push.outcome)?;
+    push_cost(&mut line, push)?;
+    Ok(Seq::from_vec(line.into_bytes()))
+}
+
+/// Adds what a push brought, and what it cost.
+#[tactic(auto, unfolding(crate::specs::Line::cost_text))]
+fn push_cost<A: Allocator>(line: &mut String<A>, push: &Push) -> Result<(), NoMemory>
+    ensures { OnOk result (string_bytes line.new ≡ string_bytes line.old ++ cost_text push.now) }
+{
+    let changesets = push.changesets;
+    let bytes = push.bytes;
+    write!(line, ": {changesets} changesets, {bytes} bytes, ")?;
+    push_millis(line, push.locked)?;
+    line.push_str(" ms in the lock, ")?;
+    push_millis(line, push.synced)?;
+    line.push_str(" ms for the disk\n")?;
+    Ok(())
+}
+
+/// Adds how a push ended: its place, or the reason.
+fn push_outcome<A: Allocator>(line: &mut String<A>, outcome: ShownOutcome) -> Result<(), NoMemory>
+    ensures { OnOk result (string_bytes line.new ≡ string_bytes line.old ++ outcome_text outcome) }
+{
+    match outcome {
+        ShownOutcome::Done(place) => write!(line, "push {place} done")?,
+        ShownOutcome::Aborted(reason) => {
+            line.push_str("aborted, ")?;
+            push_reason(line, reason)?;
+        }
+    }
+    Ok(())
+}
+
+/// Adds a reason, with the number of a stream fault.
+pub fn push_reason<A: Allocator>(text: &mut String<A>, reason: AbortReason) -> Result<(), NoMemory>
+    ensures { OnOk result (string_bytes text.new ≡ string_bytes text.old ++ reason_text reason) }
+{
+    text.push_str(reason.name())?;
+    match reason {
+        AbortReason::StreamFault(fault) => write!(text, " {fault}")?,
+        _ => {}
+    }
+    Ok(())
+}

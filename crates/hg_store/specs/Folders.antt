@@ -1,0 +1,24 @@
+-- What is done in the folder of a store besides the calls on its open file.
+use Rattle.std.specs.Prelude.{◌≡◌, ◌⊎◌, List, ◌∷◌}
+use Rattle.hg_store.specs.declared.start.StoreFault.{StoreFault}
+use Rattle.hg_store.specs.declared.start.StoreFault.TheVariants.{Missing}
+use Rattle.hg_store.specs.Calls.{Event, missed, renewed}
+
+-- A store was looked for: where there was none that is noted, and else nothing was done.
+abbrev pub IsLookedFor : StoreFault → List Event → List Event → Type 0
+IsLookedFor Missing before now = now ≡ missed ∷ before
+IsLookedFor other before now = now ≡ before
+
+-- a file was made that may take the place of a store, or nothing was done
+abbrev pub IsMadeAtMost : List Event → List Event → Type 0
+IsMadeAtMost before now = (now ≡ before) ⊎ (now ≡ renewed ∷ before)
+
+-- a store was looked for, and there was none, or nothing was done
+abbrev pub IsMissedAtMost : List Event → List Event → Type 0
+IsMissedAtMost before now = (now ≡ before) ⊎ (now ≡ missed ∷ before)
+
+-- Nothing took the place of a store that was there: where a file was made that may take it, it was looked for
+-- just before, and there was none.
+abbrev pub IsMadeWhereNone : List Event → List Event → Type 0
+IsMadeWhereNone before now = (now ≡ before)
+    ⊎ ((made : List Event) × IsMadeAtMost (missed ∷ before) made × IsMissedAtMost made now)

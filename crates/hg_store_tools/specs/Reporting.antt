@@ -1,0 +1,59 @@
+-- The report of what a store holds.
+use Rattle.std.specs.Prelude.{ℕ, ◌≡◌, ◌++◌, List, length}
+use Rattle.hg_push.specs.Run.{RepositoryOf}
+use Rattle.hg_repo.specs.Report.{journal_lines, report_of}
+use Rattle.hg_recovery.specs.declared.restore.RestoreFault.{RestoreFault}
+use Rattle.hg_recovery.specs.declared.restore.RestoreFault.TheVariants.{NoBundle as no_bundle, Refused as refused, NoMemory as no_memory}
+use Rattle.hg_recovery.specs.Opening.{empty_repository}
+use Rattle.hg_recovery.specs.Replays.{Replays, StopsAt}
+use Rattle.hg_store.specs.declared.head.Head.{Head}
+use Rattle.hg_connection.specs.declared.sending.Sending.{Sending}
+use Rattle.hg_connection.specs.declared.sending.Sending.TheVariants.{Whole as sent_whole, Broken, NoMemory as sent_no_memory}
+use Rattle.hg_connection.specs.Devices.{Output}
+use Rattle.hg_connection.specs.Sent.{Sends}
+use Rattle.hg_store_tools.specs.declared.fault.StoreEnd.{StoreEnd}
+use Rattle.hg_store_tools.specs.declared.fault.Fault.{Fault}
+use Rattle.hg_store_tools.specs.declared.fault.Fault.TheVariants.{NoBundle, Refused, NoMemory, Unsent}
+use Rattle.hg_store_tools.specs.Reading.{IsRead, IsUnread}
+
+-- the report of the repository, and after it a line for each of so many pushes
+abbrev pub report_text : {A : Type 0} → RepositoryOf A → ℕ → List ℕ
+report_text repo count = report_of repo ++ journal_lines count
+
+-- The file is a store whose records, run one by one from the empty repository, lead to a repository, and this
+-- is its report with the lines of its pushes.
+pub record Reports (A : Type 0) (file : List ℕ) (ending : StoreEnd) (text : List ℕ) : Type 0 where
+  pub head : Head
+  pub records : List (List ℕ)
+  pub read : IsRead file head records ending
+  pub repo : RepositoryOf A
+  pub ran : Replays head.limits (empty_repository head) records repo
+  pub text_is : text ≡ report_text repo (length records)
+
+-- why records do not run to their end, as a fault of the store
+abbrev pub unrun_fault : RestoreFault → Fault
+unrun_fault (no_bundle place) = NoBundle place
+unrun_fault (refused place) = Refused place
+unrun_fault no_memory = NoMemory
+
+abbrev pub sending_fault : Sending → Fault
+sending_fault sent_whole = Unsent
+sending_fault Broken = Unsent
+sending_fault sent_no_memory = NoMemory
+
+-- why there is no report of the records: they do not run to their end, or memory was refused
+pub data IsUntold (A : Type 0) (head : Head) (records : List (List ℕ)) (fault : Fault) : Type 0 where
+  stops : (why : RestoreFault) (last : RepositoryOf A) →
+      StopsAt head.limits (empty_repository head) records why last → fault ≡ unrun_fault why →
+      IsUntold A head records fault
+  starves : fault ≡ NoMemory → IsUntold A head records fault
+
+-- Why no report was written of a file, or not all of it: it is not read, or its records give none, and nothing
+-- was written; or the writer did not take it.
+pub data IsUnreported (A : Type 0) (file : List ℕ) (before after : Output) (fault : Fault) : Type 0 where
+  unread : IsUnread fault file → after ≡ before → IsUnreported A file before after fault
+  untold : (head : Head) (records : List (List ℕ)) (ending : StoreEnd) → IsRead file head records ending →
+      IsUntold A head records fault → after ≡ before → IsUnreported A file before after fault
+  unsent : (ending : StoreEnd) (text : List ℕ) (sending : Sending) (count : ℕ) →
+      Reports A file ending text → Sends sending count before after text → fault ≡ sending_fault sending →
+      IsUnreported A file before after fault

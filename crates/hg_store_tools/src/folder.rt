@@ -1,0 +1,188 @@
+//! A store in its folder.
+
+ghost use Rattle.std.specs.Prelude.{ℕ, List, IfOk};
+ghost use Rattle.hg_connection.specs.declared.sending.Sending.TheVariants.{Whole as sent_whole};
+ghost use Rattle.hg_connection.specs.Sent.{Sends};
+ghost use Rattle.hg_store_tools.specs.Logging.{IsLogged};
+ghost use Rattle.hg_store_tools.specs.Reporting.{Reports};
+
+use crate::bundles::{put_log, send_log};
+use crate::cut::{CutFault, StoreCut, cut_of, put_cut};
+use crate::fault::{ArchiveFault, Fault, NamedFile, StoreEnd};
+use crate::host::{FolderShelf, fault_of, fault_of_store};
+use crate::report::send_report;
+use hg_connection::Writer;
+use hg_store::{
+    StoreFault, StoreFolder, kept_file, make_folder, new_store, open_held, read_all, store_bytes,
+};
+use std::alloc::Allocator;
+use std::fs::{File, Files};
+use std::hash::RandomState;
+
+/// Writes the report of the store in a folder, as [`send_report`] does, also while another process holds it.
+/// Nothing is changed, and nothing is held.
+pub fn report_store<'a, R: Files<File = File>, A: Allocator + Copy, W: Writer>(
+    files: &R,
+    alloc: A,
+    state: RandomState,
+    folder: &'a str,
+    writer: &mut W,
+) -> Result<StoreEnd, ArchiveFault<'a>>
+    ensures { IfOk result (λ ending. (file : List ℕ) × (text : List ℕ) × (count : ℕ)
+        × Reports A file ending text
+        × Sends sent_whole count (W.told writer.old) (W.told writer.new) text) }
+{
+    let file = about_store(store_bytes(files, alloc, folder), NamedFile::Store(folder))?;
+    match send_report(alloc, state, file, writer) {
+        Ok(ending) => Ok(ending),
+        Err(fault) => Err(sending_fault(folder, fault)),
+    }
+}
+
+/// Writes the bundles of the store in a folder, from a place on, as [`send_log`] does, also while another
+/// process holds it. Nothing is changed, and nothing is held.
+pub fn log_store<'a, R: Files<File = File>, A: Allocator + Copy, W: Writer>(
+    files: &R,
+    alloc: A,
+    folder: &'a str,
+    from: usize,
+    writer: &mut W,
+) -> Result<StoreEnd, ArchiveFault<'a>>
+    ensures { IfOk result (λ ending. (file : List ℕ)
+        × IsLogged file from ending (W.told writer.old).taken (W.told writer.new).taken) }
+{
+    let file = about_store(store_bytes(files, alloc, folder), NamedFile::Store(folder))?;
+    match send_log(alloc, file, from, writer) {
+        Ok(ending) => Ok(ending),
+        Err(fault) => Err(sending_fault(folder, fault)),
+    }
+}
+
+/// The same, each bundle in a file of its own in another folder, named by its place in ten digits. That
+/// folder is made if it is not there. A file that is there is not written over: of those from it on none is
+/// made.
+pub fn file_log<'a, R: Files<File = File>, A: Allocator + Copy>(
+    files: &R,
+    alloc: A,
+    folder: &'a str,
+    from: usize,
+    to: &'a str,
+) -> Result<StoreEnd, ArchiveFault<'a>> {
+    let file = about_store(store_bytes(files, alloc, folder), NamedFile::Store(folder))?;
+    about_store(make_folder(files, alloc, to), NamedFile::Folder(to))?;
+    let mut shelf = FolderShelf::of(files, alloc, to);
+    match put_log(alloc, file, from, &mut shelf) {
+        Ok(ending) => Ok(ending),
+        Err(fault) => Err(ArchiveFault {
+            file: shelf_name(folder, to, shelf.place, fault),
+            fault,
+        }),
+    }
+}
+
+/// Ends the store in a folder before a place, as [`cut_of`] and [`put_cut`] say. What it leaves out is kept
+/// in the file `pushes.cut-N` of the folder, where N is the place; one that is there is not written over. A
+/// store that another process holds is refused. Of an `Err` the store is as it was, except where the new file
+/// failed: then the old store is there, or the new one is.
+pub fn cut_store<'a, R: Files<File = File>, A: Allocator + Copy>(
+    files: &R,
+    alloc: A,
+    folder: &'a str,
+    at: usize,
+) -> Result<(), ArchiveFault<'a>> {
+    let mut old = about_store(open_held(files, alloc, folder), NamedFile::Store(folder))?;
+    let cut = about(cut_held(alloc, &mut old, at), NamedFile::Store(folder))?;
+    place_cut(files, alloc, folder, at, &cut)
+}
+
+/// The same outcome; a fault with the file that it is about.
+fn about<'a, T>(outcome: Result<T, Fault>, file: NamedFile<'a>) -> Result<T, ArchiveFault<'a>> {
+    match outcome {
+        Ok(value) => Ok(value),
+        Err(fault) => Err(ArchiveFault { file, fault }),
+    }
+}
+
+/// The same of a store.
+fn about_store<'a, T>(
+    outcome: Result<T, StoreFault>,
+    file: NamedFile<'a>,
+) -> Result<T, ArchiveFault<'a>> {
+    match outcome {
+        Ok(value) => Ok(value),
+        Err(fault) => Err(ArchiveFault {
+            file,
+            fault: fault_of_store(fault),
+        }),
+    }
+}
+
+/// A fault where bytes of a store were sent.
+fn sending_fault(folder: &str, fault: Fault) -> ArchiveFault<'_> {
+    let file = match fault {
+        Fault::Unsent => NamedFile::Output,
+        _ => NamedFile::Store(folder),
+    };
+    ArchiveFault { file, fault }
+}
+
+/// The file that a fault is about where bundles of a store were put on a shelf, the last at that place.
+fn shelf_name<'a>(folder: &'a str, to: &'a str, place: usize, fault: Fault) -> NamedFile<'a> {
+    match fault {
+        Fault::Exists | Fault::Failed => NamedFile::Push(to, place),
+        _ => NamedFile::Store(folder),
+    }
+}
+
+/// What a cut before a place makes of a file.
+fn cut_held<A: Allocator + Copy>(
+    alloc: A,
+    file: &mut File,
+    at: usize,
+) -> Result<StoreCut<A>, Fault> {
+    match read_all(alloc, file) {
+        Ok(bytes) => cut_of(alloc, &bytes, at),
+        Err(error) => Err(fault_of(error)),
+    }
+}
+
+/// Puts what a cut made into the folder.
+fn place_cut<'a, R: Files<File = File>, A: Allocator + Copy>(
+    files: &R,
+    alloc: A,
+    folder: &'a str,
+    at: usize,
+    cut: &StoreCut<A>,
+) -> Result<(), ArchiveFault<'a>> {
+    let kept_name = NamedFile::Kept(folder, at);
+    let name = about(cut_name(alloc, at), kept_name)?;
+    let mut kept = match kept_file(files, alloc, folder, name.as_str()) {
+        Ok(file) => file,
+        Err(fault) => return about_store(Err(fault), kept_name),
+    };
+    let mut new = match new_store(alloc, &mut StoreFolder::new(files, folder)) {
+        Ok(file) => file,
+        Err(fault) => return about_store(Err(fault), NamedFile::New(folder)),
+    };
+    let result = put_cut(cut, &mut kept, &mut new);
+    if result.is_err() {
+        kept.remove();
+        new.remove();
+    }
+    match result {
+        Ok(()) => Ok(()),
+        Err(CutFault::Kept) => Err(ArchiveFault {
+            file: kept_name,
+            fault: Fault::Failed,
+        }),
+        Err(CutFault::New) => Err(ArchiveFault {
+            file: NamedFile::New(folder),
+            fault: Fault::Failed,
+        }),
+    }
+}
+
+/// The name of the file of what a cut leaves out.
+fn cut_name<A: Allocator>(alloc: A, at: usize) -> Result<String<A>, Fault> {
+    Ok(format!(in alloc; "pushes.cut-{at}")?)
+}

@@ -1,0 +1,74 @@
+//! What a fault of the system is, and a shelf in a folder.
+
+ghost use Rattle.std.specs.Prelude.{None};
+
+use crate::bundles::BundleSink;
+use crate::fault::Fault;
+use hg_store::{DeviceError, RecoverFault, StoreFault};
+use std::alloc::Allocator;
+use std::fs::{File, Files};
+use std::io;
+use std::io::{ErrorKind, Write};
+
+/// The error of the system as a fault of a store.
+pub fn fault_of(error: io::Error) -> Fault {
+    match error.kind() {
+        ErrorKind::OutOfMemory => Fault::NoMemory,
+        ErrorKind::AlreadyExists => Fault::Exists,
+        _ => Fault::Failed,
+    }
+}
+
+/// A fault of a store that is opened or made in its folder.
+pub fn fault_of_store(fault: StoreFault) -> Fault {
+    match fault {
+        StoreFault::Missing => Fault::Missing,
+        StoreFault::Exists => Fault::Exists,
+        StoreFault::Held => Fault::Held,
+        StoreFault::Recover(RecoverFault::Device(DeviceError::Memory)) => Fault::NoMemory,
+        _ => Fault::Failed,
+    }
+}
+
+/// A folder in which each bundle gets a file of its own, named by its place in ten digits.
+#[derive(Drop)]
+pub struct FolderShelf<'a, R: Files, A: Allocator> {
+    files: &'a R,
+    alloc: A,
+    folder: &'a str,
+    /// The place of the bundle that was put last, or that could not be put.
+    pub place: usize,
+}
+
+impl<'a, R: Files<File = File>, A: Allocator + Copy> FolderShelf<'a, R, A> {
+    /// A shelf in a folder that is there.
+    pub fn of(files: &'a R, alloc: A, folder: &'a str) -> Self {
+        FolderShelf {
+            files,
+            alloc,
+            folder,
+            place: 0,
+        }
+    }
+
+    /// Makes the file of a place, which is not there, with these bytes.
+    fn make(&self, place: usize, bundle: &[u8]) -> io::Result<()> {
+        let folder = self.folder;
+        let name = format!(in self.alloc; "{folder}/{place:010}")?;
+        let mut file = File::create_new(self.files, name.as_str())?;
+        file.write_all(bundle)?;
+        file.sync_all()
+    }
+}
+
+impl<'a, R: Files<File = File>, A: Allocator + Copy> BundleSink for FolderShelf<'a, R, A> {
+    ghost has = { λ _. None };
+
+    fn put(&mut self, place: usize, bundle: &[u8]) -> Result<(), Fault> {
+        self.place = place;
+        match self.make(place, bundle) {
+            Ok(()) => Ok(()),
+            Err(error) => Err(fault_of(error)),
+        }
+    }
+}

@@ -1,0 +1,66 @@
+//! The records that stand whole at the front of a file, which may be damaged after them.
+
+ghost use Rattle.std.specs.Prelude.{ℕ, IfOk, IsErrOf};
+ghost use Rattle.hg_store_tools.specs.Cutting.{AreFront, IsFront};
+ghost use Rattle.hg_store_tools.specs.declared.fault.Fault.TheVariants.{Head as has_no_head, NoPlace as no_place};
+ghost use Rattle.hg_store.specs.declared.head.HeadFault.{HeadFault};
+ghost use Rattle.hg_store.specs.Head.{IsRefusedFor};
+
+use crate::fault::Fault;
+use hg_store::{HEAD_SIZE, Head, NoRecord, next_record};
+use hg_types::{NoMemory, Seq};
+use sha1::Sha1;
+use std::alloc::{Allocator, Global};
+
+/// What a file begins with: a head, whole records, and what stops them.
+#[derive(Drop)]
+pub struct StorePrefix<A: Allocator = Global> {
+    pub head: Head,
+    pub records: Seq<Seq<u8, A>, A>,
+    pub stop: NoRecord,
+}
+
+/// Reads the head and the records of a file, up to its end, a torn record or damage. A file with no head is
+/// refused.
+pub fn read_front<A: Allocator + Copy>(alloc: A, file: &[u8]) -> Result<StorePrefix<A>, Fault>
+    ensures ok { IfOk result (λ front. IsFront file.now front.head front.records front.stop) }
+    ensures no_head { (fault : HeadFault) → IsErrOf result (has_no_head fault) → IsRefusedFor fault file.now }
+    ensures no_place { (count : ℕ) → IsErrOf result (no_place count) → ⊥ }
+{
+    let head = match Head::read(file) {
+        Ok(head) => head,
+        Err(fault) => return Err(Fault::Head(fault)),
+    };
+    let (first, behind) = file.split_at(HEAD_SIZE);
+    match read_frames(alloc, &Sha1::digest(first), behind) {
+        Ok((records, stop)) => Ok(StorePrefix {
+            head,
+            records,
+            stop,
+        }),
+        Err(_) => Err(Fault::NoMemory),
+    }
+}
+
+/// The records after a head, the first of which stands after that digest, and what stops them.
+fn read_frames<A: Allocator + Copy>(
+    alloc: A,
+    start: &[u8; 20],
+    bytes: &[u8],
+) -> Result<(Seq<Seq<u8, A>, A>, NoRecord), NoMemory>
+    ensures { IfOk result (λ found. AreFront start.now bytes.now found.0 found.1) }
+{
+    let mut records = Seq::new(alloc);
+    let mut digest = *start;
+    let mut rest = bytes;
+    let stop = 'records: loop {
+        match next_record(&mut digest, rest) {
+            Ok((record, after)) => {
+                records.push(Seq::copy_of(alloc, record)?)?;
+                rest = after;
+            }
+            Err(stop) => break 'records stop,
+        }
+    };
+    Ok((records, stop))
+}

@@ -1,0 +1,37 @@
+//! The tests of `hg_store_tools`, over its contracts.
+//!
+//! `E` is a bundle without parts, `M1` and `M2` one with a part `obsmarkers` of one marker each, of the ids of
+//! twenty bytes 1 and 2, `U` one with a mandatory part of the type `UNKNOWN`, `C` one of a changeset without
+//! parents; all by hand. The report of `C` has one changeset, draft; of `M1` one marker, of `M2` another.
+//!
+//! Rows of the tables, and what else the tests try:
+//!
+//! - a store of `M1`, `E`, `M2`, of a server that publishes and of one that does not. Result: two markers, and
+//!   `J 0` to `J 2`; of `C`, which is public or draft.
+//! - a store of `C`, cut at each of its lengths. Result: below 38 bytes no store; up to one byte before the
+//!   end of its record the report is empty, and it is torn but at 38 bytes; then the report of `C`.
+//! - each byte of its record turned. Result: damage at place 0, or torn, or the end, by a gate or a size; the
+//!   report is never that of `C`.
+//! - records that are no bundle, or whose push is not done. Result: damage at their place, and nothing is
+//!   written.
+//! - the log from each place, also after the last. Result: the bundles from there on; none.
+//! - a writer that fails after each number of bytes. Result: the output failed, and a front was written.
+//! - a shelf that refuses a place. Result: those before it.
+//! - each growth refused, for the report, the log and the cut. Result: out of memory, and nothing was
+//!   written, or all was; both occur.
+//! - a cut of three records before each place up to the fifth, of a whole, a torn and a damaged store, where
+//!   each of the calls on the two new files fails. Result: the records before the place and what is kept; no
+//!   such place; the new file has no name where the other has none.
+//! - a folder: no store; a report and a log beside a process that holds it; the log in a folder, twice; a cut
+//!   while it is held, at a place that it has not, at one that it has, and again. Result: no store; both; there
+//!   is a file; held; no such place; the records before it and the file of the others; there is a file.
+#![tactic(auto)]
+
+#[cfg(test)]
+mod folder_tests;
+#[cfg(test)]
+mod made;
+#[cfg(test)]
+mod paper;
+#[cfg(test)]
+mod tests;

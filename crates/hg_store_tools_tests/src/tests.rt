@@ -1,0 +1,343 @@
+//! Stores in memory: reports, logs and cuts.
+
+use crate::made::*;
+use crate::paper::{Board, Narrow};
+use hg_help_store_tests::paper::Paper;
+use hg_store::HeadFault;
+use hg_store_tools::*;
+use linked_list_allocator::LocalHeap;
+use std::alloc::{Allocator, Global};
+use std::hash::RandomState;
+use std::process::Abort;
+use std::test::*;
+
+/// What came of a report, and its text.
+type Told = (Result<StoreEnd, Fault>, Vec<u8>);
+
+fn report_of(rt: &HostRuntime, state: RandomState, file: &[u8]) -> Result<Told, Fail> {
+    let mut text = Vec::new(rt.alloc());
+    let told = send_report(rt.alloc(), state, file.to_vec(rt.alloc())?, &mut text);
+    Ok((told, text))
+}
+
+fn log_of(rt: &HostRuntime, file: &[u8], from: usize) -> Result<Told, Fail> {
+    let mut bytes = Vec::new(rt.alloc());
+    let told = send_log(rt.alloc(), file.to_vec(rt.alloc())?, from, &mut bytes);
+    Ok((told, bytes))
+}
+
+/// These bundles, one after the other.
+fn joined(alloc: Global, bundles: &[&[u8]]) -> Result<Vec<u8>, Fail> {
+    let mut bytes = Vec::new(alloc);
+    for bundle in bundles {
+        bytes.extend_from_slice(bundle)?;
+    }
+    Ok(bytes)
+}
+
+// The report of the records, and a line for each: of what they give, and of the head's publishing.
+// M1, E, M2; no record; C of a server that publishes, and of one that does not. Result: two markers and three
+// lines; nothing; a public changeset, a draft one.
+#[test]
+fn reports(rt: HostRuntime) -> Result<(), Fail> {
+    let state = RandomState::new(&rt)?;
+    let alloc = rt.alloc();
+    let markers = shut_store(alloc, false, &[&ONE, &EMPTY, &TWO])?;
+    let (told, text) = report_of(&rt, state, &markers)?;
+    assert!(rt; told == Ok(StoreEnd::Whole) && text.as_slice() == MARKERS.as_bytes());
+    let (told, text) = report_of(&rt, state, &shut_store(alloc, false, &[])?)?;
+    assert!(rt; told == Ok(StoreEnd::Whole) && text.is_empty());
+    let public = "C 0 b80de5d138758541c5f05265ad144ab9fa86d1db 0 0\nJ 0\n";
+    let (told, text) = report_of(&rt, state, &shut_store(alloc, true, &[&CHANGESET])?)?;
+    assert!(rt; told == Ok(StoreEnd::Whole) && text.as_slice() == public.as_bytes());
+    let draft = "C 0 b80de5d138758541c5f05265ad144ab9fa86d1db 1 0\nJ 0\n";
+    let (told, text) = report_of(&rt, state, &store_of(alloc, false, &[&CHANGESET])?)?;
+    assert!(rt; told == Ok(StoreEnd::Whole) && text.as_slice() == draft.as_bytes());
+    Ok(())
+}
+
+// A store of C cut at each of its lengths.
+// Result: below 38 bytes no store; up to one byte before the end of its record nothing, and torn but at 38;
+// then the report of C.
+#[test]
+fn cut_at_each_length(rt: HostRuntime) -> Result<(), Fail> {
+    let state = RandomState::new(&rt)?;
+    let file = shut_store(rt.alloc(), false, &[&CHANGESET])?;
+    assert!(rt; file.len() == 38 + 25 + 193 + 1);
+    let draft = "C 0 b80de5d138758541c5f05265ad144ab9fa86d1db 1 0\nJ 0\n";
+    for len in 0..file.len() + 1 {
+        let (told, text) = report_of(&rt, state, &file[..len])?;
+        let (told_log, log) = log_of(&rt, &file[..len], 0)?;
+        assert!(rt; told == told_log, "{len} bytes");
+        if len < 38 {
+            assert!(rt; told == Err(Fault::Head(HeadFault::TooShort)) && text.is_empty());
+        } else if len < 256 {
+            let ending = if len == 38 {
+                StoreEnd::Whole
+            } else {
+                StoreEnd::Torn(0)
+            };
+            assert!(rt;
+                told == Ok(ending) && text.is_empty() && log.is_empty(),
+                "{len} bytes"
+            );
+        } else {
+            assert!(rt; told == Ok(StoreEnd::Whole) && text.as_slice() == draft.as_bytes());
+            assert!(rt; log.as_slice() == CHANGESET.as_slice(), "{len} bytes");
+        }
+    }
+    Ok(())
+}
+
+// Each byte of a record is turned in one bit.
+// C, the bytes from the gate to its end. Result: damage at place 0, nothing is written; of the gate the end;
+// of the size damage, or torn.
+#[test]
+fn one_byte_turned(rt: HostRuntime) -> Result<(), Fail> {
+    let state = RandomState::new(&rt)?;
+    let mut file = shut_store(rt.alloc(), false, &[&CHANGESET])?;
+    assert!(rt; file.len() == 257);
+    for at in 38..256usize {
+        turn(&mut file, at, 1);
+        let (told, text) = report_of(&rt, state, &file)?;
+        let (told_log, log) = log_of(&rt, &file, 0)?;
+        assert!(rt;
+            told == told_log && text.is_empty() && log.is_empty(),
+            "at {at}"
+        );
+        match at {
+            38 => assert!(rt; told == Ok(StoreEnd::Whole)),
+            39..42 => assert!(rt; told == Ok(StoreEnd::Torn(0)), "at {at}"),
+            _ => assert!(rt; told == Err(Fault::Damaged(0)), "at {at}"),
+        }
+        turn(&mut file, at, 1);
+    }
+    turn(&mut file, 38, 3);
+    let (told, text) = report_of(&rt, state, &file)?;
+    assert!(rt; told == Err(Fault::Damaged(0)) && text.is_empty());
+    Ok(())
+}
+
+// Records that are not done when they are run again, whose bytes the log gives all the same.
+// M1, U; M1, E, E without its last byte. Result: place 1 is refused; place 2 is no bundle.
+#[test]
+fn records_that_do_not_run(rt: HostRuntime) -> Result<(), Fail> {
+    let state = RandomState::new(&rt)?;
+    let file = shut_store(rt.alloc(), false, &[&ONE, &UNKNOWN])?;
+    let (told, text) = report_of(&rt, state, &file)?;
+    assert!(rt; told == Err(Fault::Refused(1)) && text.is_empty());
+    let (told, log) = log_of(&rt, &file, 1)?;
+    assert!(rt; told == Ok(StoreEnd::Whole) && log.as_slice() == UNKNOWN.as_slice());
+    let file = shut_store(rt.alloc(), false, &[&ONE, &EMPTY, &EMPTY[..11]])?;
+    let (told, text) = report_of(&rt, state, &file)?;
+    assert!(rt; told == Err(Fault::NoBundle(2)) && text.is_empty());
+    Ok(())
+}
+
+// The log from each place, and after the last; to a writer and on a shelf.
+// M1, E, M2. Result: the bundles from there on; after the last none.
+#[test]
+fn logs(rt: HostRuntime) -> Result<(), Fail> {
+    let alloc = rt.alloc();
+    let bundles: [&[u8]; 3] = [&ONE, &EMPTY, &TWO];
+    let file = shut_store(alloc, false, &bundles)?;
+    for from in 0..5usize {
+        let wanted = joined(alloc, &bundles[from.min(3)..])?;
+        let (told, log) = log_of(&rt, &file, from)?;
+        assert!(rt; told == Ok(StoreEnd::Whole) && log.as_slice() == wanted.as_slice());
+        let mut board = Board {
+            alloc,
+            places: Vec::new(alloc),
+            bytes: Vec::new(alloc),
+            taken: 3,
+        };
+        let told = put_log(alloc, file.to_vec(alloc)?, from, &mut board);
+        assert!(rt; told == Ok(StoreEnd::Whole) && board.bytes.as_slice() == wanted.as_slice());
+        let places: [usize; 3] = [0, 1, 2];
+        assert!(rt; board.places.as_slice() == &places[from.min(3)..]);
+    }
+    Ok(())
+}
+
+// A shelf on which each place is taken in turn.
+// M1, E, M2. Result: there is a file already, and those before it are put.
+#[test]
+fn a_place_that_is_taken(rt: HostRuntime) -> Result<(), Fail> {
+    let alloc = rt.alloc();
+    let file = shut_store(alloc, false, &[&ONE, &EMPTY, &TWO])?;
+    for taken in 0..3usize {
+        let mut board = Board {
+            alloc,
+            places: Vec::new(alloc),
+            bytes: Vec::new(alloc),
+            taken,
+        };
+        let told = put_log(alloc, file.to_vec(alloc)?, 0, &mut board);
+        assert!(rt; told == Err(Fault::Exists) && board.places.len() == taken);
+    }
+    Ok(())
+}
+
+// A writer with room for each number of bytes.
+// M1, E, M2: 148 bytes of bundles, 114 of report. Result: the output failed and a front was written; where
+// there is room for all, all.
+#[test]
+fn a_writer_that_fails(rt: HostRuntime) -> Result<(), Fail> {
+    let alloc = rt.alloc();
+    let state = RandomState::new(&rt)?;
+    let bundles: [&[u8]; 3] = [&ONE, &EMPTY, &TWO];
+    let file = shut_store(alloc, false, &bundles)?;
+    let log = joined(alloc, &bundles)?;
+    for room in 0..160usize {
+        let mut narrow = Narrow {
+            bytes: Vec::new(alloc),
+            room,
+        };
+        let told = send_log(alloc, file.to_vec(alloc)?, 0, &mut narrow);
+        let is_whole = room >= log.len();
+        assert!(rt; told.is_ok() == is_whole, "room for {room}");
+        assert!(rt; is_whole || told == Err(Fault::Unsent), "room for {room}");
+        assert!(rt; narrow.bytes.as_slice() == &log[..room.min(log.len())]);
+        let mut narrow = Narrow {
+            bytes: Vec::new(alloc),
+            room,
+        };
+        let told = send_report(alloc, state, file.to_vec(alloc)?, &mut narrow);
+        let is_whole = room >= MARKERS.len();
+        assert!(rt; told.is_ok() == is_whole, "room for {room}");
+        assert!(rt; is_whole || told == Err(Fault::Unsent), "room for {room}");
+        assert!(rt; narrow.bytes.as_slice() == &MARKERS.as_bytes()[..room.min(MARKERS.len())]);
+    }
+    Ok(())
+}
+
+/// Whether memory was refused, and then nothing was written; else all was done.
+fn was_refused(told: Result<StoreEnd, Fault>, text: &[u8], wanted: &[u8]) -> Option<bool> {
+    match told {
+        Err(Fault::NoMemory) if text.is_empty() => Some(true),
+        Ok(StoreEnd::Whole) if text == wanted => Some(false),
+        _ => None,
+    }
+}
+
+// The report, the log and the cut over heaps of each size below 16,000 bytes, in steps of 16.
+// M1, E, M2. Result: out of memory, and nothing is written, or all is done; both occur.
+#[test]
+fn memory_refused(rt: HostRuntime) -> Result<(), Fail> {
+    let alloc = rt.alloc();
+    let state = RandomState::new(&rt)?;
+    let bundles: [&[u8]; 3] = [&ONE, &EMPTY, &TWO];
+    let file = shut_store(alloc, false, &bundles)?;
+    let log = joined(alloc, &bundles)?;
+    let mut seen = [false; 6];
+    for sixteens in 1..1000usize {
+        let heap = LocalHeap::new(alloc, sixteens * 16)?;
+        let mut text = Vec::new(alloc);
+        if let Ok(copy) = file.to_vec(&heap) {
+            let told = send_report(&heap, state, copy, &mut text);
+            match was_refused(told, &text, MARKERS.as_bytes()) {
+                Some(true) => seen[0] = true,
+                Some(false) => seen[1] = true,
+                None => assert!(rt; false, "a report with {sixteens} times 16 bytes"),
+            }
+        }
+        let mut text = Vec::new(alloc);
+        if let Ok(copy) = file.to_vec(&heap) {
+            let told = send_log(&heap, copy, 0, &mut text);
+            match was_refused(told, &text, &log) {
+                Some(true) => seen[2] = true,
+                Some(false) => seen[3] = true,
+                None => assert!(rt; false, "a log with {sixteens} times 16 bytes"),
+            }
+        }
+        match cut_of(&heap, &file, 1) {
+            Err(Fault::NoMemory) => seen[4] = true,
+            Ok(cut) => {
+                seen[5] = true;
+                assert!(rt; log.as_slice().get(68..) == Some(cut.kept.as_slice()));
+            }
+            Err(_) => assert!(rt; false, "a cut with {sixteens} times 16 bytes"),
+        }
+    }
+    assert!(rt; seen == [true; 6]);
+    Ok(())
+}
+
+/// Cuts a file before each place, and says at which there is one: what is left and kept has to be that of the
+/// bundles.
+fn places_of<R: Abort>(
+    rt: &R,
+    alloc: Global,
+    file: &[u8],
+    bundles: &[&[u8]],
+) -> Result<Vec<usize>, Fail> {
+    let mut places = Vec::new(alloc);
+    for at in 0..5usize {
+        match cut_of(alloc, file, at) {
+            Ok(cut) => {
+                places.push(at)?;
+                let left = shut_store(alloc, false, &bundles[..at.min(bundles.len())])?;
+                assert!(rt; cut.left.as_slice() == left.as_slice(), "at {at}");
+                let kept = joined(alloc, &bundles[at.min(bundles.len())..])?;
+                assert!(rt; cut.kept.as_slice() == kept.as_slice(), "at {at}");
+            }
+            Err(fault) => assert!(rt; fault == Fault::NoPlace(bundles.len()), "at {at}"),
+        }
+    }
+    Ok(places)
+}
+
+// A cut before each place.
+// M1, E, M2, whole, torn and damaged after them; a gate of 2 after them; M1, E, M2 with its last byte
+// turned. Result: three places; four; four; three, of which the last is the damaged one.
+#[test]
+fn cuts(rt: HostRuntime) -> Result<(), Fail> {
+    let alloc = rt.alloc();
+    let bundles: [&[u8]; 3] = [&ONE, &EMPTY, &TWO];
+    let whole = shut_store(alloc, false, &bundles)?;
+    let three: [usize; 3] = [0, 1, 2];
+    let four: [usize; 4] = [0, 1, 2, 3];
+    assert!(rt; places_of(&rt, alloc, &whole, &bundles)?.as_slice() == three.as_slice());
+    let bare = store_of(alloc, false, &bundles)?;
+    assert!(rt; places_of(&rt, alloc, &bare, &bundles)?.as_slice() == three.as_slice());
+    let mut torn = store_of(alloc, false, &bundles)?;
+    torn.extend_from_slice(&[1, 0, 0, 0, 12])?;
+    assert!(rt; places_of(&rt, alloc, &torn, &bundles)?.as_slice() == four.as_slice());
+    let mut damaged = store_of(alloc, false, &bundles)?;
+    damaged.push(2)?;
+    assert!(rt; places_of(&rt, alloc, &damaged, &bundles)?.as_slice() == four.as_slice());
+    let mut turned = store_of(alloc, false, &bundles)?;
+    let last = turned.len().saturating_sub(1);
+    turn(&mut turned, last, 1);
+    assert!(rt; places_of(&rt, alloc, &turned, &bundles[..2])?.as_slice() == three.as_slice());
+    match whole.as_slice().get(..37) {
+        Some(front) => assert!(rt; cut_of(alloc, front, 0).is_err()),
+        None => assert!(rt; false, "a store below its head"),
+    }
+    Ok(())
+}
+
+// The two new files of a cut, where each of their four calls fails.
+// M1, E, M2, cut before place 1. Result: the new store has no name where what is kept may have none, and what
+// has a name is whole and synced.
+#[test]
+fn new_files_that_fail(rt: HostRuntime) -> Result<(), Fail> {
+    let alloc = rt.alloc();
+    let file = shut_store(alloc, false, &[&ONE, &EMPTY, &TWO])?;
+    let cut = cut_of(alloc, &file, 1)?;
+    for calls in 0..9usize {
+        let mut kept = Paper::new(alloc, &[], calls.min(4))?;
+        let mut new = Paper::new(alloc, &[], calls.saturating_sub(4))?;
+        let told = put_cut(&cut, &mut kept, &mut new);
+        let wanted = match calls {
+            0..4 => Err(CutFault::Kept),
+            4..8 => Err(CutFault::New),
+            _ => Ok(()),
+        };
+        assert!(rt; told == wanted, "{calls} calls");
+        assert!(rt; kept.is_named == (calls >= 3) && new.is_named == (calls >= 7));
+        assert!(rt; !kept.is_named || kept.synced.as_slice() == cut.kept.as_slice());
+        assert!(rt; !new.is_named || new.synced.as_slice() == cut.left.as_slice());
+    }
+    Ok(())
+}

@@ -1,0 +1,5 @@
+pub mod Accepting
+pub mod Closing
+pub mod Pace
+pub mod Places
+pub mod Served

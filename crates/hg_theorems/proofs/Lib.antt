@@ -1,0 +1,8 @@
+mod Both
+mod Bytes
+mod Known
+mod Reached
+mod Settings
+mod Fronts
+mod Seen
+mod Had

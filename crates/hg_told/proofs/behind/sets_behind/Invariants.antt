@@ -1,7 +1,0 @@
-use Rattle.std.proofs.Common.{◌≤◌, length}
-use Rattle.hg_told.proofs.Gathering.{AreGathered}
-use Rattle.hg_told.proofs.behind.sets_behind.Given as goal
-
--- the changesets from there on gave their sets to their parents
-abbrev pub invariant-loop-rev : goal.invariant-loop-rev
-invariant-loop-rev g l = (l.rev ≤ length l.copied.rows) × AreGathered l.copied.rows l.sets l.rev l.behind.items

@@ -1,5 +1,0 @@
-use Rattle.hg_told.proofs.FormLaws.{forms_back}
-use Rattle.hg_told.proofs.laws.forms_are_read_back.Goals as goal
-
-pub returns : goal.returns
-returns g c = λ text fields form. forms_back text fields form

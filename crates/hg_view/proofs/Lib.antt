@@ -1,2 +1,0 @@
-mod PartGrowth
-mod RunGrowth

@@ -1,8 +1,0 @@
--- How a repository grows.
-use mathlib.Core.List.{IsPrefix}
-use Rattle.hg_parts.specs.Repository.{Repository}
-
--- changesets and markers came at their ends, if at all
-pub record IsGrown {A : Type 0} (old new : Repository A) : Type 0 where
-  pub rows : IsPrefix old.rows new.rows
-  pub markers : IsPrefix old.markers new.markers

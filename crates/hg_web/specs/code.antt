@@ -1,0 +1,4 @@
+pub mod Wires
+pub mod Rounds
+pub mod Following
+pub mod Bodies

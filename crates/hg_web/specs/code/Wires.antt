@@ -1,0 +1,16 @@
+-- What the client of a connection has seen.
+use Rattle.std.specs.Prelude.{ℕ, List, [], ◌∷◌, Option, Some, None}
+use Rattle.hg_commit.specs.Clients.{KeptSeen}
+use Rattle.hg_commit.specs.Orders.{no_receipt}
+
+abbrev pub nothing_seen : {A : Type 0} → KeptSeen A
+nothing_seen = record { history = []; receipt = no_receipt }
+
+abbrev pub seen_by : {A : Type 0} → Option (KeptSeen A) → KeptSeen A
+seen_by None = nothing_seen
+seen_by (Some client) = client
+
+-- what it had seen when the last request was answered, which is noted alone
+abbrev pub seen_last : {A : Type 0} → List (KeptSeen A × ℕ) → KeptSeen A
+seen_last [] = nothing_seen
+seen_last (noted ∷ more) = noted.0

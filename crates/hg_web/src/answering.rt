@@ -1,0 +1,295 @@
+//! What a request is answered.
+
+ghost use Rattle.std.specs.Prelude.{◌≡◌, ◌⊎◌, true, false, Ok, Some, codes, IfOk, MatchResult};
+ghost use Rattle.std.specs.Option.{option_copied};
+ghost use Rattle.std.specs.Str.{bytes_eq};
+ghost use Rattle.http.specs.Request.{body_of};
+ghost use Rattle.hg_http.specs.Commands.{command_of as command_named, subject_of as subject};
+ghost use Rattle.hg_http.specs.Requests.{argument_in, arguments_of, is_from_client as came_from_client};
+ghost use Rattle.hg_http.specs.Requests.{name_of};
+ghost use Rattle.hg_wireproto.specs.Batch.{commands_of};
+ghost use Rattle.hg_wireproto.specs.Capabilities.{capabilities_told};
+ghost use Rattle.hg_queries.specs.Texts.{refusal_of as why_refused, IsBatchText, IsTextOf};
+ghost use Rattle.hg_commit.specs.Clients.{IsCovered};
+ghost use Rattle.hg_web.specs.Answering.{AnswersRequest, AnswersAsked, AnswersBatch, AnswersCommand, AnswersForced};
+ghost use Rattle.hg_web.specs.Answering.{AnswersPushKey, around_of, IfFromClient, is_look, IsSaid, IsTextAt, OrLacks};
+ghost use Rattle.hg_web.specs.Answering.{pull_answer};
+ghost use Rattle.hg_web.specs.Pushes.{Answered};
+
+use crate::key::push_key;
+use crate::long::{LongCommand, LongCommands};
+use crate::looking::{Asking, Look, look_kept};
+use crate::push::unbundle;
+use crate::terms::{Host, WebTerms};
+use crate::viewing::answer_view;
+use bytes::Bytes;
+use hg_commit::{KeptClient, NotStored, Storing};
+use hg_durable::Keeping;
+use hg_http::{
+    Command, HttpAnswer, Read, RequestRefusal, argument, command_of, is_from_client, moved_to,
+    read_arguments, read_name, subject_of, view_of,
+};
+use hg_queries::{Batch, ReadCommand, Shown, Watch, have_long, is_long, refusal_of};
+use hg_store::Device;
+use hg_types::{NoMemory, Seq};
+use hg_wireproto::{Field, capabilities_text, read_batch};
+use http::Request;
+use std::alloc::Allocator;
+use std::sync::Wait;
+
+/// Answers a request. Its client has then seen what the answer speaks of. Where the store failed, there is no
+/// answer.
+pub fn answer_request<
+    J: Storing<A>,
+    D: Device,
+    A: Allocator + Copy,
+    R: Wait,
+    S: Shown<A>,
+    V: Watch<A>,
+>(
+    host: &Host<'_, J, D, R, A>,
+    terms: &WebTerms<'_, S>,
+    client: KeptClient<J, A>,
+    request: &Request<Bytes>,
+    watch: &mut V,
+) -> (KeptClient<J, A>, Result<HttpAnswer<A>, NotStored>)
+    ensures { Answered (AnswersRequest J.capacity J.first
+        (around_of (IsCovered D.seen D.may_leave D.moment J.head J.stored J.first) S.is_page S.are_metrics terms.now)
+        request.now) client result.1 result.0 }
+{
+    match read_request(host.keeping.alloc, request) {
+        Ok((command, fields)) => {
+            let fields = fields.as_slice();
+            answer_asked(host, terms, client, command, fields, request, watch)
+        }
+        Err(_) => (client, Ok(HttpAnswer::Refused(RequestRefusal::NoMemory))),
+    }
+}
+
+/// The command of a request, and its arguments.
+fn read_request<A: Allocator + Copy>(
+    alloc: A,
+    request: &Request<Bytes>,
+) -> Result<(Option<Command>, Seq<Field<A>, A>), NoMemory>
+    ensures { IfOk result (λ read. (read.0 ≡ command_named (name_of A request.now))
+        × (read.1 ≡ arguments_of request.now)) }
+{
+    let name = read_name(alloc, request)?;
+    let fields = read_arguments(alloc, request)?;
+    Ok((command_of(name.as_slice()), fields))
+}
+
+/// Answers what was asked: a command, or a view.
+fn answer_asked<J: Storing<A>, D: Device, A: Allocator + Copy, R: Wait, S: Shown<A>, V: Watch<A>>(
+    host: &Host<'_, J, D, R, A>,
+    terms: &WebTerms<'_, S>,
+    client: KeptClient<J, A>,
+    command: Option<Command>,
+    fields: &[Field<A>],
+    request: &Request<Bytes>,
+    watch: &mut V,
+) -> (KeptClient<J, A>, Result<HttpAnswer<A>, NotStored>)
+    ensures { Answered (OrLacks (is_look command) (AnswersAsked J.capacity J.first
+        (around_of (IsCovered D.seen D.may_leave D.moment J.head J.stored J.first) S.is_page S.are_metrics terms.now)
+        command fields.now request.now)) client result.1 result.0 }
+{
+    match command {
+        Some(command) => answer_command(host, terms.pull, client, command, fields, request, watch),
+        None => answer_view(&host.keeping, terms, client, view_of(request)),
+    }
+}
+
+/// Answers a command.
+fn answer_command<J: Storing<A>, D: Device, A: Allocator + Copy, R: Wait, V: Watch<A>>(
+    host: &Host<'_, J, D, R, A>,
+    pull: Option<&[u8]>,
+    client: KeptClient<J, A>,
+    command: Command,
+    fields: &[Field<A>],
+    request: &Request<Bytes>,
+    watch: &mut V,
+) -> (KeptClient<J, A>, Result<HttpAnswer<A>, NotStored>)
+    ensures { Answered (OrLacks (is_look (Some command)) (AnswersCommand J.capacity J.first
+        (IsCovered D.seen D.may_leave D.moment J.head J.stored J.first) (option_copied pull.entry) command fields.now
+        request.now)) client result.1 result.0 }
+{
+    match command {
+        Command::ReadOnly(read) => answer_read(host, client, read, fields),
+        Command::Capabilities => (client, Ok(capabilities(host.keeping.alloc))),
+        Command::Batch => answer_batch(host, client, fields),
+        Command::Unbundle => answer_unbundle(host, client, fields, request, watch),
+        Command::PushKey => answer_pushkey(host, client, fields, request, watch),
+        Command::GetBundle => (client, Ok(answer_pull(host.keeping.alloc, pull, request))),
+    }
+}
+
+/// Where a pull goes, or that nothing can be pulled here.
+fn answer_pull<A: Allocator + Copy>(
+    alloc: A,
+    pull: Option<&[u8]>,
+    request: &Request<Bytes>,
+) -> HttpAnswer<A>
+    ensures { (result ≡ pull_answer (option_copied pull.entry) request.now)
+        ⊎ (result ≡ HttpAnswer.Refused RequestRefusal.NoMemory) }
+{
+    match pull {
+        None => HttpAnswer::Refused(RequestRefusal::PushesAlone),
+        Some(address) => match moved_to(alloc, address, request) {
+            Ok(address) => HttpAnswer::Moved(address),
+            Err(_) => HttpAnswer::Refused(RequestRefusal::NoMemory),
+        },
+    }
+}
+
+/// The answer that holds a text, or that there was no memory for it.
+fn text_answer<A: Allocator>(text: Result<Seq<u8, A>, NoMemory>) -> HttpAnswer<A>
+    ensures { MatchResult text (λ t. result ≡ HttpAnswer.Text t) (λ _. result ≡ HttpAnswer.Refused RequestRefusal.NoMemory) }
+{
+    match text {
+        Ok(text) => HttpAnswer::Text(text),
+        Err(_) => HttpAnswer::Refused(RequestRefusal::NoMemory),
+    }
+}
+
+/// Answers a command that only reads, by one look. Where its answer is long, that look brings up the view which all
+/// share.
+fn answer_read<J: Storing<A>, D: Device, A: Allocator + Copy, R: Wait>(
+    host: &Host<'_, J, D, R, A>,
+    client: KeptClient<J, A>,
+    read: Read,
+    fields: &[Field<A>],
+) -> (KeptClient<J, A>, Result<HttpAnswer<A>, NotStored>)
+    ensures { Answered (OrLacks true (IsTextAt J.first
+        (IsCovered D.seen D.may_leave D.moment J.head J.stored J.first)
+        (λ repo text. IsTextOf repo read (argument_in fields.now (subject read)) text)))
+        client result.1 result.0 }
+{
+    let alloc = host.keeping.alloc;
+    let about = argument(fields, subject_of(read));
+    if is_long(read) {
+        let command = LongCommand {
+            alloc,
+            shelf: host.shelf,
+            read,
+            about,
+        };
+        return answer_look(&host.keeping, client, &command);
+    }
+    let question = ReadCommand { alloc, read, about };
+    answer_look(&host.keeping, client, &Asking { question })
+}
+
+/// Answers by the text that one look finds.
+fn answer_look<J: Storing<A>, D: Device, A: Allocator + Copy, R: Wait, L>(
+    keeping: &Keeping<'_, J, D, R, A>,
+    client: KeptClient<J, A>,
+    at: &L,
+) -> (KeptClient<J, A>, Result<HttpAnswer<A>, NotStored>)
+where
+    L: Look<J, A, Result<Seq<u8, A>, NoMemory>>,
+    ensures { Answered (OrLacks true (IsTextAt J.first
+        (IsCovered D.seen D.may_leave D.moment J.head J.stored J.first)
+        (λ repo text. L.finds at.now repo (Ok text)))) client result.1 result.0 }
+{
+    let (client, looked) = look_kept(keeping, client, at);
+    match looked {
+        Ok((text, _rests)) => (client, Ok(text_answer(text))),
+        Err(fault) => (client, Err(fault)),
+    }
+}
+
+/// Answers the capabilities.
+fn capabilities<A: Allocator + Copy>(alloc: A) -> HttpAnswer<A>
+    ensures { (result ≡ HttpAnswer.Text capabilities_told) ⊎ (result ≡ HttpAnswer.Refused RequestRefusal.NoMemory) }
+{
+    text_answer(Seq::copy_of(alloc, capabilities_text()))
+}
+
+/// Answers a batch: all of it by one look.
+fn answer_batch<J: Storing<A>, D: Device, A: Allocator + Copy, R: Wait>(
+    host: &Host<'_, J, D, R, A>,
+    client: KeptClient<J, A>,
+    fields: &[Field<A>],
+) -> (KeptClient<J, A>, Result<HttpAnswer<A>, NotStored>)
+    ensures { let commands = commands_of (argument_in fields.now (codes "cmds")) in
+        Answered (OrLacks true (AnswersBatch J.first (IsCovered D.seen D.may_leave D.moment J.head J.stored J.first)
+        commands (why_refused commands))) client result.1 result.0 }
+{
+    match read_batch(host.keeping.alloc, argument(fields, b"cmds".as_slice())) {
+        Ok(commands) => answer_commands(host, client, commands.as_slice()),
+        Err(_) => (client, Ok(HttpAnswer::Refused(RequestRefusal::NoMemory))),
+    }
+}
+
+/// Answers the commands of a batch. Where some have long answers, the look brings up the view which all share.
+fn answer_commands<J: Storing<A>, D: Device, A: Allocator + Copy, R: Wait>(
+    host: &Host<'_, J, D, R, A>,
+    client: KeptClient<J, A>,
+    commands: &[hg_wireproto::BatchCommand<A>],
+) -> (KeptClient<J, A>, Result<HttpAnswer<A>, NotStored>)
+    ensures { Answered (OrLacks true (AnswersBatch J.first
+        (IsCovered D.seen D.may_leave D.moment J.head J.stored J.first) commands.now (why_refused commands.now)))
+        client result.1 result.0 }
+{
+    if let Some(why) = refusal_of(commands) {
+        return (client, Ok(HttpAnswer::Refused(why)));
+    }
+    let alloc = host.keeping.alloc;
+    if have_long(commands) {
+        let batch = LongCommands {
+            alloc,
+            shelf: host.shelf,
+            commands,
+        };
+        return answer_look(&host.keeping, client, &batch);
+    }
+    let question = Batch { alloc, commands };
+    answer_look(&host.keeping, client, &Asking { question })
+}
+
+/// Answers a push, which is the body of the request.
+fn answer_unbundle<J: Storing<A>, D: Device, A: Allocator + Copy, R: Wait, V: Watch<A>>(
+    host: &Host<'_, J, D, R, A>,
+    client: KeptClient<J, A>,
+    fields: &[Field<A>],
+    request: &Request<Bytes>,
+    watch: &mut V,
+) -> (KeptClient<J, A>, Result<HttpAnswer<A>, NotStored>)
+    ensures { Answered (IfFromClient (came_from_client request.now) (AnswersForced J.capacity J.first
+        (IsCovered D.seen D.may_leave D.moment J.head J.stored J.first) (body_of request.now)
+        (bytes_eq (argument_in fields.now (codes "heads")) (codes "666f726365"))))
+        client result.1 result.0 }
+{
+    if !is_from_client(request) {
+        return (client, Ok(HttpAnswer::Forbidden));
+    }
+    if !are_forced(argument(fields, b"heads".as_slice())) {
+        return (client, Ok(HttpAnswer::Refused(RequestRefusal::NotForced)));
+    }
+    let body = request.body();
+    unbundle(&host.keeping, client, body, watch)
+}
+
+/// Whether the heads of a push are forced: `force` in hexadecimal digits.
+fn are_forced(heads: &[u8]) -> bool
+    ensures { result ≡ bytes_eq heads.now (codes "666f726365") }
+{
+    heads == b"666f726365".as_slice()
+}
+
+/// Answers a push that sets one key.
+fn answer_pushkey<J: Storing<A>, D: Device, A: Allocator + Copy, R: Wait, V: Watch<A>>(
+    host: &Host<'_, J, D, R, A>,
+    client: KeptClient<J, A>,
+    fields: &[Field<A>],
+    request: &Request<Bytes>,
+    watch: &mut V,
+) -> (KeptClient<J, A>, Result<HttpAnswer<A>, NotStored>)
+    ensures { Answered (OrLacks false (IfFromClient (came_from_client request.now) (AnswersPushKey J.capacity J.first
+        (IsCovered D.seen D.may_leave D.moment J.head J.stored J.first) fields.now))) client result.1 result.0 }
+{
+    if !is_from_client(request) {
+        return (client, Ok(HttpAnswer::Forbidden));
+    }
+    push_key(&host.keeping, client, fields, watch)
+}

@@ -1,0 +1,232 @@
+//! The service of one connection.
+
+ghost use Rattle.std.specs.Prelude.{◌≡◌, ◌≤◌, false, true, None, Some, OnErr, OnOk, vec_capacity};
+ghost use Rattle.http_server.specs.Response.{IsBlank};
+ghost use Rattle.hg_commit.specs.Clients.{IsCovered, IsLater};
+ghost use Rattle.hg_web.specs.Answering.{Responds};
+
+use crate::answering::answer_request;
+use crate::terms::{Host, WebTerms};
+use bytes::Bytes;
+use hg_commit::{KeptClient, NotStored, Storing};
+use hg_http::respond;
+use hg_queries::{Shown, Watch};
+use hg_store::Device;
+use http::Request;
+use http_server::{Log, Response, Service};
+use std::alloc::{AllocError, Allocator, Global};
+use std::marker::Model;
+use std::sync::Wait;
+
+/// How much memory is held for an answer while its request is read and served: most answers to pushes are
+/// shorter.
+const SPARE: usize = 4 * 1024;
+
+/// What a connection is served by. Contracts see the history that the last answer spoke of, and how many requests
+/// were answered.
+pub struct Wire<
+    'a,
+    J: Storing<A>,
+    D: Device,
+    R: Wait,
+    S: Shown<A>,
+    V: Watch<A>,
+    A: Allocator = Global,
+> {
+    host: Host<'a, J, D, R, A>,
+    terms: &'a WebTerms<'a, S>,
+    global: Global,
+    watch: &'a mut V,
+    client: Option<KeptClient<J, A>>,
+    /// How many requests were answered.
+    answered: u64,
+    /// Whether the store failed before a request was answered.
+    has_failed: bool,
+    /// Memory that is given back before an answer is put together, so that there is some.
+    spare: Vec<u8>,
+    /// What the client had seen when the last request was answered.
+    seen: Log<KeptClient<J, A>, u64>,
+}
+
+impl<'a, J: Storing<A>, D: Device, R: Wait, S: Shown<A>, V: Watch<A>, A: Allocator> Model
+    for Wire<'a, J, D, R, S, V, A> {
+    ghost use Rattle.std.specs.Prelude.{◌≡◌, IsSome, false};
+    ghost use Rattle.hg_commit.specs.Clients.{IsLater};
+    ghost use Rattle.hg_web.specs.Answering.{WireView};
+    ghost use Rattle.hg_web.specs.code.Wires.{seen_by, seen_last};
+
+    ghost Value = { WireView A S };
+
+    ghost view = { λ w. record { seen = seen_last w.seen.items; terms = w.terms.now; answered = w.answered } };
+
+    ghost invariant = { λ w. IsSome w.client × IsLater (seen_last w.seen.items) (seen_by w.client)
+        × (w.has_failed ≡ false → seen_by w.client ≡ seen_last w.seen.items) };
+}
+
+impl<'a, J: Storing<A>, D: Device, R: Wait, S: Shown<A>, V: Watch<A>, A: Allocator + Copy> Wire<
+    'a,
+    J,
+    D,
+    R,
+    S,
+    V,
+    A,
+> {
+    /// The service of a connection of this client.
+    pub fn new(
+        host: Host<'a, J, D, R, A>,
+        terms: &'a WebTerms<'a, S>,
+        global: Global,
+        client: KeptClient<J, A>,
+        watch: &'a mut V,
+    ) -> Self
+        ensures { result ≡ record { seen = client; terms = terms.now; answered = 0 } }
+    {
+        let seen = Log::new().and(&client, &0);
+        Wire {
+            host,
+            terms,
+            global,
+            watch,
+            client: Some(client),
+            answered: 0,
+            has_failed: false,
+            spare: Vec::new(global),
+            seen,
+        }
+    }
+
+    /// How many requests were answered.
+    pub(crate) fn answered(&self) -> u64
+        ensures { result ≡ self.now.answered }
+    {
+        self.answered
+    }
+
+    /// Whether the store failed before a request was answered.
+    pub(crate) fn has_failed(&self) -> bool {
+        self.has_failed
+    }
+
+    /// Holds memory for the next answer, and says whether there was any.
+    pub(crate) fn hold_spare(&mut self) -> bool
+        ensures { self.new ≡ self.old }
+    {
+        hold(self.global, &mut self.spare)
+    }
+
+    /// Its client, and whether the store failed before a request was answered.
+    pub fn into_client(self) -> (KeptClient<J, A>, bool)
+        ensures later { IsLater self.entry.seen result.0 }
+        ensures same { result.1 ≡ false → result.0 ≡ self.entry.seen }
+    {
+        let Wire {
+            host: _,
+            terms: _,
+            global: _,
+            watch: _,
+            client,
+            answered: _,
+            has_failed,
+            spare: _,
+            seen: _,
+        } = self;
+        match client {
+            Some(client) => (client, has_failed),
+            None => unreachable!(),
+        }
+    }
+
+    /// Answers a request. Where the store failed there is no answer, nor is a later request answered.
+    fn answer(
+        &mut self,
+        request: &Request<Bytes>,
+        response: &mut Response,
+    ) -> Result<(), AllocError>
+        requires { IsBlank response.old }
+        ensures ok { OnOk result (Responds J.capacity J.first
+            (IsCovered D.seen D.may_leave D.moment J.head J.stored J.first) S.is_page S.are_metrics
+            self.old request.now response.new self.new) }
+        ensures err { OnErr result (self.new ≡ self.old) }
+    {
+        if self.has_failed {
+            return Err(AllocError);
+        }
+        let answered = self.answered.checked_add(1).ok_or(AllocError)?;
+        let client = match self.client.take() {
+            Some(client) => client,
+            None => unreachable!(),
+        };
+        let (client, answer) = answer_request(
+            &self.host,
+            self.terms,
+            client,
+            request,
+            &mut *self.watch,
+        );
+        match answer {
+            Ok(answer) => {
+                self.seen = Log::new().and(&client, &self.answered);
+                put_back(&mut self.client, client);
+                self.answered = answered;
+                self.spare = Vec::new(self.global);
+                respond(self.global, &answer, response);
+                Ok(())
+            }
+            Err(NotStored) => {
+                put_back(&mut self.client, client);
+                self.has_failed = true;
+                Err(AllocError)
+            }
+        }
+    }
+}
+
+impl<J: Storing<A>, D: Device, R: Wait, S: Shown<A>, V: Watch<A>, A: Allocator + Copy> Service
+    for Wire<'_, J, D, R, S, V, A> {
+    ghost use Rattle.hg_commit.specs.Clients.{IsCovered};
+    ghost use Rattle.hg_web.specs.Answering.{Responds};
+
+    ghost answers = { λ old request response new. Responds J.capacity J.first
+        (IsCovered D.seen D.may_leave D.moment J.head J.stored J.first) S.is_page S.are_metrics old request response
+        new };
+
+    /// Where the store failed there is no answer, and the connection ends.
+    fn call(
+        &mut self,
+        request: &Request<Bytes>,
+        response: &mut Response,
+    ) -> Result<(), AllocError> {
+        self.answer(request, response)
+    }
+}
+
+/// Holds that much memory, and says whether there was any.
+fn hold(alloc: Global, spare: &mut Vec<u8>) -> bool
+    ensures { result ≡ true → 4096 ≤ vec_capacity spare.new }
+{
+    if spare.capacity() >= SPARE {
+        return true;
+    }
+    match Vec::with_capacity(alloc, SPARE) {
+        Ok(held) => {
+            *spare = held;
+            true
+        }
+        Err(_) => false,
+    }
+}
+
+/// Puts a client back in its place.
+fn put_back<J: Storing<A>, A: Allocator>(
+    place: &mut Option<KeptClient<J, A>>,
+    client: KeptClient<J, A>,
+)
+    requires { place.old ≡ None }
+    ensures { place.new ≡ Some client }
+{
+    match place.replace(client) {
+        None => {}
+        Some(_client) => unreachable!(),
+    }
+}

@@ -1,7 +1,0 @@
-mod OneBundle
-mod Served
-mod Wires
-mod Pieces
-mod Later
-mod Fronts
-mod Stretches

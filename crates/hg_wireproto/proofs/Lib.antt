@@ -1,0 +1,23 @@
+mod Pieces
+mod Fields
+mod Lines
+mod Escapes
+mod Ranges
+mod Naming
+mod EscapeLaws
+mod FormLaws
+mod Extras
+mod Gathering
+mod Hiding
+mod Keeping
+mod Quoting
+mod Branching
+mod BranchSets
+mod BranchLines
+mod Mapping
+mod Viewing
+mod Coming
+mod Covering
+mod Uncovering
+mod HeadIds
+pub mod Publishing

@@ -1,0 +1,173 @@
+//! The answer to `lookup`: the changeset that a key names.
+
+ghost use Rattle.std.specs.Prelude.{◌≡◌, [], nat_eq, map, IfOk, filter};
+ghost use Rattle.std.specs.List.{starts_with};
+ghost use Rattle.hex.specs.Hex.{encode_lower};
+ghost use Rattle.hg_wireproto.specs.Lookup.{begun_by as begins, id_or, is_begun, known_of as known_id};
+ghost use Rattle.hg_wireproto.specs.Lookup.{lookup_line};
+ghost use Rattle.hg_wireproto.specs.Lookup.{lookup_text as told_lookup, named_by, one_of, tip_of as last_of};
+ghost use Rattle.hg_wireproto.specs.Lookup.{without_line_feed};
+ghost use Rattle.hg_wireproto.specs.declared.lookup.Resolved.TheVariants.{Id, Unknown};
+
+use crate::text::{digits_of, node_in_hex, push_id};
+use hg_keys::Bookmarks;
+use hg_log::Changelog;
+use hg_types::{NoMemory, Node, Seq};
+use std::alloc::Allocator;
+
+/// What a key names: a changeset, or none, for it begins the digits of several or of none.
+#[derive(Clone, Copy, Debug, PartialEq, Eq)]
+pub enum Resolved {
+    Id(Node),
+    Ambiguous,
+    Unknown,
+}
+
+/// `1`, a space and the id that a key names; or `0`, a space and why it names none; and a line feed. It
+/// names, in this order:
+///
+/// - `tip` and `.`: the last changeset, or the null id where there are none; `null`: the null id;
+/// - 40 digits of either case: the null id or that of a changeset that is here;
+/// - a bookmark: what it is on;
+/// - a beginning of the lower-case digits of exactly one changeset. Of several it is
+///   `ambiguous identifier`.
+///
+/// Any other key, the empty one too, is reported as `unknown revision 'KEY'`, its line feeds as spaces. Only a
+/// beginning costs a pass over the changesets.
+#[tactic(auto, unfolding(crate::specs::Lookup::lookup_text))]
+pub fn lookup_text<A: Allocator + Copy>(
+    alloc: A,
+    log: &Changelog<A>,
+    bookmarks: &Bookmarks<A>,
+    key: &[u8],
+) -> Result<Seq<u8, A>, NoMemory>
+    ensures { IfOk result (λ text. text ≡ told_lookup log.now.rows bookmarks.now.current key.now) }
+{
+    line_of(alloc, key, named_of(log, bookmarks, key))
+}
+
+#[tactic(auto, unfolding(crate::specs::Lookup::lookup_line))]
+fn line_of<A: Allocator + Copy>(
+    alloc: A,
+    key: &[u8],
+    named: Resolved,
+) -> Result<Seq<u8, A>, NoMemory>
+    ensures { IfOk result (λ text. text ≡ lookup_line key.now named) }
+{
+    match named {
+        Resolved::Id(node) => id_line(alloc, &node),
+        Resolved::Ambiguous => Seq::copy_of(alloc, b"0 ambiguous identifier\n".as_slice()),
+        Resolved::Unknown => unknown_line(alloc, key),
+    }
+}
+
+#[tactic(auto, unfolding(crate::specs::Lookup::lookup_line))]
+fn id_line<A: Allocator + Copy>(alloc: A, node: &Node) -> Result<Seq<u8, A>, NoMemory>
+    ensures { IfOk result (λ text. text ≡ lookup_line [] (Id node.now)) }
+{
+    let mut text = Vec::from_slice(alloc, b"1 ".as_slice())?;
+    push_id(&mut text, node, b'\n')?;
+    Ok(Seq::from_vec(text))
+}
+
+#[tactic(auto, unfolding(crate::specs::Lookup::lookup_line))]
+fn unknown_line<A: Allocator + Copy>(alloc: A, key: &[u8]) -> Result<Seq<u8, A>, NoMemory>
+    ensures { IfOk result (λ text. text ≡ lookup_line key.now Unknown) }
+{
+    let shown = without_line_feeds(alloc, key)?;
+    let mut text = Vec::from_slice(alloc, b"0 unknown revision '".as_slice())?;
+    text.extend_from_slice(shown.as_slice())?;
+    text.extend_from_slice(b"'\n".as_slice())?;
+    Ok(Seq::from_vec(text))
+}
+
+fn without_line_feeds<A: Allocator>(alloc: A, key: &[u8]) -> Result<Vec<u8, A>, NoMemory>
+    ensures { IfOk result (λ shown. shown.items ≡ map without_line_feed key.now) }
+{
+    let shown = key
+        .iter()
+        .map(|byte| if *byte == b'\n' { b' ' } else { *byte })
+        .collect(alloc)?;
+    Ok(shown)
+}
+
+#[tactic(auto, unfolding(crate::specs::Lookup::named_by))]
+fn named_of<A: Allocator>(log: &Changelog<A>, bookmarks: &Bookmarks<A>, key: &[u8]) -> Resolved
+    ensures { result ≡ named_by log.now.rows bookmarks.now.current key.now }
+{
+    if key == b"tip".as_slice() || key == b".".as_slice() {
+        return Resolved::Id(tip_of(log));
+    }
+    if key == b"null".as_slice() {
+        return Resolved::Id(Node::NULL);
+    }
+    if let Some(node) = known_of(log, node_in_hex(key)) {
+        return Resolved::Id(node);
+    }
+    match bookmarks.get(key) {
+        Some(node) => Resolved::Id(node),
+        None => begun_by(log, key),
+    }
+}
+
+/// The id, where it is null or that of a changeset.
+fn known_of<A: Allocator>(log: &Changelog<A>, id: Option<Node>) -> Option<Node>
+    ensures { result ≡ known_id log.now.rows id }
+{
+    match id {
+        Some(node) if log.knows(&node) => Some(node),
+        _ => None,
+    }
+}
+
+/// The last changeset, or the null id.
+fn tip_of<A: Allocator>(log: &Changelog<A>) -> Node
+    ensures { result ≡ last_of log.now.rows }
+{
+    let len = log.len();
+    if len == 0 {
+        return Node::NULL;
+    }
+    log.node((len - 1) as u32)
+}
+
+/// The one changeset whose digits a key begins.
+fn begun_by<A: Allocator>(log: &Changelog<A>, key: &[u8]) -> Resolved
+    ensures { result ≡ begins log.now.rows key.now }
+{
+    if key.is_empty() {
+        return Resolved::Unknown;
+    }
+    one_begun(log, key)
+}
+
+fn one_begun<A: Allocator>(log: &Changelog<A>, key: &[u8]) -> Resolved
+    ensures { result ≡ one_of (filter (is_begun key.now) log.now.rows) }
+{
+    let mut found = None;
+    for rev in 0..log.len() {
+        let node = log.node(rev as u32);
+        if begins_digits(key, &node) {
+            if found.is_some() {
+                return Resolved::Ambiguous;
+            }
+            found = Some(node);
+        }
+    }
+    named_as(found)
+}
+
+fn named_as(found: Option<Node>) -> Resolved
+    ensures { result ≡ id_or found Unknown }
+{
+    match found {
+        Some(node) => Resolved::Id(node),
+        None => Resolved::Unknown,
+    }
+}
+
+fn begins_digits(key: &[u8], node: &Node) -> bool
+    ensures { result ≡ starts_with nat_eq (encode_lower node.now.0) key.now }
+{
+    digits_of(node).as_slice().starts_with(key)
+}

@@ -1,0 +1,368 @@
+"""What the disk is sure to have when a reply leaves: synced.py PROGRAM
+
+`host` of the built program runs under strace, with clients that push side by side, and is killed and started again.
+No contract sees in which order a process calls the system. Here its calls are played again on a disk that has only
+what was synced: a write counts once a sync that began after it came back, a name in a folder once the folder was
+synced. That is the least that a crash may leave. So it is shown
+
+- that no reply to a push leaves before its record is on that disk, behind an open commit byte;
+- that a commit byte is opened only where the records after it are on that disk already;
+- that a new store is whole on that disk, under its name, before a client is served;
+- that a start syncs the file, and has the system drop what it kept of it, before it reads the file.
+
+Then the same calls are played with one left out, or at another place, and each time the fault has to be found.
+"""
+import os
+import re
+import shutil
+import signal
+import subprocess
+import sys
+import tempfile
+import threading
+
+import host
+from bundles import CAPS, NULL, bundle, group
+from host import Wrong, answer, request, want
+
+HEAD = 38
+FRAME = 25
+CALLS = ("openat", "mkdir", "pwrite64", "write", "ftruncate", "fsync", "fdatasync", "rename", "fadvise64", "read",
+         "recvfrom", "sendto", "sendmsg", "writev", "close")
+CLIENTS, PUSHES = 6, 8
+
+
+# ---- the calls of a trace
+
+class Call:
+    """A call of the system: its name, its words, what it gave, and where in the trace it began and came back."""
+
+    def __init__(self, name, words, gave, began, ended):
+        self.name, self.words, self.gave, self.began, self.ended = name, words, gave, began, ended
+
+    def path(self):
+        """The file of the descriptor that the call is about."""
+        found = re.match(r"\d+<([^>]*)>", self.words)
+        return bytes_of(found[1]).decode() if found else ""
+
+    def texts(self):
+        return [bytes_of(it) for it in re.findall(r'"([^"]*)"', self.words)]
+
+    def numbers(self):
+        """The numbers after the last text."""
+        return [int(it) for it in re.findall(r"\d+", self.words.rpartition('"')[2])]
+
+
+def bytes_of(text):
+    return bytes.fromhex(text.replace("\\x", ""))
+
+
+def calls_in(trace):
+    """The calls that came back, in the order in which they began."""
+    begun, calls = {}, []
+    for place, line in enumerate(trace):
+        thread, _, rest = line.rstrip("\n").partition(" ")
+        rest = rest.lstrip()
+        if whole := re.fullmatch(r"(\w+)\((.*?)\)? *= (-?\d+|\?).*", rest):
+            calls.append(Call(whole[1], whole[2], whole[3], place, place))
+        elif first := re.fullmatch(r"(\w+)\((.*) <unfinished \.\.\.>", rest):
+            begun[thread] = (first[1], first[2], place)
+        elif last := re.fullmatch(r"<\.\.\. (\w+) resumed>(.*?)\)? *= (-?\d+|\?).*", rest):
+            name, words, began = begun.pop(thread)
+            if name == last[1]:
+                calls.append(Call(name, words + last[2], last[3], began, place))
+    return sorted(calls, key=lambda call: call.began)
+
+
+# ---- the disk that has only what was synced
+
+class Disk:
+    """Files as they are, and what of them was synced. A folder has the names that its last sync found."""
+
+    def __init__(self):
+        self.files, self.synced, self.names, self.kept = {}, {}, {}, {}
+
+    def write(self, path, at, text):
+        file = self.files.setdefault(path, bytearray())
+        file.extend(bytes(max(0, at - len(file))))
+        file[at:at + len(text)] = text
+
+    def rename(self, old, new):
+        self.files[new] = self.files.pop(old)
+        self.synced[new] = self.synced.pop(old, b"")
+        self.names[new] = True
+
+    def has(self, path):
+        """What is sure to be there, under that name."""
+        return self.synced.get(path, b"") if self.kept.get(path) else b""
+
+
+def events_of(calls):
+    """Begins and ends of calls, in the order of the trace."""
+    events = [(call.began, 0, call) for call in calls] + [(call.ended, 1, call) for call in calls]
+    return [(kind, call) for _, kind, call in sorted(events, key=lambda event: event[:2])]
+
+
+def records_on(text):
+    """The records behind open commit bytes, and where the first shut one is."""
+    records, at = [], HEAD
+    while at < len(text) and text[at] == 1:
+        size = int.from_bytes(text[at + 1:at + 5], "big")
+        record = text[at + FRAME:at + FRAME + size]
+        if len(record) < size:
+            return records, at
+        records.append(bytes(record))
+        at += FRAME + size
+    return records, at
+
+
+def whole_behind(text, at):
+    """Whether a record stands behind the commit byte at that place, and a byte after it."""
+    size = int.from_bytes(text[at + 1:at + 5], "big")
+    return len(text) > at + FRAME + size
+
+
+class Played:
+    """The calls of one process, played on such a disk. What is wrong is told at the first call that is."""
+
+    def __init__(self, store, disk):
+        self.store, self.disk, self.asked, self.replies = store, disk, {}, 0
+        self.file, self.serves, self.begun = f"{store}/pushes", False, {}
+        self.opened, self.fresh = "new", False
+
+    def play(self, calls):
+        for ends, call in events_of(calls):
+            if call.gave == "?" or call.gave.startswith("-"):
+                continue
+            if ends:
+                self.ended(call)
+            else:
+                self.began(call)
+        return self
+
+    def began(self, call):
+        name = call.name
+        if name in ("fsync", "fdatasync"):
+            path = call.path()
+            self.begun[id(call)] = bytes(self.disk.files.get(path, b"")), set(self.disk.names)
+        elif name in ("sendto", "sendmsg", "writev"):
+            self.send(call)
+        elif name == "pwrite64" and call.path() == self.file:
+            self.opens(call)
+        elif name == "read" and call.path() == self.file and not self.fresh:
+            raise Wrong("the file is read before it was synced and dropped")
+
+    def ended(self, call):
+        name = call.name
+        if name == "pwrite64":
+            self.disk.write(call.path(), call.numbers()[-1], call.texts()[0][:int(call.gave)])
+        elif name == "ftruncate":
+            path, size = call.path(), int(re.findall(r", (\d+)", call.words)[-1])
+            del self.disk.files.setdefault(path, bytearray())[size:]
+            self.disk.write(path, size, b"")
+        elif name == "rename":
+            old, new = (it.decode() for it in call.texts())
+            if self.disk.synced.get(old, b"") != bytes(self.disk.files.get(old, b"")):
+                raise Wrong("a file gets its name before it is synced")
+            self.disk.rename(old, new)
+        elif name in ("fsync", "fdatasync"):
+            self.sync(call)
+        elif name == "fadvise64" and call.path() == self.file:
+            self.fresh = self.opened == "synced" and "DONTNEED" in call.words
+        elif name == "openat" and call.texts()[-1].decode() == self.file:
+            self.opened, self.fresh = "opened", False
+        elif name == "recvfrom":
+            self.asked[call.path()] = self.asked.get(call.path(), b"") + b"".join(call.texts())
+        elif name == "write" and b"listening on" in b"".join(call.texts()):
+            self.listen()
+
+    def sync(self, call):
+        path, (text, names) = call.path(), self.begun[id(call)]
+        if path in self.disk.files:
+            self.disk.synced[path] = text
+            if path == self.file and self.opened == "opened":
+                self.opened = "synced"
+        for name in names:
+            if os.path.dirname(name) == path:
+                self.disk.kept[name] = True
+
+    def listen(self):
+        if len(self.disk.has(self.file)) <= HEAD:
+            raise Wrong("clients are served before the store is on the disk, under its name")
+        self.serves = True
+
+    def opens(self, call):
+        """A commit byte that is opened has on the disk what stands behind it."""
+        at, text = call.numbers()[-1], call.texts()[0]
+        if text != b"\1" or not self.serves:
+            return
+        if not whole_behind(self.disk.has(self.file), at):
+            raise Wrong("a commit byte is opened before the records behind it are on the disk")
+
+    def send(self, call):
+        """A reply to a push has its record on the disk."""
+        asked = self.asked.pop(call.path(), b"")
+        head, _, body = asked.partition(b"\r\n\r\n")
+        if not head.startswith(b"POST /?cmd=unbundle "):
+            return
+        self.replies += 1
+        if body not in records_on(self.disk.has(self.file))[0]:
+            raise Wrong("a reply leaves before its record is on the disk")
+
+
+# ---- the program
+
+def traced(folder):
+    """A script that runs the program with its calls noted in files of this folder. Signals meet the program."""
+    path, trace = f"{folder}/traced", f"{folder}/trace"
+    program = os.path.abspath(sys.argv[1])
+    words = f"strace -D -f -q -xx -y -s 65536 -e trace={','.join(CALLS)} -e signal=none"
+    with open(path, "w", encoding="utf-8") as file:
+        file.write(f"#!/bin/sh\nexec {words} -o {trace}.$$ {program} \"$@\"\n")
+    os.chmod(path, 0o755)
+    return path
+
+
+def pushes_of(client, round_of):
+    """Bundles that no other client has, each with a changeset of its own."""
+    for number in range(PUSHES):
+        text = b"%s\nT <t@e>\n0 0\n\nround %d, client %d, push %d" % (b"0" * 40, round_of, client, number)
+        yield bundle(CAPS, group((text, NULL)))
+
+
+def push_all(server, client, round_of, failed):
+    kind = ("content-type: application/mercurial-0.1", "x-hgarg-1: heads=666f726365")
+    try:
+        with server.connect() as line:
+            told = line.makefile("rb")
+            for body in pushes_of(client, round_of):
+                line.sendall(request("/?cmd=unbundle", body, kind))
+                status, _, reply = answer(told)
+                want("a push", (status, reply[:4]), (200, b"HG20"))
+    except (Wrong, OSError) as why:
+        failed.append(why)
+
+
+def serve_round(server, round_of):
+    """Starts the program, has clients push side by side, and ends it. Gives the number of its process."""
+    server.start()
+    failed = []
+    threads = [threading.Thread(target=push_all, args=(server, client, round_of, failed))
+               for client in range(CLIENTS)]
+    for it in threads:
+        it.start()
+    for it in threads:
+        it.join()
+    process = server.process.pid
+    server.process.send_signal(signal.SIGTERM)
+    server.process.wait(timeout=60)
+    server.kill()
+    if failed:
+        raise failed[0]
+    return process
+
+
+def trace_of(folder, process):
+    path = f"{folder}/trace.{process}"
+    for _ in range(100):
+        with open(path, encoding="ascii") as file:
+            lines = file.readlines()
+        if lines and "+++" in lines[-1]:
+            break
+        threading.Event().wait(0.1)
+    return [it for it in lines if "+++" not in it]
+
+
+# ---- faults that have to be found
+
+def without(calls, wrong):
+    """The calls without the last one that is as wanted."""
+    last = max(place for place, call in enumerate(calls) if wrong(call))
+    return calls[:last] + calls[last + 1:]
+
+
+def is_sync(path, of=("fsync", "fdatasync")):
+    return lambda call: call.name in of and call.path() == path
+
+
+def unsynced(calls, store):
+    """A sync of the file that is noted and not made: the first after the server listens."""
+    serves = next(call.began for call in calls if call.name == "write" and b"listening" in b"".join(call.texts()))
+    first = next(call for call in calls if call.began > serves and is_sync(f"{store}/pushes")(call))
+    return [call for call in calls if call is not first]
+
+
+def early_reply(calls, store):
+    """The first reply that leaves before the last sync ahead of it came back."""
+    sends = [call for call in calls if call.name == "sendto" and call.texts()[0].startswith(b"HTTP/1.1 200")]
+    sync = max((call for call in calls if is_sync(f"{store}/pushes")(call) and call.ended < sends[0].began),
+               key=lambda call: call.ended)
+    return [Call(it.name, it.words, it.gave, sync.began - 0.5, sync.began - 0.5) if it is sends[0] else it
+            for it in calls]
+
+
+def early_commit(calls, store):
+    """The first commit byte that is opened before the sync ahead of it."""
+    opens = next(call for call in calls if call.name == "pwrite64" and call.texts()[0] == b"\1")
+    sync = max((call for call in calls if is_sync(f"{store}/pushes")(call) and call.ended < opens.began),
+               key=lambda call: call.ended)
+    return [Call(it.name, it.words, it.gave, sync.began - 0.5, sync.began - 0.5) if it is opens else it
+            for it in calls]
+
+
+FAULTS = {
+    "a sync that is not made": (0, unsynced),
+    "a reply before the last sync": (0, early_reply),
+    "a commit byte before the sync of its records": (0, early_commit),
+    "a new file that is not synced": (0, lambda calls, store: without(calls, is_sync(f"{store}/pushes.new"))),
+    "folders that are not synced": (
+        0, lambda calls, store: [call for call in calls if not is_sync(store)(call)]),
+    "a start that does not sync the file": (
+        1, lambda calls, store: without(calls, is_sync(f"{store}/pushes", ("fsync",)))),
+    "a start that reads what the system kept": (
+        1, lambda calls, store: without(calls, lambda call: call.name == "fadvise64")),
+}
+
+
+def is_found(rounds, store, place, turned):
+    """Whether the calls of the rounds are refused where those of one are turned so."""
+    disk = Disk()
+    for number, calls in enumerate(rounds[:place + 1]):
+        try:
+            Played(store, disk).play(turned(calls, store) if number == place else calls)
+        except Wrong:
+            return number == place
+    return False
+
+
+def main():
+    if not shutil.which("strace"):
+        print("synced.py: skipped, the command strace is not installed")
+        return 0
+    with tempfile.TemporaryDirectory(prefix="synced-") as folder:
+        host.PROGRAM, server = traced(folder), host.Host(folder)
+        try:
+            rounds = [calls_in(trace_of(folder, serve_round(server, number))) for number in range(2)]
+            disk = Disk()
+            for number, calls in enumerate(rounds):
+                played = Played(server.store, disk).play(calls)
+                want(f"replies of round {number}", played.replies, CLIENTS * PUSHES)
+            with open(f"{server.store}/pushes", "rb") as file:
+                want("the file", bytes(disk.files[f"{server.store}/pushes"]), file.read())
+        except Wrong as why:
+            print(f"FAILED: {why}")
+            return 1
+        finally:
+            server.kill()
+        print(f"as wanted: {2 * CLIENTS * PUSHES} replies after their records were synced")
+        failed = 0
+        for name, (place, turned) in FAULTS.items():
+            found = is_found(rounds, server.store, place, turned)
+            failed += not found
+            print(f"{'as wanted: found' if found else 'FAILED: not found'}: {name}")
+    print(f"synced.py: {len(FAULTS) + 1 - failed} as wanted, {failed} not")
+    return 1 if failed else 0
+
+
+if __name__ == "__main__":
+    sys.exit(main())
