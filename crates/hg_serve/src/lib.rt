@@ -9,7 +9,7 @@
 
 mod client;
 mod desk;
-mod gate;
+mod probe;
 mod naming;
 mod pauses;
 mod question;
@@ -17,7 +17,7 @@ mod server;
 
 pub use client::{Awaiting, Client, Sender};
 pub use desk::{Answer, Closed, Desk};
-pub use gate::{Gate, NoGate, Point};
+pub use probe::{Probe, NoProbe, Point};
 pub use naming::Naming;
 pub use question::Question;
 pub use server::{PutFault, Server};
