@@ -19,7 +19,7 @@ use crate::reply::send_reply;
 use crate::served::{ConnFault, Round, Served};
 use hg_parts::hash_ahead;
 use hg_push::laws::replies_are_short;
-use hg_serve::{Client, Probe, Naming, Point, Sender, Server};
+use hg_serve::{Client, Naming, Point, Probe, Sender, Server};
 use hg_stream::Unbundler;
 use hg_stream::laws::{parts_are_few, streams_are_settled_once};
 use std::alloc::Allocator;

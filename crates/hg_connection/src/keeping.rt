@@ -11,7 +11,7 @@ use crate::bundle_end::BundleEnd;
 use crate::connection::put_ready;
 use crate::device::Reader;
 use crate::inbox::Inbox;
-use hg_serve::{Probe, Naming, Sender, Server};
+use hg_serve::{Naming, Probe, Sender, Server};
 use hg_stream::laws::parts_are_few;
 use hg_stream::{StreamFault, Unbundler};
 use hg_types::NoMemory;

@@ -4,7 +4,7 @@ ghost use Rattle.hg_serve.specs.Clients.{PutsItsMark};
 ghost use Rattle.hg_connection.specs.Receiving.{mark_of};
 
 use crate::bundle_end::{BundleEnd, cut_of};
-use hg_serve::{Awaiting, Probe, Naming, Sender, Server};
+use hg_serve::{Awaiting, Naming, Probe, Sender, Server};
 use std::alloc::Allocator;
 use std::sync::Wait;
 

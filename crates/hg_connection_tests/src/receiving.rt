@@ -1,7 +1,7 @@
 //! What no contract says: bytes that came from outside, in pieces, whole replies to a writer in memory, and
 //! that out of memory is answered where there is none.
 
-use hg_connection::{BundleEnd, Inbox, Sending, cut_of, send_reply, read_on};
+use hg_connection::{BundleEnd, Inbox, Sending, cut_of, read_on, send_reply};
 use hg_help_tests::bundles::{EMPTY, RACE};
 use hg_help_tests::devices::{Sink, Source};
 use hg_push::{Outcome, Reason};

@@ -4,7 +4,7 @@ use hg_commit::{KeptClient, Storing};
 use hg_connection::{BundleEnd, Inbox, Reader, Sending, Writer};
 use hg_durable::{Keeping, KeptRound, Replied, keep_bundle, open_kept, reply_kept};
 use hg_push::OpenFault;
-use hg_serve::{Probe, Point};
+use hg_serve::{Point, Probe};
 use hg_store::Device;
 use hg_stream::{StreamFault, Unbundler};
 use std::alloc::Allocator;

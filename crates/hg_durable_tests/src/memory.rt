@@ -14,7 +14,7 @@ use hg_help_store_tests::device::Memory;
 use hg_push::OpenFault;
 use hg_queue::{PartQueue, Taker};
 use hg_repo::Repo;
-use hg_serve::{Client, Probe, NoProbe, Point, Server};
+use hg_serve::{Client, NoProbe, Point, Probe, Server};
 use hg_store::{Device, Log, read_records};
 use hg_stream::StreamFault;
 use linked_list_allocator::LocalHeap;

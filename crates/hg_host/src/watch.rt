@@ -1,6 +1,6 @@
 //! Who watches a connection: how long each push took, and a line for it.
 
-use hg_serve::{Probe, Point};
+use hg_serve::{Point, Probe};
 use hg_status::{Board, Push, ShownOutcome, brought_by, log_line, seconds_now, shown_outcome};
 use hg_tcp::{Over, Places};
 use hg_web::{Watch, WatchedPush};

@@ -8,7 +8,7 @@ ghost use Rattle.hg_parts.specs.Store.{empty_store, with_savepoints, without_sav
 use hg_keys::{BookmarkSavepoint, Bookmarks};
 use hg_log::Changelog;
 use hg_obs::Markers;
-use hg_phases::{Savepoint, Phases};
+use hg_phases::{Phases, Savepoint};
 use hg_types::{Limits, NoMemory, TryClone};
 use std::alloc::{Allocator, Global};
 use std::hash::RandomState;

@@ -30,4 +30,4 @@ pub use fault::EntryFault;
 pub use laws::{
     advances_come_together, no_row_is_below_an_ancestor, phases_stay_lawful, roots_tell_phases,
 };
-pub use phases::{Savepoint, Phases};
+pub use phases::{Phases, Savepoint};

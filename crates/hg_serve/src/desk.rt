@@ -23,8 +23,8 @@ ghost use Rattle.hg_serve.specs.Desks.{next_of, keeping, seating};
 mod meeting;
 
 use crate::client::{Awaiting, Client};
-use crate::probe::{Probe, Point};
 use crate::naming::Naming;
+use crate::probe::{Point, Probe};
 use crate::question::Question;
 use hg_push::laws::{closed_pushes_have_ended, done_had_all_of_its_list};
 use hg_push::{Book, OpenFault, Outcome, Standing};

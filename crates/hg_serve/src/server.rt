@@ -16,9 +16,9 @@ mod meeting;
 
 use crate::client::{Awaiting, Client, Sender};
 use crate::desk::{Answer, Closed, Desk};
-use crate::probe::{Probe, Point};
 use crate::naming::Naming;
 use crate::pauses::Pauses;
+use crate::probe::{Point, Probe};
 use hg_push::OpenFault;
 use hg_queue::{Full, Mark, PartQueue, Taker};
 use hg_repo::Repo;

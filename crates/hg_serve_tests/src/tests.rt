@@ -19,7 +19,7 @@ use hg_help_tests::parts::{part_of, settings};
 use hg_push::{OpenFault, Outcome, Reason};
 use hg_queue::{PartQueue, Taker};
 use hg_repo::{Refusal, Repo, Source};
-use hg_serve::{Answer, Client, Closed, Probe, Naming, NoProbe, Point, PutFault, Sender, Server};
+use hg_serve::{Answer, Client, Closed, Naming, NoProbe, Point, Probe, PutFault, Sender, Server};
 use hg_types::{BoxedPart, CutReason, NoMemory, Seq, Settings};
 use std::alloc::{AllocFailed, Allocator, Global};
 use std::hash::RandomState;

@@ -5,7 +5,7 @@ ghost use Rattle.hg_serve.specs.Desks.{OpensWith};
 
 use super::cut::TRUNCATED_REPLY;
 use super::*;
-use hg_serve::{Client, Probe, Point};
+use hg_serve::{Client, Point, Probe};
 use std::io::{Read, Write};
 use std::sync::Mutex;
 use std::sync::atomic::{AtomicBool, Ordering};

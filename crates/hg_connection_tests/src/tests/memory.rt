@@ -5,7 +5,7 @@ ghost use Rattle.hg_serve.specs.Desks.{OpensWith};
 
 use super::*;
 use hg_push::OpenFault;
-use hg_serve::{Client, Probe, Point};
+use hg_serve::{Client, Point, Probe};
 use linked_list_allocator::LocalHeap;
 use std::io::Read;
 

@@ -11,8 +11,8 @@ ghost use Rattle.hg_serve.specs.Histories.{ending, newest_first, serial_run};
 
 use super::{Answer, Desk};
 use crate::client::{Awaiting, Client};
-use crate::probe::Probe;
 use crate::naming::Naming;
+use crate::probe::Probe;
 use crate::question::Question;
 use hg_push::Outcome;
 use hg_queue::{PartQueue, Visitor};
