@@ -21,7 +21,7 @@ from concurrent.futures import ThreadPoolExecutor
 import stores
 from recorder import recorded
 from refused import plain
-from stores import Place, Results, head, sha1, store, write
+from stores import FRONT, Place, Results, head, sha1, store, write
 
 # How often the mirror is killed at its work, until it has all pushes; and how often to look at the front that it has.
 KILLS = 25
@@ -416,37 +416,49 @@ def processor_time(pid):
 
 
 def try_bad_stores(results, folder, place, bundles):
-    """Stores that are refused, or read up to their fault, each with the words that say so."""
-    whole = store(bundles)
-    start = len(head())
-    second = start + 25 + len(bundles[0])
+    """Stores of both versions that are refused, or read up to their fault, each with the words that say so."""
+    tried = sum(try_bad_store(results, folder, place, bundles, version) for version in (1, 2))
+    return tried + try_other_stores(results, folder, place, bundles)
+
+
+def try_bad_store(results, folder, place, bundles, version):
+    whole = store(bundles, version=version)
+    start, front = len(head(version=version)), FRONT[version]
+    second = start + front + len(bundles[0])
+    digest = second + front - 20
 
     def changed(place_of, byte):
         return whole[:place_of] + bytes([byte]) + whole[place_of + 1:]
 
     rows = [
         ("empty file", b"", 0, "too short"),
-        ("short head", whole[:37], 0, "too short"),
+        ("short head", whole[:start - 1], 0, "too short"),
         ("other magic", changed(0, 0), 0, "is no store"),
-        ("version", changed(8, 2), 0, "version 2"),
+        ("version", changed(8, 3), 0, "version 3"),
         ("publishing byte", changed(9, 2), 0, "publishes nor"),
         ("limit of 0", whole[:10] + bytes(4) + whole[14:], 0, "limits"),
         ("limit above the standard", whole[:10] + b"\0\1\0\1" + whole[14:], 0, "limits"),
         ("other gate", changed(second, 2), 1, "damaged behind 1"),
-        ("byte of a bundle", changed(second + 30, whole[second + 30] ^ 1), 1, "damaged behind 1"),
-        ("byte of a digest", changed(second + 6, whole[second + 6] ^ 1), 1, "damaged behind 1"),
+        ("gate of the other version", changed(second, stores.OPEN[3 - version][0]), 1, "damaged behind 1"),
+        ("byte of a bundle", changed(digest + 25, whole[digest + 25] ^ 1), 1, "damaged behind 1"),
+        ("byte of a digest", changed(digest + 1, whole[digest + 1] ^ 1), 1, "damaged behind 1"),
         ("damaged length", changed(second + 1, 255), 1, "torn behind 1"),
         ("gate alone", whole[:second + 1], 1, "torn behind 1"),
         ("cut in a length", whole[:second + 3], 1, "torn behind 1"),
-        ("cut in a digest", whole[:second + 20], 1, "torn behind 1"),
-        ("cut in a bundle", whole[:second + 40], 1, "torn behind 1"),
+        ("cut in a digest", whole[:digest + 15], 1, "torn behind 1"),
+        ("cut in a bundle", whole[:digest + 35], 1, "torn behind 1"),
         ("no gate at the end", whole[:second], 1, None),
         ("shut gate", changed(second, 0), 1, None),
         ("head alone", whole[:start], 0, None),
-        ("of a server that publishes", store(bundles, True), 0, "publish = yes"),
+        ("of a server that publishes", store(bundles, True, version=version), 0, "publish = yes"),
     ]
+    if version == 2:
+        rows += [("byte of a time", changed(second + 6, 7), 1, "damaged behind 1"),
+                 ("byte of a name", changed(second + 14, 65), 1, "damaged behind 1"),
+                 ("length of a name", changed(second + 13, 0), 1, "damaged behind 1"),
+                 ("cut in a name", whole[:second + 15], 1, "torn behind 1")]
     for number, (what, data, count, words) in enumerate(rows):
-        name = place.repository(f"bad{number}")
+        what, name = f"version {version}: {what}", place.repository(f"bad{version}-{number}")
         write(f"{folder}/bad", data)
         status, said = place.mirror(name, "bad")
         results.see(f"bad store: {what}: said", status == (255 if words else 0) and (words or "") in said, said)
@@ -455,7 +467,7 @@ def try_bad_stores(results, folder, place, bundles):
         write(f"{folder}/bad", whole)
         status, said = place.mirror(name, "bad")
         results.see(f"bad store: {what}: whole again", status == 0, said)
-    return len(rows) + try_other_stores(results, folder, place, bundles)
+    return len(rows)
 
 
 def try_other_stores(results, folder, place, bundles):
@@ -486,7 +498,7 @@ def try_other_stores(results, folder, place, bundles):
     return len(rows) + 1
 
 
-def try_starts(results, folder):
+def try_starts(results, folder, version):
     """A start does not read what was mirrored before, where its last record is at its place."""
     os.mkdir(folder)
     place, bundles = Place(folder), [push.bundle() for push in plain(5)]
@@ -495,17 +507,20 @@ def try_starts(results, folder):
     def start(what, data, words, count):
         write(f"{folder}/store", data)
         status, said = place.mirror(name, "store")
-        results.see(f"starts: {what}", words in said and (status == 0) == ("in all" == words), said)
-        results.see(f"starts: {what}: count", place.count(name) == count)
+        results.see(f"starts of version {version}: {what}", words in said and (status == 0) == ("in all" == words), said)
+        results.see(f"starts of version {version}: {what}: count", place.count(name) == count)
 
-    whole, first = store(bundles), len(head()) + 25
+    def store(bundles, end=b"\0"):
+        return stores.store(bundles, end=end, version=version)
+
+    whole, first = store(bundles), len(head(version=version)) + FRONT[version]
     spoilt = bytearray(whole)
     spoilt[first] ^= 1
     last = len(store(bundles[:2], end=b""))
     start("three pushes", store(bundles[:3]), "in all", 3)
     start("damage in what was mirrored is not looked at", bytes(spoilt), "in all", 5)
     spoilt = bytearray(store(bundles[:3]))
-    spoilt[last + 6] ^= 1
+    spoilt[last + FRONT[version] - 19] ^= 1
     start("another digest of the last record", bytes(spoilt), "damaged behind 2", 5)
     start("a store that ends before it", store(bundles[:4]), "has 4", 5)
     start("other pushes before it", store(bundles[1:2] + bundles[1:]), "not those mirrored", 5)
@@ -570,9 +585,10 @@ def publishing(results, folder, only):
 
 def starts(results, folder, only):
     if only in (None, "short", "starts"):
-        try_starts(results, f"{folder}/starts")
+        for version in (1, 2):
+            try_starts(results, f"{folder}/starts-{version}", version)
         try_two(results, f"{folder}/two-mirrors")
-        yield "9 starts"
+        yield "18 starts"
 
 
 def bad(results, folder, only):

@@ -31,6 +31,7 @@ too, and a client asks for all of them. Of an obsolete one it gets what is shown
 below it.
 '''
 
+import collections
 import hashlib
 import os
 import struct
@@ -66,12 +67,15 @@ configitem = registrar.configitem(configtable)
 # How long a pull waits for what it asks for, in seconds.
 configitem(b'mirror', b'patience', default=10)
 
-# The store: a head of 38 bytes, then records. A record is an open gate, the
-# length of a bundle, a digest, and the bundle.
+# The store: a head, then records. A record is an open gate, the length of a
+# bundle, what is said of the push, a digest, and the bundle. Version 1 says
+# nothing of a push; version 2 has its time and the name of who pushed.
 MAGIC = b'HGPUSHES'
-HEAD = struct.Struct('>8sBB7I')
-FRAME = struct.Struct('>BI20s')
-SHUT, OPEN = 0, 1
+HEADS = {1: struct.Struct('>8sBB7I'), 2: struct.Struct('>8sBB7I16s')}
+OPEN = {1: 0x01, 2: 0xFF}
+SHUT = 0
+LENGTH = struct.Struct('>I')
+STAMP = struct.Struct('>QB')
 
 # The most that each limit of a head may be, in their order.
 STANDARD = (65536, 67108864, 268435456, 10000, 16777216, 1024, 2147483647)
@@ -106,6 +110,11 @@ class badstore(error.Abort):
     """A store that cannot be read, or not further."""
 
 
+# The front of a record: what its digest takes in beside the bundle, the digest,
+# where the bundle starts, and how many bytes it has.
+front = collections.namedtuple('front', 'said told start size')
+
+
 class store:
     """The file of a store, read from its head on, also while it grows."""
 
@@ -115,10 +124,10 @@ class store:
             self.file = open(self.path, 'rb', buffering=0)
         except FileNotFoundError:
             raise badstore(_(b'there is no store in %s') % folder)
-        head = self.bytes_at(0, HEAD.size)
+        head = self.head()
         self.publishing = self.publishing_of(head)
         self.digest = sha1(head)
-        self.start = self.end = HEAD.size
+        self.start = self.end = len(head)
         self.count = 0
 
     def skip(self, state):
@@ -130,9 +139,11 @@ class store:
         if state.record is None:
             return
         start, end, digest = state.record
-        front = self.bytes_at(start, FRAME.size)
-        size = end - start - FRAME.size
-        if front == FRAME.pack(OPEN, size, digest) and end <= self.size():
+        try:
+            found = self.front_at(start)
+        except badstore:
+            return
+        if found and found.told == digest and found.start + found.size == end:
             self.start, self.end, self.digest = start, end, digest
             self.count = state.count
 
@@ -150,14 +161,23 @@ class store:
             place, size = place + len(piece), size - len(piece)
         return b''.join(found)
 
-    def publishing_of(self, head):
-        if len(head) < HEAD.size:
+    def head(self):
+        """The bytes of the head, whose version is known from here on."""
+        head = self.bytes_at(0, HEADS[2].size)
+        if len(head) < HEADS[1].size:
             raise self.bad(_(b'is too short to be a store'))
-        magic, version, publishing, *limits = HEAD.unpack(head)
-        if magic != MAGIC:
+        if not head.startswith(MAGIC):
             raise self.bad(_(b'is no store'))
-        if version != 1:
-            raise self.bad(_(b'is a store of version %d') % version)
+        self.version = head[len(MAGIC)]
+        if self.version not in HEADS:
+            raise self.bad(_(b'is a store of version %d') % self.version)
+        head = head[: HEADS[self.version].size]
+        if len(head) < HEADS[self.version].size:
+            raise self.bad(_(b'is too short to be a store'))
+        return head
+
+    def publishing_of(self, head):
+        publishing, *limits = HEADS[1].unpack(head[: HEADS[1].size])[2:]
         if publishing > 1:
             raise self.bad(_(b'says neither that it publishes nor that not'))
         if not all(1 <= n <= most for n, most in zip(limits, STANDARD)):
@@ -167,26 +187,43 @@ class store:
     def bad(self, what):
         return badstore(b'%s %s' % (self.path, what))
 
+    def front_at(self, place):
+        """The front of the record at a place; None where the records end."""
+        gate = self.bytes_at(place, 1)
+        if not gate or gate[0] == SHUT:
+            return None
+        if gate[0] != OPEN[self.version]:
+            raise self.damaged()
+        said = b''
+        if self.version > 1:
+            said = self.whole_at(place + 1, LENGTH.size + STAMP.size)
+            said += self.whole_at(place + 1 + len(said), said[-1])
+        length = said[: LENGTH.size] or self.whole_at(place + 1, LENGTH.size)
+        told = self.whole_at(place + 1 + len(said or length), len(NOTHING))
+        start = place + 1 + len(said or length) + len(told)
+        # A damaged length may tell of gigabytes: they are not asked for.
+        (size,) = LENGTH.unpack(length)
+        if self.size() - start < size:
+            raise self.torn()
+        return front(said, told, start, size)
+
+    def whole_at(self, place, size):
+        """So many bytes, of a record that is torn where there are fewer."""
+        found = self.bytes_at(place, size)
+        if len(found) < size:
+            raise self.torn()
+        return found
+
     def next(self):
         """The bundle of the next record; None where the records end."""
-        front = self.bytes_at(self.end, FRAME.size)
-        if not front or front[0] == SHUT:
+        found = self.front_at(self.end)
+        if found is None:
             return None
-        if front[0] != OPEN:
+        bundle = self.whole_at(found.start, found.size)
+        if found.told != sha1(self.digest + found.said + sha1(bundle)):
             raise self.damaged()
-        if len(front) < FRAME.size:
-            raise self.torn()
-        _gate, size, told = FRAME.unpack(front)
-        # A damaged length may tell of gigabytes: they are not asked for.
-        if self.size() - self.end - FRAME.size < size:
-            raise self.torn()
-        bundle = self.bytes_at(self.end + FRAME.size, size)
-        if len(bundle) < size:
-            raise self.torn()
-        if told != sha1(self.digest + sha1(bundle)):
-            raise self.damaged()
-        self.digest, self.start = told, self.end
-        self.end += FRAME.size + size
+        self.digest, self.start = found.told, self.end
+        self.end = found.start + found.size
         self.count += 1
         return bundle
 

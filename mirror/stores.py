@@ -31,17 +31,26 @@ def sha1(data):
     return hashlib.sha1(data).digest()
 
 
-def head(publishing=False):
-    return struct.pack(">8sBB7I", b"HGPUSHES", 1, publishing, *LIMITS)
+OPEN = {1: b"\x01", 2: b"\xff"}
+USER = b"ann"
+# how many bytes of a record stand before its bundle
+FRONT = {1: 25, 2: 34 + len(USER)}
 
 
-def store(bundles, publishing=False, end=b"\0"):
-    """The bytes of a store."""
-    found = head(publishing)
+def head(publishing=False, version=1):
+    name = b"the name of this" if version == 2 else b""
+    return struct.pack(">8sBB7I", b"HGPUSHES", version, publishing, *LIMITS) + name
+
+
+def store(bundles, publishing=False, end=b"\0", version=1):
+    """The bytes of a store. In version 2 each push is of the user, a second behind the one before."""
+    found = head(publishing, version)
     digest = sha1(found)
-    for bundle in bundles:
-        digest = sha1(digest + sha1(bundle))
-        found += struct.pack(">BI", 1, len(bundle)) + digest + bundle
+    for number, bundle in enumerate(bundles):
+        stamp = struct.pack(">QB", 1000 * number, len(USER)) + USER if version == 2 else b""
+        length = struct.pack(">I", len(bundle))
+        digest = sha1(digest + (length + stamp if version == 2 else b"") + sha1(bundle))
+        found += OPEN[version] + length + stamp + digest + bundle
     return found + end
 
 
