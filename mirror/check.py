@@ -355,7 +355,7 @@ def try_following(results, folder, place, bundles, wanted):
     """Records are written as a server writes them; how long each takes to be mirrored."""
     write(f"{folder}/grows", head() + b"\0")
     place.repository("follows")
-    run = place.start("mirror", "-R", "follows", "--store", "grows")
+    run = place.start("mirror", "-R", "follows", "--store", "grows", "--metrics", "follows.prom")
     digest, took = sha1(head()), []
     try:
         with open(f"{folder}/grows/pushes", "r+b", buffering=0) as file:
@@ -379,6 +379,8 @@ def try_following(results, folder, place, bundles, wanted):
         said = run.communicate()[0].decode()
     results.see("following: ended by a signal", run.returncode != 0, said)
     results.same("following: state", place.state("follows"), wanted)
+    with open(f"{folder}/follows.prom", encoding="ascii") as file:
+        results.same("following: told a monitor", file.read().splitlines()[-1], f"hg_mirror_pushes {len(bundles)}")
     middle = sorted(took)[len(took) // 2]
     results.see("following: in time", middle < SOON and max(took) < 10 * SOON,
                 f"{middle:.3f} s, longest {max(took):.3f} s")

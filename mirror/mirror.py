@@ -534,9 +534,10 @@ def configure(ui):
         ui.setconfig(section, name, value, b'mirror')
 
 
-def follow(ui, state, bundles, place):
+def follow(ui, state, bundles, place, tell):
     """Applies what is not applied yet; the bundles begin at that place."""
     digest = NOTHING if place == 0 else None
+    tell(state.count)
     for bundle in bundles:
         if place < state.count:
             if digest is not None:
@@ -544,6 +545,7 @@ def follow(ui, state, bundles, place):
                 checksame(state, place + 1, digest)
         else:
             applynext(ui, state, bundle)
+            tell(state.count)
         place += 1
 
 
@@ -557,6 +559,23 @@ def applynext(ui, state, bundle):
         ui.traceback()
         raise refused(place, fault)
     ui.note(_(b'push %d mirrored\n') % place)
+
+
+# What is written for a monitor, in the form that Prometheus reads.
+METRICS = b'''# HELP hg_mirror_pushes Pushes of the store that the mirror has.
+# TYPE hg_mirror_pushes gauge
+hg_mirror_pushes %d
+'''
+
+
+def teller(path):
+    """What is told how many pushes were applied: it puts a file in place."""
+
+    def tell(count):
+        with util.atomictempfile(path, b'wb') as file:
+            file.write(METRICS % count)
+
+    return tell if path else lambda count: None
 
 
 def checksame(state, count, digest):
@@ -575,8 +594,9 @@ def checksame(state, count, digest):
         (b'', b'log', b'', _(b'read bundles from a file or a pipe'), _(b'FILE')),
         (b'', b'from', 0, _(b'place of the first push of --log'), _(b'N')),
         (b'', b'once', False, _(b'end when all pushes are applied')),
+        (b'', b'metrics', b'', _(b'tell a monitor how many were'), _(b'FILE')),
     ],
-    _(b'(--store DIR [--once] | --log FILE [--from N])'),
+    _(b'(--store DIR [--once] | --log FILE [--from N]) [--metrics FILE]'),
     helpcategory=command.CATEGORY_REMOTE_REPO_MANAGEMENT,
 )
 def mirror(ui, repo, **opts):
@@ -590,6 +610,9 @@ def mirror(ui, repo, **opts):
     FILE is ``-``, one bundle after the other. The first of them is that of
     the place N, 0 if left out. Pushes that were applied before are passed
     over. It ends with the file, or when what writes the pipe ends.
+
+    With --metrics the file FILE says how many pushes were applied, in the form
+    that Prometheus reads. It is put in place anew after each.
 
     A push that Mercurial refuses is told with its place and the reason, and
     nothing of it is applied. The command ends there, with all pushes before
@@ -621,7 +644,7 @@ def mirror(ui, repo, **opts):
                 % state.count
             )
     try:
-        follow(ui, state, bundles, first)
+        follow(ui, state, bundles, first, teller(opts['metrics']))
     finally:
         ui.status(
             _(b'%d pushes mirrored, %d in all\n')

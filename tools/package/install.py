@@ -74,7 +74,8 @@ def install(program, prefix, destination="", zsh="site-functions"):
     put(0o644, f"{ROOT}/contrib/systemd/deqtorap.sysusers", f"{to}/lib/sysusers.d/deqtorap.conf")
     for path in PAGES:
         put(0o644, f"{ROOT}/{path}", f"{to}/{DOCUMENTS}/{path}")
-    examples = [*glob.glob(f"{ROOT}/contrib/hgrc.*"), *glob.glob(f"{ROOT}/contrib/nginx/*"), f"{ROOT}/mirror/rules.py"]
+    examples = [*glob.glob(f"{ROOT}/contrib/hgrc.*"), *glob.glob(f"{ROOT}/contrib/nginx/*"),
+                *glob.glob(f"{ROOT}/contrib/prometheus/*"), f"{ROOT}/mirror/rules.py"]
     for path in examples:
         moved(path, f"{DOCUMENTS}/examples")
     for name in ("LICENSE-MIT", "LICENSE-APACHE"):

@@ -98,7 +98,7 @@ where
         requires recovered { IsRecovered J.head.publishing J.head J.stored J.first }
         requires count { recovered.stored ≡ length J.stored }
     {
-        let Ok((board, free)) = rooms(rt, alloc, &terms, recovered.log.end) else {
+        let Ok((board, free)) = rooms(rt, alloc, &terms, recovered.log.end, recovered.stored) else {
             drop(recovered);
             drop(queue);
             drop(taker);
@@ -288,16 +288,17 @@ where
     }
 }
 
-/// A board for a store of so many bytes, and room for the clients that no connection has.
+/// A board for a store of so many bytes and pushes, and room for the clients that no connection has.
 fn rooms<'a, J: Storing<Global>, R: Wait + Clock + Eprint + RandomSource>(
     rt: &'a R,
     alloc: Global,
     terms: &HostTerms<'_>,
     end: usize,
+    stored: usize,
 ) -> Result<(Board<'a, R>, Vec<KeptClient<J>>), NoMemory>
     ensures { IfOk result (λ made. made.1.items ≡ []) }
 {
-    let board = Board::new(rt, alloc, end as u64)?;
+    let board = Board::new(rt, alloc, end as u64, stored as u64)?;
     let places = (terms.connections as usize).saturating_add(WITNESSES);
     let free = Vec::with_capacity(alloc, places)?;
     Ok((board, free))

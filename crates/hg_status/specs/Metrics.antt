@@ -39,7 +39,8 @@ holdings_lines summary =
     ++ (gauge (codes "bookmarks") (codes "Bookmarks.") summary.holdings.bookmarks
     ++ (gauge (codes "markers") (codes "Obsolescence markers.") summary.holdings.markers
     ++ (gauge (codes "store_bytes") (codes "Bytes of the store.") summary.store
-    ++ gauge (codes "connections") (codes "Open connections.") summary.connections))))
+    ++ (gauge (codes "store_pushes") (codes "Pushes in the store, each durable.") summary.stored
+    ++ gauge (codes "connections") (codes "Open connections.") summary.connections)))))
 
 abbrev pub phase_line : List ℕ → ℕ → List ℕ
 phase_line phase value = labelled_line (codes "phase_changesets") (codes "phase") phase value

@@ -45,13 +45,19 @@ pub struct Board<'a, R: Wait + Clock> {
     counted: Mutex<Counted>,
     connections: AtomicU64,
     store: AtomicU64,
+    stored: AtomicU64,
     /// How many pushes were opened and ended.
     numbers: AtomicU64,
 }
 
 impl<'a, R: Wait + Clock> Board<'a, R> {
-    /// No pushes yet, over a store of so many bytes.
-    pub fn new(rt: &'a R, alloc: Global, store: u64) -> Result<Board<'a, R>, NoMemory> {
+    /// No pushes yet, over a store of so many bytes and pushes.
+    pub fn new(
+        rt: &'a R,
+        alloc: Global,
+        store: u64,
+        stored: u64,
+    ) -> Result<Board<'a, R>, NoMemory> {
         let counted = Counted {
             time: None,
             counts: PhaseCounts {
@@ -66,6 +72,7 @@ impl<'a, R: Wait + Clock> Board<'a, R> {
             counted: Mutex::new(counted),
             connections: AtomicU64::new(0),
             store: AtomicU64::new(store),
+            stored: AtomicU64::new(stored),
             numbers: AtomicU64::new(0),
         })
     }
@@ -86,6 +93,7 @@ impl<'a, R: Wait + Clock> Board<'a, R> {
         if is_done {
             let record = push.bytes.saturating_add(FRAME);
             self.store.fetch_add(record, Ordering::SeqCst);
+            self.stored.fetch_add(1, Ordering::SeqCst);
         }
         self.numbers.fetch_add(1, Ordering::SeqCst);
     }
@@ -150,6 +158,7 @@ impl<'a, R: Wait + Clock> Board<'a, R> {
             recent,
             connections: self.connections.load(Ordering::SeqCst),
             store: self.store.load(Ordering::SeqCst),
+            stored: self.stored.load(Ordering::SeqCst),
         })
     }
 }

@@ -58,6 +58,12 @@ fn push_holdings<A: Allocator>(text: &mut String<A>, summary: &Summary<A>) -> Re
     push_gauge(text, "store_bytes", "Bytes of the store.", summary.store)?;
     push_gauge(
         text,
+        "store_pushes",
+        "Pushes in the store, each durable.",
+        summary.stored,
+    )?;
+    push_gauge(
+        text,
         "connections",
         "Open connections.",
         summary.connections,

@@ -24,4 +24,6 @@ pub struct Summary<A: Allocator = Global> {
     pub connections: u64,
     /// How many bytes the store has.
     pub store: u64,
+    /// How many pushes the store has: the place of its next record.
+    pub stored: u64,
 }

@@ -132,6 +132,7 @@ fn summary<A: Allocator + Copy>(
         recent,
         connections: 5,
         store: 1_627_384,
+        stored: 16,
     })
 }
 
@@ -439,6 +440,7 @@ fn the_numbers(rt: HostRuntime) -> Result<(), Fail> {
         b"hg_pushd_markers 0\n".as_slice(),
         b"hg_pushd_connections 5\n".as_slice(),
         b"hg_pushd_store_bytes 1627384\n".as_slice(),
+        b"hg_pushd_store_pushes 16\n".as_slice(),
         b"hg_pushd_phase_changesets{phase=\"public\"} 0\n".as_slice(),
         b"hg_pushd_phase_changesets{phase=\"draft\"} 1\n".as_slice(),
         b"hg_pushd_pushes_done_total 1\n".as_slice(),

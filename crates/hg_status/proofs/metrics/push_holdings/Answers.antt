@@ -6,6 +6,7 @@ pub returns : goal.returns
 unfolding holdings_lines
 returns g c =
     rw (
+      c.in_ok-push_gauge-7.ensures,
       c.in_ok-push_gauge-6.ensures,
       c.in_ok-push_gauge-5.ensures,
       c.in_ok-push_gauge-4.ensures,
