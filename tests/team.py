@@ -132,6 +132,8 @@ class Trial:
                      self.user)
         self.pulls_before_the_mirror()
         self.slow_bodies_of_one_user()
+        self.answers("a branch is cloned by its name", "hg clone -q -r default https://hg.example.org/ ~/named && "
+                     "hg -R ~/named pull -r tip && hg -R ~/named log -r tip -T '{desc}\\n'", "more", self.user)
         self.answers("the web page is hgweb's", f"{CURL} -u ann:secret https://hg.example.org/", "three")
         self.answers("a wrong password is refused",
                      f"{CURL} {ONLY_STATUS} -u ann:wrong 'https://hg.example.org/?cmd=heads'", "401")
