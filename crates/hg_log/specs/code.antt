@@ -3,3 +3,4 @@ pub mod Family
 pub mod Graph
 pub mod Marks
 pub mod Inside
+pub mod IdHash

@@ -17,6 +17,7 @@ ghost use Rattle.hg_log.specs.Add.{with_row};
 ghost use Rattle.hg_log.specs.Rows.{HasNode, LacksNode, HasParents, HasText, IsKnown, AreLawful};
 
 use crate::graph::{Graph, Parents};
+use crate::id_hash::IdKeys;
 use hg_types::{Limits, NoMemory, Node, Seq, TryClone};
 use indexmap::IndexMap;
 use std::alloc::{Allocator, Global};
@@ -34,7 +35,7 @@ pub struct Row<A: Allocator = Global> {
 /// The changesets in the order in which they came.
 #[derive(Drop)]
 pub struct Changelog<A: Allocator = Global> {
-    pub(crate) rows: IndexMap<Node, Row<A>, RandomState, A>,
+    pub(crate) rows: IndexMap<Node, Row<A>, IdKeys, A>,
     pub(crate) graph: Graph<A>,
     pub(crate) limits: Limits,
 }
@@ -57,8 +58,16 @@ impl<A: Allocator + Copy> Changelog<A> {
         requires { IsAllowed limits }
         ensures { result ≡ record { rows = []; limits = limits } }
     {
+        Changelog::keyed(alloc, IdKeys::of(&state), limits)
+    }
+
+    /// The empty log, which hashes ids by these keys.
+    fn keyed(alloc: A, keys: IdKeys, limits: Limits) -> Self
+        requires { IsAllowed limits }
+        ensures { result ≡ record { rows = []; limits = limits } }
+    {
         Changelog {
-            rows: IndexMap::with_hasher(alloc, state),
+            rows: IndexMap::with_hasher(alloc, keys),
             graph: Graph::new(alloc),
             limits,
         }
@@ -288,7 +297,7 @@ impl<A: Allocator + Copy> Changelog<A> {
 
 impl<A: Allocator + Copy> TryClone<A> for Changelog<A> {
     fn try_clone(&self, alloc: A) -> Result<Self, NoMemory> {
-        let mut copy = Changelog::new(alloc, *self.rows.hasher(), self.limits);
+        let mut copy = Changelog::keyed(alloc, *self.rows.hasher(), self.limits);
         for rev in 0..self.len() {
             copy.append_copy(alloc, self, rev)?;
         }

@@ -12,6 +12,7 @@ mod changelog;
 mod child_counts;
 mod family;
 mod graph;
+mod id_hash;
 mod laws;
 mod link;
 mod marks;
