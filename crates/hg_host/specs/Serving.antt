@@ -1,9 +1,13 @@
--- A connection to a store that is served.
-use Rattle.std.specs.Prelude.{ℕ, ◌≡◌, Bool, List, Option}
+-- A connection to a store that is served, and the end of its service.
+use Rattle.std.specs.Prelude.{ℕ, ◌≡◌, Bool, List, Option, All}
 use Rattle.hg_parts.specs.Repository.{Repository}
 use Rattle.hg_push.specs.Run.{RepositoryOf}
+use Rattle.hg_queue.specs.Words.{history}
+use Rattle.hg_serve.specs.Histories.{serial_run}
 use Rattle.hg_store.specs.declared.head.Head.{Head}
-use Rattle.hg_commit.specs.Clients.{KeptSeen}
+use Rattle.hg_commit.specs.Clients.{IsCovered, KeptSeen}
+use Rattle.hg_durable.specs.Closing.{ClosesKept}
+use Rattle.hg_durable.specs.declared.closing.ClosedKept.{ClosedKept}
 use Rattle.hg_web.specs.declared.serve.ConnectionEnd.{ConnectionEnd}
 use Rattle.hg_web.specs.declared.terms.WebTerms.{WebTerms}
 use Rattle.hg_web.specs.Serving.{ServesHttp}
@@ -24,3 +28,33 @@ pub record HostsHttp {A S : Type 0} (capacity : ℕ) (first : RepositoryOf A) (h
   pub terms : WebTerms S
   pub count : terms.stored ≡ view.stored
   pub serves : ServesHttp capacity first kept page metrics terms before input left out sent end after
+
+-- A client came back from a connection to the service that was served, from some reader to some writer.
+pub record WasHosted {A S : Type 0} (capacity : ℕ) (first : RepositoryOf A) (head : Head)
+    (stored : List (List ℕ)) (kept : KeptSeen A → ℕ → Type 0)
+    (page metrics : S → Repository A → List ℕ → Type 0) (after : KeptSeen A) : Type 0 where
+  pub view : HostView
+  pub before : KeptSeen A
+  pub input : Option (List ℕ)
+  pub left : Option (List ℕ)
+  pub out : Option (List ℕ)
+  pub sent : Option (List ℕ)
+  pub end : ConnectionEnd
+  pub hosts : HostsHttp capacity first head stored kept page metrics view before input left out sent end after
+
+-- The service of a store was closed, with clients that came back from its connections, and left this. What the law
+-- of recovery asks of an end holds with them: the records of the store led to the repository that the server began
+-- with, and what an end of the process or the machine might have left since one of them was answered has all that the
+-- answer rests on. The repository and the journal are those of the whole history.
+pub record EndsHost {A D S : Type 0} (seen : D → List ℕ) (may_leave : D → List ℕ → Type 0) (moment : D → ℕ)
+    (left_since : D → ℕ → List ℕ → Type 0) (capacity : ℕ) (first : RepositoryOf A) (head : Head)
+    (stored : List (List ℕ)) (opened : ℕ) (page metrics : S → Repository A → List ℕ → Type 0)
+    (left : ClosedKept D A) : Type 0 where
+  pub recovered : IsRecovered head.publishing head stored first
+  pub clients : List (KeptSeen A)
+  pub hosted : All (WasHosted capacity first head stored (IsCovered seen may_leave moment head stored first) page
+      metrics) clients
+  pub closes : ClosesKept moment left_since may_leave head stored first opened clients (history left.closed.taker)
+      left.kept left.log.device
+  pub serial : serial_run first (history left.closed.taker)
+      ≡ record { repo = left.closed.repo; journal = left.closed.journal.items }

@@ -1,19 +1,23 @@
 //! A store that is served to connections, each on a thread, for as long as it can be added to.
 
-ghost use Rattle.std.specs.Prelude.{◌≡◌, [], length};
+ghost use Rattle.std.specs.Prelude.{◌≡◌, ℕ, [], length, IfSome, None};
 ghost use Rattle.hg_store.specs.Log.{IsSettled};
 ghost use Rattle.hg_serve.specs.Desks.{OpensWith};
 ghost use Rattle.hg_commit.specs.Receipts.{IsTallyOf};
-ghost use Rattle.hg_recovery.specs.Opening.{IsOpened, IsRecovered};
+ghost use Rattle.hg_recovery.specs.Opening.{head_of, records_of, IsOpened, IsRecovered};
+ghost use Rattle.hg_host.specs.Serving.{EndsHost};
 
 use crate::runtime::HostingRuntime;
 use crate::service::HostService;
 use crate::terms::HostTerms;
 use hg_commit::{Promises, Storing};
+use hg_durable::ClosedKept;
 use hg_queue::{PartQueue, Taker};
 use hg_recovery::Recovered;
+use hg_status::Board;
 use hg_store::Device;
 use hg_tcp::Over;
+use hg_web::Shown;
 use std::alloc::Global;
 use std::marker::Brand;
 use std::net::{SocketAddr, TcpListener, TcpStream};
@@ -30,15 +34,15 @@ const PAUSE: u64 = 100;
 
 /// A service, and where its connections come from.
 #[derive(Drop)]
-struct Hosted<'s, J: Storing<Global>, D: Device, R: Wait + Clock> {
+struct Hosted<'s, 'a, J: Storing<Global>, D: Device, R: Wait + Clock> {
     rt: &'s R,
     alloc: Global,
-    service: &'s HostService<'s, J, D, R>,
+    service: &'s HostService<'a, J, D, R>,
     listener: &'s TcpListener,
     address: SocketAddr,
 }
 
-impl<'s, J, D, R> Hosted<'s, J, D, R>
+impl<'s, 'a, J, D, R> Hosted<'s, 'a, J, D, R>
 where
     J: Storing<Global> + Send + Sync,
     D: Device + Drop + Send,
@@ -137,18 +141,38 @@ where
     }
 }
 
+/// Why serving is over, and what is left of the server and of its store. Nothing is left where there was no memory to
+/// begin with.
+#[derive(Drop)]
+pub struct Ended<D: Device> {
+    pub over: Over,
+    pub left: Option<ClosedKept<D>>,
+}
+
+impl<D: Device> Ended<D> {
+    /// Nothing began, for lack of memory.
+    fn without_memory() -> Self
+        ensures { result.left ≡ None }
+    {
+        Ended {
+            over: Over::NoMemory,
+            left: None,
+        }
+    }
+}
+
 /// Serves as [`serve_store`] does, on a server of that name, with a new tally.
-fn host_named<J, D, R>(
-    rt: &R,
+fn host_named<'a, J, D, R>(
+    rt: &'a R,
     alloc: Global,
-    terms: HostTerms<'_>,
+    terms: HostTerms<'a>,
     listener: &TcpListener,
     address: SocketAddr,
     queue: PartQueue,
     taker: Taker,
     recovered: Recovered<D>,
     tally: Promises,
-) -> Over
+) -> Ended<D>
 where
     J: Storing<Global> + Send + Sync,
     D: Device + Drop + Send,
@@ -159,10 +183,12 @@ where
     requires tally { IsTallyOf J.tally J.name J.parts tally × (tally.promises ≡ []) }
     requires recovered { IsRecovered J.head.publishing J.head J.stored J.first }
     requires count { recovered.stored ≡ length J.stored }
+    ensures { IfSome result.left (EndsHost D.seen D.may_leave D.moment D.left_since J.capacity J.first J.head J.stored
+        J.opened ⟦<Board<'a, R> as Shown<Global>>⟧.is_page ⟦<Board<'a, R> as Shown<Global>>⟧.are_metrics) }
 {
     let Ok(service) = HostService::<J, D, R>::new(rt, alloc, terms, queue, taker, recovered, tally)
     else {
-        return Over::NoMemory;
+        return Ended::without_memory();
     };
     let hosted = Hosted {
         rt,
@@ -173,37 +199,45 @@ where
     };
     hosted.serve_all();
     let over = service.slots().over(rt);
-    let clients = service.take_clients(rt, alloc);
-    drop(service.close(rt, alloc, clients));
-    over.unwrap_or(Over::StoreFailed)
+    let clients = service.take_clients(rt, alloc).into_clients();
+    let left = service.close(rt, alloc, clients);
+    Ended {
+        over: over.unwrap_or(Over::StoreFailed),
+        left: Some(left),
+    }
 }
 
 /// Serves the repository of a store to connections, and adds the pushes that are done to the store. It ends where
 /// the store failed, where there is no memory to begin with, or where the numbers of pushes come to their end.
-/// Then the store is closed, and all that was answered is in it.
-pub fn serve_store<D, R>(
-    rt: &R,
+/// Then the store is closed, and all that was answered is in it: by the receipt of each client that came back from a
+/// connection and that no other one has.
+pub fn serve_store<'a, D, R>(
+    rt: &'a R,
     alloc: Global,
-    terms: HostTerms<'_>,
+    terms: HostTerms<'a>,
     listener: &TcpListener,
     address: SocketAddr,
     recovered: Recovered<D>,
-) -> Over
+) -> Ended<D>
 where
     D: Device + Drop + Send,
     R: HostingRuntime,
     requires { IsOpened D.seen D.may_leave recovered }
+    ensures { (capacity : ℕ) × IfSome result.left (EndsHost D.seen D.may_leave D.moment D.left_since capacity
+        recovered.repo (head_of recovered.publishing) (records_of recovered.records.items)
+        (D.moment recovered.log.device) ⟦<Board<'a, R> as Shown<Global>>⟧.is_page
+        ⟦<Board<'a, R> as Shown<Global>>⟧.are_metrics) }
 {
     let capacity = terms.capacity.clamp(1, 65_536);
     let Ok((queue, taker)) = PartQueue::new(alloc, capacity) else {
         drop(recovered);
-        return Over::NoMemory;
+        return Ended::without_memory();
     };
     let Ok(tally) = Promises::new(alloc) else {
         drop(recovered);
         drop(queue);
         drop(taker);
-        return Over::NoMemory;
+        return Ended::without_memory();
     };
     host_named::<Brand, D, R>(
         rt, alloc, terms, listener, address, queue, taker, recovered, tally,

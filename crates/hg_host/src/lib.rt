@@ -9,14 +9,16 @@
 //! the same store goes on.
 #![tactic(auto)]
 
+mod clients;
 mod hosting;
 mod runtime;
 mod service;
 mod terms;
 mod watch;
 
+pub use clients::HostedClients;
 pub use hg_tcp::Over;
-pub use hosting::serve_store;
+pub use hosting::{Ended, serve_store};
 pub use runtime::HostingRuntime;
 pub use service::HostService;
 pub use terms::HostTerms;

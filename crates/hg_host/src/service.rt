@@ -14,8 +14,9 @@ ghost use Rattle.hg_durable.specs.Closing.{ClosesKept};
 ghost use Rattle.hg_queue.specs.Words.{history};
 ghost use Rattle.hg_serve.specs.Histories.{serial_run};
 ghost use Rattle.hg_recovery.specs.Opening.{IsRecovered};
-ghost use Rattle.hg_host.specs.Serving.{HostsHttp};
+ghost use Rattle.hg_host.specs.Serving.{HostsHttp, WasHosted};
 
+use crate::clients::HostedClients;
 use crate::terms::HostTerms;
 use crate::watch::Watcher;
 use hg_commit::{KeptClient, Ledger, Parts, Promises, Storing};
@@ -52,7 +53,7 @@ pub struct HostService<'a, J: Storing<Global>, D: Device, R: Wait + Clock> {
     /// The view that all who read share.
     shelf: Mutex<ViewCache<J>>,
     /// The clients that no connection has.
-    free: Mutex<Vec<KeptClient<J>>>,
+    free: Mutex<HostedClients<J, D, Board<'a, R>>>,
     budget: Budget,
     board: Board<'a, R>,
     slots: Places,
@@ -158,7 +159,7 @@ where
             stored: _,
         } = self;
         let mut clients = clients;
-        let mut others = free.into_inner();
+        let mut others = free.into_inner().into_clients();
         let witness = shelf.into_inner().into_witness();
         put(rt, &mut others, KeptClient::new(witness));
         join(rt, &mut clients, others);
@@ -235,13 +236,17 @@ where
 
     /// Keeps a client for the next connection. The list has room for all that are served at one time: one that
     /// had none would be asked again.
-    fn leave(&self, rt: &R, client: KeptClient<J>) {
-        put(rt, &mut *self.free.lock(rt), client);
+    fn leave(&self, rt: &R, client: KeptClient<J>)
+        requires { WasHosted J.capacity J.first J.head J.stored
+            (IsCovered D.seen D.may_leave D.moment J.head J.stored J.first)
+            ⟦<Board<'a, R> as Shown<Global>>⟧.is_page ⟦<Board<'a, R> as Shown<Global>>⟧.are_metrics client }
+    {
+        self.free.lock(rt).add(rt, client);
     }
 
     /// The clients that no connection has. Once serving is over, these are all that ever had one.
-    pub(crate) fn take_clients(&self, rt: &R, alloc: Global) -> Vec<KeptClient<J>> {
-        mem::replace(&mut *self.free.lock(rt), Vec::new(alloc))
+    pub(crate) fn take_clients(&self, rt: &R, alloc: Global) -> HostedClients<J, D, Board<'a, R>> {
+        mem::replace(&mut *self.free.lock(rt), HostedClients::new(alloc))
     }
 
     /// The places for connections.
@@ -289,18 +294,18 @@ where
 }
 
 /// A board for a store of so many bytes and pushes, and room for the clients that no connection has.
-fn rooms<'a, J: Storing<Global>, R: Wait + Clock + Eprint + RandomSource>(
+fn rooms<'a, J: Storing<Global>, D: Device, R: Wait + Clock + Eprint + RandomSource>(
     rt: &'a R,
     alloc: Global,
     terms: &HostTerms<'_>,
     end: usize,
     stored: usize,
-) -> Result<(Board<'a, R>, Vec<KeptClient<J>>), NoMemory>
-    ensures { IfOk result (λ made. made.1.items ≡ []) }
+) -> Result<(Board<'a, R>, HostedClients<J, D, Board<'a, R>>), NoMemory>
+    ensures { IfOk result (λ made. made.1 ≡ []) }
 {
     let board = Board::new(rt, alloc, end as u64, stored as u64)?;
     let places = (terms.connections as usize).saturating_add(WITNESSES);
-    let free = Vec::with_capacity(alloc, places)?;
+    let free = HostedClients::with_room(alloc, places)?;
     Ok((board, free))
 }
 
@@ -315,7 +320,7 @@ fn new_client<J: Storing<Global>, R: Wait>(rt: &R, server: &Server<J>) -> Client
 }
 
 /// Adds an item to others. Where memory is refused, it is tried again.
-fn put<T, R: Wait>(rt: &R, items: &mut Vec<T>, item: T)
+pub(crate) fn put<T, R: Wait>(rt: &R, items: &mut Vec<T>, item: T)
     ensures { items.new.items ≡ items.old.items ++ item ∷ [] }
 {
     let mut item = item;

@@ -3,7 +3,7 @@
 ghost use Rattle.hg_recovery.specs.Opening.{IsOpened};
 
 use hg_commands::{Hosting, device_status, tell};
-use hg_host::{HostTerms, HostingRuntime, Over, serve_store};
+use hg_host::{Ended, HostTerms, HostingRuntime, Over, serve_store};
 use hg_recovery::{OpeningFault, Recovered, recover_store};
 use hg_store::{Device, HostFile, StoreFile, StoreFolder};
 use hg_store_tools::TornNote;
@@ -64,7 +64,9 @@ fn serve<R: Files<File = File> + AllocGlobal + HostingRuntime>(
         ⟦<StoreFile<HostFile> as Device>⟧.may_leave recovered }
 {
     let terms = terms_of(hosting);
-    match serve_store(rt, rt.alloc(), terms, listener, address, recovered) {
+    let Ended { over, left } = serve_store(rt, rt.alloc(), terms, listener, address, recovered);
+    drop(left);
+    match over {
         Over::NumbersEnd => None,
         over => Some(status_at(rt, over)),
     }

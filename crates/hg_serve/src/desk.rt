@@ -362,11 +362,13 @@ impl<J: Naming<A>, A: Allocator + Copy> Desk<J, A> {
         self.open(queue)
     }
 
-    /// The repository and the journal of the whole history, which goes on from what each client has seen.
+    /// The repository and the journal of the whole history, which is one that could have happened and goes on
+    /// from what each client has seen.
     pub(crate) fn close(self, queue: &PartQueue<A>, mut clients: Vec<Client<J, A>, A>) -> Closed<A>
         requires queue { IsQueueIn J.table J.capacity queue.now }
         ensures serial { serial_run J.first (history result.taker)
             ≡ record { repo = result.repo; journal = result.journal.items } }
+        ensures legal { IsHistory (newest_first (history result.taker)) }
         ensures earlier { All (λ c. IsPrefix c (history result.taker)) clients.items }
         ensures taker { IsTakerIn J.table J.capacity result.taker }
     {

@@ -7,10 +7,11 @@ ghost use Rattle.hg_types.specs.declared.item.What.TheVariants.{Part as a_part, 
 ghost use Rattle.hg_queue.specs.History.{of, items_of};
 ghost use Rattle.hg_queue.specs.Seats.{putter};
 ghost use Rattle.hg_queue.specs.Words.{history, what_of, IsTakerIn};
+ghost use Rattle.hg_push.specs.History.{IsHistory};
 ghost use Rattle.hg_serve.specs.Answers.{Answers};
 ghost use Rattle.hg_serve.specs.Clients.{GoesOn, PutsNext, PutsItsMark, TriesPut};
 ghost use Rattle.hg_serve.specs.Desks.{OpensWith};
-ghost use Rattle.hg_serve.specs.Histories.{serial_run};
+ghost use Rattle.hg_serve.specs.Histories.{newest_first, serial_run};
 
 mod meeting;
 
@@ -312,11 +313,13 @@ impl<J: Naming<A>, A: Allocator + Copy> Server<J, A> {
         desk.turn(rt, &self.queue)
     }
 
-    /// The repository and the journal of the whole history, which goes on from what each client has seen. The
-    /// taker that comes back is that of this server's queue. Items that are still queued are dropped.
+    /// The repository and the journal of the whole history, which is one that could have happened and goes on
+    /// from what each client has seen. The taker that comes back is that of this server's queue. Items that are
+    /// still queued are dropped.
     pub fn close(self, clients: Vec<Client<J, A>, A>) -> Closed<A>
         ensures serial { serial_run J.first (history result.taker)
             ≡ record { repo = result.repo; journal = result.journal.items } }
+        ensures legal { IsHistory (newest_first (history result.taker)) }
         ensures earlier { All (λ c. IsPrefix c (history result.taker)) clients.items }
         ensures taker { IsTakerIn J.table J.capacity result.taker }
     {

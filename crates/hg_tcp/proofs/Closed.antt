@@ -9,7 +9,8 @@ use Rattle.hg_types.specs.declared.item.Taken.{Taken}
 use Rattle.hg_parts.specs.Repository.{Repository}
 use Rattle.hg_queue.specs.declared.seat.Taker.{Taker}
 use Rattle.hg_queue.specs.Words.{IsTakerIn, history}
-use Rattle.hg_serve.specs.Histories.{serial_run}
+use Rattle.hg_push.specs.History.{IsHistory}
+use Rattle.hg_serve.specs.Histories.{newest_first, serial_run}
 use Rattle.hg_connection.specs.Devices.{TellsMore, Output}
 use Rattle.hg_connection.specs.Sent.{Sends}
 use Rattle.hg_connection.specs.declared.sending.Sending.{Sending}
@@ -24,7 +25,8 @@ pub closes : {A : Type 0} (first named repo : Repository A) (terms : ServeTerms)
     (heard : List (List (Taken A)) → Type 0) (door mid shut : Option (List DoorUse)) (before after : Output) (status count : ℕ) (table : TableId)
     (taker : Taker A) (at : ServeTerms) (journal shown : List ℕ) (sending : Sending) (failed missed no_memory : Bool) (left : ℕ)
     (clients : List (List (Taken A))) → first ≡ named → terms.capacity ≡ capacity → terms.bundles ≡ bundles
-    → serial_run named (history taker) ≡ record { repo = repo; journal = journal } → shown ≡ journal
+    → serial_run named (history taker) ≡ record { repo = repo; journal = journal }
+    → IsHistory (newest_first (history taker)) → shown ≡ journal
     → Sends sending count before after (closing_text repo shown) → status ≡ end_status failed no_memory sending
     → IsTakerIn table capacity taker
     → heard clients → All (WasServed capacity named bundles) clients
@@ -34,7 +36,7 @@ pub closes : {A : Type 0} (first named repo : Repository A) (terms : ServeTerms)
     → TellsMore mid shut (AllOver missed ∷ [])
     → EndsOn first terms heard door shut before after status
 closes {A} first named repo terms capacity bundles heard door mid shut before after status count table taker at journal shown
-    sending failed missed no_memory left clients same room most run all sent is of hears served earlier counted lacks
+    sending failed missed no_memory left clients same room most run legal all sent is of hears served earlier counted lacks
     on admits last =
     let asks = subst (λ (t : ServeTerms). AdmitsAll door mid t failed) on admits in
     inr (record {
@@ -43,6 +45,7 @@ closes {A} first named repo terms capacity bundles heard door mid shut before af
       journal = journal;
       serial = subst (λ f. serial_run f (history taker) ≡ record { repo = repo; journal = journal })
           (sym same) run;
+      legal = legal;
       sending = sending;
       count = count;
       sent = subst (λ j. Sends sending count before after (closing_text repo j)) all sent;

@@ -8,7 +8,8 @@ use Rattle.hg_types.specs.declared.item.Taken.{Taken}
 use Rattle.hg_parts.specs.Repository.{Repository}
 use Rattle.hg_queue.specs.declared.seat.Taker.{Taker}
 use Rattle.hg_queue.specs.Words.{IsTakerIn, history as taken_by}
-use Rattle.hg_serve.specs.Histories.{serial_run}
+use Rattle.hg_push.specs.History.{IsHistory}
+use Rattle.hg_serve.specs.Histories.{newest_first, serial_run}
 use Rattle.hg_connection.specs.Devices.{TellsMore, Output}
 use Rattle.hg_connection.specs.Sent.{Sends}
 use Rattle.hg_connection.specs.declared.sending.Sending.{Sending}
@@ -34,8 +35,8 @@ end_status false false Whole = 0
 -- A service of a repository, on these terms, was closed. The door was asked for as many connections as the
 -- terms have, or up to one that failed. It heard then whether memory was refused for one, and of these clients.
 -- Each of them was served by the server on these terms. The queue has the capacity of the terms, and the history
--- of what its Taker took goes on from what each client has seen. That history gives this repository and this
--- journal, run one by one from the first repository. So much of their text was written. The status says whether a
+-- of what its Taker took is one that could have happened, and goes on from what each client has seen. That history
+-- gives this repository and this journal, run one by one from the first repository. So much of their text was written. The status says whether a
 -- device failed, or memory was refused: for a connection, as the door heard or where one has no client, or for the
 -- text.
 pub record Closes {A : Type 0} (first : Repository A) (terms : ServeTerms)
@@ -45,6 +46,7 @@ pub record Closes {A : Type 0} (first : Repository A) (terms : ServeTerms)
   pub repo : Repository A
   pub journal : List ℕ
   pub serial : serial_run first history ≡ record { repo = repo; journal = journal }
+  pub legal : IsHistory (newest_first history)
   pub sending : Sending
   pub count : ℕ
   pub sent : Sends sending count before after (closing_text repo journal)

@@ -2,8 +2,9 @@
 
 ghost use Rattle.std.specs.Prelude.{◌≡◌, ◌++◌, ◌∷◌, [], All, IfOk, MatchResult, length};
 ghost use mathlib.Core.List.{IsPrefix};
+ghost use Rattle.hg_push.specs.History.{IsHistory};
 ghost use Rattle.hg_queue.specs.Words.{history, IsTakerIn};
-ghost use Rattle.hg_serve.specs.Histories.{serial_run};
+ghost use Rattle.hg_serve.specs.Histories.{newest_first, serial_run};
 ghost use Rattle.hg_tcp.specs.Served.{WasServed};
 
 use crate::naming::ServiceNaming;
@@ -62,12 +63,14 @@ impl<J: ServiceNaming<A>, A: Allocator> ServedClients<J, A> {
 }
 
 impl<J: ServiceNaming<A>, A: Allocator + Copy> ServedClients<J, A> {
-    /// Closes their server. Its whole history goes on from what each of them has seen.
+    /// Closes their server. Its whole history is one that could have happened, and goes on from what each of
+    /// them has seen.
     pub(crate) fn close(self, server: Server<J, A>) -> Closed<A>
         ensures served { All (WasServed J.capacity J.first J.bundles) self }
         ensures earlier { All (λ c. IsPrefix c (history result.taker)) self }
         ensures serial { serial_run J.first (history result.taker)
             ≡ record { repo = result.repo; journal = result.journal.items } }
+        ensures legal { IsHistory (newest_first (history result.taker)) }
         ensures taker { IsTakerIn J.table J.capacity result.taker }
     {
         let ServedClients { clients } = self;

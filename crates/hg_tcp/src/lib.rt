@@ -20,6 +20,7 @@ mod naming;
 mod pace;
 mod places;
 mod replies;
+mod runtime;
 mod serve;
 mod service;
 mod terms;

@@ -11,6 +11,7 @@ use crate::acceptor::Acceptor;
 use crate::clients::ServedClients;
 use crate::closing::send_closing;
 use crate::naming::ServiceNaming;
+use crate::runtime::ServingRuntime;
 use crate::service::SharedServer;
 use crate::terms::ServeTerms;
 use hg_connection::{Sending, Writer};
@@ -28,13 +29,7 @@ use std::time::Clock;
 const STACK: usize = 524_288;
 
 /// Starts a thread that serves the connection. The door hears whether it was started.
-fn start<
-    's,
-    E,
-    J: ServiceNaming<Global> + Send + Sync,
-    R: Threads + Wait + Clock + Sync,
-    D: Acceptor,
->(
+fn start<'s, E, J: ServiceNaming<Global> + Send + Sync, R: ServingRuntime, D: Acceptor>(
     rt: &'s R,
     alloc: Global,
     scope: &'s Scope<'s, E>,
@@ -53,13 +48,7 @@ fn start<
 }
 
 /// Accepts a connection and starts it. False where either failed.
-fn admit<
-    's,
-    E,
-    J: ServiceNaming<Global> + Send + Sync,
-    R: Threads + Wait + Clock + Sync,
-    D: Acceptor,
->(
+fn admit<'s, E, J: ServiceNaming<Global> + Send + Sync, R: ServingRuntime, D: Acceptor>(
     rt: &'s R,
     alloc: Global,
     scope: &'s Scope<'s, E>,
@@ -75,13 +64,7 @@ fn admit<
 }
 
 /// Accepts and starts as many connections as the terms have. True where one failed.
-fn admit_all<
-    's,
-    E,
-    J: ServiceNaming<Global> + Send + Sync,
-    R: Threads + Wait + Clock + Sync,
-    D: Acceptor,
->(
+fn admit_all<'s, E, J: ServiceNaming<Global> + Send + Sync, R: ServingRuntime, D: Acceptor>(
     rt: &'s R,
     alloc: Global,
     scope: &'s Scope<'s, E>,
@@ -100,11 +83,12 @@ fn admit_all<
 }
 
 /// The same, and waits for those that run. The door comes back.
-fn accept_all<
-    J: ServiceNaming<Global> + Send + Sync,
-    R: Threads + Wait + Clock + Sync,
-    D: Acceptor + Drop,
->(rt: &R, alloc: Global, service: &SharedServer<J>, door: D) -> (bool, D)
+fn accept_all<J: ServiceNaming<Global> + Send + Sync, R: ServingRuntime, D: Acceptor + Drop>(
+    rt: &R,
+    alloc: Global,
+    service: &SharedServer<J>,
+    door: D,
+) -> (bool, D)
     ensures { AdmitsAll (D.told door) (D.told result.1) service.now result.0 }
 {
     thread::scope(thread::scope_env(), rt, move |scope| {
@@ -127,7 +111,7 @@ fn serve_named<J, R, D, W>(
 ) -> (u8, D)
 where
     J: ServiceNaming<Global> + Send + Sync,
-    R: Threads + Wait + Clock + Sync,
+    R: ServingRuntime,
     D: Acceptor + Drop,
     W: Writer,
     requires begins { OpensWith J.table J.capacity J.first queue taker repo }

@@ -7,6 +7,8 @@ use mathlib.Core.List.{IsPrefix}
 use Rattle.hg_types.specs.declared.item.Taken.{Taken}
 use Rattle.hg_queue.specs.Words.{seen, history}
 use Rattle.hg_queue.proofs.CallerLemmas.{prefix_longer}
+use Rattle.hg_push.specs.History.{IsHistory}
+use Rattle.hg_serve.specs.Histories.{newest_first}
 use Rattle.hg_serve.proofs.Orders.{taker_named, empty_front}
 use Rattle.hg_serve.proofs.desk.Desk.close.Goals as goal
 
@@ -52,3 +54,8 @@ returns-clause-earlier g c =
     ∙ empty_front c.spending.clients.items i.done.0 none in
     subst (λ (y : List (Taken g.row.A.Denot) × List (List (Taken g.row.A.Denot))). F y.0 y.1)
     (λ j. (sym i.kept j, sym all j)) i.done.2
+
+pub returns-clause-legal : goal.returns-clause-legal
+returns-clause-legal g c =
+    subst (λ (h : List (Taken g.row.A.Denot)). IsHistory (newest_first h)) (sym c.spending.invariant.kept)
+    c.self.invariant.held.legal
