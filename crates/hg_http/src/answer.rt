@@ -120,7 +120,7 @@ fn try_respond<A: Allocator>(
 
 /// The status that says why a request is not answered.
 fn status_of(fault: AddressFault) -> StatusCode
-    ensures { result.0 ≡ status_named fault }
+    ensures { result ≡ status_named fault }
 {
     match fault {
         AddressFault::OtherName => StatusCode::MISDIRECTED_REQUEST,
