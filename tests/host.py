@@ -27,6 +27,8 @@ HG = shutil.which("hg")
 CASES = []
 ROOT = "b80de5d138758541c5f05265ad144ab9fa86d1db"
 EMPTY_REPLY = b"HG20" + bytes(8)
+LOST_REPLY = (b"HG20" + bytes(7) + b"\x2a\x0bERROR:ABORT" + bytes(4) + b"\x01\x00\x07\x0fmessageconnection lost"
+              + bytes(8))
 SETTINGS = "[ui]\nusername = Test <t@e>\n[experimental]\nevolution = all\n[phases]\npublish = false\n"
 
 
@@ -205,6 +207,67 @@ def what_is_refused_changes_nothing(host):
 
 
 @case
+def a_command_that_may_be_read_otherwise(host):
+    """Who stands before the server may take the first `cmd`, or read no escapes."""
+    host.start()
+    kind = ("content-type: application/mercurial-0.1", "x-hgarg-1: heads=666f726365")
+    for query in ("cmd=heads&cmd=unbundle", "%63md=heads", "cmd=%68eads", "%63md=unbundle", "cmd=unbundle&cmd=unbundle",
+                  "cmd=heads&%63md=unbundle", "cmd=unbundle+", "cmd&cmd=unbundle"):
+        want(query, host.ask(f"/?{query}", ROOT_PUSH, kind)[0], 400)
+    want("report", host.report(), "")
+    want("a command behind its arguments", host.ask("/?n%6fdes=&cmd=known")[0], 200)
+
+
+@case
+def one_path_is_answered(host):
+    host.start("--path", "/team/one/")
+    kind = ("content-type: application/mercurial-0.1", "x-hgarg-1: heads=666f726365")
+    for path in ("/", "/team", "/team/one2", "/team/one/sub", "/team/one//", "/team/%6fne", "/team/one/report"):
+        want(path, host.ask(f"{path}?cmd=unbundle", ROOT_PUSH, kind)[0], 404)
+    for path in ("/", "/report", "/metrics", "/team/one/sub"):
+        want(path, host.ask(path)[0], 404)
+    want("its page", [host.ask(path)[:2] for path in ("/team/one", "/team/one/")],
+         [(200, "text/html; charset=utf-8")] * 2)
+    want("its numbers", host.ask("/team/one/metrics")[0], 200)
+    want("its report", host.ask("/team/one/report")[2], b"")
+    want("a push", len(host.ask("/team/one?cmd=unbundle", ROOT_PUSH, kind)[2]), 67)
+    want("heads", host.ask("/team/one/?cmd=heads")[2].decode(), ROOT + "\n")
+
+
+@case
+def one_name_is_answered(host):
+    host.start("--name", "hg.example.org")
+    for name, status in (("hg.example.org", 200), ("HG.example.org:8000", 200), ("127.0.0.1", 421),
+                         ("hg.example.org.evil", 421), ("rebound.example", 421)):
+        with host.connect() as line:
+            line.sendall(f"GET /?cmd=heads HTTP/1.1\r\nhost: {name}\r\n\r\n".encode())
+            want(name, answer(line.makefile("rb"))[0], status)
+
+
+@case
+def more_capabilities_are_told(host):
+    host.start()
+    told = host.ask("/?cmd=capabilities")[2]
+    host.kill()
+    host.start("--also", "stream bundles=1%2C2")
+    want("capabilities", host.ask("/?cmd=capabilities")[2], told + b" stream bundles=1%2C2")
+
+
+@case
+def a_store_that_has_to_be_there(host):
+    """A file system that is not mounted: its folder is empty, and stays so. One that is there is opened."""
+    words = ("host", "--store", host.store, "--listen", "127.0.0.1:0", "--existing")
+    for make in (lambda: None, lambda: os.mkdir(host.store)):
+        make()
+        want("no store", host.run(*words)[::2], (3, f"hg_pushd: {host.store}/pushes: no store\n"))
+    want("what is in it", os.listdir(host.store), [])
+    host.start()
+    host.push(EMPTY)
+    host.kill()
+    want("a store", host.start("--existing"), (1, 0))
+
+
+@case
 def a_pull_goes_elsewhere(host):
     host.start("--pull", "http://127.0.0.1:9/hg")
     want("status", host.ask("/?cmd=getbundle&common=00")[0], 302)
@@ -335,11 +398,17 @@ def what_was_told_as_done_is_there_after_each_end(host):
 
 @case
 def a_body_that_ends_early(host):
-    """Its push is aborted, and others go on."""
+    """Its push is aborted, which is answered where somebody still reads, and others go on."""
     host.start("--log")
     kind = ("content-type: application/mercurial-0.1", "x-hgarg-1: heads=666f726365")
     with host.connect() as line:
         line.sendall(request("/?cmd=unbundle", ROOT_PUSH, kind)[:-7])
+    with host.connect() as line:
+        line.sendall(request("/?cmd=unbundle", ROOT_PUSH, kind)[:-7])
+        line.shutdown(socket.SHUT_WR)
+        file = line.makefile("rb")
+        want("it is answered", answer(file), (200, "application/mercurial-0.1", LOST_REPLY))
+        want("and the connection ends", file.read(), b"")
     want("another", host.push(EMPTY)[2], EMPTY_REPLY)
     want("report", host.report().startswith("J "), True)
 
@@ -555,6 +624,22 @@ def an_unmodified_hg_pushes(host):
     host.hg("init", f"{host.folder}/third")
     status, said = host.hg("pull", host.url(), cwd=f"{host.folder}/third")
     want("a pull is refused", (status, "takes pushes alone" in said), (255, True))
+
+
+@with_hg
+def a_subrepository_is_not_pushed_into_its_parent(host):
+    """It is pushed first, below the path of its parent. The store has nothing of it."""
+    host.start("--path", "/one")
+    client = f"{host.folder}/client"
+    host.hg("init", client)
+    host.hg("init", f"{client}/sub")
+    commit(host, f"{client}/sub", "f", "of the subrepository")
+    with open(f"{client}/.hgsub", "w", encoding="utf-8") as file:
+        file.write("sub = sub\n")
+    commit(host, client, "g", "of the parent")
+    status, said = host.hg("push", f"{host.url()}one", cwd=client)
+    want(f"push: {said}", (status, "404" in said), (255, True))
+    want("report", host.ask("/one/report")[2], b"")
 
 
 @with_hg

@@ -19,7 +19,7 @@ UNITS_OF_MANY = {
         "push server\n": "push server of %i\n",
         "[Service]\n": "[Service]\nEnvironmentFile=/etc/deqtorap/%i.conf\n",
         "--store /var/lib/deqtorap/store --listen 127.0.0.1:8000":
-            "--store /var/lib/deqtorap/%i --listen 127.0.0.1:${PORT} $OPTIONS"}),
+            "--store /var/lib/deqtorap/%i --listen 127.0.0.1:${PORT} --path /%i $OPTIONS"}),
     "deqtorap-mirror@": ("deqtorap-mirror", {
         "Deqtorap mirror:": "Deqtorap mirror of %i:", "deqtorap-host.service": "deqtorap-host@%i.service",
         "-R /var/lib/deqtorap-mirror/repository": "-R /var/lib/deqtorap-mirror/%i",

@@ -28,7 +28,7 @@ use hg_status::Board;
 use hg_store::Device;
 use hg_tcp::{Line, Over, Patience, Places, Sent, drain, set_up};
 use hg_types::NoMemory;
-use hg_web::{Budget, ConnectionEnd, Shown, ViewCache, WebTerms, serve_http};
+use hg_web::{Address, Budget, ConnectionEnd, Shown, ViewCache, WebTerms, serve_http};
 use std::alloc::{AllocFailed, Global};
 use std::hash::RandomState;
 use std::io::{BufRead, BufReader, Write};
@@ -186,7 +186,9 @@ where
         let terms = WebTerms {
             shown: &self.board,
             budget: &self.budget,
-            pull: self.pull(),
+            address: self.address(),
+            pull: bytes_in(self.terms.pull),
+            also: bytes_in(self.terms.also),
             stored: self.stored,
         };
         let mut watch = Watcher::new(
@@ -212,10 +214,11 @@ where
         )
     }
 
-    fn pull(&self) -> Option<&[u8]> {
-        match self.terms.pull {
-            Some(address) => Some(address.as_bytes()),
-            None => None,
+    /// What it answers to.
+    fn address(&self) -> Address<'_> {
+        Address {
+            path: self.terms.path.trim_end_matches('/').as_bytes(),
+            name: bytes_in(self.terms.name),
         }
     }
 
@@ -290,6 +293,14 @@ where
             drain(rt, stream);
         }
         Ok(end)
+    }
+}
+
+/// The bytes of a text, if there is one.
+fn bytes_in(text: Option<&str>) -> Option<&[u8]> {
+    match text {
+        Some(text) => Some(text.as_bytes()),
+        None => None,
     }
 }
 

@@ -11,6 +11,12 @@ pub struct HostTerms<'a> {
     pub idle: u64,
     /// How many bytes the bodies of all open pushes hold together at most.
     pub memory: usize,
+    /// The path of its commands and its page. A slash at its end does not count.
+    pub path: &'a str,
+    /// The name that the field `host` of a request has to give, if it has to give one.
+    pub name: Option<&'a str>,
+    /// What is told behind the capabilities.
+    pub also: Option<&'a str>,
     /// Where pulls go, without a query.
     pub pull: Option<&'a str>,
     /// Whether a line is printed for each push.

@@ -3,9 +3,11 @@ use Rattle.std.specs.Prelude.{ℕ, ◌⊎◌, List, [], ◌∷◌, ◌++◌, cod
 use Rattle.http1.specs.Fields.{Header}
 use Rattle.http_server.specs.declared.response.Response.{Response}
 use Rattle.http_server.specs.Response.{IsResponse}
+use Rattle.hg_http.specs.declared.address.AddressFault.{AddressFault}
+use Rattle.hg_http.specs.declared.address.AddressFault.TheVariants.{OtherName, OtherPath, UnclearCommand}
 use Rattle.hg_http.specs.declared.answer.HttpAnswer.{HttpAnswer}
 use Rattle.hg_http.specs.declared.answer.HttpAnswer.TheVariants.{Text, Refused, Forbidden, NotFound}
-use Rattle.hg_http.specs.declared.answer.HttpAnswer.TheVariants.{Shown, Moved}
+use Rattle.hg_http.specs.declared.answer.HttpAnswer.TheVariants.{Misaddressed, Shown, Moved}
 use Rattle.hg_http.specs.declared.view.StatusView.{StatusView}
 use Rattle.hg_http.specs.declared.view.StatusView.TheVariants.{Page, Report, Metrics}
 use Rattle.hg_http.specs.declared.answer.RequestRefusal.{RequestRefusal}
@@ -40,6 +42,12 @@ view_fields Metrics = of_type (codes "text/plain; version=0.0.4; charset=utf-8")
 abbrev pub location_of : List ℕ → List Header
 location_of address = (codes "location", address) ∷ []
 
+-- the status that says why a request is not answered: misdirected, not found, or a bad request
+abbrev pub status_of : AddressFault → ℕ
+status_of OtherName = 421
+status_of OtherPath = 404
+status_of UnclearCommand = 400
+
 -- the status, the fields and the body that report an answer
 abbrev pub Says : {A : Type 0} → HttpAnswer A → Response → Type 0
 Says (Text text) response = IsResponse 200 (of_type (codes "application/mercurial-0.1")) text response
@@ -47,6 +55,7 @@ Says (Refused why) response =
     IsResponse 200 (of_type (codes "application/hg-error")) (refusal_text why) response
 Says Forbidden response = IsResponse 403 [] [] response
 Says NotFound response = IsResponse 404 [] [] response
+Says (Misaddressed fault) response = IsResponse (status_of fault) [] [] response
 Says (Shown view text) response = IsResponse 200 (view_fields view) text response
 Says (Moved address) response = IsResponse 302 (location_of address) [] response
 

@@ -3,8 +3,9 @@
 ghost use Rattle.std.specs.Prelude.{◌≡◌, OnOk, codes, []};
 ghost use Rattle.http_server.specs.Response.{IsBlank, IsResponse};
 ghost use Rattle.hg_http.specs.Responses.{CarriesAnswer, location_of, of_type, refusal_text, Says};
-ghost use Rattle.hg_http.specs.Responses.{SaysNothing, view_fields};
+ghost use Rattle.hg_http.specs.Responses.{SaysNothing, status_of as status_named, view_fields};
 
+use crate::address::AddressFault;
 use crate::view::StatusView;
 use bytes::BufMut;
 use hg_types::Seq;
@@ -60,6 +61,8 @@ pub enum HttpAnswer<A: Allocator = Global> {
     Forbidden,
     /// No command, and no view.
     NotFound,
+    /// It is for another server, or its command may be read otherwise.
+    Misaddressed(AddressFault),
     /// What is asked for without a command.
     Shown(StatusView, Seq<u8, A>),
     /// It is answered at that address.
@@ -106,8 +109,23 @@ fn try_respond<A: Allocator>(
             response.status = StatusCode::NOT_FOUND;
             Ok(())
         }
+        HttpAnswer::Misaddressed(fault) => {
+            response.status = status_of(*fault);
+            Ok(())
+        }
         HttpAnswer::Shown(view, text) => show(response, *view, text.as_slice()),
         HttpAnswer::Moved(address) => move_to(alloc, response, address.as_slice()),
+    }
+}
+
+/// The status that says why a request is not answered.
+fn status_of(fault: AddressFault) -> StatusCode
+    ensures { result ≡ status_named fault }
+{
+    match fault {
+        AddressFault::OtherName => StatusCode::MISDIRECTED_REQUEST,
+        AddressFault::OtherPath => StatusCode::NOT_FOUND,
+        AddressFault::UnclearCommand => StatusCode::BAD_REQUEST,
     }
 }
 

@@ -9,7 +9,7 @@ use bytes::BytesMut;
 use http_server::MAX_HEADERS;
 use http1::fields::KnownFields;
 use http1::framing::MethodKind;
-use http1::{Event, Limits, Server};
+use http1::{BodySize, Event, Limits, Server};
 use httparse::spans::{EMPTY_HEADER_SPAN, HeaderSpan, RequestSpans};
 use std::alloc::Global;
 
@@ -55,6 +55,11 @@ impl Follower {
     /// wants no body in its answer.
     pub fn is_last(&self) -> bool {
         self.reader.is_last
+    }
+
+    /// Whether the body of a request has begun, and goes on.
+    pub fn is_in_body(&self) -> bool {
+        !matches!(self.reader.server.unread_size(), BodySize::Empty)
     }
 
     /// Reads on in the requests, at most up to the end of one. Says how many of the bytes it has read so: all

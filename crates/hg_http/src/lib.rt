@@ -1,7 +1,8 @@
 //! What a request of a Mercurial client asks over HTTP, and how a response reports the answer.
 //!
 //! [`read_name`] and [`read_arguments`] read the command of a request and its arguments, and [`command_of`]
-//! says which command it is. [`is_from_client`] refuses what a page in a browser could send. [`HttpAnswer`] is
+//! says which command it is. [`fault_of`] says which requests are for another server, or have a command that others may
+//! read otherwise. [`is_from_client`] refuses what a page in a browser could send. [`HttpAnswer`] is
 //! what a request is answered, and [`respond`] fills a response with it; where memory is refused for that, the
 //! response says so. [`view_of`] says what is asked for without a command. Nothing here waits, and no server is known.
 //!
@@ -14,6 +15,7 @@
 //! it can say, where a body is to be dropped, which of the bytes that come next are the rest of its request.
 #![tactic(auto)]
 
+mod address;
 mod answer;
 mod command;
 mod follow;
@@ -21,6 +23,7 @@ mod key;
 mod request;
 mod view;
 
+pub use address::{Address, AddressFault, fault_of};
 pub use answer::{HttpAnswer, RequestRefusal, respond};
 pub use command::{Command, Read, argument, command_of, read_of, subject_of};
 pub use follow::{Follower, RequestEnd};

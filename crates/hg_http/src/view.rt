@@ -3,9 +3,10 @@
 ghost use Rattle.std.specs.Prelude.{◌≡◌, is_some, IfOk};
 ghost use Rattle.std.specs.Str.{bytes_eq};
 ghost use Rattle.http.specs.Request.{head_of};
-ghost use Rattle.http_uri.specs.Uri.{uri_path, uri_query};
+ghost use Rattle.http_uri.specs.Uri.{uri_query};
 ghost use Rattle.hg_http.specs.Views.{moved_to, view_at, view_of as view_asked};
 
+use crate::address::{Address, is_last, is_text, place_of};
 use crate::request::query_of;
 use bytes::Bytes;
 use hg_types::{NoMemory, Seq};
@@ -15,49 +16,43 @@ use std::alloc::Allocator;
 /// What a browser or a collector of counters asks for.
 #[derive(Clone, Copy, Debug, PartialEq, Eq)]
 pub enum StatusView {
-    /// The page, at `/`.
+    /// The page, at the path of the server.
     Page,
-    /// The report, at `/report`.
+    /// The report, at `/report` behind that.
     Report,
-    /// The counters, at `/metrics`.
+    /// The counters, at `/metrics` behind that.
     Metrics,
 }
 
 /// The view that a request without a command asks for, if it is one: by GET, and by its path. The page has no
 /// query.
 #[tactic(auto, unfolding(crate::specs::Views::view_of))]
-pub fn view_of(request: &Request<Bytes>) -> Option<StatusView>
-    ensures { result ≡ view_asked request.now }
+pub fn view_of(address: &Address<'_>, request: &Request<Bytes>) -> Option<StatusView>
+    ensures { result ≡ view_asked address.now request.now }
 {
     if !is_text(request.method().as_str().as_bytes(), b"GET".as_slice()) {
         return None;
     }
-    view_at(
-        request.uri().path().as_bytes(),
-        request.uri().query().is_some(),
-    )
+    match place_of(address, request) {
+        Some(rest) => view_at(rest, request.uri().query().is_some()),
+        None => None,
+    }
 }
 
 #[tactic(auto, unfolding(crate::specs::Views::view_at))]
-fn view_at(path: &[u8], has_query: bool) -> Option<StatusView>
-    ensures { result ≡ view_at path.now has_query }
+fn view_at(rest: &[u8], has_query: bool) -> Option<StatusView>
+    ensures { result ≡ view_at rest.now has_query }
 {
-    if is_text(path, b"/report".as_slice()) {
+    if is_text(rest, b"/report".as_slice()) {
         return Some(StatusView::Report);
     }
-    if is_text(path, b"/metrics".as_slice()) {
+    if is_text(rest, b"/metrics".as_slice()) {
         return Some(StatusView::Metrics);
     }
-    if is_text(path, b"/".as_slice()) && !has_query {
+    if is_last(rest) && !has_query {
         return Some(StatusView::Page);
     }
     None
-}
-
-fn is_text(own: &[u8], other: &[u8]) -> bool
-    ensures { result ≡ bytes_eq own.now other.now }
-{
-    own == other
 }
 
 /// That address, with the query of the request.

@@ -86,6 +86,14 @@ fn responses_of_answers(rt: HostRuntime) -> Result<(), Fail> {
             b""
         )
     );
+    let faults = [
+        (AddressFault::OtherName, StatusCode::MISDIRECTED_REQUEST),
+        (AddressFault::OtherPath, StatusCode::NOT_FOUND),
+        (AddressFault::UnclearCommand, StatusCode::BAD_REQUEST),
+    ];
+    for (fault, status) in faults {
+        assert!(rt; is_told(alloc, &HttpAnswer::Misaddressed(fault), status, None, b""));
+    }
     assert!(rt; forbidden.as_u16() == 403 && StatusCode::NOT_FOUND.as_u16() == 404);
     Ok(())
 }

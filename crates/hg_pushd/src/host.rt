@@ -1,10 +1,11 @@
 //! A store that is served over HTTP: how it begins, and what is printed of it.
 
+ghost use Rattle.std.specs.Prelude.{IfOk};
 ghost use Rattle.hg_recovery.specs.Opening.{IsOpened};
 
 use hg_commands::{Hosting, device_status, tell};
 use hg_host::{Ended, HostTerms, HostingRuntime, Over, serve_store};
-use hg_recovery::{OpeningFault, Recovered, recover_store};
+use hg_recovery::{OpeningFault, Recovered, recover_existing, recover_store};
 use hg_store::{Device, HostFile, StoreFile, StoreFolder};
 use hg_store_tools::TornNote;
 use std::fs::{File, Files};
@@ -20,11 +21,26 @@ pub fn host<R: Files<File = File> + AllocGlobal + HostingRuntime>(
     state: RandomState,
     hosting: &Hosting<'_>,
 ) -> u8 {
-    let mut folder = StoreFolder::new(rt, hosting.store);
-    match recover_store(rt.alloc(), state, &mut folder, hosting.publishing) {
+    match open(rt, state, hosting) {
         Ok(recovered) => listen(rt, hosting, recovered),
         Err(fault) => not_opened(rt, hosting.store, &fault),
     }
+}
+
+/// Opens the store. Where none is there it is made, or refused if it has to be there.
+fn open<R: Files<File = File> + AllocGlobal>(
+    rt: &R,
+    state: RandomState,
+    hosting: &Hosting<'_>,
+) -> Result<Recovered<StoreFile<HostFile>>, OpeningFault>
+    ensures { IfOk result (λ recovered. IsOpened ⟦<StoreFile<HostFile> as Device>⟧.seen
+        ⟦<StoreFile<HostFile> as Device>⟧.may_leave recovered) }
+{
+    let mut folder = StoreFolder::new(rt, hosting.store);
+    if hosting.existing {
+        return recover_existing(rt.alloc(), state, &mut folder, hosting.publishing);
+    }
+    recover_store(rt.alloc(), state, &mut folder, hosting.publishing)
 }
 
 /// Binds the address, and serves what was recovered. Where the numbers of pushes come to their end, the store is
@@ -99,8 +115,7 @@ fn serve_anew<R: Files<File = File> + AllocGlobal + HostingRuntime>(
         tell(rt, 3);
         return Some(3);
     };
-    let mut folder = StoreFolder::new(rt, hosting.store);
-    match recover_store(rt.alloc(), state, &mut folder, hosting.publishing) {
+    match open(rt, state, hosting) {
         Ok(recovered) => serve(rt, hosting, listener, address, recovered),
         Err(fault) => Some(not_opened(rt, hosting.store, &fault)),
     }
@@ -122,6 +137,9 @@ fn terms_of<'a>(hosting: &Hosting<'a>) -> HostTerms<'a> {
         capacity: hosting.capacity,
         idle: hosting.idle,
         memory: usize::try_from(hosting.memory).unwrap_or(usize::MAX),
+        path: hosting.path,
+        name: hosting.name,
+        also: hosting.also,
         pull: hosting.pull,
         logs: hosting.log,
     }

@@ -8,14 +8,16 @@
 //! A store that is opened, and the repository that its records lead to.
 //!
 //! [`recover_store`] opens a store in a folder, or makes it, and runs its records, one by one, on the empty
-//! repository; [`recover_records`] does so for a log over any device that is open. What both give is
+//! repository; [`recover_existing`] makes none, and [`recover_records`] does so for a log over any device that is open. What both give is
 //! [`Recovered`]: the log, for more records, and the repository. [`OpeningFault`] says why a store is not opened.
 //! Nothing here starts a thread, and nothing waits but a device.
 #![tactic(auto)]
 
+mod existing;
 pub mod laws;
 mod opening;
 mod restore;
 
+pub use existing::recover_existing;
 pub use opening::{OpeningFault, Recovered, empty_repository, recover_records, recover_store};
 pub use restore::{RestoreFault, replay_records};

@@ -122,7 +122,7 @@ pub fn recover_store<R: Files<File = File>>(
 }
 
 /// The head of a store of a server that publishes, or does not.
-fn head_of(publishing: bool) -> Head
+pub(crate) fn head_of(publishing: bool) -> Head
     ensures { result ≡ head_of publishing }
 {
     Head {
@@ -148,7 +148,7 @@ pub fn empty_repository<A: Allocator + Copy>(alloc: A, state: RandomState, head:
 }
 
 /// Opens the store, which is made first where there is none.
-fn open_or_create<R: Files<File = File>>(
+pub(crate) fn open_or_create<R: Files<File = File>>(
     alloc: Global,
     folder: &mut StoreFolder<'_, R>,
     head: &Head,

@@ -12,6 +12,7 @@ use Rattle.hg_commit.specs.Orders.{Came, Comes, HasGrown, ReceiptView}
 use Rattle.hg_commit.specs.Records.{done_in}
 use Rattle.hg_wireproto.specs.declared.batch.BatchCommand.{BatchCommand as Asked}
 use Rattle.hg_wireproto.specs.declared.form.Field.{Field}
+use Rattle.hg_http.specs.declared.address.AddressFault.{AddressFault}
 use Rattle.hg_http.specs.declared.answer.HttpAnswer.{HttpAnswer}
 use Rattle.hg_http.specs.declared.answer.HttpAnswer.TheVariants.{Refused, Shown, Text}
 use Rattle.hg_http.specs.declared.answer.RequestRefusal.{RequestRefusal}
@@ -20,9 +21,10 @@ use Rattle.hg_http.specs.declared.command.Command.{Command}
 use Rattle.hg_http.specs.declared.command.Command.TheVariants.{ReadOnly, Capabilities, Batch, Unbundle}
 use Rattle.hg_http.specs.declared.command.Command.TheVariants.{GetBundle, PushKey}
 use Rattle.hg_http.specs.declared.view.StatusView.{StatusView}
+use Rattle.hg_http.specs.Addresses.{fault_of}
 use Rattle.hg_http.specs.Commands.{command_of}
 use Rattle.hg_http.specs.Requests.{arguments_of, is_from_client, name_of}
-use Rattle.hg_web.specs.Answering.{AnswersAsked, AnswersBatch, AnswersCommand, AnswersForced, AnswersKey, AnswersRequest}
+use Rattle.hg_web.specs.Answering.{AnswersAddressed, AnswersAsked, AnswersBatch, AnswersCommand, AnswersForced, AnswersKey, AnswersRequest}
 use Rattle.hg_queries.specs.Views.{finished, IsShown}
 use Rattle.hg_web.specs.Answering.{AnswersView, Around, IfFromClient, IsSaid, IsSaidAt, IsTextAt, LacksMemory, OrLacks}
 use Rattle.hg_web.specs.Looking.{LooksKept}
@@ -167,15 +169,15 @@ module _ {A : Type 0} (capacity : ℕ) (first : RepositoryOf A) (kept : KeptSeen
     key_later namespace key old new false is = same_later before after is.1
     key_later namespace key old new true is = pushed_later _ _ is
 
-    command_later : (pull : Option (List ℕ)) (command : Command) (fields : List (Field A))
-        (r : Request (List ℕ)) → AnswersCommand capacity first kept pull command fields r before answer after →
+    command_later : (pull also : Option (List ℕ)) (command : Command) (fields : List (Field A))
+        (r : Request (List ℕ)) → AnswersCommand capacity first kept pull also command fields r before answer after →
         IsLater before after
-    command_later pull Capabilities fields r is = said_later _ is
-    command_later pull GetBundle fields r is = said_later _ is
-    command_later pull (ReadOnly read) fields r is = said_at_later _ _ is
-    command_later pull Batch fields r is = batch_later _ _ is
-    command_later pull Unbundle fields r is = from_later (is_from_client r) _ (forced_later _ _) is
-    command_later pull PushKey fields r is = from_later (is_from_client r) _ (key_later _ _ _ _ _) is
+    command_later pull also Capabilities fields r is = said_later _ is
+    command_later pull also GetBundle fields r is = said_later _ is
+    command_later pull also (ReadOnly read) fields r is = said_at_later _ _ is
+    command_later pull also Batch fields r is = batch_later _ _ is
+    command_later pull also Unbundle fields r is = from_later (is_from_client r) _ (forced_later _ _) is
+    command_later pull also PushKey fields r is = from_later (is_from_client r) _ (key_later _ _ _ _ _) is
 
 module _ {A : Type 0} (capacity : ℕ) (first : RepositoryOf A) (around : Around A) (before : KeptSeen A)
     (answer : HttpAnswer A) (after : KeptSeen A)
@@ -189,9 +191,17 @@ module _ {A : Type 0} (capacity : ℕ) (first : RepositoryOf A) (around : Around
         AnswersAsked capacity first around command fields r before answer after → IsLater before after
     asked_later None fields r is = view_later _ is
     asked_later (Some command) fields r is =
-        command_later capacity first around.kept before answer after around.pull command fields r is
+        command_later capacity first around.kept before answer after around.pull around.also command fields r is
+
+    addressed_later : (fault : Option AddressFault) (command : Option Command) (fields : List (Field A))
+        (r : Request (List ℕ)) → AnswersAddressed capacity first around fault command fields r before answer after →
+        IsLater before after
+    addressed_later (Some fault) command fields r is = same_later before after is.1
+    addressed_later None command fields r is = asked_later command fields r is
 
     pub answered_later : (r : Request (List ℕ)) → AnswersRequest capacity first around r before answer after →
         IsLater before after
-    answered_later r (inl is) = asked_later (command_of (name_of A r)) (arguments_of r) r is
+    answered_later r (inl is) =
+        addressed_later (fault_of around.address (command_of (name_of A r)) r) (command_of (name_of A r))
+        (arguments_of r) r is
     answered_later r (inr lacks) = lacks.earlier

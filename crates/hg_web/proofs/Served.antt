@@ -17,7 +17,7 @@ use Rattle.http_server.specs.History.{History, IsServed, new_history}
 use Rattle.http_server.proofs.KnownLemmas.{Appends-then, Consumes-then}
 use Rattle.http_server.proofs.StreamLemmas.{Chain-append}
 use Rattle.hg_web.specs.Serving.{calls_of, Converses, EndsConnection, EndsPlainly, IsNoRoomAnswer, IsRefused}
-use Rattle.hg_web.specs.Serving.{no_room_text, read_of, Refused, sent_of}
+use Rattle.hg_web.specs.Serving.{lost_text, no_room_text, read_of, Refused, sent_of}
 use Rattle.hg_http.specs.declared.follow.Follower.{Follower}
 use Rattle.hg_http.specs.Following.{limits_of}
 use Rattle.hg_web.specs.code.Following.{Passes, Waits, Went}
@@ -156,10 +156,10 @@ is_refused config h dropped more false f served waits passes =
 -- how a refused request ends a connection
 pub ends_refused : (breaks : Type 0) (config : Config) (h : History) (dropped more : List ℕ) (is_whole : Bool)
     (f : Follower) (answer : List ℕ) → breaks → ∥ IsServed config h ∥₁ → Waits config h dropped is_whole f →
-    (answer ≡ []) ⊎ (Passes is_whole f more × ((is_last : Bool) × IsPrefix answer (no_room_text is_last))) →
+    IsPrefix answer lost_text ⊎ (Passes is_whole f more × ((is_last : Bool) × IsPrefix answer (no_room_text is_last))) →
     EndsConnection breaks config h (dropped ++ more) answer
-ends_refused breaks config h dropped more is_whole f answer broke served waits (inl none) =
-    inr (inl (broke, waits.open_still, waits.all_sent, none))
+ends_refused breaks config h dropped more is_whole f answer broke served waits (inl lost) =
+    inr (inl (broke, waits.open_still, waits.all_sent, lost))
 ends_refused breaks config h dropped more is_whole f answer broke served waits (inr front) =
     inr (inr (is_refused config h dropped more is_whole f served waits front.0, inr (broke, front.1)))
 

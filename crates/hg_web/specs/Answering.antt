@@ -1,5 +1,5 @@
 -- What each request is answered.
-use Rattle.std.specs.Prelude.{ℕ, ◌≡◌, ◌⊎◌, ◌+◌, Bool, true, false, List, Option, Some, None, codes, bytes_eq}
+use Rattle.std.specs.Prelude.{ℕ, ◌≡◌, ◌⊎◌, ◌+◌, Bool, true, false, List, ◌∷◌, ◌++◌, Option, Some, None, codes, bytes_eq}
 use Rattle.std.specs.Option.{option_copied}
 use Rattle.http.specs.declared.request.Request.{Request}
 use Rattle.http.specs.Request.{body_of}
@@ -15,9 +15,11 @@ use Rattle.hg_wireproto.specs.declared.batch.BatchCommand.{BatchCommand as Asked
 use Rattle.hg_wireproto.specs.declared.form.Field.{Field}
 use Rattle.hg_wireproto.specs.Batch.{commands_of}
 use Rattle.hg_wireproto.specs.Capabilities.{capabilities_told}
+use Rattle.hg_http.specs.declared.address.Address.{Address}
+use Rattle.hg_http.specs.declared.address.AddressFault.{AddressFault}
 use Rattle.hg_http.specs.declared.answer.HttpAnswer.{HttpAnswer}
 use Rattle.hg_http.specs.declared.answer.HttpAnswer.TheVariants.{Text, Refused, Forbidden, NotFound}
-use Rattle.hg_http.specs.declared.answer.HttpAnswer.TheVariants.{Shown, Moved}
+use Rattle.hg_http.specs.declared.answer.HttpAnswer.TheVariants.{Misaddressed, Shown, Moved}
 use Rattle.hg_http.specs.declared.view.StatusView.{StatusView}
 use Rattle.hg_http.specs.Views.{moved_to, view_of}
 use Rattle.hg_http.specs.declared.answer.RequestRefusal.{RequestRefusal}
@@ -26,6 +28,7 @@ use Rattle.hg_http.specs.declared.answer.RequestRefusal.TheVariants.{NoMemory}
 use Rattle.hg_http.specs.declared.command.Command.{Command}
 use Rattle.hg_http.specs.declared.command.Command.TheVariants.{ReadOnly, Capabilities, Batch, Unbundle}
 use Rattle.hg_http.specs.declared.command.Command.TheVariants.{GetBundle, PushKey}
+use Rattle.hg_http.specs.Addresses.{fault_of}
 use Rattle.hg_http.specs.Commands.{command_of, subject_of}
 use Rattle.hg_http.specs.Keys.{fits, key_parts}
 use Rattle.hg_http.specs.Requests.{argument_in, arguments_of, is_from_client, name_of}
@@ -37,13 +40,15 @@ use Rattle.hg_web.specs.declared.terms.WebTerms.{WebTerms}
 
 -- What answers say and rest on beside the repository: which text may be the page and which the counters, of a
 -- repository; that by a history so many done pushes are on the device; how many pushes the store had when it was
--- opened; and where pulls go.
+-- opened; what the server answers to; where pulls go; and what is told behind the capabilities.
 pub record Around (A : Type 0) : Type 1 where
   pub page : Repository A → List ℕ → Type 0
   pub metrics : Repository A → List ℕ → Type 0
   pub kept : KeptSeen A → ℕ → Type 0
   pub stored : ℕ
+  pub address : Address
   pub pull : Option (List ℕ)
+  pub also : Option (List ℕ)
 
 -- what answers say beside the repository, on these terms
 abbrev pub around_of : {A S : Type 0} → (KeptSeen A → ℕ → Type 0) → (S → Repository A → List ℕ → Type 0) →
@@ -53,7 +58,9 @@ around_of kept page metrics terms = record {
   metrics = metrics terms.shown.now;
   kept = kept;
   stored = terms.stored;
+  address = terms.address;
   pull = option_copied terms.pull;
+  also = option_copied terms.also;
 }
 
 -- nothing changed, and this is the answer
@@ -151,24 +158,29 @@ abbrev pub pull_answer : {A : Type 0} → Option (List ℕ) → Request (List �
 pull_answer None r = Refused PushesAlone
 pull_answer (Some address) r = Moved (moved_to address r)
 
+-- the capabilities, and behind a space what is told besides
+abbrev pub capabilities_with : Option (List ℕ) → List ℕ
+capabilities_with None = capabilities_told
+capabilities_with (Some also) = capabilities_told ++ 32 ∷ also
+
 -- the answer to a command with these arguments, and what its client has seen then
 abbrev pub AnswersCommand : {A : Type 0} → ℕ → RepositoryOf A → (KeptSeen A → ℕ → Type 0) →
-    Option (List ℕ) → Command → List (Field A) → Request (List ℕ) → KeptSeen A → HttpAnswer A →
+    Option (List ℕ) → Option (List ℕ) → Command → List (Field A) → Request (List ℕ) → KeptSeen A → HttpAnswer A →
     KeptSeen A → Type 0
-AnswersCommand capacity first kept pull Capabilities fields r before answer after =
-    IsSaid (Text capabilities_told) before answer after
-AnswersCommand capacity first kept pull GetBundle fields r before answer after =
+AnswersCommand capacity first kept pull also Capabilities fields r before answer after =
+    IsSaid (Text (capabilities_with also)) before answer after
+AnswersCommand capacity first kept pull also GetBundle fields r before answer after =
     IsSaid (pull_answer pull r) before answer after
-AnswersCommand capacity first kept pull (ReadOnly read) fields r before answer after =
+AnswersCommand capacity first kept pull also (ReadOnly read) fields r before answer after =
     IsTextAt first kept (λ repo text. IsTextOf repo read (argument_in fields (subject_of read)) text)
     before answer after
-AnswersCommand capacity first kept pull Batch fields r before answer after =
+AnswersCommand capacity first kept pull also Batch fields r before answer after =
     let commands = commands_of (argument_in fields (codes "cmds")) in
     AnswersBatch first kept commands (refusal_of commands) before answer after
-AnswersCommand capacity first kept pull Unbundle fields r before answer after =
+AnswersCommand capacity first kept pull also Unbundle fields r before answer after =
     IfFromClient (is_from_client r) (AnswersForced capacity first kept (body_of r)
     (bytes_eq (argument_in fields (codes "heads")) (codes "666f726365"))) before answer after
-AnswersCommand capacity first kept pull PushKey fields r before answer after =
+AnswersCommand capacity first kept pull also PushKey fields r before answer after =
     IfFromClient (is_from_client r) (AnswersPushKey capacity first kept fields) before answer after
 
 -- The answer without a command: a view, of the repository at one point of the serial order. A report names so
@@ -184,9 +196,17 @@ AnswersView first around (Some view) before answer after =
 abbrev pub AnswersAsked : {A : Type 0} → ℕ → RepositoryOf A → Around A → Option Command → List (Field A) →
     Request (List ℕ) → KeptSeen A → HttpAnswer A → KeptSeen A → Type 0
 AnswersAsked capacity first around None fields r before answer after =
-    AnswersView first around (view_of r) before answer after
+    AnswersView first around (view_of around.address r) before answer after
 AnswersAsked capacity first around (Some command) fields r before answer after =
-    AnswersCommand capacity first around.kept around.pull command fields r before answer after
+    AnswersCommand capacity first around.kept around.pull around.also command fields r before answer after
+
+-- what is for this server is answered so; what is not is told why, and nothing changes
+abbrev pub AnswersAddressed : {A : Type 0} → ℕ → RepositoryOf A → Around A → Option AddressFault → Option Command →
+    List (Field A) → Request (List ℕ) → KeptSeen A → HttpAnswer A → KeptSeen A → Type 0
+AnswersAddressed capacity first around (Some fault) command fields r before answer after =
+    IsSaid (Misaddressed fault) before answer after
+AnswersAddressed capacity first around None command fields r before answer after =
+    AnswersAsked capacity first around command fields r before answer after
 
 -- The answer to a request: that to its command with its arguments, or memory was refused before anything
 -- changed.
@@ -194,7 +214,8 @@ abbrev pub AnswersRequest : {A : Type 0} → ℕ → RepositoryOf A → Around A
     HttpAnswer A → KeptSeen A → Type 0
 AnswersRequest {A} capacity first around r before answer after =
     let command = command_of (name_of A r) in
-    OrLacks (is_look command) (AnswersAsked capacity first around command (arguments_of r) r) before answer after
+    OrLacks (is_look command) (AnswersAddressed capacity first around (fault_of around.address command r) command
+    (arguments_of r) r) before answer after
 
 -- what contracts see of a connection's service: what its client had seen when the last request was answered, the
 -- terms, and how many requests were answered

@@ -11,8 +11,9 @@ use Rattle.http_server.specs.declared.state.State.TheVariants.{Aborted, Open}
 use Rattle.http_server.specs.Exchange.{Call, Chain}
 use Rattle.http_server.specs.History.{History, IsServed}
 use Rattle.hg_parts.specs.Repository.{Repository}
+use Rattle.hg_types.specs.declared.item.CutReason.TheVariants.{ReadFailed}
 use Rattle.hg_push.specs.declared.outcome.Outcome.TheVariants.{Aborted as IsAborted}
-use Rattle.hg_push.specs.declared.outcome.Reason.TheVariants.{NoMemory}
+use Rattle.hg_push.specs.declared.outcome.Reason.TheVariants.{Cut, NoMemory}
 use Rattle.hg_push.specs.Reply.{reply_of}
 use Rattle.hg_push.specs.Run.{RepositoryOf}
 use Rattle.hg_commit.specs.Clients.{IsLater, KeptSeen}
@@ -34,6 +35,12 @@ closing false = []
 abbrev pub no_room_text : Bool → List ℕ
 no_room_text is_last = line (codes "HTTP/1.1 200 OK") ++ line (codes "content-type: application/mercurial-0.1")
     ++ closing is_last ++ line (codes "content-length: 60") ++ line [] ++ reply_of {A = ⊤} (IsAborted NoMemory)
+
+-- The answer to a request whose body did not come whole: the reply to a push whose bytes could not be read. It is the
+-- last one of the connection.
+abbrev pub lost_text : List ℕ
+lost_text = line (codes "HTTP/1.1 200 OK") ++ line (codes "content-type: application/mercurial-0.1")
+    ++ closing true ++ line (codes "content-length: 62") ++ line [] ++ reply_of {A = ⊤} (IsAborted (Cut ReadFailed))
 
 -- A stretch of a connection: requests that were answered, and one that found no room. It has the bytes of that request
 -- that were read and dropped.
@@ -73,11 +80,12 @@ abbrev pub EndsPlainly : Type 0 → History → Type 0
 EndsPlainly breaks history = breaks ⊎ (history.state ≢ Aborted)
 
 -- How a connection ends, with the bytes that were dropped and those that were sent after the last stretch. There
--- are none; or a request found no room, and the connection broke off within it; or that request was refused.
+-- are none; or the connection broke off within a request, to which a front of the answer that says so was sent, or
+-- nothing; or a request found no room, and was refused.
 abbrev pub EndsConnection : Type 0 → Config → History → List ℕ → List ℕ → Type 0
 EndsConnection breaks config history passed answer =
     ((passed ≡ []) × (answer ≡ []) × EndsPlainly breaks history)
-    ⊎ (breaks × (history.state ≡ Open) × (history.pending ≡ []) × (answer ≡ []))
+    ⊎ (breaks × (history.state ≡ Open) × (history.pending ≡ []) × IsPrefix answer lost_text)
     ⊎ (IsRefused config (record { history = history; dropped = passed }) × IsNoRoomAnswer breaks answer)
 
 -- A connection: stretches that end with a refused request, and a last one. What was read are the bytes of these,
@@ -99,7 +107,8 @@ pub record Converses {V : Type 0} (breaks : Type 0) (config : Config)
 -- What was received begins with requests of HTTP's grammar, and what was sent, or waits, is in order the
 -- responses to them: each reports the answer to its request, and each goes on from what the client had seen
 -- before it. Where a body finds no room, or memory is refused before a request is answered, the rest of that request
--- is read and dropped, the answer says so, and the connection goes on. Where it is done, memory was refused for no
+-- is read and dropped, the answer says so, and the connection goes on. A body that ends before its length is no
+-- request: the answer says that the connection was lost. Where it is done, memory was refused for no
 -- answer that was made. All bytes that were read are those that were received or dropped, and all that were written
 -- those that were sent. The client has seen what the last answer spoke of; it may have seen more only where the
 -- connection ended since the store failed.

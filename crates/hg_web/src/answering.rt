@@ -4,14 +4,15 @@ ghost use Rattle.std.specs.Prelude.{◌≡◌, ◌⊎◌, true, false, Ok, Some,
 ghost use Rattle.std.specs.Option.{option_copied};
 ghost use Rattle.std.specs.Str.{bytes_eq};
 ghost use Rattle.http.specs.Request.{body_of};
+ghost use Rattle.hg_http.specs.Addresses.{fault_of as fault_named};
 ghost use Rattle.hg_http.specs.Commands.{command_of as command_named, subject_of as subject};
 ghost use Rattle.hg_http.specs.Requests.{argument_in, arguments_of, is_from_client as came_from_client};
 ghost use Rattle.hg_http.specs.Requests.{name_of};
 ghost use Rattle.hg_wireproto.specs.Batch.{commands_of};
-ghost use Rattle.hg_wireproto.specs.Capabilities.{capabilities_told};
 ghost use Rattle.hg_queries.specs.Texts.{refusal_of as why_refused, IsBatchText, IsTextOf};
 ghost use Rattle.hg_commit.specs.Clients.{IsCovered};
-ghost use Rattle.hg_web.specs.Answering.{AnswersRequest, AnswersAsked, AnswersBatch, AnswersCommand, AnswersForced};
+ghost use Rattle.hg_web.specs.Answering.{AnswersAddressed, AnswersRequest, AnswersAsked, AnswersBatch, AnswersCommand};
+ghost use Rattle.hg_web.specs.Answering.{AnswersForced, capabilities_with};
 ghost use Rattle.hg_web.specs.Answering.{AnswersPushKey, around_of, IfFromClient, is_look, IsSaid, IsTextAt, OrLacks};
 ghost use Rattle.hg_web.specs.Answering.{pull_answer};
 ghost use Rattle.hg_web.specs.Pushes.{Answered};
@@ -26,8 +27,8 @@ use bytes::Bytes;
 use hg_commit::{KeptClient, NotStored, Storing};
 use hg_durable::Keeping;
 use hg_http::{
-    Command, HttpAnswer, Read, RequestRefusal, argument, command_of, is_from_client, moved_to,
-    read_arguments, read_name, subject_of, view_of,
+    Command, HttpAnswer, Read, RequestRefusal, argument, command_of, fault_of, is_from_client,
+    moved_to, read_arguments, read_name, subject_of, view_of,
 };
 use hg_queries::{Batch, ReadCommand, Shown, Watch, have_long, is_long, refusal_of};
 use hg_store::Device;
@@ -60,7 +61,7 @@ pub fn answer_request<
     match read_request(host.keeping.alloc, request) {
         Ok((command, fields)) => {
             let fields = fields.as_slice();
-            answer_asked(host, terms, client, command, fields, request, watch)
+            answer_addressed(host, terms, client, command, fields, request, watch)
         }
         Err(_) => (client, Ok(HttpAnswer::Refused(RequestRefusal::NoMemory))),
     }
@@ -79,6 +80,35 @@ fn read_request<A: Allocator + Copy>(
     Ok((command_of(name.as_slice()), fields))
 }
 
+/// Answers what was asked of this server. What is for another one, or may be read otherwise, is told so.
+fn answer_addressed<
+    J: Storing<A>,
+    D: Device,
+    A: Allocator + Copy,
+    R: Wait,
+    S: Shown<A>,
+    V: Watch<A>,
+>(
+    host: &Host<'_, J, D, R, A>,
+    terms: &WebTerms<'_, S>,
+    client: KeptClient<J, A>,
+    command: Option<Command>,
+    fields: &[Field<A>],
+    request: &Request<Bytes>,
+    watch: &mut V,
+) -> (KeptClient<J, A>, Result<HttpAnswer<A>, NotStored>)
+    ensures { Answered (OrLacks (is_look command) (AnswersAddressed J.capacity J.first
+        (around_of (IsCovered D.seen D.may_leave D.moment J.head J.stored J.first) S.is_page S.are_metrics terms.now)
+        (fault_named terms.now.address command request.now) command fields.now request.now))
+        client result.1 result.0 }
+{
+    match fault_of(host.keeping.alloc, &terms.address, command, request) {
+        Ok(None) => answer_asked(host, terms, client, command, fields, request, watch),
+        Ok(Some(fault)) => (client, Ok(HttpAnswer::Misaddressed(fault))),
+        Err(_) => (client, Ok(HttpAnswer::Refused(RequestRefusal::NoMemory))),
+    }
+}
+
 /// Answers what was asked: a command, or a view.
 fn answer_asked<J: Storing<A>, D: Device, A: Allocator + Copy, R: Wait, S: Shown<A>, V: Watch<A>>(
     host: &Host<'_, J, D, R, A>,
@@ -94,15 +124,20 @@ fn answer_asked<J: Storing<A>, D: Device, A: Allocator + Copy, R: Wait, S: Shown
         command fields.now request.now)) client result.1 result.0 }
 {
     match command {
-        Some(command) => answer_command(host, terms.pull, client, command, fields, request, watch),
-        None => answer_view(&host.keeping, terms, client, view_of(request)),
+        Some(command) => answer_command(host, terms, client, command, fields, request, watch),
+        None => answer_view(
+            &host.keeping,
+            terms,
+            client,
+            view_of(&terms.address, request),
+        ),
     }
 }
 
 /// Answers a command.
-fn answer_command<J: Storing<A>, D: Device, A: Allocator + Copy, R: Wait, V: Watch<A>>(
+fn answer_command<J: Storing<A>, D: Device, A: Allocator + Copy, R: Wait, S, V: Watch<A>>(
     host: &Host<'_, J, D, R, A>,
-    pull: Option<&[u8]>,
+    terms: &WebTerms<'_, S>,
     client: KeptClient<J, A>,
     command: Command,
     fields: &[Field<A>],
@@ -110,16 +145,19 @@ fn answer_command<J: Storing<A>, D: Device, A: Allocator + Copy, R: Wait, V: Wat
     watch: &mut V,
 ) -> (KeptClient<J, A>, Result<HttpAnswer<A>, NotStored>)
     ensures { Answered (OrLacks (is_look (Some command)) (AnswersCommand J.capacity J.first
-        (IsCovered D.seen D.may_leave D.moment J.head J.stored J.first) (option_copied pull.entry) command fields.now
-        request.now)) client result.1 result.0 }
+        (IsCovered D.seen D.may_leave D.moment J.head J.stored J.first) (option_copied terms.now.pull)
+        (option_copied terms.now.also) command fields.now request.now)) client result.1 result.0 }
 {
     match command {
         Command::ReadOnly(read) => answer_read(host, client, read, fields),
-        Command::Capabilities => (client, Ok(capabilities(host.keeping.alloc))),
+        Command::Capabilities => (client, Ok(capabilities(host.keeping.alloc, terms.also))),
         Command::Batch => answer_batch(host, client, fields),
         Command::Unbundle => answer_unbundle(host, client, fields, request, watch),
         Command::PushKey => answer_pushkey(host, client, fields, request, watch),
-        Command::GetBundle => (client, Ok(answer_pull(host.keeping.alloc, pull, request))),
+        Command::GetBundle => (
+            client,
+            Ok(answer_pull(host.keeping.alloc, terms.pull, request)),
+        ),
     }
 }
 
@@ -199,10 +237,26 @@ where
 }
 
 /// Answers the capabilities.
-fn capabilities<A: Allocator + Copy>(alloc: A) -> HttpAnswer<A>
-    ensures { (result ≡ HttpAnswer.Text capabilities_told) ⊎ (result ≡ HttpAnswer.Refused RequestRefusal.NoMemory) }
+fn capabilities<A: Allocator + Copy>(alloc: A, also: Option<&[u8]>) -> HttpAnswer<A>
+    ensures { (result ≡ HttpAnswer.Text (capabilities_with (option_copied also.entry)))
+        ⊎ (result ≡ HttpAnswer.Refused RequestRefusal.NoMemory) }
 {
-    text_answer(Seq::copy_of(alloc, capabilities_text()))
+    text_answer(told_capabilities(alloc, also))
+}
+
+/// The capabilities, and behind a space what is told besides.
+fn told_capabilities<A: Allocator + Copy>(
+    alloc: A,
+    also: Option<&[u8]>,
+) -> Result<Seq<u8, A>, NoMemory>
+    ensures { IfOk result (λ text. text ≡ capabilities_with (option_copied also.entry)) }
+{
+    let mut text = Vec::from_slice(alloc, capabilities_text())?;
+    if let Some(also) = also {
+        text.push(b' ')?;
+        text.extend_from_slice(also)?;
+    }
+    Ok(Seq::from_vec(text))
 }
 
 /// Answers a batch: all of it by one look.

@@ -29,6 +29,7 @@ mod wire;
 
 pub use answering::answer_request;
 pub use budget::Budget;
+pub use hg_http::Address;
 pub use hg_queries::{Shown, ViewCache, Watch, WatchedPush};
 pub use serve::{ConnectionEnd, serve_http};
 pub use terms::{Host, WebTerms};

@@ -9,7 +9,7 @@ ghost use Rattle.http_server.specs.Exchange.{Calls};
 ghost use Rattle.http_server.specs.History.{IsQuiet, Rests, new_history};
 ghost use Rattle.hg_commit.specs.Clients.{IsCovered};
 ghost use Rattle.hg_web.specs.Answering.{Responds};
-ghost use Rattle.hg_web.specs.Serving.{Converses, no_room_text, ServesHttp};
+ghost use Rattle.hg_web.specs.Serving.{Converses, lost_text, no_room_text, ServesHttp};
 ghost use Rattle.hg_http.specs.Following.{AreRequests, FollowsAt, KeepsUp, limits_of};
 ghost use Rattle.hg_web.specs.code.Following.{Brings, EndsStretch, HasRead, HasSent, Passes};
 
@@ -113,6 +113,12 @@ const NO_ROOM_LAST: &[u8] =
     content-length: 60\r\n\r\nHG20\0\0\0\0\0\0\0\x28\x0bERROR:ABORT\0\0\0\0\x01\0\x07\x0dmessage\
     out of memory\0\0\0\0\0\0\0\0";
 
+/// The answer that says that a request did not come whole: the reply to a push whose bytes could not be read.
+const LOST: &[u8] =
+    b"HTTP/1.1 200 OK\r\ncontent-type: application/mercurial-0.1\r\nconnection: close\r\n\
+    content-length: 62\r\n\r\nHG20\0\0\0\0\0\0\0\x2a\x0bERROR:ABORT\0\0\0\0\x01\0\x07\x0fmessage\
+    connection lost\0\0\0\0\0\0\0\0";
+
 /// How a stretch of a connection ended.
 #[derive(Drop)]
 enum Stretch {
@@ -189,16 +195,36 @@ fn refuse<I: BufRead, W: Write>(
     ensures { (dropped answer : List ℕ) × Consumes (I.remaining reader.old) (I.remaining reader.new) dropped
         × Appends (W.contents writer.old) (W.contents writer.new) answer
         × MatchResult result (λ is_last. Passes is_whole follower.old dropped × (answer ≡ no_room_text is_last))
-        (λ _. (answer ≡ []) ⊎ (Passes is_whole follower.old dropped × ((is_last : Bool) × IsPrefix answer
+        (λ _. IsPrefix answer lost_text ⊎ (Passes is_whole follower.old dropped × ((is_last : Bool) × IsPrefix answer
         (no_room_text is_last)))) }
 {
-    pass_over(is_whole, follower, reader)?;
+    if let Err(error) = pass_over(is_whole, follower, reader) {
+        answer_lost(&error, writer);
+        return Err(error);
+    }
     let is_last = follower.is_last();
     let (sending, _) = send(writer, no_room(is_last));
     if sending != Sending::Whole {
         return Err(ErrorKind::WriteZero.into());
     }
     Ok(is_last)
+}
+
+/// Answers that a request did not come whole, where its rest was not passed over for that.
+fn answer_lost<W: Write>(error: &io::Error, writer: &mut W)
+    ensures { (answer : List ℕ) × Appends (W.contents writer.old) (W.contents writer.new) answer
+        × IsPrefix answer lost_text }
+{
+    if error.kind() == ErrorKind::UnexpectedEof {
+        let _ = send(writer, lost());
+    }
+}
+
+/// The answer to a request that did not come whole.
+fn lost() -> &'static [u8]
+    ensures { result.now ≡ lost_text }
+{
+    LOST
 }
 
 /// The answer to a request that found no room.
@@ -355,7 +381,8 @@ struct Came {
     is_held: bool,
 }
 
-/// Reads once, at most up to the end of a request.
+/// Reads once, at most up to the end of a request. Where the input ends within a body the connection is not told, which
+/// would take it for a wrong request.
 fn read_on<R: Wait, I: BufRead>(
     rt: &R,
     connection: &mut Connection,
@@ -370,6 +397,12 @@ fn read_on<R: Wait, I: BufRead>(
     ensures config { config_of connection.new ≡ config_of connection.old }
 {
     let bytes = reader.fill_buf()?;
+    if bytes.is_empty() && follower.is_in_body() {
+        return Ok(Came {
+            is_whole: false,
+            is_held: false,
+        });
+    }
     let (found, count) = follower.follow(bytes);
     let is_held = give(connection, &bytes[..count]);
     reader.consume(count);

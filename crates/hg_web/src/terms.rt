@@ -3,6 +3,7 @@
 use crate::budget::Budget;
 use hg_commit::Storing;
 use hg_durable::Keeping;
+use hg_http::Address;
 use hg_queries::ViewCache;
 use hg_store::Device;
 use std::alloc::{Allocator, Global};
@@ -15,8 +16,12 @@ pub struct WebTerms<'a, S> {
     pub shown: &'a S,
     /// What the bodies of all requests hold together at most.
     pub budget: &'a Budget,
+    /// What the server answers to.
+    pub address: Address<'a>,
     /// Where pulls go, without a query.
     pub pull: Option<&'a [u8]>,
+    /// What is told behind the capabilities.
+    pub also: Option<&'a [u8]>,
     /// How many pushes the store had when it was opened: the place of the first one here.
     pub stored: usize,
 }

@@ -29,7 +29,9 @@ use hg_repo::Repo;
 use hg_serve::{Point, Probe, Server};
 use hg_store::{Device, Log, recover};
 use hg_types::{NoMemory, Seq};
-use hg_web::{Budget, ConnectionEnd, Shown, ViewCache, Watch, WatchedPush, WebTerms, serve_http};
+use hg_web::{
+    Address, Budget, ConnectionEnd, Shown, ViewCache, Watch, WatchedPush, WebTerms, serve_http,
+};
 use std::alloc::{AllocFailed, Allocator, Global};
 use std::hash::RandomState;
 use std::io::{BufReader, Read};
@@ -129,16 +131,28 @@ struct Way<'a> {
     calls: usize,
     /// What all bodies hold together.
     budget: usize,
+    /// What the server answers to.
+    address: Address<'a>,
     /// Where pulls go.
     pull: Option<&'a [u8]>,
+    /// What is told behind the capabilities.
+    also: Option<&'a [u8]>,
 }
+
+/// The server answers at `/`, whatever name it is called by.
+const ANYWHERE: Address<'static> = Address {
+    path: b"",
+    name: None,
+};
 
 /// As it is served where nothing is tried.
 const PLAIN: Way<'static> = Way {
     step: 1_000_000,
     calls: 1_000_000,
     budget: 1_000_000,
+    address: ANYWHERE,
     pull: None,
+    also: None,
 };
 
 /// What is left after some connections.
@@ -232,7 +246,9 @@ fn play<J: Storing<Global>, R: RandomSource + Wait + Abort>(
     let terms = WebTerms {
         shown: &Words,
         budget: &budget,
+        address: way.address,
         pull: way.pull,
+        also: way.also,
         stored: 0,
     };
     let mut tally = Tally::new();

@@ -1,5 +1,6 @@
 pub mod Text
 pub mod Form
+pub mod Once
 pub mod Batch
 pub mod Capabilities
 pub mod Heads

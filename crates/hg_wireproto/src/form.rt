@@ -55,7 +55,7 @@ fn read_field<A: Allocator + Copy>(alloc: A, piece: &[u8]) -> Result<Field<A>, N
 }
 
 /// A text with spaces for `+` and bytes for escapes.
-fn plain<A: Allocator + Copy>(alloc: A, text: &[u8]) -> Result<Seq<u8, A>, NoMemory>
+pub(crate) fn plain<A: Allocator + Copy>(alloc: A, text: &[u8]) -> Result<Seq<u8, A>, NoMemory>
     ensures { IfOk result (λ bytes. bytes ≡ plain_of text.now) }
 {
     let spaced = with_spaces(alloc, text)?;
@@ -74,7 +74,7 @@ fn with_spaces<A: Allocator>(alloc: A, text: &[u8]) -> Result<Vec<u8, A>, NoMemo
     Ok(spaced)
 }
 
-fn is_same(own: &[u8], other: &[u8]) -> bool
+pub(crate) fn is_same(own: &[u8], other: &[u8]) -> bool
     ensures { result ≡ bytes_eq own.now other.now }
 {
     own == other

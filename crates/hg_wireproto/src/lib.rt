@@ -2,8 +2,8 @@
 //! after a push, and the forms in which it asks.
 //!
 //! Each text is a function of values that are borrowed: nothing is changed, and the only refusal is out of
-//! memory. [`read_form`] and [`read_batch`] read the two forms of arguments, and [`joined_answers`] writes
-//! the answers of a batch. [`heads_text`], [`known_text`], [`listkeys_text`] and [`lookup_text`]
+//! memory. [`read_form`] and [`read_batch`] read the two forms of arguments, [`stands_once`] says whether
+//! a form has a name once at most, and [`joined_answers`] writes the answers of a batch. [`heads_text`], [`known_text`], [`listkeys_text`] and [`lookup_text`]
 //! are the bodies of the answers to the commands of those names, and [`capabilities_text`] is a constant. Whatever
 //! bytes are asked, there is an answer. Nothing here starts a thread or waits.
 //!
@@ -27,6 +27,7 @@ mod kept;
 mod laws;
 mod listkeys;
 mod lookup;
+mod once;
 mod plain;
 mod since;
 mod text;
@@ -42,5 +43,6 @@ pub use hidden::hidden_changesets;
 pub use laws::{escapes_are_read_back, forms_are_read_back};
 pub use listkeys::listkeys_text;
 pub use lookup::lookup_text;
+pub use once::stands_once;
 pub use since::{Seen, Since};
 pub use viewed::BranchView;

@@ -154,7 +154,19 @@ fn read_replay<'a>(alloc: Global, matches: &ArgMatches<'a>) -> Result<Job<'a>, A
 /// Reads the words. An error has the text that goes to the user.
 pub fn job_of<'a>(alloc: Global, words: &'a [String]) -> Result<Job<'a>, Error> {
     let matches = command(alloc)?.try_get_matches_from(words)?;
-    Ok(read(alloc, &matches)?)
+    let job = read(alloc, &matches)?;
+    match fault_in(&job) {
+        Some(text) => Err(invalid(alloc, text)),
+        None => Ok(job),
+    }
+}
+
+/// What is wrong with the values of its options, if something is.
+fn fault_in(job: &Job<'_>) -> Option<&'static str> {
+    match job {
+        Job::Host(hosting) => hosting.fault(),
+        _ => None,
+    }
 }
 
 /// Why the words could not be had: memory was refused for them, or one of them is not text.
@@ -162,18 +174,20 @@ pub fn unreadable(alloc: Global, error: &io::Error) -> Error {
     if error.kind() == io::ErrorKind::OutOfMemory {
         return Error::from(AllocError);
     }
-    match not_text(alloc) {
+    invalid(alloc, "a word of the command line is not UTF-8")
+}
+
+/// The error that says what is wrong with a word.
+fn invalid(alloc: Global, text: &'static str) -> Error {
+    match usage_fault(alloc, text) {
         Ok(fault) => fault,
         Err(refused) => Error::from(refused),
     }
 }
 
-fn not_text(alloc: Global) -> Result<Error, AllocError> {
+fn usage_fault(alloc: Global, text: &'static str) -> Result<Error, AllocError> {
     let mut command = command(alloc)?;
-    let fault = command.error(
-        ErrorKind::InvalidValue,
-        "a word of the command line is not UTF-8",
-    );
+    let fault = command.error(ErrorKind::InvalidValue, text);
     drop(command);
     fault
 }

@@ -22,10 +22,45 @@ pub struct Hosting<'a> {
     pub idle: u64,
     /// How many bytes the bodies of all open pushes hold together at most.
     pub memory: u64,
+    /// The path that is answered.
+    pub path: &'a str,
+    /// The name that the field `host` of a request has to give, if it has to give one.
+    pub name: Option<&'a str>,
+    /// What is told behind the capabilities.
+    pub also: Option<&'a str>,
     /// Where who pulls is sent on to.
     pub pull: Option<&'a str>,
+    /// Whether the store has to be there.
+    pub existing: bool,
     /// Whether each push is printed on standard error.
     pub log: bool,
+}
+
+impl Hosting<'_> {
+    /// What is wrong with its words, if something is.
+    pub(crate) fn fault(&self) -> Option<&'static str> {
+        if !is_path(self.path) {
+            return Some("--path begins with a slash and has no blank, no ?, no # and no %");
+        }
+        if self.name.is_some_and(|name| !is_line(name)) {
+            return Some("--name is a word");
+        }
+        if self.also.is_some_and(|also| !is_line(also)) {
+            return Some("--also is one line of text");
+        }
+        None
+    }
+}
+
+/// Whether it is the path of a URL, as it is sent.
+fn is_path(path: &str) -> bool {
+    path.starts_with('/')
+        && path.bytes().all(|byte| byte.is_ascii_graphic() && !matches!(byte, b'?' | b'#' | b'%'))
+}
+
+/// Whether it is a text of one line.
+fn is_line(text: &str) -> bool {
+    !text.is_empty() && text.bytes().all(|byte| byte >= b' ' && byte != 127)
 }
 
 /// An example.
@@ -80,12 +115,44 @@ pub const HOST: CommandRow<'static> = CommandRow {
             help: "How much the bodies of all open pushes hold together at most, 1048576 or more",
         },
         OptionRow {
+            name: "path",
+            kind: Kind::Word,
+            value: "PATH",
+            is_required: false,
+            default: &["/"],
+            help: "The path that is answered, as /NAME; any other is not found",
+        },
+        OptionRow {
+            name: "name",
+            kind: Kind::Word,
+            value: "HOST",
+            is_required: false,
+            default: &[],
+            help: "Refuses a request that is for a server of another name",
+        },
+        OptionRow {
+            name: "also",
+            kind: Kind::Word,
+            value: "TEXT",
+            is_required: false,
+            default: &[],
+            help: "What is told behind the capabilities",
+        },
+        OptionRow {
             name: "pull",
             kind: Kind::Word,
             value: "URL",
             is_required: false,
             default: &[],
             help: "Where who pulls is sent on to",
+        },
+        OptionRow {
+            name: "existing",
+            kind: Kind::Flag,
+            value: "",
+            is_required: false,
+            default: &[],
+            help: "Refuses a folder without a store, and makes none",
         },
         OptionRow {
             name: "log",
@@ -108,7 +175,11 @@ pub fn read_hosting<'a>(matches: &ArgMatches<'a>) -> Hosting<'a> {
         publishing: matches.get_flag("publishing"),
         idle: matches.get_one("idle").unwrap_or(1),
         memory: matches.get_one("memory").unwrap_or(1),
+        path: word_of(matches, "path"),
+        name: matches.get_str("name"),
+        also: matches.get_str("also"),
         pull: matches.get_str("pull"),
+        existing: matches.get_flag("existing"),
         log: matches.get_flag("log"),
     }
 }

@@ -14,7 +14,11 @@ const DEFAULTS: Hosting<'static> = Hosting {
     publishing: false,
     idle: 300,
     memory: 1_073_741_824,
+    path: "/",
+    name: None,
+    also: None,
     pull: None,
+    existing: false,
     log: false,
 };
 
@@ -34,7 +38,11 @@ fn is_same(one: &Hosting<'_>, other: &Hosting<'_>) -> bool {
         && one.publishing == other.publishing
         && one.idle == other.idle
         && one.memory == other.memory
+        && is_same_word(Some(one.path), Some(other.path))
+        && is_same_word(one.name, other.name)
+        && is_same_word(one.also, other.also)
         && is_same_word(one.pull, other.pull)
+        && one.existing == other.existing
         && one.log == other.log
 }
 
@@ -54,7 +62,7 @@ fn asks_host(alloc: Global, more: &[&str], wanted: &Hosting<'_>) -> Result<bool,
 fn words_that_ask_for_a_host(rt: HostRuntime) -> Result<(), Fail> {
     let alloc = rt.alloc();
     assert!(rt; asks_host(alloc, &[], &DEFAULTS)?);
-    let rows: [(&[&str], Hosting<'_>); 6] = [
+    let rows: [(&[&str], Hosting<'_>); 10] = [
         (
             &["--listen", "[::1]:80"],
             Hosting {
@@ -73,6 +81,34 @@ fn words_that_ask_for_a_host(rt: HostRuntime) -> Result<(), Fail> {
             &["--pull", "http://h/"],
             Hosting {
                 pull: Some("http://h/"),
+                ..DEFAULTS
+            },
+        ),
+        (
+            &["--path", "/team/one"],
+            Hosting {
+                path: "/team/one",
+                ..DEFAULTS
+            },
+        ),
+        (
+            &["--name", "hg.example.org"],
+            Hosting {
+                name: Some("hg.example.org"),
+                ..DEFAULTS
+            },
+        ),
+        (
+            &["--also", "stream bundles=1%2C2"],
+            Hosting {
+                also: Some("stream bundles=1%2C2"),
+                ..DEFAULTS
+            },
+        ),
+        (
+            &["--existing"],
+            Hosting {
+                existing: true,
                 ..DEFAULTS
             },
         ),
@@ -166,10 +202,11 @@ fn numbers_of_a_host(rt: HostRuntime) -> Result<(), Fail> {
     Ok(())
 }
 
-/// A number past either end of its range, a missing store, and a word that is none of `host`.
+/// A number past either end of its range, a missing store, a word that is none of `host`, what is no path of a URL,
+/// and texts that are empty or have more than one line.
 #[test]
 fn words_that_host_refuses(rt: HostRuntime) -> Result<(), Fail> {
-    let cases: [&[&str]; 13] = [
+    let cases: [&[&str]; 24] = [
         &["host"],
         &["host", "--store"],
         &["host", "--store", "S", "more"],
@@ -183,6 +220,17 @@ fn words_that_host_refuses(rt: HostRuntime) -> Result<(), Fail> {
         &["host", "--store", "S", "--memory", "1048575"],
         &["host", "--store", "S", "--memory", "18446744073709551616"],
         &["host", "--store", "S", "--pull"],
+        &["host", "--store", "S", "--path", ""],
+        &["host", "--store", "S", "--path", "one"],
+        &["host", "--store", "S", "--path", "/a b"],
+        &["host", "--store", "S", "--path", "/a?b"],
+        &["host", "--store", "S", "--path", "/a#b"],
+        &["host", "--store", "S", "--path", "/a%62"],
+        &["host", "--store", "S", "--path", "/\u{e9}"],
+        &["host", "--store", "S", "--name", ""],
+        &["host", "--store", "S", "--name", "a\nb"],
+        &["host", "--store", "S", "--also", ""],
+        &["host", "--store", "S", "--also", "a\r\nb"],
     ];
     for words in cases {
         assert_eq!(rt; refused(rt.alloc(), words)?, Some(2));

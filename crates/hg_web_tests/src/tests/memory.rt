@@ -133,7 +133,9 @@ fn converse_thrice<J: Storing<A>, A: Allocator + Copy, R: RandomSource + Wait + 
     let terms = WebTerms {
         shown: &Words,
         budget: &budget,
+        address: ANYWHERE,
         pull: None,
+        also: None,
         stored: 0,
     };
     let shelf = Mutex::new(ViewCache::new(alloc, client_of(rt, server)));

@@ -4,6 +4,8 @@ use super::*;
 
 const FORBIDDEN: &[u8] = b"HTTP/1.1 403 Forbidden\r\ncontent-length: 0\r\n\r\n";
 
+const BAD_REQUEST: &[u8] = b"HTTP/1.1 400 Bad Request\r\ncontent-length: 0\r\n\r\n";
+
 const NOT_FOUND: &[u8] = b"HTTP/1.1 404 Not Found\r\ncontent-length: 0\r\n\r\n";
 
 const NOT_FORCED: &[u8] =
@@ -149,14 +151,16 @@ fn what_is_no_command_is_not_found(rt: HostRuntime) {
         "GET /?cmd",
         "GET /?CMD=heads",
         "GET /?cmd=Heads",
-        "GET /?cmd=heads%00",
-        "GET /?cmd=heads+",
-        "GET /?cmd=heads&cmd=changegroup",
+        "GET /?cmd=heads%0",
         "GET /?",
         "GET /?x",
         "GET /index.html",
         "GET /report/",
         "GET //",
+        "GET //?cmd=heads",
+        "GET /a?cmd=heads",
+        "GET /report?cmd=heads",
+        "POST /a?cmd=unbundle",
         "POST /",
         "POST /report",
         "PUT /metrics",
@@ -165,6 +169,31 @@ fn what_is_no_command_is_not_found(rt: HostRuntime) {
         // the command is the query's alone
         let asked = request(&rt, alloc, line, "x-hgarg-1: cmd=heads\r\n", OWN, b"");
         assert_refused(&rt, alloc, asked.as_slice(), NOT_FOUND);
+    }
+}
+
+/// Queries that have `cmd` twice, or with an escape. Whoever stands before the server may read another command of
+/// them: the first, or one without its escapes read.
+#[test]
+fn commands_that_may_be_read_otherwise_are_refused(rt: HostRuntime) {
+    let alloc = rt.alloc();
+    let lines = [
+        "POST /?cmd=heads&cmd=unbundle",
+        "POST /?cmd=unbundle&cmd=unbundle",
+        "POST /?cmd=unbundle&cmd=heads",
+        "POST /?cmd&cmd=unbundle",
+        "POST /?%63md=heads&cmd=unbundle",
+        "POST /?%63md=unbundle",
+        "POST /?cm%64=unbundle",
+        "POST /?cmd=%75nbundle",
+        "POST /?cmd=unbundle+",
+        "POST /?cmd=unbundle%00",
+        "GET /?cmd=heads&x=1&cmd=changegroup",
+        "GET /?cmd=heads&cmd=",
+    ];
+    for line in lines {
+        let asked = request(&rt, alloc, line, FORCED, OWN, EMPTY);
+        assert_refused(&rt, alloc, asked.as_slice(), BAD_REQUEST);
     }
 }
 
@@ -259,7 +288,7 @@ fn batches_at_the_bound_are_told(rt: HostRuntime) {
 #[test]
 fn nothing_can_be_pulled(rt: HostRuntime) {
     let alloc = rt.alloc();
-    for line in ["GET /?cmd=getbundle", "POST /a?cmd=getbundle&cg=1"] {
+    for line in ["GET /?cmd=getbundle", "POST /?cmd=getbundle&cg=1"] {
         let asked = request(&rt, alloc, line, "x-hgarg-1: common=\r\n", "", b"");
         assert_refused(&rt, alloc, asked.as_slice(), PUSHES_ALONE);
     }

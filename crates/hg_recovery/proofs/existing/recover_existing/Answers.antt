@@ -1,0 +1,13 @@
+use Rattle.std.proofs.Common.{◌≡◌}
+use Rattle.std.proofs.lemmas.Result.{err_from_is_err_and}
+use Rattle.hg_recovery.proofs.Folders.{looked_for}
+use Rattle.hg_recovery.proofs.Stops.{stops_stored}
+use Rattle.hg_recovery.proofs.existing.recover_existing.Goals as goal
+
+pub returns-in_err-recover_records-clause-stops : goal.returns-in_err-recover_records-clause-stops
+returns-in_err-recover_records-clause-stops g c = λ fault is.
+    let p = err_from_is_err_and c.from_residual-in_err-recover_records.result
+    c.from_residual-in_err-recover_records.ensures.1 in
+    let same : c.in_err-recover_records.field-0.0 ≡ fault = cc in
+    stops_stored _ _ _ _ _ _ _ _ _ c.in_ok-opened.ensures.settled c.head_of-head.ensures same
+    c.in_err-recover_records.ensures.err
