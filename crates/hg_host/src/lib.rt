@@ -2,20 +2,24 @@
 //!
 //! [`serve_store`] serves the repository of a store that `hg_recovery` opened, and adds to the store:
 //! [`HostService::serve`] is one connection of it, over any reader and writer. A connection over a socket is
-//! not waited for longer than the terms say; `hg_tcp` has the places for connections.
+//! not waited for longer than the terms say; `hg_tcp` has the places for connections. Where a hook is named, it is
+//! asked before each push.
 //!
 //! What one connection does never ends another, except where the store fails: then nothing more is answered. And
 //! where the numbers of pushes come to their end, each connection ends at its next read, and another server over
 //! the same store goes on.
 #![tactic(auto)]
 
+mod hook;
 mod hosting;
 mod runtime;
 mod service;
 mod terms;
 mod watch;
 
+pub use hg_hook::HookAddress;
 pub use hg_tcp::Over;
+pub use hook::HookTerms;
 pub use hosting::serve_store;
 pub use runtime::HostingRuntime;
 pub use service::HostService;

@@ -3,7 +3,7 @@
 ghost use Rattle.hg_recovery.specs.Opening.{IsOpened};
 
 use hg_commands::{Hosting, device_status, tell};
-use hg_host::{HostTerms, HostingRuntime, Over, serve_store};
+use hg_host::{HookAddress, HookTerms, HostTerms, HostingRuntime, Over, serve_store};
 use hg_recovery::{OpeningFault, Recovered, recover_store};
 use hg_store::{Device, HostFile, StoreFile, StoreFolder};
 use hg_store_tools::TornNote;
@@ -14,12 +14,16 @@ use std::net::{Net, SocketAddr, TcpListener, TcpStream};
 use std::sync::Wait;
 
 /// Opens the store, binds the address, says where it listens, and serves until the store fails, in this order.
-/// Gives the status; what ends it is printed.
+/// Gives the status; what ends it is printed. Nothing is opened where the address of the hook is none.
 pub fn host<R: Files<File = File> + AllocGlobal + HostingRuntime>(
     rt: &R,
     state: RandomState,
     hosting: &Hosting<'_>,
 ) -> u8 {
+    if !is_hook_read(hosting) {
+        let _ = eprintln!(rt; "hg_pushd: --hook wants http://HOST:PORT/PATH");
+        return 2;
+    }
     let mut folder = StoreFolder::new(rt, hosting.store);
     match recover_store(rt.alloc(), state, &mut folder, hosting.publishing) {
         Ok(recovered) => listen(rt, hosting, recovered),
@@ -121,8 +125,26 @@ fn terms_of<'a>(hosting: &Hosting<'a>) -> HostTerms<'a> {
         idle: hosting.idle,
         memory: usize::try_from(hosting.memory).unwrap_or(usize::MAX),
         pull: hosting.pull,
+        hook: hook_of(hosting),
         logs: hosting.log,
     }
+}
+
+/// Whether the address of the hook can be read, where there is one.
+fn is_hook_read(hosting: &Hosting<'_>) -> bool {
+    match hosting.hook {
+        Some(url) => HookAddress::parse(url).is_some(),
+        None => true,
+    }
+}
+
+/// Who is asked before each push.
+fn hook_of<'a>(hosting: &Hosting<'a>) -> Option<HookTerms<'a>> {
+    let address = HookAddress::parse(hosting.hook?)?;
+    Some(HookTerms {
+        address,
+        wait: hosting.hook_wait,
+    })
 }
 
 /// Prints where it listens and what the store has; and where others reach it, that they need no name.

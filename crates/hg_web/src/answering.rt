@@ -14,17 +14,19 @@ ghost use Rattle.hg_commit.specs.Clients.{IsCovered};
 ghost use Rattle.hg_web.specs.Answering.{AnswersRequest, AnswersAsked, AnswersBatch, AnswersCommand, AnswersForced};
 ghost use Rattle.hg_web.specs.Answering.{AnswersPushKey, around_of, IfFromClient, is_look, IsSaid, IsTextAt, OrLacks};
 ghost use Rattle.hg_web.specs.Answering.{pull_answer};
+ghost use Rattle.hg_hook.specs.Policies.{AsksOnce, HasAsked};
 ghost use Rattle.hg_web.specs.Pushes.{Answered};
 
 use crate::key::push_key;
+use crate::letting::unbundle_if_let;
 use crate::long::{LongCommand, LongCommands};
 use crate::looking::{Asking, Look, look_kept};
-use crate::push::unbundle;
 use crate::terms::{Host, WebTerms};
 use crate::viewing::answer_view;
 use bytes::Bytes;
 use hg_commit::{KeptClient, NotStored, Storing};
 use hg_durable::Keeping;
+use hg_hook::Policy;
 use hg_http::{
     Command, HttpAnswer, Read, RequestRefusal, argument, command_of, is_from_client, moved_to,
     read_arguments, read_name, subject_of, view_of,
@@ -46,21 +48,24 @@ pub fn answer_request<
     R: Wait,
     S: Shown<A>,
     V: Watch<A>,
+    P: Policy<A>,
 >(
     host: &Host<'_, J, D, R, A>,
     terms: &WebTerms<'_, S>,
     client: KeptClient<J, A>,
     request: &Request<Bytes>,
     watch: &mut V,
+    policy: &mut P,
 ) -> (KeptClient<J, A>, Result<HttpAnswer<A>, NotStored>)
-    ensures { Answered (AnswersRequest J.capacity J.first
+    ensures answered { Answered (AnswersRequest J.capacity J.first
         (around_of (IsCovered D.seen D.may_leave D.moment J.head J.stored J.first) S.is_page S.are_metrics terms.now)
-        request.now) client result.1 result.0 }
+        (HasAsked (P.asked policy.old) (P.asked policy.new)) request.now) client result.1 result.0 }
+    ensures asks { AsksOnce (P.asked policy.old) (P.asked policy.new) }
 {
     match read_request(host.keeping.alloc, request) {
         Ok((command, fields)) => {
             let fields = fields.as_slice();
-            answer_asked(host, terms, client, command, fields, request, watch)
+            answer_asked(host, terms, client, command, fields, request, watch, policy)
         }
         Err(_) => (client, Ok(HttpAnswer::Refused(RequestRefusal::NoMemory))),
     }
@@ -80,7 +85,15 @@ fn read_request<A: Allocator + Copy>(
 }
 
 /// Answers what was asked: a command, or a view.
-fn answer_asked<J: Storing<A>, D: Device, A: Allocator + Copy, R: Wait, S: Shown<A>, V: Watch<A>>(
+fn answer_asked<
+    J: Storing<A>,
+    D: Device,
+    A: Allocator + Copy,
+    R: Wait,
+    S: Shown<A>,
+    V: Watch<A>,
+    P: Policy<A>,
+>(
     host: &Host<'_, J, D, R, A>,
     terms: &WebTerms<'_, S>,
     client: KeptClient<J, A>,
@@ -88,19 +101,32 @@ fn answer_asked<J: Storing<A>, D: Device, A: Allocator + Copy, R: Wait, S: Shown
     fields: &[Field<A>],
     request: &Request<Bytes>,
     watch: &mut V,
+    policy: &mut P,
 ) -> (KeptClient<J, A>, Result<HttpAnswer<A>, NotStored>)
-    ensures { Answered (OrLacks (is_look command) (AnswersAsked J.capacity J.first
+    ensures answered { Answered (OrLacks (is_look command) (AnswersAsked J.capacity J.first
         (around_of (IsCovered D.seen D.may_leave D.moment J.head J.stored J.first) S.is_page S.are_metrics terms.now)
-        command fields.now request.now)) client result.1 result.0 }
+        (HasAsked (P.asked policy.old) (P.asked policy.new)) command fields.now request.now))
+        client result.1 result.0 }
+    ensures asks { AsksOnce (P.asked policy.old) (P.asked policy.new) }
 {
     match command {
-        Some(command) => answer_command(host, terms.pull, client, command, fields, request, watch),
+        Some(command) => {
+            let pull = terms.pull;
+            answer_command(host, pull, client, command, fields, request, watch, policy)
+        }
         None => answer_view(&host.keeping, terms, client, view_of(request)),
     }
 }
 
 /// Answers a command.
-fn answer_command<J: Storing<A>, D: Device, A: Allocator + Copy, R: Wait, V: Watch<A>>(
+fn answer_command<
+    J: Storing<A>,
+    D: Device,
+    A: Allocator + Copy,
+    R: Wait,
+    V: Watch<A>,
+    P: Policy<A>,
+>(
     host: &Host<'_, J, D, R, A>,
     pull: Option<&[u8]>,
     client: KeptClient<J, A>,
@@ -108,17 +134,20 @@ fn answer_command<J: Storing<A>, D: Device, A: Allocator + Copy, R: Wait, V: Wat
     fields: &[Field<A>],
     request: &Request<Bytes>,
     watch: &mut V,
+    policy: &mut P,
 ) -> (KeptClient<J, A>, Result<HttpAnswer<A>, NotStored>)
-    ensures { Answered (OrLacks (is_look (Some command)) (AnswersCommand J.capacity J.first
-        (IsCovered D.seen D.may_leave D.moment J.head J.stored J.first) (option_copied pull.entry) command fields.now
+    ensures answered { Answered (OrLacks (is_look (Some command)) (AnswersCommand J.capacity J.first
+        (IsCovered D.seen D.may_leave D.moment J.head J.stored J.first)
+        (HasAsked (P.asked policy.old) (P.asked policy.new)) (option_copied pull.entry) command fields.now
         request.now)) client result.1 result.0 }
+    ensures asks { AsksOnce (P.asked policy.old) (P.asked policy.new) }
 {
     match command {
         Command::ReadOnly(read) => answer_read(host, client, read, fields),
         Command::Capabilities => (client, Ok(capabilities(host.keeping.alloc))),
         Command::Batch => answer_batch(host, client, fields),
-        Command::Unbundle => answer_unbundle(host, client, fields, request, watch),
-        Command::PushKey => answer_pushkey(host, client, fields, request, watch),
+        Command::Unbundle => answer_unbundle(host, client, fields, request, watch, policy),
+        Command::PushKey => answer_pushkey(host, client, fields, request, watch, policy),
         Command::GetBundle => (client, Ok(answer_pull(host.keeping.alloc, pull, request))),
     }
 }
@@ -248,17 +277,27 @@ fn answer_commands<J: Storing<A>, D: Device, A: Allocator + Copy, R: Wait>(
 }
 
 /// Answers a push, which is the body of the request.
-fn answer_unbundle<J: Storing<A>, D: Device, A: Allocator + Copy, R: Wait, V: Watch<A>>(
+fn answer_unbundle<
+    J: Storing<A>,
+    D: Device,
+    A: Allocator + Copy,
+    R: Wait,
+    V: Watch<A>,
+    P: Policy<A>,
+>(
     host: &Host<'_, J, D, R, A>,
     client: KeptClient<J, A>,
     fields: &[Field<A>],
     request: &Request<Bytes>,
     watch: &mut V,
+    policy: &mut P,
 ) -> (KeptClient<J, A>, Result<HttpAnswer<A>, NotStored>)
-    ensures { Answered (IfFromClient (came_from_client request.now) (AnswersForced J.capacity J.first
-        (IsCovered D.seen D.may_leave D.moment J.head J.stored J.first) (body_of request.now)
+    ensures answered { Answered (IfFromClient (came_from_client request.now) (AnswersForced J.capacity J.first
+        (IsCovered D.seen D.may_leave D.moment J.head J.stored J.first)
+        (HasAsked (P.asked policy.old) (P.asked policy.new)) (body_of request.now)
         (bytes_eq (argument_in fields.now (codes "heads")) (codes "666f726365"))))
         client result.1 result.0 }
+    ensures asks { AsksOnce (P.asked policy.old) (P.asked policy.new) }
 {
     if !is_from_client(request) {
         return (client, Ok(HttpAnswer::Forbidden));
@@ -267,7 +306,7 @@ fn answer_unbundle<J: Storing<A>, D: Device, A: Allocator + Copy, R: Wait, V: Wa
         return (client, Ok(HttpAnswer::Refused(RequestRefusal::NotForced)));
     }
     let body = request.body();
-    unbundle(&host.keeping, client, body, watch)
+    unbundle_if_let(&host.keeping, client, body, watch, policy)
 }
 
 /// Whether the heads of a push are forced: `force` in hexadecimal digits.
@@ -278,18 +317,28 @@ fn are_forced(heads: &[u8]) -> bool
 }
 
 /// Answers a push that sets one key.
-fn answer_pushkey<J: Storing<A>, D: Device, A: Allocator + Copy, R: Wait, V: Watch<A>>(
+fn answer_pushkey<
+    J: Storing<A>,
+    D: Device,
+    A: Allocator + Copy,
+    R: Wait,
+    V: Watch<A>,
+    P: Policy<A>,
+>(
     host: &Host<'_, J, D, R, A>,
     client: KeptClient<J, A>,
     fields: &[Field<A>],
     request: &Request<Bytes>,
     watch: &mut V,
+    policy: &mut P,
 ) -> (KeptClient<J, A>, Result<HttpAnswer<A>, NotStored>)
-    ensures { Answered (OrLacks false (IfFromClient (came_from_client request.now) (AnswersPushKey J.capacity J.first
-        (IsCovered D.seen D.may_leave D.moment J.head J.stored J.first) fields.now))) client result.1 result.0 }
+    ensures answered { Answered (OrLacks false (IfFromClient (came_from_client request.now) (AnswersPushKey
+        J.capacity J.first (IsCovered D.seen D.may_leave D.moment J.head J.stored J.first)
+        (HasAsked (P.asked policy.old) (P.asked policy.new)) fields.now))) client result.1 result.0 }
+    ensures asks { AsksOnce (P.asked policy.old) (P.asked policy.new) }
 {
     if !is_from_client(request) {
         return (client, Ok(HttpAnswer::Forbidden));
     }
-    push_key(&host.keeping, client, fields, watch)
+    push_key(&host.keeping, client, fields, watch, policy)
 }

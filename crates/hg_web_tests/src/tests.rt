@@ -29,7 +29,9 @@ use hg_repo::Repo;
 use hg_serve::{Point, Probe, Server};
 use hg_store::{Device, Log, recover};
 use hg_types::{NoMemory, Seq};
-use hg_web::{Budget, ConnectionEnd, Shown, ViewCache, Watch, WatchedPush, WebTerms, serve_http};
+use hg_web::{
+    Budget, ConnectionEnd, Shown, Verdict, ViewCache, Watch, WatchedPush, WebTerms, serve_http,
+};
 use std::alloc::{AllocFailed, Allocator, Global};
 use std::hash::RandomState;
 use std::io::{BufReader, Read};
@@ -120,6 +122,34 @@ impl<'a> Read for Source<'a> {
     }
 }
 
+/// Says the same of each push, and keeps how many it was asked about and how long they were together.
+#[derive(Drop)]
+struct Policy<'a> {
+    alloc: Global,
+    /// Why no push may run, if none may.
+    refusal: Option<&'a [u8]>,
+    asked: usize,
+    bytes: usize,
+}
+
+impl hg_web::Policy<Global> for Policy<'_> {
+    ghost use Rattle.std.specs.Prelude.{None};
+
+    ghost asked = { λ _. None };
+
+    fn let_through(&mut self, _user: Option<&[u8]>, bundle: &[u8]) -> Verdict {
+        self.asked = self.asked.saturating_add(1);
+        self.bytes = self.bytes.saturating_add(bundle.len());
+        match self.refusal {
+            None => Verdict::LetThrough,
+            Some(why) => match Seq::copy_of(self.alloc, why) {
+                Ok(line) => Verdict::Refused(line),
+                Err(_) => Verdict::NoMemory,
+            },
+        }
+    }
+}
+
 /// How a test serves.
 #[derive(Clone, Copy)]
 struct Way<'a> {
@@ -131,6 +161,8 @@ struct Way<'a> {
     budget: usize,
     /// Where pulls go.
     pull: Option<&'a [u8]>,
+    /// Why no push may run.
+    refusal: Option<&'a [u8]>,
 }
 
 /// As it is served where nothing is tried.
@@ -139,6 +171,7 @@ const PLAIN: Way<'static> = Way {
     calls: 1_000_000,
     budget: 1_000_000,
     pull: None,
+    refusal: None,
 };
 
 /// What is left after some connections.
@@ -148,6 +181,8 @@ struct Left {
     told: Vec<u8>,
     end: ConnectionEnd,
     tally: Tally,
+    /// How many pushes the policy was asked about.
+    asked: usize,
     journal: usize,
     /// How many pushes the device has.
     kept: usize,
@@ -240,6 +275,12 @@ fn play<J: Storing<Global>, R: RandomSource + Wait + Abort>(
     let mut client = KeptClient::new(client_of(rt, &server));
     let mut end = ConnectionEnd::Done;
     let mut told = Vec::new(alloc);
+    let mut policy = Policy {
+        alloc,
+        refusal: way.refusal,
+        asked: 0,
+        bytes: 0,
+    };
     for asked in said {
         let source = Source {
             bytes: *asked,
@@ -251,7 +292,7 @@ fn play<J: Storing<Global>, R: RandomSource + Wait + Abort>(
         };
         told = Vec::new(alloc);
         let keys = state(rt);
-        let (back, ended) = serve_http(
+        let (back, kept, ended) = serve_http(
             &server,
             &ledger,
             &shelf,
@@ -261,10 +302,12 @@ fn play<J: Storing<Global>, R: RandomSource + Wait + Abort>(
             &terms,
             client,
             &mut tally,
+            policy,
             &mut reader,
             &mut told,
         );
         client = back;
+        policy = kept;
         end = ended;
     }
     add_kept(rt, &mut clients, client);
@@ -279,6 +322,7 @@ fn play<J: Storing<Global>, R: RandomSource + Wait + Abort>(
         told,
         end,
         tally,
+        asked: policy.asked,
         journal: closed.journal.len(),
         kept: kept_on(rt, alloc, &device),
     }

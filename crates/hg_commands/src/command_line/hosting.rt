@@ -24,6 +24,10 @@ pub struct Hosting<'a> {
     pub memory: u64,
     /// Where who pulls is sent on to.
     pub pull: Option<&'a str>,
+    /// Where it is asked whether a push may run.
+    pub hook: Option<&'a str>,
+    /// For how many seconds its answer is waited for.
+    pub hook_wait: u64,
     /// Whether each push is printed on standard error.
     pub log: bool,
 }
@@ -88,6 +92,22 @@ pub const HOST: CommandRow<'static> = CommandRow {
             help: "Where who pulls is sent on to",
         },
         OptionRow {
+            name: "hook",
+            kind: Kind::Word,
+            value: "URL",
+            is_required: false,
+            default: &[],
+            help: "Who is asked before each push, http://HOST:PORT/PATH: only 200 lets it run",
+        },
+        OptionRow {
+            name: "hook-wait",
+            kind: Kind::Number(ValueParser::Unsigned(1, 3_600)),
+            value: "SECONDS",
+            is_required: false,
+            default: &["60"],
+            help: "How long the hook is waited for, 1 to 3600",
+        },
+        OptionRow {
             name: "log",
             kind: Kind::Flag,
             value: "",
@@ -109,6 +129,8 @@ pub fn read_hosting<'a>(matches: &ArgMatches<'a>) -> Hosting<'a> {
         idle: matches.get_one("idle").unwrap_or(1),
         memory: matches.get_one("memory").unwrap_or(1),
         pull: matches.get_str("pull"),
+        hook: matches.get_str("hook"),
+        hook_wait: matches.get_one("hook-wait").unwrap_or(1),
         log: matches.get_flag("log"),
     }
 }

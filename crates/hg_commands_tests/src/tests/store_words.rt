@@ -15,6 +15,8 @@ const DEFAULTS: Hosting<'static> = Hosting {
     idle: 300,
     memory: 1_073_741_824,
     pull: None,
+    hook: None,
+    hook_wait: 60,
     log: false,
 };
 
@@ -35,6 +37,8 @@ fn is_same(one: &Hosting<'_>, other: &Hosting<'_>) -> bool {
         && one.idle == other.idle
         && one.memory == other.memory
         && is_same_word(one.pull, other.pull)
+        && is_same_word(one.hook, other.hook)
+        && one.hook_wait == other.hook_wait
         && one.log == other.log
 }
 
@@ -54,7 +58,7 @@ fn asks_host(alloc: Global, more: &[&str], wanted: &Hosting<'_>) -> Result<bool,
 fn words_that_ask_for_a_host(rt: HostRuntime) -> Result<(), Fail> {
     let alloc = rt.alloc();
     assert!(rt; asks_host(alloc, &[], &DEFAULTS)?);
-    let rows: [(&[&str], Hosting<'_>); 6] = [
+    let rows: [(&[&str], Hosting<'_>); 7] = [
         (
             &["--listen", "[::1]:80"],
             Hosting {
@@ -73,6 +77,13 @@ fn words_that_ask_for_a_host(rt: HostRuntime) -> Result<(), Fail> {
             &["--pull", "http://h/"],
             Hosting {
                 pull: Some("http://h/"),
+                ..DEFAULTS
+            },
+        ),
+        (
+            &["--hook", "http://h:1/"],
+            Hosting {
+                hook: Some("http://h:1/"),
                 ..DEFAULTS
             },
         ),
@@ -109,7 +120,7 @@ fn words_that_ask_for_a_host(rt: HostRuntime) -> Result<(), Fail> {
 #[test]
 fn numbers_of_a_host(rt: HostRuntime) -> Result<(), Fail> {
     let alloc = rt.alloc();
-    let rows: [(&[&str], Hosting<'_>); 7] = [
+    let rows: [(&[&str], Hosting<'_>); 9] = [
         (
             &["--connections", "1"],
             Hosting {
@@ -153,6 +164,20 @@ fn numbers_of_a_host(rt: HostRuntime) -> Result<(), Fail> {
             },
         ),
         (
+            &["--hook-wait", "1"],
+            Hosting {
+                hook_wait: 1,
+                ..DEFAULTS
+            },
+        ),
+        (
+            &["--hook-wait", "3600"],
+            Hosting {
+                hook_wait: 3600,
+                ..DEFAULTS
+            },
+        ),
+        (
             &["--memory", "1048576"],
             Hosting {
                 memory: 1_048_576,
@@ -169,7 +194,7 @@ fn numbers_of_a_host(rt: HostRuntime) -> Result<(), Fail> {
 /// A number past either end of its range, a missing store, and a word that is none of `host`.
 #[test]
 fn words_that_host_refuses(rt: HostRuntime) -> Result<(), Fail> {
-    let cases: [&[&str]; 13] = [
+    let cases: [&[&str]; 16] = [
         &["host"],
         &["host", "--store"],
         &["host", "--store", "S", "more"],
@@ -183,6 +208,9 @@ fn words_that_host_refuses(rt: HostRuntime) -> Result<(), Fail> {
         &["host", "--store", "S", "--memory", "1048575"],
         &["host", "--store", "S", "--memory", "18446744073709551616"],
         &["host", "--store", "S", "--pull"],
+        &["host", "--store", "S", "--hook"],
+        &["host", "--store", "S", "--hook-wait", "0"],
+        &["host", "--store", "S", "--hook-wait", "3601"],
     ];
     for words in cases {
         assert_eq!(rt; refused(rt.alloc(), words)?, Some(2));
