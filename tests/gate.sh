@@ -32,7 +32,7 @@ start() {
 }
 start mirror python3 mirror/check.py --short
 start refused python3 mirror/refused.py "$program"
-start hook python3 tests/hook.py
+start hook python3 tests/hook.py --program "$program"
 start pulls python3 tests/pulls.py "$program"
 start clients python3 tests/clients.py "$program" 16
 start team python3 tests/team.py "$program"

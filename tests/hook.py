@@ -1,19 +1,21 @@
 #!/usr/bin/env python3
 """Tries every way to stop or mislead the mirror, and the hook that refuses what would.
 
-    python3 tests/hook.py [--unchecked] [--only rows|good|random|http] [WORDS]
+    python3 tests/hook.py [--unchecked] [--only rows|good|random|http|host] [--program PROGRAM] [WORDS]
 
 Each row is a push that is made by hand (mirror/made.py). It has to be refused by the checks with the words that
 stand beside it, and then the mirror applies nothing of it; or to be harmless: the mirror applies it, `hg verify`
 finds nothing, and the repository holds what a push without it brings. Then pushes that are changed at random:
 what the checks let through is applied, and the repository is verified. Pushes that `hg` sent are let through.
-Last the hook is asked over HTTP. It needs the command `hg`, of Mercurial 6.3, and no push server.
+Then the hook is asked over HTTP, and last by `host` of PROGRAM, which also asks hooks that answer otherwise, late or
+never. It needs the command `hg`, of Mercurial 6.3, and without PROGRAM no push server.
 
 With WORDS only the rows that have them in their name. With --unchecked it says what Mercurial does with each push
 as it came, without checks: what it stops with, or what is broken or other behind it.
 """
 import glob
 import http.client
+import http.server
 import io
 import os
 import random
@@ -835,10 +837,259 @@ def try_waiting(results, asked, repo, before):
     results.see("a push on what is not there", asked.ask(push(Made(Made(B, {b"x": b"1"}), {b"y": b"2"})))[0] == 403)
 
 
+class Played(http.server.ThreadingHTTPServer):
+    """A hook that answers as it is told, and keeps what it was asked."""
+
+    daemon_threads = True
+
+    def __init__(self, port=0):
+        self.asked, self.says, self.seen = [], (200, b"may run\n"), threading.Event()
+        super().__init__(("127.0.0.1", port), PlayedHandler)
+        threading.Thread(target=self.serve_forever, kwargs={"poll_interval": 0.05}, daemon=True).start()
+
+    def url(self):
+        return f"http://127.0.0.1:{self.server_address[1]}/asked?it=1"
+
+    def handle_error(self, request, client_address):
+        """A connection that ends in the middle is what some of the rows want."""
+
+    def __exit__(self, *_):
+        self.shutdown()
+        self.server_close()
+
+
+class PlayedHandler(http.server.BaseHTTPRequestHandler):
+    protocol_version = "HTTP/1.1"
+
+    def log_message(self, *_words):
+        pass
+
+    def do_POST(self):
+        body = self.rfile.read(int(self.headers["content-length"]))
+        self.server.asked.append((self.path, dict(self.headers.items()), body, self.client_address[1]))
+        says = self.server.says
+        if callable(says):
+            self.server.seen.set()
+            says = says()
+        status, data = says
+        if isinstance(status, bytes):
+            self.wfile.write(status + data)
+            self.close_connection = True
+            return
+        self.send_response(status)
+        self.send_header("content-length", str(len(data)))
+        self.end_headers()
+        self.wfile.write(data)
+
+
+class Host:
+    """`host` with a hook, over a store of its own."""
+
+    def __init__(self, program, folder, *words):
+        self.process = subprocess.Popen([program, "host", "--store", folder, "--listen", "127.0.0.1:0", *words],
+                                        stderr=subprocess.PIPE, stdin=subprocess.DEVNULL)
+        said = self.process.stderr.readline().decode()
+        self.port = int(re.search(r"http://127\.0\.0\.1:(\d+)/", said)[1])
+
+    def __enter__(self):
+        return self
+
+    def __exit__(self, *_):
+        self.process.kill()
+        self.process.wait()
+        self.process.stderr.close()
+
+    def url(self):
+        return f"http://127.0.0.1:{self.port}/"
+
+    def ask(self, target, body=None, connection=None, **fields):
+        """The status, the type and the body of one answer."""
+        connection = connection or http.client.HTTPConnection("127.0.0.1", self.port, timeout=60)
+        connection.request("GET" if body is None else "POST", target, body, fields)
+        told = connection.getresponse()
+        return told.status, told.getheader("content-type"), told.read()
+
+    def push(self, data, connection=None):
+        return self.ask("/?cmd=unbundle", data, connection, **{"content-type": "application/mercurial-0.1",
+                                                                "x-hgarg-1": "heads=666f726365"})
+
+    def set_key(self, key, new):
+        return self.ask("/?cmd=pushkey", b"", **{
+            "content-type": "application/mercurial-0.1",
+            "x-hgarg-1": f"namespace=bookmarks&key={key}&old=&new={new}"})[2]
+
+    def heads(self):
+        return self.ask("/?cmd=heads")[2]
+
+
+MERCURIAL, FAULT = "application/mercurial-0.1", "application/hg-error"
+SILENT = b"the hook did not answer\n"
+
+
+def try_host(results, place, program):
+    folder = os.fsdecode(place.folder)
+    with Played() as asked, Host(program, f"{folder}/played", "--hook", asked.url(), "--hook-wait", "2") as host:
+        try_let_through(results, asked, host)
+        try_refused(results, asked, host)
+        try_silent(results, asked, host)
+        try_kept(results, asked, host)
+        try_unlocked(results, asked, host)
+        try_client(results, place, asked, host)
+        port = asked.server_address[1]
+    try_gone(results, program, f"{folder}/played", port)
+    try_addresses(results, program, folder)
+    try_both(results, place, program)
+
+
+def try_let_through(results, asked, host):
+    """What is put is what was sent to the hook."""
+    first, second = push(A), push(B, C)
+    results.see("let through", host.push(first)[1] == MERCURIAL)
+    path, fields, body, _ = asked.asked[-1]
+    fields = {name.lower(): value for name, value in fields.items()}
+    results.see("it is sent whole", body == first, body[:40])
+    results.see("the path", path == "/asked?it=1", path)
+    results.see("the fields", (fields["content-type"], fields["x-push-address"], fields["x-push-durable"])
+                == (MERCURIAL, "127.0.0.1", "0") and "x-push-user" not in fields, fields)
+    results.see("the second", host.push(second)[1] == MERCURIAL)
+    _, fields, body, port = asked.asked[-1]
+    results.see("it is sent whole too", body == second)
+    results.see("what is durable by then", {name.lower(): it for name, it in fields.items()}["x-push-durable"] == "1")
+    results.see("over one connection", port == asked.asked[-2][3])
+    results.see("the heads", host.heads() == b" ".join(sorted(it.node.hex().encode() for it in (B, C))) + b"\n")
+    results.see("a key", host.set_key("main", B.node.hex()) == b"1\n")
+    sent = bytes(asked.asked[-1][2])
+    results.see("the bundle that sets it", sent[:4] == b"HG20" and b"main" in sent and B.node.hex().encode() in sent)
+    results.see("that many were asked", len(asked.asked) == 3)
+
+
+def try_refused(results, asked, host):
+    heads, count = host.heads(), len(asked.asked)
+    data = push(child())
+    for what, says, line in (
+            ("403", (403, b"no pushes today\n"), b"no pushes today\n"), ("500", (500, b"broken"), b"broken\n"),
+            ("more lines", (403, b"one\ntwo\n"), b"one\n"), ("a carriage return", (403, b"one\r\ntwo"), b"one\n"),
+            ("201", (201, b"made\n"), b"made\n"), ("302", (302, b"there\n"), b"there\n"),
+            ("204", (b"HTTP/1.1 204 No Content\r\n\r\n", b""), SILENT), ("no line", (403, b""), SILENT),
+            ("an empty line", (403, b"\nmore\n"), SILENT),
+            ("a long line", (403, b"x" * 5000 + b"\n"), b"x" * 1024 + b"\n"),
+            ("in chunks", (b"HTTP/1.1 403 No\r\ntransfer-encoding: chunked\r\n\r\n",
+                           b"3\r\nno \r\n5\r\nway\n.\r\n0\r\n\r\n"), b"no way\n"),
+            ("up to the end", (b"HTTP/1.1 403 No\r\n\r\n", b"the end"), b"the end\n"),
+            ("a longer number", (b"HTTP/1.1 2000 OK\r\ncontent-length: 0\r\n\r\n", b""), SILENT)):
+        asked.says = says
+        results.see(f"refused: {what}", host.push(data) == (200, FAULT, line), line)
+    asked.says = (403, b"not that key\n")
+    results.see("a key", host.set_key("main", A.node.hex()) == b"not that key\n")
+    results.see("each was asked once", len(asked.asked) == count + 14, len(asked.asked) - count)
+    results.see("the heads stay", host.heads() == heads)
+    asked.says = (b"HTTP/1.1 103 Early\r\n\r\nHTTP/1.1 200 OK\r\ncontent-length: 0\r\n\r\n", b"")
+    results.see("200 after others", host.push(data)[1] == MERCURIAL)
+
+
+def try_silent(results, asked, host):
+    heads, data = host.heads(), push(Made(A, {b"silent": b"1"}))
+    for what, says in (
+            ("nothing", (b"", b"")), ("a cut head", (b"HTTP/1.1 200 OK\r\ncontent-le", b"")),
+            ("a cut body", (b"HTTP/1.1 200 OK\r\ncontent-length: 9\r\n\r\n", b"may run")),
+            ("a cut chunk", (b"HTTP/1.1 200 OK\r\ntransfer-encoding: chunked\r\n\r\n", b"5\r\nmay")),
+            ("no HTTP", (b"SSH-2.0-x\r\n", b"")),
+            ("a head without an end", (b"HTTP/1.1 200 OK\r\n", b"x: y\r\n" * 3000)),
+            ("two lengths", (b"HTTP/1.1 200 OK\r\ncontent-length: 0\r\ncontent-length: 1\r\n\r\n", b"x"))):
+        asked.says = says
+        results.see(f"no answer: {what}", host.push(data) == (200, FAULT, SILENT))
+    start = time.monotonic()
+    asked.says = lambda: time.sleep(6) or (200, b"too late\n")
+    results.see("too late", host.push(data) == (200, FAULT, SILENT))
+    results.see("it waits so long", 1.5 < time.monotonic() - start < 5.5, time.monotonic() - start)
+    results.see("nothing ran", host.heads() == heads)
+    asked.says = (200, b"may run\n")
+
+
+def try_kept(results, asked, host):
+    """A connection that the hook closed meanwhile is opened anew."""
+    connection = http.client.HTTPConnection("127.0.0.1", host.port, timeout=60)
+    made = [Made(A, {b"kept": b"%d" % number}) for number in range(3)]
+    asked.says = (b"HTTP/1.1 200 OK\r\ncontent-length: 0\r\n\r\n", b"")
+    for it in made:
+        results.see("the hook closed it", host.push(push(it), connection)[1] == MERCURIAL)
+    asked.says = (200, b"may run\n")
+
+
+def try_unlocked(results, asked, host):
+    """While one push waits for its verdict, others are answered."""
+    before, gate = host.heads(), threading.Event()
+    asked.seen.clear()
+    asked.says = lambda: gate.wait(30) and (200, b"may run\n")
+    found = []
+    waiting = threading.Thread(target=lambda: found.append(host.push(push(Made(A, {b"waits": b"1"})))))
+    waiting.start()
+    results.see("it is asked", asked.seen.wait(30))
+    asked.says = (200, b"may run\n")
+    results.see("a read meanwhile", host.heads() == before)
+    results.see("a push meanwhile", host.push(push(Made(A, {b"meanwhile": b"1"})))[1] == MERCURIAL)
+    gate.set()
+    waiting.join()
+    results.see("and then it runs", found and found[0][1] == MERCURIAL, found)
+
+
+def try_client(results, place, asked, host):
+    """An unmodified Mercurial shows the line, and has pushed nothing."""
+    made = place.repository(b"base")
+    apply(made, push(child(files={b"client": b"1"})))
+    asked.says = (403, b"no pushes today\n")
+    before = host.heads()
+    done = subprocess.run(["hg", "-R", os.fsdecode(made.root), "push", "-f", host.url()], capture_output=True,
+                          timeout=120, check=False)
+    results.see("the client's abort", done.returncode == 255 and b"no pushes today" in done.stdout + done.stderr,
+                done.stdout + done.stderr)
+    results.see("nothing was pushed", host.heads() == before)
+
+
+def try_gone(results, program, store, port):
+    with Host(program, store, "--hook", f"http://127.0.0.1:{port}/") as host:
+        before = host.heads()
+        results.see("a hook that is gone", host.push(push(Made(A, {b"gone": b"1"}))) == (200, FAULT, SILENT))
+        results.see("a key, of one that is gone", host.set_key("main", A.node.hex()) == SILENT)
+        results.see("the heads of before", host.heads() == before)
+        with Played(port):
+            results.see("a hook that came back", host.push(push(Made(A, {b"back": b"1"})))[1] == MERCURIAL)
+
+
+def try_addresses(results, program, folder):
+    for url in ("https://127.0.0.1:1/", "http://127.0.0.1/", "http://:1/", "http://a:0/", "http://a:65536/",
+                "http://a:b/", "http://a b:1/", "http://a:1/a b", "http://a:1/#x", "127.0.0.1:1", ""):
+        done = subprocess.run([program, "host", "--store", f"{folder}/no store", "--listen", "127.0.0.1:0", "--hook", url],
+                              capture_output=True, timeout=60, check=False)
+        results.see(f"the address {url!r}", done.returncode == 2 and b"--hook" in done.stderr, done.stderr)
+    results.see("no store was made", not os.path.exists(f"{folder}/no store"))
+    for wait in ("0", "3601", "x"):
+        done = subprocess.run([program, "host", "--store", f"{folder}/no store", "--hook-wait", wait], capture_output=True,
+                              timeout=60, check=False)
+        results.see(f"--hook-wait {wait}", done.returncode == 2)
+
+
+def try_both(results, place, program):
+    """The program, this hook, and the mirror that it looks at."""
+    repo = place.repository(b"none")
+    asked = Hook(place, repo)
+    try:
+        with Host(program, f"{os.fsdecode(place.folder)}/both", "--hook", f"http://127.0.0.1:{asked.port}/") as host:
+            for it in (push(A), push(B)):
+                told = host.push(it)
+                results.see("a good push", told[1] == MERCURIAL, told)
+                apply(fresh(repo), it)
+            told = host.push(ROWS["a file is left out"][0])
+            results.see("a bad one", told[1] == FAULT and b"does not list" in told[2], told)
+            results.see("a good one behind it", host.push(push(child()))[1] == MERCURIAL)
+    finally:
+        asked.end()
+
+
 RANDOM = 150
 
 
-def pieces(results, place, words):
+def pieces(results, place, words, program):
     """What is tried, by its name: each says what it was in the end."""
     chosen = {what: row for what, row in ROWS.items() if all(it in what for it in words)}
 
@@ -856,13 +1107,23 @@ def pieces(results, place, words):
         try_http(results, place)
         return "the hook over HTTP"
 
-    return {"rows": rows, "good": lambda: f"{try_good(results, place)} good ones",
+    def host_asks():
+        if not program:
+            return "no program to ask it"
+        try_host(results, place, program)
+        return "the hook of a host"
+
+    return {"host": host_asks, "rows": rows, "good": lambda: f"{try_good(results, place)} good ones",
             "random": lambda: f"{RANDOM} at random of which {try_fuzzed(results, place, RANDOM)} were sound",
             "http": http_asked, "unchecked": unchecked_rows}
 
 
 def main(words):
-    results, wanted = Results(), ["rows", "good", "random", "http"]
+    results, wanted, program = Results(), ["rows", "good", "random", "http", "host"], None
+    if "--program" in words:
+        at = words.index("--program")
+        program = os.path.abspath(words[at + 1])
+        words = words[:at] + words[at + 2:]
     if words[:1] == ["--unchecked"]:
         wanted, words = ["unchecked"], words[1:]
     elif words[:1] == ["--only"]:
@@ -875,7 +1136,7 @@ def main(words):
         apply(place.repository(b"base", is_new=True), *BASE)
         place.plain = {b"base": state(apply(place.repository(b"base"), push(child()))),
                        b"none": state(apply(place.repository(b"none"), push(A)))}
-        does = pieces(results, place, words)
+        does = pieces(results, place, words, program)
         print(", ".join([does[it]() for it in wanted]))
     print(f"{results.passed} passed, {results.failed} failed")
     return 1 if results.failed else 0

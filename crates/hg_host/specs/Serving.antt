@@ -8,6 +8,7 @@ use Rattle.hg_store.specs.declared.head.Head.{Head}
 use Rattle.hg_commit.specs.Clients.{IsCovered, KeptSeen}
 use Rattle.hg_durable.specs.Closing.{ClosesKept}
 use Rattle.hg_durable.specs.declared.closing.ClosedKept.{ClosedKept}
+use Rattle.hg_hook.specs.Policies.{Asked}
 use Rattle.hg_web.specs.declared.serve.ConnectionEnd.{ConnectionEnd}
 use Rattle.hg_web.specs.declared.terms.WebTerms.{WebTerms}
 use Rattle.hg_web.specs.Serving.{ServesHttp}
@@ -22,25 +23,27 @@ pub record HostView : Type 0 where
 -- terms that count the records, with answers that rest on what is on the device, by its receipt.
 pub record HostsHttp {A S : Type 0} (capacity : ℕ) (first : RepositoryOf A) (head : Head)
     (stored : List (List ℕ)) (kept : KeptSeen A → ℕ → Type 0)
-    (page metrics : S → Repository A → List ℕ → Type 0) (view : HostView) (before : KeptSeen A)
+    (page metrics : S → Repository A → List ℕ → Type 0) (view : HostView) (asked said : Asked A) (before : KeptSeen A)
     (input left out sent : Option (List ℕ)) (end : ConnectionEnd) (after : KeptSeen A) : Type 0 where
   pub recovered : IsRecovered view.publishing head stored first
   pub terms : WebTerms S
   pub count : terms.stored ≡ view.stored
-  pub serves : ServesHttp capacity first kept page metrics terms before input left out sent end after
+  pub serves : ServesHttp capacity first kept page metrics terms asked said before input left out sent end after
 
 -- A client came back from a connection to the service that was served, from some reader to some writer.
 pub record WasHosted {A S : Type 0} (capacity : ℕ) (first : RepositoryOf A) (head : Head)
     (stored : List (List ℕ)) (kept : KeptSeen A → ℕ → Type 0)
     (page metrics : S → Repository A → List ℕ → Type 0) (after : KeptSeen A) : Type 0 where
   pub view : HostView
+  pub asked : Asked A
+  pub said : Asked A
   pub before : KeptSeen A
   pub input : Option (List ℕ)
   pub left : Option (List ℕ)
   pub out : Option (List ℕ)
   pub sent : Option (List ℕ)
   pub end : ConnectionEnd
-  pub hosts : HostsHttp capacity first head stored kept page metrics view before input left out sent end after
+  pub hosts : HostsHttp capacity first head stored kept page metrics view asked said before input left out sent end after
 
 -- The service of a store was closed, with clients that came back from its connections, and left this. What the law
 -- of recovery asks of an end holds with them: the records of the store led to the repository that the server began

@@ -2,7 +2,8 @@
 //!
 //! [`serve_store`] serves the repository of a store that `hg_recovery` opened, and adds to the store:
 //! [`HostService::serve`] is one connection of it, over any reader and writer. A connection over a socket is
-//! not waited for longer than the terms say; `hg_tcp` has the places for connections.
+//! not waited for longer than the terms say; `hg_tcp` has the places for connections. Where a hook is named, it is
+//! asked before each push.
 //!
 //! What one connection does never ends another, except where the store fails: then nothing more is answered. And
 //! where the numbers of pushes come to their end, each connection ends at its next read, and another server over
@@ -10,6 +11,7 @@
 #![tactic(auto)]
 
 mod clients;
+mod hook;
 mod hosting;
 mod runtime;
 mod service;
@@ -17,7 +19,9 @@ mod terms;
 mod watch;
 
 pub use clients::HostedClients;
+pub use hg_hook::HookAddress;
 pub use hg_tcp::Over;
+pub use hook::HookTerms;
 pub use hosting::{Ended, serve_store};
 pub use runtime::HostingRuntime;
 pub use service::HostService;

@@ -17,10 +17,13 @@ ghost use Rattle.hg_recovery.specs.Opening.{IsRecovered};
 ghost use Rattle.hg_host.specs.Serving.{HostsHttp, WasHosted};
 
 use crate::clients::HostedClients;
+use crate::hook::{HookCaller, HookPool};
+use crate::runtime::HostingRuntime;
 use crate::terms::HostTerms;
 use crate::watch::Watcher;
 use hg_commit::{KeptClient, Ledger, Parts, Promises, Storing};
 use hg_durable::{ClosedKept, close_kept};
+use hg_hook::{Hook, Policy};
 use hg_queue::{PartQueue, Taker};
 use hg_recovery::Recovered;
 use hg_serve::{Client, Server};
@@ -57,6 +60,7 @@ pub struct HostService<'a, J: Storing<Global>, D: Device, R: Wait + Clock> {
     budget: Budget,
     board: Board<'a, R>,
     slots: Places,
+    hooked: HookPool,
     terms: HostTerms<'a>,
     stored: usize,
 }
@@ -132,6 +136,7 @@ where
             budget: Budget::new(terms.memory),
             board,
             slots: Places::new(terms.connections),
+            hooked: HookPool::new(alloc, stored),
             terms,
             stored,
         })
@@ -155,6 +160,7 @@ where
             budget: _,
             board: _,
             slots: _,
+            hooked: _,
             terms: _,
             stored: _,
         } = self;
@@ -167,21 +173,22 @@ where
     }
 
     /// Serves a connection from that reader to that writer, by a client that may have served others before. It comes
-    /// back with a receipt for all that it was answered rests on.
-    pub fn serve<I: BufRead, W: Write>(
+    /// back with a receipt for all that it was answered rests on. The policy is asked of each push before it runs.
+    pub fn serve<P: Policy<Global>, I: BufRead, W: Write>(
         &self,
         rt: &R,
         alloc: Global,
         keys: RandomState,
         client: KeptClient<J>,
+        policy: P,
         reader: &mut I,
         writer: &mut W,
-    ) -> (KeptClient<J>, ConnectionEnd)
+    ) -> (KeptClient<J>, P, ConnectionEnd)
         ensures { HostsHttp J.capacity J.first J.head J.stored
             (IsCovered D.seen D.may_leave D.moment J.head J.stored J.first)
             ⟦<Board<'a, R> as Shown<Global>>⟧.is_page ⟦<Board<'a, R> as Shown<Global>>⟧.are_metrics
-            self.now client (I.remaining reader.old) (I.remaining reader.new)
-            (W.contents writer.old) (W.contents writer.new) result.1 result.0 }
+            self.now (P.asked policy) (P.asked result.1) client (I.remaining reader.old)
+            (I.remaining reader.new) (W.contents writer.old) (W.contents writer.new) result.2 result.0 }
     {
         let terms = WebTerms {
             shown: &self.board,
@@ -196,6 +203,7 @@ where
             alloc,
             &self.board,
             &self.slots,
+            &self.hooked,
             self.stored,
             self.terms.logs,
         );
@@ -209,6 +217,7 @@ where
             &terms,
             client,
             &mut watch,
+            policy,
             reader,
             writer,
         )
@@ -256,7 +265,14 @@ where
     pub(crate) fn slots(&self) -> &Places {
         &self.slots
     }
+}
 
+impl<'a, J, D, R> HostService<'a, J, D, R>
+where
+    J: Storing<Global>,
+    D: Device + Drop,
+    R: HostingRuntime,
+{
     /// Serves a connection over a socket. Where the store failed, serving is over.
     pub(crate) fn connect(&self, rt: &R, alloc: Global, stream: TcpStream) {
         self.board.connect();
@@ -285,14 +301,45 @@ where
                 slots: &self.slots,
             },
         };
+        let policy = self.policy(rt, alloc, stream)?;
         let client = self.free_client(rt);
-        let (client, end) = self.serve(rt, alloc, keys, client, &mut reader, &mut writer);
+        let (client, policy, end) = self.serve(
+            rt,
+            alloc,
+            keys,
+            client,
+            policy,
+            &mut reader,
+            &mut writer,
+        );
+        drop(policy);
         self.leave(rt, client);
         // where an answer was the last, the client may still send what nobody reads
         if end == ConnectionEnd::Done && !patience.is_at_end() {
             drain(rt, stream);
         }
         Ok(end)
+    }
+
+    /// Who is asked of the pushes that come over a socket.
+    fn policy<'s>(
+        &'s self,
+        rt: &'s R,
+        alloc: Global,
+        stream: &TcpStream,
+    ) -> io::Result<Option<Hook<HookCaller<'s, R>>>> {
+        let Some(terms) = self.terms.hook else {
+            return Ok(None);
+        };
+        let address = format!(in alloc; "{}", stream.peer_addr()?.ip())?;
+        Ok(Some(Hook::new(HookCaller {
+            rt,
+            alloc,
+            terms,
+            pool: &self.hooked,
+            slots: &self.slots,
+            address,
+        })))
     }
 }
 

@@ -1,5 +1,7 @@
 //! How a store is hosted.
 
+use crate::hook::HookTerms;
+
 /// How a store is hosted.
 #[derive(Clone, Copy, Debug)]
 pub struct HostTerms<'a> {
@@ -19,6 +21,8 @@ pub struct HostTerms<'a> {
     pub also: Option<&'a str>,
     /// Where pulls go, without a query.
     pub pull: Option<&'a str>,
+    /// Who is asked before each push.
+    pub hook: Option<HookTerms<'a>>,
     /// Whether a line is printed for each push.
     pub logs: bool,
 }

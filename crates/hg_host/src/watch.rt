@@ -1,5 +1,6 @@
 //! Who watches a connection: how long each push took, and a line for it.
 
+use crate::hook::HookPool;
 use hg_serve::{Point, Probe};
 use hg_status::{Board, Push, ShownOutcome, brought_by, log_line, seconds_now, shown_outcome};
 use hg_tcp::{Over, Places};
@@ -17,6 +18,7 @@ pub struct Watcher<'a, R: Wait + Clock + Eprint> {
     alloc: Global,
     board: &'a Board<'a, R>,
     slots: &'a Places,
+    hooked: &'a HookPool,
     /// How many pushes the store had when it was opened.
     stored: usize,
     logs: bool,
@@ -33,6 +35,7 @@ impl<'a, R: Wait + Clock + Eprint> Watcher<'a, R> {
         alloc: Global,
         board: &'a Board<'a, R>,
         slots: &'a Places,
+        hooked: &'a HookPool,
         stored: usize,
         logs: bool,
     ) -> Self {
@@ -41,6 +44,7 @@ impl<'a, R: Wait + Clock + Eprint> Watcher<'a, R> {
             alloc,
             board,
             slots,
+            hooked,
             stored,
             logs,
             locked: None,
@@ -76,6 +80,9 @@ impl<R: Wait + Clock + Eprint> Probe for Watcher<'_, R> {
 impl<R: Wait + Clock + Eprint> Watch<Global> for Watcher<'_, R> {
     fn pushed(&mut self, pushed: &WatchedPush<'_>) {
         let count = (pushed.rests as u64).saturating_add(self.stored as u64);
+        if pushed.is_kept {
+            self.hooked.note_durable(count);
+        }
         let outcome = shown_outcome(pushed.outcome, count);
         let is_done = matches!(outcome, ShownOutcome::Done(_));
         let push = Push {

@@ -7,12 +7,12 @@ use Rattle.hg_http.specs.declared.address.AddressFault.{AddressFault}
 use Rattle.hg_http.specs.declared.address.AddressFault.TheVariants.{OtherName, OtherPath, UnclearCommand}
 use Rattle.hg_http.specs.declared.answer.HttpAnswer.{HttpAnswer}
 use Rattle.hg_http.specs.declared.answer.HttpAnswer.TheVariants.{Text, Refused, Forbidden, NotFound}
-use Rattle.hg_http.specs.declared.answer.HttpAnswer.TheVariants.{Misaddressed, Shown, Moved}
+use Rattle.hg_http.specs.declared.answer.HttpAnswer.TheVariants.{Misaddressed, Shown, Moved, NotLet}
 use Rattle.hg_http.specs.declared.view.StatusView.{StatusView}
 use Rattle.hg_http.specs.declared.view.StatusView.TheVariants.{Page, Report, Metrics}
 use Rattle.hg_http.specs.declared.answer.RequestRefusal.{RequestRefusal}
 use Rattle.hg_http.specs.declared.answer.RequestRefusal.TheVariants.{NotForced, BadBatch, PushesAlone, NotOpened}
-use Rattle.hg_http.specs.declared.answer.RequestRefusal.TheVariants.{NoMemory, NoAnswer, LongBatch}
+use Rattle.hg_http.specs.declared.answer.RequestRefusal.TheVariants.{NoMemory, NoAnswer, LongBatch, NoHook}
 
 -- the text and a line feed
 abbrev pub line : List ℕ → List ℕ
@@ -27,6 +27,7 @@ refusal_text NotOpened = line (codes "no push can be opened now")
 refusal_text NoMemory = line (codes "out of memory")
 refusal_text NoAnswer = line (codes "there is no memory for the answer")
 refusal_text LongBatch = line (codes "batch takes 16 commands, 4 of them lookup")
+refusal_text NoHook = line (codes "the hook did not answer")
 
 -- one field: the content type
 abbrev pub of_type : List ℕ → List Header
@@ -53,6 +54,7 @@ abbrev pub Says : {A : Type 0} → HttpAnswer A → Response → Type 0
 Says (Text text) response = IsResponse 200 (of_type (codes "application/mercurial-0.1")) text response
 Says (Refused why) response =
     IsResponse 200 (of_type (codes "application/hg-error")) (refusal_text why) response
+Says (NotLet why) response = IsResponse 200 (of_type (codes "application/hg-error")) (line why) response
 Says Forbidden response = IsResponse 403 [] [] response
 Says NotFound response = IsResponse 404 [] [] response
 Says (Misaddressed fault) response = IsResponse (status_of fault) [] [] response

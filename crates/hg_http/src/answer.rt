@@ -31,6 +31,8 @@ pub enum RequestRefusal {
     NoAnswer,
     /// 7: a batch has more commands than are answered at once, or more of them are `lookup`.
     LongBatch,
+    /// 8: a hook was to say whether a push may run, and did not.
+    NoHook,
 }
 
 impl RequestRefusal {
@@ -46,6 +48,7 @@ impl RequestRefusal {
             RequestRefusal::NoMemory => b"out of memory\n".as_slice(),
             RequestRefusal::NoAnswer => b"there is no memory for the answer\n".as_slice(),
             RequestRefusal::LongBatch => b"batch takes 16 commands, 4 of them lookup\n".as_slice(),
+            RequestRefusal::NoHook => b"the hook did not answer\n".as_slice(),
         }
     }
 }
@@ -57,6 +60,8 @@ pub enum HttpAnswer<A: Allocator = Global> {
     Text(Seq<u8, A>),
     /// A refusal, by a line that says why.
     Refused(RequestRefusal),
+    /// A push was not let through, and this is why, without a line feed.
+    NotLet(Seq<u8, A>),
     /// A command that changes something came in a form that a page in a browser could send.
     Forbidden,
     /// No command, and no view.
@@ -84,7 +89,7 @@ fn respond_nothing(response: &mut Response)
     ensures { SaysNothing response.new }
 {
     response.clear();
-    if refuse(response, RequestRefusal::NoAnswer).is_err() {
+    if put_error(response, RequestRefusal::NoAnswer.text()).is_err() {
         response.clear();
         response.status = StatusCode::INTERNAL_SERVER_ERROR;
     }
@@ -100,7 +105,11 @@ fn try_respond<A: Allocator>(
 {
     match answer {
         HttpAnswer::Text(text) => put_text(response, text.as_slice()),
-        HttpAnswer::Refused(why) => refuse(response, *why),
+        HttpAnswer::Refused(why) => put_error(response, why.text()),
+        HttpAnswer::NotLet(why) => {
+            put_error(response, why.as_slice())?;
+            response.body.put_slice(b"\n")
+        }
         HttpAnswer::Forbidden => {
             response.status = StatusCode::FORBIDDEN;
             Ok(())
@@ -184,12 +193,12 @@ fn put_text(response: &mut Response, text: &[u8]) -> Result<(), AllocError>
     response.body.put_slice(text)
 }
 
-fn refuse(response: &mut Response, why: RequestRefusal) -> Result<(), AllocError>
+/// Puts a text that says why nothing was done.
+fn put_error(response: &mut Response, text: &[u8]) -> Result<(), AllocError>
     requires { IsBlank response.old }
-    ensures { OnOk result (IsResponse 200 (of_type (codes "application/hg-error")) (refusal_text why)
-        response.new) }
+    ensures { OnOk result (IsResponse 200 (of_type (codes "application/hg-error")) text.now response.new) }
 {
     let value = HeaderValue::from_static("application/hg-error");
     response.add_header(HeaderName::from_static("content-type"), value)?;
-    response.body.put_slice(why.text())
+    response.body.put_slice(text)
 }

@@ -70,12 +70,15 @@ fn responses_of_answers(rt: HostRuntime) -> Result<(), Fail> {
             RequestRefusal::LongBatch,
             b"batch takes 16 commands, 4 of them lookup\n",
         ),
+        (RequestRefusal::NoHook, b"the hook did not answer\n"),
     ];
     for (refusal, line) in refusals {
         let refused = HttpAnswer::Refused(refusal);
         assert!(rt; is_told(alloc, &refused, StatusCode::OK, Some(ERROR), line));
     }
     let forbidden = StatusCode::FORBIDDEN;
+    let not_let = HttpAnswer::NotLet(Seq::copy_of(alloc, b"not today".as_slice())?);
+    assert!(rt; is_told(alloc, &not_let, StatusCode::OK, Some(ERROR), b"not today\n"));
     assert!(rt; is_told(alloc, &HttpAnswer::Forbidden, forbidden, None, b""));
     assert!(rt;
         is_told(

@@ -4,7 +4,7 @@ ghost use Rattle.std.specs.Prelude.{IfOk};
 ghost use Rattle.hg_recovery.specs.Opening.{IsOpened};
 
 use hg_commands::{Hosting, device_status, tell};
-use hg_host::{Ended, HostTerms, HostingRuntime, Over, serve_store};
+use hg_host::{Ended, HookAddress, HookTerms, HostTerms, HostingRuntime, Over, serve_store};
 use hg_recovery::{OpeningFault, Recovered, recover_existing, recover_store};
 use hg_store::{Device, HostFile, StoreFile, StoreFolder};
 use hg_store_tools::TornNote;
@@ -15,12 +15,16 @@ use std::net::{Net, SocketAddr, TcpListener, TcpStream};
 use std::sync::Wait;
 
 /// Opens the store, binds the address, says where it listens, and serves until the store fails, in this order.
-/// Gives the status; what ends it is printed.
+/// Gives the status; what ends it is printed. Nothing is opened where the address of the hook is none.
 pub fn host<R: Files<File = File> + AllocGlobal + HostingRuntime>(
     rt: &R,
     state: RandomState,
     hosting: &Hosting<'_>,
 ) -> u8 {
+    if !is_hook_read(hosting) {
+        let _ = eprintln!(rt; "hg_pushd: --hook wants http://HOST:PORT/PATH");
+        return 2;
+    }
     match open(rt, state, hosting) {
         Ok(recovered) => listen(rt, hosting, recovered),
         Err(fault) => not_opened(rt, hosting.store, &fault),
@@ -141,8 +145,26 @@ fn terms_of<'a>(hosting: &Hosting<'a>) -> HostTerms<'a> {
         name: hosting.name,
         also: hosting.also,
         pull: hosting.pull,
+        hook: hook_of(hosting),
         logs: hosting.log,
     }
+}
+
+/// Whether the address of the hook can be read, where there is one.
+fn is_hook_read(hosting: &Hosting<'_>) -> bool {
+    match hosting.hook {
+        Some(url) => HookAddress::parse(url).is_some(),
+        None => true,
+    }
+}
+
+/// Who is asked before each push.
+fn hook_of<'a>(hosting: &Hosting<'a>) -> Option<HookTerms<'a>> {
+    let address = HookAddress::parse(hosting.hook?)?;
+    Some(HookTerms {
+        address,
+        wait: hosting.hook_wait,
+    })
 }
 
 /// Prints where it listens and what the store has; and where others reach it, that they need no name.

@@ -24,7 +24,10 @@ use Rattle.hg_http.specs.declared.view.StatusView.{StatusView}
 use Rattle.hg_http.specs.Addresses.{fault_of}
 use Rattle.hg_http.specs.Commands.{command_of}
 use Rattle.hg_http.specs.Requests.{arguments_of, is_from_client, name_of}
-use Rattle.hg_web.specs.Answering.{AnswersAddressed, AnswersAsked, AnswersBatch, AnswersCommand, AnswersForced, AnswersKey, AnswersRequest}
+use Rattle.hg_hook.specs.declared.policy.Verdict.{Verdict}
+use Rattle.hg_web.specs.Letting.{denial_of, IfLet}
+use Rattle.hg_web.specs.Answering.{AnswersAddressed, AnswersAsked, AnswersBatch, AnswersCommand, AnswersForced, AnswersKey}
+use Rattle.hg_web.specs.Answering.{AnswersPush, AnswersRequest}
 use Rattle.hg_queries.specs.Views.{finished, IsShown}
 use Rattle.hg_web.specs.Answering.{AnswersView, Around, IfFromClient, IsSaid, IsSaidAt, IsTextAt, LacksMemory, OrLacks}
 use Rattle.hg_web.specs.Looking.{LooksKept}
@@ -125,7 +128,7 @@ module _ {A E : Type 0} (first : RepositoryOf A) (kept : KeptSeen A → ℕ → 
         inr (looked_in_vain first kept before answer after _ look is)
 
 module _ {A : Type 0} (capacity : ℕ) (first : RepositoryOf A) (kept : KeptSeen A → ℕ → Type 0)
-    (before : KeptSeen A) (answer : HttpAnswer A) (after : KeptSeen A)
+    (asks : List ℕ → Verdict A → Type 0) (before : KeptSeen A) (answer : HttpAnswer A) (after : KeptSeen A)
   where
     said_later : (said : HttpAnswer A) → IsSaid said before answer after → IsLater before after
     said_later said is = same_later before after is.1
@@ -148,6 +151,16 @@ module _ {A : Type 0} (capacity : ℕ) (first : RepositoryOf A) (kept : KeptSeen
         IsPushAnswered capacity first kept body reply before answer after → IsLater before after
     pushed_later body reply is = pushes_later body is.ended is.pushes
 
+    let_later : (bundle : List ℕ) (reply : How A → List ℕ) (denial : Option (HttpAnswer A)) →
+        IfLet denial (λ b a n. IsPushAnswered capacity first kept bundle reply b a n) before answer after →
+        IsLater before after
+    let_later bundle reply None is = pushed_later bundle reply is
+    let_later bundle reply (Some denial) is = same_later before after is.1
+
+    push_later : (bundle : List ℕ) (reply : How A → List ℕ) →
+        AnswersPush capacity first kept asks bundle reply before answer after → IsLater before after
+    push_later bundle reply is = let_later bundle reply (denial_of is.verdict) is.answers
+
     from_later : (is_from : Bool) (Says : KeptSeen A → HttpAnswer A → KeptSeen A → Type 0) →
         (Says before answer after → IsLater before after) →
         IfFromClient is_from Says before answer after → IsLater before after
@@ -160,17 +173,17 @@ module _ {A : Type 0} (capacity : ℕ) (first : RepositoryOf A) (kept : KeptSeen
     batch_later commands None is = said_at_later _ _ is
 
     forced_later : (body : List ℕ) (forced : Bool) →
-        AnswersForced capacity first kept body forced before answer after → IsLater before after
+        AnswersForced capacity first kept asks body forced before answer after → IsLater before after
     forced_later body false is = same_later before after is.1
-    forced_later body true is = pushed_later body _ is
+    forced_later body true is = push_later body _ is
 
     key_later : (namespace key old new : List ℕ) (fits : Bool) →
-        AnswersKey capacity first kept namespace key old new fits before answer after → IsLater before after
+        AnswersKey capacity first kept asks namespace key old new fits before answer after → IsLater before after
     key_later namespace key old new false is = same_later before after is.1
-    key_later namespace key old new true is = pushed_later _ _ is
+    key_later namespace key old new true is = push_later _ _ is
 
-    command_later : (pull also : Option (List ℕ)) (command : Command) (fields : List (Field A))
-        (r : Request (List ℕ)) → AnswersCommand capacity first kept pull also command fields r before answer after →
+    command_later : (pull also : Option (List ℕ)) (command : Command) (fields : List (Field A)) (r : Request (List ℕ)) →
+        AnswersCommand capacity first kept asks pull also command fields r before answer after →
         IsLater before after
     command_later pull also Capabilities fields r is = said_later _ is
     command_later pull also GetBundle fields r is = said_later _ is
@@ -179,27 +192,27 @@ module _ {A : Type 0} (capacity : ℕ) (first : RepositoryOf A) (kept : KeptSeen
     command_later pull also Unbundle fields r is = from_later (is_from_client r) _ (forced_later _ _) is
     command_later pull also PushKey fields r is = from_later (is_from_client r) _ (key_later _ _ _ _ _) is
 
-module _ {A : Type 0} (capacity : ℕ) (first : RepositoryOf A) (around : Around A) (before : KeptSeen A)
-    (answer : HttpAnswer A) (after : KeptSeen A)
+module _ {A : Type 0} (capacity : ℕ) (first : RepositoryOf A) (around : Around A)
+    (asks : List ℕ → Verdict A → Type 0) (before : KeptSeen A) (answer : HttpAnswer A) (after : KeptSeen A)
   where
     view_later : (view : Option StatusView) → AnswersView first around view before answer after →
         IsLater before after
     view_later None is = same_later before after is.1
-    view_later (Some view) is = said_at_later capacity first around.kept before answer after _ _ is
+    view_later (Some view) is = said_at_later capacity first around.kept asks before answer after _ _ is
 
     asked_later : (command : Option Command) (fields : List (Field A)) (r : Request (List ℕ)) →
-        AnswersAsked capacity first around command fields r before answer after → IsLater before after
+        AnswersAsked capacity first around asks command fields r before answer after → IsLater before after
     asked_later None fields r is = view_later _ is
     asked_later (Some command) fields r is =
-        command_later capacity first around.kept before answer after around.pull around.also command fields r is
+        command_later capacity first around.kept asks before answer after around.pull around.also command fields r is
 
     addressed_later : (fault : Option AddressFault) (command : Option Command) (fields : List (Field A))
-        (r : Request (List ℕ)) → AnswersAddressed capacity first around fault command fields r before answer after →
-        IsLater before after
+        (r : Request (List ℕ)) →
+        AnswersAddressed capacity first around asks fault command fields r before answer after → IsLater before after
     addressed_later (Some fault) command fields r is = same_later before after is.1
     addressed_later None command fields r is = asked_later command fields r is
 
-    pub answered_later : (r : Request (List ℕ)) → AnswersRequest capacity first around r before answer after →
+    pub answered_later : (r : Request (List ℕ)) → AnswersRequest capacity first around asks r before answer after →
         IsLater before after
     answered_later r (inl is) =
         addressed_later (fault_of around.address (command_of (name_of A r)) r) (command_of (name_of A r))

@@ -35,7 +35,10 @@ use Rattle.hg_http.specs.Requests.{argument_in, arguments_of, is_from_client, na
 use Rattle.hg_http.specs.Responses.{CarriesAnswer}
 use Rattle.hg_queries.specs.Texts.{refusal_of, IsBatchText, IsTextOf}
 use Rattle.hg_queries.specs.Views.{finished, IsViewed}
-use Rattle.hg_web.specs.Pushes.{IsPushAnswered, key_line, set_line}
+use Rattle.hg_hook.specs.Policies.{Asked as AskedPolicy, AsksOnce, HasAsked}
+use Rattle.hg_hook.specs.declared.policy.Verdict.{Verdict}
+use Rattle.hg_web.specs.Letting.{AnswersIfLet}
+use Rattle.hg_web.specs.Pushes.{How, IsPushAnswered, key_line, set_line}
 use Rattle.hg_web.specs.declared.terms.WebTerms.{WebTerms}
 
 -- What answers say and rest on beside the repository: which text may be the page and which the counters, of a
@@ -110,40 +113,49 @@ AnswersBatch first kept commands (Some why) before answer after = IsSaid (Refuse
 AnswersBatch first kept commands None before answer after =
     IsTextAt first kept (λ repo text. IsBatchText repo commands text) before answer after
 
+-- a push of a bundle, where it was let through, with such a text for its outcome
+abbrev pub AnswersPush : {A : Type 0} → ℕ → RepositoryOf A → (KeptSeen A → ℕ → Type 0) →
+    (List ℕ → Verdict A → Type 0) → List ℕ → (How A → List ℕ) → KeptSeen A → HttpAnswer A → KeptSeen A → Type 0
+AnswersPush capacity first kept asks bundle reply before answer after =
+    AnswersIfLet asks bundle (λ b a n. IsPushAnswered capacity first kept bundle reply b a n) before answer after
+
 -- a push of the body, where its heads are forced: `force` in hexadecimal digits
-abbrev pub AnswersForced : {A : Type 0} → ℕ → RepositoryOf A → (KeptSeen A → ℕ → Type 0) → List ℕ → Bool →
-    KeptSeen A → HttpAnswer A → KeptSeen A → Type 0
-AnswersForced capacity first kept body false before answer after =
+abbrev pub AnswersForced : {A : Type 0} → ℕ → RepositoryOf A → (KeptSeen A → ℕ → Type 0) →
+    (List ℕ → Verdict A → Type 0) → List ℕ → Bool → KeptSeen A → HttpAnswer A → KeptSeen A → Type 0
+AnswersForced capacity first kept asks body false before answer after =
     IsSaid (Refused NotForced) before answer after
-AnswersForced capacity first kept body true before answer after =
-    IsPushAnswered capacity first kept body reply_of before answer after
+AnswersForced capacity first kept asks body true before answer after =
+    AnswersPush capacity first kept asks body reply_of before answer after
 
 -- a push that sets the key
-abbrev pub AnswersFitting : {A : Type 0} → ℕ → RepositoryOf A → (KeptSeen A → ℕ → Type 0) → List ℕ →
-    List ℕ → List ℕ → List ℕ → KeptSeen A → HttpAnswer A → KeptSeen A → Type 0
-AnswersFitting {A} capacity first kept namespace key old new before answer after =
-    IsPushAnswered capacity first kept (bundle_bytes (key_parts {A = A} namespace key old new)) key_line before
+abbrev pub AnswersFitting : {A : Type 0} → ℕ → RepositoryOf A → (KeptSeen A → ℕ → Type 0) →
+    (List ℕ → Verdict A → Type 0) → List ℕ → List ℕ → List ℕ → List ℕ → KeptSeen A → HttpAnswer A → KeptSeen A →
+    Type 0
+AnswersFitting {A} capacity first kept asks namespace key old new before answer after =
+    AnswersPush capacity first kept asks (bundle_bytes (key_parts {A = A} namespace key old new)) key_line before
     answer after
 
 -- the same where a part can hold the values; else it is not set
-abbrev pub AnswersKey : {A : Type 0} → ℕ → RepositoryOf A → (KeptSeen A → ℕ → Type 0) → List ℕ → List ℕ →
-    List ℕ → List ℕ → Bool → KeptSeen A → HttpAnswer A → KeptSeen A → Type 0
-AnswersKey capacity first kept namespace key old new false before answer after =
+abbrev pub AnswersKey : {A : Type 0} → ℕ → RepositoryOf A → (KeptSeen A → ℕ → Type 0) →
+    (List ℕ → Verdict A → Type 0) → List ℕ → List ℕ → List ℕ → List ℕ → Bool → KeptSeen A → HttpAnswer A →
+    KeptSeen A → Type 0
+AnswersKey capacity first kept asks namespace key old new false before answer after =
     IsSaid (Text (set_line false)) before answer after
-AnswersKey capacity first kept namespace key old new true before answer after =
-    AnswersFitting capacity first kept namespace key old new before answer after
+AnswersKey capacity first kept asks namespace key old new true before answer after =
+    AnswersFitting capacity first kept asks namespace key old new before answer after
 
 -- a change of a key is answered by a push, where its values fit; else as not set
-abbrev pub AnswersChange : {A : Type 0} → ℕ → RepositoryOf A → (KeptSeen A → ℕ → Type 0) → List ℕ →
-    List ℕ → List ℕ → List ℕ → KeptSeen A → HttpAnswer A → KeptSeen A → Type 0
-AnswersChange capacity first kept namespace key old new before answer after =
-    AnswersKey capacity first kept namespace key old new (fits namespace key old new) before answer after
+abbrev pub AnswersChange : {A : Type 0} → ℕ → RepositoryOf A → (KeptSeen A → ℕ → Type 0) →
+    (List ℕ → Verdict A → Type 0) → List ℕ → List ℕ → List ℕ → List ℕ → KeptSeen A → HttpAnswer A → KeptSeen A →
+    Type 0
+AnswersChange capacity first kept asks namespace key old new before answer after =
+    AnswersKey capacity first kept asks namespace key old new (fits namespace key old new) before answer after
 
 -- the change that the arguments ask for
 abbrev pub AnswersPushKey : {A : Type 0} → ℕ → RepositoryOf A → (KeptSeen A → ℕ → Type 0) →
-    List (Field A) → KeptSeen A → HttpAnswer A → KeptSeen A → Type 0
-AnswersPushKey capacity first kept fields before answer after =
-    AnswersChange capacity first kept (argument_in fields (codes "namespace"))
+    (List ℕ → Verdict A → Type 0) → List (Field A) → KeptSeen A → HttpAnswer A → KeptSeen A → Type 0
+AnswersPushKey capacity first kept asks fields before answer after =
+    AnswersChange capacity first kept asks (argument_in fields (codes "namespace"))
     (argument_in fields (codes "key")) (argument_in fields (codes "old")) (argument_in fields (codes "new"))
     before answer after
 
@@ -165,23 +177,23 @@ capabilities_with (Some also) = capabilities_told ++ 32 ∷ also
 
 -- the answer to a command with these arguments, and what its client has seen then
 abbrev pub AnswersCommand : {A : Type 0} → ℕ → RepositoryOf A → (KeptSeen A → ℕ → Type 0) →
-    Option (List ℕ) → Option (List ℕ) → Command → List (Field A) → Request (List ℕ) → KeptSeen A → HttpAnswer A →
-    KeptSeen A → Type 0
-AnswersCommand capacity first kept pull also Capabilities fields r before answer after =
+    (List ℕ → Verdict A → Type 0) → Option (List ℕ) → Option (List ℕ) → Command → List (Field A) →
+    Request (List ℕ) → KeptSeen A → HttpAnswer A → KeptSeen A → Type 0
+AnswersCommand capacity first kept asks pull also Capabilities fields r before answer after =
     IsSaid (Text (capabilities_with also)) before answer after
-AnswersCommand capacity first kept pull also GetBundle fields r before answer after =
+AnswersCommand capacity first kept asks pull also GetBundle fields r before answer after =
     IsSaid (pull_answer pull r) before answer after
-AnswersCommand capacity first kept pull also (ReadOnly read) fields r before answer after =
+AnswersCommand capacity first kept asks pull also (ReadOnly read) fields r before answer after =
     IsTextAt first kept (λ repo text. IsTextOf repo read (argument_in fields (subject_of read)) text)
     before answer after
-AnswersCommand capacity first kept pull also Batch fields r before answer after =
+AnswersCommand capacity first kept asks pull also Batch fields r before answer after =
     let commands = commands_of (argument_in fields (codes "cmds")) in
     AnswersBatch first kept commands (refusal_of commands) before answer after
-AnswersCommand capacity first kept pull also Unbundle fields r before answer after =
-    IfFromClient (is_from_client r) (AnswersForced capacity first kept (body_of r)
+AnswersCommand capacity first kept asks pull also Unbundle fields r before answer after =
+    IfFromClient (is_from_client r) (AnswersForced capacity first kept asks (body_of r)
     (bytes_eq (argument_in fields (codes "heads")) (codes "666f726365"))) before answer after
-AnswersCommand capacity first kept pull also PushKey fields r before answer after =
-    IfFromClient (is_from_client r) (AnswersPushKey capacity first kept fields) before answer after
+AnswersCommand capacity first kept asks pull also PushKey fields r before answer after =
+    IfFromClient (is_from_client r) (AnswersPushKey capacity first kept asks fields) before answer after
 
 -- The answer without a command: a view, of the repository at one point of the serial order. A report names so
 -- many pushes as the store had, and those that were done here.
@@ -193,44 +205,48 @@ AnswersView first around (Some view) before answer after =
     (λ text. Shown view (finished view (around.stored + done_in first after.history) text))
     (IsViewed around.page around.metrics view) before answer after
 
-abbrev pub AnswersAsked : {A : Type 0} → ℕ → RepositoryOf A → Around A → Option Command → List (Field A) →
-    Request (List ℕ) → KeptSeen A → HttpAnswer A → KeptSeen A → Type 0
-AnswersAsked capacity first around None fields r before answer after =
+abbrev pub AnswersAsked : {A : Type 0} → ℕ → RepositoryOf A → Around A → (List ℕ → Verdict A → Type 0) →
+    Option Command → List (Field A) → Request (List ℕ) → KeptSeen A → HttpAnswer A → KeptSeen A → Type 0
+AnswersAsked capacity first around asks None fields r before answer after =
     AnswersView first around (view_of around.address r) before answer after
-AnswersAsked capacity first around (Some command) fields r before answer after =
-    AnswersCommand capacity first around.kept around.pull around.also command fields r before answer after
+AnswersAsked capacity first around asks (Some command) fields r before answer after =
+    AnswersCommand capacity first around.kept asks around.pull around.also command fields r before answer after
 
 -- what is for this server is answered so; what is not is told why, and nothing changes
-abbrev pub AnswersAddressed : {A : Type 0} → ℕ → RepositoryOf A → Around A → Option AddressFault → Option Command →
-    List (Field A) → Request (List ℕ) → KeptSeen A → HttpAnswer A → KeptSeen A → Type 0
-AnswersAddressed capacity first around (Some fault) command fields r before answer after =
+abbrev pub AnswersAddressed : {A : Type 0} → ℕ → RepositoryOf A → Around A → (List ℕ → Verdict A → Type 0) →
+    Option AddressFault → Option Command → List (Field A) → Request (List ℕ) → KeptSeen A → HttpAnswer A →
+    KeptSeen A → Type 0
+AnswersAddressed capacity first around asks (Some fault) command fields r before answer after =
     IsSaid (Misaddressed fault) before answer after
-AnswersAddressed capacity first around None command fields r before answer after =
-    AnswersAsked capacity first around command fields r before answer after
+AnswersAddressed capacity first around asks None command fields r before answer after =
+    AnswersAsked capacity first around asks command fields r before answer after
 
 -- The answer to a request: that to its command with its arguments, or memory was refused before anything
--- changed.
-abbrev pub AnswersRequest : {A : Type 0} → ℕ → RepositoryOf A → Around A → Request (List ℕ) → KeptSeen A →
-    HttpAnswer A → KeptSeen A → Type 0
-AnswersRequest {A} capacity first around r before answer after =
+-- changed. What a policy was asked about it, and said, is told by `asks`.
+abbrev pub AnswersRequest : {A : Type 0} → ℕ → RepositoryOf A → Around A → (List ℕ → Verdict A → Type 0) →
+    Request (List ℕ) → KeptSeen A → HttpAnswer A → KeptSeen A → Type 0
+AnswersRequest {A} capacity first around asks r before answer after =
     let command = command_of (name_of A r) in
-    OrLacks (is_look command) (AnswersAddressed capacity first around (fault_of around.address command r) command
-    (arguments_of r) r) before answer after
+    OrLacks (is_look command) (AnswersAddressed capacity first around asks (fault_of around.address command r)
+    command (arguments_of r) r) before answer after
 
--- what contracts see of a connection's service: what its client had seen when the last request was answered, the
--- terms, and how many requests were answered
+-- what contracts see of a connection's service: what its client had seen when the last request was answered, what its
+-- policy had been asked by then, the terms, and how many requests were answered
 pub record WireView (A S : Type 0) : Type 0 where
   pub seen : KeptSeen A
+  pub asked : AskedPolicy A
   pub terms : WebTerms S
   pub answered : ℕ
 
--- The response reports the answer. Its client has seen no less than before, and has all promises that it had.
+-- The response reports the answer. Its client has seen no less than before, and has all promises that it had. The
+-- policy was asked once at most: about the push that the request is.
 pub record Responds {A S : Type 0} (capacity : ℕ) (first : RepositoryOf A)
     (kept : KeptSeen A → ℕ → Type 0) (page metrics : S → Repository A → List ℕ → Type 0)
     (old : WireView A S) (r : Request (List ℕ)) (response : Response) (new : WireView A S) : Type 0 where
   pub answer : HttpAnswer A
-  pub answers : AnswersRequest capacity first (around_of kept page metrics old.terms) r old.seen answer
-      new.seen
+  pub answers : AnswersRequest capacity first (around_of kept page metrics old.terms)
+      (λ bundle verdict. HasAsked old.asked new.asked bundle verdict) r old.seen answer new.seen
+  pub asks : AsksOnce old.asked new.asked
   pub later : IsLater old.seen new.seen
   pub tells : CarriesAnswer answer response
   pub same : new.terms ≡ old.terms

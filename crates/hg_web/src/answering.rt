@@ -15,17 +15,19 @@ ghost use Rattle.hg_web.specs.Answering.{AnswersAddressed, AnswersRequest, Answe
 ghost use Rattle.hg_web.specs.Answering.{AnswersForced, capabilities_with};
 ghost use Rattle.hg_web.specs.Answering.{AnswersPushKey, around_of, IfFromClient, is_look, IsSaid, IsTextAt, OrLacks};
 ghost use Rattle.hg_web.specs.Answering.{pull_answer};
+ghost use Rattle.hg_hook.specs.Policies.{AsksOnce, HasAsked};
 ghost use Rattle.hg_web.specs.Pushes.{Answered};
 
 use crate::key::push_key;
+use crate::letting::unbundle_if_let;
 use crate::long::{LongCommand, LongCommands};
 use crate::looking::{Asking, Look, look_kept};
-use crate::push::unbundle;
 use crate::terms::{Host, WebTerms};
 use crate::viewing::answer_view;
 use bytes::Bytes;
 use hg_commit::{KeptClient, NotStored, Storing};
 use hg_durable::Keeping;
+use hg_hook::Policy;
 use hg_http::{
     Command, HttpAnswer, Read, RequestRefusal, argument, command_of, fault_of, is_from_client,
     moved_to, read_arguments, read_name, subject_of, view_of,
@@ -47,21 +49,24 @@ pub fn answer_request<
     R: Wait,
     S: Shown<A>,
     V: Watch<A>,
+    P: Policy<A>,
 >(
     host: &Host<'_, J, D, R, A>,
     terms: &WebTerms<'_, S>,
     client: KeptClient<J, A>,
     request: &Request<Bytes>,
     watch: &mut V,
+    policy: &mut P,
 ) -> (KeptClient<J, A>, Result<HttpAnswer<A>, NotStored>)
-    ensures { Answered (AnswersRequest J.capacity J.first
+    ensures answered { Answered (AnswersRequest J.capacity J.first
         (around_of (IsCovered D.seen D.may_leave D.moment J.head J.stored J.first) S.is_page S.are_metrics terms.now)
-        request.now) client result.1 result.0 }
+        (HasAsked (P.asked policy.old) (P.asked policy.new)) request.now) client result.1 result.0 }
+    ensures asks { AsksOnce (P.asked policy.old) (P.asked policy.new) }
 {
     match read_request(host.keeping.alloc, request) {
         Ok((command, fields)) => {
             let fields = fields.as_slice();
-            answer_addressed(host, terms, client, command, fields, request, watch)
+            answer_addressed(host, terms, client, command, fields, request, watch, policy)
         }
         Err(_) => (client, Ok(HttpAnswer::Refused(RequestRefusal::NoMemory))),
     }
@@ -88,6 +93,7 @@ fn answer_addressed<
     R: Wait,
     S: Shown<A>,
     V: Watch<A>,
+    P: Policy<A>,
 >(
     host: &Host<'_, J, D, R, A>,
     terms: &WebTerms<'_, S>,
@@ -96,21 +102,31 @@ fn answer_addressed<
     fields: &[Field<A>],
     request: &Request<Bytes>,
     watch: &mut V,
+    policy: &mut P,
 ) -> (KeptClient<J, A>, Result<HttpAnswer<A>, NotStored>)
-    ensures { Answered (OrLacks (is_look command) (AnswersAddressed J.capacity J.first
+    ensures answered { Answered (OrLacks (is_look command) (AnswersAddressed J.capacity J.first
         (around_of (IsCovered D.seen D.may_leave D.moment J.head J.stored J.first) S.is_page S.are_metrics terms.now)
-        (fault_named terms.now.address command request.now) command fields.now request.now))
-        client result.1 result.0 }
+        (HasAsked (P.asked policy.old) (P.asked policy.new)) (fault_named terms.now.address command request.now)
+        command fields.now request.now)) client result.1 result.0 }
+    ensures asks { AsksOnce (P.asked policy.old) (P.asked policy.new) }
 {
     match fault_of(host.keeping.alloc, &terms.address, command, request) {
-        Ok(None) => answer_asked(host, terms, client, command, fields, request, watch),
+        Ok(None) => answer_asked(host, terms, client, command, fields, request, watch, policy),
         Ok(Some(fault)) => (client, Ok(HttpAnswer::Misaddressed(fault))),
         Err(_) => (client, Ok(HttpAnswer::Refused(RequestRefusal::NoMemory))),
     }
 }
 
 /// Answers what was asked: a command, or a view.
-fn answer_asked<J: Storing<A>, D: Device, A: Allocator + Copy, R: Wait, S: Shown<A>, V: Watch<A>>(
+fn answer_asked<
+    J: Storing<A>,
+    D: Device,
+    A: Allocator + Copy,
+    R: Wait,
+    S: Shown<A>,
+    V: Watch<A>,
+    P: Policy<A>,
+>(
     host: &Host<'_, J, D, R, A>,
     terms: &WebTerms<'_, S>,
     client: KeptClient<J, A>,
@@ -118,13 +134,18 @@ fn answer_asked<J: Storing<A>, D: Device, A: Allocator + Copy, R: Wait, S: Shown
     fields: &[Field<A>],
     request: &Request<Bytes>,
     watch: &mut V,
+    policy: &mut P,
 ) -> (KeptClient<J, A>, Result<HttpAnswer<A>, NotStored>)
-    ensures { Answered (OrLacks (is_look command) (AnswersAsked J.capacity J.first
+    ensures answered { Answered (OrLacks (is_look command) (AnswersAsked J.capacity J.first
         (around_of (IsCovered D.seen D.may_leave D.moment J.head J.stored J.first) S.is_page S.are_metrics terms.now)
-        command fields.now request.now)) client result.1 result.0 }
+        (HasAsked (P.asked policy.old) (P.asked policy.new)) command fields.now request.now))
+        client result.1 result.0 }
+    ensures asks { AsksOnce (P.asked policy.old) (P.asked policy.new) }
 {
     match command {
-        Some(command) => answer_command(host, terms, client, command, fields, request, watch),
+        Some(command) => {
+            answer_command(host, terms, client, command, fields, request, watch, policy)
+        }
         None => answer_view(
             &host.keeping,
             terms,
@@ -135,7 +156,15 @@ fn answer_asked<J: Storing<A>, D: Device, A: Allocator + Copy, R: Wait, S: Shown
 }
 
 /// Answers a command.
-fn answer_command<J: Storing<A>, D: Device, A: Allocator + Copy, R: Wait, S, V: Watch<A>>(
+fn answer_command<
+    J: Storing<A>,
+    D: Device,
+    A: Allocator + Copy,
+    R: Wait,
+    S,
+    V: Watch<A>,
+    P: Policy<A>,
+>(
     host: &Host<'_, J, D, R, A>,
     terms: &WebTerms<'_, S>,
     client: KeptClient<J, A>,
@@ -143,17 +172,20 @@ fn answer_command<J: Storing<A>, D: Device, A: Allocator + Copy, R: Wait, S, V: 
     fields: &[Field<A>],
     request: &Request<Bytes>,
     watch: &mut V,
+    policy: &mut P,
 ) -> (KeptClient<J, A>, Result<HttpAnswer<A>, NotStored>)
-    ensures { Answered (OrLacks (is_look (Some command)) (AnswersCommand J.capacity J.first
-        (IsCovered D.seen D.may_leave D.moment J.head J.stored J.first) (option_copied terms.now.pull)
+    ensures answered { Answered (OrLacks (is_look (Some command)) (AnswersCommand J.capacity J.first
+        (IsCovered D.seen D.may_leave D.moment J.head J.stored J.first)
+        (HasAsked (P.asked policy.old) (P.asked policy.new)) (option_copied terms.now.pull)
         (option_copied terms.now.also) command fields.now request.now)) client result.1 result.0 }
+    ensures asks { AsksOnce (P.asked policy.old) (P.asked policy.new) }
 {
     match command {
         Command::ReadOnly(read) => answer_read(host, client, read, fields),
         Command::Capabilities => (client, Ok(capabilities(host.keeping.alloc, terms.also))),
         Command::Batch => answer_batch(host, client, fields),
-        Command::Unbundle => answer_unbundle(host, client, fields, request, watch),
-        Command::PushKey => answer_pushkey(host, client, fields, request, watch),
+        Command::Unbundle => answer_unbundle(host, client, fields, request, watch, policy),
+        Command::PushKey => answer_pushkey(host, client, fields, request, watch, policy),
         Command::GetBundle => (
             client,
             Ok(answer_pull(host.keeping.alloc, terms.pull, request)),
@@ -302,17 +334,27 @@ fn answer_commands<J: Storing<A>, D: Device, A: Allocator + Copy, R: Wait>(
 }
 
 /// Answers a push, which is the body of the request.
-fn answer_unbundle<J: Storing<A>, D: Device, A: Allocator + Copy, R: Wait, V: Watch<A>>(
+fn answer_unbundle<
+    J: Storing<A>,
+    D: Device,
+    A: Allocator + Copy,
+    R: Wait,
+    V: Watch<A>,
+    P: Policy<A>,
+>(
     host: &Host<'_, J, D, R, A>,
     client: KeptClient<J, A>,
     fields: &[Field<A>],
     request: &Request<Bytes>,
     watch: &mut V,
+    policy: &mut P,
 ) -> (KeptClient<J, A>, Result<HttpAnswer<A>, NotStored>)
-    ensures { Answered (IfFromClient (came_from_client request.now) (AnswersForced J.capacity J.first
-        (IsCovered D.seen D.may_leave D.moment J.head J.stored J.first) (body_of request.now)
+    ensures answered { Answered (IfFromClient (came_from_client request.now) (AnswersForced J.capacity J.first
+        (IsCovered D.seen D.may_leave D.moment J.head J.stored J.first)
+        (HasAsked (P.asked policy.old) (P.asked policy.new)) (body_of request.now)
         (bytes_eq (argument_in fields.now (codes "heads")) (codes "666f726365"))))
         client result.1 result.0 }
+    ensures asks { AsksOnce (P.asked policy.old) (P.asked policy.new) }
 {
     if !is_from_client(request) {
         return (client, Ok(HttpAnswer::Forbidden));
@@ -321,7 +363,7 @@ fn answer_unbundle<J: Storing<A>, D: Device, A: Allocator + Copy, R: Wait, V: Wa
         return (client, Ok(HttpAnswer::Refused(RequestRefusal::NotForced)));
     }
     let body = request.body();
-    unbundle(&host.keeping, client, body, watch)
+    unbundle_if_let(&host.keeping, client, body, watch, policy)
 }
 
 /// Whether the heads of a push are forced: `force` in hexadecimal digits.
@@ -332,18 +374,28 @@ fn are_forced(heads: &[u8]) -> bool
 }
 
 /// Answers a push that sets one key.
-fn answer_pushkey<J: Storing<A>, D: Device, A: Allocator + Copy, R: Wait, V: Watch<A>>(
+fn answer_pushkey<
+    J: Storing<A>,
+    D: Device,
+    A: Allocator + Copy,
+    R: Wait,
+    V: Watch<A>,
+    P: Policy<A>,
+>(
     host: &Host<'_, J, D, R, A>,
     client: KeptClient<J, A>,
     fields: &[Field<A>],
     request: &Request<Bytes>,
     watch: &mut V,
+    policy: &mut P,
 ) -> (KeptClient<J, A>, Result<HttpAnswer<A>, NotStored>)
-    ensures { Answered (OrLacks false (IfFromClient (came_from_client request.now) (AnswersPushKey J.capacity J.first
-        (IsCovered D.seen D.may_leave D.moment J.head J.stored J.first) fields.now))) client result.1 result.0 }
+    ensures answered { Answered (OrLacks false (IfFromClient (came_from_client request.now) (AnswersPushKey
+        J.capacity J.first (IsCovered D.seen D.may_leave D.moment J.head J.stored J.first)
+        (HasAsked (P.asked policy.old) (P.asked policy.new)) fields.now))) client result.1 result.0 }
+    ensures asks { AsksOnce (P.asked policy.old) (P.asked policy.new) }
 {
     if !is_from_client(request) {
         return (client, Ok(HttpAnswer::Forbidden));
     }
-    push_key(&host.keeping, client, fields, watch)
+    push_key(&host.keeping, client, fields, watch, policy)
 }

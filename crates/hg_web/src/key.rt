@@ -3,15 +3,18 @@
 ghost use Rattle.std.specs.Prelude.{◌≡◌, ◌⊎◌, true, false};
 ghost use Rattle.hg_http.specs.Keys.{fits as can_fit};
 ghost use Rattle.std.specs.List.{list_any};
+ghost use Rattle.hg_hook.specs.Policies.{AsksOnce, HasAsked};
 ghost use Rattle.hg_web.specs.Answering.{AnswersChange, AnswersFitting, AnswersPushKey, OrLacks};
 ghost use Rattle.hg_commit.specs.Clients.{IsCovered};
 ghost use Rattle.hg_web.specs.Pushes.{Answered, IsPushAnswered, IsReply, is_one as returns_one};
 ghost use Rattle.hg_web.specs.Pushes.{is_set as key_is_set, key_line, set_line};
 ghost use Rattle.hg_web.specs.Pushes.{says_one as part_says_one};
 
+use crate::letting::push_key_if_let;
 use crate::push::{KeptPush, push_bundle};
 use hg_commit::{KeptClient, NotStored, Storing};
 use hg_durable::Keeping;
+use hg_hook::Policy;
 use hg_http::{HttpAnswer, KeyChange, RequestRefusal, fits, key_bundle, read_change};
 use hg_push::Outcome;
 use hg_queries::Watch;
@@ -23,29 +26,35 @@ use std::alloc::Allocator;
 use std::sync::Wait;
 
 /// Sets a key by a push of its own, and says whether it was set.
-pub fn push_key<J: Storing<A>, D: Device, A: Allocator + Copy, R: Wait, V: Watch<A>>(
+pub fn push_key<J: Storing<A>, D: Device, A: Allocator + Copy, R: Wait, V: Watch<A>, P: Policy<A>>(
     keeping: &Keeping<'_, J, D, R, A>,
     client: KeptClient<J, A>,
     fields: &[Field<A>],
     watch: &mut V,
+    policy: &mut P,
 ) -> (KeptClient<J, A>, Result<HttpAnswer<A>, NotStored>)
-    ensures { Answered (OrLacks false (AnswersPushKey J.capacity J.first
-        (IsCovered D.seen D.may_leave D.moment J.head J.stored J.first) fields.now)) client result.1 result.0 }
+    ensures answered { Answered (OrLacks false (AnswersPushKey J.capacity J.first
+        (IsCovered D.seen D.may_leave D.moment J.head J.stored J.first)
+        (HasAsked (P.asked policy.old) (P.asked policy.new)) fields.now)) client result.1 result.0 }
+    ensures asks { AsksOnce (P.asked policy.old) (P.asked policy.new) }
 {
     let change = read_change(fields);
-    push_change(keeping, client, &change, watch)
+    push_change(keeping, client, &change, watch, policy)
 }
 
 /// Asks for a change by a push of its own, where a part can hold its values.
-fn push_change<J: Storing<A>, D: Device, A: Allocator + Copy, R: Wait, V: Watch<A>>(
+fn push_change<J: Storing<A>, D: Device, A: Allocator + Copy, R: Wait, V: Watch<A>, P: Policy<A>>(
     keeping: &Keeping<'_, J, D, R, A>,
     client: KeptClient<J, A>,
     change: &KeyChange<'_>,
     watch: &mut V,
+    policy: &mut P,
 ) -> (KeptClient<J, A>, Result<HttpAnswer<A>, NotStored>)
-    ensures { Answered (OrLacks false (AnswersChange J.capacity J.first
-        (IsCovered D.seen D.may_leave D.moment J.head J.stored J.first) change.now.namespace.now
+    ensures answered { Answered (OrLacks false (AnswersChange J.capacity J.first
+        (IsCovered D.seen D.may_leave D.moment J.head J.stored J.first)
+        (HasAsked (P.asked policy.old) (P.asked policy.new)) change.now.namespace.now
         change.now.key.now change.now.old.now change.now.new.now)) client result.1 result.0 }
+    ensures asks { AsksOnce (P.asked policy.old) (P.asked policy.new) }
 {
     if !fits(change) {
         return (
@@ -53,30 +62,33 @@ fn push_change<J: Storing<A>, D: Device, A: Allocator + Copy, R: Wait, V: Watch<
             Ok(line_of(keeping.alloc, false, RequestRefusal::NoMemory)),
         );
     }
-    set_key(keeping, client, change, watch)
+    set_key(keeping, client, change, watch, policy)
 }
 
 /// Pushes the bundle that asks for a change.
-fn set_key<J: Storing<A>, D: Device, A: Allocator + Copy, R: Wait, V: Watch<A>>(
+fn set_key<J: Storing<A>, D: Device, A: Allocator + Copy, R: Wait, V: Watch<A>, P: Policy<A>>(
     keeping: &Keeping<'_, J, D, R, A>,
     client: KeptClient<J, A>,
     change: &KeyChange<'_>,
     watch: &mut V,
+    policy: &mut P,
 ) -> (KeptClient<J, A>, Result<HttpAnswer<A>, NotStored>)
     requires { can_fit change.now.namespace.now change.now.key.now change.now.old.now
         change.now.new.now ≡ true }
-    ensures { Answered (OrLacks false (AnswersFitting J.capacity J.first
-        (IsCovered D.seen D.may_leave D.moment J.head J.stored J.first) change.now.namespace.now
+    ensures answered { Answered (OrLacks false (AnswersFitting J.capacity J.first
+        (IsCovered D.seen D.may_leave D.moment J.head J.stored J.first)
+        (HasAsked (P.asked policy.old) (P.asked policy.new)) change.now.namespace.now
         change.now.key.now change.now.old.now change.now.new.now)) client result.1 result.0 }
+    ensures asks { AsksOnce (P.asked policy.old) (P.asked policy.new) }
 {
     match key_bundle(keeping.alloc, change) {
-        Ok(bundle) => push_for_key(keeping, client, bundle.as_slice(), watch),
+        Ok(bundle) => push_key_if_let(keeping, client, bundle.as_slice(), watch, policy),
         Err(_) => (client, Ok(HttpAnswer::Refused(RequestRefusal::NoMemory))),
     }
 }
 
 /// Pushes a bundle, and says whether it set its key.
-fn push_for_key<J: Storing<A>, D: Device, A: Allocator + Copy, R: Wait, V: Watch<A>>(
+pub fn push_for_key<J: Storing<A>, D: Device, A: Allocator + Copy, R: Wait, V: Watch<A>>(
     keeping: &Keeping<'_, J, D, R, A>,
     client: KeptClient<J, A>,
     bundle: &[u8],

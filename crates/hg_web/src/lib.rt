@@ -8,7 +8,7 @@
 //! repository waits until the pushes that it rests on are on the device; where the store failed there is none.
 //! Whatever else comes is answered, also that memory was refused; but memory that `http_server` wants for itself may
 //! end the connection without an answer. A body which finds no room in the [`Budget`] of all of them is read to its end
-//! and dropped, and is answered so.
+//! and dropped, and is answered so. A [`Policy`] is asked of each push before it runs.
 //!
 //! The form of requests and answers is that of Mercurial's `internals.wireprotocol`, "HTTP Version 1
 //! Transport".
@@ -19,6 +19,7 @@ mod body;
 mod body_prefix;
 mod budget;
 mod key;
+mod letting;
 mod long;
 mod looking;
 mod push;
@@ -29,6 +30,7 @@ mod wire;
 
 pub use answering::answer_request;
 pub use budget::Budget;
+pub use hg_hook::{Policy, Verdict};
 pub use hg_http::Address;
 pub use hg_queries::{Shown, ViewCache, Watch, WatchedPush};
 pub use serve::{ConnectionEnd, serve_http};

@@ -19,6 +19,7 @@ use crate::wire::Wire;
 use hg_commit::{KeptClient, Ledger, Storing};
 use hg_connection::{Sending, send};
 use hg_durable::Keeping;
+use hg_hook::Policy;
 use hg_http::{Follower, RequestEnd};
 use hg_queries::{Shown, ViewCache, Watch};
 use hg_serve::Server;
@@ -44,13 +45,14 @@ pub enum ConnectionEnd {
 /// Serves a connection until it is done, or until a read or a write fails, and each answer that depends on the
 /// repository once all done pushes that it rests on are on the device. A body may be as long as the limit on a
 /// stream. Where a request finds no room its rest is read and dropped, the answer says so, and the next one is
-/// served. The names of header fields come from strangers, so the keys are to be random.
+/// served. The policy is asked of each push before it runs, and nothing is locked meanwhile. The names of header fields come from strangers, so the keys are to be random.
 pub fn serve_http<
     J: Storing<Global>,
     D: Device,
     R: Wait,
     S: Shown<Global>,
     V: Watch<Global>,
+    P: Policy<Global>,
     I: BufRead,
     W: Write,
 >(
@@ -63,12 +65,13 @@ pub fn serve_http<
     terms: &WebTerms<'_, S>,
     client: KeptClient<J>,
     watch: &mut V,
+    policy: P,
     reader: &mut I,
     writer: &mut W,
-) -> (KeptClient<J>, ConnectionEnd)
+) -> (KeptClient<J>, P, ConnectionEnd)
     ensures { ServesHttp J.capacity J.first (IsCovered D.seen D.may_leave D.moment J.head J.stored J.first) S.is_page
-        S.are_metrics terms.now client (I.remaining reader.old) (I.remaining reader.new)
-        (W.contents writer.old) (W.contents writer.new) result.1 result.0 }
+        S.are_metrics terms.now (P.asked policy) (P.asked result.1) client (I.remaining reader.old)
+        (I.remaining reader.new) (W.contents writer.old) (W.contents writer.new) result.2 result.0 }
 {
     let mut config = Config::default();
     config.max_body_len = server.limits().stream as usize;
@@ -79,13 +82,13 @@ pub fn serve_http<
         alloc,
     };
     let host = Host { keeping, shelf };
-    let mut wire = Wire::new(host, terms, alloc, client, watch);
+    let mut wire = Wire::new(host, terms, alloc, client, watch, policy);
     let mut share = Share::new(terms.budget);
     let ended = serve_stretches(
         rt, alloc, keys, config, &mut wire, &mut share, reader, writer,
     );
-    let (client, has_failed) = wire.into_client();
-    (client, end_of(ended, has_failed))
+    let (client, policy, has_failed) = wire.into_parts();
+    (client, policy, end_of(ended, has_failed))
 }
 
 /// How the conversation ended.
@@ -138,6 +141,7 @@ fn serve_stretches<
     R: Wait,
     S: Shown<A>,
     V: Watch<A>,
+    P: Policy<A>,
     A: Allocator + Copy,
     I: BufRead,
     W: Write,
@@ -146,7 +150,7 @@ fn serve_stretches<
     alloc: Global,
     keys: RandomState,
     config: Config,
-    wire: &mut Wire<'_, J, D, R, S, V, A>,
+    wire: &mut Wire<'_, J, D, R, S, V, P, A>,
     share: &mut Share<'_>,
     reader: &mut I,
     writer: &mut W,
@@ -268,6 +272,7 @@ fn converse<
     R: Wait,
     S: Shown<A>,
     V: Watch<A>,
+    P: Policy<A>,
     A: Allocator + Copy,
     I: BufRead,
     W: Write,
@@ -275,7 +280,7 @@ fn converse<
     rt: &R,
     connection: &mut Connection,
     follower: &mut Follower,
-    wire: &mut Wire<'_, J, D, R, S, V, A>,
+    wire: &mut Wire<'_, J, D, R, S, V, P, A>,
     share: &mut Share<'_>,
     reader: &mut I,
     writer: &mut W,
@@ -325,9 +330,17 @@ fn converse<
 }
 
 /// Answers what was received, and says whether anything was. What came for it is forgotten.
-fn advance<J: Storing<A>, D: Device, R: Wait, S: Shown<A>, V: Watch<A>, A: Allocator + Copy>(
+fn advance<
+    J: Storing<A>,
+    D: Device,
+    R: Wait,
+    S: Shown<A>,
+    V: Watch<A>,
+    P: Policy<A>,
+    A: Allocator + Copy,
+>(
     connection: &mut Connection,
-    wire: &mut Wire<'_, J, D, R, S, V, A>,
+    wire: &mut Wire<'_, J, D, R, S, V, P, A>,
     share: &mut Share<'_>,
 ) -> bool
     ensures calls { Calls (Responds J.capacity J.first (IsCovered D.seen D.may_leave D.moment J.head J.stored J.first)

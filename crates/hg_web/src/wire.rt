@@ -9,6 +9,7 @@ use crate::answering::answer_request;
 use crate::terms::{Host, WebTerms};
 use bytes::Bytes;
 use hg_commit::{KeptClient, NotStored, Storing};
+use hg_hook::Policy;
 use hg_http::respond;
 use hg_queries::{Shown, Watch};
 use hg_store::Device;
@@ -31,12 +32,14 @@ pub struct Wire<
     R: Wait,
     S: Shown<A>,
     V: Watch<A>,
+    P: Policy<A>,
     A: Allocator = Global,
 > {
     host: Host<'a, J, D, R, A>,
     terms: &'a WebTerms<'a, S>,
     global: Global,
     watch: &'a mut V,
+    policy: P,
     client: Option<KeptClient<J, A>>,
     /// How many requests were answered.
     answered: u64,
@@ -44,34 +47,49 @@ pub struct Wire<
     has_failed: bool,
     /// Memory that is given back before an answer is put together, so that there is some.
     spare: Vec<u8>,
-    /// What the client had seen when the last request was answered.
-    seen: Log<KeptClient<J, A>, u64>,
+    /// What the client had seen when the last request was answered, and what the policy had been asked.
+    seen: Log<KeptClient<J, A>, P>,
 }
 
-impl<'a, J: Storing<A>, D: Device, R: Wait, S: Shown<A>, V: Watch<A>, A: Allocator> Model
-    for Wire<'a, J, D, R, S, V, A> {
+impl<'a, J, D, R, S, V, P, A> Model for Wire<'a, J, D, R, S, V, P, A>
+where
+    J: Storing<A>,
+    D: Device,
+    R: Wait,
+    S: Shown<A>,
+    V: Watch<A>,
+    P: Policy<A>,
+    A: Allocator,
+{
     ghost use Rattle.std.specs.Prelude.{◌≡◌, IsSome, false};
     ghost use Rattle.hg_commit.specs.Clients.{IsLater};
     ghost use Rattle.hg_web.specs.Answering.{WireView};
-    ghost use Rattle.hg_web.specs.code.Wires.{seen_by, seen_last};
+    ghost use Rattle.hg_web.specs.code.Wires.{asked_last, seen_by, seen_last};
 
     ghost Value = { WireView A S };
 
-    ghost view = { λ w. record { seen = seen_last w.seen.items; terms = w.terms.now; answered = w.answered } };
+    ghost view = { λ w. record {
+      seen = seen_last w.seen.items;
+      asked = asked_last P.asked w.seen.items;
+      terms = w.terms.now;
+      answered = w.answered;
+    } };
 
     ghost invariant = { λ w. IsSome w.client × IsLater (seen_last w.seen.items) (seen_by w.client)
-        × (w.has_failed ≡ false → seen_by w.client ≡ seen_last w.seen.items) };
+        × (w.has_failed ≡ false → (seen_by w.client ≡ seen_last w.seen.items)
+        × (P.asked w.policy ≡ asked_last P.asked w.seen.items)) };
 }
 
-impl<'a, J: Storing<A>, D: Device, R: Wait, S: Shown<A>, V: Watch<A>, A: Allocator + Copy> Wire<
-    'a,
-    J,
-    D,
-    R,
-    S,
-    V,
-    A,
-> {
+impl<'a, J, D, R, S, V, P, A> Wire<'a, J, D, R, S, V, P, A>
+where
+    J: Storing<A>,
+    D: Device,
+    R: Wait,
+    S: Shown<A>,
+    V: Watch<A>,
+    P: Policy<A>,
+    A: Allocator + Copy,
+{
     /// The service of a connection of this client.
     pub fn new(
         host: Host<'a, J, D, R, A>,
@@ -79,15 +97,17 @@ impl<'a, J: Storing<A>, D: Device, R: Wait, S: Shown<A>, V: Watch<A>, A: Allocat
         global: Global,
         client: KeptClient<J, A>,
         watch: &'a mut V,
+        policy: P,
     ) -> Self
-        ensures { result ≡ record { seen = client; terms = terms.now; answered = 0 } }
+        ensures { result ≡ record { seen = client; asked = P.asked policy; terms = terms.now; answered = 0 } }
     {
-        let seen = Log::new().and(&client, &0);
+        let seen = Log::new().and(&client, &policy);
         Wire {
             host,
             terms,
             global,
             watch,
+            policy,
             client: Some(client),
             answered: 0,
             has_failed: false,
@@ -115,16 +135,18 @@ impl<'a, J: Storing<A>, D: Device, R: Wait, S: Shown<A>, V: Watch<A>, A: Allocat
         hold(self.global, &mut self.spare)
     }
 
-    /// Its client, and whether the store failed before a request was answered.
-    pub fn into_client(self) -> (KeptClient<J, A>, bool)
+    /// Its client and its policy, and whether the store failed before a request was answered.
+    pub fn into_parts(self) -> (KeptClient<J, A>, P, bool)
         ensures later { IsLater self.entry.seen result.0 }
-        ensures same { result.1 ≡ false → result.0 ≡ self.entry.seen }
+        ensures same { result.2 ≡ false → result.0 ≡ self.entry.seen }
+        ensures asked { result.2 ≡ false → P.asked result.1 ≡ self.entry.asked }
     {
         let Wire {
             host: _,
             terms: _,
             global: _,
             watch: _,
+            policy,
             client,
             answered: _,
             has_failed,
@@ -132,7 +154,7 @@ impl<'a, J: Storing<A>, D: Device, R: Wait, S: Shown<A>, V: Watch<A>, A: Allocat
             seen: _,
         } = self;
         match client {
-            Some(client) => (client, has_failed),
+            Some(client) => (client, policy, has_failed),
             None => unreachable!(),
         }
     }
@@ -163,10 +185,11 @@ impl<'a, J: Storing<A>, D: Device, R: Wait, S: Shown<A>, V: Watch<A>, A: Allocat
             client,
             request,
             &mut *self.watch,
+            &mut self.policy,
         );
         match answer {
             Ok(answer) => {
-                self.seen = Log::new().and(&client, &self.answered);
+                self.seen = Log::new().and(&client, &self.policy);
                 put_back(&mut self.client, client);
                 self.answered = answered;
                 self.spare = Vec::new(self.global);
@@ -182,8 +205,16 @@ impl<'a, J: Storing<A>, D: Device, R: Wait, S: Shown<A>, V: Watch<A>, A: Allocat
     }
 }
 
-impl<J: Storing<A>, D: Device, R: Wait, S: Shown<A>, V: Watch<A>, A: Allocator + Copy> Service
-    for Wire<'_, J, D, R, S, V, A> {
+impl<J, D, R, S, V, P, A> Service for Wire<'_, J, D, R, S, V, P, A>
+where
+    J: Storing<A>,
+    D: Device,
+    R: Wait,
+    S: Shown<A>,
+    V: Watch<A>,
+    P: Policy<A>,
+    A: Allocator + Copy,
+{
     ghost use Rattle.hg_commit.specs.Clients.{IsCovered};
     ghost use Rattle.hg_web.specs.Answering.{Responds};
 

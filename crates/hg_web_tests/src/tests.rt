@@ -30,7 +30,7 @@ use hg_serve::{Point, Probe, Server};
 use hg_store::{Device, Log, recover};
 use hg_types::{NoMemory, Seq};
 use hg_web::{
-    Address, Budget, ConnectionEnd, Shown, ViewCache, Watch, WatchedPush, WebTerms, serve_http,
+    Address, Budget, ConnectionEnd, Shown, Verdict, ViewCache, Watch, WatchedPush, WebTerms, serve_http,
 };
 use std::alloc::{AllocFailed, Allocator, Global};
 use std::hash::RandomState;
@@ -122,6 +122,34 @@ impl<'a> Read for Source<'a> {
     }
 }
 
+/// Says the same of each push, and keeps how many it was asked about and how long they were together.
+#[derive(Drop)]
+struct Policy<'a> {
+    alloc: Global,
+    /// Why no push may run, if none may.
+    refusal: Option<&'a [u8]>,
+    asked: usize,
+    bytes: usize,
+}
+
+impl hg_web::Policy<Global> for Policy<'_> {
+    ghost use Rattle.std.specs.Prelude.{None};
+
+    ghost asked = { λ _. None };
+
+    fn let_through(&mut self, _user: Option<&[u8]>, bundle: &[u8]) -> Verdict {
+        self.asked = self.asked.saturating_add(1);
+        self.bytes = self.bytes.saturating_add(bundle.len());
+        match self.refusal {
+            None => Verdict::LetThrough,
+            Some(why) => match Seq::copy_of(self.alloc, why) {
+                Ok(line) => Verdict::Refused(line),
+                Err(_) => Verdict::NoMemory,
+            },
+        }
+    }
+}
+
 /// How a test serves.
 #[derive(Clone, Copy)]
 struct Way<'a> {
@@ -137,6 +165,8 @@ struct Way<'a> {
     pull: Option<&'a [u8]>,
     /// What is told behind the capabilities.
     also: Option<&'a [u8]>,
+    /// Why no push may run.
+    refusal: Option<&'a [u8]>,
 }
 
 /// The server answers at `/`, whatever name it is called by.
@@ -153,6 +183,7 @@ const PLAIN: Way<'static> = Way {
     address: ANYWHERE,
     pull: None,
     also: None,
+    refusal: None,
 };
 
 /// What is left after some connections.
@@ -162,6 +193,8 @@ struct Left {
     told: Vec<u8>,
     end: ConnectionEnd,
     tally: Tally,
+    /// How many pushes the policy was asked about.
+    asked: usize,
     journal: usize,
     /// How many pushes the device has.
     kept: usize,
@@ -256,6 +289,12 @@ fn play<J: Storing<Global>, R: RandomSource + Wait + Abort>(
     let mut client = KeptClient::new(client_of(rt, &server));
     let mut end = ConnectionEnd::Done;
     let mut told = Vec::new(alloc);
+    let mut policy = Policy {
+        alloc,
+        refusal: way.refusal,
+        asked: 0,
+        bytes: 0,
+    };
     for asked in said {
         let source = Source {
             bytes: *asked,
@@ -267,7 +306,7 @@ fn play<J: Storing<Global>, R: RandomSource + Wait + Abort>(
         };
         told = Vec::new(alloc);
         let keys = state(rt);
-        let (back, ended) = serve_http(
+        let (back, kept, ended) = serve_http(
             &server,
             &ledger,
             &shelf,
@@ -277,10 +316,12 @@ fn play<J: Storing<Global>, R: RandomSource + Wait + Abort>(
             &terms,
             client,
             &mut tally,
+            policy,
             &mut reader,
             &mut told,
         );
         client = back;
+        policy = kept;
         end = ended;
     }
     add_kept(rt, &mut clients, client);
@@ -295,6 +336,7 @@ fn play<J: Storing<Global>, R: RandomSource + Wait + Abort>(
         told,
         end,
         tally,
+        asked: policy.asked,
         journal: closed.journal.len(),
         kept: kept_on(rt, alloc, &device),
     }

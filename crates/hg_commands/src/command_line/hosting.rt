@@ -32,6 +32,10 @@ pub struct Hosting<'a> {
     pub pull: Option<&'a str>,
     /// Whether the store has to be there.
     pub existing: bool,
+    /// Where it is asked whether a push may run.
+    pub hook: Option<&'a str>,
+    /// For how many seconds its answer is waited for.
+    pub hook_wait: u64,
     /// Whether each push is printed on standard error.
     pub log: bool,
 }
@@ -155,6 +159,22 @@ pub const HOST: CommandRow<'static> = CommandRow {
             help: "Refuses a folder without a store, and makes none",
         },
         OptionRow {
+            name: "hook",
+            kind: Kind::Word,
+            value: "URL",
+            is_required: false,
+            default: &[],
+            help: "Who is asked before each push, http://HOST:PORT/PATH: only 200 lets it run",
+        },
+        OptionRow {
+            name: "hook-wait",
+            kind: Kind::Number(ValueParser::Unsigned(1, 3_600)),
+            value: "SECONDS",
+            is_required: false,
+            default: &["60"],
+            help: "How long the hook is waited for, 1 to 3600",
+        },
+        OptionRow {
             name: "log",
             kind: Kind::Flag,
             value: "",
@@ -180,6 +200,8 @@ pub fn read_hosting<'a>(matches: &ArgMatches<'a>) -> Hosting<'a> {
         also: matches.get_str("also"),
         pull: matches.get_str("pull"),
         existing: matches.get_flag("existing"),
+        hook: matches.get_str("hook"),
+        hook_wait: matches.get_one("hook-wait").unwrap_or(1),
         log: matches.get_flag("log"),
     }
 }

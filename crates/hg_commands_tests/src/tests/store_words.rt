@@ -19,6 +19,8 @@ const DEFAULTS: Hosting<'static> = Hosting {
     also: None,
     pull: None,
     existing: false,
+    hook: None,
+    hook_wait: 60,
     log: false,
 };
 
@@ -43,6 +45,8 @@ fn is_same(one: &Hosting<'_>, other: &Hosting<'_>) -> bool {
         && is_same_word(one.also, other.also)
         && is_same_word(one.pull, other.pull)
         && one.existing == other.existing
+        && is_same_word(one.hook, other.hook)
+        && one.hook_wait == other.hook_wait
         && one.log == other.log
 }
 
@@ -62,7 +66,7 @@ fn asks_host(alloc: Global, more: &[&str], wanted: &Hosting<'_>) -> Result<bool,
 fn words_that_ask_for_a_host(rt: HostRuntime) -> Result<(), Fail> {
     let alloc = rt.alloc();
     assert!(rt; asks_host(alloc, &[], &DEFAULTS)?);
-    let rows: [(&[&str], Hosting<'_>); 10] = [
+    let rows: [(&[&str], Hosting<'_>); 11] = [
         (
             &["--listen", "[::1]:80"],
             Hosting {
@@ -113,6 +117,13 @@ fn words_that_ask_for_a_host(rt: HostRuntime) -> Result<(), Fail> {
             },
         ),
         (
+            &["--hook", "http://h:1/"],
+            Hosting {
+                hook: Some("http://h:1/"),
+                ..DEFAULTS
+            },
+        ),
+        (
             &["--log"],
             Hosting {
                 log: true,
@@ -145,7 +156,7 @@ fn words_that_ask_for_a_host(rt: HostRuntime) -> Result<(), Fail> {
 #[test]
 fn numbers_of_a_host(rt: HostRuntime) -> Result<(), Fail> {
     let alloc = rt.alloc();
-    let rows: [(&[&str], Hosting<'_>); 7] = [
+    let rows: [(&[&str], Hosting<'_>); 9] = [
         (
             &["--connections", "1"],
             Hosting {
@@ -189,6 +200,20 @@ fn numbers_of_a_host(rt: HostRuntime) -> Result<(), Fail> {
             },
         ),
         (
+            &["--hook-wait", "1"],
+            Hosting {
+                hook_wait: 1,
+                ..DEFAULTS
+            },
+        ),
+        (
+            &["--hook-wait", "3600"],
+            Hosting {
+                hook_wait: 3600,
+                ..DEFAULTS
+            },
+        ),
+        (
             &["--memory", "1048576"],
             Hosting {
                 memory: 1_048_576,
@@ -206,7 +231,7 @@ fn numbers_of_a_host(rt: HostRuntime) -> Result<(), Fail> {
 /// and texts that are empty or have more than one line.
 #[test]
 fn words_that_host_refuses(rt: HostRuntime) -> Result<(), Fail> {
-    let cases: [&[&str]; 24] = [
+    let cases: [&[&str]; 27] = [
         &["host"],
         &["host", "--store"],
         &["host", "--store", "S", "more"],
@@ -231,6 +256,9 @@ fn words_that_host_refuses(rt: HostRuntime) -> Result<(), Fail> {
         &["host", "--store", "S", "--name", "a\nb"],
         &["host", "--store", "S", "--also", ""],
         &["host", "--store", "S", "--also", "a\r\nb"],
+        &["host", "--store", "S", "--hook"],
+        &["host", "--store", "S", "--hook-wait", "0"],
+        &["host", "--store", "S", "--hook-wait", "3601"],
     ];
     for words in cases {
         assert_eq!(rt; refused(rt.alloc(), words)?, Some(2));

@@ -9,7 +9,7 @@ ghost use Rattle.hg_commit.specs.Receipts.{IsTallyOf};
 use super::*;
 use hg_durable::Keeping;
 use hg_serve::Client;
-use hg_web::{Host, Wire};
+use hg_web::{Host, Policy, Verdict, Wire};
 use http_server::{Config, Connection, serve};
 use linked_list_allocator::LocalHeap;
 
@@ -62,6 +62,20 @@ fn host_over<'a, J: Storing<A>, A: Allocator, R: Wait>(
     Host { keeping, shelf }
 }
 
+/// A policy that there is none of.
+#[derive(Drop)]
+struct Untold;
+
+impl<A: Allocator> Policy<A> for Untold {
+    ghost use Rattle.std.specs.Prelude.{None};
+
+    ghost asked = { λ _. None };
+
+    fn let_through(&mut self, _user: Option<&[u8]>, _bundle: &[u8]) -> Verdict<A> {
+        Verdict::NoAnswer
+    }
+}
+
 /// Serves one connection, and says whether all went well.
 fn converse<J: Storing<A>, A: Allocator + Copy, R: RandomSource + Wait + Abort>(
     global: Global,
@@ -73,10 +87,10 @@ fn converse<J: Storing<A>, A: Allocator + Copy, R: RandomSource + Wait + Abort>(
 ) -> (KeptClient<J, A>, Result<(), Came>) {
     let mut connection = Connection::new(global, state(host.keeping.rt), Config::default());
     let mut tally = Tally::new();
-    let mut wire = Wire::new(host, terms, global, client, &mut tally);
+    let mut wire = Wire::new(host, terms, global, client, &mut tally, None::<Untold>);
     let mut reader = asked;
     let done = serve(&mut connection, &mut wire, &mut reader, told);
-    let (client, has_failed) = wire.into_client();
+    let (client, _policy, has_failed) = wire.into_parts();
     let went = match (has_failed, done) {
         (true, _) => Err(Came::NotKept),
         (false, Ok(())) => Ok(()),

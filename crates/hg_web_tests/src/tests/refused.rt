@@ -495,3 +495,39 @@ fn assert_closed<R: RandomSource + Wait + Abort>(
     assert!(rt; left.told.as_slice() == TOLD_0);
     assert_eq!(rt; left.kept, 1);
 }
+
+/// What a push is answered that may not run.
+const NOT_TODAY: &[u8] =
+    b"HTTP/1.1 200 OK\r\ncontent-type: application/hg-error\r\ncontent-length: 16\r\n\r\nno pushes today\n";
+
+/// A policy is asked of a push, and of a key that is set, and of nothing else. What it refuses does not run.
+#[test]
+fn pushes_that_may_not_run(rt: HostRuntime) {
+    let alloc = rt.alloc();
+    let push = request(&rt, alloc, "POST /?cmd=unbundle", FORCED, OWN, EMPTY);
+    let key = request(&rt, alloc, "POST /?cmd=pushkey", BOOKMARK, OWN, b"");
+    let unforced = request(
+        &rt,
+        alloc,
+        "POST /?cmd=unbundle",
+        "x-hgarg-1: heads=00\r\n",
+        OWN,
+        EMPTY,
+    );
+    let heads = b"GET /?cmd=heads HTTP/1.1\r\nhost: a\r\n\r\n".as_slice();
+    let asked = joined(&rt, alloc, &[&push, &key, &unforced, heads]);
+    let refuses = Way {
+        refusal: Some(b"no pushes today"),
+        ..PLAIN
+    };
+    let left = served(&rt, alloc, &[asked.as_slice()], refuses);
+    assert!(rt;
+        left.told.starts_with(joined(&rt, alloc, &[NOT_TODAY, NOT_TODAY, NOT_FORCED]).as_slice())
+    );
+    assert_eq!(rt; left.asked, 2);
+    assert_eq!(rt; left.journal, 0);
+    assert_eq!(rt; left.kept, 0);
+    let left = served(&rt, alloc, &[asked.as_slice()], PLAIN);
+    assert_eq!(rt; left.asked, 2);
+    assert_eq!(rt; left.journal, 2);
+}

@@ -5,7 +5,7 @@ use Rattle.hg_web.proofs.serve.serve_http.Goals as goal
 pub returns : goal.returns
 returns g c =
     let ended = c.serve_stretches-ended in
-    let back = c.into_client-client in
+    let back = c.into_parts-client in
     let last = c.end_of in
     record {
       config = _;
@@ -15,5 +15,6 @@ returns g c =
       converses = converses_from _ _ _ _ _ _ _ _ _ _ c.new-wire.ensures
           (converses_as _ _ _ _ _ _ _ _ _ _ (λ broke is. broke (last.ensures.done is)) ended.ensures);
       seen = back.ensures.later;
-      all = λ other. back.ensures.same (not_failed back.result.1 last.result last.ensures.failed other);
+      all = λ other. back.ensures.same (not_failed back.result.2 last.result last.ensures.failed other);
+      said_is = λ other. back.ensures.asked (not_failed back.result.2 last.result last.ensures.failed other);
     }

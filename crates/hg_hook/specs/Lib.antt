@@ -1,0 +1,4 @@
+pub mod Policies
+pub mod Hooks
+pub mod Exchanges
+pub mod code

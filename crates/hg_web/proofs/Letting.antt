@@ -1,0 +1,32 @@
+-- A push that is let through, and one that is not.
+use Rattle.std.proofs.Common.{◌≡◌, ℕ, List, Option, Some, None, refl, sym, ap, subst, ◌∙◌}
+use Rattle.std.specs.Prelude.{Result, Ok, Err}
+use Rattle.hg_commit.specs.Clients.{KeptSeen}
+use Rattle.hg_hook.specs.declared.policy.Verdict.{Verdict}
+use Rattle.hg_http.specs.declared.answer.HttpAnswer.{HttpAnswer}
+use Rattle.hg_web.specs.Letting.{AnswersIfLet, denial_of, IfLet}
+use Rattle.hg_web.specs.Pushes.{Answered}
+
+module _ {A : Type 0} (asks : List ℕ → Verdict A → Type 0) (bundle : List ℕ)
+    (Pushes : KeptSeen A → HttpAnswer A → KeptSeen A → Type 0) (before : KeptSeen A)
+    (found : Option (HttpAnswer A)) (verdict : Verdict A) (asked : asks bundle verdict)
+    (says : found ≡ denial_of verdict)
+  where
+    -- it is not let through, and that is answered
+    pub denied : (answer : HttpAnswer A) → found ≡ Some answer → AnswersIfLet asks bundle Pushes before answer before
+    denied answer is = record {
+      verdict = verdict;
+      asked = asked;
+      answers = subst (λ d. IfLet d Pushes before answer before) (sym is ∙ says) (refl, refl);
+    }
+
+    -- it is let through, and runs
+    pub let_run : {E : Type 0} (result : Result (HttpAnswer A) E) (after : KeptSeen A) → found ≡ None →
+        Answered Pushes before result after →
+        Answered (λ b a n. AnswersIfLet asks bundle Pushes b a n) before result after
+    let_run (Ok answer) after is answered = record {
+      verdict = verdict;
+      asked = asked;
+      answers = subst (λ d. IfLet d Pushes before answer after) (sym is ∙ says) answered;
+    }
+    let_run (Err fault) after is answered = answered

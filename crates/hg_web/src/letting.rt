@@ -1,0 +1,93 @@
+//! Whether a push may run: it does, where it is let through.
+
+ghost use Rattle.std.specs.Prelude.{◌≡◌};
+ghost use Rattle.hg_push.specs.Reply.{reply_of};
+ghost use Rattle.hg_commit.specs.Clients.{IsCovered};
+ghost use Rattle.hg_hook.specs.Policies.{AsksOnce, HasAsked};
+ghost use Rattle.hg_web.specs.Answering.{AnswersPush};
+ghost use Rattle.hg_web.specs.Letting.{denial_of};
+ghost use Rattle.hg_web.specs.Pushes.{Answered, key_line};
+
+use crate::key::push_for_key;
+use crate::push::unbundle;
+use bytes::Bytes;
+use hg_commit::{KeptClient, NotStored, Storing};
+use hg_durable::Keeping;
+use hg_hook::{Policy, Verdict};
+use hg_http::{HttpAnswer, RequestRefusal};
+use hg_queries::Watch;
+use hg_store::Device;
+use std::alloc::Allocator;
+use std::sync::Wait;
+
+/// Pushes the bundle that is the body of a request, where it is let through.
+pub fn unbundle_if_let<
+    J: Storing<A>,
+    D: Device,
+    A: Allocator + Copy,
+    R: Wait,
+    V: Watch<A>,
+    P: Policy<A>,
+>(
+    keeping: &Keeping<'_, J, D, R, A>,
+    client: KeptClient<J, A>,
+    body: &Bytes,
+    watch: &mut V,
+    policy: &mut P,
+) -> (KeptClient<J, A>, Result<HttpAnswer<A>, NotStored>)
+    ensures answered { Answered (AnswersPush J.capacity J.first
+        (IsCovered D.seen D.may_leave D.moment J.head J.stored J.first)
+        (HasAsked (P.asked policy.old) (P.asked policy.new)) body.now reply_of) client result.1 result.0 }
+    ensures asks { AsksOnce (P.asked policy.old) (P.asked policy.new) }
+{
+    match ask(policy, body.as_slice()) {
+        Some(denial) => (client, Ok(denial)),
+        None => unbundle(keeping, client, body, watch),
+    }
+}
+
+/// Pushes a bundle that sets a key, where it is let through.
+pub fn push_key_if_let<
+    J: Storing<A>,
+    D: Device,
+    A: Allocator + Copy,
+    R: Wait,
+    V: Watch<A>,
+    P: Policy<A>,
+>(
+    keeping: &Keeping<'_, J, D, R, A>,
+    client: KeptClient<J, A>,
+    bundle: &[u8],
+    watch: &mut V,
+    policy: &mut P,
+) -> (KeptClient<J, A>, Result<HttpAnswer<A>, NotStored>)
+    ensures answered { Answered (AnswersPush J.capacity J.first
+        (IsCovered D.seen D.may_leave D.moment J.head J.stored J.first)
+        (HasAsked (P.asked policy.old) (P.asked policy.new)) bundle.now key_line) client result.1 result.0 }
+    ensures asks { AsksOnce (P.asked policy.old) (P.asked policy.new) }
+{
+    match ask(policy, bundle) {
+        Some(denial) => (client, Ok(denial)),
+        None => push_for_key(keeping, client, bundle, watch),
+    }
+}
+
+/// Asks whether the push of a bundle may run. Where it may not, that is answered.
+fn ask<P: Policy<A>, A: Allocator>(policy: &mut P, bundle: &[u8]) -> Option<HttpAnswer<A>>
+    ensures { (verdict : Verdict A) × HasAsked (P.asked policy.old) (P.asked policy.new) bundle.now verdict
+        × (result ≡ denial_of verdict) }
+{
+    denial_of(policy.let_through(None, bundle))
+}
+
+/// What is answered where a push may not run.
+fn denial_of<A: Allocator>(verdict: Verdict<A>) -> Option<HttpAnswer<A>>
+    ensures { result ≡ denial_of verdict }
+{
+    match verdict {
+        Verdict::LetThrough => None,
+        Verdict::Refused(why) => Some(HttpAnswer::NotLet(why)),
+        Verdict::NoAnswer => Some(HttpAnswer::Refused(RequestRefusal::NoHook)),
+        Verdict::NoMemory => Some(HttpAnswer::Refused(RequestRefusal::NoMemory)),
+    }
+}
