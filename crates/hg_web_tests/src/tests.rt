@@ -30,7 +30,8 @@ use hg_serve::{Point, Probe, Server};
 use hg_store::{Device, Log, recover};
 use hg_types::{NoMemory, Seq};
 use hg_web::{
-    Address, Budget, ConnectionEnd, Shown, Verdict, ViewCache, Watch, WatchedPush, WebTerms, serve_http,
+    Address, Budget, ConnectionEnd, Shown, Verdict, ViewCache, Watch, WatchedPush, WebTerms,
+    serve_http,
 };
 use std::alloc::{AllocFailed, Allocator, Global};
 use std::hash::RandomState;
