@@ -394,8 +394,7 @@ struct Came {
     is_held: bool,
 }
 
-/// Reads once, at most up to the end of a request. Where the input ends within a body the connection is not told, which
-/// would take it for a wrong request.
+/// Reads once, at most up to the end of a request.
 fn read_on<R: Wait, I: BufRead>(
     rt: &R,
     connection: &mut Connection,
@@ -410,20 +409,32 @@ fn read_on<R: Wait, I: BufRead>(
     ensures config { config_of connection.new ≡ config_of connection.old }
 {
     let bytes = reader.fill_buf()?;
-    if bytes.is_empty() && follower.is_in_body() {
-        return Ok(Came {
-            is_whole: false,
-            is_held: false,
-        });
-    }
     let (found, count) = follower.follow(bytes);
-    let is_held = give(connection, &bytes[..count]);
+    let is_held = pass_on(connection, follower, &bytes[..count]);
     reader.consume(count);
     share.grow(rt, count);
     Ok(Came {
         is_whole: is_end(found),
         is_held,
     })
+}
+
+/// Gives bytes to a connection, and says whether there was memory for all of them. That the input ends within a body it
+/// is not told: it would answer that this is no request.
+fn pass_on(connection: &mut Connection, follower: &Follower, bytes: &[u8]) -> bool
+    ensures given { (given left : List ℕ) × (bytes.now ≡ given ++ left)
+        × HasRead (history connection.old) (history connection.new) given × (result ≡ true → left ≡ []) }
+    ensures config { config_of connection.new ≡ config_of connection.old }
+{
+    match ends_early(follower, bytes) {
+        true => false,
+        false => give(connection, bytes),
+    }
+}
+
+/// Whether nothing came, within a body.
+fn ends_early(follower: &Follower, bytes: &[u8]) -> bool {
+    bytes.is_empty() && follower.is_in_body()
 }
 
 /// Whether a request ends there.

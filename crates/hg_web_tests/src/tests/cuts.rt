@@ -17,7 +17,7 @@ const BROKEN: ConnectionEnd = ConnectionEnd::Failed(std::io::ErrorKind::Unexpect
 
 /// What is answered to such a part of a request, and how the connection ends.
 fn answer_to(part: &[u8]) -> (&'static [u8], ConnectionEnd) {
-    match part.windows(4).any(|bytes| bytes == b"\r\n\r\n") {
+    match part.windows(4).any(|bytes| bytes == b"\r\n\r\n".as_slice()) {
         true => (LOST, BROKEN),
         false => (TRUNCATED, ConnectionEnd::Done),
     }

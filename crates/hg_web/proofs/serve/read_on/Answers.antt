@@ -15,7 +15,7 @@ returns-clause-ok g c =
     c.in_ok-bytes.was c.fill_buf.follows.holds-at-none in
     let moved = Consumes_shown _ _ _ _ shown count (found_within _ _ _ _ _ c.follow-found.ensures.1)
     c.in_ok-bytes.ensures.front c.in_ok-bytes.ensures.end filled.0 filled.1 c.consume.ensures.bytes in
-    let given = c.give-is_held.ensures.given in
+    let given = c.pass_on-is_held.ensures.given in
     record {
       given = given.0;
       dropped = given.1;
