@@ -1,7 +1,8 @@
 //! A policy that asks a hook.
 
 ghost use Rattle.std.specs.Prelude.{◌≡◌};
-ghost use Rattle.hg_hook.specs.Hooks.{verdict_of};
+ghost use Rattle.hg_hook.specs.Hooks.{asked_by, verdict_of};
+ghost use Rattle.hg_hook.specs.Policies.{HasAsked};
 
 use crate::answer::HookAnswer;
 use crate::policy::{Policy, Verdict};
@@ -46,13 +47,23 @@ impl<L> Hook<L> {
     }
 }
 
+impl<L: HookLine> Hook<L> {
+    /// Asks whether the push of this bundle may run.
+    fn ask(&mut self, user: Option<&[u8]>, bundle: &[u8]) -> Verdict
+        ensures { HasAsked (asked_by (L.exchanged self.old.line)) (asked_by (L.exchanged self.new.line)) bundle.now
+            result }
+    {
+        verdict_of(self.line.ask(user, bundle))
+    }
+}
+
 impl<L: HookLine> Policy<Global> for Hook<L> {
     ghost use Rattle.hg_hook.specs.Hooks.{asked_by};
 
     ghost asked = { λ hook. asked_by (L.exchanged hook.line) };
 
     fn let_through(&mut self, user: Option<&[u8]>, bundle: &[u8]) -> Verdict {
-        verdict_of(self.line.ask(user, bundle))
+        self.ask(user, bundle)
     }
 }
 

@@ -130,12 +130,16 @@ fn answers_of_a_hook(rt: HostRuntime) {
 fn questions_by_users(rt: HostRuntime) {
     let alloc = rt.alloc();
     let ok = b"HTTP/1.1 200 OK\r\ncontent-length: 0\r\n\r\n".as_slice();
-    let by = |user: &'static [u8]| HookQuestion {
-        user: Some(user),
+    let by_ann = HookQuestion {
+        user: Some(b"ann"),
         ..QUESTION
     };
-    assert!(rt; answered(alloc, &by(b"ann"), ok, SENT_BY).is_some());
-    assert!(rt; answered(alloc, &by(b"a\r\nb"), ok, b"").is_none());
+    let by_none = HookQuestion {
+        user: Some(b"a\r\nb"),
+        ..QUESTION
+    };
+    assert!(rt; answered(alloc, &by_ann, ok, SENT_BY).is_some());
+    assert!(rt; answered(alloc, &by_none, ok, b"").is_none());
 }
 
 // What is no whole answer is none.
