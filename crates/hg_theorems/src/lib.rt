@@ -15,5 +15,5 @@ mod values;
 
 pub use values::{
     advances_lower_ancestors, bytes_are_below_256, ids_are_known_by_their_rows,
-    marked_bookmarks_come_back, marked_phases_come_back,
+    saved_bookmarks_come_back, saved_phases_come_back,
 };

@@ -54,9 +54,9 @@ pub fn bytes_are_below_256()
     ensures { (bytes : List ℕ) → IsBytes bytes ↔ All (λ byte. byte < 256) bytes }
 {}
 
-/// Phases that are marked, advanced and taken back are those of before, whether the advance was made or memory
-/// was refused for it, and the mark is spent. So a mark is one that can be gone back to.
-pub fn marked_phases_come_back<A: Allocator + Copy>(
+/// Phases that are saved, advanced and rolled back are those of before, whether the advance was made or memory
+/// was refused for it, and the savepoint is spent. So a savepoint is one that can be gone back to.
+pub fn saved_phases_come_back<A: Allocator + Copy>(
     alloc: A,
     log: &Changelog<A>,
     phases: &mut Phases<A>,
@@ -66,24 +66,24 @@ pub fn marked_phases_come_back<A: Allocator + Copy>(
     requires heads { All (λ head. head < length phases.old.current.phases) heads.now }
     requires fits { AreFor log.now.rows phases.old.current }
     ensures back { phases.new.current ≡ phases.old.current }
-    ensures spent { phases.new.marked ≡ None }
+    ensures spent { phases.new.saved ≡ None }
 {
-    let mark = phases.mark();
+    let savepoint = phases.savepoint();
     let _advanced = phases.advance(alloc, log, target, heads);
-    phases.back_to(mark);
+    phases.back_to(savepoint);
 }
 
 /// The same of bookmarks, of which one is set or deleted in between.
-pub fn marked_bookmarks_come_back<A: Allocator + Copy>(
+pub fn saved_bookmarks_come_back<A: Allocator + Copy>(
     alloc: A,
     bookmarks: &mut Bookmarks<A>,
     name: &[u8],
     node: Option<NodeId>,
 )
     ensures back { bookmarks.new.current ≡ bookmarks.old.current }
-    ensures spent { bookmarks.new.marked ≡ None }
+    ensures spent { bookmarks.new.saved ≡ None }
 {
-    let mark = bookmarks.mark();
+    let savepoint = bookmarks.savepoint();
     let _set = bookmarks.set(alloc, name, node);
-    bookmarks.back_to(mark);
+    bookmarks.back_to(savepoint);
 }
