@@ -6,4 +6,4 @@ mod Later
 mod Fronts
 mod Stretches
 mod Bodies
-mod Letting
+mod Lettings

@@ -1,5 +1,5 @@
 use Rattle.std.proofs.Common.{inr}
-use Rattle.hg_web.proofs.Letting.{denied, let_run}
+use Rattle.hg_web.proofs.Lettings.{denied, let_run}
 use Rattle.hg_web.proofs.letting.unbundle_if_let.Goals as goal
 
 pub returns-in-Some-clause-answered : goal.returns-in-Some-clause-answered
