@@ -23,7 +23,7 @@ use hg_push::Outcome;
 use hg_push::laws::journals_grow;
 use hg_queue::{PartQueue, Taker};
 use hg_repo::{Done, Refusal, Repo};
-use hg_serve::{Closed, NoGate, Server};
+use hg_serve::{Closed, NoProbe, Server};
 use hg_store::{Device, Log, Sealed};
 use hg_stream::Unbundler;
 use hg_stream::laws::streams_are_settled_once;
@@ -113,10 +113,10 @@ fn push_part<J: Storing<Global>, D: Device + Drop, R: Wait + Abort>(
         &mut inbox,
         &mut reader,
         &mut kept,
-        &mut NoGate,
+        &mut NoProbe,
     );
-    let ended = mark(server, rt, sender, ending, &mut NoGate);
-    let (answer, rests, client) = server.answer_resting(rt, ended, &mut NoGate);
+    let ended = mark(server, rt, sender, ending, &mut NoProbe);
+    let (answer, rests, client) = server.answer_resting(rt, ended, &mut NoProbe);
     let client = KeptClient::of(client, receipt);
     let record = record_of(&answer.outcome, kept);
     let (client, stored) = keep(rt, server, ledger, client, room, rests, record);

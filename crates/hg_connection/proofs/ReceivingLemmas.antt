@@ -1,4 +1,4 @@
--- Lemmas for callers: a bundle is received turn by turn, and what is put of it.
+-- Lemmas for callers: a bundle is received read by read, and what is put of it.
 use Rattle.std.proofs.Common.{ℕ, ◌≡◌, ◌≢◌, ◌≤◌, ◌+◌, inl, inr, List, [], ◌∷◌, ◌++◌, refl, ◌∙◌, ap, arith, rules}
 use Rattle.std.proofs.Common.{length, Option, None, Some}
 use Rattle.std.proofs.lemmas.List.{append-nil}
@@ -132,7 +132,7 @@ pub ends_refused : {A : Type 0} (limits : Limits) (waited : List ℕ) (input : I
 ends_refused limits waited input fed before left u given r some few =
     refuse limits waited input fed before left u given r some few
 
--- what a turn makes of it: those that waited were fed
+-- what a read makes of it: those that waited were fed
 pub turn_made : {A : Type 0} (limits : Limits) (waited : List ℕ) (input : Input) (fed before after : List ℕ)
     (left : Input) (u v : Unbundler A) (given : List (Part A)) (result : Option BundleEnd)
     → IsReceiving limits waited input fed before left u given → 1 ≤ length before → FeedsFront u v before after
@@ -145,7 +145,7 @@ abbrev pub PartsAreFew : Type 0 → Type 0
 PartsAreFew A = (limits : Limits) (state : State) (bytes : List ℕ) (parts : List (Part A))
     → StateTells state limits bytes parts → length parts ≤ limits.parts
 
--- no more parts are ready after a turn, with those before them, than the limit on parts
+-- no more parts are ready after a read, with those before them, than the limit on parts
 pub parts_few : {A : Type 0} → PartsAreFew A → (limits : Limits) (waited : List ℕ) (input : Input)
     (fed waiting : List ℕ) (left : Input) (u : Unbundler A) (given : List (Part A)) (result : Option BundleEnd)
     → Turned limits waited input fed waiting left u given result

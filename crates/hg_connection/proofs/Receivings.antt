@@ -1,4 +1,4 @@
--- One more turn of a bundle.
+-- One more read of a bundle.
 use Rattle.std.proofs.Common.{ℕ, ◌≡◌, ◌≢◌, ◌≤◌, ◌-◌, inl, inr, List, [], ◌∷◌, ◌++◌, refl, sym, ◌∙◌}
 use Rattle.std.proofs.Common.{ap, subst, arith, length, take, Some, None}
 use Rattle.std.proofs.lemmas.List.{append-nil, length-append}

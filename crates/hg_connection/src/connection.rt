@@ -14,24 +14,24 @@ use crate::coming::{Next, next_bundle};
 use crate::device::{Reader, Writer};
 use crate::inbox::Inbox;
 use crate::marking::mark;
-use crate::receiving::turn;
+use crate::receiving::read_on;
 use crate::reply::send_reply;
 use crate::served::{ConnFault, Round, Served};
 use hg_parts::hash_ahead;
 use hg_push::laws::replies_are_short;
-use hg_serve::{Client, Gate, Naming, Point, Sender, Server};
+use hg_serve::{Client, Naming, Point, Probe, Sender, Server};
 use hg_stream::Unbundler;
 use hg_stream::laws::{parts_are_few, streams_are_settled_once};
 use std::alloc::Allocator;
 use std::sync::Wait;
 
 /// Puts the parts that the bundle has finished. What can be hashed of them is hashed here, where no other waits.
-pub(crate) fn put_ready<J: Naming<A>, A: Allocator + Copy, R: Wait, G: Gate>(
+pub(crate) fn put_ready<J: Naming<A>, A: Allocator + Copy, R: Wait, G: Probe>(
     server: &Server<J, A>,
     rt: &R,
     sender: &mut Sender<J, A>,
     bundle: &mut Unbundler<A>,
-    gate: &mut G,
+    probe: &mut G,
 )
     requires { length sender.old.putter.put + length (ready_of bundle.old) ≤ 10000 }
     ensures put { PutsParts sender.old sender.new (ready_of bundle.old) }
@@ -41,7 +41,7 @@ pub(crate) fn put_ready<J: Naming<A>, A: Allocator + Copy, R: Wait, G: Gate>(
     ensures limits { limits_of bundle.new ≡ limits_of bundle.old }
 {
     'parts: while let Some(part) = bundle.next_part() {
-        match server.put(rt, sender, hash_ahead(part), gate) {
+        match server.put(rt, sender, hash_ahead(part), probe) {
             Ok(()) => {}
             // the reader of bundles refuses more parts than a push may have
             Err(_) => unreachable!(),
@@ -50,15 +50,15 @@ pub(crate) fn put_ready<J: Naming<A>, A: Allocator + Copy, R: Wait, G: Gate>(
 }
 
 /// Receives a bundle up to its end mark, a fault, the end of the input or a failed read, and puts its parts.
-/// Where no byte waits, a turn reads up to 4,096 bytes.
-fn receive<J: Naming<A>, A: Allocator + Copy, R: Wait, I: Reader, G: Gate>(
+/// Where no byte waits, a call of `read_on` reads up to 4,096 bytes.
+fn receive<J: Naming<A>, A: Allocator + Copy, R: Wait, I: Reader, G: Probe>(
     server: &Server<J, A>,
     rt: &R,
     sender: &mut Sender<J, A>,
     bundle: &mut Unbundler<A>,
     inbox: &mut Inbox,
     reader: &mut I,
-    gate: &mut G,
+    probe: &mut G,
 ) -> BundleEnd
     requires bundle { IsFresh server.now bundle.old }
     requires sender { sender.old.putter.put ≡ [] }
@@ -70,8 +70,8 @@ fn receive<J: Naming<A>, A: Allocator + Copy, R: Wait, I: Reader, G: Gate>(
     parts_are_few::<A>();
     let most = server.limits().stream;
     'turns: for _turn in 0..=most {
-        let ended = turn(bundle, inbox, reader);
-        put_ready(server, rt, sender, bundle, gate);
+        let ended = read_on(bundle, inbox, reader);
+        put_ready(server, rt, sender, bundle, probe);
         match ended {
             None => {}
             Some(ending) => return ending,
@@ -82,7 +82,7 @@ fn receive<J: Naming<A>, A: Allocator + Copy, R: Wait, I: Reader, G: Gate>(
 
 /// Serves one bundle on a push that was opened: receives it, puts its mark, waits for its answer and sends
 /// the reply.
-fn serve_bundle<J: Naming<A>, A: Allocator + Copy, R: Wait, I: Reader, W: Writer, G: Gate>(
+fn serve_bundle<J: Naming<A>, A: Allocator + Copy, R: Wait, I: Reader, W: Writer, G: Probe>(
     server: &Server<J, A>,
     rt: &R,
     alloc: A,
@@ -91,7 +91,7 @@ fn serve_bundle<J: Naming<A>, A: Allocator + Copy, R: Wait, I: Reader, W: Writer
     inbox: &mut Inbox,
     reader: &mut I,
     writer: &mut W,
-    gate: &mut G,
+    probe: &mut G,
 ) -> (Client<J, A>, Round<A>)
     requires bundle { IsFresh server.now bundle.old }
     requires sender { (sender.putter.put ≡ []) × (of sender.putter.push (items_of sender.history) ≡ []) }
@@ -108,9 +108,9 @@ fn serve_bundle<J: Naming<A>, A: Allocator + Copy, R: Wait, I: Reader, W: Writer
     replies_are_short::<A>();
     // for the proof: the limits are those of the first repository
     let _limits = server.limits();
-    let ending = receive(server, rt, &mut sender, bundle, inbox, reader, gate);
-    let ended = mark(server, rt, sender, ending, gate);
-    let (answer, client) = server.answer(rt, ended, gate);
+    let ending = receive(server, rt, &mut sender, bundle, inbox, reader, probe);
+    let ended = mark(server, rt, sender, ending, probe);
+    let (answer, client) = server.answer(rt, ended, probe);
     let (sending, written) = send_reply(alloc, writer, &answer.outcome);
     let round = Round {
         answer,
@@ -129,7 +129,7 @@ fn serve_bundle<J: Naming<A>, A: Allocator + Copy, R: Wait, I: Reader, W: Writer
 /// connection ends after `most` bundles, at an end of the input with no byte of a next bundle, and at the
 /// first [`ConnFault`]. A push that the repository refuses is answered as any other. A bundle that holds a
 /// fault, and one that a read broke, is answered too, and its reply sent.
-pub fn serve_connection<J: Naming<A>, A: Allocator + Copy, R: Wait, I: Reader, W: Writer, G: Gate>(
+pub fn serve_connection<J: Naming<A>, A: Allocator + Copy, R: Wait, I: Reader, W: Writer, G: Probe>(
     server: &Server<J, A>,
     rt: &R,
     alloc: A,
@@ -137,7 +137,7 @@ pub fn serve_connection<J: Naming<A>, A: Allocator + Copy, R: Wait, I: Reader, W
     reader: &mut I,
     writer: &mut W,
     most: u32,
-    gate: &mut G,
+    probe: &mut G,
 ) -> (Client<J, A>, Served<A>)
     requires { (1 ≤ most) × (most ≤ 10000) }
     ensures { Connects server.now J.capacity J.first most (I.told reader.old) (I.told reader.new)
@@ -158,7 +158,7 @@ pub fn serve_connection<J: Naming<A>, A: Allocator + Copy, R: Wait, I: Reader, W
             Ok(sender) => sender,
             Err((back, fault)) => return (back, served.failed(ConnFault::Open(fault))),
         };
-        gate.at(Point::Opened);
+        probe.at(Point::Opened);
         let (seen, round) = serve_bundle(
             server,
             rt,
@@ -168,7 +168,7 @@ pub fn serve_connection<J: Naming<A>, A: Allocator + Copy, R: Wait, I: Reader, W
             &mut inbox,
             reader,
             writer,
-            gate,
+            probe,
         );
         client = seen;
         served = served.more(number, round);

@@ -11,7 +11,7 @@ use crate::bundle_end::BundleEnd;
 use crate::connection::put_ready;
 use crate::device::Reader;
 use crate::inbox::Inbox;
-use hg_serve::{Gate, Naming, Sender, Server};
+use hg_serve::{Naming, Probe, Sender, Server};
 use hg_stream::laws::parts_are_few;
 use hg_stream::{StreamFault, Unbundler};
 use hg_types::NoMemory;
@@ -49,7 +49,7 @@ impl<A: Allocator> Keep for Vec<u8, A> {
 /// Receives a bundle as [`crate::serve_connection`] does, puts its parts, and keeps its bytes: of a bundle
 /// that was read to its end mark these are all of them, from its magic to its end mark, and no others. Where
 /// memory is refused for some of them, these are not fed, and the ending is out of memory.
-pub fn receive_kept<J: Naming<A>, A: Allocator + Copy, R: Wait, I: Reader, K: Keep, G: Gate>(
+pub fn receive_kept<J: Naming<A>, A: Allocator + Copy, R: Wait, I: Reader, K: Keep, G: Probe>(
     server: &Server<J, A>,
     rt: &R,
     sender: &mut Sender<J, A>,
@@ -57,7 +57,7 @@ pub fn receive_kept<J: Naming<A>, A: Allocator + Copy, R: Wait, I: Reader, K: Ke
     inbox: &mut Inbox,
     reader: &mut I,
     kept: &mut K,
-    gate: &mut G,
+    probe: &mut G,
 ) -> BundleEnd
     requires bundle { IsFresh server.now bundle.old }
     requires sender { sender.old.putter.put ≡ [] }
@@ -78,7 +78,7 @@ pub fn receive_kept<J: Naming<A>, A: Allocator + Copy, R: Wait, I: Reader, K: Ke
             return BundleEnd::Fault(StreamFault::NoMemory);
         }
         let ended = inbox.feed(bundle);
-        put_ready(server, rt, sender, bundle, gate);
+        put_ready(server, rt, sender, bundle, probe);
         match ended {
             None => {}
             Some(ending) => {

@@ -1,4 +1,4 @@
-//! One turn of receiving a bundle.
+//! One read of a bundle.
 
 ghost use Rattle.std.specs.Prelude.{◌≡◌, Some};
 ghost use Rattle.hg_stream.specs.Unbundler.{limits_of, state_of};
@@ -14,7 +14,7 @@ use std::alloc::Allocator;
 
 /// Reads once, if no bytes wait, and feeds those that wait. Says why no more is read of the bundle, if no more
 /// is: where it goes on, at least a byte was fed.
-pub fn turn<A: Allocator + Copy, I: Reader>(
+pub fn read_on<A: Allocator + Copy, I: Reader>(
     bundle: &mut Unbundler<A>,
     inbox: &mut Inbox,
     reader: &mut I,

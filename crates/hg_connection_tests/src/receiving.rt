@@ -1,7 +1,7 @@
 //! What no contract says: bytes that came from outside, in pieces, whole replies to a writer in memory, and
 //! that out of memory is answered where there is none.
 
-use hg_connection::{BundleEnd, Inbox, Sending, cut_of, send_reply, turn};
+use hg_connection::{BundleEnd, Inbox, Sending, cut_of, read_on, send_reply};
 use hg_help_tests::bundles::{EMPTY, RACE};
 use hg_help_tests::devices::{Sink, Source};
 use hg_push::{Outcome, Reason};
@@ -142,10 +142,10 @@ fn turns_of_a_bundle(rt: HostRuntime) -> Result<(), Fail> {
         let mut inbox = Inbox::new();
         let mut bundle = Unbundler::new(alloc, Limits::standard());
         for _turn in 0..turns {
-            assert_eq!(rt; turn(&mut bundle, &mut inbox, &mut reader), None);
+            assert_eq!(rt; read_on(&mut bundle, &mut inbox, &mut reader), None);
             assert!(rt; inbox.is_empty());
         }
-        assert_eq!(rt; turn(&mut bundle, &mut inbox, &mut reader), Some(ending));
+        assert_eq!(rt; read_on(&mut bundle, &mut inbox, &mut reader), Some(ending));
         let mut count = 0usize;
         for _part in 0..2usize {
             if bundle.next_part().is_some() {

@@ -23,7 +23,7 @@ use hg_help_tests::bundles::{EMPTY, INTERRUPTED_ROOT, ROOT, ROOT_REPLY};
 use hg_help_tests::devices::{Sink, Source};
 use hg_queue::{PartQueue, Taker};
 use hg_repo::Repo;
-use hg_serve::{Naming, NoGate, Server};
+use hg_serve::{Naming, NoProbe, Server};
 use hg_stream::StreamFault;
 use hg_types::{Limits, Settings};
 use std::alloc::{AllocFailed, Allocator, Global};
@@ -101,7 +101,7 @@ fn connect<J: Naming<A>, A: Allocator + Copy, R: RandomSource + Wait + Abort, I:
         reader,
         writer,
         most,
-        &mut NoGate,
+        &mut NoProbe,
     );
     match clients.push(client) {
         Ok(()) => {}

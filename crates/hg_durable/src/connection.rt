@@ -16,7 +16,7 @@ use hg_connection::{Inbox, Keep, Reader, Writer, mark, receive_kept, send_reply}
 use hg_push::laws::{journals_grow, replies_are_short};
 use hg_push::{OpenFault, Outcome};
 use hg_repo::{Done, Refusal};
-use hg_serve::{Gate, Sender, Server};
+use hg_serve::{Probe, Sender, Server};
 use hg_store::{Device, Sealed};
 use hg_stream::Unbundler;
 use hg_stream::laws::parts_are_few;
@@ -129,7 +129,7 @@ pub fn keep_bundle<
     R: Wait,
     I: Reader,
     K: Recorder<A>,
-    G: Gate,
+    G: Probe,
 >(
     keeping: &Keeping<'_, J, D, R, A>,
     opened: OpenedKept<J, A>,
@@ -137,7 +137,7 @@ pub fn keep_bundle<
     inbox: &mut Inbox,
     reader: &mut I,
     mut recorder: K,
-    gate: &mut G,
+    probe: &mut G,
 ) -> KeptRound<J, D, A>
     requires bundle { IsFresh keeping.now.server.now bundle.old }
     requires recorder { K.kept recorder ≡ [] }
@@ -168,10 +168,10 @@ pub fn keep_bundle<
         inbox,
         reader,
         &mut recorder,
-        gate,
+        probe,
     );
-    let ended = mark(keeping.server, keeping.rt, sender, ending, gate);
-    let (answer, rests, client) = keeping.server.answer_resting(keeping.rt, ended, gate);
+    let ended = mark(keeping.server, keeping.rt, sender, ending, probe);
+    let (answer, rests, client) = keeping.server.answer_resting(keeping.rt, ended, probe);
     let client = KeptClient::of(client, receipt);
     let record = record_of(&answer.outcome, recorder);
     let kept = keeping

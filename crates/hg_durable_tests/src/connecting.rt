@@ -4,7 +4,7 @@ use hg_commit::{KeptClient, Storing};
 use hg_connection::{BundleEnd, Inbox, Reader, Sending, Writer};
 use hg_durable::{Keeping, KeptRound, Replied, keep_bundle, open_kept, reply_kept};
 use hg_push::OpenFault;
-use hg_serve::{Gate, Point};
+use hg_serve::{Point, Probe};
 use hg_store::Device;
 use hg_stream::{StreamFault, Unbundler};
 use std::alloc::Allocator;
@@ -40,14 +40,14 @@ pub fn connect_kept<
     R: Wait,
     I: Reader,
     W: Writer,
-    G: Gate,
+    G: Probe,
 >(
     keeping: &Keeping<'_, J, D, R, A>,
     client: KeptClient<J, A>,
     reader: &mut I,
     writer: &mut W,
     most: u32,
-    gate: &mut G,
+    probe: &mut G,
 ) -> (KeptClient<J, A>, Connected) {
     let mut client = client;
     let mut inbox = Inbox::new();
@@ -72,7 +72,7 @@ pub fn connect_kept<
                 return (back, so_far);
             }
         };
-        gate.at(Point::Opened);
+        probe.at(Point::Opened);
         let mut bundle = Unbundler::new(keeping.alloc, *keeping.server.limits());
         let round = keep_bundle(
             keeping,
@@ -81,7 +81,7 @@ pub fn connect_kept<
             &mut inbox,
             reader,
             Vec::new(keeping.alloc),
-            gate,
+            probe,
         );
         let (replied, written) = reply_kept(keeping.alloc, &round, writer);
         let KeptRound {

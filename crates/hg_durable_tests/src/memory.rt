@@ -14,7 +14,7 @@ use hg_help_store_tests::device::Memory;
 use hg_push::OpenFault;
 use hg_queue::{PartQueue, Taker};
 use hg_repo::Repo;
-use hg_serve::{Client, Gate, NoGate, Point, Server};
+use hg_serve::{Client, NoProbe, Point, Probe, Server};
 use hg_store::{Device, Log, read_records};
 use hg_stream::StreamFault;
 use linked_list_allocator::LocalHeap;
@@ -34,7 +34,7 @@ struct Hoarder<'a> {
     answers: usize,
 }
 
-impl Gate for Hoarder<'_> {
+impl Probe for Hoarder<'_> {
     fn at(&mut self, point: Point) {
         if !matches!(point, Point::Answered) {
             return;
@@ -68,14 +68,14 @@ struct Told {
 
 /// Serves one connection by a new client, and gives that client, how many bundles were answered, and why it ended
 /// early.
-fn serve_one<J: Storing<A>, A: Allocator + Copy, R: Wait + Abort, G: Gate>(
+fn serve_one<J: Storing<A>, A: Allocator + Copy, R: Wait + Abort, G: Probe>(
     rt: &R,
     global: Global,
     alloc: A,
     server: &Server<J, A>,
     ledger: &Ledger<J, Memory, A>,
     input: &[u8],
-    gate: &mut G,
+    probe: &mut G,
 ) -> (Client<J, A>, u32, Option<Fault>) {
     let mut reader = Source {
         bytes: input,
@@ -89,7 +89,7 @@ fn serve_one<J: Storing<A>, A: Allocator + Copy, R: Wait + Abort, G: Gate>(
         alloc,
     };
     let client = KeptClient::new(client_of(rt, server));
-    let (client, served) = connect_kept(&keeping, client, &mut reader, &mut writer, 9, gate);
+    let (client, served) = connect_kept(&keeping, client, &mut reader, &mut writer, 9, probe);
     let (client, _receipt) = client.into_parts();
     let (bundles, fault) = (served.bundles, served.fault);
     drop(served);
@@ -110,7 +110,7 @@ fn add<J: Storing<A>, A: Allocator, R: Abort>(
 
 /// Serves one connection over a heap. `None` where no ledger was made. A call can pick a name only where no bound
 /// names a lifetime, so what serves under a name knows a heap as an allocator alone.
-fn connected<J: Storing<A>, A: Allocator + Copy, R: Wait + Abort, G: Gate>(
+fn connected<J: Storing<A>, A: Allocator + Copy, R: Wait + Abort, G: Probe>(
     rt: &R,
     global: Global,
     alloc: A,
@@ -120,7 +120,7 @@ fn connected<J: Storing<A>, A: Allocator + Copy, R: Wait + Abort, G: Gate>(
     log: Log<Memory>,
     tally: Promises<A>,
     input: &[u8],
-    gate: &mut G,
+    probe: &mut G,
 ) -> Option<Told>
     requires begins { OpensWith J.table J.capacity J.first queue taker repo }
     requires settled { IsSettled ⟦<Memory as Device>⟧.seen ⟦<Memory as Device>⟧.may_leave J.head J.stored log }
@@ -134,7 +134,7 @@ fn connected<J: Storing<A>, A: Allocator + Copy, R: Wait + Abort, G: Gate>(
     let parts = match Ledger::new(alloc, log, witnesses, tally) {
         Ok(ledger) => {
             let (client, bundles, fault) = serve_one(
-                rt, global, alloc, &server, &ledger, input, gate,
+                rt, global, alloc, &server, &ledger, input, probe,
             );
             add(rt, &mut clients, client);
             told = Some((bundles, fault));
@@ -190,12 +190,12 @@ fn pushes_of<R: Abort>(rt: &R, alloc: Global, pushes: u8, markers: u8) -> Vec<u8
 }
 
 /// The same of a server that has no push yet, where these bundles come.
-fn told_of<R: Wait + RandomSource + Abort, G: Gate>(
+fn told_of<R: Wait + RandomSource + Abort, G: Probe>(
     rt: &R,
     alloc: Global,
     heap: &LocalHeap,
     bundles: &[u8],
-    gate: &mut G,
+    probe: &mut G,
 ) -> Option<Told> {
     let Ok((queue, taker)) = PartQueue::new(heap, 1) else {
         return None;
@@ -208,7 +208,7 @@ fn told_of<R: Wait + RandomSource + Abort, G: Gate>(
         panic!(rt; "no store");
     };
     connected::<Brand, _, R, G>(
-        rt, alloc, heap, queue, taker, repo, log, tally, bundles, gate,
+        rt, alloc, heap, queue, taker, repo, log, tally, bundles, probe,
     )
 }
 
@@ -240,13 +240,13 @@ fn a_done_push_is_kept_without_memory(rt: HostRuntime) -> Result<(), Fail> {
     let bundles = pushes_of(&rt, rt.alloc(), 5, 1);
     for answers in 1..5usize {
         let heap = LocalHeap::new(rt.alloc(), 1 << 16)?;
-        let mut gate = Hoarder {
+        let mut probe = Hoarder {
             heap: &heap,
             blocks: Vec::new(rt.alloc()),
             answers,
         };
-        let told = told_of(&rt, rt.alloc(), &heap, &bundles, &mut gate);
-        drop(gate);
+        let told = told_of(&rt, rt.alloc(), &heap, &bundles, &mut probe);
+        drop(probe);
         assert!(rt; is_kept(told, answers), "{answers} answers");
     }
     Ok(())
@@ -282,7 +282,7 @@ fn each_growth_is_refused(rt: HostRuntime) -> Result<(), Fail> {
         let bundle = pushes_of(&rt, rt.alloc(), 1, markers);
         for sixteens in 1..1024usize {
             let heap = LocalHeap::new(rt.alloc(), sixteens * 16)?;
-            let told = told_of(&rt, rt.alloc(), &heap, &bundle, &mut NoGate);
+            let told = told_of(&rt, rt.alloc(), &heap, &bundle, &mut NoProbe);
             seen[came_of(told)] = true;
         }
     }

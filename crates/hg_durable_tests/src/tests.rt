@@ -15,7 +15,7 @@ use hg_help_serve_tests::{Open, client_of, close_two, marker, new_log, one_part,
 use hg_help_store_tests::device::Memory;
 use hg_queue::{PartQueue, Taker};
 use hg_repo::Repo;
-use hg_serve::{Closed, NoGate, Server};
+use hg_serve::{Closed, NoProbe, Server};
 use hg_store::{Device, Log};
 use std::alloc::Global;
 use std::hash::RandomState;
@@ -117,7 +117,7 @@ fn connect<'a, J: Storing<Global>, D: Device + Drop, R: Wait + Abort>(
         &mut reader,
         &mut writer,
         250,
-        &mut NoGate,
+        &mut NoProbe,
     );
     assert!(rt; served.written == writer.len() as u64);
     grows(rt, &told.done, done_replies(&writer));
@@ -181,7 +181,7 @@ fn push_twice<J: Storing<Global>, R: Wait + Abort>(
         &mut reader,
         &mut writer,
         9,
-        &mut NoGate,
+        &mut NoProbe,
     );
     (client, done_replies(&writer))
 }

@@ -1,6 +1,6 @@
 //! Who watches a connection: how long each push took, and a line for it.
 
-use hg_serve::{Gate, Point};
+use hg_serve::{Point, Probe};
 use hg_status::{Board, Push, ShownOutcome, brought_by, log_line, seconds_now, shown_outcome};
 use hg_tcp::{Over, Places};
 use hg_web::{Watch, WatchedPush};
@@ -59,7 +59,7 @@ impl<'a, R: Wait + Clock + Eprint> Watcher<'a, R> {
     }
 }
 
-impl<R: Wait + Clock + Eprint> Gate for Watcher<'_, R> {
+impl<R: Wait + Clock + Eprint> Probe for Watcher<'_, R> {
     fn at(&mut self, point: Point) {
         match point {
             Point::Marked => self.locked = None,

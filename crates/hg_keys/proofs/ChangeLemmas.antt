@@ -43,48 +43,48 @@ one_more changes (Some change) = omega (arith, length-append changes (change ∷
 
 -- all stands as before, with at least that room
 pub sound_same : {A : Type 0} (pairs new : Pairs) (changes same : List (Change A)) (room more : ℕ)
-    (is_marked : Bool) → new ≡ pairs → same ≡ changes → (is_marked ≡ true → length changes ≤ more)
-    → IsSound pairs changes room is_marked → IsSound new same more is_marked
-sound_same pairs new changes same room more is_marked pairs_stay changes_stay le sound =
-    let stays : IsSound pairs changes more is_marked = record {
+    (is_saved : Bool) → new ≡ pairs → same ≡ changes → (is_saved ≡ true → length changes ≤ more)
+    → IsSound pairs changes room is_saved → IsSound new same more is_saved
+sound_same pairs new changes same room more is_saved pairs_stay changes_stay le sound =
+    let stays : IsSound pairs changes more is_saved = record {
       back = sound.back;
       room = le;
     } in
-    subst (λ cs. IsSound new cs more is_marked) (sym changes_stay)
-    (subst (λ ps. IsSound ps changes more is_marked) (sym pairs_stay) stays)
+    subst (λ cs. IsSound new cs more is_saved) (sym changes_stay)
+    (subst (λ ps. IsSound ps changes more is_saved) (sym pairs_stay) stays)
 
--- where there is no mark, no way back is wanted
-pub sound_unmarked : {A : Type 0} (pairs : Pairs) (changes : List (Change A)) (room : ℕ) (is_marked : Bool)
-    → is_marked ≡ false → IsSound pairs changes room is_marked
-sound_unmarked pairs changes room is_marked unmarked = record {
-  back = λ marked. absurd cc;
-  room = λ marked. absurd cc;
+-- where there is no savepoint, no way back is wanted
+pub sound_unsaved : {A : Type 0} (pairs : Pairs) (changes : List (Change A)) (room : ℕ) (is_saved : Bool)
+    → is_saved ≡ false → IsSound pairs changes room is_saved
+sound_unsaved pairs changes room is_saved unsaved = record {
+  back = λ saved. absurd cc;
+  room = λ saved. absurd cc;
 }
 
--- nor is there what the bookmarks were at the mark
-pub no_mark : (is_marked : Bool) (base other : Pairs) → is_marked ≡ false
-    → cond is_marked (Some base) None ≡ cond is_marked (Some other) None
-no_mark true base other unmarked = absurd cc
-no_mark false base other unmarked = refl
+-- nor is there what the bookmarks were at the savepoint
+pub no_savepoint : (is_saved : Bool) (base other : Pairs) → is_saved ≡ false
+    → cond is_saved (Some base) None ≡ cond is_saved (Some other) None
+no_savepoint true base other unsaved = absurd cc
+no_savepoint false base other unsaved = refl
 
--- after a change that is kept where there is a mark
+-- after a change that is kept where there is a savepoint
 pub sound_kept : {A : Type 0} (old new : Pairs) (changes : List (Change A)) (change : Option (Change A))
-    (room more : ℕ) (is_marked : Bool) → is_marked ≡ true → IsSound old changes room is_marked
+    (room more : ℕ) (is_saved : Bool) → is_saved ≡ true → IsSound old changes room is_saved
     → length changes + 1 ≤ more → all_undone (option_to_list change) new ≡ old
     → can_undo_all (option_to_list change) new ≡ true
-    → IsSound new (changes ++ option_to_list change) more is_marked
-sound_kept old new changes change room more is_marked marked sound le back can = record {
-  back = λ _. back_kept changes change new old back can (sound.back marked);
+    → IsSound new (changes ++ option_to_list change) more is_saved
+sound_kept old new changes change room more is_saved saved sound le back can = record {
+  back = λ _. back_kept changes change new old back can (sound.back saved);
   room = λ _. omega (arith, one_more changes change, le);
 }
 
--- the pairs at the mark stay
-pub mark_kept : {A : Type 0} (old new : Pairs) (changes : List (Change A)) (change : Option (Change A))
-    (is_marked : Bool) → all_undone (option_to_list change) new ≡ old
-    → cond is_marked (Some (base_of (changes ++ option_to_list change) new)) None ≡ cond is_marked
+-- the pairs at the savepoint stay
+pub savepoint_kept : {A : Type 0} (old new : Pairs) (changes : List (Change A)) (change : Option (Change A))
+    (is_saved : Bool) → all_undone (option_to_list change) new ≡ old
+    → cond is_saved (Some (base_of (changes ++ option_to_list change) new)) None ≡ cond is_saved
     (Some (base_of changes old)) None
-mark_kept old new changes change is_marked back =
-    ap (λ (ps : Pairs). cond is_marked (Some ps) None) (base_kept changes change new old back)
+savepoint_kept old new changes change is_saved back =
+    ap (λ (ps : Pairs). cond is_saved (Some ps) None) (base_kept changes change new old back)
 
 -- the last change taken back
 pub base_popped : {A : Type 0} (changes rest : List (Change A)) (change : Change A) (pairs : Pairs)

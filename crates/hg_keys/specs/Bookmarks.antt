@@ -41,7 +41,7 @@ OthersStay =
     (pairs : Pairs) (name other : List ℕ) (node : Option Node) → other ≢ name →
     node_of (with_bookmark pairs name node) other ≡ node_of pairs other
 
--- What contracts see: the map, and the map at the moment of the mark, where there is one.
-pub record Marked : Type 0 where
+-- What contracts see: the map, and the map at the moment of the savepoint, where there is one.
+pub record Saved : Type 0 where
   pub current : Pairs
-  pub marked : Option Pairs
+  pub saved : Option Pairs

@@ -12,7 +12,7 @@ use hg_types::{NoMemory, Node, Seq, Short};
 use std::alloc::{Allocator, Global};
 use std::marker::Model;
 
-/// A change that was made after the mark: the name, and what it was on before.
+/// A change that was made after the savepoint: the name, and what it was on before.
 #[derive(Drop)]
 enum Change<A: Allocator = Global> {
     Added(Short<A>),
@@ -20,14 +20,14 @@ enum Change<A: Allocator = Global> {
     Removed(Named<A>),
 }
 
-/// For so many changes a mark leaves what memory there is. With less, pushes of a few bookmarks would ask for it
+/// For so many changes a savepoint leaves what memory there is. With less, pushes of a few bookmarks would ask for it
 /// again each time; a push of millions leaves hundreds of megabytes.
 const KEPT: usize = 1_024;
 
 /// A moment to which the bookmarks can go back. What they were then is a part of the value that contracts
 /// see.
 #[derive(Drop)]
-pub struct BookmarkMark {
+pub struct BookmarkSavepoint {
     _private: (),
 }
 
@@ -40,70 +40,70 @@ pub struct BookmarkMark {
 pub struct Bookmarks<A: Allocator = Global> {
     names: Names<A>,
     changes: Vec<Change<A>, A>,
-    is_marked: bool,
+    is_saved: bool,
 }
 
 impl<A: Allocator> Model for Bookmarks<A> {
     ghost use Rattle.std.specs.Prelude.{Some, None, if◌then◌else◌};
-    ghost use Rattle.hg_keys.specs.Bookmarks.{Marked};
+    ghost use Rattle.hg_keys.specs.Bookmarks.{Saved};
 
-    ghost Value = { Marked };
+    ghost Value = { Saved };
 
     ghost use Rattle.hg_keys.specs.code.Changes.{base_of, IsSound};
 
     ghost view = { λ b. record {
       current = b.names.pairs;
-      marked = if b.is_marked then Some (base_of b.changes.items b.names.pairs) else None;
+      saved = if b.is_saved then Some (base_of b.changes.items b.names.pairs) else None;
     } };
 
-    ghost invariant = { λ b. IsSound b.names.pairs b.changes.items b.names.room b.is_marked };
+    ghost invariant = { λ b. IsSound b.names.pairs b.changes.items b.names.room b.is_saved };
 }
 
 impl<A: Allocator + Copy> Bookmarks<A> {
-    /// No bookmarks, and no mark. It takes no memory.
+    /// No bookmarks, and no savepoint. It takes no memory.
     pub fn new(alloc: A) -> Self
-        ensures { result ≡ record { current = []; marked = None } }
+        ensures { result ≡ record { current = []; saved = None } }
     {
         Bookmarks {
             names: Names::new(alloc),
             changes: Vec::new(alloc),
-            is_marked: false,
+            is_saved: false,
         }
     }
 
-    /// The same bookmarks, without a mark.
+    /// The same bookmarks, without a savepoint.
     pub fn try_clone(&self, alloc: A) -> Result<Self, NoMemory>
-        ensures { IfOk result (λ copy. copy ≡ record { current = self.now.current; marked = None }) }
+        ensures { IfOk result (λ copy. copy ≡ record { current = self.now.current; saved = None }) }
     {
         let names = self.names.try_clone(alloc)?;
-        let is_marked = false;
+        let is_saved = false;
         Ok(Bookmarks {
             names,
             changes: Vec::new(alloc),
-            is_marked,
+            is_saved,
         })
     }
 
-    /// Sets a name on a changeset, or deletes it. After a mark it keeps what it replaces before it changes
+    /// Sets a name on a changeset, or deletes it. After a savepoint it keeps what it replaces before it changes
     /// anything. Where memory is refused, the bookmarks are unchanged.
     pub fn set(&mut self, alloc: A, name: &[u8], node: Option<Node>) -> Result<(), NoMemory>
         ensures ok { OnOk result (self.new
-            ≡ record { current = with_bookmark self.old.current name.now node; marked = self.old.marked }) }
+            ≡ record { current = with_bookmark self.old.current name.now node; saved = self.old.saved }) }
         ensures err { OnErr result (self.new ≡ self.old) }
     {
-        if !self.is_marked {
+        if !self.is_saved {
             put(alloc, &mut self.names, name, node)?;
             return Ok(());
         }
         make_room(&mut self.names, &mut self.changes)?;
-        let change = put_after_mark(alloc, &mut self.names, name, node)?;
+        let change = put_after_savepoint(alloc, &mut self.names, name, node)?;
         keep(&mut self.changes, change);
         Ok(())
     }
 
     /// Sets each name on its changeset, or deletes it, as if in the order of the entries. It takes them in the
     /// order of their names, where most come next to the one before. Where memory is refused, some are set; the
-    /// mark stays, so that the bookmarks can go back to what they were then.
+    /// savepoint stays, so that the bookmarks can go back to what they were then.
     pub fn set_each(
         &mut self,
         alloc: A,
@@ -111,7 +111,7 @@ impl<A: Allocator + Copy> Bookmarks<A> {
     ) -> Result<(), NoMemory>
         ensures ok { OnOk result (self.new.current ≡ set_each entries self.old.current) }
         ensures err { OnErr result (ArePartlySet entries self.old.current self.new.current) }
-        ensures marked { self.new.marked ≡ self.old.marked }
+        ensures saved { self.new.saved ≡ self.old.saved }
     {
         // `len` says that the names are in order. So entries give the same in any order that keeps those of each
         // name in theirs.
@@ -166,27 +166,27 @@ impl<A: Allocator> Bookmarks<A> {
         self.names.entries()
     }
 
-    /// Marks the bookmarks as they are. An earlier mark is gone, and what memory many changes since then took
+    /// Sets a savepoint: the bookmarks as they are. An earlier one is gone, and what memory many changes since then took
     /// is given back.
-    pub fn mark(&mut self) -> BookmarkMark
-        ensures { self.new ≡ record { current = self.old.current; marked = Some self.old.current } }
+    pub fn savepoint(&mut self) -> BookmarkSavepoint
+        ensures { self.new ≡ record { current = self.old.current; saved = Some self.old.current } }
     {
         self.changes.clear();
         self.changes.shrink_to(KEPT);
         self.names.shrink_room(KEPT);
-        self.is_marked = true;
-        BookmarkMark { _private: () }
+        self.is_saved = true;
+        BookmarkSavepoint { _private: () }
     }
 
-    /// Goes back to the bookmarks of the moment of the mark, the last that was made. It takes no memory.
-    pub fn back_to(&mut self, mark: BookmarkMark)
-        requires { self.old.marked ≢ None }
-        ensures back { self.old.marked ≡ Some self.new.current }
-        ensures gone { self.new.marked ≡ None }
+    /// Goes back to the bookmarks of the moment of the savepoint, the last that was made. It takes no memory.
+    pub fn back_to(&mut self, savepoint: BookmarkSavepoint)
+        requires { self.old.saved ≢ None }
+        ensures back { self.old.saved ≡ Some self.new.current }
+        ensures gone { self.new.saved ≡ None }
     {
         go_back(&mut self.names, &mut self.changes);
-        self.is_marked = false;
-        drop(mark);
+        self.is_saved = false;
+        drop(savepoint);
     }
 }
 
@@ -226,7 +226,7 @@ fn put<A: Allocator + Copy>(
 }
 
 /// Sets a name or deletes it, and reports the change, if there is one.
-fn put_after_mark<A: Allocator + Copy>(
+fn put_after_savepoint<A: Allocator + Copy>(
     alloc: A,
     names: &mut Names<A>,
     name: &[u8],

@@ -73,8 +73,8 @@ pub fn push_key<A: Allocator + Copy>(
         bookmarks.new ≡ bookmarks.old) (λ fault. bookmarks.new ≡ bookmarks.old) }
     ensures fits { AreFor log.now.rows phases.new.current }
     ensures count { length phases.new.current.phases ≡ length log.now.rows }
-    ensures phases_marked { phases.new.marked ≡ phases.old.marked }
-    ensures bookmarks_marked { bookmarks.new.marked ≡ bookmarks.old.marked }
+    ensures phases_saved { phases.new.saved ≡ phases.old.saved }
+    ensures bookmarks_saved { bookmarks.new.saved ≡ bookmarks.old.saved }
     // Lawful markers stay so, and bookmarks on known changesets. Markers come at the end.
     ensures lawful { AreLawful markers.old → AreLawful markers.new }
     ensures within { length markers.old ≤ length markers.new }
@@ -121,7 +121,7 @@ fn push_phase<A: Allocator + Copy>(
     ensures err { OnErr result (phases.new ≡ phases.old) }
     ensures fits { AreFor log.now.rows phases.new.current }
     ensures count { length phases.new.current.phases ≡ length log.now.rows }
-    ensures marked { phases.new.marked ≡ phases.old.marked }
+    ensures saved { phases.new.saved ≡ phases.old.saved }
 {
     let Some(node) = node_in_hex(key) else {
         return Ok(false)
@@ -157,7 +157,7 @@ fn move_from<A: Allocator + Copy>(
     ensures err { OnErr result (phases.new ≡ phases.old) }
     ensures fits { AreFor log.now.rows phases.new.current }
     ensures count { length phases.new.current.phases ≡ length log.now.rows }
-    ensures marked { phases.new.marked ≡ phases.old.marked }
+    ensures saved { phases.new.saved ≡ phases.old.saved }
 {
     if current.number() == old.number() && new.number() < old.number() {
         match log.rev(node) {
@@ -183,7 +183,7 @@ fn push_bookmark<A: Allocator + Copy>(
         ≡ (bookmarks.new.current, done)) }
     ensures stays { IfOk result (λ done. done ≡ false → bookmarks.new ≡ bookmarks.old) }
     ensures err { OnErr result (bookmarks.new ≡ bookmarks.old) }
-    ensures marked { bookmarks.new.marked ≡ bookmarks.old.marked }
+    ensures saved { bookmarks.new.saved ≡ bookmarks.old.saved }
     ensures known { AreOnKnown log.now.rows bookmarks.old.current →
         AreOnKnown log.now.rows bookmarks.new.current }
 {

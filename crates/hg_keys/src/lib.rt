@@ -1,6 +1,6 @@
 //! Bookmarks and pushkey.
 //!
-//! [`Bookmarks`] is a map from names to changesets, with a mark to go back to. Nothing here starts a thread
+//! [`Bookmarks`] is a map from names to changesets, with a savepoint to go back to. Nothing here starts a thread
 //! or waits.
 //!
 //! [`read_bookmarks`] reads the payload of the parts `bookmarks` and `check:bookmarks`: entries, up to its
@@ -35,7 +35,7 @@ mod known;
 mod laws;
 mod payload;
 
-pub use bookmarks::{BookmarkMark, Bookmarks};
+pub use bookmarks::{BookmarkSavepoint, Bookmarks};
 pub use fault::{BookmarkFault, KeyFault};
 pub use hg_obs::{Base85Fault, base85_decode, base85_encode};
 pub use key_text::{are_same, is_known_target, phase_in_text};

@@ -1,4 +1,4 @@
-//! Bookmarks that are set, moved and deleted, the way back from a mark, and memory refused in turn.
+//! Bookmarks that are set, moved and deleted, the way back from a savepoint, and memory refused in turn.
 
 ghost use Rattle.std.specs.Prelude.{◌≡◌};
 
@@ -41,7 +41,7 @@ const CHANGES: [(&[u8], Option<Node>); 7] = [
 ];
 
 fn set_some<A: Allocator + Copy>(alloc: A, bookmarks: &mut Bookmarks<A>) -> Result<(), NoMemory>
-    ensures { bookmarks.new.marked ≡ bookmarks.old.marked }
+    ensures { bookmarks.new.saved ≡ bookmarks.old.saved }
 {
     for (name, node) in CHANGES {
         bookmarks.set(alloc, name, node)?;
@@ -73,17 +73,17 @@ fn names_in_the_order_of_their_bytes(rt: HostRuntime) -> Result<(), Fail> {
     Ok(())
 }
 
-// `ab`, `c`; a mark; `d`; a copy and another mark; the sets of the row above, `d` deleted and set.
-// Result: back: `ab`, `c` and `d` as they were at the second mark, as the copy has them.
+// `ab`, `c`; a savepoint; `d`; a copy and another savepoint; the sets of the row above, `d` deleted and set.
+// Result: back: `ab`, `c` and `d` as they were at the second savepoint, as the copy has them.
 #[test]
-fn back_to_the_last_mark(rt: HostRuntime) -> Result<(), Fail> {
+fn back_to_the_last_savepoint(rt: HostRuntime) -> Result<(), Fail> {
     let mut bookmarks = Bookmarks::new(rt.alloc());
     bookmarks.set(rt.alloc(), b"ab", Some(node(7)))?;
     bookmarks.set(rt.alloc(), b"c", Some(node(8)))?;
-    let _earlier = bookmarks.mark();
+    let _earlier = bookmarks.savepoint();
     bookmarks.set(rt.alloc(), b"d", Some(node(9)))?;
-    let marked = bookmarks.try_clone(rt.alloc())?;
-    let mark = bookmarks.mark();
+    let saved = bookmarks.try_clone(rt.alloc())?;
+    let savepoint = bookmarks.savepoint();
     set_some(rt.alloc(), &mut bookmarks)?;
     bookmarks.set(rt.alloc(), b"d", None)?;
     bookmarks.set(rt.alloc(), b"d", Some(node(1)))?;
@@ -93,7 +93,7 @@ fn back_to_the_last_mark(rt: HostRuntime) -> Result<(), Fail> {
             &[(b"ab", node(7)), (b"c", node(8)), (b"d", node(9))]
         )
     );
-    bookmarks.back_to(mark);
+    bookmarks.back_to(savepoint);
     assert!(rt;
         are(
             &bookmarks,
@@ -102,28 +102,28 @@ fn back_to_the_last_mark(rt: HostRuntime) -> Result<(), Fail> {
     );
     assert!(rt;
         are(
-            &marked,
+            &saved,
             &[(b"ab", node(7)), (b"c", node(8)), (b"d", node(9))]
         )
     );
     Ok(())
 }
 
-/// Sets, marks, sets and goes back; whether each set was done, and whether all was as it was at the mark.
+/// Sets, savepoints, sets and goes back; whether each set was done, and whether all was as it was at the savepoint.
 fn there_and_back<A: Allocator + Copy>(alloc: A) -> (bool, bool) {
     let mut bookmarks = Bookmarks::new(alloc);
     if bookmarks.set(alloc, b"ab", Some(node(7))).is_err() {
         return (false, bookmarks.len() == 0);
     }
-    let mark = bookmarks.mark();
+    let savepoint = bookmarks.savepoint();
     let done = set_some(alloc, &mut bookmarks).is_ok();
-    bookmarks.back_to(mark);
+    bookmarks.back_to(savepoint);
     (done, are(&bookmarks, &[(b"ab", node(7))]))
 }
 
 /// Over heaps of each multiple of 16 bytes, so that each growth is refused in turn.
-/// A set, a mark, the sets of the first row, and back, over heaps of each multiple of 16 bytes
-/// below 2,560. Result: the bookmarks at the mark, each time; a set is refused somewhere, and all
+/// A set, a savepoint, the sets of the first row, and back, over heaps of each multiple of 16 bytes
+/// below 2,560. Result: the bookmarks at the savepoint, each time; a set is refused somewhere, and all
 /// are done in the end.
 #[test]
 fn each_growth_of_bookmarks_refused(rt: HostRuntime) -> Result<(), Fail> {

@@ -26,7 +26,7 @@ fn set_many<A: Allocator + Copy>(
     count: u16,
     node: Option<Node>,
 ) -> bool
-    ensures { bookmarks.new.marked ≡ bookmarks.old.marked }
+    ensures { bookmarks.new.saved ≡ bookmarks.old.saved }
 {
     let mut all = true;
     for number in 0..count {
@@ -75,7 +75,7 @@ fn is_copied<'h>(heap: &'h LocalHeap, bookmarks: &Bookmarks<&'h LocalHeap>) -> b
     }
 }
 
-/// Names that come, are looked up, copied, moved after a mark and taken back. What a heap keeps grows with
+/// Names that come, are looked up, copied, moved after a savepoint and taken back. What a heap keeps grows with
 /// what is set, and for the way back with what is changed. A name takes 72 bytes in a block that is half full, and a
 /// little for the list of blocks. Few changes take room for 8 of 112 bytes, and for each of the two names that went
 /// one block of 80 to come back in.
@@ -86,14 +86,14 @@ fn many_are_told(heap: &LocalHeap, long: &[u8]) -> bool {
     let set = heap.used();
     let is_set = is_set & set_often(heap, &mut bookmarks) & are_often_on(&bookmarks, HERE);
     let is_copied = is_copied(heap, &bookmarks);
-    let mark = bookmarks.mark();
+    let savepoint = bookmarks.savepoint();
     let takes_none = heap.used() == set;
     let has_few = set_many(heap, &mut bookmarks, 4, Some(THERE));
     let has_few = has_few & set_many(heap, &mut bookmarks, 2, None);
     let few = heap.used();
     let is_moved = set_many(heap, &mut bookmarks, MANY, Some(THERE)) & are_on(&bookmarks, THERE);
     let moved = heap.used();
-    bookmarks.back_to(mark);
+    bookmarks.back_to(savepoint);
     let is_back = are_on(&bookmarks, HERE) && heap.used() <= moved;
     let is_long = bookmarks.set(heap, long, Some(THERE)).is_ok();
     let is_long = is_long && bookmarks.get(long) == Some(THERE);

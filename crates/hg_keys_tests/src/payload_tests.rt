@@ -111,7 +111,7 @@ fn are_there<A: Allocator>(bookmarks: &Bookmarks<A>, node: Node) -> bool {
         && bookmarks.entry(2).is_none()
 }
 
-/// Over a heap with nothing left, looks, a mark, a move that the mark kept room for, and the way back want
+/// Over a heap with nothing left, looks, a savepoint, a move that the savepoint kept room for, and the way back want
 /// nothing.
 #[test]
 fn no_memory_for_looking_and_going_back(rt: HostRuntime) -> Result<(), Fail> {
@@ -120,13 +120,13 @@ fn no_memory_for_looking_and_going_back(rt: HostRuntime) -> Result<(), Fail> {
     let mut bookmarks = Bookmarks::new(&heap);
     let mut all = bookmarks.set(&heap, b"m", Some(one)).is_ok();
     all = bookmarks.set(&heap, b"n", Some(one)).is_ok() && all;
-    let mark = bookmarks.mark();
+    let savepoint = bookmarks.savepoint();
     all = bookmarks.set(&heap, b"m", Some(other)).is_ok() && all;
     let _taken = take_all(rt.alloc(), &heap)?;
     all = Vec::<u8, _>::with_capacity(&heap, 1).is_err() && all;
     all = bookmarks.try_clone(&heap).is_err() && are_there(&bookmarks, other) && all;
-    bookmarks.back_to(mark);
-    let _again = bookmarks.mark();
+    bookmarks.back_to(savepoint);
+    let _again = bookmarks.savepoint();
     assert!(rt; all && are_there(&bookmarks, one));
     Ok(())
 }

@@ -399,7 +399,7 @@ enum Reached {
     Wrong,
 }
 
-/// A call whose changes want memory of a small heap, after a mark of the bookmarks: where it is refused,
+/// A call whose changes want memory of a small heap, after a savepoint of the bookmarks: where it is refused,
 /// nothing has changed.
 fn push_over<'h>(
     heap: &'h LocalHeap,
@@ -413,7 +413,7 @@ fn push_over<'h>(
     }
     match new_keys(heap, state, &log) {
         Some(mut keys) => {
-            let _mark = keys.bookmarks.mark();
+            let _savepoint = keys.bookmarks.savepoint();
             let before = told_of(true, &log, &keys);
             let answer = push(heap, ample, &log, &mut keys, texts);
             let is_same = told_of(true, &log, &keys) == before;

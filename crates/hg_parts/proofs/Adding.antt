@@ -24,7 +24,7 @@ use Rattle.hg_log.specs.Answer.{answer_of}
 use Rattle.hg_log.specs.Add.{row_of, AddLeaves, IsAppended}
 use Rattle.hg_log.specs.Parents.{parents_of, rev_of}
 use Rattle.hg_log.specs.HeadCount.{head_count}
-use Rattle.hg_phases.specs.Phases.{AreFor, Marked, registered}
+use Rattle.hg_phases.specs.Phases.{AreFor, Saved, registered}
 use Rattle.hg_phases.proofs.CallerLemmas.{for_more, length_registered}
 use Rattle.hg_obs.specs.declared.marker.Marker.{Marker}
 use Rattle.hg_keys.specs.Bookmarks.{Pairs}
@@ -121,7 +121,7 @@ module _ {A : Type 0} (settings : Settings) (old : Store A) (log : Log) (entry :
   limits : log.limits ≡ old.log.limits
   limits = ap (λ (l : Log). l.limits) is.appended
 
-  pub grown_new : (phases : Marked) → phases.marked ≡ old.phases.marked
+  pub grown_new : (phases : Saved) → phases.saved ≡ old.phases.saved
       → IsGrown old (record old { log = log; phases = phases })
   grown_new phases same = record {
     rows_within = omega (arith, longer);
@@ -129,8 +129,8 @@ module _ {A : Type 0} (settings : Settings) (old : Store A) (log : Log) (entry :
     limits = limits;
     markers_within = omega arith;
     markers_front = take-length old.markers;
-    phases_marked = same;
-    bookmarks_marked = refl;
+    phases_saved = same;
+    bookmarks_saved = refl;
   }
 
   -- a new row leaves the phases of the others as they were
@@ -139,7 +139,7 @@ module _ {A : Type 0} (settings : Settings) (old : Store A) (log : Log) (entry :
   fits_new fits lawful = for_more old.log.rows log.rows old.phases.current lawful
       (omega (arith, longer)) front fits
 
-  pub sound_new : (t : Phase) (phases : Marked) → IsSound settings old → AreFor log.rows phases.current
+  pub sound_new : (t : Phase) (phases : Saved) → IsSound settings old → AreFor log.rows phases.current
       → phases.current.phases ≡ registered (parents_of log.rows) t old.phases.current.phases
       → IsSound settings (record old { log = log; phases = phases })
   sound_new t phases sound fits are = record {

@@ -4,15 +4,15 @@ use Rattle.std.proofs.Common.{sym, ap, ◌∙◌, arith}
 use Rattle.std.proofs.Math.Seq.{take-length}
 use Rattle.std.proofs.lemmas.List.{take-append-le, length-append}
 use Rattle.hg_types.specs.declared.limits.Settings.{Settings}
-use Rattle.hg_phases.specs.Phases.{AreFor, Marked as MarkedPhases}
+use Rattle.hg_phases.specs.Phases.{AreFor, Saved as SavedPhases}
 use Rattle.hg_phases.proofs.CallerLemmas.{for_none}
 use Rattle.hg_obs.specs.declared.marker.Marker.{Marker}
 use Rattle.hg_obs.specs.Markers.{fresh, merged, AreLawful as AreLawfulMarkers}
-use Rattle.hg_keys.specs.Bookmarks.{Marked as MarkedBookmarks}
+use Rattle.hg_keys.specs.Bookmarks.{Saved as MarkedBookmarks}
 use Rattle.hg_parts.specs.declared.store.Store.{Store}
-use Rattle.hg_parts.specs.declared.store.StoreMark.{StoreMark}
+use Rattle.hg_parts.specs.declared.store.StoreSavepoint.{StoreSavepoint}
 use Rattle.hg_keys.specs.Known.{AreOnKnown}
-use Rattle.hg_parts.specs.Store.{IsSound, IsGrown, empty_store, with_marks, without_marks, CanGoBack}
+use Rattle.hg_parts.specs.Store.{IsSound, IsGrown, empty_store, with_savepoints, without_savepoints, CanGoBack}
 
 take_less : {X : Type 0} (n m : ℕ) (xs : List X) → n ≤ m → take n (take m xs) ≡ take n xs
 take_less {X} zero m xs low = refl
@@ -36,8 +36,8 @@ module _ {A : Type 0} where
     limits = refl;
     markers_within = omega arith;
     markers_front = take-length store.markers;
-    phases_marked = refl;
-    bookmarks_marked = refl;
+    phases_saved = refl;
+    bookmarks_saved = refl;
   }
 
   -- growing twice
@@ -50,8 +50,8 @@ module _ {A : Type 0} where
     markers_within = omega (arith, one.markers_within, two.markers_within);
     markers_front = front_on old.markers middle.markers new.markers one.markers_within one.markers_front
         two.markers_front;
-    phases_marked = two.phases_marked ∙ one.phases_marked;
-    bookmarks_marked = two.bookmarks_marked ∙ one.bookmarks_marked;
+    phases_saved = two.phases_saved ∙ one.phases_saved;
+    bookmarks_saved = two.bookmarks_saved ∙ one.bookmarks_saved;
   }
 
   -- markers alone came
@@ -63,8 +63,8 @@ module _ {A : Type 0} where
     limits = refl;
     markers_within = within;
     markers_front = front;
-    phases_marked = refl;
-    bookmarks_marked = refl;
+    phases_saved = refl;
+    bookmarks_saved = refl;
   }
 
   -- markers were merged with those that are there
@@ -89,9 +89,9 @@ module _ {A : Type 0} where
     bookmarks = sound.bookmarks;
   }
 
-  pub sound_marked : (settings : Settings) (store : Store A) → IsSound settings store
-      → IsSound settings (with_marks store)
-  sound_marked settings store sound = record {
+  pub sound_saved : (settings : Settings) (store : Store A) → IsSound settings store
+      → IsSound settings (with_savepoints store)
+  sound_saved settings store sound = record {
     fits = sound.fits;
     count = sound.count;
     limits = sound.limits;
@@ -99,9 +99,9 @@ module _ {A : Type 0} where
     bookmarks = sound.bookmarks;
   }
 
-  pub sound_unmarked : (settings : Settings) (store : Store A) → IsSound settings store
-      → IsSound settings (without_marks store)
-  sound_unmarked settings store sound = record {
+  pub sound_unsaved : (settings : Settings) (store : Store A) → IsSound settings store
+      → IsSound settings (without_savepoints store)
+  sound_unsaved settings store sound = record {
     fits = sound.fits;
     count = sound.count;
     limits = sound.limits;
@@ -125,10 +125,10 @@ module _ {A : Type 0} where
   -- ---- the way back
 
   -- it has grown since
-  pub can_go_back_on : (before : Store A) (mark : StoreMark) (now next : Store A)
-      → CanGoBack before mark now → IsGrown now next → CanGoBack before mark next
-  can_go_back_on before mark now next can grown = record {
+  pub can_go_back_on : (before : Store A) (savepoint : StoreSavepoint) (now next : Store A)
+      → CanGoBack before savepoint now → IsGrown now next → CanGoBack before savepoint next
+  can_go_back_on before savepoint now next can grown = record {
     rows = can.rows;
     markers = can.markers;
-    grown = grown_on (with_marks before) now next can.grown grown;
+    grown = grown_on (with_savepoints before) now next can.grown grown;
   }

@@ -30,7 +30,7 @@ HandleGives given new result = MatchResult result
     (λ refusal. (refusal ≡ NoMemory) ⊎ (given ≡ Err refusal))
 
 -- What each handler of a type of part owes, in that turn. Where the part is handled, the store holds a lawful
--- repository again. Changesets and markers came at their ends, and the marks stay, also where it is refused. A
+-- repository again. Changesets and markers came at their ends, and the savepoints stay, also where it is refused. A
 -- reply can be written. The answer and the store are what the definition gives, or memory was refused.
 pub record Handles {A : Type 0} (turn : Turn) (given : Outcome A) (old new : Store A)
     (result : Result (Option (Part A)) (Refusal A)) : Type 0 where

@@ -5,7 +5,7 @@ use Rattle.hg_types.specs.declared.limits.Settings.{Settings}
 use Rattle.hg_phases.specs.Phases.{AreFor, no_rows}
 use Rattle.hg_obs.specs.Markers.{AreLawful as AreLawfulMarkers}
 use Rattle.hg_parts.specs.declared.store.Store.{Store}
-use Rattle.hg_parts.specs.declared.store.StoreMark.{StoreMark}
+use Rattle.hg_parts.specs.declared.store.StoreSavepoint.{StoreSavepoint}
 use Rattle.hg_parts.specs.Repository.{Repository}
 use Rattle.hg_keys.specs.Known.{AreOnKnown}
 
@@ -28,15 +28,15 @@ pub record IsSound {A : Type 0} (settings : Settings) (store : Store A) : Type 0
   pub markers : AreLawfulMarkers store.markers
   pub bookmarks : AreOnKnown store.log.rows store.bookmarks.current
 
--- Rows and markers came at their ends, if at all, and the marks of phases and bookmarks stay.
+-- Rows and markers came at their ends, if at all, and the savepoints of phases and bookmarks stay.
 pub record IsGrown {A : Type 0} (old new : Store A) : Type 0 where
   pub rows_within : length old.log.rows ≤ length new.log.rows
   pub rows_front : take (length old.log.rows) new.log.rows ≡ old.log.rows
   pub limits : new.log.limits ≡ old.log.limits
   pub markers_within : length old.markers ≤ length new.markers
   pub markers_front : take (length old.markers) new.markers ≡ old.markers
-  pub phases_marked : new.phases.marked ≡ old.phases.marked
-  pub bookmarks_marked : new.bookmarks.marked ≡ old.bookmarks.marked
+  pub phases_saved : new.phases.saved ≡ old.phases.saved
+  pub bookmarks_saved : new.bookmarks.saved ≡ old.bookmarks.saved
 
 -- ---- the way back
 
@@ -44,31 +44,31 @@ pub record IsGrown {A : Type 0} (old new : Store A) : Type 0 where
 abbrev pub empty_store : {A : Type 0} → Limits → Store A
 empty_store limits = record {
   log = record { rows = []; limits = limits };
-  phases = record { current = no_rows; marked = None };
+  phases = record { current = no_rows; saved = None };
   markers = [];
-  bookmarks = record { current = []; marked = None };
+  bookmarks = record { current = []; saved = None };
 }
 
--- the same, marked as it is
-abbrev pub with_marks : {A : Type 0} → Store A → Store A
-with_marks store = record {
+-- the same, with a savepoint at what it is
+abbrev pub with_savepoints : {A : Type 0} → Store A → Store A
+with_savepoints store = record {
   log = store.log;
-  phases = record { current = store.phases.current; marked = Some store.phases.current };
+  phases = record { current = store.phases.current; saved = Some store.phases.current };
   markers = store.markers;
-  bookmarks = record { current = store.bookmarks.current; marked = Some store.bookmarks.current };
+  bookmarks = record { current = store.bookmarks.current; saved = Some store.bookmarks.current };
 }
 
--- the same without a mark
-abbrev pub without_marks : {A : Type 0} → Store A → Store A
-without_marks store = record {
+-- the same without a savepoint
+abbrev pub without_savepoints : {A : Type 0} → Store A → Store A
+without_savepoints store = record {
   log = store.log;
-  phases = record { current = store.phases.current; marked = None };
+  phases = record { current = store.phases.current; saved = None };
   markers = store.markers;
-  bookmarks = record { current = store.bookmarks.current; marked = None };
+  bookmarks = record { current = store.bookmarks.current; saved = None };
 }
 
--- The mark was made when the store was `before`, and since then it has grown at most.
-pub record CanGoBack {A : Type 0} (before : Store A) (mark : StoreMark) (now : Store A) : Type 0 where
-  pub rows : mark.rows ≡ length before.log.rows
-  pub markers : mark.markers ≡ length before.markers
-  pub grown : IsGrown (with_marks before) now
+-- The savepoint was made when the store was `before`, and since then it has grown at most.
+pub record CanGoBack {A : Type 0} (before : Store A) (savepoint : StoreSavepoint) (now : Store A) : Type 0 where
+  pub rows : savepoint.rows ≡ length before.log.rows
+  pub markers : savepoint.markers ≡ length before.markers
+  pub grown : IsGrown (with_savepoints before) now

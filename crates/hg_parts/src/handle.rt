@@ -26,7 +26,7 @@ use std::alloc::Allocator;
 /// Handles the part in its turn, as the definition `handle` says. `NoMemory` stands in place of any other
 /// answer where a growth was refused.
 ///
-/// Where the part is refused, some of its changes may be there: the caller goes back to a mark of the store.
+/// Where the part is refused, some of its changes may be there: the caller goes back to a savepoint of the store.
 pub fn handle_part<A: Allocator + Copy>(
     alloc: A,
     store: &mut Store<A>,

@@ -2,7 +2,7 @@
 //!
 //! A [`Store`] is what parts change in place: the changelog, the phases, the markers and the bookmarks.
 //! [`handle_part`] handles one part on it, in its [`Turn`], and gives its reply, if it has one, or the
-//! [`Refusal`] of its push. [`Store::mark`] and [`Store::back_to`] take back what a push did. Contracts see a repository as a
+//! [`Refusal`] of its push. [`Store::savepoint`] and [`Store::back_to`] take back what a push did. Contracts see a repository as a
 //! value, the record `Repository`, and handling as the function `handle` on it.
 //!
 //! Each type of part is a module of `parts`, with its definition beside it in `specs/parts`. Nothing here
@@ -25,6 +25,6 @@ pub use handle::{handle_part, handle_prepared};
 pub use prepared::{Prepared, hash_ahead, prepare};
 pub use refusal::{RaceText, Refusal};
 pub use source::Source;
-pub use store::{Store, StoreMark};
+pub use store::{Store, StoreSavepoint};
 pub use table::starts_replies;
 pub use turn::Turn;

@@ -3,18 +3,18 @@
 ghost use Rattle.std.specs.Prelude.{◌≡◌, IfOk};
 ghost use Rattle.hg_types.specs.Limits.{IsAllowed};
 ghost use Rattle.hg_parts.specs.declared.store.Store.{Store as AnyStore};
-ghost use Rattle.hg_parts.specs.Store.{empty_store, with_marks, without_marks, CanGoBack};
+ghost use Rattle.hg_parts.specs.Store.{empty_store, with_savepoints, without_savepoints, CanGoBack};
 
-use hg_keys::{BookmarkMark, Bookmarks};
+use hg_keys::{BookmarkSavepoint, Bookmarks};
 use hg_log::Changelog;
 use hg_obs::Markers;
-use hg_phases::{Mark, Phases};
+use hg_phases::{Phases, Savepoint};
 use hg_types::{Limits, NoMemory, TryClone};
 use std::alloc::{Allocator, Global};
 use std::hash::RandomState;
 
 /// The changesets, their phases, the markers and the bookmarks of a repository. Each part of a push changes
-/// them in place, and a push that is refused goes back to its mark.
+/// them in place, and a push that is refused goes back to its savepoint.
 #[derive(Drop)]
 pub struct Store<A: Allocator = Global> {
     pub log: Changelog<A>,
@@ -25,13 +25,13 @@ pub struct Store<A: Allocator = Global> {
 
 /// A moment to which a store can go back.
 #[derive(Drop)]
-pub struct StoreMark {
+pub struct StoreSavepoint {
     /// How many changesets there were.
     rows: usize,
     /// How many markers there were.
     markers: usize,
-    phases: Mark,
-    bookmarks: BookmarkMark,
+    phases: Savepoint,
+    bookmarks: BookmarkSavepoint,
 }
 
 impl<A: Allocator + Copy> Store<A> {
@@ -49,9 +49,9 @@ impl<A: Allocator + Copy> Store<A> {
         }
     }
 
-    /// The same without a mark.
+    /// The same without a savepoint.
     pub fn try_clone(&self, alloc: A) -> Result<Self, NoMemory>
-        ensures { IfOk result (λ copy. copy ≡ without_marks self.now) }
+        ensures { IfOk result (λ copy. copy ≡ without_savepoints self.now) }
     {
         let log = self.log.try_clone(alloc)?;
         // A copy that is not wanted is dropped by a call: its clause is proved once.
@@ -80,31 +80,31 @@ impl<A: Allocator + Copy> Store<A> {
 }
 
 impl<A: Allocator> Store<A> {
-    /// Marks the store as it is. It takes no memory, and an earlier mark is gone.
-    pub fn mark(&mut self) -> StoreMark
-        ensures store { self.new ≡ with_marks self.old }
-        ensures mark { CanGoBack self.old result self.new }
+    /// Sets a savepoint: the store as it is. It takes no memory, and an earlier one is gone.
+    pub fn savepoint(&mut self) -> StoreSavepoint
+        ensures store { self.new ≡ with_savepoints self.old }
+        ensures savepoint { CanGoBack self.old result self.new }
     {
-        StoreMark {
+        StoreSavepoint {
             rows: self.log.len(),
             markers: self.markers.list().len(),
-            phases: self.phases.mark(),
-            bookmarks: self.bookmarks.mark(),
+            phases: self.phases.savepoint(),
+            bookmarks: self.bookmarks.savepoint(),
         }
     }
 
-    /// Goes back to the store of the moment of the mark, whatever parts have changed since. It takes no
+    /// Goes back to the store of the moment of the savepoint, whatever parts have changed since. It takes no
     /// memory.
-    pub fn back_to(&mut self, mark: StoreMark)
-        requires { (before : AnyStore A) × CanGoBack before mark self.old }
-        ensures { (before : AnyStore A) → CanGoBack before mark self.old → self.new ≡ without_marks before }
+    pub fn back_to(&mut self, savepoint: StoreSavepoint)
+        requires { (before : AnyStore A) × CanGoBack before savepoint self.old }
+        ensures { (before : AnyStore A) → CanGoBack before savepoint self.old → self.new ≡ without_savepoints before }
     {
-        let StoreMark {
+        let StoreSavepoint {
             rows,
             markers,
             phases,
             bookmarks,
-        } = mark;
+        } = savepoint;
         self.log.cut_back(rows);
         self.markers.cut_back(markers);
         self.phases.back_to(phases);

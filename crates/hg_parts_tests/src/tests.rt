@@ -182,7 +182,7 @@ fn handled<A: Allocator + Copy>(
     source: Source,
     part: &Part<A>,
 ) -> Result<Option<Part<A>>, Refusal<A>> {
-    let mark = held.store.mark();
+    let savepoint = held.store.savepoint();
     let turn = Turn {
         settings: held.settings,
         source,
@@ -192,7 +192,7 @@ fn handled<A: Allocator + Copy>(
     match handle_part(alloc, &mut held.store, turn, part) {
         Ok(reply) => Ok(reply),
         Err(refusal) => {
-            held.store.back_to(mark);
+            held.store.back_to(savepoint);
             Err(refusal)
         }
     }
@@ -327,7 +327,7 @@ fn came_on(
 }
 
 /// The same on a clone of a store. `None` where memory was refused for it.
-#[tactic(auto, using(hg_parts::proofs::CallerLemmas::sound_unmarked))]
+#[tactic(auto, using(hg_parts::proofs::CallerLemmas::sound_unsaved))]
 fn came_on_clone(
     alloc: Global,
     held: &Held<Global>,

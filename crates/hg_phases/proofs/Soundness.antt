@@ -13,21 +13,21 @@ use Rattle.hg_phases.specs.Standing.{is_told, told, phases_told}
 use Rattle.hg_phases.specs.code.Tape.{IsSound}
 use Rattle.hg_phases.proofs.Told.{told_push}
 
--- without a mark
-pub sound_unmarked : (rows : List Standing) (kept : List Replaced) (marked : ℕ) → marked ≡ 0 → kept ≡ []
-    → length rows ≤ 2 ^ 32 → IsSound rows kept marked
-sound_unmarked rows kept marked none empty few = record {
+-- without a savepoint
+pub sound_unsaved : (rows : List Standing) (kept : List Replaced) (saved : ℕ) → saved ≡ 0 → kept ≡ []
+    → length rows ≤ 2 ^ 32 → IsSound rows kept saved
+sound_unsaved rows kept saved none empty few = record {
   few = few;
   within = omega (arith, none);
-  replaced = All-same (λ (change : Replaced). change.row < marked) kept [] empty
-      (All-nil (λ (change : Replaced). change.row < marked));
+  replaced = All-same (λ (change : Replaced). change.row < saved) kept [] empty
+      (All-nil (λ (change : Replaced). change.row < saved));
 }
 
 -- other rows, with the same way back
-pub sound_changed : (rows new : List Standing) (kept more : List Replaced) (marked mark : ℕ)
-    → IsSound rows kept marked → length new ≤ 2 ^ 32 → length rows ≤ length new → mark ≡ marked
-    → All (λ change. change.row < mark) more → IsSound new more mark
-sound_changed rows new kept more marked mark sound few longer same replaced = record {
+pub sound_changed : (rows new : List Standing) (kept more : List Replaced) (saved savepoint : ℕ)
+    → IsSound rows kept saved → length new ≤ 2 ^ 32 → length rows ≤ length new → savepoint ≡ saved
+    → All (λ change. change.row < savepoint) more → IsSound new more savepoint
+sound_changed rows new kept more saved savepoint sound few longer same replaced = record {
   few = few;
   within = omega (arith, sound.within, longer, same);
   replaced = replaced;
@@ -42,10 +42,10 @@ told_added t rows new x n at new_is =
     ∙ told_push t 0 rows x
     ∙ ap (λ (k : ℕ). told t rows ++ cond (is_told t x) (k ∷ []) []) here
 
--- what the rows of a mark tell, where there is one
-abbrev pub marked_as : Bool → List Standing → Option Phasing
-marked_as is_marked rows =
-    cond is_marked (Some (record {
+-- what the rows of a savepoint tell, where there is one
+abbrev pub saved_as : Bool → List Standing → Option Phasing
+saved_as is_saved rows =
+    cond is_saved (Some (record {
       phases = phases_told rows;
       draft = told Draft rows;
       secret = told Secret rows;

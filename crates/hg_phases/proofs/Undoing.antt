@@ -1,4 +1,4 @@
--- The way back: what is kept leads back to the rows of the mark.
+-- The way back: what is kept leads back to the rows of the savepoint.
 use Rattle.std.proofs.Common.{◌≡◌, ℕ, suc, ◌<◌, ◌≤◌, List, [], ◌∷◌, ◌++◌, length, take}
 use Rattle.std.proofs.Common.{set, get_or, refl, sym, ap, ◌∙◌, inl, inr, arith}
 use Rattle.std.specs.List.{All}
@@ -13,7 +13,7 @@ use Rattle.hg_phases.specs.declared.standing.Standing.{Standing}
 use Rattle.hg_phases.specs.declared.standing.Standing.TheVariants.{PublicOnPublic}
 use Rattle.hg_phases.specs.declared.tape.Replaced.{Replaced}
 use Rattle.hg_phases.specs.Standing.{standing_at}
-use Rattle.hg_phases.specs.code.Tape.{undone, base_of, of_marked, rows_of, TapeFollows}
+use Rattle.hg_phases.specs.code.Tape.{undone, base_of, of_saved, rows_of, TapeFollows}
 
 -- the last change comes back first
 pub undone_push : (changes : List Replaced) (change : Replaced) (rows : List Standing)
@@ -44,11 +44,11 @@ undone_front m (change ∷ changes) xs ys same =
     set_front m (undone changes xs) (undone changes ys) change.row change.standing
     (undone_front m changes xs ys same)
 
--- a row more after the mark
-pub base_add : (marked : ℕ) (rows more : List Standing) (kept : List Replaced) → marked ≤ length rows
-    → base_of marked (rows ++ more) kept ≡ base_of marked rows kept
-base_add marked rows more kept within =
-    undone_front marked kept (rows ++ more) rows (take-append-le marked rows more within)
+-- a row more after the savepoint
+pub base_add : (saved : ℕ) (rows more : List Standing) (kept : List Replaced) → saved ≤ length rows
+    → base_of saved (rows ++ more) kept ≡ base_of saved rows kept
+base_add saved rows more kept within =
+    undone_front saved kept (rows ++ more) rows (take-append-le saved rows more within)
 
 undone_append : (changes more : List Replaced) (rows : List Standing)
     → undone (changes ++ more) rows ≡ undone changes (undone more rows)
@@ -56,52 +56,52 @@ undone_append [] more rows = refl
 undone_append (first ∷ changes) more rows =
     ap (λ (xs : List Standing). set xs first.row first.standing) (undone_append changes more rows)
 
--- changes of rows after the mark do not show in its rows
-undone_marked : (marked : ℕ) (changes : List Replaced) (rows : List Standing)
-    → take marked (undone (of_marked marked changes) rows) ≡ take marked (undone changes rows)
-undone_marked marked [] rows = refl
-undone_marked marked (change ∷ changes) rows = elim (cases_Bool (ltb change.row marked)) [
+-- changes of rows after the savepoint do not show in its rows
+undone_saved : (saved : ℕ) (changes : List Replaced) (rows : List Standing)
+    → take saved (undone (of_saved saved changes) rows) ≡ take saved (undone changes rows)
+undone_saved saved [] rows = refl
+undone_saved saved (change ∷ changes) rows = elim (cases_Bool (ltb change.row saved)) [
   | inl before ↦
-      ap (λ (cs : List Replaced). take marked (undone cs rows))
-      (cond-true (ltb change.row marked) (change ∷ of_marked marked changes)
-      (of_marked marked changes) before)
-      ∙ set_front marked (undone (of_marked marked changes) rows) (undone changes rows) change.row
-      change.standing (undone_marked marked changes rows)
+      ap (λ (cs : List Replaced). take saved (undone cs rows))
+      (cond-true (ltb change.row saved) (change ∷ of_saved saved changes)
+      (of_saved saved changes) before)
+      ∙ set_front saved (undone (of_saved saved changes) rows) (undone changes rows) change.row
+      change.standing (undone_saved saved changes rows)
   | inr behind ↦
-      ap (λ (cs : List Replaced). take marked (undone cs rows))
-      (cond-false (ltb change.row marked) (change ∷ of_marked marked changes)
-      (of_marked marked changes) behind)
-      ∙ undone_marked marked changes rows
-      ∙ sym (take-set-le marked (undone changes rows) change.row change.standing
-      (ltb-false change.row marked behind))
+      ap (λ (cs : List Replaced). take saved (undone cs rows))
+      (cond-false (ltb change.row saved) (change ∷ of_saved saved changes)
+      (of_saved saved changes) behind)
+      ∙ undone_saved saved changes rows
+      ∙ sym (take-set-le saved (undone changes rows) change.row change.standing
+      (ltb-false change.row saved behind))
 ]
 
--- the rows of the mark come back over the changes that are kept
-pub base_kept : (marked : ℕ) (rows : List Standing) (kept changes : List Replaced)
-    → base_of marked rows (kept ++ of_marked marked changes) ≡ base_of marked (undone changes rows) kept
-base_kept marked rows kept changes =
-    ap (take marked) (undone_append kept (of_marked marked changes) rows)
-    ∙ undone_front marked kept (undone (of_marked marked changes) rows) (undone changes rows)
-    (undone_marked marked changes rows)
+-- the rows of the savepoint come back over the changes that are kept
+pub base_kept : (saved : ℕ) (rows : List Standing) (kept changes : List Replaced)
+    → base_of saved rows (kept ++ of_saved saved changes) ≡ base_of saved (undone changes rows) kept
+base_kept saved rows kept changes =
+    ap (take saved) (undone_append kept (of_saved saved changes) rows)
+    ∙ undone_front saved kept (undone (of_saved saved changes) rows) (undone changes rows)
+    (undone_saved saved changes rows)
 
-pub all_marked : (marked : ℕ) (kept changes : List Replaced) → All (λ (r : Replaced). r.row < marked) kept
-    → All (λ (r : Replaced). r.row < marked) (kept ++ of_marked marked changes)
-all_marked marked kept changes all =
-    All-append (λ (r : Replaced). r.row < marked) kept (of_marked marked changes) all
-    (λ k d k_in. ltb-true (get_or (of_marked marked changes) k d).row marked
-    (filter_passes (λ (r : Replaced). ltb r.row marked) changes k d k_in))
+pub all_saved : (saved : ℕ) (kept changes : List Replaced) → All (λ (r : Replaced). r.row < saved) kept
+    → All (λ (r : Replaced). r.row < saved) (kept ++ of_saved saved changes)
+all_saved saved kept changes all =
+    All-append (λ (r : Replaced). r.row < saved) kept (of_saved saved changes) all
+    (λ k d k_in. ltb-true (get_or (of_saved saved changes) k d).row saved
+    (filter_passes (λ (r : Replaced). ltb r.row saved) changes k d k_in))
 
--- where all rows that changed are of the mark, all changes are
-pub marked_all : (marked : ℕ) (changes : List Replaced) → All (λ (r : Replaced). r.row < marked) changes
-    → of_marked marked changes ≡ changes
-marked_all marked [] all = refl
-marked_all marked (change ∷ changes) all = elim (cases_Bool (ltb change.row marked)) [
+-- where all rows that changed are of the savepoint, all changes are
+pub saved_all : (saved : ℕ) (changes : List Replaced) → All (λ (r : Replaced). r.row < saved) changes
+    → of_saved saved changes ≡ changes
+saved_all saved [] all = refl
+saved_all saved (change ∷ changes) all = elim (cases_Bool (ltb change.row saved)) [
   | inl before ↦
-      cond-true (ltb change.row marked) (change ∷ of_marked marked changes)
-      (of_marked marked changes) before
+      cond-true (ltb change.row saved) (change ∷ of_saved saved changes)
+      (of_saved saved changes) before
       ∙ ap (λ (cs : List Replaced). change ∷ cs)
-      (marked_all marked changes (λ k d low. all (suc k) d (omega (arith, low))))
-  | inr behind ↦ absurd (omega (arith, ltb-false change.row marked behind, all 0 change (omega arith)))
+      (saved_all saved changes (λ k d low. all (suc k) d (omega (arith, low))))
+  | inr behind ↦ absurd (omega (arith, ltb-false change.row saved behind, all 0 change (omega arith)))
 ]
 
 -- the rows of changes

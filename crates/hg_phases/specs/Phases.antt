@@ -38,10 +38,10 @@ pub record Phasing : Type 0 where
   pub draft : List ℕ
   pub secret : List ℕ
 
--- What contracts see: that, and the same at the moment of the mark, where there is one.
-pub record Marked : Type 0 where
+-- What contracts see: that, and the same at the moment of the savepoint, where there is one.
+pub record Saved : Type 0 where
   pub current : Phasing
-  pub marked : Option Phasing
+  pub saved : Option Phasing
 
 -- no row has a phase
 abbrev pub no_rows : Phasing

@@ -2,7 +2,7 @@
 //!
 //! [`Phases`] has the phase of each row of a changelog. [`Phases::register`] gives the next row one, and
 //! [`Phases::advance`] lowers rows and their ancestors. Contracts see a phase for each row, and the same at
-//! the moment of the last [`Mark`], to which [`Phases::back_to`] goes back without memory.
+//! the moment of the last [`Savepoint`], to which [`Phases::back_to`] goes back without memory.
 //!
 //! [`read_entries`] reads the payload of the parts `phase-heads` and `check:phases`: entries of 24 bytes.
 //!
@@ -30,4 +30,4 @@ pub use fault::EntryFault;
 pub use laws::{
     advances_come_together, no_row_is_below_an_ancestor, phases_stay_lawful, roots_tell_phases,
 };
-pub use phases::{Mark, Phases};
+pub use phases::{Phases, Savepoint};

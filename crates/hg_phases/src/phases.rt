@@ -17,7 +17,7 @@ use std::marker::Model;
 
 /// A moment to which the phases can go back. What they were then is a part of the value that contracts see.
 #[derive(Drop)]
-pub struct Mark {
+pub struct Savepoint {
     _private: (),
 }
 
@@ -28,15 +28,15 @@ pub struct Mark {
 #[derive(Drop)]
 pub struct Phases<A: Allocator = Global> {
     index: Tape<A>,
-    is_marked: bool,
+    is_saved: bool,
 }
 
 impl<A: Allocator> Model for Phases<A> {
     ghost use Rattle.std.specs.Prelude.{Some, None, if◌then◌else◌};
     ghost use Rattle.hg_types.specs.declared.phase.Phase.TheVariants.{Draft, Secret};
-    ghost use Rattle.hg_phases.specs.Phases.{Marked};
+    ghost use Rattle.hg_phases.specs.Phases.{Saved};
 
-    ghost Value = { Marked };
+    ghost Value = { Saved };
 
     ghost use Rattle.hg_phases.specs.Standing.{phases_told, told};
     ghost use Rattle.hg_phases.specs.code.Tape.{base_of, IsSound};
@@ -47,34 +47,34 @@ impl<A: Allocator> Model for Phases<A> {
         draft = told Draft p.index.rows.items;
         secret = told Secret p.index.rows.items;
       };
-      marked = if p.is_marked then Some (record {
-        phases = phases_told (base_of p.index.marked p.index.rows.items p.index.kept.items);
-        draft = told Draft (base_of p.index.marked p.index.rows.items p.index.kept.items);
-        secret = told Secret (base_of p.index.marked p.index.rows.items p.index.kept.items);
+      saved = if p.is_saved then Some (record {
+        phases = phases_told (base_of p.index.saved p.index.rows.items p.index.kept.items);
+        draft = told Draft (base_of p.index.saved p.index.rows.items p.index.kept.items);
+        secret = told Secret (base_of p.index.saved p.index.rows.items p.index.kept.items);
       }) else None;
     } };
 
-    ghost invariant = { λ p. IsSound p.index.rows.items p.index.kept.items p.index.marked };
+    ghost invariant = { λ p. IsSound p.index.rows.items p.index.kept.items p.index.saved };
 }
 
 impl<A: Allocator + Copy> Phases<A> {
-    /// No rows, and no mark.
+    /// No rows, and no savepoint.
     pub fn new(alloc: A) -> Self
-        ensures { result ≡ record { current = no_rows; marked = None } }
+        ensures { result ≡ record { current = no_rows; saved = None } }
     {
         Phases {
             index: Tape::new(alloc),
-            is_marked: false,
+            is_saved: false,
         }
     }
 
-    /// The same phases without a mark.
+    /// The same phases without a savepoint.
     pub fn try_clone(&self, alloc: A) -> Result<Self, NoMemory>
-        ensures { IfOk result (λ copy. copy ≡ record { current = self.now.current; marked = None }) }
+        ensures { IfOk result (λ copy. copy ≡ record { current = self.now.current; saved = None }) }
     {
         let index = self.index.copy(alloc)?;
-        let is_marked = false;
-        Ok(Phases { index, is_marked })
+        let is_saved = false;
+        Ok(Phases { index, is_saved })
     }
 
     /// Gives the next row the greatest of `target` and its parents' phases.
@@ -88,7 +88,7 @@ impl<A: Allocator + Copy> Phases<A> {
         ensures ok { OnOk result
             (self.new.current.phases ≡ registered (parents_of log.now.rows) target self.old.current.phases) }
         ensures fits { AreFor log.now.rows self.new.current }
-        ensures marked { self.new.marked ≡ self.old.marked }
+        ensures saved { self.new.saved ≡ self.old.saved }
         ensures err { OnErr result (self.new ≡ self.old) }
     {
         // Brings that the log is lawful.
@@ -120,7 +120,7 @@ impl<A: Allocator + Copy> Phases<A> {
             (self.new.current.phases
             ≡ advanced (parents_of log.now.rows) target heads.now self.old.current.phases) }
         ensures fits { AreFor log.now.rows self.new.current }
-        ensures marked { self.new.marked ≡ self.old.marked }
+        ensures saved { self.new.saved ≡ self.old.saved }
         ensures err { OnErr result (self.new ≡ self.old) }
     {
         // Brings that the log is lawful.
@@ -163,24 +163,24 @@ impl<A: Allocator> Phases<A> {
         are_same(self.index.rows.as_slice(), other.index.rows.as_slice())
     }
 
-    /// Marks the phases as they are. It takes no memory, and an earlier mark is gone.
-    pub fn mark(&mut self) -> Mark
-        ensures { self.new ≡ record { current = self.old.current; marked = Some self.old.current } }
+    /// Sets a savepoint: the phases as they are. It takes no memory, and an earlier one is gone.
+    pub fn savepoint(&mut self) -> Savepoint
+        ensures { self.new ≡ record { current = self.old.current; saved = Some self.old.current } }
     {
-        self.index.mark();
-        self.is_marked = true;
-        Mark { _private: () }
+        self.index.savepoint();
+        self.is_saved = true;
+        Savepoint { _private: () }
     }
 
-    /// Goes back to the phases of the moment of the mark, the last that was made. It takes no memory, and
+    /// Goes back to the phases of the moment of the savepoint, the last that was made. It takes no memory, and
     /// costs the rows that changed since then.
-    pub fn back_to(&mut self, mark: Mark)
-        requires { self.old.marked ≢ None }
-        ensures back { self.old.marked ≡ Some self.new.current }
-        ensures gone { self.new.marked ≡ None }
+    pub fn back_to(&mut self, savepoint: Savepoint)
+        requires { self.old.saved ≢ None }
+        ensures back { self.old.saved ≡ Some self.new.current }
+        ensures gone { self.new.saved ≡ None }
     {
-        let Mark { _private } = mark;
+        let Savepoint { _private } = savepoint;
         self.index.back();
-        self.is_marked = false;
+        self.is_saved = false;
     }
 }

@@ -1,8 +1,8 @@
-//! The rows that have a phase, which can go back to what they were at a mark, without memory.
+//! The rows that have a phase, which can go back to what they were at a savepoint, without memory.
 
 ghost use Rattle.std.specs.Prelude.{◌≡◌, ◌<◌, ◌≤◌, [], ◌∷◌, ◌++◌, All, length, vec_len, slice_set};
 ghost use Rattle.std.specs.Prelude.{IfOk, OnOk, OnErr};
-ghost use Rattle.hg_phases.specs.code.Tape.{base_of, undone, of_marked, rows_of, TapeFollows};
+ghost use Rattle.hg_phases.specs.code.Tape.{base_of, undone, of_saved, rows_of, TapeFollows};
 
 use crate::standing::Standing;
 use std::alloc::{AllocError, Allocator, Global};
@@ -15,41 +15,41 @@ pub struct Replaced {
     pub standing: Standing,
 }
 
-/// The rows, and what was replaced in those of the mark.
+/// The rows, and what was replaced in those of the savepoint.
 #[derive(Drop)]
 pub struct Tape<A: Allocator = Global> {
     pub rows: Vec<Standing, A>,
-    /// What was replaced since the mark, the last at the end.
+    /// What was replaced since the savepoint, the last at the end.
     pub kept: Vec<Replaced, A>,
-    /// How many rows there were at the mark. Where there is no mark, it is 0.
-    pub marked: usize,
+    /// How many rows there were at the savepoint. Where there is no savepoint, it is 0.
+    pub saved: usize,
 }
 
 impl<A: Allocator + Copy> Tape<A> {
-    /// No rows, and no mark. It takes no memory.
+    /// No rows, and no savepoint. It takes no memory.
     pub fn new(alloc: A) -> Self
         ensures rows { result.rows.items ≡ [] }
         ensures kept { result.kept.items ≡ [] }
-        ensures marked { result.marked ≡ 0 }
+        ensures saved { result.saved ≡ 0 }
     {
         Tape {
             rows: Vec::new(alloc),
             kept: Vec::new(alloc),
-            marked: 0,
+            saved: 0,
         }
     }
 
-    /// The same rows without a mark.
+    /// The same rows without a savepoint.
     pub fn copy(&self, alloc: A) -> Result<Self, AllocError>
         ensures rows { IfOk result (λ copy. copy.rows.items ≡ self.now.rows.items) }
         ensures kept { IfOk result (λ copy. copy.kept.items ≡ []) }
-        ensures marked { IfOk result (λ copy. copy.marked ≡ 0) }
+        ensures saved { IfOk result (λ copy. copy.saved ≡ 0) }
     {
         let rows = Vec::from_slice(alloc, self.rows.as_slice())?;
         Ok(Tape {
             rows,
             kept: Vec::new(alloc),
-            marked: 0,
+            saved: 0,
         })
     }
 }
@@ -83,19 +83,19 @@ pub fn undo<A: Allocator>(rows: &mut Vec<Standing, A>, changes: Vec<Replaced, A>
     }
 }
 
-/// Keeps those changes that are of the first rows, so many as were marked. Where memory is refused, nothing
+/// Keeps those changes that are of the first rows, so many as were saved. Where memory is refused, nothing
 /// is kept of them.
-fn keep_marked<A: Allocator>(
+fn keep_saved<A: Allocator>(
     kept: &mut Vec<Replaced, A>,
-    marked: usize,
+    saved: usize,
     changes: &[Replaced],
 ) -> Result<(), AllocError>
-    ensures ok { OnOk result (kept.new.items ≡ kept.old.items ++ of_marked marked changes.now) }
+    ensures ok { OnOk result (kept.new.items ≡ kept.old.items ++ of_saved saved changes.now) }
     ensures err { OnErr result (kept.new.items ≡ kept.old.items) }
 {
     let before = kept.len();
     for change in changes {
-        if (change.row as usize) < marked {
+        if (change.row as usize) < saved {
             if let Err(refused) = kept.push(*change) {
                 kept.truncate(before);
                 return Err(refused.into());
@@ -111,7 +111,7 @@ impl<A: Allocator> Tape<A> {
         ensures none { result.items ≡ [] }
         ensures rows { self.new.rows.items ≡ self.old.rows.items }
         ensures kept { self.new.kept.items ≡ self.old.kept.items }
-        ensures marked { self.new.marked ≡ self.old.marked }
+        ensures saved { self.new.saved ≡ self.old.saved }
     {
         let none = Vec::new(alloc);
         if self.kept.is_empty() {
@@ -121,40 +121,40 @@ impl<A: Allocator> Tape<A> {
     }
 
     /// Keeps changes that were made, where none is kept yet: their list itself, without the rows that came
-    /// after the mark.
+    /// after the savepoint.
     fn take_over(&mut self, changes: Vec<Replaced, A>)
         requires within { All (λ change. change.row < length self.old.rows.items) changes.items }
         ensures rows { self.new.rows.items ≡ self.old.rows.items }
-        ensures marked { self.new.marked ≡ self.old.marked }
-        ensures kept { self.new.kept.items ≡ of_marked self.old.marked changes.items }
+        ensures saved { self.new.saved ≡ self.old.saved }
+        ensures kept { self.new.kept.items ≡ of_saved self.old.saved changes.items }
     {
-        let marked = self.marked;
+        let saved = self.saved;
         let mut kept = changes;
-        if marked < self.rows.len() {
-            kept.retain(|change| (change.row as usize) < marked);
+        if saved < self.rows.len() {
+            kept.retain(|change| (change.row as usize) < saved);
         }
         self.kept = kept;
     }
 
     /// Keeps changes that were made, for the way back.
     ///
-    /// What is kept is a number and a standing for each change of a row of the mark. Where memory is refused,
+    /// What is kept is a number and a standing for each change of a row of the savepoint. Where memory is refused,
     /// the changes are taken back.
     pub fn keep(&mut self, changes: Vec<Replaced, A>) -> Result<(), AllocError>
         requires within { All (λ change. change.row < length self.old.rows.items) changes.items }
-        requires replaced { All (λ change. change.row < self.old.marked) self.old.kept.items }
+        requires replaced { All (λ change. change.row < self.old.saved) self.old.kept.items }
         ensures ok { OnOk result (self.new.rows.items ≡ self.old.rows.items) }
         ensures err { OnErr result (self.new.rows.items ≡ undone changes.items self.old.rows.items) }
-        ensures marked { self.new.marked ≡ self.old.marked }
-        ensures replaced { All (λ change. change.row < self.new.marked) self.new.kept.items }
-        ensures base { base_of self.new.marked self.new.rows.items self.new.kept.items
-            ≡ base_of self.old.marked (undone changes.items self.old.rows.items) self.old.kept.items }
+        ensures saved { self.new.saved ≡ self.old.saved }
+        ensures replaced { All (λ change. change.row < self.new.saved) self.new.kept.items }
+        ensures base { base_of self.new.saved self.new.rows.items self.new.kept.items
+            ≡ base_of self.old.saved (undone changes.items self.old.rows.items) self.old.kept.items }
     {
-        if self.marked > 0 && self.kept.is_empty() {
+        if self.saved > 0 && self.kept.is_empty() {
             self.take_over(changes);
             return Ok(());
         }
-        match keep_marked(&mut self.kept, self.marked, changes.as_slice()) {
+        match keep_saved(&mut self.kept, self.saved, changes.as_slice()) {
             Ok(()) => Ok(()),
             Err(refused) => {
                 undo(&mut self.rows, changes);
@@ -164,28 +164,28 @@ impl<A: Allocator> Tape<A> {
     }
 
     /// Marks the rows as they are.
-    pub fn mark(&mut self)
+    pub fn savepoint(&mut self)
         ensures rows { self.new.rows ≡ self.old.rows }
         ensures kept { self.new.kept.items ≡ [] }
-        ensures marked { self.new.marked ≡ vec_len self.old.rows }
+        ensures saved { self.new.saved ≡ vec_len self.old.rows }
     {
         self.kept.clear();
-        self.marked = self.rows.len();
+        self.saved = self.rows.len();
     }
 
-    /// Goes back to what the rows were at the mark, which is gone then.
+    /// Goes back to what the rows were at the savepoint, which is gone then.
     pub fn back(&mut self)
-        requires marked { self.old.marked ≤ vec_len self.old.rows }
-        requires replaced { All (λ change. change.row < self.old.marked) self.old.kept.items }
+        requires saved { self.old.saved ≤ vec_len self.old.rows }
+        requires replaced { All (λ change. change.row < self.old.saved) self.old.kept.items }
         ensures rows { self.new.rows.items
-            ≡ base_of self.old.marked self.old.rows.items self.old.kept.items }
+            ≡ base_of self.old.saved self.old.rows.items self.old.kept.items }
         ensures kept { self.new.kept.items ≡ [] }
-        ensures marked { self.new.marked ≡ 0 }
+        ensures saved { self.new.saved ≡ 0 }
     {
         'back: while let Some(change) = self.kept.pop() {
             self.rows[change.row as usize] = change.standing;
         }
-        self.rows.truncate(self.marked);
-        self.marked = 0;
+        self.rows.truncate(self.saved);
+        self.saved = 0;
     }
 }

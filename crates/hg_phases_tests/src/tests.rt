@@ -57,7 +57,7 @@ fn register_next<A: Allocator + Copy>(
 ) -> bool
     requires { AreFor log.now.rows phases.old.current }
     ensures fits { AreFor log.now.rows phases.new.current }
-    ensures marked { phases.new.marked ≡ phases.old.marked }
+    ensures saved { phases.new.saved ≡ phases.old.saved }
 {
     let rev = phases.len();
     if rev >= log.len() {
@@ -74,7 +74,7 @@ fn register_all<A: Allocator + Copy>(
 ) -> bool
     requires { AreFor log.now.rows phases.old.current }
     ensures fits { AreFor log.now.rows phases.new.current }
-    ensures marked { phases.new.marked ≡ phases.old.marked }
+    ensures saved { phases.new.saved ≡ phases.old.saved }
 {
     for target in targets {
         if !register_next(phases, log, *target) {
@@ -93,7 +93,7 @@ fn register_many<A: Allocator + Copy>(
 ) -> bool
     requires { AreFor log.now.rows phases.old.current }
     ensures fits { AreFor log.now.rows phases.new.current }
-    ensures marked { phases.new.marked ≡ phases.old.marked }
+    ensures saved { phases.new.saved ≡ phases.old.saved }
 {
     'rows: for _ in 0..count {
         if !register_next(phases, log, target) {
@@ -113,7 +113,7 @@ fn advance<A: Allocator + Copy>(
 ) -> bool
     requires { AreFor log.now.rows phases.old.current }
     ensures fits { AreFor log.now.rows phases.new.current }
-    ensures marked { phases.new.marked ≡ phases.old.marked }
+    ensures saved { phases.new.saved ≡ phases.old.saved }
 {
     let len = phases.len();
     if !heads.iter().all(|head| (*head as usize) < len) {
@@ -123,12 +123,12 @@ fn advance<A: Allocator + Copy>(
 }
 
 /// Marks the phases.
-fn mark<A: Allocator>(phases: &mut Phases<A>, log: &Changelog<A>) -> Mark
+fn savepoint<A: Allocator>(phases: &mut Phases<A>, log: &Changelog<A>) -> Savepoint
     requires { AreFor log.now.rows phases.old.current }
     ensures fits { AreFor log.now.rows phases.new.current }
-    ensures marked { phases.new.marked ≡ Some phases.old.current }
+    ensures saved { phases.new.saved ≡ Some phases.old.current }
 {
-    phases.mark()
+    phases.savepoint()
 }
 
 /// Whether these are the phases of all rows that have one.
@@ -172,7 +172,7 @@ fn advance_each<A: Allocator + Copy>(
 ) -> bool
     requires { AreFor log.now.rows phases.old.current }
     ensures fits { AreFor log.now.rows phases.new.current }
-    ensures marked { phases.new.marked ≡ phases.old.marked }
+    ensures saved { phases.new.saved ≡ phases.old.saved }
 {
     let mut all = true;
     for step in steps {
@@ -212,7 +212,7 @@ fn a_merge_is_told(alloc: Global, log: &mut Changelog) -> bool {
     let mut phases = no_phases(alloc, log);
     let is_registered = register_all(&mut phases, log, &[D, P, S, P, P, P]);
     let are_registered = are(&phases, &REGISTERED);
-    let marked = mark(&mut phases, log);
+    let saved = savepoint(&mut phases, log);
     let steps = [
         to(P, &[1], &[P, P, S, S, S, P]),
         to(D, &[3], &[P, P, D, D, S, P]),
@@ -220,12 +220,12 @@ fn a_merge_is_told(alloc: Global, log: &mut Changelog) -> bool {
         to(P, &[4, 2], &[P, P, P, P, P, P]),
     ];
     let is_advanced = advance_each(alloc, &mut phases, log, &steps);
-    phases.back_to(marked);
+    phases.back_to(saved);
     let is_back = are(&phases, &REGISTERED);
     is_put & is_registered & are_registered & is_advanced & is_back
 }
 
-// A root at D, two children at P and S, their merge, its child and another root at P; a mark;
+// A root at D, two children at P and S, their merge, its child and another root at P; a savepoint;
 // advances of row 1 to P, of the merge to D, of rows 0 and 5 to D, of rows 4 and 2 to P; back.
 // Result: D D S S S P; then P P S S S P, P P D D S P, the same, all P; D D S S S P.
 #[test]
@@ -253,31 +253,31 @@ fn is_copied<A: Allocator + Copy>(alloc: A, phases: &Phases<A>, wanted: &[Phase]
     }
 }
 
-/// Rows registered after a mark, an advance of them and of rows before it, and back.
-fn rows_behind_a_mark_are_told(alloc: Global, log: &mut Changelog) -> bool {
+/// Rows registered after a savepoint, an advance of them and of rows before it, and back.
+fn rows_behind_a_savepoint_are_told(alloc: Global, log: &mut Changelog) -> bool {
     let is_put = put_merged(alloc, log).is_some();
     let mut phases = no_phases(alloc, log);
     let is_registered = register_all(&mut phases, log, &[S, S, S]);
-    let marked = mark(&mut phases, log);
+    let saved = savepoint(&mut phases, log);
     let has_more = register_all(&mut phases, log, &[D]);
     let is_advanced = advance(alloc, &mut phases, log, D, &[3]);
     let has_last = register_all(&mut phases, log, &[P]);
     let are_draft = are(&phases, &[D, D, D, D, D]);
     let is_compared = is_same_until_lowered(alloc, log, &phases);
-    phases.back_to(marked);
+    phases.back_to(saved);
     let is_back = are(&phases, &[S, S, S]);
     let is_copied = is_copied(alloc, &phases, &[S, S, S]) == Some(true);
     let is_changed = is_put & is_registered & has_more & is_advanced & has_last;
     is_changed & are_draft & is_compared & is_back & is_copied
 }
 
-// Three of these rows at S; a mark; the merge at D, an advance of it to D, the next row at P; the
+// Three of these rows at S; a savepoint; the merge at D, an advance of it to D, the next row at P; the
 // same rows registered at D in other phases, one of them advanced; back, and a copy. Result: S S S;
 // D D D D D; the same phases, then not; S S S, twice.
 #[test]
-fn rows_that_come_behind_a_mark(rt: HostRuntime) -> Result<(), Fail> {
+fn rows_that_come_behind_a_savepoint(rt: HostRuntime) -> Result<(), Fail> {
     let mut log = new_log(rt)?;
-    assert!(rt; rows_behind_a_mark_are_told(rt.alloc(), &mut log));
+    assert!(rt; rows_behind_a_savepoint_are_told(rt.alloc(), &mut log));
     Ok(())
 }
 
@@ -421,8 +421,8 @@ fn many_are_told<'h>(heap: &'h LocalHeap, log: &Changelog<&'h LocalHeap>, heads:
     let registered = heap.used().saturating_sub(before);
     let is_copied = many_are_copied(heap, &phases, D, registered);
     let are_listed = are_rooted(heap, &phases, MANY / 2, 8 * MANY);
-    let marked = mark(&mut phases, log);
-    let is_marked = heap.used().saturating_sub(before) == registered;
+    let saved = savepoint(&mut phases, log);
+    let is_saved = heap.used().saturating_sub(before) == registered;
     let is_lowered = advance(heap, &mut phases, log, P, &[LAST]);
     let lowered = heap.used().saturating_sub(before);
     let is_first = advance(heap, &mut phases, log, P, &[0]);
@@ -431,13 +431,13 @@ fn many_are_told<'h>(heap: &'h LocalHeap, log: &Changelog<&'h LocalHeap>, heads:
     let are_public = are_all(&phases, P) & are_rooted(heap, &phases, 0, 0);
     let advanced = heap.used().saturating_sub(before);
     let is_itself = phases.is_same(&phases);
-    phases.back_to(marked);
+    phases.back_to(saved);
     let are_draft = are_all(&phases, D);
     let is_back = heap.used().saturating_sub(before) == advanced;
     let is_small = registered <= 16 * MANY && advanced <= 48 * MANY;
     let is_little = lowered <= registered.saturating_add(256)
         && first <= registered.saturating_add(256);
-    let takes_none = is_new & is_marked & is_back;
+    let takes_none = is_new & is_saved & is_back;
     let is_lowered = is_lowered & is_first;
     let is_done = is_registered & is_lowered & is_advanced & are_public & is_itself & are_draft;
     is_done & is_copied & are_listed & is_small & is_little & takes_none
@@ -464,10 +464,10 @@ fn many_are_read(alloc: Global) -> bool {
 }
 
 // 10,000 rows, each second one the child of the row before it, over an ample heap: registered at D;
-// a mark; advances of the last row to P, of the first, and of 5,000 heads; back; 10,000 entries.
+// a savepoint; advances of the last row to P, of the first, and of 5,000 heads; back; 10,000 entries.
 // Result: nothing is refused; at most 16 and 48 bytes a row, and 256 bytes more for the last row
 // and the first together; 5,000 roots of draft in at most 16 bytes each, and none in no bytes once
-// all are public; `new`, `mark`, `phase`, `len`, `is_same` and `back_to` leave the heap's bytes in
+// all are public; `new`, `savepoint`, `phase`, `len`, `is_same` and `back_to` leave the heap's bytes in
 // use as they were.
 #[test]
 fn many_rows(rt: HostRuntime) -> Result<(), Fail> {
@@ -607,7 +607,7 @@ fn reading<A: Allocator + Copy>(alloc: A) -> Outcome {
 fn advancing<A: Allocator + Copy>(alloc: A, phases: &mut Phases<A>, log: &Changelog<A>) -> Outcome
     requires { AreFor log.now.rows phases.old.current }
 {
-    let marked = mark(phases, log);
+    let saved = savepoint(phases, log);
     let is_done = advance(alloc, phases, log, D, &[4]);
     let after = if is_done {
         [D, D, D, D, D, P]
@@ -615,7 +615,7 @@ fn advancing<A: Allocator + Copy>(alloc: A, phases: &mut Phases<A>, log: &Change
         REGISTERED
     };
     let is_right = are(phases, &after);
-    phases.back_to(marked);
+    phases.back_to(saved);
     let is_back = are(phases, &REGISTERED);
     outcome_of(is_right && is_back, is_done)
 }
@@ -676,7 +676,7 @@ fn steps_of_new<'h>(heap: &'h LocalHeap, rows: &'h LocalHeap, state: RandomState
 
 /// Over heaps of each multiple of 16 bytes, so that each growth is refused in turn.
 /// Six rows registered; where they all are, each for itself, a copy, the roots of draft, entries,
-/// and a mark, an advance and back; over heaps of 0 to 1,520 bytes. Result: out of memory with all
+/// and a savepoint, an advance and back; over heaps of 0 to 1,520 bytes. Result: out of memory with all
 /// as before, or the answer; each of the five is refused somewhere and succeeds somewhere.
 #[test]
 fn each_growth_refused(rt: HostRuntime) -> Result<(), Fail> {

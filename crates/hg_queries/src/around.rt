@@ -2,7 +2,7 @@
 
 use hg_push::Outcome;
 use hg_repo::{Done, Refusal, Repo};
-use hg_serve::Gate;
+use hg_serve::Probe;
 use hg_types::{NoMemory, Seq};
 use std::alloc::{Allocator, Global};
 
@@ -44,6 +44,6 @@ pub struct WatchedPush<'a, A: Allocator = Global> {
 /// Watches one connection: it hears of the places that a push reaches under way, by which times can be taken
 /// (after `Marked` it waits for the lock, after `Answered` for the device), and of each push that ended, before
 /// its answer is sent.
-pub trait Watch<A: Allocator>: Gate {
+pub trait Watch<A: Allocator>: Probe {
     fn pushed(&mut self, pushed: &WatchedPush<'_, A>);
 }

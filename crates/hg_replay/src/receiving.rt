@@ -6,14 +6,14 @@ ghost use Rattle.hg_stream.specs.Unbundler.{HoldsBundle, limits_of, ready_of, st
 ghost use Rattle.hg_stream.specs.declared.state.State.TheVariants.{Reading};
 ghost use Rattle.hg_replay.specs.Receiving.{Received};
 
-use hg_connection::{BundleEnd, Inbox, Reader, turn};
+use hg_connection::{BundleEnd, Inbox, Reader, read_on};
 use hg_stream::Unbundler;
 use std::alloc::Allocator;
 
 /// How many bytes a bundle may have.
 const STREAM: u32 = 268_435_456;
 
-/// Reads up to the end mark, a fault, the end of the input or a failed read: at least one byte a turn, but
+/// Reads up to the end mark, a fault, the end of the input or a failed read: at least one byte a call, but
 /// for the last.
 pub fn receive<A: Allocator + Copy, R: Reader>(
     reader: &mut R,
@@ -26,7 +26,7 @@ pub fn receive<A: Allocator + Copy, R: Reader>(
 {
     let mut inbox = Inbox::new();
     for _turn in 0..=STREAM {
-        match turn(bundle, &mut inbox, reader) {
+        match read_on(bundle, &mut inbox, reader) {
             None => {}
             Some(ending) => return ending,
         }

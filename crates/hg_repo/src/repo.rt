@@ -179,11 +179,11 @@ impl<A: Allocator + Copy> Repo<A> {
         ensures replies { IfOk result (λ done. AreReplies (length parts.now) done.replies) }
         ensures settings { self.new.settings ≡ self.old.settings }
     {
-        let mark = self.store.mark();
+        let savepoint = self.store.savepoint();
         match run_parts(self.alloc, &mut self.store, &self.settings, source, parts) {
             Ok(done) => Ok(done),
             Err(refusal) => {
-                self.store.back_to(mark);
+                self.store.back_to(savepoint);
                 Err(refusal)
             }
         }
@@ -205,7 +205,7 @@ impl<A: Allocator + Copy> Repo<A> {
         ensures replies { IfOk result (λ done. AreReplies (length prepared) done.replies) }
         ensures settings { self.new.settings ≡ self.old.settings }
     {
-        let before = self.store.mark();
+        let before = self.store.savepoint();
         match run_prepared(
             self.alloc,
             &mut self.store,

@@ -23,8 +23,8 @@ ghost use Rattle.hg_serve.specs.Desks.{next_of, keeping, seating};
 mod meeting;
 
 use crate::client::{Awaiting, Client};
-use crate::gate::{Gate, Point};
 use crate::naming::Naming;
+use crate::probe::{Point, Probe};
 use crate::question::Question;
 use hg_push::laws::{closed_pushes_have_ended, done_had_all_of_its_list};
 use hg_push::{Book, OpenFault, Outcome, Standing};
@@ -211,12 +211,12 @@ impl<J: Naming<A>, A: Allocator + Copy> Desk<J, A> {
 
     /// Takes until the push is closed, and says how often. The queue is not empty before: the push's mark
     /// is in it.
-    fn finish<R: Wait, G: Gate>(
+    fn finish<R: Wait, G: Probe>(
         &mut self,
         rt: &R,
         queue: &PartQueue<A>,
         push: u32,
-        gate: &mut G,
+        probe: &mut G,
     ) -> u32
         requires queue { IsQueueIn J.table J.capacity queue.now × (J.capacity ≤ 65536) }
         requires noted { has push self.old.taker.noted ≡ true }
@@ -233,7 +233,7 @@ impl<J: Naming<A>, A: Allocator + Copy> Desk<J, A> {
         closed_pushes_have_ended::<A>();
         let mut takes = 0;
         'closing: while self.is_open(push) {
-            gate.at(Point::Locked);
+            probe.at(Point::Locked);
             if !self.turn(rt, queue) {
                 unreachable!();
             }
@@ -271,12 +271,12 @@ impl<J: Naming<A>, A: Allocator + Copy> Desk<J, A> {
 
     /// Takes until the push is closed, and hands out its outcome. Its client has then seen the whole
     /// history, by which the push ended so.
-    pub(crate) fn answer<R: Wait, G: Gate>(
+    pub(crate) fn answer<R: Wait, G: Probe>(
         &mut self,
         rt: &R,
         queue: &PartQueue<A>,
         ended: Awaiting<J, A>,
-        gate: &mut G,
+        probe: &mut G,
     ) -> (Answer<A>, Client<J, A>)
         requires queue { IsQueueIn J.table J.capacity queue.now × (J.capacity ≤ 65536) }
         ensures answers { Answers J.capacity J.first ended.push ended.put ended.history
@@ -293,7 +293,7 @@ impl<J: Naming<A>, A: Allocator + Copy> Desk<J, A> {
         closed_pushes_have_ended::<A>();
         done_had_all_of_its_list::<A>();
         self.begin(queue, marked, &mut visitor);
-        let takes = self.finish(rt, queue, push, gate);
+        let takes = self.finish(rt, queue, push, probe);
         let outcome = self.reply(push);
         self.show(queue, &mut visitor);
         let client = Client {

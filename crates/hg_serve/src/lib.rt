@@ -9,15 +9,15 @@
 
 mod client;
 mod desk;
-mod gate;
 mod naming;
 mod pauses;
+mod probe;
 mod question;
 mod server;
 
 pub use client::{Awaiting, Client, Sender};
 pub use desk::{Answer, Closed, Desk};
-pub use gate::{Gate, NoGate, Point};
 pub use naming::Naming;
+pub use probe::{NoProbe, Point, Probe};
 pub use question::Question;
 pub use server::{PutFault, Server};

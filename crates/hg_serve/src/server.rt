@@ -16,9 +16,9 @@ mod meeting;
 
 use crate::client::{Awaiting, Client, Sender};
 use crate::desk::{Answer, Closed, Desk};
-use crate::gate::{Gate, Point};
 use crate::naming::Naming;
 use crate::pauses::Pauses;
+use crate::probe::{Point, Probe};
 use hg_push::OpenFault;
 use hg_queue::{Full, Mark, PartQueue, Taker};
 use hg_repo::Repo;
@@ -191,12 +191,12 @@ impl<J: Naming<A>, A: Allocator + Copy> Server<J, A> {
 
     /// Puts a part. Where the queue is full it takes one item and tries again. The part comes back after
     /// 10,000 parts alone.
-    pub fn put<R: Wait, G: Gate>(
+    pub fn put<R: Wait, G: Probe>(
         &self,
         rt: &R,
         sender: &mut Sender<J, A>,
         part: BoxedPart<A>,
-        gate: &mut G,
+        probe: &mut G,
     ) -> Result<(), BoxedPart<A>>
         ensures { MatchResult result
             (λ _. PutsNext sender.old (a_part part) sender.new)
@@ -207,13 +207,13 @@ impl<J: Naming<A>, A: Allocator + Copy> Server<J, A> {
         'putting: for _ in rt.forever() {
             match self.try_put(rt, sender, part) {
                 Ok(()) => {
-                    gate.at(Point::Put);
+                    probe.at(Point::Put);
                     return Ok(());
                 }
                 Err(PutFault::TooMany(back)) => return Err(back),
                 Err(PutFault::Full(back)) => {
                     part = back;
-                    self.turn_for(rt, &mut sender.pauses, gate);
+                    self.turn_for(rt, &mut sender.pauses, probe);
                 }
             }
         }
@@ -221,36 +221,36 @@ impl<J: Naming<A>, A: Allocator + Copy> Server<J, A> {
     }
 
     /// Puts the end mark, as [`Server::put`] puts a part.
-    pub fn end<R: Wait, G: Gate>(
+    pub fn end<R: Wait, G: Probe>(
         &self,
         rt: &R,
         sender: Sender<J, A>,
-        gate: &mut G,
+        probe: &mut G,
     ) -> Awaiting<J, A>
         ensures { PutsItsMark sender End result }
     {
-        self.mark(rt, sender, Mark::End, gate)
+        self.mark(rt, sender, Mark::End, probe)
     }
 
     /// Puts the mark of a push that was cut off.
-    pub fn cut<R: Wait, G: Gate>(
+    pub fn cut<R: Wait, G: Probe>(
         &self,
         rt: &R,
         sender: Sender<J, A>,
         reason: CutReason,
-        gate: &mut G,
+        probe: &mut G,
     ) -> Awaiting<J, A>
         ensures { PutsItsMark sender (Cut reason) result }
     {
-        self.mark(rt, sender, Mark::Cut(reason), gate)
+        self.mark(rt, sender, Mark::Cut(reason), probe)
     }
 
-    fn mark<R: Wait, G: Gate>(
+    fn mark<R: Wait, G: Probe>(
         &self,
         rt: &R,
         sender: Sender<J, A>,
         mark: Mark,
-        gate: &mut G,
+        probe: &mut G,
     ) -> Awaiting<J, A>
         ensures { PutsItsMark sender (what_of mark) result }
     {
@@ -264,7 +264,7 @@ impl<J: Naming<A>, A: Allocator + Copy> Server<J, A> {
         'marking: for _ in rt.forever() {
             match self.queue.try_mark(rt, putter, mark) {
                 Ok(marked) => {
-                    gate.at(Point::Marked);
+                    probe.at(Point::Marked);
                     return Awaiting {
                         marked,
                         visitor,
@@ -275,7 +275,7 @@ impl<J: Naming<A>, A: Allocator + Copy> Server<J, A> {
                 }
                 Err((back, _)) => {
                     putter = back;
-                    self.turn_for(rt, &mut pauses, gate);
+                    self.turn_for(rt, &mut pauses, probe);
                 }
             }
         }
@@ -284,31 +284,31 @@ impl<J: Naming<A>, A: Allocator + Copy> Server<J, A> {
 
     /// Takes until the push is closed, and says how it ended. Its client has then seen the whole history,
     /// by which the push ended so. The lock is held for the takes, and for nothing else.
-    pub fn answer<R: Wait, G: Gate>(
+    pub fn answer<R: Wait, G: Probe>(
         &self,
         rt: &R,
         mut ended: Awaiting<J, A>,
-        gate: &mut G,
+        probe: &mut G,
     ) -> (Answer<A>, Client<J, A>)
         ensures { Answers J.capacity J.first ended.push ended.put ended.history
             result.0.outcome result.0.takes result.1 }
     {
         let answered = self
             .lock(rt, &mut ended.pauses)
-            .answer(rt, &self.queue, ended, gate);
-        gate.at(Point::Answered);
+            .answer(rt, &self.queue, ended, probe);
+        probe.at(Point::Answered);
         answered
     }
 
     /// Takes one item under the lock, and steps. It is false where there was none.
-    pub fn turn<R: Wait, G: Gate>(&self, rt: &R, gate: &mut G) -> bool {
-        self.turn_for(rt, &mut Pauses::none(), gate)
+    pub fn turn<R: Wait, G: Probe>(&self, rt: &R, probe: &mut G) -> bool {
+        self.turn_for(rt, &mut Pauses::none(), probe)
     }
 
     /// The same, for a connection that has learned so many pauses.
-    fn turn_for<R: Wait, G: Gate>(&self, rt: &R, pauses: &mut Pauses, gate: &mut G) -> bool {
+    fn turn_for<R: Wait, G: Probe>(&self, rt: &R, pauses: &mut Pauses, probe: &mut G) -> bool {
         let mut desk = self.lock(rt, pauses);
-        gate.at(Point::Locked);
+        probe.at(Point::Locked);
         desk.turn(rt, &self.queue)
     }
 

@@ -19,7 +19,7 @@ use hg_help_tests::parts::{part_of, settings};
 use hg_push::{OpenFault, Outcome, Reason};
 use hg_queue::{PartQueue, Taker};
 use hg_repo::{Refusal, Repo, Source};
-use hg_serve::{Answer, Client, Closed, Gate, Naming, NoGate, Point, PutFault, Sender, Server};
+use hg_serve::{Answer, Client, Closed, Naming, NoProbe, Point, Probe, PutFault, Sender, Server};
 use hg_types::{BoxedPart, CutReason, NoMemory, Seq, Settings};
 use std::alloc::{AllocFailed, Allocator, Global};
 use std::hash::RandomState;
@@ -85,7 +85,7 @@ fn put<J: Naming<A>, A: Allocator + Copy, R: Wait + Abort>(
     sender: &mut Sender<J, A>,
     part: BoxedPart<A>,
 ) {
-    assert!(rt; server.put(rt, sender, part, &mut NoGate).is_ok());
+    assert!(rt; server.put(rt, sender, part, &mut NoProbe).is_ok());
 }
 
 /// Ends the push and waits for its answer.
@@ -94,8 +94,8 @@ fn finish<J: Naming<A>, A: Allocator + Copy, R: Wait>(
     server: &Server<J, A>,
     sender: Sender<J, A>,
 ) -> (Answer<A>, Client<J, A>) {
-    let ended = server.end(rt, sender, &mut NoGate);
-    server.answer(rt, ended, &mut NoGate)
+    let ended = server.end(rt, sender, &mut NoProbe);
+    server.answer(rt, ended, &mut NoProbe)
 }
 
 fn add<J: Naming<A>, A: Allocator, R: Abort>(

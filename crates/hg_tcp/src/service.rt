@@ -15,7 +15,7 @@ use hg_connection::{ConnFault, Reader, Served, Writer, serve_connection};
 use hg_push::OpenFault;
 use hg_queue::{PartQueue, Taker};
 use hg_repo::Repo;
-use hg_serve::{Client, NoGate, Server};
+use hg_serve::{Client, NoProbe, Server};
 use std::alloc::{Allocator, Global};
 use std::marker::Model;
 use std::net::TcpStream;
@@ -118,7 +118,7 @@ impl<J: ServiceNaming<A>, A: Allocator + Copy> SharedServer<J, A> {
             reader,
             writer,
             most,
-            &mut NoGate,
+            &mut NoProbe,
         );
         self.leave(rt, client);
         Some(served)

@@ -26,7 +26,7 @@ use hg_help_store_tests::device::Memory;
 use hg_queue::{PartQueue, Taker};
 use hg_recovery::replay_records;
 use hg_repo::Repo;
-use hg_serve::{Gate, Point, Server};
+use hg_serve::{Point, Probe, Server};
 use hg_store::{Device, Log, recover};
 use hg_types::{NoMemory, Seq};
 use hg_web::{Budget, ConnectionEnd, Shown, ViewCache, Watch, WatchedPush, WebTerms, serve_http};
@@ -83,7 +83,7 @@ impl Tally {
     }
 }
 
-impl Gate for Tally {
+impl Probe for Tally {
     fn at(&mut self, point: Point) {
         match point {
             Point::Marked => self.marked = self.marked.saturating_add(1),

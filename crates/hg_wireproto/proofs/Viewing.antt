@@ -4,7 +4,7 @@ use Rattle.std.proofs.lemmas.List.{length_push}
 use Rattle.hg_log.specs.Changeset.{Changeset, Log}
 use Rattle.hg_log.specs.Rows.{HasText}
 use Rattle.hg_types.specs.declared.phase.Phase.{Phase}
-use Rattle.hg_phases.specs.Phases.{Marked}
+use Rattle.hg_phases.specs.Phases.{Saved}
 use Rattle.hg_obs.specs.declared.marker.Marker.{Marker}
 use Rattle.hg_wireproto.specs.Branch.{branch_of}
 use Rattle.hg_wireproto.specs.declared.since.ViewRow.{ViewRow}
@@ -50,11 +50,11 @@ kept_more rows markers phases first n old new set held more is = record {
 }
 
 -- what was made of phases is told of them
-pub noted_phases : {A : Type 0} (first : List Marked) (items : List (Marked × List (Marker A))) (phases : Marked)
+pub noted_phases : {A : Type 0} (first : List Saved) (items : List (Saved × List (Marker A))) (phases : Saved)
     (markers : List (Marker A)) → first ≡ phases ∷ [] → items ≡ map (λ item. (item, markers)) first
     → phases_in items ≡ phases.current.phases
 noted_phases {A} first items phases markers one noted =
-    ap phases_in (noted ∙ ap (λ (l : List Marked). map (λ item. (item, markers)) l) one)
+    ap phases_in (noted ∙ ap (λ (l : List Saved). map (λ item. (item, markers)) l) one)
 
 -- what was made of a changelog and markers is told of them
 pub noted_rows : {A : Type 0} (first : List Log) (items : List (Log × List (Marker A))) (log : Log)

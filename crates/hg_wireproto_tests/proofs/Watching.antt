@@ -12,7 +12,7 @@ use Rattle.hg_log.specs.declared.add.Added.{Added}
 use Rattle.hg_log.specs.declared.add.Added.TheVariants.{New, Known}
 use Rattle.hg_log.specs.declared.add.AddFault.{AddFault}
 use Rattle.hg_log.specs.Rows.{AreLawful}
-use Rattle.hg_phases.specs.Phases.{AreFor, Marked, Phasing}
+use Rattle.hg_phases.specs.Phases.{AreFor, Saved, Phasing}
 use Rattle.hg_phases.proofs.CallerLemmas.{for_more}
 use Rattle.hg_obs.specs.declared.marker.Marker.{Marker}
 use Rattle.hg_obs.specs.Markers.{fresh, merged}
@@ -74,9 +74,9 @@ of_what_came view came first known public rows markers phases all is =
     (all ∙ ap (λ s. record { rows = s.rows; markers = s.markers; phases = s.phases }) is)
 
 -- phases after an answer
-pub stay_after : {X E : Type 0} (old new : Marked) (result : Result X E) (made : List Phase)
+pub stay_after : {X E : Type 0} (old new : Saved) (result : Result X E) (made : List Phase)
     → StayPublic old.current.phases made → OnOk result (new.current.phases ≡ made) → OnErr result (new ≡ old)
     → StayPublic old.current.phases new.current.phases
 stay_after old new (Ok done) made stay is same = subst (StayPublic old.current.phases) (sym is) stay
 stay_after old new (Err fault) made stay is same =
-    subst (λ (m : Marked). StayPublic old.current.phases m.current.phases) (sym same) (stay_same old.current.phases)
+    subst (λ (m : Saved). StayPublic old.current.phases m.current.phases) (sym same) (stay_same old.current.phases)

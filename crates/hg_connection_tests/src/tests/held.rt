@@ -5,7 +5,7 @@ ghost use Rattle.hg_serve.specs.Desks.{OpensWith};
 
 use super::cut::TRUNCATED_REPLY;
 use super::*;
-use hg_serve::{Client, Gate, Point};
+use hg_serve::{Client, Point, Probe};
 use std::io::{Read, Write};
 use std::sync::Mutex;
 use std::sync::atomic::{AtomicBool, Ordering};
@@ -86,7 +86,7 @@ impl Holds<'_> {
     }
 }
 
-impl Gate for Holds<'_> {
+impl Probe for Holds<'_> {
     fn at(&mut self, point: Point) {
         self.reach(Place::At(point));
     }
@@ -128,20 +128,20 @@ impl Write for HeldSink<'_> {
 }
 
 /// Serves a connection of up to two bundles, leaves its client in the list, and says why it ended early.
-fn serve_one<J: Naming<Global>, R: Wait + Abort, I: Reader, W: Writer, G: Gate>(
+fn serve_one<J: Naming<Global>, R: Wait + Abort, I: Reader, W: Writer, G: Probe>(
     rt: &R,
     alloc: Global,
     server: &Server<J>,
     clients: &Mutex<Vec<Client<J>>>,
     reader: &mut I,
     writer: &mut W,
-    gate: &mut G,
+    probe: &mut G,
 ) -> Option<ConnFault> {
     let client = match server.client(rt) {
         Ok(client) => client,
         Err(_) => panic!(rt; "no client"),
     };
-    let (client, served) = serve_connection(server, rt, alloc, client, reader, writer, 2, gate);
+    let (client, served) = serve_connection(server, rt, alloc, client, reader, writer, 2, probe);
     let mut list = clients.lock(rt);
     match list.push(client) {
         Ok(()) => {}
@@ -211,7 +211,7 @@ fn serve_meanwhile<J: Naming<Global>, R: Wait + Abort>(
         clients,
         &mut reader,
         &mut writer,
-        &mut NoGate,
+        &mut NoProbe,
     );
     if fault != talk.fault || writer.bytes() != talk.reply {
         wrong.store(true, Ordering::SeqCst);

@@ -5,7 +5,7 @@ ghost use Rattle.hg_serve.specs.Desks.{OpensWith};
 
 use super::*;
 use hg_push::OpenFault;
-use hg_serve::{Client, Gate, Point};
+use hg_serve::{Client, Point, Probe};
 use linked_list_allocator::LocalHeap;
 use std::io::Read;
 
@@ -221,7 +221,7 @@ struct Filler<'a> {
     takes: u32,
 }
 
-impl Gate for Filler<'_> {
+impl Probe for Filler<'_> {
     fn at(&mut self, point: Point) {
         match point {
             Point::Locked => {
@@ -247,14 +247,14 @@ fn client_of<J: Naming<A>, A: Allocator + Copy, R: Wait + Abort>(
 }
 
 /// Serves a connection of one bundle. Says whether that is its whole reply, and gives the client back.
-fn is_answered<J: Naming<A>, A: Allocator + Copy, R: Wait, G: Gate>(
+fn is_answered<J: Naming<A>, A: Allocator + Copy, R: Wait, G: Probe>(
     rt: &R,
     alloc: A,
     server: &Server<J, A>,
     client: Client<J, A>,
     bundle: &[u8],
     reply: &[u8],
-    gate: &mut G,
+    probe: &mut G,
 ) -> (bool, Client<J, A>) {
     let mut reader = Source::new(bundle);
     let mut writer = Sink::new(alloc);
@@ -266,7 +266,7 @@ fn is_answered<J: Naming<A>, A: Allocator + Copy, R: Wait, G: Gate>(
         &mut reader,
         &mut writer,
         1,
-        gate,
+        probe,
     );
     let is_whole = served.fault.is_none() && served.written == reply.len() as u64;
     (is_whole && writer.bytes() == reply, client)
@@ -287,13 +287,13 @@ fn add<J: Naming<A>, A: Allocator + Copy, R: Abort>(
 /// Three connections on a server of that name: the first, of three parts, is refused memory at a take. The client
 /// of the second serves the third. How many pushes were done, and how long the report is; `None` where one was
 /// not answered so.
-fn three_connections<J: Naming<A>, A: Allocator + Copy, R: Wait + Abort, G: Gate>(
+fn three_connections<J: Naming<A>, A: Allocator + Copy, R: Wait + Abort, G: Probe>(
     rt: &R,
     alloc: A,
     queue: PartQueue<A>,
     taker: Taker<A>,
     repo: Repo<A>,
-    gate: &mut G,
+    probe: &mut G,
 ) -> Option<(usize, usize)>
     requires { OpensWith J.table J.capacity J.first queue taker repo }
 {
@@ -301,9 +301,9 @@ fn three_connections<J: Naming<A>, A: Allocator + Copy, R: Wait + Abort, G: Gate
     let server = Server::<J, A>::new(alloc, repo, queue, taker);
     let a = client_of(rt, &server);
     let b = client_of(rt, &server);
-    let (is_told, a) = is_answered(rt, alloc, &server, a, &three_parts(), REFUSED_REPLY, gate);
-    let (is_done, b) = is_answered(rt, alloc, &server, b, ROOT, ROOT_REPLY, &mut NoGate);
-    let (is_child_done, b) = is_answered(rt, alloc, &server, b, &child(), ROOT_REPLY, &mut NoGate);
+    let (is_told, a) = is_answered(rt, alloc, &server, a, &three_parts(), REFUSED_REPLY, probe);
+    let (is_done, b) = is_answered(rt, alloc, &server, b, ROOT, ROOT_REPLY, &mut NoProbe);
+    let (is_child_done, b) = is_answered(rt, alloc, &server, b, &child(), ROOT_REPLY, &mut NoProbe);
     add(rt, &mut clients, a);
     add(rt, &mut clients, b);
     let closed = server.close(clients);
@@ -313,15 +313,15 @@ fn three_connections<J: Naming<A>, A: Allocator + Copy, R: Wait + Abort, G: Gate
 }
 
 /// The same on a new server over a heap. `None` also where memory was refused for its queue.
-fn connected_thrice<R: RandomSource + Wait + Abort, G: Gate>(
+fn connected_thrice<R: RandomSource + Wait + Abort, G: Probe>(
     rt: &R,
     heap: &LocalHeap,
-    gate: &mut G,
+    probe: &mut G,
 ) -> Option<(usize, usize)> {
     match PartQueue::new(heap, 8) {
         Ok((queue, taker)) => {
             let repo = Repo::new(heap, settings(0), state(rt));
-            three_connections::<Brand, _, R, G>(rt, heap, queue, taker, repo, gate)
+            three_connections::<Brand, _, R, G>(rt, heap, queue, taker, repo, probe)
         }
         Err(_) => None,
     }
@@ -333,15 +333,15 @@ fn connected_thrice<R: RandomSource + Wait + Abort, G: Gate>(
 #[test]
 fn memory_is_refused_at_a_take(rt: HostRuntime) -> Result<(), Fail> {
     let heap = LocalHeap::new(rt.alloc(), 1 << 16)?;
-    let mut gate = Filler {
+    let mut probe = Filler {
         heap: &heap,
         blocks: Vec::new(rt.alloc()),
         before: 2,
         takes: 0,
     };
-    let told = connected_thrice(&rt, &heap, &mut gate);
-    let takes = gate.takes;
-    drop(gate);
+    let told = connected_thrice(&rt, &heap, &mut probe);
+    let takes = probe.takes;
+    drop(probe);
     assert_eq!(rt; (told, takes), (Some((2, 2 * ROOT_REPORT)), 2));
     Ok(())
 }

@@ -131,8 +131,8 @@ fn ends<J: Naming<Global>, R: Wait + Abort>(
         Ok(sender) => sender,
         Err((_client, _)) => panic!(rt; "no opening"),
     };
-    let ended = mark(&server, rt, sender, ending, &mut NoGate);
-    let (answer, client) = server.answer(rt, ended, &mut NoGate);
+    let ended = mark(&server, rt, sender, ending, &mut NoProbe);
+    let (answer, client) = server.answer(rt, ended, &mut NoProbe);
     let mut clients = Vec::new(alloc);
     match clients.push(client) {
         Ok(()) => {}
@@ -221,10 +221,10 @@ fn receives<J: Naming<Global>, R: Wait + Abort, I: Reader>(
         &mut inbox,
         reader,
         &mut kept,
-        &mut NoGate,
+        &mut NoProbe,
     );
-    let ended = mark(&server, rt, sender, ending, &mut NoGate);
-    let (answer, client) = server.answer(rt, ended, &mut NoGate);
+    let ended = mark(&server, rt, sender, ending, &mut NoProbe);
+    let (answer, client) = server.answer(rt, ended, &mut NoProbe);
     let mut clients = Vec::new(alloc);
     match clients.push(client) {
         Ok(()) => {}

@@ -31,8 +31,8 @@ can_undo_all [] pairs = true
 can_undo_all (change ∷ changes) pairs =
     can_undo change pairs && can_undo_all changes (undone change pairs)
 
--- After a mark there is a way back that takes no memory: as many names as changes were kept can come back.
+-- After a savepoint there is a way back that takes no memory: as many names as changes were kept can come back.
 pub record IsSound {A : Type 0} (pairs : Pairs) (changes : List (Change A)) (space : ℕ)
-    (is_marked : Bool) : Type 0 where
-  pub back : is_marked ≡ true → can_undo_all (reverse changes) pairs ≡ true
-  pub room : is_marked ≡ true → length changes ≤ space
+    (is_saved : Bool) : Type 0 where
+  pub back : is_saved ≡ true → can_undo_all (reverse changes) pairs ≡ true
+  pub room : is_saved ≡ true → length changes ≤ space

@@ -66,7 +66,7 @@ fn set_each<A: Allocator + Copy>(
     requires pairs { AreOnKnown log.now.rows bookmarks.old.current }
     ensures ok { OnOk result (bookmarks.new.current ≡ set_each entries bookmarks.old.current) }
     ensures pairs { OnOk result (AreOnKnown log.now.rows bookmarks.new.current) }
-    ensures marked { bookmarks.new.marked ≡ bookmarks.old.marked }
+    ensures saved { bookmarks.new.saved ≡ bookmarks.old.saved }
 {
     bookmarks.set_each(alloc, entries)?;
     Ok(())

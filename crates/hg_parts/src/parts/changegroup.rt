@@ -132,7 +132,7 @@ fn advance_group<A: Allocator + Copy>(
         (record { rows = log.now.rows; phases = phases.old.current.phases })) }
     ensures fits { AreFor log.now.rows phases.new.current }
     ensures count { OnOk result (length phases.new.current.phases ≡ length log.now.rows) }
-    ensures marked { phases.new.marked ≡ phases.old.marked }
+    ensures saved { phases.new.saved ≡ phases.old.saved }
 {
     match source {
         Source::Seed => Ok(()),

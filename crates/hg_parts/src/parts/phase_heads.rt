@@ -77,7 +77,7 @@ fn advance_each<A: Allocator + Copy>(
         ≡ advance_each log.now.rows entries.now phases.old.current.phases) }
     ensures fits { AreFor log.now.rows phases.new.current }
     ensures count { length phases.new.current.phases ≡ length log.now.rows }
-    ensures marked { phases.new.marked ≡ phases.old.marked }
+    ensures saved { phases.new.saved ≡ phases.old.saved }
 {
     advance_to(alloc, log, phases, Phase::Public, entries)?;
     advance_to(alloc, log, phases, Phase::Draft, entries)?;
@@ -99,7 +99,7 @@ fn advance_to<A: Allocator + Copy>(
         ≡ advanced_to log.now.rows target entries.now phases.old.current.phases) }
     ensures fits { AreFor log.now.rows phases.new.current }
     ensures count { length phases.new.current.phases ≡ length log.now.rows }
-    ensures marked { phases.new.marked ≡ phases.old.marked }
+    ensures saved { phases.new.saved ≡ phases.old.saved }
 {
     let heads = heads_of(alloc, log, target, entries)?;
     phases.advance(alloc, log, target, heads.as_slice())?;

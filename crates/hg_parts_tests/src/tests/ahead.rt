@@ -5,7 +5,7 @@ use hg_parts::hash_ahead;
 
 /// What comes of a prepared part on a store. Where it is refused, it is gone back from.
 fn came_of_prepared(alloc: Global, held: &mut Held<Global>, prepared: Prepared<Global>) -> Came {
-    let mark = held.store.mark();
+    let savepoint = held.store.savepoint();
     let turn = Turn {
         settings: held.settings,
         source: Source::Push,
@@ -15,7 +15,7 @@ fn came_of_prepared(alloc: Global, held: &mut Held<Global>, prepared: Prepared<G
     match handle_prepared(alloc, &mut held.store, turn, prepared) {
         Ok(reply) => replied(&reply),
         Err(refusal) => {
-            held.store.back_to(mark);
+            held.store.back_to(savepoint);
             refused(&refusal)
         }
     }

@@ -500,11 +500,11 @@ fn push_both<A: Allocator + Copy>(
     first: &Part<A>,
     second: &Part<A>,
 ) -> Came {
-    let mark = held.store.mark();
+    let savepoint = held.store.savepoint();
     match handle_both(alloc, &mut held.store, &held.settings, first, second) {
         Ok(reply) => replied(&reply),
         Err(refusal) => {
-            held.store.back_to(mark);
+            held.store.back_to(savepoint);
             refused(&refusal)
         }
     }

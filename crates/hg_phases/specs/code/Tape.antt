@@ -1,4 +1,4 @@
--- The way back: what was replaced since the mark.
+-- The way back: what was replaced since the savepoint.
 use Rattle.std.specs.Prelude.{◌≡◌, ℕ, ◌<◌, ◌≤◌, ◌^◌, List, [], ◌∷◌, All, length, take}
 use Rattle.std.specs.Prelude.{slice_index, slice_set, map, filter, nat_lt}
 use Rattle.hg_phases.specs.declared.standing.Standing.{Standing}
@@ -9,13 +9,13 @@ abbrev pub undone : List Replaced → List Standing → List Standing
 undone [] rows = rows
 undone (change ∷ changes) rows = slice_set (undone changes rows) change.row change.standing
 
--- what the rows were at the mark, of which there were so many
+-- what the rows were at the savepoint, of which there were so many
 abbrev pub base_of : ℕ → List Standing → List Replaced → List Standing
-base_of marked rows kept = take marked (undone kept rows)
+base_of saved rows kept = take saved (undone kept rows)
 
 -- those changes that are of the first rows
-abbrev pub of_marked : ℕ → List Replaced → List Replaced
-of_marked marked changes = filter (λ change. nat_lt change.row marked) changes
+abbrev pub of_saved : ℕ → List Replaced → List Replaced
+of_saved saved changes = filter (λ change. nat_lt change.row saved) changes
 
 -- the rows of changes, in order
 abbrev pub rows_of : List Replaced → List ℕ
@@ -31,8 +31,8 @@ pub record TapeFollows (rows : List Standing) (changes : List Replaced) (new : L
   pub longer : length changes ≤ length more
   pub first : (k : ℕ) → k < length changes → slice_index (rows_of more) k ≡ slice_index (rows_of changes) k
 
--- The rows of the mark are there, and what is kept is of them.
-pub record IsSound (rows : List Standing) (kept : List Replaced) (marked : ℕ) : Type 0 where
+-- The rows of the savepoint are there, and what is kept is of them.
+pub record IsSound (rows : List Standing) (kept : List Replaced) (saved : ℕ) : Type 0 where
   pub few : length rows ≤ 2 ^ 32
-  pub within : marked ≤ length rows
-  pub replaced : All (λ change. change.row < marked) kept
+  pub within : saved ≤ length rows
+  pub replaced : All (λ change. change.row < saved) kept

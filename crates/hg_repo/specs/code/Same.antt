@@ -2,7 +2,7 @@
 use Rattle.std.specs.Prelude.{◌≡◌}
 use Rattle.hg_parts.specs.declared.store.Store.{Store}
 
--- all is equal in both stores, but for marks
+-- all is equal in both stores, but for savepoints
 pub record HoldSame {A : Type 0} (store other : Store A) : Type 0 where
   pub rows : store.log.rows ≡ other.log.rows
   pub phases : store.phases.current.phases ≡ other.phases.current.phases

@@ -11,8 +11,8 @@ ghost use Rattle.hg_serve.specs.Histories.{ending, newest_first, serial_run};
 
 use super::{Answer, Desk};
 use crate::client::{Awaiting, Client};
-use crate::gate::Gate;
 use crate::naming::Naming;
+use crate::probe::Probe;
 use crate::question::Question;
 use hg_push::Outcome;
 use hg_queue::{PartQueue, Visitor};
@@ -38,12 +38,12 @@ impl<J: Naming<A>, A: Allocator + Copy> Desk<J, A> {
     }
 
     /// Answers, and says how many done pushes the answer rests on.
-    pub(crate) fn answer_resting<R: Wait, G: Gate>(
+    pub(crate) fn answer_resting<R: Wait, G: Probe>(
         &mut self,
         rt: &R,
         queue: &PartQueue<A>,
         ended: Awaiting<J, A>,
-        gate: &mut G,
+        probe: &mut G,
     ) -> (Answer<A>, usize, Client<J, A>)
         requires queue { IsQueueIn J.table J.capacity queue.now × (J.capacity ≤ 65536) }
         ensures answers { Answers J.capacity J.first ended.push ended.put ended.history
@@ -52,7 +52,7 @@ impl<J: Naming<A>, A: Allocator + Copy> Desk<J, A> {
             result.1 }
     {
         let push = ended.push;
-        let (answer, client) = self.answer(rt, queue, ended, gate);
+        let (answer, client) = self.answer(rt, queue, ended, probe);
         let rests = self.rests(push, &answer.outcome);
         (answer, rests, client)
     }

@@ -10,8 +10,8 @@ ghost use Rattle.hg_serve.specs.Histories.{newest_first, serial_run};
 use super::Server;
 use crate::client::{Awaiting, Client};
 use crate::desk::Answer;
-use crate::gate::{Gate, Point};
 use crate::naming::Naming;
+use crate::probe::{Point, Probe};
 use crate::question::Question;
 use std::alloc::Allocator;
 use std::sync::Wait;
@@ -19,11 +19,11 @@ use std::sync::Wait;
 impl<J: Naming<A>, A: Allocator + Copy> Server<J, A> {
     /// Answers as [`Server::answer`] does, and says how many done pushes the answer rests on: of a done push
     /// those up to it and with it, else all that were done before the answer.
-    pub fn answer_resting<R: Wait, G: Gate>(
+    pub fn answer_resting<R: Wait, G: Probe>(
         &self,
         rt: &R,
         mut ended: Awaiting<J, A>,
-        gate: &mut G,
+        probe: &mut G,
     ) -> (Answer<A>, usize, Client<J, A>)
         ensures answers { Answers J.capacity J.first ended.push ended.put ended.history
             result.0.outcome result.0.takes result.2 }
@@ -32,8 +32,8 @@ impl<J: Naming<A>, A: Allocator + Copy> Server<J, A> {
     {
         let answered = self
             .lock(rt, &mut ended.pauses)
-            .answer_resting(rt, &self.queue, ended, gate);
-        gate.at(Point::Answered);
+            .answer_resting(rt, &self.queue, ended, probe);
+        probe.at(Point::Answered);
         answered
     }
 

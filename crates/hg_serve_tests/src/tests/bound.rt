@@ -8,7 +8,7 @@ struct Counts {
     locked: u32,
 }
 
-impl Gate for Counts {
+impl Probe for Counts {
     fn at(&mut self, point: Point) {
         if point == Point::Locked {
             self.locked = self.locked.saturating_add(1);
@@ -31,14 +31,14 @@ pub fn takes<J: Naming<Global>, R: Wait + Abort>(
     for _ in 0..parts {
         put(rt, server, &mut other, part(rt, alloc, b"REPLYCAPS", b""));
     }
-    let mine = server.end(rt, mine, &mut NoGate);
+    let mine = server.end(rt, mine, &mut NoProbe);
     for _ in 0..turns {
-        assert!(rt; server.turn(rt, &mut NoGate));
+        assert!(rt; server.turn(rt, &mut NoProbe));
     }
-    let mut gate = Counts { locked: 0 };
-    let (answer, mine) = server.answer(rt, mine, &mut gate);
+    let mut probe = Counts { locked: 0 };
+    let (answer, mine) = server.answer(rt, mine, &mut probe);
     assert!(rt; is_done(&answer, 0));
-    assert_eq!(rt; (answer.takes, gate.locked), (takes, takes));
+    assert_eq!(rt; (answer.takes, probe.locked), (takes, takes));
     let (_answer, other) = finish(rt, server, other);
     let mut clients = Vec::new(alloc);
     add(rt, &mut clients, mine);
@@ -48,7 +48,7 @@ pub fn takes<J: Naming<Global>, R: Wait + Abort>(
 
 // Capacity 4: three parts of another push, then the end mark of a push without parts, and its
 // answer; the same after four turns; capacity 1 with one part. Result: 4 takes; 0; 1; each time the
-// gate was told of as many.
+// probe was told of as many.
 #[test]
 fn as_many_takes_as_the_queue_has_places(rt: HostRuntime) -> Result<(), Fail> {
     let all = settings(0, 1_024);
@@ -71,7 +71,7 @@ struct Puts<'a, J: Naming<Global>, R: Wait + Abort> {
     locked: u32,
 }
 
-impl<J: Naming<Global>, R: Wait + Abort> Gate for Puts<'_, J, R> {
+impl<J: Naming<Global>, R: Wait + Abort> Probe for Puts<'_, J, R> {
     fn at(&mut self, point: Point) {
         if point == Point::Locked {
             self.locked = self.locked.saturating_add(1);
@@ -93,17 +93,17 @@ pub fn puts_meanwhile<J: Naming<Global>, R: Wait + Abort>(
     for _ in 0..3 {
         put(rt, server, &mut other, part(rt, alloc, b"REPLYCAPS", b""));
     }
-    let mine = server.end(rt, mine, &mut NoGate);
-    let mut gate = Puts {
+    let mine = server.end(rt, mine, &mut NoProbe);
+    let mut probe = Puts {
         rt,
         alloc,
         server,
         sender: &mut other,
         locked: 0,
     };
-    let (answer, mine) = server.answer(rt, mine, &mut gate);
-    assert_eq!(rt; (answer.takes, gate.locked), (4, 4));
-    assert!(rt; server.turn(rt, &mut NoGate));
+    let (answer, mine) = server.answer(rt, mine, &mut probe);
+    assert_eq!(rt; (answer.takes, probe.locked), (4, 4));
+    assert!(rt; server.turn(rt, &mut NoProbe));
     let (of_other, other) = finish(rt, server, other);
     assert!(rt; is_done(&of_other, 6));
     let mut clients = Vec::new(alloc);
@@ -112,7 +112,7 @@ pub fn puts_meanwhile<J: Naming<Global>, R: Wait + Abort>(
     clients
 }
 
-// As the first of these, and at each take the gate puts a part of the other push. Result: 4 takes;
+// As the first of these, and at each take the probe puts a part of the other push. Result: 4 takes;
 // a turn after the answer finds an item; the other push is done with its 6 parts.
 #[test]
 fn an_answer_stops_at_its_mark(rt: HostRuntime) -> Result<(), Fail> {

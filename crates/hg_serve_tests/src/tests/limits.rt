@@ -65,7 +65,7 @@ fn put_behind_a_turn<J: Naming<Global>, R: Wait>(
     sender: &mut Sender<J>,
     part: BoxedPart,
 ) -> bool {
-    let turned = server.turn(rt, &mut NoGate);
+    let turned = server.turn(rt, &mut NoProbe);
     let tried = server.try_put(rt, sender, part);
     turned && tried.is_ok()
 }

@@ -12,7 +12,7 @@ struct HoldsBack<'a> {
     late: &'a AtomicBool,
 }
 
-impl Gate for HoldsBack<'_> {
+impl Probe for HoldsBack<'_> {
     fn at(&mut self, point: Point) {
         if point != Point::Locked {
             return;
@@ -61,11 +61,11 @@ pub fn held<J: Naming<Global> + Send + Sync, R: Threads + Wait + Abort + Sync>(
     let (turned, put) = join_mut(
         rt,
         &mut || {
-            let mut gate = HoldsBack {
+            let mut probe = HoldsBack {
                 go: may_go,
                 late: too_late,
             };
-            server.turn(rt, &mut gate)
+            server.turn(rt, &mut probe)
         },
         &mut || put_three(rt, alloc, server, &mut sender, may_go),
     );

@@ -27,8 +27,8 @@ fn push<J: Naming<Global>, R: Wait + Abort>(
 ) -> (Answer, usize, Client<J>) {
     let mut sender = open(rt, server, client);
     put(rt, server, &mut sender, part);
-    let ended = server.end(rt, sender, &mut NoGate);
-    server.answer_resting(rt, ended, &mut NoGate)
+    let ended = server.end(rt, sender, &mut NoProbe);
+    server.answer_resting(rt, ended, &mut NoProbe)
 }
 
 /// Two clients push a root each, and the first a check that fails; a third one looks before, between and

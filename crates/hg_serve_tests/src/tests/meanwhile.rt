@@ -43,7 +43,7 @@ struct HoldsLock<'a> {
     signs: &'a Signs,
 }
 
-impl Gate for HoldsLock<'_> {
+impl Probe for HoldsLock<'_> {
     fn at(&mut self, point: Point) {
         if point == Point::Locked {
             self.signs.locked.store(true, Ordering::SeqCst);
@@ -66,9 +66,9 @@ fn push_meanwhile<J: Naming<Global>, R: Wait + Abort>(
     for _ in 0..3 {
         put(rt, server, &mut sender, part(rt, alloc, b"REPLYCAPS", b""));
     }
-    let ended = server.end(rt, sender, &mut NoGate);
+    let ended = server.end(rt, sender, &mut NoProbe);
     signs.put.store(true, Ordering::SeqCst);
-    let (answer, mine) = server.answer(rt, ended, &mut NoGate);
+    let (answer, mine) = server.answer(rt, ended, &mut NoProbe);
     assert!(rt; is_done(&answer, 3));
     let mut list = clients.lock(rt);
     add(rt, &mut *list, mine);

@@ -127,7 +127,7 @@ fn turns_without_memory<J: Naming<A>, A: Allocator + Copy, H: Hoard, R: Wait>(
     server: &Server<J, A>,
 ) -> bool {
     hoard.fill();
-    let turned = server.turn(rt, &mut NoGate);
+    let turned = server.turn(rt, &mut NoProbe);
     hoard.free();
     turned
 }
@@ -148,8 +148,8 @@ fn refused_at_a_take<J: Naming<A>, A: Allocator + Copy, H: Hoard, R: Wait + Abor
     put(rt, server, &mut a, part(rt, alloc, b"REPLYCAPS", b""));
     put(rt, server, &mut a, changegroup(rt, alloc, ROOT, NULL));
     put(rt, server, &mut a, part(rt, alloc, b"REPLYCAPS", b""));
-    let a = server.end(rt, a, &mut NoGate);
-    let turned = server.turn(rt, &mut NoGate);
+    let a = server.end(rt, a, &mut NoProbe);
+    let turned = server.turn(rt, &mut NoProbe);
     (turned && turns_without_memory(rt, hoard, server), a)
 }
 
@@ -164,7 +164,7 @@ fn at_a_take<J: Naming<A>, A: Allocator + Copy, H: Hoard, R: Wait + Abort>(
     let (turned, a) = refused_at_a_take(rt, alloc, hoard, server);
     let (is_b_done, b) = pushes(rt, alloc, server, client(rt, server), ROOT, NULL);
     let (is_child_done, b) = pushes(rt, alloc, server, b, CHILD, ROOT);
-    let (of_a, a) = server.answer(rt, a, &mut NoGate);
+    let (of_a, a) = server.answer(rt, a, &mut NoProbe);
     let mut clients = Vec::new(alloc);
     add(rt, &mut clients, a);
     add(rt, &mut clients, b);
@@ -180,7 +180,7 @@ fn left_in_the_queue<J: Naming<A>, A: Allocator + Copy, H: Hoard, R: Wait + Abor
     server: &Server<J, A>,
 ) -> Vec<Client<J, A>, A> {
     let (turned, a) = refused_at_a_take(rt, alloc, hoard, server);
-    let (of_a, a) = server.answer(rt, a, &mut NoGate);
+    let (of_a, a) = server.answer(rt, a, &mut NoProbe);
     let mut clients = Vec::new(alloc);
     add(rt, &mut clients, a);
     assert!(rt; turned && is_without_memory(&of_a) && of_a.takes == 0);
@@ -258,10 +258,10 @@ fn answered_with<J: Naming<A>, A: Allocator + Copy, H: Hoard, R: Wait + Abort>(
     let mut sender = open(rt, server, client);
     put(rt, server, &mut sender, part(rt, alloc, b"REPLYCAPS", b""));
     put(rt, server, &mut sender, changegroup(rt, alloc, ROOT, NULL));
-    let ended = server.end(rt, sender, &mut NoGate);
+    let ended = server.end(rt, sender, &mut NoProbe);
     hoard.fill();
     hoard.give(blocks);
-    let answered = server.answer(rt, ended, &mut NoGate);
+    let answered = server.answer(rt, ended, &mut NoProbe);
     hoard.free();
     answered
 }

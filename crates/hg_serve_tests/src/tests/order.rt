@@ -12,7 +12,7 @@ fn put_behind<J: Naming<Global>, R: Wait + Abort>(
 ) {
     match server.try_put(rt, sender, part) {
         Err(PutFault::Full(back)) => {
-            assert!(rt; server.turn(rt, &mut NoGate));
+            assert!(rt; server.turn(rt, &mut NoProbe));
             assert!(rt; server.try_put(rt, sender, back).is_ok());
         }
         _ => panic!(rt; "the queue was full"),
@@ -35,10 +35,10 @@ pub fn alternating<J: Naming<Global>, R: Wait + Abort>(
     put_behind(rt, server, &mut b, part(rt, alloc, b"REPLYCAPS", b""));
     put_behind(rt, server, &mut a, part(rt, alloc, b"CHECK:HEADS", b""));
     put_behind(rt, server, &mut b, part(rt, alloc, b"CHECK:HEADS", &NULL));
-    let b = server.end(rt, b, &mut NoGate);
-    let a = server.end(rt, a, &mut NoGate);
-    let (of_b, b) = server.answer(rt, b, &mut NoGate);
-    let (of_a, a) = server.answer(rt, a, &mut NoGate);
+    let b = server.end(rt, b, &mut NoProbe);
+    let a = server.end(rt, a, &mut NoProbe);
+    let (of_b, b) = server.answer(rt, b, &mut NoProbe);
+    let (of_a, a) = server.answer(rt, a, &mut NoProbe);
     assert!(rt; is_done(&of_b, 2));
     assert!(rt; is_race(&of_a, 1));
     let mut clients = Vec::new(alloc);
@@ -71,7 +71,7 @@ pub fn dropped<J: Naming<Global>, R: Wait + Abort>(
         put(rt, server, &mut a, part(rt, alloc, b"REPLYCAPS", b""));
     }
     put(rt, server, &mut b, part(rt, alloc, b"CHECK:HEADS", &NULL));
-    let a = server.cut(rt, a, CutReason::GaveUp, &mut NoGate);
+    let a = server.cut(rt, a, CutReason::GaveUp, &mut NoProbe);
     let (of_b, b) = finish(rt, server, b);
     assert!(rt; is_done(&of_b, 1));
     let mut next = open(rt, server, b);
@@ -83,7 +83,7 @@ pub fn dropped<J: Naming<Global>, R: Wait + Abort>(
     );
     let (of_next, next) = finish(rt, server, next);
     assert!(rt; is_done(&of_next, 1));
-    let (of_a, a) = server.answer(rt, a, &mut NoGate);
+    let (of_a, a) = server.answer(rt, a, &mut NoProbe);
     match reply_bytes(alloc, &of_a.outcome) {
         Ok(reply) => assert_eq!(rt; reply.len(), 59),
         Err(_) => panic!(rt; "no memory for a reply"),

@@ -84,7 +84,7 @@ fn put_next<J: Naming<Global>, R: Wait + Abort>(
     match server.try_put(rt, sender, part) {
         Ok(()) => {}
         Err(PutFault::Full(back)) => {
-            assert!(rt; server.turn(rt, &mut NoGate));
+            assert!(rt; server.turn(rt, &mut NoProbe));
             assert!(rt; server.try_put(rt, sender, back).is_ok());
         }
         Err(PutFault::TooMany(_back)) => panic!(rt; "too many parts"),
@@ -103,10 +103,10 @@ pub fn roots<J: Naming<Global>, R: Wait + Abort>(
     put_next(rt, server, &mut b, no_heads(rt, alloc));
     put_next(rt, server, &mut a, a_root(rt, alloc));
     put_next(rt, server, &mut b, b_root(rt, alloc));
-    let b = server.end(rt, b, &mut NoGate);
-    let a = server.end(rt, a, &mut NoGate);
-    let (of_a, a) = server.answer(rt, a, &mut NoGate);
-    let (of_b, b) = server.answer(rt, b, &mut NoGate);
+    let b = server.end(rt, b, &mut NoProbe);
+    let a = server.end(rt, a, &mut NoProbe);
+    let (of_a, a) = server.answer(rt, a, &mut NoProbe);
+    let (of_b, b) = server.answer(rt, b, &mut NoProbe);
     assert!(rt; is_done(&of_b, 2) && is_race(&of_a, 0));
     let mut clients = Vec::new(alloc);
     add(rt, &mut clients, a);

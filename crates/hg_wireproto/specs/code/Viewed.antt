@@ -7,7 +7,7 @@ use Rattle.hg_log.specs.Changeset.{Changeset, Log}
 use Rattle.hg_log.specs.Parents.{parents_of}
 use Rattle.hg_log.specs.Rows.{AreLawful, HasNode}
 use Rattle.hg_phases.specs.Order.{phase_at}
-use Rattle.hg_phases.specs.Phases.{Marked}
+use Rattle.hg_phases.specs.Phases.{Saved}
 use Rattle.hg_obs.specs.declared.marker.Marker.{Marker}
 use Rattle.hg_wireproto.specs.declared.since.ViewRow.{ViewRow}
 use Rattle.hg_wireproto.specs.code.Branches.{branch_at}
@@ -23,7 +23,7 @@ abbrev pub markers_in : {A : Type 0} → List (Log × List (Marker A)) → List 
 markers_in [] = []
 markers_in (noted ∷ more) = noted.1
 
-abbrev pub phases_in : {A : Type 0} → List (Marked × List (Marker A)) → List Phase
+abbrev pub phases_in : {A : Type 0} → List (Saved × List (Marker A)) → List Phase
 phases_in [] = []
 phases_in (noted ∷ more) = noted.0.current.phases
 

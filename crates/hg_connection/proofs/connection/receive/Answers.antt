@@ -24,11 +24,11 @@ turns-init g c = record {
 pub put_ready-requires : goal.put_ready-requires
 put_ready-requires g c =
     let i = c.turns.invariant in
-    let t = c.turn-ended.ensures.turns c.args.server.now c.args.inbox.now _ i.fed i.given i.reads in
-    room_for c.args.sender.now c.turns.sender i.given (ready_of c.turn-ended.new.bundle) c.args.server.now.parts
+    let t = c.read_on-ended.ensures.turns c.args.server.now c.args.inbox.now _ i.fed i.given i.reads in
+    room_for c.args.sender.now c.turns.sender i.given (ready_of c.read_on-ended.new.bundle) c.args.server.now.parts
     i.put
-    (parts_few c.parts_are_few.ensures c.args.server.now c.args.inbox.now _ i.fed c.turn-ended.new.inbox _
-    c.turn-ended.new.bundle i.given c.turn-ended.result t)
+    (parts_few c.parts_are_few.ensures c.args.server.now c.args.inbox.now _ i.fed c.read_on-ended.new.inbox _
+    c.read_on-ended.new.bundle i.given c.read_on-ended.result t)
     c.limits.ensures.allowed.parts.1
 
 pub turns-preserved : goal.turns-preserved
@@ -36,21 +36,21 @@ turns-preserved g c =
     let i = c.turns.invariant in
     let p = c.put_ready.ensures in
     let t = subst (λ (r : Option BundleEnd). Turned c.args.server.now c.args.inbox.now
-    (g.I.Reader.told c.args.reader.now) i.fed c.turn-ended.new.inbox
-    (g.I.Reader.told c.turn-ended.new.reader) c.turn-ended.new.bundle i.given r) c.in-None.is
-    (c.turn-ended.ensures.turns c.args.server.now c.args.inbox.now _ i.fed i.given i.reads) in
+    (g.I.Reader.told c.args.reader.now) i.fed c.read_on-ended.new.inbox
+    (g.I.Reader.told c.read_on-ended.new.reader) c.read_on-ended.new.bundle i.given r) c.in-None.is
+    (c.read_on-ended.ensures.turns c.args.server.now c.args.inbox.now _ i.fed i.given i.reads) in
     record {
       fed = i.fed ++ t.0;
-      given = i.given ++ ready_of c.turn-ended.new.bundle;
-      reads = parts_taken c.args.server.now c.args.inbox.now _ (i.fed ++ t.0) c.turn-ended.new.inbox _
-          c.turn-ended.new.bundle c.put_ready.new.bundle i.given (ready_of c.turn-ended.new.bundle) t.3 p.holds
+      given = i.given ++ ready_of c.read_on-ended.new.bundle;
+      reads = parts_taken c.args.server.now c.args.inbox.now _ (i.fed ++ t.0) c.read_on-ended.new.inbox _
+          c.read_on-ended.new.bundle c.put_ready.new.bundle i.given (ready_of c.read_on-ended.new.bundle) t.3 p.holds
           p.bundle.0 p.limits;
       turns = omega (arith, i.turns, t.1, length-append i.fed t.0);
-      within = within_limit c.args.server.now c.args.inbox.now _ (i.fed ++ t.0) c.turn-ended.new.inbox _
-          c.turn-ended.new.bundle i.given t.3;
+      within = within_limit c.args.server.now c.args.inbox.now _ (i.fed ++ t.0) c.read_on-ended.new.inbox _
+          c.read_on-ended.new.bundle i.given t.3;
       put = put_more c.args.sender.now c.turns.sender c.put_ready.new.sender i.given
-          (ready_of c.turn-ended.new.bundle) i.put p.put;
-      limits = p.limits ∙ c.turn-ended.ensures.limits ∙ i.limits;
+          (ready_of c.read_on-ended.new.bundle) i.put p.put;
+      limits = p.limits ∙ c.read_on-ended.ensures.limits ∙ i.limits;
     }
 
 pub returns-in-Some-clause-received : goal.returns-in-Some-clause-received
@@ -58,24 +58,24 @@ returns-in-Some-clause-received g c =
     let i = c.turns.invariant in
     let p = c.put_ready.ensures in
     record {
-      parts = i.given ++ ready_of c.turn-ended.new.bundle;
+      parts = i.given ++ ready_of c.read_on-ended.new.bundle;
       bundle = subst (λ (r : Option BundleEnd). Turned c.args.server.now c.args.inbox.now
-          (g.I.Reader.told c.args.reader.now) i.fed c.turn-ended.new.inbox
-          (g.I.Reader.told c.turn-ended.new.reader) c.turn-ended.new.bundle i.given r) c.in-Some.is
-          (c.turn-ended.ensures.turns c.args.server.now c.args.inbox.now _ i.fed i.given i.reads);
+          (g.I.Reader.told c.args.reader.now) i.fed c.read_on-ended.new.inbox
+          (g.I.Reader.told c.read_on-ended.new.reader) c.read_on-ended.new.bundle i.given r) c.in-Some.is
+          (c.read_on-ended.ensures.turns c.args.server.now c.args.inbox.now _ i.fed i.given i.reads);
       put = put_more c.args.sender.now c.turns.sender c.put_ready.new.sender i.given
-          (ready_of c.turn-ended.new.bundle) i.put p.put;
+          (ready_of c.read_on-ended.new.bundle) i.put p.put;
     }
 
 pub returns-in-Some-clause-whole : goal.returns-in-Some-clause-whole
 returns-in-Some-clause-whole g c = λ whole. (
-  c.put_ready.ensures.bundle.0 ∙ c.turn-ended.ensures.whole (c.in-Some.is ∙ ap (λ x. Some x) whole),
+  c.put_ready.ensures.bundle.0 ∙ c.read_on-ended.ensures.whole (c.in-Some.is ∙ ap (λ x. Some x) whole),
   c.put_ready.ensures.bundle.1,
 )
 
 pub returns-in-Some-clause-limits : goal.returns-in-Some-clause-limits
 returns-in-Some-clause-limits g c =
-    c.put_ready.ensures.limits ∙ c.turn-ended.ensures.limits ∙ c.turns.invariant.limits
+    c.put_ready.ensures.limits ∙ c.read_on-ended.ensures.limits ∙ c.turns.invariant.limits
 
 pub unreachable-requires : goal.unreachable-requires
 unreachable-requires g c =
@@ -87,11 +87,11 @@ unreachable-requires g c =
       | else-turns-test w ↦ omega (arith, end, w.turns-test.false)
       | then-turns-test+in-None+else-turn-most w ↦ (
           let t = subst (λ (r : Option BundleEnd). Turned c.args.server.now c.args.inbox.now
-          (g.I.Reader.told c.args.reader.now) i.fed w.turn-ended.new.inbox
-          (g.I.Reader.told w.turn-ended.new.reader) w.turn-ended.new.bundle i.given r) w.in-None.is
-          (w.turn-ended.ensures.turns c.args.server.now c.args.inbox.now _ i.fed i.given i.reads) in
-          let within = within_limit c.args.server.now c.args.inbox.now _ (i.fed ++ t.0) w.turn-ended.new.inbox _
-          w.turn-ended.new.bundle i.given t.3 in
+          (g.I.Reader.told c.args.reader.now) i.fed w.read_on-ended.new.inbox
+          (g.I.Reader.told w.read_on-ended.new.reader) w.read_on-ended.new.bundle i.given r) w.in-None.is
+          (w.read_on-ended.ensures.turns c.args.server.now c.args.inbox.now _ i.fed i.given i.reads) in
+          let within = within_limit c.args.server.now c.args.inbox.now _ (i.fed ++ t.0) w.read_on-ended.new.inbox _
+          w.read_on-ended.new.bundle i.given t.3 in
           let long = length-append i.fed t.0 in
           let some = t.1 in
           grind arith)

@@ -4,4 +4,4 @@ use Rattle.hg_phases_tests.proofs.tests.advance_each.Given as goal
 
 abbrev pub invariant-loop-step : goal.invariant-loop-step
 invariant-loop-step g l =
-    record { fits : AreFor l.log.rows l.phases.current; marked : l.phases.marked ≡ l.fn.phases.marked }
+    record { fits : AreFor l.log.rows l.phases.current; saved : l.phases.saved ≡ l.fn.phases.saved }

@@ -5,5 +5,5 @@ use Rattle.hg_phases_tests.proofs.tests.register_many.Given as goal
 abbrev pub invariant-rows : goal.invariant-rows
 invariant-rows g l = record {
   fits : AreFor l.log.rows l.phases.current;
-  marked : l.phases.marked ≡ l.fn.phases.marked;
+  saved : l.phases.saved ≡ l.fn.phases.saved;
 }

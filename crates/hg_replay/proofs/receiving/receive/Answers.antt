@@ -23,10 +23,10 @@ loop-turn-preserved g c =
       fed = i.fed ++ t.0;
       reads = t.3;
       turns = omega (arith, i.turns, t.1, length-append i.fed t.0);
-      within = within_limit standard_limits [] _ (i.fed ++ t.0) _ _ c.turn.new.bundle [] t.3;
+      within = within_limit standard_limits [] _ (i.fed ++ t.0) _ _ c.read_on.new.bundle [] t.3;
     }
 
 pub returns-in-Some : goal.returns-in-Some
 returns-in-Some g c =
     let i = c.loop-turn.invariant in
-    (c.turn.new.inbox, c.in-Some.ensures.turns standard_limits [] _ i.fed [] i.reads)
+    (c.read_on.new.inbox, c.in-Some.ensures.turns standard_limits [] _ i.fed [] i.reads)

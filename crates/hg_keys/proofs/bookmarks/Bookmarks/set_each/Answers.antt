@@ -1,6 +1,6 @@
 use Rattle.std.proofs.Common.{◌≡◌, List, ℕ, Result, Ok, Err, OnErr, ap, take, sym, subst, ◌∙◌}
 use Rattle.std.proofs.lemmas.List.{take_all}
-use Rattle.hg_keys.specs.Bookmarks.{Marked, HaveSameNames, set_each, with_bookmark}
+use Rattle.hg_keys.specs.Bookmarks.{Saved, HaveSameNames, set_each, with_bookmark}
 use Rattle.hg_keys.specs.Payload.{Entry}
 use Rattle.hg_keys.proofs.SortLemmas.{any_order_of_names, set_next, partly_set, none_set}
 use Rattle.hg_keys.proofs.bookmarks.Bookmarks.set_each.Goals as goal
@@ -32,7 +32,7 @@ returns-in_err-set-clause-err g c =
     (sym c.as_slice-entry-items.ensures.value) c.in_ok-entries.ensures in
     on_err c.from_residual-in_err-set.result _
     (partly_set c.args.entries items i c.args.self.now.current c.set.new.self.current same
-    (ap (λ (marked : Marked). marked.current) c.in_err-set.ensures.err ∙ c.loop-entry.invariant.set))
+    (ap (λ (saved : Saved). saved.current) c.in_err-set.ensures.err ∙ c.loop-entry.invariant.set))
 
 pub loop-entry-preserved : goal.loop-entry-preserved
 loop-entry-preserved g c =
@@ -40,8 +40,8 @@ loop-entry-preserved g c =
     let entry = c.entry-item.result in
     let pairs = c.loop-entry.self.current in
     record {
-      marked = ap (λ (marked : Marked). marked.marked) c.in_ok-set.ensures.ok ∙ c.loop-entry.invariant.marked;
-      set = ap (λ (marked : Marked). marked.current) c.in_ok-set.ensures.ok
+      saved = ap (λ (saved : Saved). saved.saved) c.in_ok-set.ensures.ok ∙ c.loop-entry.invariant.saved;
+      set = ap (λ (saved : Saved). saved.current) c.in_ok-set.ensures.ok
           ∙ ap (λ (name : List ℕ). with_bookmark pairs name entry.0) c.as_slice.ensures
           ∙ set_next items c.loop-entry.entry-index entry c.args.self.now.current pairs c.loop-entry-test.true
           c.entry-item.is c.loop-entry.invariant.set;

@@ -5,6 +5,6 @@ use Rattle.hg_keys.proofs.bookmarks.Bookmarks.set_each.Given as goal
 -- the entries so far are set
 abbrev pub invariant-loop-entry : goal.invariant-loop-entry
 invariant-loop-entry g l = record {
-  marked : l.self.marked ≡ l.fn.self.marked;
+  saved : l.self.saved ≡ l.fn.self.saved;
   set : l.self.current ≡ set_each (take l.entry-index l.entry-items) l.fn.self.current;
 }

@@ -2,6 +2,6 @@ use Rattle.hg_keys.proofs.bookmarks.Bookmarks.try_clone.Goals as goal
 
 pub invariant_of-result : goal.invariant_of-result
 invariant_of-result g c = record {
-  back = λ marked. cc;
-  room = λ marked. cc;
+  back = λ saved. cc;
+  room = λ saved. cc;
 }

@@ -34,7 +34,7 @@ returns-in-Ok-clause-grown g c =
     appended c.args.store.now.log c.add.new.self c.args.entry.now c.in-Ok-New.field-0 c.in-Ok-New.rev
     c.in-Ok-New.field-0-is c.in-Ok-New.ensures.leaves in
     grown_new c.args.settings.now c.args.store.now c.add.new.self c.args.entry.now c.in-Ok-New.rev new
-    c.register.new.self c.register.ensures.marked
+    c.register.new.self c.register.ensures.saved
 
 pub returns-in-Ok-clause-sound : goal.returns-in-Ok-clause-sound
 returns-in-Ok-clause-sound g c =
@@ -50,4 +50,4 @@ returns-in-Err-register-clause-grown g c =
     appended c.args.store.now.log c.add.new.self c.args.entry.now c.in-Ok-New.field-0 c.in-Ok-New.rev
     c.in-Ok-New.field-0-is c.in-Ok-New.ensures.leaves in
     grown_new c.args.settings.now c.args.store.now c.add.new.self c.args.entry.now c.in-Ok-New.rev new
-    c.register.new.self c.register.ensures.marked
+    c.register.new.self c.register.ensures.saved

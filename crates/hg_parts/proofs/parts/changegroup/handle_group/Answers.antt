@@ -1,5 +1,5 @@
 use Rattle.std.proofs.Common.{rules, ap}
-use Rattle.hg_keys.specs.Bookmarks.{Marked}
+use Rattle.hg_keys.specs.Bookmarks.{Saved}
 use Rattle.hg_parts.specs.Repository.{Repository}
 use Rattle.hg_parts.specs.Store.{repository_of}
 use Rattle.hg_parts.specs.code.Changegroup.{grown_of}
@@ -27,7 +27,7 @@ returns g c =
           c.args.entries.now (grown_of added) c.advance_group.new.phases.current.phases added.markers
           added.bookmarks.current c.head_count-before.result c.head_count.result c.in_ok-reply.reply
           c.in-Ok.ensures.gives c.in_ok-advance_group.ensures.ok c.in-Ok.ensures.others.markers
-          (ap (λ (marked : Marked). marked.current) c.in-Ok.ensures.others.bookmarks)
+          (ap (λ (saved : Saved). saved.current) c.in-Ok.ensures.others.bookmarks)
           c.head_count-before.ensures.count c.head_count.ensures.count c.in_ok-reply.ensures.value);
     }
 

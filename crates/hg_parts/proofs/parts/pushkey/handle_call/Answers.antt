@@ -18,8 +18,8 @@ returns g c =
         limits = refl;
         markers_within = c.push_key.ensures.within;
         markers_front = c.push_key.ensures.front;
-        phases_marked = c.push_key.ensures.phases_marked;
-        bookmarks_marked = c.push_key.ensures.bookmarks_marked;
+        phases_saved = c.push_key.ensures.phases_saved;
+        bookmarks_saved = c.push_key.ensures.bookmarks_saved;
       };
       reply = c.in_ok-reply.ensures.reply;
       gives = ap (handle_pushed repo turn.replying turn.place c.args.part.now c.args.call) c.in-Ok.ensures.done

@@ -2,7 +2,7 @@ use Rattle.std.proofs.Common.{◌≡◌, ◌∙◌, length, ap, arith}
 use Rattle.std.proofs.lemmas.List.{length-take-le}
 use Rattle.hg_phases.specs.code.Tape.{undone}
 use Rattle.hg_phases.proofs.Undoing.{undone_length}
-use Rattle.hg_phases.proofs.Soundness.{sound_unmarked}
+use Rattle.hg_phases.proofs.Soundness.{sound_unsaved}
 use Rattle.hg_phases.proofs.phases.Phases.back_to.Goals as goal
 
 pub invariant_of-self : goal.invariant_of-self
@@ -12,7 +12,7 @@ invariant_of-self g c =
     let before = undone old.index.kept.items old.index.rows.items in
     let all : length before ≡ length old.index.rows.items =
     undone_length old.index.kept.items old.index.rows.items in
-    let size : length index.rows.items ≡ old.index.marked = ap length c.back.ensures.rows
-    ∙ length-take-le old.index.marked before (omega (arith, all, c.self.invariant.within)) in
-    sound_unmarked index.rows.items index.kept.items index.marked c.back.ensures.marked
+    let size : length index.rows.items ≡ old.index.saved = ap length c.back.ensures.rows
+    ∙ length-take-le old.index.saved before (omega (arith, all, c.self.invariant.within)) in
+    sound_unsaved index.rows.items index.kept.items index.saved c.back.ensures.saved
     c.back.ensures.kept (omega (arith, size, c.self.invariant.within, c.self.invariant.few))

@@ -1,13 +1,13 @@
 use Rattle.std.proofs.Common.{length, ap, arith}
 use Rattle.hg_types.specs.declared.phase.Phase.TheVariants.{Draft, Secret}
 use Rattle.hg_phases.proofs.Told.{told_none}
-use Rattle.hg_phases.proofs.Soundness.{sound_unmarked}
+use Rattle.hg_phases.proofs.Soundness.{sound_unsaved}
 use Rattle.hg_phases.proofs.phases.Phases.new.Goals as goal
 
 pub invariant_of-result : goal.invariant_of-result
 invariant_of-result g c =
     let index = c.new.result in
-    sound_unmarked index.rows.items index.kept.items index.marked c.new.ensures.marked
+    sound_unsaved index.rows.items index.kept.items index.saved c.new.ensures.saved
     c.new.ensures.kept (omega (arith, ap length c.new.ensures.rows))
 
 pub returns : goal.returns

@@ -11,7 +11,7 @@ use Rattle.hg_phases.specs.code.Tape.{base_of}
 use Rattle.hg_phases.proofs.Kept.{registered_is, registered_for}
 use Rattle.hg_phases.proofs.Told.{phase_of_standing, told_begins}
 use Rattle.hg_phases.proofs.Undoing.{base_add}
-use Rattle.hg_phases.proofs.Soundness.{sound_changed, told_added, marked_as, for_parts}
+use Rattle.hg_phases.proofs.Soundness.{sound_changed, told_added, saved_as, for_parts}
 use Rattle.hg_phases.proofs.phases.Phases.register.Goals as goal
 
 pub invariant_of-self-2 : goal.invariant_of-self-2
@@ -24,7 +24,7 @@ invariant_of-self-2 g c =
     let next : c.args.rev ≡ length (phases_told was) = rw (← c.self.view_is) at c.requires.next in
     let at : c.args.rev ≡ length was = next ∙ length-map was phase_told in
     let longer : length now ≡ length was + 1 = ap length grown ∙ length_push was x in
-    sound_changed was now old.index.kept.items old.index.kept.items old.index.marked old.index.marked
+    sound_changed was now old.index.kept.items old.index.kept.items old.index.saved old.index.saved
     c.self.invariant (omega (arith, longer, at, c.ranges.rev.fits)) (omega (arith, longer)) refl
     c.self.invariant.replaced
 
@@ -117,15 +117,15 @@ returns-clause-fits g c =
     (registered_for rows kept c.args.target above (ordered rows c.len-lawful.ensures.lawful) fits room
     above_is)
 
-pub returns-clause-marked : goal.returns-clause-marked
-returns-clause-marked g c =
+pub returns-clause-saved : goal.returns-clause-saved
+returns-clause-saved g c =
     let old = c.self.inside in
     let was = old.index.rows.items in
     let x = c.of-row.result in
     let now = c.push.new.self.items in
     let grown : now ≡ was ++ x ∷ [] = c.in_ok-push.ensures.items in
-    let base : base_of old.index.marked now old.index.kept.items ≡ base_of old.index.marked was
+    let base : base_of old.index.saved now old.index.kept.items ≡ base_of old.index.saved was
     old.index.kept.items =
-    ap (λ xs. base_of old.index.marked xs old.index.kept.items) grown
-    ∙ base_add old.index.marked was (x ∷ []) old.index.kept.items c.self.invariant.within in
-    rw (← c.self.view_is) (ap (marked_as old.is_marked) base)
+    ap (λ xs. base_of old.index.saved xs old.index.kept.items) grown
+    ∙ base_add old.index.saved was (x ∷ []) old.index.kept.items c.self.invariant.within in
+    rw (← c.self.view_is) (ap (saved_as old.is_saved) base)

@@ -21,6 +21,6 @@ returns g c =
     let listed = c.list.result.now in
     let named = λ (pairs : Pairs).
     changesets ++ (flat_map bookmark_line pairs ++ flat_map marker_line listed) in
-    let marked = λ (ms : List (Marker g.row.A.Denot)).
+    let saved = λ (ms : List (Marker g.row.A.Denot)).
     changesets ++ (flat_map bookmark_line repo.bookmarks ++ flat_map marker_line ms) in
-    rw (c.into_bytes.ensures.value) (told ∙ ap named bookmarks ∙ ap marked markers)
+    rw (c.into_bytes.ensures.value) (told ∙ ap named bookmarks ∙ ap saved markers)

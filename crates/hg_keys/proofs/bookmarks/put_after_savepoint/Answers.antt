@@ -7,7 +7,7 @@ use Rattle.hg_keys.specs.Bookmarks.{node_of, with_bookmark}
 use Rattle.hg_keys.proofs.BackLemmas.{set_back_to, stays_away}
 use Rattle.hg_keys.proofs.ChangeLemmas.{both}
 use Rattle.hg_keys.proofs.SetLemmas.{set_found}
-use Rattle.hg_keys.proofs.bookmarks.put_after_mark.Goals as goal
+use Rattle.hg_keys.proofs.bookmarks.put_after_savepoint.Goals as goal
 
 -- ---- a name that moves
 

@@ -1,6 +1,6 @@
 use Rattle.hg_connection.proofs.Filling.{fill_ends, filled}
 use Rattle.hg_connection.proofs.Feeding.{turned}
-use Rattle.hg_connection.proofs.receiving.turn.Goals as goal
+use Rattle.hg_connection.proofs.receiving.read_on.Goals as goal
 
 pub returns-in-Some-clause-turns : goal.returns-in-Some-clause-turns
 returns-in-Some-clause-turns g c = λ limits waited input fed given r.

@@ -17,14 +17,14 @@ pub enum Point {
 }
 
 /// Hears of each place that a thread reaches. At [`Point::Locked`] the lock is held meanwhile.
-pub trait Gate {
+pub trait Probe {
     fn at(&mut self, point: Point);
 }
 
 /// Hears nothing, and holds nobody.
 #[derive(Drop)]
-pub struct NoGate;
+pub struct NoProbe;
 
-impl Gate for NoGate {
+impl Probe for NoProbe {
     fn at(&mut self, _point: Point) {}
 }
