@@ -284,7 +284,12 @@ where
 
     /// Serves a connection over a socket. An error of the socket, of the clock or of the random bytes, and memory
     /// that is refused for what is read, ends it before it is served.
-    fn attend(&self, rt: &R, alloc: Global, stream: &TcpStream) -> io::Result<ConnectionEnd> {
+    fn attend<'s>(
+        &'s self,
+        rt: &'s R,
+        alloc: Global,
+        stream: &'s TcpStream,
+    ) -> io::Result<ConnectionEnd> {
         set_up(stream)?;
         let keys = RandomState::new(rt)?;
         let patience = Patience::new(rt, Duration::from_secs(self.terms.idle))?;

@@ -1,9 +1,10 @@
 -- A push that is let through, and one that is not.
-use Rattle.std.proofs.Common.{◌≡◌, ℕ, List, Option, Some, None, refl, sym, ap, subst, ◌∙◌}
+use Rattle.std.proofs.Common.{◌≡◌, ℕ, Bool, List, Option, Some, None, refl, sym, subst, ◌∙◌, inl}
 use Rattle.std.specs.Prelude.{Result, Ok, Err}
 use Rattle.hg_commit.specs.Clients.{KeptSeen}
 use Rattle.hg_hook.specs.declared.policy.Verdict.{Verdict}
 use Rattle.hg_http.specs.declared.answer.HttpAnswer.{HttpAnswer}
+use Rattle.hg_web.specs.Answering.{OrLacks}
 use Rattle.hg_web.specs.Letting.{AnswersIfLet, denial_of, IfLet}
 use Rattle.hg_web.specs.Pushes.{Answered}
 
@@ -30,3 +31,10 @@ module _ {A : Type 0} (asks : List ℕ → Verdict A → Type 0) (bundle : List 
       answers = subst (λ d. IfLet d Pushes before answer after) (sym is ∙ says) answered;
     }
     let_run (Err fault) after is answered = answered
+
+-- an answer that is given is one that is given where memory is not lacking
+pub or_lacks : {A E : Type 0} (looks : Bool) (Says : KeptSeen A → HttpAnswer A → KeptSeen A → Type 0)
+    (before : KeptSeen A) (result : Result (HttpAnswer A) E) (after : KeptSeen A) →
+    Answered Says before result after → Answered (OrLacks looks Says) before result after
+or_lacks looks Says before (Ok answer) after is = inl is
+or_lacks looks Says before (Err fault) after is = is

@@ -7,11 +7,11 @@ returns-in-Some-clause-answered g c =
     let e = c.ask.ensures in denied _ _ _ _ _ e.0 e.1 e.2 _ c.in-Some.is
 
 pub returns-in-Some-clause-asks : goal.returns-in-Some-clause-asks
-returns-in-Some-clause-asks g c = let e = c.ask.ensures in inr (_, e.0, e.1)
+returns-in-Some-clause-asks g c = let e = c.ask.ensures in inr (_, (e.0, e.1))
 
 pub returns-in-None-clause-answered : goal.returns-in-None-clause-answered
 returns-in-None-clause-answered g c =
     let e = c.ask.ensures in let_run _ _ _ _ _ e.0 e.1 e.2 _ _ c.in-None.is c.push_for_key.ensures
 
 pub returns-in-None-clause-asks : goal.returns-in-None-clause-asks
-returns-in-None-clause-asks g c = let e = c.ask.ensures in inr (_, e.0, e.1)
+returns-in-None-clause-asks g c = let e = c.ask.ensures in inr (_, (e.0, e.1))

@@ -59,3 +59,17 @@ invariant_of-self-in-Ok-3 g c =
     (last_noted c.new.result.items c.and-self-inside.result.items _ _ c.new.ensures c.and-self-inside.ensures)
     (last_asked g.P.Policy.asked c.new.result.items c.and-self-inside.result.items _ _ c.new.ensures
     c.and-self-inside.ensures)
+
+pub invariant_of-self-in-Ok-2 : goal.invariant_of-self-in-Ok-2
+invariant_of-self-in-Ok-2 g c =
+    told_all _ _ c.answer_request-client.result.0 _ _ _ c.put_back.ensures
+    (last_noted c.new.result.items c.and-self-inside.result.items _ _ c.new.ensures c.and-self-inside.ensures)
+    (last_asked g.P.Policy.asked c.new.result.items c.and-self-inside.result.items _ _ c.new.ensures
+    c.and-self-inside.ensures)
+
+pub invariant_of-self-in-Ok-5 : goal.invariant_of-self-in-Ok-5
+invariant_of-self-in-Ok-5 g c =
+    told_all _ _ c.answer_request-client.result.0 _ _ _ c.put_back.ensures
+    (last_noted c.new.result.items c.and-self-inside.result.items _ _ c.new.ensures c.and-self-inside.ensures)
+    (last_asked g.P.Policy.asked c.new.result.items c.and-self-inside.result.items _ _ c.new.ensures
+    c.and-self-inside.ensures)
