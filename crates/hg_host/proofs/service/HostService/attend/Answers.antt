@@ -4,6 +4,8 @@ use Rattle.hg_host.proofs.service.HostService.attend.Goals as goal
 pub leave-requires : goal.leave-requires
 leave-requires g c = record {
   view = _;
+  asked = _;
+  said = _;
   before = _;
   input = _;
   left = _;
