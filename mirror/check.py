@@ -391,7 +391,7 @@ def try_following(results, folder, place, bundles, wanted):
 def try_replaced(results, place):
     """A store that is cut gets another file: the mirror that follows ends, and says so."""
     run = place.start("mirror", "-R", "follows", "--store", "grows")
-    time.sleep(1)
+    wait_until_open(run.pid, os.path.realpath(f"{place.folder}/grows/pushes"))
     write(f"{place.folder}/new", head() + b"\0")
     os.rename(f"{place.folder}/new/pushes", f"{place.folder}/grows/pushes")
     try:
@@ -402,6 +402,15 @@ def try_replaced(results, place):
     results.see("following: another file", run.returncode == 255 and "another file" in said, said)
     status, said = place.mirror("follows", "grows")
     results.see("following: a cut store", status == 255 and "has 0" in said, said)
+
+
+def wait_until_open(pid, path):
+    """Waits until a process has a file open, twenty seconds at most."""
+    fds = f"/proc/{pid}/fd"
+    for _ in range(400):
+        if path in [os.path.realpath(f"{fds}/{it}") for it in os.listdir(fds)]:
+            return
+        time.sleep(0.05)
 
 
 def waited(place, name, count):

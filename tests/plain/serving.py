@@ -7,7 +7,7 @@ import threading
 
 from bundles import CAPS, bundle
 from host import Host, answer, request
-from parts import push
+from parts import aborted, push
 from pushes import written
 from repository import Repository, branch_of, heads, phase_of, text_of
 from rules import CASES, rule, seen
@@ -71,9 +71,9 @@ class Plain:
                 for it in heads(repo) if repo.rows]
 
     def cut_off(self, data):
-        """A body that ends before its length is no request: no push comes of it."""
+        """A body that ends before its length is a connection that was lost: no push comes of it."""
         seen("event: cut off")
-        return 400, b""
+        return COMMAND, bundle(aborted("connection lost", "connection lost").part)
 
     def pages(self, is_fresh):
         """The report, and what the page and the counters show."""
