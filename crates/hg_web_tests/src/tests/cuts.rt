@@ -7,7 +7,7 @@ const TRUNCATED: &[u8] =
     b"HTTP/1.1 400 Bad Request\r\nconnection: close\r\ncontent-length: 0\r\n\r\n";
 
 /// The answer to a request of which the connection has a part of the body alone.
-const LOST: &[u8] =
+pub(crate) const LOST: &[u8] =
     b"HTTP/1.1 200 OK\r\ncontent-type: application/mercurial-0.1\r\nconnection: close\r\n\
     content-length: 62\r\n\r\nHG20\0\0\0\0\0\0\0\x2a\x0bERROR:ABORT\0\0\0\0\x01\0\x07\x0fmessage\
     connection lost\0\0\0\0\0\0\0\0";

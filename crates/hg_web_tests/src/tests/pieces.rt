@@ -1,5 +1,6 @@
 //! Requests that come in pieces, in other forms, or not whole.
 
+use super::cuts::LOST;
 use super::*;
 use std::io::ErrorKind;
 
@@ -92,7 +93,7 @@ fn pushes_come_at_once(rt: HostRuntime) {
     assert_eq!(rt; left.tally.bytes, 36);
 }
 
-/// A connection that ends within a body: nothing is pushed, and the next connection is served.
+/// A connection that ends within a body: that is answered, nothing is pushed, and the next connection is served.
 #[test]
 fn a_connection_ends_within_a_body(rt: HostRuntime) {
     let alloc = rt.alloc();
@@ -101,7 +102,7 @@ fn a_connection_ends_within_a_body(rt: HostRuntime) {
     for count in 0..12usize {
         let cut = &whole[..whole.len() - 12 + count];
         let left = served(&rt, alloc, &[cut], PLAIN);
-        assert!(rt; left.told.starts_with(b"HTTP/1.1 400 "));
+        assert!(rt; left.told.as_slice() == LOST);
         assert_eq!(rt; left.kept, 0);
         let left = served(&rt, alloc, &[cut, whole.as_slice()], PLAIN);
         assert!(rt; left.told.as_slice() == DONE);
@@ -266,7 +267,7 @@ fn what_a_body_takes_stays_with_its_connection(rt: HostRuntime) {
     assert!(rt; left.told.as_slice() == joined(&rt, alloc, &[told, told, told]).as_slice());
 }
 
-/// A body that found no room and does not end: there is no answer.
+/// A body that found no room and ends early: the connection was lost, which is answered.
 #[test]
 fn a_body_without_room_ends_early(rt: HostRuntime) {
     let alloc = rt.alloc();
@@ -274,7 +275,7 @@ fn a_body_without_room_ends_early(rt: HostRuntime) {
     let asked = push_with_length(&rt, alloc, 60_001, body.as_slice());
     let left = served(&rt, alloc, &[asked.as_slice()], narrow(4_096));
     assert!(rt; left.end == ConnectionEnd::Failed(ErrorKind::UnexpectedEof));
-    assert_eq!(rt; left.told.len(), 0);
+    assert!(rt; left.told.as_slice() == LOST);
     // what it held was given back, and others go on
     let whole = push_with_length(&rt, alloc, 12, EMPTY);
     let left = served(
