@@ -14,6 +14,7 @@ writing, and checks each revision, so that the mirror can apply it and Mercurial
 can read it afterwards. Then it asks the rules of the team.
 '''
 
+import contextlib
 import http.server
 import importlib.util
 import inspect
@@ -44,6 +45,8 @@ KEPT, JOURNAL = b'pushes-mirrored', b'journal'
 PAUSE = 0.02
 # how often a push is looked at where the mirror writes meanwhile
 LOOKS = 3
+# from how many bytes on a push is looked at alone, as it takes several times its size of memory
+ALONE = 1 << 20
 # the most bytes of a push, and of all texts that are built of it; how long its next bytes may take, in seconds
 LARGEST, MOST_BUILT, SILENCE = 1 << 28, 1 << 34, 60
 TYPE = 'text/plain; charset=utf-8'
@@ -125,7 +128,7 @@ class Judge:
 
     def __init__(self, repo, rules, patience):
         self.ui, self.path, self.rules, self.patience = repo.baseui, repo.root, rules, patience
-        self.vfs = repo.svfs
+        self.vfs, self.alone = repo.svfs, threading.Lock()
 
     def mirrored(self):
         """How many pushes the mirror has applied, and whether it is at the next one."""
@@ -144,7 +147,8 @@ class Judge:
         """Nothing where the push may run; else why not, and the status of the answer."""
         try:
             self.wait(durable)
-            reason = self.look(body, user, address)
+            with self.alone if len(body) >= ALONE else contextlib.nullcontext():
+                reason = self.look(body, user, address)
             return reason and (403, reason)
         except (canonical.Fault, incoming.Refused) as fault:
             return 403, str(fault)
@@ -275,7 +279,7 @@ def place_of(listen):
 @command(
     b'hook',
     [
-        (b'', b'listen', b'127.0.0.1:8002', _(b'where to listen'), _(b'HOST:PORT')),
+        (b'', b'listen', b'127.0.0.1:8003', _(b'where to listen'), _(b'HOST:PORT')),
         (b'', b'rules', b'', _(b'rules of the team'), _(b'FILE')),
         (b'', b'wait', 30, _(b'how long to wait for the mirror, in seconds'), _(b'SECONDS')),
     ],

@@ -17,13 +17,14 @@ and marker, and can keep each path and bookmark.
 """
 
 import collections
+import concurrent.futures
 import functools
 import hashlib
 import os
 import re
 import struct
 
-from mercurial import bookmarks, changelog, error, manifest, obsolete, pathutil, scmutil, util
+from mercurial import bookmarks, changelog, error, manifest, mdiff, obsolete, pathutil, scmutil, util
 from mercurial.utils import storageutil
 
 import canonical
@@ -36,13 +37,17 @@ ENTRY = {b"01": struct.Struct("20s20s20s20s"), b"02": struct.Struct("20s20s20s20
 
 # how many bytes of texts are kept at hand
 KEPT = 1 << 26
+# the texts that are hashed beside what is read on: from how many bytes on, and how many of them may wait
+LARGE, AHEAD = 1 << 16, 16
+POOL = concurrent.futures.ThreadPoolExecutor(4)
 # how far a manifest is followed from delta to delta before two of them are compared whole
 FAR = 64
 
 DATE = re.compile(rb"-?[0-9]{1,10}(?:\.[0-9]+)? -?[0-9]{1,5}(?: |$)")
 DIGITS = re.compile(rb"[0-9a-f]{40}")
 LINE = re.compile(rb"([^\0\n]+)\0([0-9a-f]{40})([lx]?)\n")
-NAME_MAX, PATH_MAX = 255, 4095
+# the most bytes of a name and of what a link leads to; and of a path in a clone, whose own has some before it
+NAME_MAX, LINK_MAX, PATH_MAX = 255, 4095, 3840
 
 
 class Refused(Exception):
@@ -66,7 +71,9 @@ def sha1(data):
 
 
 def hash_of(text, p1, p2):
-    return sha1(min(p1, p2) + max(p1, p2) + text)
+    found = hashlib.sha1(min(p1, p2) + max(p1, p2))
+    found.update(text)
+    return found.digest()
 
 
 # ---- Deltas and texts
@@ -85,12 +92,10 @@ def hunks_of(delta, size):
     return found
 
 
-def patched(base, hunks):
-    pieces, last = [], 0
-    for start, end, content in hunks:
-        pieces += [base[last:start], content]
-        last = end
-    return b"".join([*pieces, base[last:]])
+def patched(base, delta):
+    """The hunks of a delta on its base, and the text that they make of it."""
+    hunks = hunks_of(delta, len(base))
+    return hunks, mdiff.patches(base, [delta]) if hunks else base
 
 
 class Texts:
@@ -115,11 +120,31 @@ class Texts:
             self.size -= len(self.found.popitem(last=False)[1])
 
 
+class Hashes:
+    """Checks the hashes of texts, of large ones while others are read."""
+
+    def __init__(self):
+        self.waiting = collections.deque()
+
+    def check(self, what, text, p1, p2, node):
+        if len(text) < LARGE:
+            need(hash_of(text, p1, p2) == node, "{} {} has another hash", what, node.hex())
+            return
+        self.waiting.append((what, POOL.submit(hash_of, text, p1, p2), node))
+        self.settle(AHEAD)
+
+    def settle(self, left=0):
+        """Waits until no more than so many are left."""
+        while len(self.waiting) > left:
+            what, found, node = self.waiting.popleft()
+            need(found.result() == node, "{} {} has another hash", what, node.hex())
+
+
 class Log:
     """A log of revisions, with those of the push laid over it."""
 
-    def __init__(self, name, revlog, texts):
-        self.name, self.revlog, self.texts = name, revlog, texts
+    def __init__(self, name, revlog, texts, hashes):
+        self.name, self.revlog, self.texts, self.hashes = name, revlog, texts, hashes
         # by the node of a new revision: the node of its base, and its delta
         self.new = {}
 
@@ -141,22 +166,22 @@ class Log:
             text = bytes(self.revlog.rawdata(node)) if node != NULL else b""
             self.texts.put((self.name, node), text)
         for node in reversed(chain):
-            text = patched(text, hunks_of(self.new[node][1], len(text)))
+            text = patched(text, self.new[node][1])[1]
             self.texts.put((self.name, node), text)
         return text
 
     def add(self, entry):
-        """Lays a revision over the log: its text, that of its base, and the hunks between; None if it is known."""
+        """Lays a revision over the log: its text, that of its base, and the hunks between; None if it is known. What is
+        known is checked too: of a file Mercurial looks at its parents, base and text again."""
         node, p1, p2, base, _link, delta = entry
-        if self.has(node):
-            return None
         for parent in (p1, p2):
             need(self.has(parent), "{} {} has an unknown parent", self.name, node.hex())
         need(self.has(base), "{} {} has an unknown base", self.name, node.hex())
         before = self.text(base)
-        hunks = hunks_of(delta, len(before))
-        text = patched(before, hunks)
-        need(hash_of(text, p1, p2) == node, "{} {} has another hash", self.name, node.hex())
+        hunks, text = patched(before, delta)
+        self.hashes.check(self.name, text, p1, p2, node)
+        if self.has(node):
+            return None
         self.new[node] = base, delta
         self.texts.put((self.name, node), text)
         return text, before, hunks
@@ -343,8 +368,8 @@ def regions_of(before, hunks):
 class Manifests(Log):
     """The manifests, and by the node of a new one what differs from its base: path, before, now."""
 
-    def __init__(self, revlog, texts):
-        super().__init__("the manifest", revlog, texts)
+    def __init__(self, revlog, texts, hashes):
+        super().__init__("the manifest", revlog, texts, hashes)
         self.changed = {}
 
     def add(self, entry):
@@ -478,25 +503,27 @@ class Incoming:
 
     def __init__(self, repo, bundle, most=None):
         self.repo = repo.unfiltered()
-        self.texts = Texts(most)
-        self.log = Log("the changeset", self.repo.changelog, self.texts)
-        self.manifests = Manifests(self.repo.manifestlog.getstorage(b"")._revlog, self.texts)
+        self.texts, self.hashes = Texts(most), Hashes()
+        self.log = Log("the changeset", self.repo.changelog, self.texts, self.hashes)
+        self.manifests = Manifests(self.repo.manifestlog.getstorage(b"")._revlog, self.texts, self.hashes)
         self.logs = {}
         # what is new: changesets by node, revisions of files, markers; and the bookmarks that are moved
         self.changesets, self.files, self.markers, self.bookmarks = {}, [], [], {}
         for part in canonical.changes(bundle):
             CHECKS[part.type](self, part)
+        self.hashes.settle()
 
     def knows(self, node):
         return self.log.has(node)
 
     def file_log(self, path):
         if path not in self.logs:
-            self.logs[path] = Log(f"the file {shown(path)}", self.repo.file(path)._revlog, self.texts)
+            self.logs[path] = Log(f"the file {shown(path)}", self.repo.file(path)._revlog, self.texts, self.hashes)
         return self.logs[path]
 
     def check_changegroup(self, part):
-        chunks = Chunks(part.payload, part.param(b"version") or b"01")
+        version = part.param(b"version")
+        chunks = Chunks(part.payload, b"01" if version is None else version)
         new = self.read_changesets(chunks)
         self.read_manifests(chunks, new)
         for changeset in new.values():
@@ -505,9 +532,17 @@ class Incoming:
         need(chunks.place == len(part.payload), "bytes are left over in a changegroup")
         for changeset in new.values():
             for path, node in changeset.introduced.items():
-                need(self.file_log(path).has(node), "{} lacks the file {}", changeset.name, path)
+                need(node != NULL and self.file_log(path).has(node), "{} lacks the file {}", changeset.name, path)
+            self.check_links(changeset)
         for name, source, node in copies:
             need(self.file_log(source).has(node), "{} is a copy of a file that is not there", name)
+
+    def check_links(self, changeset):
+        """What becomes a link in a changeset can be one in a clone: it is a path."""
+        for path, (was, now) in changeset.changed.items():
+            if now is not None and now[1] == b"l" and was != now:
+                text = storageutil.filtermetadata(self.file_log(path).text(now[0]))
+                need(0 < len(text) <= LINK_MAX and b"\0" not in text, "the file {} cannot be a link", path)
 
     def read_changesets(self, chunks):
         new = {}
@@ -595,7 +630,8 @@ class Incoming:
         need(DIGITS.fullmatch(digits), "{} does not say of which revision it is a copy", name)
         check_path(source)
         node = bytes.fromhex(digits.decode())
-        return [(name, source, node)] if node != NULL else []
+        need(node != NULL, "{} does not say of which revision it is a copy", name)
+        return [(name, source, node)]
 
     def check_phase_heads(self, part):
         need(len(part.payload) % 24 == 0, "phase-heads are cut off")

@@ -23,12 +23,17 @@ who pull have the markers::
   [experimental]
   evolution = all
 
-Where hgweb runs with this extension, a pull waits for changesets that are not
-here yet, and is refused where they do not come within ten seconds, or those of
-``patience`` in ``[mirror]``. At one address for pushing and pulling the push
-server says which heads there are, those of the last moment and obsolete ones
-too, and a client asks for all of them. Of an obsolete one it gets what is shown
-below it.
+Where hgweb runs with this extension, it answers a client when all pushes are
+here that were done when the client asked, and by an error where they do not
+come within ten seconds, or those of ``patience``. It looks at the store::
+
+  [mirror]
+  store = /var/lib/deqtorap/store
+
+Without that setting it waits for the changesets that a pull asks for. At one
+address for pushing and pulling the push server says which heads there are,
+those of the last moment and obsolete ones too, and a client asks for all of
+them. Of an obsolete one it gets what is shown below it.
 '''
 
 import collections
@@ -46,6 +51,8 @@ from mercurial import (
     pycompat,
     registrar,
     util,
+    wireprototypes,
+    wireprotov1server,
 )
 from mercurial.i18n import _
 from mercurial.node import hex, short
@@ -66,6 +73,8 @@ configtable = {}
 configitem = registrar.configitem(configtable)
 # How long a pull waits for what it asks for, in seconds.
 configitem(b'mirror', b'patience', default=10)
+# The folder of the store, all of whose pushes a pull waits for.
+configitem(b'mirror', b'store', default=b'')
 
 # The store: a head, then records. A record is an open gate, the length of a
 # bundle, what is said of the push, a digest, and the bundle. Version 1 says
@@ -393,6 +402,14 @@ class mirrored:
         if len(kept) == 5:
             self.record = int(kept[2]), int(kept[3]), fromhex(kept[4])
 
+    def pushes(self, found):
+        """How many pushes a store has."""
+        found.skip(self)
+        count = found.count
+        while (record := found.front_at(found.end)) is not None:
+            found.end, count = record.start + record.size, count + 1
+        return count
+
     def apply(self, bundle):
         """Applies the next push, and notes it in the same transaction."""
         repo, found, count = self.repo, self.source, self.count + 1
@@ -484,6 +501,32 @@ def checkpublishing(repo, found):
 
 def uisetup(ui):
     extensions.wrapfunction(exchange, 'getbundlechunks', getbundlechunks)
+    extensions.wrapfunction(wireprotov1server, 'dispatch', dispatch)
+
+
+def dispatch(orig, repo, proto, command):
+    """Answers a client by all pushes that were done when it asked."""
+    folder = repo.ui.configpath(b'mirror', b'store')
+    if folder and command != b'capabilities':
+        try:
+            waitforpushes(repo, folder)
+        except (error.Abort, OSError) as fault:
+            return wireprototypes.ooberror(stringutil.forcebytestr(fault))
+    return orig(repo, proto, command)
+
+
+def waitforpushes(repo, folder):
+    """Waits for the pushes that are in the store by now."""
+    done = mirrored(repo).pushes(store(folder))
+    end = time.monotonic() + repo.ui.configint(b'mirror', b'patience')
+    while (count := mirrored(repo).count) < done:
+        if time.monotonic() > end:
+            raise error.Abort(
+                _(b'%d pushes are not mirrored yet: try again in a moment')
+                % (done - count)
+            )
+        time.sleep(PAUSE)
+    repo.invalidateall()
 
 
 def getbundlechunks(orig, repo, source, heads=None, **kwargs):

@@ -25,6 +25,51 @@ def bundle(*parts):
     return b"HG20" + number(0) + b"".join(numbered) + number(0)
 
 
+def header(kind, place, params):
+    """A header of parameters that say each whether they are mandatory, those first."""
+    params = sorted(params, key=lambda it: not it[0])
+    mandatory = sum(it[0] for it in params)
+    sizes = b"".join(bytes([len(key), len(value)]) for _, key, value in params)
+    texts = b"".join(key + value for _, key, value in params)
+    text = bytes([len(kind)]) + kind + place.to_bytes(4, "big") + bytes([mandatory, len(params) - mandatory])
+    return number(len(text + sizes + texts)) + text + sizes + texts
+
+
+def chunks(dice, payload, interruptions=()):
+    """A payload in chunks of any sizes, with some of the interruptions between them."""
+    text = b""
+    while payload or dice.random() < 0.3:
+        if interruptions and dice.random() < 0.4:
+            text += number(-1) + dice.choice(interruptions)
+        size = min(len(payload), dice.choice((1, 2, 7, 100, 4096)))
+        text += number(size) + payload[:size] if size else b""
+        payload = payload[size:]
+    return text + number(0)
+
+
+KINDS = (b"replycaps", b"check:heads", b"changegroup", b"phase-heads", b"obsmarkers", b"bookmarks", b"pushkey",
+         b"output", b"remote-changegroup", b"hgtagsfnodes", b"error:abort")
+KEYS = (b"version", b"nbchanges", b"targetphase", b"namespace", b"key", b"old", b"new", b"message", b"Version", b"",
+        b"treemanifest")
+
+
+def any_bundle(dice):
+    """A bundle of parts of many types, written in one of many ways. Not each of them can be a push that is done."""
+    inside = [number(0)] + [header(kind, 3, params) + chunks(dice, text)
+                            for kind, params, text in ((b"output", (), b"hello"), (b"other", ((True, b"a", b"b"),), b""))]
+    text = b"HG20" + dice.choice((number(0), number(3) + b"a b", number(14) + b"Compression=UN"))
+    for _ in range(dice.randrange(8)):
+        kind = dice.choice(KINDS)
+        if dice.random() < 0.5 and kind not in KINDS[-3:]:
+            kind = bytes(it - 32 if 97 <= it <= 122 and dice.random() < 0.5 else it for it in kind)
+        keys = dice.sample(KEYS, dice.randrange(len(KEYS)) if dice.random() < 0.3 else dice.randrange(4))
+        params = [(dice.random() < 0.3 and key not in KEYS[7:], key, dice.randbytes(dice.choice((0, 1, 9, 255))))
+                  for key in keys]
+        payload = dice.randbytes(dice.choice((0, 0, 1, 26, 5000)))
+        text += header(kind, dice.choice((0, 1, 7, 2**32 - 1)), params) + chunks(dice, payload, inside)
+    return text + number(0)
+
+
 def node_of(text, first=NULL, second=NULL):
     return hashlib.sha1(min(first, second) + max(first, second) + text).digest()
 

@@ -252,14 +252,14 @@ class Records:
     """The records of a store, as they become whole."""
 
     def __init__(self, place):
-        self.file, self.end, self.count = open(f"{place.folder}/store/pushes", "rb", buffering=0), 38, 0
+        self.file, self.end, self.count = open(f"{place.folder}/store/pushes", "rb", buffering=0), 54, 0
 
     def has_next(self):
         """Whether another record is whole."""
-        front = os.pread(self.file.fileno(), 5, self.end)
-        if len(front) < 5 or front[0] != 1:
+        front = os.pread(self.file.fileno(), 14, self.end)
+        if len(front) < 14 or front[0] != 0xff:
             return False
-        self.end += 25 + struct.unpack(">I", front[1:])[0]
+        self.end += 34 + front[13] + struct.unpack(">I", front[1:5])[0]
         self.count += 1
         return True
 

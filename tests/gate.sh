@@ -2,11 +2,11 @@
 # Tries what stands around the program, for the gate: tests/gate.sh PROGRAM
 #
 # The mirror on stores of a script, and the pushes that Mercurial refuses, cut out by the program; every way to stop
-# or mislead the mirror, and the hook; pulls while the mirror is behind; three real clients that push to it; each
-# command of docs/team.md in a room of its own; the installation; and random pushes, whose answers the plain rules of
-# tests/plain give too. They run side by side. What a missing package keeps from being tried is named in lines of their
-# own, and is no fault. It ends by itself within eleven minutes, and leaves nothing: all that it writes is in one
-# folder, which it removes.
+# or mislead the mirror, and the hook; pulls while the mirror is behind; three real clients that push to it, and a
+# minute of them beside hostile ones; each command of docs/team.md in a room of its own; the installation; and random
+# pushes, whose answers the plain rules of tests/plain give too. They run side by side. What a missing package keeps
+# from being tried is named in lines of their own, and is no fault. It ends by itself within eleven minutes, and
+# leaves nothing: all that it writes is in one folder, which it removes.
 set -u
 [ $# = 1 ] || { sed -n 's/^# //; 2p' "$0"; exit 2; }
 program=$(realpath -e "$1") || exit 2
@@ -35,6 +35,7 @@ start refused python3 mirror/refused.py "$program"
 start hook python3 tests/hook.py --program "$program"
 start pulls python3 tests/pulls.py "$program"
 start clients python3 tests/clients.py "$program" 16
+start day python3 tests/day.py "$program" --minutes 1 --moments 4
 start team python3 tests/team.py "$program"
 start install bash tests/install.sh "$program"
 start plain bash tests/plain/run.sh "$program"
@@ -56,7 +57,7 @@ judge() {
         echo "FAILED: $piece, with status $status"
     fi
 }
-for piece in mirror refused hook pulls clients team install plain; do
+for piece in mirror refused hook pulls clients day team install plain; do
     judge "$piece"
 done
 echo "tests/gate.sh: $good pieces as wanted, $failed not"

@@ -1,22 +1,26 @@
 #!/usr/bin/env python3
 """Tries every way to stop or mislead the mirror, and the hook that refuses what would.
 
-    python3 tests/hook.py [--unchecked] [--only rows|good|random|http|host] [--program PROGRAM] [WORDS]
+    python3 tests/hook.py [--unchecked | --write FILE] [--only rows|good|random|http|speed|host]
+                          [--program PROGRAM] [WORDS]
 
 Each row is a push that is made by hand (mirror/made.py). It has to be refused by the checks with the words that
 stand beside it, and then the mirror applies nothing of it; or to be harmless: the mirror applies it, `hg verify`
 finds nothing, and the repository holds what a push without it brings. Then pushes that are changed at random:
 what the checks let through is applied, and the repository is verified. Pushes that `hg` sent are let through.
-Then the hook is asked over HTTP, and last by `host` of PROGRAM, which also asks hooks that answer otherwise, late or
-never. It needs the command `hg`, of Mercurial 6.3, and without PROGRAM no push server.
+Then the hook is asked over HTTP, and for a push of 1,000 changesets, for which it takes no more of the processor than
+`hg serve`. Last `host` of PROGRAM asks it, and hooks that answer otherwise, late or never. It needs the command `hg`,
+of Mercurial 6.3, and without PROGRAM no push server.
 
-With WORDS only the rows that have them in their name. With --unchecked it says what Mercurial does with each push
-as it came, without checks: what it stops with, or what is broken or other behind it.
+With WORDS only the rows that have them in their name. With --write FILE it writes the rows there, for tests/team.py.
+With --unchecked it says what Mercurial does with each push as it came, without checks: what it stops with, or what is
+broken or other behind it.
 """
 import glob
 import http.client
 import http.server
 import io
+import json
 import os
 import random
 import re
@@ -46,7 +50,7 @@ except ImportError:
         PYTHON = script.readline().removeprefix("#!").strip()
     os.execv(PYTHON, [PYTHON, *sys.argv])
 
-from mercurial import bundle2, exchange, hg, pushkey as keys, ui as uimod, util, verify
+from mercurial import bundle2, context, exchange, hg, obsutil, pushkey as keys, ui as uimod, util, verify
 from mercurial.utils import dateutil
 
 import canonical
@@ -128,6 +132,8 @@ def is_sound(repo):
             context.branch().decode(), context.user().decode(), context.description().decode()
         for namespace in (b"bookmarks", b"phases"):
             keys.decodekeys(keys.encodekeys(repo.listkeys(namespace).items()))
+        for rev in repo.revs(b"obsolete()"):
+            obsutil.successorssets(repo, repo[rev].node())
         for it in repo.obsstore:
             dateutil.datestr(it[4])
         return all(len(it[0]) == 20 for it in repo.obsstore)
@@ -278,6 +284,42 @@ def swapped():
     return push(one, two)
 
 
+def again(which, field):
+    """A push of what is there already, beside what is new, in which a field of a known revision is another."""
+    known = Made(A, {b"a": b"one\ntwo\n", b"run": (b"#!/bin/sh\n", b"x")}, date=b"1 -3600")
+    assert known.node == B.node
+    revision = known.files[b"a"] if which == "file" else getattr(known, which)
+    setattr(revision, field, hunk(0, 0, b"other") if field == "delta" else UNKNOWN)
+    return push(known, child())
+
+
+def without_manifest(listed):
+    """A changeset with the null manifest, by which no file is left."""
+    text = child(listed=listed).changeset.text
+    return push(child(text=b"0" * 40 + text[40:]), manifests=False, files=False)
+
+
+def large():
+    """A file whose hash takes a while, of another text."""
+    made = child(files={b"new": b"x" * 200000})
+    made.of(b"new").delta = hunk(0, 0, b"y" * 200000)
+    return push(made)
+
+
+def linked():
+    """A changeset with a file whose text no link has, and one that gives it the flag of a link alone."""
+    first = Made(B, {b"a": b"no\0link"})
+    return first, flagged(b"l", first)
+
+
+def flagged(flag=b"x", parent=None):
+    """A changeset that changes the flag of a file alone."""
+    parent = parent or B
+    tree = {**parent.tree, b"a": (parent.tree[b"a"][0], flag)}
+    rows = b"".join(path + b"\0" + node.hex().encode() + flag + b"\n" for path, (node, flag) in sorted(tree.items()))
+    return Made(parent, {}, listed=[b"a"], lines=lambda _: rows)
+
+
 def tags_part():
     return part(b"hgtagsfnodes", A.node + UNKNOWN)
 
@@ -381,6 +423,7 @@ ROWS = {
     "file with an unknown parent": (spoilt("file", p1=UNKNOWN), "unknown parent"),
     "file with an unknown base": (spoilt("file", base=UNKNOWN), "unknown base"),
     "file with another text": (spoilt("file", delta=hunk(0, 0, b"x")), "another hash"),
+    "file with another text, a large one": (large(), "another hash"),
     "file with a delta that is cut": (spoilt("file", delta=hunk(0, 0, b"xx")[:-1]), "cut off"),
     "file with other parents": (rehashed("file", p1=NULL), "does not bring"),
     "file linked to an unknown changeset": (linked_to("file", UNKNOWN), "unknown changeset"),
@@ -393,11 +436,23 @@ ROWS = {
     "file without a revision": (push(child(), more=chunk(b"zzz") + END), "without a revision"),
     "file twice": (push(child(), more=chunk(b"new") + child().of(b"new").entry() + END), "twice"),
     "changegroup of version 03": (raw_group(group(child()), b"03"), "version 03"),
+    **{f"{what} that is there, with {how}": (again(what, field), word) for what in ("changeset", "manifest", "file")
+       for how, field, word in (("an unknown parent", "p1", "unknown parent"),
+                                ("an unknown second parent", "p2", "unknown parent"),
+                                ("an unknown base", "base", "unknown base"), ("another text", "delta", "another hash"))},
+    "changegroup of version nothing": (raw_group(group(child(), version=b"01"), b""), "of version"),
+    "changegroup without a version, of another form": (bundle(CAPS, part(b"CHANGEGROUP", group(child()))), "fit"),
     "changegroup with bytes left over": (raw_group(group(child()) + b"x"), "left over"),
     "changegroup that is cut": (raw_group(group(child())[:-9]), "cut off"),
     "changegroup with a chunk of 3 bytes": (raw_group(b"\0\0\0\3"), "bad length"),
     "changegroup with a chunk below 0": (raw_group(b"\xff\xff\xff\xf0"), "bad length"),
     "changegroup with a short chunk": (raw_group(chunk(b"x" * 50) + bytes(12)), "too short"),
+    "changesets in another order": (push(Made(child(), {b"n2": b"2"}), child()), "unknown parent"),
+    "changeset twice": (push(child(), child()), GOOD),
+    "version 01, of another hash": (push(Made(B, {b"new": b"text\n"}, user=b"another"), version=b"01")
+                                    .replace(b"another", b"someone"), "another hash"),
+    "version 01, with a delta past its base": (
+        raw_group(chunk(UNKNOWN + bytes(60) + hunk(0, 9, b"")) + bytes(12), b"01"), "fit"),
     # a changeset and its manifest
     "a file is listed and not in the manifest": (push(child(listed=[b"new", b"none"])), "no such file"),
     "a file is left out": (left_out(), "does not list"),
@@ -405,6 +460,9 @@ ROWS = {
     "a removed file is left out": (push(child(files={b"gone": None, b"new": b"x"}, listed=[b"new"])), "does not list"),
     "a file of the manifest is not there": (with_lines(lambda it: it + line(b"zz", UNKNOWN), [b"new", b"zz"]),
                                             "lacks the file"),
+    "a file of the manifest is the null revision": (with_lines(lambda it: it + line(b"zz", NULL), [b"new", b"zz"]),
+                                                    "lacks the file"),
+    "a changeset without a manifest leaves files out": (without_manifest([]), "does not list"),
     "a manifest not in order": (with_lines(lambda it: it[it.index(b"\n") + 1:] + it[:it.index(b"\n") + 1]), "order"),
     "a manifest with a line twice": (with_lines(lambda it: it + it[it.rindex(b"\n", 0, -1) + 1:]), "order"),
     "a manifest without its last end of a line": (with_lines(lambda it: it[:-1]), "line"),
@@ -458,15 +516,22 @@ ROWS = {
     "a path HG~1": (with_path(b"HG~1/hgrc"), "does not track"),
     "a path with a carriage return": (with_path(b"q\rq"), "does not track"),
     "a path with a long name": (with_path(b"x" * 256), "too long"),
+    "a path that is long in a clone": (with_path(b"x/" * 1950 + b"x"), "too long"),
     "a path that is long": (with_path(b"x/" * 2050 + b"x"), "too long"),
     "a file named q, line feeds, q": (of_file(b"q\n\nq", b"x"), "does not track"),
     "a file named ../x": (of_file(b"../x", b"x"), "does not track"),
     "a file named with a zero": (of_file(b"a\0b", b"x"), "no path"),
+    # links that cannot be made in a clone
+    "a link to a path with a zero": (push(child(files={b"link": (b"a\0b", b"l")})), "cannot be a link"),
+    "a link to nothing": (push(child(files={b"link": (b"", b"l")})), "cannot be a link"),
+    "a link to a long path": (push(child(files={b"link": (b"x/" * 2048, b"l")})), "cannot be a link"),
+    "a file that becomes a link by its flag alone": (push(*linked()), "cannot be a link"),
     # what Mercurial keeps before the text of a file
     "a file that is censored": (meta(b"\1\ncensored: x\n\1\n"), "censored"),
     "a head of a file without an end": (meta(b"\1\ncopy: a\n"), "cannot read"),
     "a head of a file without a colon": (meta(b"\1\ncopy\n\1\n"), "cannot read"),
     "a copy of no revision": (meta(b"\1\ncopy: a\n\1\n"), "of which revision"),
+    "a copy of the null revision": (meta(b"\1\ncopy: a\ncopyrev: " + b"0" * 40 + b"\n\1\n"), "of which revision"),
     "a copy of a bad revision": (meta(b"\1\ncopy: a\ncopyrev: zz\n\1\n"), "of which revision"),
     "a copy of an unknown revision": (meta(b"\1\ncopy: a\ncopyrev: " + b"7" * 40 + b"\n\1\n"), "not there"),
     "a copy of an unknown file": (meta(b"\1\ncopy: none\ncopyrev: " + b"7" * 40 + b"\n\1\n"), "not there"),
@@ -504,6 +569,37 @@ ROWS = {
     "the phase internal": (beside(phase_heads((96, A.node))), "unknown phase"),
     "phases that are cut": (beside(part(b"PHASE-HEADS", bytes(23))), "cut off"),
 }
+
+
+def known_to_mercurial():
+    """Rows of each type of part that Mercurial knows beside those that may change a repository, and of each of its
+    parameters, by Mercurial's own table."""
+    rows = {}
+    for kind, handler in bundle2.parthandlermapping.items():
+        for name in sorted(handler.params - set(canonical.KNOWN.get(kind, ()))):
+            if kind in canonical.CHANGING:
+                rows[f"any parameter {name.decode()} of {kind.decode()}"] = bundle(CAPS, changegroup(
+                    child(), advisory=[(name, b"x")])), GOOD
+                rows[f"any parameter {name.decode()} of {kind.decode()}, mandatory"] = bundle(CAPS, changegroup(
+                    child(), mandatory=[(name, b"x")])), "not supported"
+        if kind in canonical.CHANGING:
+            continue
+        ends = "client ends" if kind == b"error:abort" else GOOD
+        upper = ends if kind in canonical.KNOWN else "not supported"
+        for payload in (b"", b"x", bytes(100)):
+            rows[f"any part {kind.decode()} of {len(payload)} bytes"] = beside(part(kind, payload)), ends
+            rows[f"any part {kind.decode()} of {len(payload)} bytes, mandatory"] = (
+                beside(part(kind.upper(), payload)), upper)
+        for name in sorted(handler.params):
+            rows[f"any part {kind.decode()} with {name.decode()}"] = beside(part(kind, advisory=[(name, b"x")])), ends
+        everything = part(kind, b"x", advisory=[(name, b"1") for name in sorted(handler.params)])
+        rows[f"any part {kind.decode()} with all parameters, first of all"] = (
+            bundle(everything, CAPS, changegroup(child())), ends)
+        rows[f"any interruption by {kind.decode()}"] = interrupted(everything), ends
+    return rows
+
+
+ROWS.update(known_to_mercurial())
 
 
 def try_row(results, place, what, row):
@@ -575,6 +671,16 @@ def try_good(results, place):
         "another root": push(Made(files={b"other": b"1"})),
         "an amended changeset": push(amended, parts=[obsmarkers(marker(B.node, [amended.node]))]),
         "a pruned one": bundle(CAPS, obsmarkers(marker(B.node, meta=b"date:5.0 -3600\0p1:" + A.node.hex().encode()))),
+        "a changeset without files and without a manifest": without_manifest(sorted(B.tree)),
+        "a parent twice": push(Made(B, {b"n": b"1"}, parent2=B)),
+        "a changegroup without a version": bundle(CAPS, part(b"CHANGEGROUP", group(again, version=b"01"))),
+        "markers of nothing": bundle(CAPS, obsmarkers(marker(NULL), marker(b"\xff" * 20),
+                                                      marker(UNKNOWN, [b"\xff" * 20]))),
+        "a marker whose user is not UTF-8": bundle(CAPS, obsmarkers(marker(B.node, meta=b"user:\xff"))),
+        "a bookmark on nothing": beside(bookmarks((b"x", NULL))),
+        "extras of odd forms": push(of_extra(b"branch:a\0branch:b"), of_extra(b""), of_extra(b"\0")),
+        "a date with parts of a second": push(date(b"5.5 0")),
+        "markers in a circle": bundle(CAPS, obsmarkers(marker(B.node, [C.node]), marker(C.node, [B.node]))),
         "bookmarks": beside(bookmarks((b"m\xc3\xbcnster", A.node), (b"@", B.node), (b"main", None))),
         "a bookmark by pushkey": beside(pushkey(b"bookmarks", b"main", B.node.hex().encode(), A.node.hex().encode(),
                                                 b"PUSHKEY")),
@@ -595,13 +701,6 @@ def try_good(results, place):
     for folder in sorted(glob.glob(f"{TOP}/examples/pushes/*/")):
         try_recorded(results, place, folder)
     return len(rows)
-
-
-def flagged():
-    made = Made(B, {})
-    made.tree[b"a"] = made.tree[b"a"][0], b"x"
-    rows = b"".join(path + b"\0" + node.hex().encode() + flag + b"\n" for path, (node, flag) in sorted(made.tree.items()))
-    return Made(B, {}, listed=[b"a"], lines=lambda _: rows)
 
 
 def try_recorded(results, place, folder):
@@ -661,6 +760,15 @@ def fuzzed(choose):
     return push(made, next_one)
 
 
+def torn(choose):
+    """One of the rows with bytes of it changed, or with the rest of another behind it."""
+    data, other = (ROWS[choose.choice(list(ROWS))][0] for _ in range(2))
+    place = choose.randrange(len(data))
+    if choose.randrange(4):
+        return data[:place] + choose.randbytes(1) + data[place + 1:]
+    return data[:place] + other[choose.randrange(len(other)):]
+
+
 def relink(one):
     """The changeset of another manifest."""
     changeset = one.changeset
@@ -672,15 +780,16 @@ def relink(one):
 def try_fuzzed(results, place, count, seed=1):
     choose, taken = random.Random(seed), 0
     for number in range(count):
-        data = fuzzed(choose)
-        repo = place.repository(b"base")
+        base, data = (b"base", fuzzed(choose)) if number % 2 else (b"more", torn(choose))
+        repo = place.repository(base)
+        before = len(repo)
         repo.ui.pushbuffer(error=True)
         try:
             apply(repo, data)
             taken += 1
             results.see(f"random {number}: sound", is_sound(repo))
         except (incoming.Refused, canonical.Fault):
-            results.see(f"random {number}: nothing is applied", len(fresh(repo)) == 3)
+            results.see(f"random {number}: nothing is applied", len(fresh(repo)) == before)
         except Exception as fault:
             results.see(f"random {number}: let through by the checks alone", False, f"{type(fault).__name__}: {fault}")
         drop(repo)
@@ -705,14 +814,15 @@ def _no_rule(push): return "never"
 
 
 class Hook:
-    """The hook as a process, at an address of its own."""
+    """The hook as a process, at an address of its own, and under a limit of memory where one is given."""
 
-    def __init__(self, place, repo):
+    def __init__(self, place, repo, *limited):
         with open(f"{os.fsdecode(place.folder)}/rules.py", "w", encoding="utf-8") as file:
             file.write(RULES.format(f"{TOP}/mirror/rules.py"))
         self.process = subprocess.Popen(
-            ["hg", "-R", os.fsdecode(repo.root), "--config", f"extensions.hook={TOP}/mirror/hook.py", "--config",
-             "experimental.evolution=all", "hook", "--listen", "127.0.0.1:0", "--wait", "3", "--rules", file.name],
+            [*limited, "hg", "-R", os.fsdecode(repo.root), "--config", f"extensions.hook={TOP}/mirror/hook.py",
+             "--config", "experimental.evolution=all", "hook", "--listen", "127.0.0.1:0", "--wait", "3", "--rules",
+             file.name],
             stdout=subprocess.PIPE, stdin=subprocess.DEVNULL, stderr=subprocess.DEVNULL)
         told = self.process.stdout.readline().decode()
         self.port = int(re.search(r":(\d+)/", told)[1])
@@ -754,8 +864,43 @@ def try_http(results, place):
         try_waiting(results, asked, repo, before)
     finally:
         asked.end()
+    try_limit(results, place, repo)
     results.see("the hook writes a line for each push", any(b"ann 127.0.0.1" in it and b"200 may run" in it
                                                           for it in asked.lines), asked.lines[:3])
+
+
+def ask_at_once(asked, data, count):
+    """The statuses of so many pushes at the same time; None where a connection was closed."""
+    found = []
+
+    def ask():
+        try:
+            found.append(asked.ask(data)[0])
+        except (OSError, http.client.HTTPException):
+            found.append(None)
+
+    threads = [threading.Thread(target=ask) for _ in range(count)]
+    for it in threads:
+        it.start()
+    for it in threads:
+        it.join()
+    return found
+
+
+def try_limit(results, place, repo):
+    """Under a limit of memory large pushes are refused, and the hook lives. It looks at one large push at a time, so
+    that those which fit are not refused."""
+    asked = Hook(place, repo, "prlimit", "--as=900000000", "env", "MALLOC_ARENA_MAX=2")
+    large = part(b"OUTPUT", bytes(60 << 20))
+    try:
+        found = ask_at_once(asked, bundle(large), 6)
+        results.see("large pushes that fit", found == [200] * 6, found)
+        found = ask_at_once(asked, bundle(large, large), 8)
+        results.see("large pushes are refused memory", set(found) <= {200, 500, None} and found.count(200) < 8, found)
+        told = asked.ask(push(of_extra(b"branch:limit")))
+        results.see("the hook lives, and lets a good push through", told[0] == 200, told)
+    finally:
+        asked.end()
 
 
 def try_answers(results, asked, repo):
@@ -835,6 +980,75 @@ def try_waiting(results, asked, repo, before):
     results.see("a push on one that comes meanwhile", status == 200, line)
     later.join()
     results.see("a push on what is not there", asked.ask(push(Made(Made(B, {b"x": b"1"}), {b"y": b"2"})))[0] == 403)
+
+
+# ---- How long a push of 1,000 changesets takes
+
+CHANGESETS, TRACKED, TURNS = 1000, 1000, 3
+
+
+def push_of_many(place):
+    """A repository with the first of so many changesets, and the push that `hg` sends of the others."""
+    repo, parent = place.repository(b"many", is_new=True), NULL
+    paths = [b"d%d/e%d/f%d" % (number % 10, number % 7, number) for number in range(TRACKED)]
+    with repo.wlock(), repo.lock(), repo.transaction(b"test"):
+        for number in range(CHANGESETS + 1):
+            names = sorted({paths[number * step % TRACKED] for step in (7, 13, 29)}) if number else paths
+
+            def file(repo, changeset, path, number=number):
+                lines = (b"line %d of %s\n" % (it * 1000 + number if it == number % 50 else it, path)
+                         for it in range(60))
+                return context.memfilectx(repo, changeset, path, b"".join(lines))
+
+            made = context.memctx(repo, (parent, NULL), b"changeset %d" % number, names, file, b"ann",
+                                  b"%d 0" % number)
+            parent = repo.commitctx(made)
+    root, folder = os.fsdecode(repo.root), os.fsdecode(place.folder)
+    subprocess.run(["hg", "-R", root, "bundle", "-q", "--base", "0", "-t", "none-v2", f"{folder}/many.hg20"],
+                   check=True)
+    subprocess.run(["hg", "clone", "-q", "-U", "-r", "0", root, f"{folder}/first"], check=True)
+    with open(f"{folder}/many.hg20", "rb") as file:
+        data = file.read()
+    return f"{folder}/first", data[:8] + CAPS + data[8:]
+
+
+def processor_seconds(process):
+    with open(f"/proc/{process.pid}/stat", encoding="ascii") as file:
+        return sum(map(int, file.read().rpartition(")")[2].split()[11:15])) / os.sysconf("SC_CLK_TCK")
+
+
+def seconds_for(words, target, data, fields, wanted):
+    """The seconds of the processor that a server takes for a request; it is started for this one. Without the wanted
+    words in its answer it has not taken it."""
+    with subprocess.Popen(words, stdout=subprocess.PIPE, stderr=subprocess.DEVNULL) as process:
+        try:
+            port = int(re.search(rb":(\d+)/", process.stdout.readline())[1])
+            before = processor_seconds(process)
+            connection = http.client.HTTPConnection("127.0.0.1", port, timeout=300)
+            connection.request("POST", target, data, {"content-type": "application/mercurial-0.1", **fields})
+            told = connection.getresponse().read()
+            return processor_seconds(process) - before if wanted in told else 0
+        finally:
+            process.terminate()
+
+
+def try_speed(results, place):
+    """The hook takes a push of 1,000 changesets in the time that `hg serve` takes for it."""
+    first, data = push_of_many(place)
+    by_serve, by_hook = [], []
+    for turn in range(TURNS):
+        shutil.copytree(first, f"{first}{turn}")
+        by_serve.append(seconds_for(
+            ["hg", "-R", f"{first}{turn}", "serve", "-a", "127.0.0.1", "-p", "0", "--print-url", "--config",
+             "web.allow-push=*", "--config", "web.push_ssl=no"],
+            "/?cmd=unbundle", data, {"x-hgarg-1": "heads=666f726365"}, b"reply:changegroup"))
+        by_hook.append(seconds_for(
+            ["hg", "-R", first, "--config", f"extensions.hook={TOP}/mirror/hook.py", "hook", "--listen", "127.0.0.1:0",
+             "--rules", f"{TOP}/mirror/rules.py"], "/", data, {"x-push-durable": "0"}, b"may run"))
+    results.see("both took the push", all(by_serve + by_hook), (by_serve, by_hook))
+    results.see("the hook is as fast as hg serve", min(by_hook) <= min(by_serve), (by_serve, by_hook))
+    return (f"{CHANGESETS:,} changesets of {TRACKED:,} files: {min(by_hook):.2f} s of the processor, and "
+            f"{min(by_serve):.2f} s of hg serve")
 
 
 class Played(http.server.ThreadingHTTPServer):
@@ -983,6 +1197,9 @@ def try_refused(results, asked, host):
     results.see("a key", host.set_key("main", A.node.hex()) == b"not that key\n")
     results.see("each was asked once", len(asked.asked) == count + 14, len(asked.asked) - count)
     results.see("the heads stay", host.heads() == heads)
+    counters = host.ask("/metrics")[2].decode()
+    for reason, wanted in (("refused by the hook", 10), ("no answer of the hook", 4)):
+        results.see(f"counted: {reason}", f'pushes_aborted_total{{reason="{reason}"}} {wanted}\n' in counters, counters)
     asked.says = (b"HTTP/1.1 103 Early\r\n\r\nHTTP/1.1 200 OK\r\ncontent-length: 0\r\n\r\n", b"")
     results.see("200 after others", host.push(data)[1] == MERCURIAL)
 
@@ -1086,7 +1303,15 @@ def try_both(results, place, program):
         asked.end()
 
 
-RANDOM = 150
+RANDOM = 400
+
+
+def write_rows(path):
+    """The pushes before the rows, and of each row its name, whether it is refused, and its bytes."""
+    rows = [(what, row[1] is not GOOD, row[0].hex()) for what, row in ROWS.items()]
+    with open(path, "w", encoding="utf-8") as file:
+        json.dump({"before": [it.hex() for it in BASE], "rows": rows}, file)
+    return 0
 
 
 def pieces(results, place, words, program):
@@ -1115,15 +1340,17 @@ def pieces(results, place, words, program):
 
     return {"host": host_asks, "rows": rows, "good": lambda: f"{try_good(results, place)} good ones",
             "random": lambda: f"{RANDOM} at random of which {try_fuzzed(results, place, RANDOM)} were sound",
-            "http": http_asked, "unchecked": unchecked_rows}
+            "http": http_asked, "speed": lambda: try_speed(results, place), "unchecked": unchecked_rows}
 
 
 def main(words):
-    results, wanted, program = Results(), ["rows", "good", "random", "http", "host"], None
+    results, wanted, program = Results(), ["rows", "good", "random", "http", "speed", "host"], None
     if "--program" in words:
         at = words.index("--program")
         program = os.path.abspath(words[at + 1])
         words = words[:at] + words[at + 2:]
+    if words[:1] == ["--write"]:
+        return write_rows(words[1])
     if words[:1] == ["--unchecked"]:
         wanted, words = ["unchecked"], words[1:]
     elif words[:1] == ["--only"]:
@@ -1134,6 +1361,7 @@ def main(words):
         place = Place(folder)
         place.repository(b"none", is_new=True)
         apply(place.repository(b"base", is_new=True), *BASE)
+        apply(place.repository(b"more", is_new=True), *BASE, push(child()))
         place.plain = {b"base": state(apply(place.repository(b"base"), push(child()))),
                        b"none": state(apply(place.repository(b"none"), push(A)))}
         does = pieces(results, place, words, program)

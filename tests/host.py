@@ -188,7 +188,7 @@ def a_push_is_stored(host):
     want("`report` beside it", host.run("report", "--store", host.store)[:2], (0, told.encode()))
     host.kill()
     want("the size of the store", os.path.getsize(f"{host.store}/pushes") in (
-        38 + 25 + len(EMPTY) + 25 + len(ROOT_PUSH), 38 + 25 + len(EMPTY) + 25 + len(ROOT_PUSH) + 1), True)
+        54 + 34 + len(EMPTY) + 34 + len(ROOT_PUSH), 54 + 34 + len(EMPTY) + 34 + len(ROOT_PUSH) + 1), True)
     want("at the next start", host.start(), (2, 1))
     want("the report of before", host.report(), told)
 
@@ -251,6 +251,30 @@ def more_capabilities_are_told(host):
     host.kill()
     host.start("--also", "stream bundles=1%2C2")
     want("capabilities", host.ask("/?cmd=capabilities")[2], told + b" stream bundles=1%2C2")
+
+
+def names_in(path):
+    """Who pushed, by the records of a store of version 2."""
+    with open(path, "rb") as file:
+        data = file.read()
+    names, at = [], 54
+    while at < len(data) and data[at] == 0xff:
+        size, name = int.from_bytes(data[at + 1:at + 5], "big"), data[at + 13]
+        names.append(data[at + 14:at + 14 + name])
+        at += 34 + name + size
+    return names
+
+
+@case
+def who_pushed_stands_in_the_record(host):
+    """The field that is named says it, up to 255 bytes of it; no other one does, and without the option none."""
+    kind = ("content-type: application/mercurial-0.1", "x-hgarg-1: heads=666f726365")
+    for words, fields in (((), ("x-remote-user: ann",)), (("--user-header", "X-Remote-User"), ())):
+        host.start(*words)
+        for more in ((), fields, ("X-REMOTE-USER: bob",), ("remote-user: eve",), (f"x-remote-user: {'c' * 300}",)):
+            want("a push", host.ask("/?cmd=unbundle", EMPTY, kind + more)[2], EMPTY_REPLY)
+        host.kill()
+    want("the names", names_in(f"{host.store}/pushes"), [b""] * 7 + [b"bob", b"", b"c" * 255])
 
 
 @case
@@ -481,17 +505,17 @@ def a_store_cut_at_each_of_its_lengths(host):
     path = f"{host.store}/pushes"
     with open(path, "rb") as file:
         whole = file.read()
-    record = 38 + 25 + len(ROOT_PUSH)
+    record = 54 + 34 + len(ROOT_PUSH)
     for length in range(len(whole) + 1):
         with open(path, "wb") as file:
             file.write(whole[:length])
-        if length == 38 or length >= record:
-            want(f"{length} bytes", host.start(), (int(length > 38), int(length > 38)))
-            want(f"report of {length} bytes", host.report(), f"C 0 {ROOT} 1 0\nJ 0\n" if length > 38 else "")
+        if length == 54 or length >= record:
+            want(f"{length} bytes", host.start(), (int(length > 54), int(length > 54)))
+            want(f"report of {length} bytes", host.report(), f"C 0 {ROOT} 1 0\nJ 0\n" if length > 54 else "")
             host.kill()
             continue
         status, _, said = host.run("host", "--store", host.store, "--listen", "127.0.0.1:0")
-        wanted = "no store: a file that is shorter than a head" if length < 38 else "torn: 0 pushes are whole"
+        wanted = "no store: a file that is shorter than a head" if length < 54 else "torn: 0 pushes are whole"
         want(f"{length} bytes: {said}", (status, wanted in said), (3, True))
         with open(path, "rb") as file:
             want(f"the file of {length} bytes", file.read(), whole[:length])
@@ -505,13 +529,14 @@ def a_record_that_does_not_run(host):
     host.kill()
     path = f"{host.store}/pushes"
     with open(path, "rb") as file:
-        head = file.read(38)
+        head = file.read(54)
     raced = bundle(CAPS, (b"CHECK:HEADS", (), b"\1" * 20))
     for second, why in ((raced, "the push of record 1 is not done"), (ROOT_PUSH[:-1], "record 1 is no bundle")):
         digest, made = hashlib.sha1(head).digest(), head
         for it in (ROOT_PUSH, second):
-            digest = hashlib.sha1(digest + hashlib.sha1(it).digest()).digest()
-            made += b"\1" + len(it).to_bytes(4, "big") + digest + it
+            label = len(it).to_bytes(4, "big") + bytes(9)
+            digest = hashlib.sha1(digest + label + hashlib.sha1(it).digest()).digest()
+            made += b"\xff" + label + digest + it
         with open(path, "wb") as file:
             file.write(made + b"\0")
         status, _, said = host.run("host", "--store", host.store, "--listen", "127.0.0.1:0")

@@ -25,6 +25,8 @@ from urllib.parse import parse_qs, urlsplit
 
 TOP = os.path.dirname(os.path.dirname(os.path.abspath(__file__)))
 TO_HOST = {"batch", "branchmap", "capabilities", "heads", "known", "listkeys", "lookup", "pushkey", "unbundle"}
+# what tells a client that it may have the store's files as they are; hgweb says it of itself
+STREAMED = "streamreqs=generaldelta,revlog-compression-zstd,revlogv1,sparserevlog"
 # how long a pull waits where the mirror does not come, and where it does, in seconds
 SHORT, LONG = 3, 240
 SETTINGS = """\
@@ -74,10 +76,10 @@ class Place:
             file.write(SETTINGS.format(top=TOP))
         self.environment = {"PATH": os.environ["PATH"], "HGRCPATH": f"{folder}/hgrc", "HGPLAIN": "1", "HOME": folder,
                             "LC_ALL": "C.UTF-8", "PYTHONDONTWRITEBYTECODE": "1"}
-        host = self.start(program, "host", "--store", "store", "--listen", "127.0.0.1:0")
+        host = self.start(program, "host", "--store", "store", "--listen", "127.0.0.1:0", "--also", STREAMED)
         self.hg("init", "mirrored")
         with open(f"{folder}/mirrored/.hg/hgrc", "w", encoding="utf-8") as file:
-            file.write("[phases]\npublish = no\n")
+            file.write(f"[phases]\npublish = no\n[mirror]\nstore = {folder}/store\n")
         self.mirror = self.begin("hg", "-R", "mirrored", "mirror", "--store", "store")
         self.hgweb = {patience: self.start("hg", "-R", "mirrored", "serve", "-a", "127.0.0.1", "-p", "0", "--print-url",
                                            "--config", f"mirror.patience={patience}") for patience in (SHORT, LONG)}
@@ -200,6 +202,44 @@ def try_at_once(results, place):
                     == place.names("work"), said)
 
 
+def try_streamed(results, place):
+    """A clone of the store's files, which hgweb gives and the push server tells of, waits too."""
+    place.hold()
+    place.push("streamed")
+    place.front.hgweb = place.hgweb[SHORT]
+    status, said = place.run("clone", "--stream", "-U", place.url, "too early")
+    results.see("streamed: a clone that the mirror does not come to is an error", status == 255
+                and not os.path.exists(f"{place.folder}/too early/.hg/store/00changelog.i"), said)
+    place.front.hgweb = place.hgweb[LONG]
+    threading.Timer(1, place.go_on).start()
+    status, said = place.run("clone", "--stream", "-U", place.url, "streamed")
+    results.see("streamed: a clone waits", status == 0 and "streaming all changes" in said, said)
+    results.see("streamed: all", place.names("streamed") == place.names("work"), place.names("streamed"))
+
+
+def try_without_changesets(results, place):
+    """The mirror is behind by pushes that move a bookmark and publish: pulls wait for these too, at either address."""
+    place.hg("clone", place.url, "marks")
+    place.hg("-R", "work", "bookmark", "-r", "0", "mark")
+    place.hg("-R", "work", "phase", "-p", "-r", "0")
+    place.hold()
+    place.run("-R", "work", "push", "-B", "mark", place.url)
+    for address in (place.url, f"http://127.0.0.1:{place.hgweb[SHORT][1]}/"):
+        place.front.hgweb = place.hgweb[SHORT]
+        status, said = place.run("-R", "marks", "pull", address)
+        results.see(f"bookmarks and phases: a pull from {address} is an error", status == 255
+                    and "not mirrored yet" in said, said)
+        status, said = place.run("clone", "-U", address, "marks too")
+        results.see(f"bookmarks and phases: so is a clone from {address}", status == 255
+                    and "not mirrored yet" in said, said)
+    place.front.hgweb = place.hgweb[LONG]
+    threading.Timer(1, place.go_on).start()
+    status, said = place.run("-R", "marks", "pull", "-B", "mark", place.url)
+    results.see("bookmarks and phases: a pull waits", status == 0, said)
+    told = place.hg("-R", "marks", "log", "-r", "mark", "-T", "{rev} {phase}")
+    results.see("bookmarks and phases: it has both", told == "0 public", told)
+
+
 def try_hidden(results, place):
     """Of an obsolete head comes what is shown below it, also where nothing else is asked for."""
     place.hg("-R", "work", "commit", "--amend", "-m", "amended")
@@ -237,6 +277,8 @@ def main(words):
             for number in (1, 2, 3):
                 try_behind(results, place, number)
             try_at_once(results, place)
+            try_without_changesets(results, place)
+            try_streamed(results, place)
             try_hidden(results, place)
             try_unknown(results, place)
             seen = set(place.front.seen)

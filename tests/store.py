@@ -7,17 +7,25 @@ import fcntl
 import glob
 import hashlib
 import os
+import random
 import struct
 import subprocess
 import sys
 import tempfile
 
-from bundles import CAPS, EMPTY, NULL, ROOT_PUSH, bundle, group, heads
+from bundles import CAPS, EMPTY, NULL, ROOT_PUSH, any_bundle, bundle, chunks, group, header, heads, number
+
+sys.dont_write_bytecode = True
+sys.path.append(f"{os.path.dirname(os.path.dirname(os.path.abspath(__file__)))}/mirror")
+import canonical
 
 PROGRAM = os.path.abspath(sys.argv[1])
 EXAMPLES = f"{os.path.dirname(os.path.dirname(os.path.abspath(__file__)))}/examples"
 LIMITS = (65536, 67108864, 268435456, 10000, 16777216, 1024, 2147483647)
-HEAD = 38
+HEAD = 54
+OLD_HEAD = 38
+OPEN = {1: b"\1", 2: b"\xff"}
+USER = b"ann"
 SHUT = b"\0"
 CASES = []
 
@@ -40,17 +48,22 @@ def sha1(data):
     return hashlib.sha1(data).digest()
 
 
-def head(publishing=False):
-    return struct.pack(">8sBB7I", b"HGPUSHES", 1, publishing, *LIMITS)
+def head(publishing=False, version=2):
+    name = b"the name of this" if version == 2 else b""
+    return struct.pack(">8sBB7I", b"HGPUSHES", version, publishing, *LIMITS) + name
 
 
-def store_of(bundles, publishing=False, end=SHUT):
-    """The bytes of a store, and the places where its head and each of its records end."""
-    made = head(publishing)
+def store_of(bundles, publishing=False, end=SHUT, version=2, stamps=None):
+    """The bytes of a store, and the places where its head and each of its records end. In version 2 each push is of the
+    user, a second behind the one before; or of the stamps, which are a time and a name."""
+    made = head(publishing, version)
     digest, ends = sha1(made), [len(made)]
-    for it in bundles:
-        digest = sha1(digest + sha1(it))
-        made += struct.pack(">BI", 1, len(it)) + digest + it
+    for number, it in enumerate(bundles):
+        time, name = stamps[number] if stamps else (1000 * number, USER)
+        length = struct.pack(">I", len(it))
+        stamp = struct.pack(">QB", time, len(name)) + name if version == 2 else b""
+        digest = sha1(digest + (length + stamp if version == 2 else b"") + sha1(it))
+        made += OPEN[version] + length + stamp + digest + it
         ends.append(len(made))
     return made + end, ends
 
@@ -143,7 +156,7 @@ def root_report():
 
 @case
 def the_head_of_a_store(room):
-    """A head has 38 bytes, and a store without pushes an empty report."""
+    """A head has 54 bytes, and a store without pushes an empty report."""
     data, ends = store_of([], end=b"")
     want("length of a head", (len(data), ends), (HEAD, [HEAD]))
     for end in (b"", SHUT, SHUT + b"what stands there is not looked at"):
@@ -207,6 +220,68 @@ def a_log_goes_on(room):
 
 
 @case
+def a_canonical_log(room):
+    """What the server passes over is left out: parts, parameters, and what interrupts a payload."""
+    kind, params, payload = group((b"", NULL))
+    dice = random.Random(1)
+    output = header(b"output", 9, ()) + chunks(dice, b"to a person")
+    text = b"HG20" + number(3) + b"a=b" + header(b"REPLYCAPS", 0, ()) + number(0)
+    text += header(b"remote-changegroup", 1, ((True, b"url", b"http://other/"),)) + number(0)
+    text += header(b"ChangeGroup", 7, ((True, b"version", b"02"), (False, b"nbchanges", b"x"), (False, b"k", b"v")))
+    text += number(5) + payload[:5] + number(-1) + output + number(len(payload) - 5) + payload[5:] + number(0)
+    text += header(b"hgtagsfnodes", 2, ()) + chunks(dice, bytes(48)) + number(0)
+    wanted = b"HG20" + number(0) + header(b"ChangeGroup", 7, ((True, *params[0]),))
+    wanted += number(len(payload)) + payload + number(0) + number(0)
+    room.store(store_of((text, EMPTY))[0])
+    room.looks("log --store store --canonical", wanted + EMPTY)
+    room.looks("log --store store --canonical --from 1", EMPTY)
+    room.looks("report --store store", root_report() + journal(2))
+
+
+@case
+def a_canonical_log_is_replayed(room):
+    """The pushes of each row in their canonical form, as the mirror has them, have the same report."""
+    for number_of, it in enumerate(rows()):
+        room.store(it.store())
+        wanted = [canonical.canonical(text) for text in it.bundles]
+        room.looks("log --store store --canonical", b"".join(wanted))
+        folder = f"log-{number_of}"
+        room.run(f"log --store store --canonical --to {folder}")
+        named = [f"{place:010}" for place in range(len(wanted))]
+        want("files of a log", found_in(room.path(folder)), {".": None, **dict(zip(named, wanted))})
+        files = " ".join(f"{folder}/{name}" for name in named)
+        want("report of a replayed log", replayed(room, f"{it.words()} {files}"), it.report)
+
+
+@case
+def canonical_logs_of_any_bundles(room):
+    """Bundles of any shape: the program writes what the mirror does, where that does not refuse them."""
+    dice, tried = random.Random(58), 0
+    while tried < 60:
+        kept = []
+        for text in (any_bundle(dice) for _ in range(40)):
+            try:
+                kept.append((text, canonical.canonical(text)))
+            except canonical.Fault:
+                pass
+        tried += 1
+        room.store(store_of([text for text, _ in kept])[0])
+        room.looks("log --store store --canonical", b"".join(only for _, only in kept))
+
+
+@case
+def a_canonical_log_of_no_bundle(room):
+    """A record that is no whole bundle is damage. What stands before it was written."""
+    push = bundle(CAPS, group((b"", NULL)))
+    for text in (b"", push[:-1], push + b"\0", b"HG19" + push[4:]):
+        room.store(store_of((push, text, push))[0])
+        line = "store/pushes: damage at place 1: no bundle"
+        room.looks("log --store store --canonical", canonical.canonical(push), status=3, line=line)
+        room.looks("log --store store --canonical --from 1", status=3, line=line)
+        room.looks("log --store store --canonical --from 2", canonical.canonical(push))
+
+
+@case
 def a_cut_at_each_place(room):
     """What is left is the store of the pushes before it, and what is cut is kept beside it."""
     for it in (row("merge"), row("publishing")):
@@ -265,7 +340,7 @@ def torn(folder, whole):
 
 @case
 def a_store_cut_at_each_of_its_lengths(room):
-    """Below 38 bytes it is no store. After that its whole records are given, and it is told where it is torn."""
+    """Below 54 bytes it is no store. After that its whole records are given, and it is told where it is torn."""
     data, ends = store_of(TWO)
     refused = "store/pushes: no store: a file that is shorter than a head"
     for length in range(HEAD):
@@ -298,10 +373,12 @@ def a_torn_store_is_ended(room):
 
 @case
 def one_byte_changed(room):
-    """Each byte of a digest and of a bundle in turn, in the first record and in the last."""
+    """Each byte of a time, a name, a digest and a bundle in turn, in the first record and in the last."""
     data, ends = store_of(TWO)
     for place in (0, 1):
         for at in range(ends[place] + 5, ends[place + 1]):
+            if at == ends[place] + 13 and place == 1:
+                continue  # a longer name is a torn record, where it is the last
             room.store(data[:at] + bytes([data[at] ^ 1]) + data[at + 1:])
             line = f"store/pushes: damage at place {place}"
             room.looks("report --store store", status=3, line=line)
@@ -315,7 +392,7 @@ def a_gate_or_a_size_changed(room):
     """A gate that is neither open nor shut, a shorter record, records in another order."""
     data, ends = store_of(TWO)
     line = "store/pushes: damage at place 1"
-    for gate in (2, 3, 128, 255):
+    for gate in range(1, 255):
         room.store(data[:ends[1]] + bytes([gate]) + data[ends[1] + 1:])
         room.looks("report --store store", status=3, line=line)
     size = len(ROOT_PUSH)
@@ -345,13 +422,52 @@ def a_damaged_store_is_ended(room):
 def a_head_changed(room):
     """Another magic, version or publishing byte, and limits that are not allowed."""
     data = store_of(TWO)[0]
-    for at, byte, why in ((0, b"h", "another magic"), (8, b"\2", "another version"),
+    for at, byte, why in ((0, b"h", "another magic"), (8, b"\3", "another version"),
                           (9, b"\2", "a publishing byte that is neither 0 nor 1")):
         room.store(data[:at] + byte + data[at + 1:])
         for words in ("report --store store", "log --store store", "cut --store store --at 0"):
             room.looks(words, status=3, line=f"store/pushes: no store: {why}")
     room.store(data[:14] + bytes([255, 255, 255, 255]) + data[18:])
     room.looks("report --store store", status=3, line="store/pushes: no store: limits that are not allowed")
+
+
+@case
+def a_store_of_version_1(room):
+    """It is read, cut and upgraded, and not served. In version 2 it has the same pushes, and the old file is kept."""
+    data, ends = store_of(TWO, version=1)
+    want("length of a head of version 1", ends[0], OLD_HEAD)
+    room.store(data)
+    room.looks("report --store store", root_report() + journal(2))
+    room.looks("log --store store", b"".join(TWO))
+    room.looks("host --store store --listen 127.0.0.1:0", status=3,
+               line="store/pushes: a store of version 1: upgrade it with `hg_pushd upgrade`")
+    room.store(data, "other")
+    room.run("cut --store other --at 1")
+    want("a store of version 1 that was cut", read(room.path("other/pushes")), store_of(TWO[:1], version=1)[0])
+    for length in range(OLD_HEAD, len(data)):
+        room.store(data[:length], "torn")
+        whole = sum(it <= length for it in ends) - 1
+        room.looks("report --store torn", (b"", b"", root_report())[whole] + journal(whole),
+                   line="" if length in ends else torn("torn", whole))
+    room.run("upgrade --store store")
+    made = read(room.path("store/pushes"))
+    name = made[OLD_HEAD:HEAD]
+    wanted, _ = store_of(TWO, stamps=[(0, b""), (0, b"")])
+    want("the head of version 2", made[:OLD_HEAD], wanted[:OLD_HEAD])
+    want("the length of the store of version 2", len(made), len(wanted))
+    want("files of an upgrade", sorted(found_in(room.path("store"))), [".", "pushes", "pushes.1"])
+    want("the old store", read(room.path("store/pushes.1")), data)
+    room.looks("report --store store", root_report() + journal(2))
+    room.looks("log --store store", b"".join(TWO))
+    room.looks("upgrade --store store", status=3, line="store/pushes: a store of version 2 already")
+    room.run("upgrade --store other")
+    want("names of two stores", read(room.path("other/pushes"))[OLD_HEAD:HEAD] != name, True)
+    room.store(data)
+    room.looks("upgrade --store store", status=3, line="store/pushes.1: there is a file already")
+    room.store(data[:ends[1] + 1], "torn")
+    room.looks("upgrade --store torn", status=3,
+               line="torn/pushes: torn behind 1 pushes: end it there by `hg_pushd cut`")
+    room.looks("upgrade --store missing", status=3, line="missing/pushes: no store")
 
 
 @case

@@ -25,8 +25,7 @@ import host
 from bundles import CAPS, NULL, bundle, group
 from host import Wrong, answer, request, want
 
-HEAD = 38
-FRAME = 25
+HEAD, OPEN = 54, 0xff
 CALLS = ("openat", "mkdir", "pwrite64", "write", "ftruncate", "fsync", "fdatasync", "rename", "fadvise64", "read",
          "recvfrom", "sendto", "sendmsg", "writev", "close")
 CLIENTS, PUSHES = 6, 8
@@ -103,23 +102,27 @@ def events_of(calls):
     return [(kind, call) for _, kind, call in sorted(events, key=lambda event: event[:2])]
 
 
+def record_at(text, at):
+    """Where the bundle begins and ends of the record whose commit byte is at that place. A name stands before it."""
+    size, name = int.from_bytes(text[at + 1:at + 5], "big"), text[at + 13] if len(text) > at + 13 else 0
+    return at + 34 + name, at + 34 + name + size
+
+
 def records_on(text):
     """The records behind open commit bytes, and where the first shut one is."""
     records, at = [], HEAD
-    while at < len(text) and text[at] == 1:
-        size = int.from_bytes(text[at + 1:at + 5], "big")
-        record = text[at + FRAME:at + FRAME + size]
-        if len(record) < size:
+    while at < len(text) and text[at] == OPEN:
+        begin, end = record_at(text, at)
+        if len(text) < end:
             return records, at
-        records.append(bytes(record))
-        at += FRAME + size
+        records.append(bytes(text[begin:end]))
+        at = end
     return records, at
 
 
 def whole_behind(text, at):
     """Whether a record stands behind the commit byte at that place, and a byte after it."""
-    size = int.from_bytes(text[at + 1:at + 5], "big")
-    return len(text) > at + FRAME + size
+    return len(text) > record_at(text, at)[1]
 
 
 class Played:
@@ -194,7 +197,7 @@ class Played:
     def opens(self, call):
         """A commit byte that is opened has on the disk what stands behind it."""
         at, text = call.numbers()[-1], call.texts()[0]
-        if text != b"\1" or not self.serves:
+        if text != bytes([OPEN]) or not self.serves:
             return
         if not whole_behind(self.disk.has(self.file), at):
             raise Wrong("a commit byte is opened before the records behind it are on the disk")
@@ -303,7 +306,7 @@ def early_reply(calls, store):
 
 def early_commit(calls, store):
     """The first commit byte that is opened before the sync ahead of it."""
-    opens = next(call for call in calls if call.name == "pwrite64" and call.texts()[0] == b"\1")
+    opens = next(call for call in calls if call.name == "pwrite64" and call.texts()[0] == bytes([OPEN]))
     sync = max((call for call in calls if is_sync(f"{store}/pushes")(call) and call.ended < opens.began),
                key=lambda call: call.ended)
     return [Call(it.name, it.words, it.gave, sync.began - 0.5, sync.began - 0.5) if it is opens else it

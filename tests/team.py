@@ -5,20 +5,27 @@
 
 It makes the Debian package of the program, and a clean machine of its own (tests/room.py). There the commands
 of the page run as they stand, root's and a user's, who types names and passwords at a terminal. After each
-section it looks at what the section promised, and in the end at what the page says beside its commands. It needs root, Linux's overlay and namespaces, and the packages
-mercurial, nginx, openssl, curl and systemd. Where one is missing it says so, and nothing is tried.
+section it looks at what the section promised, and in the end at what the page says beside its commands. It needs
+root, Linux's overlay and namespaces, and the packages mercurial, nginx, openssl, curl and systemd. Where one is missing
+it says so, and nothing is tried.
 
 `apt-get install` is played (tests/played), as there is no network: it says whether the packages are there. So
 are `systemctl` and `journalctl` where systemd cannot run, or with --played after the program.
 """
+import base64
 import glob
+import http.client
+import json
 import os
 import re
 import shutil
 import signal
+import socket
+import ssl
 import subprocess
 import sys
 import tempfile
+import threading
 import time
 
 import room
@@ -29,6 +36,9 @@ PAGE = f"{TOP}/docs/team.md"
 REPOSITORY = "/var/lib/deqtorap-mirror/repository"
 STORE = "/var/lib/deqtorap/store"
 CURL = "curl -s --cacert /etc/ssl/certs/hg.example.org.pem"
+# a push by hand, of the bundle that Mercurial takes
+PUSH = f"curl -s --data-binary @{room.PLACE}/plain.hg20 -H 'content-type: application/mercurial-0.1'"
+UNBUNDLE = "cmd=unbundle&heads=666f726365"
 ONLY_STATUS = "-o /dev/null -w '%{http_code}'"
 # an id, its phase, and whether it is obsolete, as a report has them
 EXTRA = []
@@ -108,7 +118,10 @@ class Trial:
     def after_start_the_push_server(self):
         self.see("the server is there and empty", "000000000000" in self.said, self.said)
 
-    def after_start_the_mirror_and_hgweb(self):
+        status, told = self.root.type(f"{PUSH} 'http://127.0.0.1:8000/?{UNBUNDLE}'")
+        self.see("it takes no push before the hook runs", "the hook did not answer" in told, told)
+
+    def after_start_the_mirror_the_hook_and_hgweb(self):
         self.answers("hgweb serves the mirror", "hg identify http://127.0.0.1:8001/", "000000000000")
 
     def after_names_and_a_certificate(self):
@@ -130,8 +143,14 @@ class Trial:
         self.has_mirrored(4, 4)
         self.answers("the clone has what it pushed", "hg log -r tip -T '{desc} {phase}\\n'", "three draft",
                      self.user)
+        silent = Silent()
+        silent.start()
         self.pulls_before_the_mirror()
         self.slow_bodies_of_one_user()
+        self.who_may_only_read()
+        silent.join()
+        self.see("a body that says nothing is ended after 30 seconds", silent.took and 25 < silent.took < 55,
+                 silent.took)
         self.answers("a branch is cloned by its name", "hg clone -q -r default https://hg.example.org/ ~/named && "
                      "hg -R ~/named pull -r tip && hg -R ~/named log -r tip -T '{desc}\\n'", "more", self.user)
         self.answers("the web page is hgweb's", f"{CURL} -u ann:secret https://hg.example.org/", "three")
@@ -139,12 +158,37 @@ class Trial:
                      f"{CURL} {ONLY_STATUS} -u ann:wrong 'https://hg.example.org/?cmd=heads'", "401")
 
     def slow_bodies_of_one_user(self):
-        """24 pushes whose bodies come slowly: 16 of them are served, and the others refused at once."""
+        """24 pushes whose bodies come slowly, beside the silent one: 16 are served, and the others refused at once."""
         slow = (f"{CURL} --max-time 4 --limit-rate 100 -u ann:secret -H 'content-type: application/mercurial-0.1' "
                 f"--data-binary @/tmp/slow {ONLY_STATUS} 'https://hg.example.org/?cmd=unbundle&heads=666f726365'")
         _, told = self.root.type("head -c 1000000 /dev/zero > /tmp/slow; for _ in $(seq 24); do "
                                  f"({slow}; echo) & done; wait")
-        self.see("a user has sixteen requests at one time", 1 <= told.count("429") <= 8, told)
+        self.see("a user has sixteen requests at one time", 1 <= told.count("429") <= 9, told)
+        others = [connected() for _ in range(24)]
+        for it in others:
+            it.sendall(beginning_of_push("Basic " + base64.b64encode(b"ann:wrong").decode()))
+        _, told = self.root.type(f"{CURL} -u ann:secret {ONLY_STATUS} 'https://hg.example.org/?cmd=heads'")
+        self.see("somebody without the password takes none of them", told.endswith("200"), told)
+        for it in others:
+            it.close()
+
+    def who_may_only_read(self):
+        """No query of a user who may only read is a push, however it is written."""
+        self.root_types('echo "eve:$(openssl passwd -6 secret)" >> /etc/nginx/deqtorap.users',
+                        "echo 'eve 1;' > /etc/nginx/deqtorap.readers", "systemctl reload nginx; sleep 1")
+        self.answers("who may only read reads", f"{CURL} -u eve:secret 'https://hg.example.org/?cmd=heads'", " ")
+        for query in (UNBUNDLE, f"CMD=heads&{UNBUNDLE}", f"{UNBUNDLE}&CMD=heads", f"cmd=heads&{UNBUNDLE}",
+                      f"{UNBUNDLE}&cmd=heads", UNBUNDLE.replace("cmd", "Cmd"), UNBUNDLE.replace("cmd", "%63md"),
+                      UNBUNDLE.replace("unbundle", "unbundl%65"), UNBUNDLE.replace("unbundle", "UNBUNDLE"),
+                      f"x=;{UNBUNDLE}", f"x=1&{UNBUNDLE}", f"cmd=getbundle&{UNBUNDLE}", f"&{UNBUNDLE}", f"?{UNBUNDLE}",
+                      UNBUNDLE.replace("&", ";"), UNBUNDLE.replace("cmd=", "cmd=+"), "cmd=pushkey"):
+            _, told = self.root.type(f"{PUSH.replace('curl -s', CURL)} -u eve:secret -w ' %{{http_code}}' "
+                                     f"'https://hg.example.org/?{query}'")
+            # the hook refuses it by this line: then it was asked
+            self.see(f"who may only read does not push by {query}", "heads in the place" not in told
+                     and re.search(r" (4\d\d|200)$", told), told)
+        _, told = self.root.type(f"{PUSH.replace('curl -s', CURL)} -u ann:secret 'https://hg.example.org/?{UNBUNDLE}'")
+        self.see("the hook is asked of another's push, and refuses it", "heads in the place" in told, told)
 
     def pulls_before_the_mirror(self):
         """A pull before the mirror waits, and is refused: it is never less than what was asked for."""
@@ -161,16 +205,68 @@ class Trial:
     def after_look_after_it(self):
         self.see("the report, the log and a sound repository were printed",
                  all(it in self.said for it in ("C 4 ", "J 4", "three", "checked 5 changesets")), self.said)
+        self.alerts_name_what_is_told()
+
+    def after_the_hook_and_its_rules(self):
+        self.see("the journal of the hook has a line for each push", "200 may run" in self.said, self.said)
+        self.hook_listens()
+        commit = "cd ~/other && echo x > server.pem && hg commit -A -m key"
+        status, told = self.user.type(f"{commit} && hg push")
+        self.see("the rules refuse a path", status == 255 and "server.pem does not belong here (*.pem)" in told, told)
+        self.user.type("hg strip --config extensions.strip= -r tip && rm -f server.pem")
+        self.root_types("systemctl stop deqtorap-hook")
+        status, told = self.user.type("hg bookmark --rev tip mark && hg push -B mark")
+        self.see("without the hook no push runs", status == 255 and "the hook did not answer" in told, told)
+        self.answers("pulls do", "hg pull && echo pulled", "pulled", self.user)
+        self.root_types("systemctl start deqtorap-hook")
+        self.hook_listens()
+        self.user.type("hg bookmark --delete mark")
+
+    def hook_listens(self):
+        self.answers("the hook listens", "curl -s --retry 100 --retry-connrefused --retry-delay 1 "
+                     "http://127.0.0.1:8003/ > /dev/null; echo $?", "0")
+
+    def after_what_users_ask(self):
+        """What largefiles and lfs say; neither is pushed."""
+        for words, told in ((("largefiles", "hg add --large big"), "does not appear to be a largefile store"),
+                            (("lfs", "hg add big"), "required features are not supported in the destination: lfs")):
+            status, said = self.user.type(
+                f"hg init ~/{words[0]} && cd ~/{words[0]} && "
+                f"printf '[extensions]\n{words[0]} =\n[lfs]\ntrack = all()\n' "
+                f"> .hg/hgrc && echo big > big && {words[1]} && hg commit -m big && hg push http://127.0.0.1:8000/")
+            self.see(f"a push with {words[0]}", status == 255 and told in said, said)
+        self.user.type("cd ~/other")
+
+    def alerts_name_what_is_told(self):
+        """Each number that an alert goes by is told by the server or the mirror."""
+        _, told = self.root.type("curl -s http://127.0.0.1:8000/metrics")
+        named = set(re.findall(r"hg_\w+", read("/usr/share/doc/deqtorap/examples/deqtorap.rules.yml").decode()))
+        unknown = [it for it in named - {"hg_mirror_pushes"} if f"\n{it}" not in f"\n{told}"]
+        self.see("alerts go by numbers that are told", named and not unknown, unknown)
+
+    def unit_of_host(self, *changes):
+        """Has the push server run by a unit that is changed by these commands of sed; by the package's where there are
+        none."""
+        unit = "/etc/systemd/system/deqtorap-host.service"
+        self.root_types("systemctl stop deqtorap-host", f"rm -f {unit}",
+                        *([f"cp /lib/systemd/system/deqtorap-host.service {unit}"] if changes else []),
+                        *(f"sed -i '{it}' {unit}" for it in changes), "systemctl daemon-reload",
+                        "systemctl start deqtorap-host")
 
     def before_when_the_mirror_stops(self):
-        """A push by hand that Mercurial refuses, and one after it that it takes."""
-        for name in ("refused", "plain"):
-            self.answers(f"the server takes the {name} push",
-                         f"curl -s --data-binary @{room.PLACE}/{name}.hg20 "
-                         "-H 'content-type: application/mercurial-0.1' "
-                         "'http://127.0.0.1:8000/?cmd=unbundle&heads=666f726365' | head -c 4", "HG20")
+        """A push by hand that Mercurial refuses, and one after it that it takes, to a server without a hook."""
+        push = "--retry 20 --retry-connrefused --retry-delay 1 'http://127.0.0.1:8000/?" + UNBUNDLE + "'"
+        refused = PUSH.replace("plain", "refused")
+        self.answers("the hook refuses a push that Mercurial does", f"{refused} {push}", "has another hash")
+        self.unit_of_host("/^ExecStart=/s|--hook [^ ]*||")
+        self.answers("without a hook the server takes it", f"{refused} {push} | head -c 4", "HG20")
+        self.answers("and one behind it", f"{PUSH} {push} | head -c 4", "HG20")
         time.sleep(1)
         self.see("the mirror stays at the five before", self.mirrored() == 5)
+        self.unit_of_host()
+        status, told = self.user.type("hg clone -q -U http://127.0.0.1:8001/ ~/less")
+        self.see("a clone would be less, and is refused", status == 255 and "2 pushes are not mirrored yet" in told,
+                 told)
 
     def after_when_the_mirror_stops(self):
         self.see("the journal has the place and the reason", "Mercurial refuses push 5: " in self.said,
@@ -198,6 +294,8 @@ class Trial:
         self.answers("all are mirrored", "for _ in 1 2 3 4 5 6 7 8 9 10; do deqtorap doctor && break; sleep 1; done",
                      "12 repositories, nothing found")
         self.answers("each has its own push", "deqtorap list | grep -c '1 pushes, 1 mirrored$'", "12")
+        self.attacks("number8")
+        self.of_another_machine()
         status, told = self.user.type("cd ~/first && echo two > file && hg commit -q -m two && "
                                       "hg push https://hg.example.org/first/sub")
         self.see("a push below a name is refused", status == 255 and "404" in told, told)
@@ -215,9 +313,67 @@ class Trial:
         self.see("a path is no name", status == 1, told)
         self.root_types("deqtorap create number9")
         self.answers("what was removed is taken up again", "sleep 1; deqtorap list | grep number9", "1 pushes, 1 mirrored")
+        settings = "/var/lib/deqtorap-mirror/second/.hg/hgrc"
+        self.root_types("systemctl stop deqtorap-hook@second deqtorap-host@number0",
+                        f"sed -i 's/publish = yes/publish = no/' {settings}",
+                        "mv /var/lib/deqtorap-mirror/number1/.hg/hgrc /tmp/",
+                        "sed 's/number2/twin/' /etc/deqtorap/number2.conf > /etc/deqtorap/twin.conf")
+        status, told = self.root.type("deqtorap doctor")
+        for fault in ("second: its hook does not answer at port 9101",
+                      "number0: its server does not answer at 127.0.0.1:8102",
+                      "second: its server and its mirror differ in whether they publish",
+                      "number1: /var/lib/deqtorap-mirror/number1 has no settings",
+                      "twin: its address is that of number2"):
+            self.see(f"doctor finds: {fault}", status == 1 and fault in told, told)
+        self.root_types(f"sed -i 's/publish = no/publish = yes/' {settings}", "rm /etc/deqtorap/twin.conf",
+                        "mv /tmp/hgrc /var/lib/deqtorap-mirror/number1/.hg/",
+                        "systemctl start deqtorap-hook@second deqtorap-host@number0")
         self.root_types("rm /etc/nginx/sites-enabled/deqtorap-many.conf",
                         "ln -s ../sites-available/deqtorap-one.conf /etc/nginx/sites-enabled/",
                         "systemctl reload nginx")
+
+    def of_another_machine(self):
+        """A name that leads to a push server and an hgweb at other ports."""
+        self.user.type("hg init ~/far.mirror && hg -R ~/far.mirror serve --prefix far -a 127.0.0.1 -p 9901 -d; "
+                       "setsid hg_pushd host --store ~/far.store --listen 127.0.0.1:8112 --path /far "
+                       "< /dev/null > /dev/null 2>&1 & sleep 2")
+        self.root_types("deqtorap create far --at 127.0.0.1:8112 127.0.0.1:9901")
+        status, told = self.user.type("hg init ~/far && cd ~/far && echo far > file && hg commit -A -m far && "
+                                      "hg push https://hg.example.org/far && hg identify http://127.0.0.1:8112/far")
+        self.see("a push to another machine", status == 0 and "(draft)" not in told, told)
+        self.answers("its pushes are listed", "deqtorap list", "far: at 127.0.0.1:8112, 1 pushes")
+        self.answers("it is pulled from there",
+                     f"{CURL} -u ann:secret 'https://hg.example.org/far?cmd=capabilities' && "
+                     f"{CURL} -u ann:secret https://hg.example.org/far/log", "/far/graph/tip")
+        status, told = self.root.type("deqtorap create other --at nowhere 127.0.0.1:1")
+        self.see("an address that is none", status == 1 and "no HOST:PORT" in told, told)
+        self.root_types("deqtorap remove far", "deqtorap create extra")
+        self.answers("a port that somebody has is not taken", "deqtorap list", "extra: port 8113, 0 pushes")
+        self.root_types("deqtorap remove extra")
+
+    def attacks(self, name):
+        """Each way to stop or mislead the mirror (tests/hook.py), through nginx and the hook: those that it refuses
+        are not done, and the mirror goes on with all that are."""
+        attacker = Attacker(name)
+        with open(f"{room.PLACE}/attacks.json", encoding="utf-8") as file:
+            found = json.load(file)
+        for data in found["before"]:
+            self.see("what they build on is pushed", attacker.push(bytes.fromhex(data)), attacker.said)
+        came_through = []
+        # what is harmless comes last: with it the changeset of the others would be there
+        for what, is_refused, data in sorted(found["rows"], key=lambda it: not it[1]):
+            if attacker.push(bytes.fromhex(data)) and is_refused:
+                came_through.append(what)
+        self.see(f"{len(found['rows'])} pushes to stop or mislead the mirror", not came_through, came_through)
+        self.answers("the mirror has all that were done", f"sleep 3; deqtorap list | grep {name}",
+                     f"{attacker.done} pushes, {attacker.done} mirrored")
+        mirror = f"runuser -u deqtorap-mirror -- hg -R /var/lib/deqtorap-mirror/{name}"
+        status, told = self.root.type(f"{mirror} verify")
+        self.see("it is sound", status == 0, told)
+        status, told = self.user.type(f"cd ~/{name} && hg pull && echo behind > behind && hg commit -A -m behind && "
+                                      f"hg push && hg clone https://hg.example.org/{name} ~/attacked && "
+                                      "hg -R ~/attacked verify && hg -R ~/attacked log -r tip")
+        self.see("others push, pull and clone behind them", status == 0 and "behind" in told, told)
 
     # What the text says beside the commands.
 
@@ -228,7 +384,7 @@ class Trial:
 
     def begin_anew(self):
         """A repository for the mirror in the place of the one before, by the page's own commands."""
-        made = [command for section, _, command in self.typed if section == "Start the mirror and hgweb"]
+        made = [command for section, _, command in self.typed if section == "Start the mirror, the hook and hgweb"]
         self.root_types("systemctl stop deqtorap-mirror deqtorap-hgweb",
                         f"rm -rf {REPOSITORY}", *made[:-1], "systemctl start deqtorap-mirror deqtorap-hgweb")
 
@@ -260,13 +416,26 @@ class Trial:
         self.see("it is taken away", "elsewhere" not in told and told.count("free") == 2, told)
         self.root_types("systemctl start deqtorap-mirror")
 
+    def try_limit_of_memory(self):
+        """Under the unit's limit of memory a push is refused, and the server lives."""
+        self.unit_of_host("s/^LimitAS=.*/LimitAS=512M/")
+        metrics = "curl -s --retry 20 --retry-connrefused http://127.0.0.1:8000/metrics | grep '^hg_pushd_start'"
+        _, before = self.root.type(metrics)
+        _, told = self.root.type("for _ in $(seq 8); do "
+                                 f"{PUSH.replace('plain', 'large')} 'http://127.0.0.1:8000/?{UNBUNDLE}' | "
+                                 "tr -d '\\0' & done; wait")
+        refused = told.count("out of memory") + told.count("stream fault 11")
+        self.see("large pushes are refused memory", refused, told[-2000:])
+        _, after = self.root.type(metrics)
+        self.see("the server lives", before and before == after, f"{before}\n{after}")
+        _, told = self.root.type(f"{PUSH} 'http://127.0.0.1:8000/?{UNBUNDLE}'")
+        self.see("and asks the hook of a push", "heads in the place" in told, told)
+        self.unit_of_host()
+
     def try_publishing(self):
         """A server that publishes and sends on who pulls from it."""
-        unit = "/etc/systemd/system/deqtorap-host.service"
-        self.root_types("systemctl stop deqtorap-host", f"mv {STORE} /var/backups/store",
-                        f"cp /lib/systemd/system/deqtorap-host.service {unit}",
-                        f"sed -i '/^ExecStart=/s|$| --publishing --pull https://hg.example.org/|' {unit}",
-                        "systemctl daemon-reload", "systemctl start deqtorap-host")
+        self.root_types("systemctl stop deqtorap-host", f"mv {STORE} /var/backups/store")
+        self.unit_of_host("/^ExecStart=/s|$| --publishing --pull https://hg.example.org/|")
         self.begin_anew()
         self.journal_has("publish = yes")
         self.root_types(f"sed -i 's/^publish = no/publish = yes/' {REPOSITORY}/.hg/hgrc",
@@ -298,9 +467,58 @@ class Trial:
         print("What the text says", flush=True)
         self.try_cut_of_what_was_mirrored()
         self.try_locks()
+        self.try_limit_of_memory()
         self.try_publishing()
         print(f"team.py: {self.good} as wanted, {self.bad} not")
         return 1 if self.bad else 0
+
+
+class Silent(threading.Thread):
+    """A push of ann's whose body begins and says nothing more; after how many seconds it was ended."""
+
+    def run(self):
+        self.took, start = None, time.monotonic()
+        with connected() as connection:
+            connection.sendall(beginning_of_push(ANN))
+            connection.recv(65536)
+            self.took = time.monotonic() - start
+
+
+ANN = "Basic " + base64.b64encode(b"ann:secret").decode()
+
+
+def beginning_of_push(authorization):
+    return (f"POST /?{UNBUNDLE} HTTP/1.1\r\nhost: hg.example.org\r\nauthorization: {authorization}\r\n"
+            "content-type: application/mercurial-0.1\r\ncontent-length: 100000\r\n\r\nHG20").encode()
+
+
+def context():
+    return ssl.create_default_context(cafile="/etc/ssl/certs/hg.example.org.pem")
+
+
+def connected():
+    return context().wrap_socket(socket.create_connection(("hg.example.org", 443), timeout=120),
+                                 server_hostname="hg.example.org")
+
+
+class Attacker:
+    """Somebody with ann's password, who pushes to a repository by hand."""
+
+    def __init__(self, name):
+        self.name, self.done, self.said = name, 1, b""
+
+    def push(self, data):
+        """Whether a push was done."""
+        connection = http.client.HTTPSConnection("hg.example.org", timeout=120, context=context())
+        connection.request("POST", f"/{self.name}?cmd=unbundle", data, {
+            "authorization": ANN, "content-type": "application/mercurial-0.1", "x-hgarg-1": "heads=666f726365"})
+        answer = connection.getresponse()
+        self.said = answer.read()
+        connection.close()
+        is_done = (answer.status, answer.getheader("content-type")) == (200, "application/mercurial-0.1")
+        is_done = is_done and b"error:" not in self.said.lower()
+        self.done += is_done
+        return is_done
 
 
 def read(path):
@@ -318,6 +536,11 @@ def write_pushes(folder):
         with open(f"{folder}/{name}.hg20", "wb") as file:
             file.write(push.bundle())
             yield file.name
+    with open(f"{folder}/large.hg20", "wb") as file:
+        file.write(b"HG20" + bytes(4) + refused.part(b"OUTPUT", bytes(60 << 20)) + refused.END)
+        yield file.name
+    subprocess.run([sys.executable, f"{TOP}/tests/hook.py", "--write", f"{folder}/attacks.json"], check=True)
+    yield f"{folder}/attacks.json"
 
 
 def in_the_room():

@@ -64,11 +64,11 @@ def difference(questions, both):
 def at_the_next_start(plain, program, questions):
     """Of the store that the server leaves, by `report` and by another server."""
     program.stop()
-    got, wanted = ended("report", ["report", "--store", program.host.store]), (0, plain.pages(True)["the report"])
+    got, wanted = ended("report", ["report", "--store", program.host.store]), (0, plain.pages()["the report"])
     differing = [("the command report", None, got, wanted)] if got != wanted else []
     program.start()
     plain.ended.clear()
-    both = *program.states([(None, questions)], is_fresh=True), plain.state(None, questions, is_fresh=True)
+    both = *program.states([(None, questions)]), plain.state(None, questions)
     return [(what + LATER, *rest) for what, *rest in (*differing, *difference(questions, both))]
 
 

@@ -59,10 +59,10 @@ class Plain:
         told = batch(self.repo, words) if command == b"batch" else TEXTS[command](self.repo, words)
         return (COMMAND, told) if told is not None else (REFUSED, None)
 
-    def state(self, event, questions, is_fresh=False):
+    def state(self, event, questions):
         """The answers to an event, where there is one, and to questions behind it, and the pages."""
         told = self.event(*event) if event else None
-        return told, [self.text(*it) for it in questions], self.pages(is_fresh)
+        return told, [self.text(*it) for it in questions], self.pages()
 
     def rows(self):
         """What the page shows of each head."""
@@ -75,22 +75,17 @@ class Plain:
         seen("event: cut off")
         return COMMAND, bundle(aborted("connection lost", "connection lost").part)
 
-    def pages(self, is_fresh):
+    def pages(self):
         """The report, and what the page and the counters show."""
         counted, ended = numbers(self.repo), {it: self.ended[it] for it in REASONS}
         return {"the report": report(self.repo, range(len(self.done()))),
-                "the page": shown({**counted, "rows": self.rows()}, is_fresh),
-                "the counters": shown({**counted, **ended, "done": self.ended[None]}, is_fresh)}
+                "the page": {**counted, "rows": self.rows()},
+                "the counters": {**counted, **ended, "done": self.ended[None]}}
 
 
 def plain_name(name):
     """A name that is shown as it is. What becomes of others on the page is not said here."""
     return name if re.fullmatch("[a-z]{1,20}", name) else "another"
-
-
-def shown(told, is_fresh):
-    """The changesets of each phase are counted once a second at most, so they are compared at a start alone."""
-    return told if is_fresh else {name: it for name, it in told.items() if name not in PHASES}
 
 
 @rule
@@ -148,7 +143,7 @@ class Program:
         sender.join()
         return told
 
-    def states(self, asked_for, is_fresh=False):
+    def states(self, asked_for):
         """For each event, or none, and its questions: the answers, and the pages."""
         requests = []
         for event, questions in asked_for:
@@ -159,8 +154,8 @@ class Program:
             answered = plainly(next(told)) if event else None
             texts = [plainly(next(told)) for _ in questions]
             reported, page, counters = (next(told)[2] for _ in range(3))
-            yield answered, texts, {"the report": reported, "the page": shown(read_page(page.decode()), is_fresh),
-                                    "the counters": shown(read_counters(counters.decode()), is_fresh)}
+            yield answered, texts, {"the report": reported, "the page": read_page(page.decode()),
+                                    "the counters": read_counters(counters.decode())}
 
     def cut_off(self, data):
         """The answer to a body that ends before its length, on a connection of its own."""

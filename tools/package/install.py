@@ -18,8 +18,13 @@ UNITS_OF_MANY = {
     "deqtorap-host@": ("deqtorap-host", {
         "push server\n": "push server of %i\n",
         "[Service]\n": "[Service]\nEnvironmentFile=/etc/deqtorap/%i.conf\n",
-        "--store /var/lib/deqtorap/store --listen 127.0.0.1:8000":
-            "--store /var/lib/deqtorap/%i --listen 127.0.0.1:${PORT} --path /%i $OPTIONS"}),
+        "--store /var/lib/deqtorap/store --listen 127.0.0.1:8000 --hook http://127.0.0.1:8003/":
+            "--store /var/lib/deqtorap/%i --listen 127.0.0.1:${PORT} --path /%i --hook http://127.0.0.1:${HOOK}/ "
+            "$OPTIONS"}),
+    "deqtorap-hook@": ("deqtorap-hook", {
+        "Deqtorap hook:": "Deqtorap hook of %i:", "[Service]\n": "[Service]\nEnvironmentFile=/etc/deqtorap/%i.conf\n",
+        "-R /var/lib/deqtorap-mirror/repository": "-R /var/lib/deqtorap-mirror/%i",
+        "127.0.0.1:8003 --rules /etc/deqtorap/rules.py": "127.0.0.1:${HOOK} --rules /etc/deqtorap/%i.rules.py"}),
     "deqtorap-mirror@": ("deqtorap-mirror", {
         "Deqtorap mirror:": "Deqtorap mirror of %i:", "deqtorap-host.service": "deqtorap-host@%i.service",
         "-R /var/lib/deqtorap-mirror/repository": "-R /var/lib/deqtorap-mirror/%i",

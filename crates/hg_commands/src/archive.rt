@@ -9,7 +9,8 @@ ghost use Rattle.hg_commands.specs.Commands.{IsDeviceStatus, IsStoreStatus};
 use crate::command_line::tell;
 use hg_connection::Writer;
 use hg_store_tools::{
-    ArchiveFault, StoreEnd, TornNote, cut_store, file_log, log_store, report_store,
+    ArchiveFault, BundleForm, StoreEnd, TornNote, cut_store, file_log, log_store, report_store,
+    upgrade_store,
 };
 use std::alloc::Global;
 use std::fs::{File, Files};
@@ -31,34 +32,36 @@ pub fn report<R: Files<File = File> + Eprint, W: Writer>(
     }
 }
 
-/// Writes the bundles of a store from a place on. The status 0 says that the writer took those of a file,
+/// Writes the bundles of a store from a place on in that form. The status 0 says that the writer took those of a file,
 /// one after the other.
 pub fn log<R: Files<File = File> + Eprint, W: Writer>(
     rt: &R,
     alloc: Global,
     store: &str,
     from: usize,
+    form: BundleForm,
     writer: &mut W,
 ) -> u8
-    ensures { result ≡ 0 → LogsStore from (W.told writer.old).taken (W.told writer.new).taken }
+    ensures { result ≡ 0 → LogsStore Global from form (W.told writer.old).taken (W.told writer.new).taken }
 {
-    match log_store(rt, alloc, store, from, writer) {
+    match log_store(rt, alloc, store, from, form, writer) {
         Ok(ending) => read(rt, store, ending),
         Err(fault) => refused(rt, &fault),
     }
 }
 
-/// Writes the bundles of a store from a place on, each to a file of its own in a folder.
+/// Writes the bundles of a store from a place on in that form, each to a file of its own in a folder.
 pub fn log_to<R: Files<File = File> + Eprint>(
     rt: &R,
     alloc: Global,
     store: &str,
     from: usize,
+    form: BundleForm,
     folder: &str,
 ) -> u8
     ensures { IsStoreStatus result }
 {
-    match file_log(rt, alloc, store, from, folder) {
+    match file_log(rt, alloc, store, from, form, folder) {
         Ok(ending) => read(rt, store, ending),
         Err(fault) => refused(rt, &fault),
     }
@@ -69,6 +72,16 @@ pub fn cut<R: Files<File = File> + Eprint>(rt: &R, alloc: Global, store: &str, a
     ensures { IsStoreStatus result }
 {
     match cut_store(rt, alloc, store, at) {
+        Ok(()) => 0,
+        Err(fault) => refused(rt, &fault),
+    }
+}
+
+/// Writes a store of version 1 as one of version 2.
+pub fn upgrade<R: Files<File = File> + Eprint>(rt: &R, alloc: Global, store: &str) -> u8
+    ensures { IsStoreStatus result }
+{
+    match upgrade_store(rt, alloc, store) {
         Ok(()) => 0,
         Err(fault) => refused(rt, &fault),
     }

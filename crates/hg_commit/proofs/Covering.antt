@@ -3,6 +3,7 @@ use Rattle.std.proofs.Common.{ℕ, ◌≡◌, ◌≤◌, ◌<◌, List, ◌++◌
 use Rattle.std.specs.Prelude.{Contains}
 use Rattle.std.proofs.lemmas.List.Elements.{Contains-append_right}
 use Rattle.hg_types.specs.declared.item.Taken.{Taken}
+use Rattle.hg_store.specs.Entries.{Entry}
 use Rattle.hg_store.specs.declared.head.Head.{Head}
 use Rattle.hg_store.specs.declared.log.Log.{Log}
 use Rattle.hg_push.specs.Run.{RepositoryOf}
@@ -13,7 +14,7 @@ use Rattle.hg_commit.specs.Records.{IsRecordOf, KeepsRecords}
 use Rattle.hg_commit.proofs.Keeping.{are_kept, kept_back, kept_on, none_kept}
 
 module _ {A D : Type 0} (seen : D → List ℕ) (may_leave : D → List ℕ → Type 0) (moment : D → ℕ) (head : Head)
-    (stored : List (List ℕ)) (first : RepositoryOf A)
+    (stored : List Entry) (first : RepositoryOf A)
   where
     pub covers : (h : List (Taken A)) (count : ℕ) (log : Log D) (receipt : List Promise)
         → KeepsRecords seen may_leave head stored first h count log
@@ -28,7 +29,7 @@ module _ {A D : Type 0} (seen : D → List ℕ) (may_leave : D → List ℕ → 
     }
 
     pub covered_on : (h h' : List (Taken A)) (receipt : List Promise) (count : ℕ)
-        → ((k : ℕ) (bytes : List ℕ) → IsRecordOf first h k bytes → IsRecordOf first h' k bytes)
+        → ((k : ℕ) (entry : Entry) → IsRecordOf first h k entry → IsRecordOf first h' k entry)
         → Covers seen may_leave moment head stored first h receipt count
         → Covers seen may_leave moment head stored first h' receipt count
     covered_on h h' receipt count moves c = record {
@@ -53,7 +54,7 @@ module _ {A D : Type 0} (seen : D → List ℕ) (may_leave : D → List ℕ → 
     -- by a shorter history, of so many pushes as are done in it
     pub covered_back : (h h' : List (Taken A)) (receipt : List Promise) (count rests done : ℕ) → rests ≤ count
         → rests ≤ done
-        → ((k : ℕ) (bytes : List ℕ) → k < done → IsRecordOf first h k bytes → IsRecordOf first h' k bytes)
+        → ((k : ℕ) (entry : Entry) → k < done → IsRecordOf first h k entry → IsRecordOf first h' k entry)
         → Covers seen may_leave moment head stored first h receipt count
         → Covers seen may_leave moment head stored first h' receipt rests
     covered_back h h' receipt count rests done low few moves c = record {

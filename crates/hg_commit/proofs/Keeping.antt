@@ -3,6 +3,7 @@ use Rattle.std.proofs.Common.{ℕ, ◌≡◌, ◌<◌, ◌≤◌, ◌+◌, List,
 use Rattle.std.proofs.Common.{length-append, append_assoc, take}
 use Rattle.std.proofs.lemmas.List.{append-nil}
 use Rattle.hg_types.specs.declared.item.Taken.{Taken}
+use Rattle.hg_store.specs.Entries.{Entry}
 use Rattle.hg_store.specs.declared.head.Head.{Head}
 use Rattle.hg_store.specs.declared.log.Log.{Log}
 use Rattle.hg_store.specs.Log.{IsSettled}
@@ -14,20 +15,20 @@ from_nothing : (n count : ℕ) → n ≡ count → count ≡ 0 + n
 from_nothing n count is = omega (arith, is)
 
 module _ {A D : Type 0} (seen : D → List ℕ) (may_leave : D → List ℕ → Type 0) (head : Head)
-    (stored : List (List ℕ)) (first : RepositoryOf A)
+    (stored : List Entry) (first : RepositoryOf A)
   where
     pub nothing : (h : List (Taken A)) (log : Log D) → IsSettled seen may_leave head stored log
         → KeepsRecords seen may_leave head stored first h 0 log
     nothing h log settled = record {
       records = [];
-      settled = subst (λ (rs : List (List ℕ)). IsSettled seen may_leave head rs log) (sym (append-nil stored))
+      settled = subst (λ (rs : List Entry). IsSettled seen may_leave head rs log) (sym (append-nil stored))
           settled;
       each = tt;
       number = refl;
     }
 
     pub keeps_on : (h h' : List (Taken A)) (count : ℕ) (log : Log D)
-        → ((k : ℕ) (bytes : List ℕ) → IsRecordOf first h k bytes → IsRecordOf first h' k bytes)
+        → ((k : ℕ) (entry : Entry) → IsRecordOf first h k entry → IsRecordOf first h' k entry)
         → KeepsRecords seen may_leave head stored first h count log → KeepsRecords seen may_leave head stored first h' count log
     keeps_on h h' count log moves k = record {
       records = k.records;
@@ -36,14 +37,14 @@ module _ {A D : Type 0} (seen : D → List ℕ) (may_leave : D → List ℕ → 
       number = k.number;
     }
 
-    pub keeps_more : (h : List (Taken A)) (count : ℕ) (batch : List (List ℕ)) (log log' : Log D)
+    pub keeps_more : (h : List (Taken A)) (count : ℕ) (batch : List Entry) (log log' : Log D)
         → (k : KeepsRecords seen may_leave head stored first h count log)
         → IsSettled seen may_leave head ((stored ++ k.records) ++ batch) log'
         → AreRecordsFrom first h count batch
         → KeepsRecords seen may_leave head stored first h (count + length batch) log'
     keeps_more h count batch log log' k settled each = record {
       records = k.records ++ batch;
-      settled = subst (λ (rs : List (List ℕ)). IsSettled seen may_leave head rs log')
+      settled = subst (λ (rs : List Entry). IsSettled seen may_leave head rs log')
           (append_assoc stored k.records batch) settled;
       each = joined first h 0 k.records batch k.each
           (subst (λ (n : ℕ). AreRecordsFrom first h n batch)
@@ -72,7 +73,7 @@ module _ {A D : Type 0} (seen : D → List ℕ) (may_leave : D → List ℕ → 
     }
 
     abbrev pub kept_on : (h h' : List (Taken A)) (count : ℕ)
-        → ((k : ℕ) (bytes : List ℕ) → IsRecordOf first h k bytes → IsRecordOf first h' k bytes)
+        → ((k : ℕ) (entry : Entry) → IsRecordOf first h k entry → IsRecordOf first h' k entry)
         → AreKept seen may_leave head stored first h count → AreKept seen may_leave head stored first h' count
     kept_on h h' count moves k = record {
       log = k.log;
@@ -84,7 +85,7 @@ module _ {A D : Type 0} (seen : D → List ℕ) (may_leave : D → List ℕ → 
 
     -- by a shorter history, of so many pushes as are done in it
     abbrev pub kept_back : (h h' : List (Taken A)) (count rests done : ℕ) → rests ≤ count → rests ≤ done
-        → ((k : ℕ) (bytes : List ℕ) → k < done → IsRecordOf first h k bytes → IsRecordOf first h' k bytes)
+        → ((k : ℕ) (entry : Entry) → k < done → IsRecordOf first h k entry → IsRecordOf first h' k entry)
         → AreKept seen may_leave head stored first h count → AreKept seen may_leave head stored first h' rests
     kept_back h h' count rests done low few moves k =
         let all : rests ≤ length k.records = omega (arith, low, k.enough) in

@@ -1,6 +1,7 @@
 mod Staying
 mod Lists
 mod Keeping
+mod Handing
 mod Covering
 mod Living
 mod Counting

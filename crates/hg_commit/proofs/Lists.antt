@@ -7,26 +7,27 @@ use Rattle.std.specs.List.{AllByRecursion}
 use Rattle.std.proofs.lemmas.List.Elements.{All-append, All-cons, All-drop, All-take}
 use Rattle.hg_types.specs.declared.item.Taken.{Taken}
 use Rattle.hg_types.specs.Limits.{IsAllowed}
-use Rattle.hg_store.specs.Records.{IsRecord}
+use Rattle.hg_store.specs.Entries.{Entry}
+use Rattle.hg_store.specs.Records.{IsSized}
 use Rattle.hg_push.specs.Run.{RepositoryOf}
 use Rattle.hg_commit.specs.Records.{AreRecordsFrom, IsRecordOf}
 
 module _ {A : Type 0} (first : RepositoryOf A) where
   pub each_moves : (h h' : List (Taken A))
-      → ((k : ℕ) (bytes : List ℕ) → IsRecordOf first h k bytes → IsRecordOf first h' k bytes)
-      → (k : ℕ) (rs : List (List ℕ)) → AreRecordsFrom first h k rs → AreRecordsFrom first h' k rs
+      → ((k : ℕ) (entry : Entry) → IsRecordOf first h k entry → IsRecordOf first h' k entry)
+      → (k : ℕ) (rs : List Entry) → AreRecordsFrom first h k rs → AreRecordsFrom first h' k rs
   each_moves h h' f k [] all = tt
   each_moves h h' f k (x ∷ rs) all = (f k x all.0, each_moves h h' f (k + 1) rs all.1)
 
   pub each_moves_below : (h h' : List (Taken A)) (n : ℕ)
-      → ((k : ℕ) (bytes : List ℕ) → k < n → IsRecordOf first h k bytes → IsRecordOf first h' k bytes)
-      → (k : ℕ) (rs : List (List ℕ)) → k + length rs ≤ n → AreRecordsFrom first h k rs
+      → ((k : ℕ) (entry : Entry) → k < n → IsRecordOf first h k entry → IsRecordOf first h' k entry)
+      → (k : ℕ) (rs : List Entry) → k + length rs ≤ n → AreRecordsFrom first h k rs
       → AreRecordsFrom first h' k rs
   each_moves_below h h' n f k [] low all = tt
   each_moves_below h h' n f k (x ∷ rs) low all =
       (f k x (omega (arith, low)) all.0, each_moves_below h h' n f (k + 1) rs (omega (arith, low)) all.1)
 
-  pub joined : (h : List (Taken A)) (k : ℕ) (xs ys : List (List ℕ)) → AreRecordsFrom first h k xs
+  pub joined : (h : List (Taken A)) (k : ℕ) (xs ys : List Entry) → AreRecordsFrom first h k xs
       → AreRecordsFrom first h (k + length xs) ys → AreRecordsFrom first h k (xs ++ ys)
   joined h k [] ys some more =
       let e : k + 0 ≡ k = omega arith in subst (λ (n : ℕ). AreRecordsFrom first h n ys) e more
@@ -34,32 +35,32 @@ module _ {A : Type 0} (first : RepositoryOf A) where
       let e : k + length (x ∷ xs) ≡ (k + 1) + length xs = omega arith in
       (some.0, joined h (k + 1) xs ys some.1 (subst (λ (n : ℕ). AreRecordsFrom first h n ys) e more))
 
-  pub one_more : (h : List (Taken A)) (k : ℕ) (xs : List (List ℕ)) (x : List ℕ) → AreRecordsFrom first h k xs
+  pub one_more : (h : List (Taken A)) (k : ℕ) (xs : List Entry) (x : Entry) → AreRecordsFrom first h k xs
       → IsRecordOf first h (k + length xs) x → AreRecordsFrom first h k (xs ++ x ∷ [])
   one_more h k xs x some this = joined h k xs (x ∷ []) some (this, tt)
 
-  pub front : (h : List (Taken A)) (k n : ℕ) (xs : List (List ℕ)) → AreRecordsFrom first h k xs
+  pub front : (h : List (Taken A)) (k n : ℕ) (xs : List Entry) → AreRecordsFrom first h k xs
       → AreRecordsFrom first h k (take n xs)
   front h k zero xs all = tt
   front h k (suc n) [] all = tt
   front h k (suc n) (x ∷ xs) all = (all.0, front h (k + 1) n xs all.1)
 
-  pub fewer : (h : List (Taken A)) (k n m : ℕ) (xs : List (List ℕ)) → n ≤ m
+  pub fewer : (h : List (Taken A)) (k n m : ℕ) (xs : List Entry) → n ≤ m
       → AreRecordsFrom first h k (take m xs) → AreRecordsFrom first h k (take n xs)
   fewer h k zero m xs low all = tt
   fewer h k (suc n) zero xs low all = absurd (omega (arith, low))
   fewer h k (suc n) (suc m) [] low all = tt
   fewer h k (suc n) (suc m) (x ∷ xs) low all = (all.0, fewer h (k + 1) n m xs (omega (arith, low)) all.1)
 
-  pub fit : IsAllowed first.settings.limits → (h : List (Taken A)) (k : ℕ) (xs : List (List ℕ))
-      → AreRecordsFrom first h k xs → AllByRecursion IsRecord xs
+  pub fit : IsAllowed first.settings.limits → (h : List (Taken A)) (k : ℕ) (xs : List Entry)
+      → AreRecordsFrom first h k xs → AllByRecursion IsSized xs
   fit allowed h k [] all = tt
   fit allowed h k (x ∷ xs) all =
       let low = all.0.bundle.1 in
       let most = allowed.stream in
       (omega (arith, low, most.1), fit allowed h (k + 1) xs all.1)
 
-pub length-front : (n : ℕ) (xs : List (List ℕ)) → n ≤ length xs → length (take n xs) ≡ n
+pub length-front : (n : ℕ) (xs : List Entry) → n ≤ length xs → length (take n xs) ≡ n
 length-front zero xs low = refl
 length-front (suc n) [] low = absurd (omega (arith, low))
 length-front (suc n) (x ∷ xs) low = omega (arith, length-front n xs (omega (arith, low)))

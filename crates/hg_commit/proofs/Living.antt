@@ -5,12 +5,13 @@ use Rattle.std.specs.List.{AllByRecursion}
 use Rattle.std.specs.Prelude.{All}
 use Rattle.std.proofs.lemmas.List.Elements.{All-weaker}
 use Rattle.hg_types.specs.declared.item.Taken.{Taken}
-use Rattle.hg_types.specs.Limits.{IsAllowed}
+use Rattle.hg_store.specs.Entries.{Entry}
 use Rattle.hg_store.specs.declared.head.Head.{Head}
 use Rattle.hg_store.specs.declared.log.Log.{Log}
 use Rattle.hg_store.specs.Device.{LeavesOnly}
 use Rattle.hg_store.specs.Files.{IsStore, StandsFor, stored as file_of}
 use Rattle.hg_store.specs.Log.{IsBeforeOrAfter, at_rest}
+use Rattle.hg_store.specs.Head.{IsHead, version_of}
 use Rattle.hg_store.specs.Records.{IsRecord, shut}
 use Rattle.hg_push.specs.Run.{RepositoryOf}
 use mathlib.Core.List.{IsPrefix}
@@ -22,7 +23,7 @@ use Rattle.hg_commit.proofs.Lists.{each_moves, each_moves_below, front, joined, 
 from_nothing : (n count : ℕ) → n ≡ count → count ≡ 0 + n
 from_nothing n count is = omega (arith, is)
 
-module _ {A : Type 0} (head : Head) (stored : List (List ℕ)) (first : RepositoryOf A) where
+module _ {A : Type 0} (head : Head) (stored : List Entry) (first : RepositoryOf A) where
   pub fewer : (h : List (Taken A)) (n m : ℕ) (file : List ℕ) → m ≤ n → IsFront head stored first h n file
       → IsFront head stored first h m file
   fewer h n m file low f = record {
@@ -33,7 +34,7 @@ module _ {A : Type 0} (head : Head) (stored : List (List ℕ)) (first : Reposito
   }
 
   pub front_on : (h h' : List (Taken A)) (n : ℕ) (file : List ℕ)
-      → ((k : ℕ) (bytes : List ℕ) → IsRecordOf first h k bytes → IsRecordOf first h' k bytes)
+      → ((k : ℕ) (entry : Entry) → IsRecordOf first h k entry → IsRecordOf first h' k entry)
       → IsFront head stored first h n file → IsFront head stored first h' n file
   front_on h h' n file moves f = record {
     records = f.records;
@@ -43,10 +44,10 @@ module _ {A : Type 0} (head : Head) (stored : List (List ℕ)) (first : Reposito
   }
 
   -- by the history of a client, of no more pushes than are done in it
-  pub still_has : (later : (before after : List (Taken A)) (k : ℕ) (bytes : List ℕ) → IsPrefix before after
-      → IsRecordOf first before k bytes → IsRecordOf first after k bytes)
-      → (earlier : (before after : List (Taken A)) (k : ℕ) (bytes : List ℕ) → IsPrefix before after
-      → k < done_in first before → IsRecordOf first after k bytes → IsRecordOf first before k bytes)
+  pub still_has : (later : (before after : List (Taken A)) (k : ℕ) (entry : Entry) → IsPrefix before after
+      → IsRecordOf first before k entry → IsRecordOf first after k entry)
+      → (earlier : (before after : List (Taken A)) (k : ℕ) (entry : Entry) → IsPrefix before after
+      → k < done_in first before → IsRecordOf first after k entry → IsRecordOf first before k entry)
       → (client witness whole : List (Taken A)) (rests count : ℕ) (file : List ℕ)
       → IsPrefix client whole → IsPrefix witness whole → rests ≤ done_in first client → rests ≤ count
       → IsFront head stored first witness count file
@@ -58,23 +59,23 @@ module _ {A : Type 0} (head : Head) (stored : List (List ℕ)) (first : Reposito
         stands = f.stands;
         enough = all;
         each = each_moves_below first whole client (done_in first client)
-            (λ k bytes less r. earlier client whole k bytes mine less r) 0 (take rests f.records)
+            (λ k entry less r. earlier client whole k entry mine less r) 0 (take rests f.records)
             (omega (arith, length-front rests f.records all, done))
             (front first whole 0 rests f.records
-            (each_moves first witness whole (λ k bytes r. later witness whole k bytes theirs r) 0 f.records f.each));
+            (each_moves first witness whole (λ k entry r. later witness whole k entry theirs r) 0 f.records f.each));
       }
 
 module _ {A D : Type 0} (seen : D → List ℕ) (may_leave : D → List ℕ → Type 0) (head : Head)
-    (stored : List (List ℕ)) (first : RepositoryOf A)
+    (stored : List Entry) (first : RepositoryOf A)
   where
     -- what is on the device is what an end leaves
-    pub kept_front : ((head : Head) (records : List (List ℕ)) (behind : List ℕ) → IsAllowed head.limits →
-        AllByRecursion IsRecord records → IsStore (file_of head records ++ 0 ∷ behind) head records (0 ∷ behind))
+    pub kept_front : ((head : Head) (records : List Entry) (behind : List ℕ) → IsHead head →
+        AllByRecursion (IsRecord (version_of head)) records → IsStore (file_of head records ++ 0 ∷ behind) head records (0 ∷ behind))
         → (h : List (Taken A)) (count : ℕ) (log : Log D)
         → KeepsRecords seen may_leave head stored first h count log → (file : List ℕ) → may_leave log.device file
         → IsFront head stored first h count file
     kept_front read h count log k file left =
-        let all : List (List ℕ) = stored ++ k.records in
+        let all : List Entry = stored ++ k.records in
         let rests : StandsFor head all (at_rest head all) =
         (0 ∷ [], read head all [] k.settled.allowed k.settled.each, shut [] refl) in
         record {
@@ -85,7 +86,7 @@ module _ {A D : Type 0} (seen : D → List ℕ) (may_leave : D → List ℕ → 
         }
 
     -- a batch is added whole, or not at all
-    pub batch_front : (h : List (Taken A)) (count : ℕ) (batch : List (List ℕ)) (log : Log D)
+    pub batch_front : (h : List (Taken A)) (count : ℕ) (batch : List Entry) (log : Log D)
         → (k : KeepsRecords seen may_leave head stored first h count log) → AreRecordsFrom first h count batch
         → (file : List ℕ) → IsBeforeOrAfter head (stored ++ k.records) batch file
         → IsFront head stored first h count file
@@ -93,7 +94,7 @@ module _ {A D : Type 0} (seen : D → List ℕ) (may_leave : D → List ℕ → 
         record { records = k.records; stands = stands; each = k.each; enough = omega (arith, k.number) }
     batch_front h count batch log k each file (inr stands) = record {
       records = k.records ++ batch;
-      stands = subst (λ (rs : List (List ℕ)). StandsFor head rs file) (append_assoc stored k.records batch) stands;
+      stands = subst (λ (rs : List Entry). StandsFor head rs file) (append_assoc stored k.records batch) stands;
       each = joined first h 0 k.records batch k.each
           (subst (λ (n : ℕ). AreRecordsFrom first h n batch)
           (from_nothing (length k.records) count k.number) each);
@@ -102,7 +103,7 @@ module _ {A D : Type 0} (seen : D → List ℕ) (may_leave : D → List ℕ → 
 
     -- and so at each moment of an append
     pub written_front : (moment : D → ℕ) (left_since : D → ℕ → List ℕ → Type 0) (h : List (Taken A)) (count : ℕ)
-        (batch : List (List ℕ)) (log : Log D) → (k : KeepsRecords seen may_leave head stored first h count log)
+        (batch : List Entry) (log : Log D) → (k : KeepsRecords seen may_leave head stored first h count log)
         → AreRecordsFrom first h count batch → (old new : D)
         → LeavesOnly moment left_since old new (IsBeforeOrAfter head (stored ++ k.records) batch)
         → LeavesOnly moment left_since old new (IsFront head stored first h count)
@@ -114,7 +115,7 @@ module _ {A D : Type 0} (seen : D → List ℕ) (may_leave : D → List ℕ → 
     }
 
 module _ {A D : Type 0} (moment : D → ℕ) (left_since : D → ℕ → List ℕ → Type 0)
-    (may_leave : D → List ℕ → Type 0) (head : Head) (stored : List (List ℕ)) (first : RepositoryOf A) (opened : ℕ)
+    (may_leave : D → List ℕ → Type 0) (head : Head) (stored : List Entry) (first : RepositoryOf A) (opened : ℕ)
   where
     pub begins : (h : List (Taken A)) (device : D) → opened ≡ moment device
         → ((file : List ℕ) → left_since device (moment device) file → may_leave device file)
@@ -126,8 +127,19 @@ module _ {A D : Type 0} (moment : D → ℕ) (left_since : D → ℕ → List �
       now = now;
     }
 
+    -- nothing was written
+    pub still_front : (h : List (Taken A)) (count : ℕ) (device : D)
+        → ((file : List ℕ) → left_since device (moment device) file → may_leave device file)
+        → Lives moment left_since may_leave head stored first opened h count device
+        → LeavesOnly moment left_since device device (IsFront head stored first h count)
+    still_front h count device only_now lives = record {
+      later = omega arith;
+      each = λ file left. lives.now file (only_now file left);
+      before = λ t file le left. inl left;
+    }
+
     pub lives_on : (h h' : List (Taken A)) (count : ℕ) (device : D)
-        → ((k : ℕ) (bytes : List ℕ) → IsRecordOf first h k bytes → IsRecordOf first h' k bytes)
+        → ((k : ℕ) (entry : Entry) → IsRecordOf first h k entry → IsRecordOf first h' k entry)
         → Lives moment left_since may_leave head stored first opened h count device
         → Lives moment left_since may_leave head stored first opened h' count device
     lives_on h h' count device moves l = record {
@@ -171,11 +183,11 @@ module _ {A D : Type 0} (moment : D → ℕ) (left_since : D → ℕ → List �
         (λ file left. run.each file (counts_now (moment old) file run.later left))
 
 module _ {A D : Type 0} (moment : D → ℕ) (left_since : D → ℕ → List ℕ → Type 0) (head : Head)
-    (stored : List (List ℕ)) (first : RepositoryOf A)
+    (stored : List Entry) (first : RepositoryOf A)
   where
     -- promises, as the journal goes on
     pub promises_on : (h h' : List (Taken A)) (count : ℕ) (device : D)
-        → ((k : ℕ) (bytes : List ℕ) → IsRecordOf first h k bytes → IsRecordOf first h' k bytes)
+        → ((k : ℕ) (entry : Entry) → IsRecordOf first h k entry → IsRecordOf first h' k entry)
         → (promises : List Promise) → All (IsKeptSince moment left_since head stored first h count device) promises
         → All (IsKeptSince moment left_since head stored first h' count device) promises
     promises_on h h' count device moves =
@@ -216,10 +228,10 @@ module _ {A D : Type 0} (moment : D → ℕ) (left_since : D → ℕ → List �
     }
 
     -- by the history of a client
-    pub left_since_then : (later : (before after : List (Taken A)) (k : ℕ) (bytes : List ℕ) → IsPrefix before after
-        → IsRecordOf first before k bytes → IsRecordOf first after k bytes)
-        → (earlier : (before after : List (Taken A)) (k : ℕ) (bytes : List ℕ) → IsPrefix before after
-        → k < done_in first before → IsRecordOf first after k bytes → IsRecordOf first before k bytes)
+    pub left_since_then : (later : (before after : List (Taken A)) (k : ℕ) (entry : Entry) → IsPrefix before after
+        → IsRecordOf first before k entry → IsRecordOf first after k entry)
+        → (earlier : (before after : List (Taken A)) (k : ℕ) (entry : Entry) → IsPrefix before after
+        → k < done_in first before → IsRecordOf first after k entry → IsRecordOf first before k entry)
         → (may_leave : D → List ℕ → Type 0)
         → (client witness whole : List (Taken A)) (kept : ℕ) (device : D) (promise : Promise)
         → ((t : ℕ) (file : List ℕ) → t ≤ moment device → may_leave device file → left_since device t file)
@@ -243,9 +255,9 @@ all_weaker P Q f [] all = tt
 all_weaker P Q f (x ∷ xs) all = (f x all.0, all_weaker P Q f xs all.1)
 
 module _ {A D : Type 0} (moment : D → ℕ) (left_since : D → ℕ → List ℕ → Type 0) (head : Head)
-    (stored : List (List ℕ)) (first : RepositoryOf A)
-    (stay : (before after : List (Taken A)) (k : ℕ) (bytes : List ℕ) → IsPrefix before after
-    → IsRecordOf first before k bytes → IsRecordOf first after k bytes)
+    (stored : List Entry) (first : RepositoryOf A)
+    (stay : (before after : List (Taken A)) (k : ℕ) (entry : Entry) → IsPrefix before after
+    → IsRecordOf first before k entry → IsRecordOf first after k entry)
   where
     -- an earlier device, by a later one
     pub record Stays (device : D) (count : ℕ) (h : List (Taken A)) (b : Before A D) : Type 0 where
@@ -262,7 +274,7 @@ module _ {A D : Type 0} (moment : D → ℕ) (left_since : D → ℕ → List �
         let run = writes.2 in
         let on : (n : ℕ) (file : List ℕ) → IsFront head stored first last.history n file
         → IsFront head stored first h n file =
-        λ n file f. front_on head stored first last.history h n file (λ k bytes r. stay last.history h k bytes writes.1 r) f in (
+        λ n file f. front_on head stored first last.history h n file (λ k entry r. stay last.history h k entry writes.1 r) f in (
           record {
             later = run.later;
             few = writes.0;

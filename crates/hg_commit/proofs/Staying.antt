@@ -4,6 +4,7 @@ use Rattle.std.proofs.Common.{arith, length, Option, Some, None, reverse}
 use Rattle.std.specs.Prelude.{◌↔◌, IsTrue, IsSome}
 use Rattle.std.proofs.lemmas.List.{reverse-append}
 use mathlib.Core.List.{IsPrefix}
+use Rattle.hg_store.specs.Entries.{Entry}
 use Rattle.hg_types.specs.declared.item.Taken.{Taken}
 use Rattle.hg_types.specs.declared.part.Part.{Part}
 use Rattle.hg_stream.specs.Frames.{IsBundle}
@@ -47,25 +48,25 @@ module _ {A : Type 0}
     closed : (h : History A) (p place : ℕ) → IsPlace run_push first h p place → is_closed p h ≡ true
     closed h p place at = (ends first p h).1 (done_some (outcome run_push first p h) (done first h p place at))
 
-    pub later : (before after : List (Taken A)) (place : ℕ) (bytes : List ℕ) → IsPrefix before after
-        → IsRecordOf first before place bytes → IsRecordOf first after place bytes
-    later before after place bytes pre r =
+    pub later : (before after : List (Taken A)) (place : ℕ) (entry : Entry) → IsPrefix before after
+        → IsRecordOf first before place entry → IsRecordOf first after place entry
+    later before after place entry pre r =
         let is = reverse-append before pre.0 in
         let on : History A = reverse pre.0 in
         let shut = closed (reverse before) r.push place r.at in
-        let inner : IsRecordOf first (before ++ pre.0) place bytes = record {
+        let inner : IsRecordOf first (before ++ pre.0) place entry = record {
           push = r.push;
           at = subst (λ (h : History A). IsPlace run_push first h r.push place) (sym is)
               (move first on (reverse before) r.push place r.at);
-          bundle = subst (λ (ps : List (Part A)). IsBundle first.settings.limits bytes ps)
+          bundle = subst (λ (ps : List (Part A)). IsBundle first.settings.limits entry.bundle ps)
               (sym (ap (parts r.push) is ∙ same r.push on (reverse before) shut)) r.bundle;
         } in
-        subst (λ (h : List (Taken A)). IsRecordOf first h place bytes) pre.1 inner
+        subst (λ (h : List (Taken A)). IsRecordOf first h place entry) pre.1 inner
 
-    pub earlier : (before after : List (Taken A)) (place : ℕ) (bytes : List ℕ) → IsPrefix before after
-        → place < done_in first before → IsRecordOf first after place bytes
-        → IsRecordOf first before place bytes
-    earlier before after place bytes pre low r =
+    pub earlier : (before after : List (Taken A)) (place : ℕ) (entry : Entry) → IsPrefix before after
+        → place < done_in first before → IsRecordOf first after place entry
+        → IsRecordOf first before place entry
+    earlier before after place entry pre low r =
         let is = ap reverse (sym pre.1) ∙ reverse-append before pre.0 in
         let on : History A = reverse pre.0 in
         let g = grow first on (reverse before) in
@@ -83,6 +84,6 @@ module _ {A : Type 0}
         record {
           push = r.push;
           at = here;
-          bundle = subst (λ (ps : List (Part A)). IsBundle first.settings.limits bytes ps)
+          bundle = subst (λ (ps : List (Part A)). IsBundle first.settings.limits entry.bundle ps)
               (ap (parts r.push) is ∙ same r.push on (reverse before) shut) r.bundle;
         }

@@ -2,6 +2,7 @@
 use Rattle.std.specs.Prelude.{ℕ, ◌≡◌, ◌≤◌, List, Option, Some, None, Contains}
 use mathlib.Core.List.{IsPrefix}
 use Rattle.hg_types.specs.declared.item.Taken.{Taken}
+use Rattle.hg_store.specs.Entries.{Entry}
 use Rattle.hg_store.specs.declared.head.Head.{Head}
 use Rattle.hg_push.specs.Run.{RepositoryOf}
 use Rattle.hg_commit.specs.Orders.{AreSeen, Comes, HasGrown, no_receipt, ReceiptView}
@@ -35,15 +36,17 @@ pub record IsGranted {A : Type 0} (before after : KeptSeen A) : Type 0 where
   pub grows : HasGrown before.receipt after.receipt
   pub came : after.receipt.came ≡ before.receipt.came
 
--- A client, and how many done pushes that it was answered by are kept for it.
+-- A client, and how many done pushes that it was answered by are kept for it; and the record that was handed in for it,
+-- if one was.
 pub record KeptView (A : Type 0) : Type 0 where
   pub client : KeptSeen A
   pub rests : ℕ
+  pub handed : List Entry
 
 -- So many done pushes of a history were on a device, in a log. Among these promises is one of as many, or more, and
 -- the moment of it is the one that the log's device had reached then.
 pub record Covers {A D : Type 0} (seen : D → List ℕ) (may_leave : D → List ℕ → Type 0) (moment : D → ℕ)
-    (head : Head) (stored : List (List ℕ)) (first : RepositoryOf A) (history : List (Taken A))
+    (head : Head) (stored : List Entry) (first : RepositoryOf A) (history : List (Taken A))
     (promises : List Promise) (rests : ℕ) : Type 0
   where
     pub kept : AreKept seen may_leave head stored first history rests
@@ -55,7 +58,7 @@ pub record Covers {A D : Type 0} (seen : D → List ℕ) (may_leave : D → List
 -- So many done pushes that a client was answered by were on a device, and its receipt has a promise of them. The
 -- client has seen its promises in the one order of all that happened.
 pub record IsCovered {A D : Type 0} (seen : D → List ℕ) (may_leave : D → List ℕ → Type 0) (moment : D → ℕ)
-    (head : Head) (stored : List (List ℕ)) (first : RepositoryOf A) (client : KeptSeen A) (rests : ℕ) : Type 0
+    (head : Head) (stored : List Entry) (first : RepositoryOf A) (client : KeptSeen A) (rests : ℕ) : Type 0
   where
     pub covers : Covers seen may_leave moment head stored first client.history client.receipt.promises rests
     pub stands : AreSeen client.receipt

@@ -3,6 +3,7 @@ pub mod Promises
 pub mod Orders
 pub mod Clients
 pub mod Locks
+pub mod Handing
 pub mod Lives
 pub mod Receipts
 pub mod code

@@ -1,6 +1,7 @@
 -- The records of a store, and the pushes that they are of.
 use Rattle.std.specs.Prelude.{ℕ, ◌≡◌, ◌≤◌, ◌+◌, ⊤, List, [], ◌∷◌, ◌++◌, length, take}
 use Rattle.hg_types.specs.declared.item.Taken.{Taken}
+use Rattle.hg_store.specs.Entries.{Entry}
 use Rattle.hg_store.specs.declared.head.Head.{Head}
 use Rattle.hg_store.specs.declared.log.Log.{Log}
 use Rattle.hg_store.specs.Log.{IsSettled}
@@ -14,25 +15,25 @@ use Rattle.hg_serve.specs.Histories.{newest_first, serial_run}
 abbrev pub done_in : {A : Type 0} → RepositoryOf A → List (Taken A) → ℕ
 done_in first h = length (serial_run first h).journal
 
--- The bytes are the bundle of the push at this place of the journal: they have its parts.
+-- The record is that of the push at this place of the journal: its bundle has the parts of the push.
 pub record IsRecordOf {A : Type 0} (first : RepositoryOf A) (h : List (Taken A)) (place : ℕ)
-    (bytes : List ℕ) : Type 0 where
+    (entry : Entry) : Type 0 where
   pub push : ℕ
   pub at : IsPlace run_push first (newest_first h) push place
-  pub bundle : IsBundle first.settings.limits bytes (parts push (newest_first h))
+  pub bundle : IsBundle first.settings.limits entry.bundle (parts push (newest_first h))
 
--- each record is the bundle of the push at its place of the journal, the first of them at this one
-abbrev pub AreRecordsFrom : {A : Type 0} → RepositoryOf A → List (Taken A) → ℕ → List (List ℕ) → Type 0
+-- each record is that of the push at its place of the journal, the first of them at this one
+abbrev pub AreRecordsFrom : {A : Type 0} → RepositoryOf A → List (Taken A) → ℕ → List Entry → Type 0
 AreRecordsFrom first h place [] = ⊤
-AreRecordsFrom first h place (bytes ∷ others) =
-    IsRecordOf first h place bytes × AreRecordsFrom first h (place + 1) others
+AreRecordsFrom first h place (entry ∷ others) =
+    IsRecordOf first h place entry × AreRecordsFrom first h (place + 1) others
 
 -- After the records that it was opened with, the log has those of the first pushes of the journal, one for
 -- each and so many, and no more. All of it is on the device.
 pub record KeepsRecords {A D : Type 0} (seen : D → List ℕ) (may_leave : D → List ℕ → Type 0) (head : Head)
-    (stored : List (List ℕ)) (first : RepositoryOf A) (h : List (Taken A)) (count : ℕ) (log : Log D) : Type 0
+    (stored : List Entry) (first : RepositoryOf A) (h : List (Taken A)) (count : ℕ) (log : Log D) : Type 0
   where
-    pub records : List (List ℕ)
+    pub records : List Entry
     pub settled : IsSettled seen may_leave head (stored ++ records) log
     pub each : AreRecordsFrom first h 0 records
     pub number : length records ≡ count
@@ -40,9 +41,9 @@ pub record KeepsRecords {A D : Type 0} (seen : D → List ℕ) (may_leave : D �
 -- A log had, after the records that it was opened with, those of the first pushes of the journal, so many at
 -- least, and all of it was on the device.
 pub record AreKept {A D : Type 0} (seen : D → List ℕ) (may_leave : D → List ℕ → Type 0) (head : Head)
-    (stored : List (List ℕ)) (first : RepositoryOf A) (h : List (Taken A)) (count : ℕ) : Type 0 where
+    (stored : List Entry) (first : RepositoryOf A) (h : List (Taken A)) (count : ℕ) : Type 0 where
   pub log : Log D
-  pub records : List (List ℕ)
+  pub records : List Entry
   pub settled : IsSettled seen may_leave head (stored ++ records) log
   pub enough : count ≤ length records
   pub each : AreRecordsFrom first h 0 (take count records)

@@ -1,10 +1,11 @@
 //! The device under its lock, with the records that are on it and the batch that is written next.
 
 ghost use Rattle.std.specs.Prelude.{◌≡◌, ◌≤◌, ◌<◌, ◌+◌, ◌++◌, ◌∷◌, [], false, true, length};
-ghost use Rattle.std.specs.Prelude.{All, IfOk, IfErr, IfSome};
+ghost use Rattle.std.specs.Prelude.{All, IfOk, IfErr, IfSome, List};
 ghost use mathlib.Core.List.{IsPrefix};
 ghost use Rattle.hg_types.specs.Limits.{IsAllowed};
 ghost use Rattle.hg_store.specs.Device.{LeavesOnly};
+ghost use Rattle.hg_store.specs.Entries.{Entry};
 ghost use Rattle.hg_store.specs.Log.{IsSettled};
 ghost use Rattle.hg_commit.specs.Clients.{Covers};
 ghost use Rattle.hg_commit.specs.Lives.{IsFront, IsKeptSince, Lives};
@@ -49,6 +50,7 @@ impl<J: Storing<A>, D: Device, A: Allocator> Model for Disk<J, D, A> {
     ghost Value = { DiskView A D };
 
     ghost view = { λ d. record {
+      log = d.log;
       device = d.log.device;
       count = d.count;
       batch = d.batch.items;
@@ -154,14 +156,14 @@ impl<J: Storing<A>, D: Device, A: Allocator + Copy> Disk<J, D, A> {
     }
 
     /// Takes the record of the push at the next place into the batch. It has room, so no memory is asked for.
-    pub fn take_in(&mut self, bytes: Sealed<A>)
-        requires next { IsRecordOf J.first self.old.history (self.old.count + length self.old.batch) bytes }
+    pub fn take_in(&mut self, entry: Sealed<A>)
+        requires next { IsRecordOf J.first self.old.history (self.old.count + length self.old.batch) entry }
         requires room { 0 < self.old.room }
+        ensures taken { self.new.batch ≡ self.old.batch ++ entry ∷ [] }
         ensures same { (self.new.history ≡ self.old.history) × (self.new.count ≡ self.old.count)
-            × (self.new.device ≡ self.old.device) }
-        ensures taken { self.new.is_broken ≡ self.old.is_broken }
+            × (self.new.device ≡ self.old.device) × (self.new.is_broken ≡ self.old.is_broken) }
     {
-        self.batch.push_reserved(bytes);
+        self.batch.push_reserved(entry);
     }
 
     /// Writes the batch, syncs it and promises it, and asks for no memory. Where that fails, the device is broken from
@@ -172,6 +174,9 @@ impl<J: Storing<A>, D: Device, A: Allocator + Copy> Disk<J, D, A> {
         ensures written { self.new.is_broken ≡ false →
             (self.new.count ≡ self.old.count + length self.old.batch) × (self.new.batch ≡ []) }
         ensures more { self.old.count ≤ self.new.count }
+        ensures added { (records : List Entry) → IsSettled D.seen D.may_leave J.head records self.old.log →
+            self.new.is_broken ≡ false →
+            IsSettled D.seen D.may_leave J.head (records ++ self.old.batch) self.new.log }
 
         // At any moment of the call an end leaves the records that were on the device before it.
         ensures any_moment { LeavesOnly D.moment D.left_since self.old.device self.new.device

@@ -1,6 +1,6 @@
 //! A ledger: what a server keeps, for threads.
 
-ghost use Rattle.std.specs.Prelude.{◌≡◌, ◌≤◌, ◌<◌, ◌-◌, ℕ, [], false, All, IfErr, IfOk, IfSome};
+ghost use Rattle.std.specs.Prelude.{◌≡◌, ◌≤◌, ◌<◌, ◌-◌, ℕ, [], false, All, IfErr, IfOk, IfSome, option_to_list};
 ghost use mathlib.Core.List.{IsPrefix};
 ghost use Rattle.hg_types.specs.Limits.{IsAllowed};
 ghost use Rattle.hg_store.specs.Log.{IsSettled};
@@ -13,6 +13,7 @@ ghost use Rattle.hg_commit.specs.Records.{IsRecordOf, KeepsRecords, done_in};
 use crate::client::KeptClient;
 use crate::disk::Disk;
 use crate::doors::Doors;
+use crate::handed::Handed;
 use crate::kept::Kept;
 use crate::promises::{Grant, OpenTally, Promises};
 use crate::rooms::{Room, Rooms};
@@ -32,7 +33,9 @@ pub struct NotStored;
 
 /// The records of a server's done pushes, on a device and on the way to it.
 ///
-/// The locks are got in the order of the fields, and the server's lock after them.
+/// Whoever gets both locks gets that of the records first, and the server's lock comes after them. The thread that
+/// writes gets that of the records once more while it has the device's: meanwhile `Waiting` says that a thread writes,
+/// so no other one waits for the device.
 pub struct Ledger<J: Storing<A>, D: Device, A: Allocator = Global> {
     waiting: Mutex<Waiting<J, D, A>>,
     disk: Mutex<Disk<J, D, A>>,
@@ -107,29 +110,48 @@ impl<J: Storing<A>, D: Device, A: Allocator + Copy> Ledger<J, D, A> {
         client: KeptClient<J, A>,
         room: Room<J, A>,
         rests: usize,
-        bundle: Option<Sealed<A>>,
+        entry: Option<Sealed<A>>,
     ) -> Result<Kept<J, D, A>, (KeptClient<J, A>, NotStored)>
         requires rests { rests ≤ done_in J.first client.history }
-        requires bundle { IfSome bundle (λ bytes. (1 ≤ rests)
-            × IsRecordOf J.first client.history (rests - 1) bytes) }
-        ensures kept { IfOk result (λ kept. (kept.rests ≡ rests) × IsGranted client kept.client
+        requires bundle { IfSome entry (λ entry. (1 ≤ rests)
+            × IsRecordOf J.first client.history (rests - 1) entry) }
+        ensures kept { IfOk result (λ kept. (kept.rests ≡ rests) × (kept.handed ≡ option_to_list entry) × IsGranted client kept.client
             × IsCovered D.seen D.may_leave D.moment J.head J.stored J.first kept.client rests) }
         ensures failed { IfErr result (λ back. IsGranted client back.0) }
     {
         let mut client = client;
-        match bundle {
-            None => self.give_back(rt, room),
-            Some(bytes) => {
-                let place = rests - 1;
-                let record = Record { place, bytes };
-                self.waiting
-                    .lock(rt)
-                    .hand_in(rt, server, &mut client.client, room, record);
-            }
-        }
+        let handed = self.hand_in(rt, server, &mut client.client, room, rests, entry);
         match self.receipt(rt, server, &mut client, rests) {
-            Ok(()) => Ok(Kept::new(client, rests)),
+            Ok(()) => Ok(Kept::new(client, rests, handed)),
             Err(fault) => Err((client, fault)),
+        }
+    }
+
+    /// Hands in the record of the last of so many done pushes, if there is one, and else gives back the room for it.
+    fn hand_in<R: Wait>(
+        &self,
+        rt: &R,
+        server: &Server<J, A>,
+        client: &mut Client<J, A>,
+        room: Room<J, A>,
+        rests: usize,
+        entry: Option<Sealed<A>>,
+    ) -> Handed<A>
+        requires { IfSome entry (λ entry. (1 ≤ rests) × IsRecordOf J.first client.old (rests - 1) entry) }
+        ensures same { client.new ≡ client.old }
+        ensures handed { result ≡ option_to_list entry }
+    {
+        match entry {
+            None => {
+                self.give_back(rt, room);
+                Handed::nothing()
+            }
+            Some(entry) => {
+                let place = rests - 1;
+                let record = Record { place, entry };
+                let mut waiting = self.waiting.lock(rt);
+                waiting.hand_in(rt, server, client, room, record)
+            }
         }
     }
 

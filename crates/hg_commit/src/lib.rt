@@ -12,6 +12,7 @@
 mod client;
 mod disk;
 mod doors;
+mod handed;
 mod kept;
 mod known;
 pub mod laws;

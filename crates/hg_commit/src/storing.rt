@@ -10,11 +10,12 @@ use std::sync::ledger;
 pub trait Storing<A>: Naming<A> + ledger::Ledger {
     ghost use Rattle.std.specs.Prelude.{ℕ, List};
     ghost use Rattle.atomic_table.specs.Seated.{TableId};
+    ghost use Rattle.hg_store.specs.Entries.{Entry};
     ghost use Rattle.hg_store.specs.declared.head.Head.{Head};
 
     ghost head: { Head };
 
-    ghost stored: { List (List ℕ) };
+    ghost stored: { List Entry };
 
     ghost opened: { ℕ };
 

@@ -1,12 +1,15 @@
 //! The records that wait, under their lock.
 
-ghost use Rattle.std.specs.Prelude.{◌≡◌, ◌≤◌, false, true, length, IfOk, IfSome};
+ghost use Rattle.std.specs.Prelude.{◌≡◌, ◌≤◌, ◌++◌, ◌∷◌, [], false, true, length, IfOk, IfSome, IfNone};
 ghost use Rattle.hg_commit.specs.Clients.{Covers};
+ghost use Rattle.hg_commit.specs.Locks.{IsHandedIn};
 ghost use mathlib.Core.List.{IsPrefix};
+ghost use Rattle.hg_commit.specs.Handing.{MovesTo};
 ghost use Rattle.hg_commit.specs.Records.{IsRecordOf, done_in};
 
 use crate::disk::{BATCH, Disk};
 use crate::doors::BatchDoor;
+use crate::handed::Handed;
 use crate::laws::records_stay;
 use crate::promises::{Grant, OpenTally};
 use crate::rooms::{Room, Rooms};
@@ -22,7 +25,7 @@ use std::sync::Wait;
 #[derive(Drop)]
 pub struct Record<A: Allocator = Global> {
     pub place: usize,
-    pub bytes: Sealed<A>,
+    pub entry: Sealed<A>,
 }
 
 /// What a thread does next whose records are not on the device.
@@ -59,7 +62,12 @@ impl<J: Storing<A>, D: Device, A: Allocator> Model for Waiting<J, D, A> {
 
     ghost Value = { WaitingView A };
 
-    ghost view = { λ w. record { count = w.count; is_broken = w.is_broken; history = w.witness } };
+    ghost view = { λ w. record {
+      records = w.records.items;
+      count = w.count;
+      is_broken = w.is_broken;
+      history = w.witness;
+    } };
 
     ghost invariant = { λ w. AreWaiting J.first w.witness w.records.items
         × (w.is_broken ≡ false → Covers D.seen D.may_leave D.moment J.head J.stored J.first w.witness w.counted w.count)
@@ -103,26 +111,30 @@ impl<J: Storing<A>, D: Device, A: Allocator + Copy> Waiting<J, D, A> {
         self.rooms.give_back(room);
     }
 
-    /// Takes a record. There is room for it, so no memory is asked for.
+    /// Takes a record, which waits among the others then. There is room for it, so no memory is asked for.
     pub fn hand_in<R: Wait>(
         &mut self,
         rt: &R,
         server: &Server<J, A>,
         client: &mut Client<J, A>,
         room: Room<J, A>,
-        entry: Record<A>,
-    )
-        requires { IsRecordOf J.first client.old entry.place entry.bytes }
+        waiting: Record<A>,
+    ) -> Handed<A>
+        requires { IsRecordOf J.first client.old waiting.place waiting.entry }
         ensures client { client.new ≡ client.old }
-        ensures taken { self.new.is_broken ≡ self.old.is_broken }
+        ensures taken { IsHandedIn self.old.records waiting self.new.records }
+        ensures same { (self.new.count ≡ self.old.count) × (self.new.is_broken ≡ self.old.is_broken) }
+        ensures handed { result ≡ waiting.entry ∷ [] }
     {
         records_stay::<A>();
         self.rooms.give_back(room);
         server.meet(rt, client, &mut self.witness);
-        let at = place_for(self.records.as_slice(), entry.place);
-        let Ok(()) = self.records.insert(at, entry) else {
+        let at = place_for(self.records.as_slice(), waiting.place);
+        let handed = Handed::of(&waiting.entry);
+        let Ok(()) = self.records.insert(at, waiting) else {
             unreachable!()
         };
+        handed
     }
 
     /// The grant of a thread whose reply rests on so many done pushes, or what comes next for it.
@@ -190,7 +202,9 @@ impl<J: Storing<A>, D: Device, A: Allocator + Copy> Waiting<J, D, A> {
 
     /// Moves the records that come next into the batch of a thread that writes. Those who waited for the next batch wait
     /// for this one.
-    pub fn load<R: Wait>(&mut self, rt: &R, server: &Server<J, A>, disk: &mut Disk<J, D, A>) {
+    pub fn load<R: Wait>(&mut self, rt: &R, server: &Server<J, A>, disk: &mut Disk<J, D, A>)
+        ensures moved { MovesTo self.old.records disk.old.batch self.new.records disk.new.batch }
+    {
         records_stay::<A>();
         self.is_writing = true;
         self.coming = self.count;
@@ -202,7 +216,7 @@ impl<J: Storing<A>, D: Device, A: Allocator + Copy> Waiting<J, D, A> {
             };
             match self.pop_at(place) {
                 Some(record) => {
-                    disk.take_in(record.bytes);
+                    disk.take_in(record.entry);
                     self.coming = place.saturating_add(1);
                 }
                 None => return,
@@ -213,7 +227,9 @@ impl<J: Storing<A>, D: Device, A: Allocator + Copy> Waiting<J, D, A> {
     /// The last record of those that wait, if it is the one at this place.
     fn pop_at(&mut self, place: usize) -> Option<Record<A>>
         ensures same { self.new.history ≡ self.old.history }
-        ensures found { IfSome result (λ found. IsRecordOf J.first self.old.history place found.bytes) }
+        ensures found { IfSome result (λ found. IsRecordOf J.first self.old.history place found.entry) }
+        ensures last { IfSome result (λ found. self.old.records ≡ self.new.records ++ found ∷ []) }
+        ensures none { IfNone result (self.new.records ≡ self.old.records) }
     {
         match self.records.last() {
             Some(record) if record.place == place => self.records.pop(),

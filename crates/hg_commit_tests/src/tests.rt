@@ -24,7 +24,7 @@ use hg_push::laws::journals_grow;
 use hg_queue::{PartQueue, Taker};
 use hg_repo::{Done, Refusal, Repo};
 use hg_serve::{Closed, NoProbe, Server};
-use hg_store::{Device, Log, Sealed};
+use hg_store::{Device, Log, Sealed, Stamp};
 use hg_stream::Unbundler;
 use hg_stream::laws::streams_are_settled_once;
 use hg_types::Seq;
@@ -44,17 +44,19 @@ const THREADS: u8 = 8;
 
 const PUSHES: u8 = 24;
 
-/// The record of a push that ended so: the bytes of its bundle where it is done, and else none.
+/// The record of a push of that stamp that ended so: its bundle where it is done, and else none.
 fn record_of<A: Allocator>(
     outcome: &Outcome<Done<A>, Refusal<A>>,
+    stamp: Stamp<A>,
     bytes: Vec<u8, A>,
 ) -> Option<Sealed<A>>
-    ensures done { (done : AnyDone A) → outcome.now ≡ Outcome.Done done → result ≡ Some bytes.items }
+    ensures done { (done : AnyDone A) → outcome.now ≡ Outcome.Done done →
+        result ≡ Some (record { stamp = stamp; bundle = bytes.items }) }
     ensures aborted { (reason : AnyReason (AnyRefusal A)) → outcome.now ≡ Outcome.Aborted reason →
         result ≡ None }
 {
     match outcome {
-        Outcome::Done(_) => Some(Sealed::new(Seq::from_vec(bytes))),
+        Outcome::Done(_) => Some(Sealed::new(stamp, Seq::from_vec(bytes))),
         Outcome::Aborted(_) => None,
     }
 }
@@ -118,7 +120,8 @@ fn push_part<J: Storing<Global>, D: Device + Drop, R: Wait + Abort>(
     let ended = mark(server, rt, sender, ending, &mut NoProbe);
     let (answer, rests, client) = server.answer_resting(rt, ended, &mut NoProbe);
     let client = KeptClient::of(client, receipt);
-    let record = record_of(&answer.outcome, kept);
+    let stamp = Stamp::unnamed(alloc, 1);
+    let record = record_of(&answer.outcome, stamp, kept);
     let (client, stored) = keep(rt, server, ledger, client, room, rests, record);
     (client, rests, stored)
 }
@@ -131,14 +134,14 @@ fn keep<J: Storing<Global>, D: Device + Drop, R: Wait>(
     client: KeptClient<J>,
     room: Room<J>,
     rests: usize,
-    record: Option<Sealed>,
+    entry: Option<Sealed>,
 ) -> (KeptClient<J>, Result<(), NotStored>)
     requires rests { rests ≤ done_in J.first client.history }
-    requires record { IfSome record (λ bytes. (1 ≤ rests)
-        × IsRecordOf J.first client.history (rests - 1) bytes) }
+    requires entry { IfSome entry (λ entry. (1 ≤ rests)
+        × IsRecordOf J.first client.history (rests - 1) entry) }
     ensures { IsGranted client result.0 }
 {
-    match ledger.keep(rt, server, client, room, rests, record) {
+    match ledger.keep(rt, server, client, room, rests, entry) {
         Ok(kept) => (kept.into_client(), Ok(())),
         Err((client, fault)) => (client, Err(fault)),
     }
@@ -456,13 +459,13 @@ fn asked<R: Wait + RandomSource + Abort>(rt: &R, alloc: Global, calls: usize) ->
 }
 
 // Receipts are asked for before a push and after it, and another client's request comes before it and after it. The
-// device takes three calls to open the store, with one sync, and six for a record, with two. Result: a receipt each
+// device takes three calls to open the store, with one sync, and eight for a record, with two. Result: a receipt each
 // time, with no sync but these three, and the later request finds one record promised; where the device stops at a
 // call of the record, the receipt before the push alone, and no record promised.
 #[test]
 fn receipts_before_a_push_and_after_it(rt: HostRuntime) {
     let alloc = rt.alloc();
-    for calls in [9, 10, 1_000] {
+    for calls in [11, 12, 1_000] {
         let receipts = Receipts {
             before: true,
             of_one: true,
@@ -472,7 +475,7 @@ fn receipts_before_a_push_and_after_it(rt: HostRuntime) {
         };
         assert_eq!(rt; asked(&rt, alloc, calls), receipts, "{calls} calls");
     }
-    for (calls, syncs) in [(3, 1usize), (4, 1), (5, 1), (6, 1), (7, 2), (8, 2)] {
+    for (calls, syncs) in [(3, 1usize), (5, 1), (7, 1), (8, 1), (9, 2), (10, 2)] {
         let receipts = Receipts {
             before: true,
             of_one: false,
@@ -554,18 +557,18 @@ fn turned<R: Wait + RandomSource + Abort>(rt: &R, alloc: Global, calls: usize) -
 }
 
 // Two clients push three times each, in turn, each with the receipt that it has. The device takes three calls to
-// open the store and six for a record. Result: after the ledger's end the receipt of each is compared with its
+// open the store and eight for a record. Result: after the ledger's end the receipt of each is compared with its
 // tally. Where the device stops, a client whose first push was kept still has its receipt, and one that had none
 // of its own kept has none.
 #[test]
 fn receipts_of_two_clients_grow(rt: HostRuntime) {
     let alloc = rt.alloc();
     for (calls, has_first, has_second, kept) in [
-        (8usize, false, false, 0usize),
-        (9, true, false, 1),
-        (15, true, true, 2),
-        (21, true, true, 3),
-        (39, true, true, 6),
+        (10usize, false, false, 0usize),
+        (11, true, false, 1),
+        (19, true, true, 2),
+        (27, true, true, 3),
+        (51, true, true, 6),
         (1_000, true, true, 6),
     ] {
         let turns = Turns {

@@ -5,6 +5,7 @@ use Rattle.std.specs.Prelude.{All}
 use Rattle.std.proofs.lemmas.List.Elements.{All-contains, All-weaker, Contains-append_left, Contains-push}
 use mathlib.Core.List.{IsPrefix}
 use Rattle.hg_types.specs.declared.item.Taken.{Taken}
+use Rattle.hg_store.specs.Entries.{Entry}
 use Rattle.hg_store.specs.declared.head.Head.{Head}
 use Rattle.hg_push.specs.Run.{RepositoryOf}
 use Rattle.hg_commit.specs.Clients.{KeptSeen}
@@ -42,7 +43,7 @@ IsCompared promises order seen k = All (Contains promises) k.receipt.promises ×
 
 -- A client whose promises the ledger made.
 pub is_left : {A D : Type 0} (moment : D → ℕ) (left_since : D → ℕ → List ℕ → Type 0)
-    (may_leave : D → List ℕ → Type 0) (head : Head) (stored : List (List ℕ)) (first : RepositoryOf A)
+    (may_leave : D → List ℕ → Type 0) (head : Head) (stored : List Entry) (first : RepositoryOf A)
     (whole witness : List (Taken A)) (order : List Event) (kept : ℕ) (device : D) (client : KeptSeen A)
     (promises : List Promise)
     → ((promise : Promise) → IsKeptSince moment left_since head stored first witness kept device promise

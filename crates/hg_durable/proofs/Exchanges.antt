@@ -1,6 +1,6 @@
 -- One bundle, from its bytes to its receipt and its reply.
 use Rattle.std.proofs.Common.{ℕ, ◌≡◌, ◌≤◌, ◌+◌, ◌-◌, List, refl, sym, ◌∙◌, subst, arith, rules}
-use Rattle.std.specs.Prelude.{IfErr, IfOk, IfSome, Result, Ok, Err}
+use Rattle.std.specs.Prelude.{IfErr, IfOk, IfSome, Some, option_to_list, Result, Ok, Err}
 use Rattle.hg_types.specs.declared.limits.Limits.{Limits}
 use Rattle.hg_types.specs.declared.part.Part.{Part}
 use Rattle.hg_types.specs.declared.item.Taken.{Taken}
@@ -16,6 +16,7 @@ use Rattle.hg_push.specs.Run.{RepositoryOf, run_push}
 use Rattle.hg_serve.specs.Answers.{Answers}
 use Rattle.hg_serve.specs.Clients.{SenderView, AwaitingView, PutsItsMark}
 use Rattle.hg_serve.specs.Histories.{newest_first}
+use Rattle.hg_store.specs.Entries.{Entry, Stamp}
 use Rattle.hg_store.specs.declared.head.Head.{Head}
 use Rattle.hg_connection.specs.Devices.{Input}
 use Rattle.hg_commit.specs.Clients.{IsCovered, IsGranted, KeptSeen, KeptView}
@@ -25,7 +26,7 @@ use Rattle.hg_connection.specs.Receiving.{mark_of, push_items, state_at}
 use Rattle.hg_connection.specs.Keeping.{ReceivesKept}
 use Rattle.hg_stream.specs.Faults.{StateTells}
 use Rattle.hg_connection.proofs.CallerLemmas.{answers_bundle, done_whole}
-use Rattle.hg_durable.specs.Kept.{IsKeptExchange, IsKeptOrNot, IsRecorded, KeepsBundle, KeptExchange, MayBeTold}
+use Rattle.hg_durable.specs.Kept.{AreRecorded, IsKeptExchange, IsKeptOrNot, KeepsBundle, KeptExchange, MayBeTold}
 use Rattle.hg_durable.specs.Kept.{OpenedView, record_of}
 
 module _ {A : Type 0} (limits : Limits) (capacity : ℕ) (first : RepositoryOf A) (waited waiting : List ℕ)
@@ -48,8 +49,9 @@ module _ {A : Type 0} (limits : Limits) (capacity : ℕ) (first : RepositoryOf A
 
     done_recorded : (done : Done A) → Answers capacity first e.push e.put e.history (done_with done) takes after
         → RestsOn run_push first (newest_first after) e.push (done_with done) rests
-        → IsRecorded first after rests r.is.bundle.consumed (done_with done)
-    done_recorded done a on =
+        → (stamp : Stamp)
+        → (1 ≤ rests) × IsRecordOf first after (rests - 1) (record { stamp = stamp; bundle = r.is.bundle.consumed })
+    done_recorded done a on stamp =
         let w = done_whole capacity first s.putter.push r.is.parts ending s.history done takes after
         (answered (done_with done) a) in
         let at = (rested (done_with done) on).1 in
@@ -69,21 +71,35 @@ module _ {A : Type 0} (limits : Limits) (capacity : ℕ) (first : RepositoryOf A
     pub recorded : (how : Outcome (Done A) (Refusal A))
         → Answers capacity first e.push e.put e.history how takes after
         → RestsOn run_push first (newest_first after) e.push how rests
-        → IsRecorded first after rests r.is.bundle.consumed how
-    recorded (done_with done) a on = done_recorded done a on
-    recorded (Aborted reason) a on = tt
+        → (stamp : Stamp) → AreRecorded first after rests
+        (option_to_list (record_of how (record { stamp = stamp; bundle = r.is.bundle.consumed })))
+    recorded (done_with done) a on stamp = done_recorded done a on stamp
+    recorded (Aborted reason) a on stamp = tt
+
+    -- the bundle of a done push is what was kept of it
+    pub hands_in : (how : Outcome (Done A) (Refusal A))
+        → Answers capacity first e.push e.put e.history how takes after → (stamp : Stamp)
+        → record_of how (record { stamp = stamp; bundle = kept })
+        ≡ record_of how (record { stamp = stamp; bundle = r.is.bundle.consumed })
+    hands_in (done_with done) a stamp =
+        let w = done_whole capacity first s.putter.push r.is.parts ending s.history done takes after
+        (answered (done_with done) a) in
+        λ i. Some (record { stamp = stamp; bundle = r.kept_is w.0 i })
+    hands_in (Aborted reason) a stamp = refl
 
     -- what is handed in
     pub handed : (how : Outcome (Done A) (Refusal A))
         → Answers capacity first e.push e.put e.history how takes after
         → RestsOn run_push first (newest_first after) e.push how rests
-        → IfSome (record_of how kept) (λ bytes. (1 ≤ rests) × IsRecordOf first after (rests - 1) bytes)
-    handed (done_with done) a on =
+        → (stamp : Stamp) → IfSome (record_of how (record { stamp = stamp; bundle = kept }))
+        (λ entry. (1 ≤ rests) × IsRecordOf first after (rests - 1) entry)
+    handed (done_with done) a on stamp =
         let w = done_whole capacity first s.putter.push r.is.parts ending s.history done takes after
         (answered (done_with done) a) in
-        subst (λ (bytes : List ℕ). (1 ≤ rests) × IsRecordOf first after (rests - 1) bytes)
-        (sym (r.kept_is w.0)) (done_recorded done a on)
-    handed (Aborted reason) a on = search rules
+        subst (λ (bytes : List ℕ). (1 ≤ rests)
+        × IsRecordOf first after (rests - 1) (record { stamp = stamp; bundle = bytes }))
+        (sym (r.kept_is w.0)) (done_recorded done a on stamp)
+    handed (Aborted reason) a on stamp = search rules
 
 -- what its client has seen then, where so many done pushes are kept for it, or where the store failed
 abbrev pub client_of : {A E : Type 0} → Result (KeptView A) (KeptSeen A × E) → KeptSeen A
@@ -91,37 +107,37 @@ client_of (Ok kept) = kept.client
 client_of (Err back) = back.0
 
 module _ {A D E : Type 0} (seen : D → List ℕ) (may_leave : D → List ℕ → Type 0) (moment : D → ℕ) (head : Head)
-    (stored : List (List ℕ)) (first : RepositoryOf A) (before : KeptSeen A) (rests : ℕ)
+    (stored : List Entry) (first : RepositoryOf A) (before : KeptSeen A) (rests : ℕ) (handed_in : List Entry)
   where
     pub granted : (kept : Result (KeptView A) (KeptSeen A × E))
-        → IfOk kept (λ k. (k.rests ≡ rests) × IsGranted before k.client
+        → IfOk kept (λ k. (k.rests ≡ rests) × (k.handed ≡ handed_in) × IsGranted before k.client
         × IsCovered seen may_leave moment head stored first k.client rests)
         → IfErr kept (λ back. IsGranted before back.0) → IsGranted before (client_of kept)
-    granted (Ok kept) is failed = is.1
+    granted (Ok kept) is failed = is.2
     granted (Err back) is failed = failed
 
     pub kept_or_not : (kept : Result (KeptView A) (KeptSeen A × E))
-        → IfOk kept (λ k. (k.rests ≡ rests) × IsGranted before k.client
+        → IfOk kept (λ k. (k.rests ≡ rests) × (k.handed ≡ handed_in) × IsGranted before k.client
         × IsCovered seen may_leave moment head stored first k.client rests)
-        → IsKeptOrNot seen may_leave moment head stored first (client_of kept) rests kept
-    kept_or_not (Ok kept) is = (λ i. record { client = kept.client; rests = is.0 i }, is.2)
+        → IsKeptOrNot seen may_leave moment head stored first (client_of kept) rests handed_in kept
+    kept_or_not (Ok kept) is = (λ i. record { client = kept.client; rests = is.0 i; handed = is.1 i }, is.3)
     kept_or_not (Err back) is = refl
 
 -- what holds of a push that was opened so holds of it by another view of it
 pub kept_on : {A : Type 0} (limits : Limits) (capacity : ℕ) (first : RepositoryOf A) (waited waiting : List ℕ)
-    (input left : Input) (opened other : OpenedView A) (x : KeptExchange A) → opened ≡ other
-    → KeepsBundle limits capacity first waited waiting input left opened x
-    → KeepsBundle limits capacity first waited waiting input left other x
-kept_on {A} limits capacity first waited waiting input left opened other x same is =
-    subst (λ (o : OpenedView A). KeepsBundle limits capacity first waited waiting input left o x) same is
+    (input left : Input) (opened other : OpenedView A) (stamp : Stamp) (x : KeptExchange A) → opened ≡ other
+    → KeepsBundle limits capacity first waited waiting input left opened stamp x
+    → KeepsBundle limits capacity first waited waiting input left other stamp x
+kept_on {A} limits capacity first waited waiting input left opened other stamp x same is =
+    subst (λ (o : OpenedView A). KeepsBundle limits capacity first waited waiting input left o stamp x) same is
 
 -- its reply may be told by what is kept
 pub may_be_told : {A D E : Type 0} (seen : D → List ℕ) (may_leave : D → List ℕ → Type 0) (moment : D → ℕ) (head : Head)
-    (stored : List (List ℕ)) (limits : Limits) (capacity : ℕ) (first : RepositoryOf A) (before : KeptSeen A)
+    (stored : List Entry) (limits : Limits) (capacity : ℕ) (first : RepositoryOf A) (before : KeptSeen A)
     (waited : List ℕ) (x : KeptExchange A) (how : Outcome (Done A) (Refusal A))
     (kept : Result (KeptView A) (KeptSeen A × E))
     → IsKeptExchange limits capacity first before waited x → x.how ≡ how
-    → IsKeptOrNot seen may_leave moment head stored first x.after x.rests kept
+    → IsKeptOrNot seen may_leave moment head stored first x.after x.rests x.handed kept
     → IfOk kept (λ k. MayBeTold first how k)
 may_be_told {A} seen may_leave moment head stored limits capacity first before waited x how (Ok kept) is same all = record {
   push = x.push;

@@ -2,6 +2,7 @@
 use Rattle.std.specs.Prelude.{ℕ, List, All}
 use mathlib.Core.List.{IsPrefix}
 use Rattle.hg_types.specs.declared.item.Taken.{Taken}
+use Rattle.hg_store.specs.Entries.{Entry}
 use Rattle.hg_store.specs.declared.head.Head.{Head}
 use Rattle.hg_push.specs.Run.{RepositoryOf}
 use Rattle.hg_commit.specs.Clients.{KeptSeen}
@@ -13,7 +14,7 @@ use Rattle.hg_commit.specs.Orders.{Event}
 -- since then, and what one leaves from now on, has the records of as many pushes as the promise counts, of those that
 -- the client has seen done.
 pub record IsLeft {A D : Type 0} (moment : D → ℕ) (left_since : D → ℕ → List ℕ → Type 0)
-    (may_leave : D → List ℕ → Type 0) (head : Head) (stored : List (List ℕ)) (first : RepositoryOf A)
+    (may_leave : D → List ℕ → Type 0) (head : Head) (stored : List Entry) (first : RepositoryOf A)
     (whole : List (Taken A)) (order : List Event) (device : D) (client : KeptSeen A) : Type 0 where
   pub begins : IsPrefix client.history whole
   pub seen : IsPrefix client.receipt.order order
@@ -25,7 +26,7 @@ pub record IsLeft {A D : Type 0} (moment : D → ℕ) (left_since : D → ℕ �
 -- a front of the journal of one history, which begins the whole one too. By that history each promise that these
 -- clients have is kept: whatever an end might have left since it is a front with as many pushes as it counts.
 pub record ClosesKept {A D : Type 0} (moment : D → ℕ) (left_since : D → ℕ → List ℕ → Type 0)
-    (may_leave : D → List ℕ → Type 0) (head : Head) (stored : List (List ℕ)) (first : RepositoryOf A)
+    (may_leave : D → List ℕ → Type 0) (head : Head) (stored : List Entry) (first : RepositoryOf A)
     (opened : ℕ) (clients : List (KeptSeen A)) (whole : List (Taken A)) (kept : ℕ) (device : D) : Type 0 where
   pub order : List Event
   pub each : All (IsLeft moment left_since may_leave head stored first whole order device) clients

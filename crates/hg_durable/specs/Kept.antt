@@ -1,5 +1,5 @@
 -- One bundle whose push is kept before it is answered.
-use Rattle.std.specs.Prelude.{ℕ, ◌≡◌, ◌≤◌, ◌-◌, ⊤, List, [], ◌++◌, length, Option, Some, None, Result, Ok, Err}
+use Rattle.std.specs.Prelude.{ℕ, ◌≡◌, ◌≤◌, ◌-◌, ⊤, List, [], ◌∷◌, ◌++◌, length, Option, Some, None, option_to_list, Result, Ok, Err}
 use Rattle.std.specs.Io.KnownBytes.{Appends, Consumes}
 use Rattle.hg_types.specs.declared.item.Taken.{Taken}
 use Rattle.hg_types.specs.declared.limits.Limits.{Limits}
@@ -15,6 +15,7 @@ use Rattle.hg_push.specs.Reply.{CanBeTold, reply_of}
 use Rattle.hg_push.specs.Run.{RepositoryOf, run_push}
 use Rattle.hg_serve.specs.Answers.{Answers}
 use Rattle.hg_serve.specs.Histories.{newest_first}
+use Rattle.hg_store.specs.Entries.{Entry, Stamp}
 use Rattle.hg_store.specs.declared.head.Head.{Head}
 use Rattle.hg_commit.specs.Clients.{IsCovered, KeptSeen, KeptView}
 use Rattle.hg_commit.specs.Orders.{HasGrown}
@@ -27,10 +28,10 @@ use Rattle.hg_durable.specs.declared.served.KeptRound.{KeptRound}
 use Rattle.hg_durable.specs.declared.served.Replied.{Replied}
 use Rattle.hg_durable.specs.declared.served.Replied.TheVariants.{Sent, NotStored}
 
--- the record of a push that ended so: its bytes where it is done
-abbrev pub record_of : {A : Type 0} → Outcome (Done A) (Refusal A) → List ℕ → Option (List ℕ)
-record_of (done_with done) bytes = Some bytes
-record_of (Aborted reason) bytes = None
+-- the record of a push that ended so, where it is done
+abbrev pub record_of : {A : Type 0} → Outcome (Done A) (Refusal A) → Entry → Option Entry
+record_of (done_with done) entry = Some entry
+record_of (Aborted reason) entry = None
 
 -- A push that was opened, and its client.
 pub record OpenedView (A : Type 0) : Type 0 where
@@ -39,7 +40,8 @@ pub record OpenedView (A : Type 0) : Type 0 where
 
 -- One bundle whose push is kept before it is answered: how its reader was read, the bytes that are the bundle's and
 -- those that were read after them, why no more was read of it, and its parts; its push, how that ended and how many
--- items were taken for it; on how many done pushes its answer rests; and what its client has seen then, and its receipt.
+-- items were taken for it; on how many done pushes its answer rests; the record of it that was handed in to the ledger, if
+-- one was; and what its client has seen then, and its receipt.
 pub record KeptExchange (A : Type 0) : Type 0 where
   pub reads : List ReadAnswer
   pub consumed : List ℕ
@@ -50,18 +52,19 @@ pub record KeptExchange (A : Type 0) : Type 0 where
   pub how : Outcome (Done A) (Refusal A)
   pub takes : ℕ
   pub rests : ℕ
+  pub handed : List Entry
   pub after : KeptSeen A
 
--- the record of a done push is its bundle, as it was read; it is the last push that the answer rests on
-abbrev pub IsRecorded : {A : Type 0} → RepositoryOf A → List (Taken A) → ℕ → List ℕ →
-    Outcome (Done A) (Refusal A) → Type 0
-IsRecorded first after rests bytes (done_with done) = (1 ≤ rests) × IsRecordOf first after (rests - 1) bytes
-IsRecorded first after rests bytes (Aborted reason) = ⊤
+-- a record that was handed in is that of the last push that the answer rests on
+abbrev pub AreRecorded : {A : Type 0} → RepositoryOf A → List (Taken A) → ℕ → List Entry → Type 0
+AreRecorded first after rests [] = ⊤
+AreRecorded first after rests (entry ∷ others) =
+    (1 ≤ rests) × IsRecordOf first after (rests - 1) entry
 
 -- The bundle was received by these reads, after the bytes that waited. The client had seen no item of the
 -- push. Of the push the bundle's parts were put and the mark that the ending asks for, and it was answered so.
--- The answer rests on so many done pushes, the last of which is this one, where it is done, and its record is
--- the bundle. The promises that the client had it still has, and it has seen what it had seen. No further request of
+-- The answer rests on so many done pushes, the last of which is this one, where it is done; a record that was handed in is
+-- that of this one. The promises that the client had it still has, and it has seen what it had seen. No further request of
 -- it came. The reply is no longer than a reply can be.
 pub record IsKeptExchange {A : Type 0} (limits : Limits) (capacity : ℕ) (first : RepositoryOf A)
     (before : KeptSeen A) (waited : List ℕ) (x : KeptExchange A) : Type 0 where
@@ -70,7 +73,7 @@ pub record IsKeptExchange {A : Type 0} (limits : Limits) (capacity : ℕ) (first
   pub answers : Answers capacity first x.push
       (push_items x.push x.parts (mark_of x.ending)) before.history x.how x.takes x.after.history
   pub rests_on : RestsOn run_push first (newest_first x.after.history) x.push x.how x.rests
-  pub recorded : IsRecorded first x.after.history x.rests x.consumed x.how
+  pub recorded : AreRecorded first x.after.history x.rests x.handed
   pub grows : HasGrown before.receipt x.after.receipt
   pub came : x.after.receipt.came ≡ before.receipt.came
   pub short : length (reply_of x.how) ≤ greatest_reply
@@ -84,32 +87,35 @@ pub record ComesFrom {A : Type 0} (waited waiting : List ℕ) (input left : Inpu
   pub keeps : KeepsWaiting x.ending x.rest waiting
   pub ran : Ran x.ending left
 
--- one bundle was received from that reader on the push that was opened
+-- One bundle was received from that reader on the push that was opened. Where the push is done, its record is handed in:
+-- that stamp, and the bundle byte for byte.
 pub record KeepsBundle {A : Type 0} (limits : Limits) (capacity : ℕ) (first : RepositoryOf A)
-    (waited waiting : List ℕ) (input left : Input) (opened : OpenedView A) (x : KeptExchange A) : Type 0 where
+    (waited waiting : List ℕ) (input left : Input) (opened : OpenedView A) (stamp : Stamp) (x : KeptExchange A) :
+    Type 0 where
+  pub hands_in : x.handed ≡ option_to_list (record_of x.how (record { stamp = stamp; bundle = x.consumed }))
   pub is : IsKeptExchange limits capacity first opened.client waited x
   pub own : x.push ≡ opened.push
   pub flows : ComesFrom waited waiting input left x
 
 -- So many done pushes were on the device, and the client's receipt has a promise of them: what says so comes with the
--- client. Where the store failed, the client comes back.
+-- client, and with the record that was handed in. Where the store failed, the client comes back.
 abbrev pub IsKeptOrNot : {A D E : Type 0} → (D → List ℕ) → (D → List ℕ → Type 0) → (D → ℕ) → Head →
-    List (List ℕ) → RepositoryOf A → KeptSeen A → ℕ → Result (KeptView A) (KeptSeen A × E) → Type 0
-IsKeptOrNot seen may_leave moment head stored first after rests (Ok kept) =
-    (kept ≡ record { client = after; rests = rests })
+    List Entry → RepositoryOf A → KeptSeen A → ℕ → List Entry → Result (KeptView A) (KeptSeen A × E) → Type 0
+IsKeptOrNot seen may_leave moment head stored first after rests handed (Ok kept) =
+    (kept ≡ record { client = after; rests = rests; handed = handed })
     × IsCovered seen may_leave moment head stored first after rests
-IsKeptOrNot seen may_leave moment head stored first after rests (Err back) = back.0 ≡ after
+IsKeptOrNot seen may_leave moment head stored first after rests handed (Err back) = back.0 ≡ after
 
 -- what the call reports of the bundle
 pub record IsRound {J D A : Type 0} (seen : D → List ℕ) (may_leave : D → List ℕ → Type 0) (moment : D → ℕ)
-    (head : Head) (stored : List (List ℕ)) (first : RepositoryOf A) (x : KeptExchange A) (round : KeptRound J D A) :
+    (head : Head) (stored : List Entry) (first : RepositoryOf A) (x : KeptExchange A) (round : KeptRound J D A) :
     Type 0
   where
     pub ending_is : x.ending ≡ round.ending
     pub how_is : x.how ≡ round.answer.outcome
     pub takes_are : x.takes ≡ round.answer.takes
     pub rests_are : x.rests ≡ round.rests
-    pub kept_is : IsKeptOrNot seen may_leave moment head stored first x.after x.rests round.kept
+    pub kept_is : IsKeptOrNot seen may_leave moment head stored first x.after x.rests x.handed round.kept
 
 -- ---- its reply
 
@@ -123,7 +129,7 @@ pub record MayBeTold {A : Type 0} (first : RepositoryOf A) (how : Outcome (Done 
 -- A reply that was sent is true: all that is kept was on the device, so many done pushes, and the client's receipt
 -- has a promise of them. Where the store failed, the writer was not used.
 abbrev pub IsReplied : {A D E : Type 0} → (D → List ℕ) → (D → List ℕ → Type 0) → (D → ℕ) → Head →
-    List (List ℕ) → RepositoryOf A → Result (KeptView A) E → List ℕ → List ℕ → List WriteAnswer → Replied → Type 0
+    List Entry → RepositoryOf A → Result (KeptView A) E → List ℕ → List ℕ → List WriteAnswer → Replied → Type 0
 IsReplied seen may_leave moment head stored first (Ok kept) reply gone uses (Sent sending) =
     IsCovered seen may_leave moment head stored first kept.client kept.rests × IsSent sending gone uses reply
 IsReplied seen may_leave moment head stored first (Ok kept) reply gone uses NotStored = ⊥
@@ -132,7 +138,7 @@ IsReplied seen may_leave moment head stored first (Err e) reply gone uses NotSto
 
 -- this became of a reply at a writer, which took so many bytes of it
 pub record RepliesBy {A D E : Type 0} (seen : D → List ℕ) (may_leave : D → List ℕ → Type 0) (moment : D → ℕ)
-    (head : Head) (stored : List (List ℕ)) (first : RepositoryOf A) (kept : Result (KeptView A) E) (reply : List ℕ)
+    (head : Head) (stored : List Entry) (first : RepositoryOf A) (kept : Result (KeptView A) E) (reply : List ℕ)
     (out sent : Output) (replied : Replied) (written : ℕ) : Type 0 where
   pub gone : List ℕ
   pub uses : List WriteAnswer

@@ -10,6 +10,7 @@ ghost use Rattle.hg_push.specs.Reply.{reply_of};
 ghost use Rattle.hg_commit.specs.Clients.{HasCome};
 ghost use Rattle.hg_durable.specs.Kept.{IsRound, KeepsBundle, KeptExchange, MayBeTold, RepliesBy, record_of};
 
+use crate::record::RecordBytes;
 use crate::served::{KeptRound, Replied};
 use hg_commit::{KeptClient, Ledger, Receipt, Room, Storing};
 use hg_connection::{Inbox, Keep, Reader, Writer, mark, receive_kept, send_reply};
@@ -17,7 +18,7 @@ use hg_push::laws::{journals_grow, replies_are_short};
 use hg_push::{OpenFault, Outcome};
 use hg_repo::{Done, Refusal};
 use hg_serve::{Probe, Sender, Server};
-use hg_store::{Device, Sealed};
+use hg_store::{Device, Sealed, Stamp};
 use hg_stream::Unbundler;
 use hg_stream::laws::parts_are_few;
 use hg_types::Seq;
@@ -59,10 +60,10 @@ impl<J: Storing<A>, A: Allocator> Model for OpenedKept<J, A> {
         × (of o.sender.putter.push (items_of o.sender.history) ≡ []) };
 }
 
-/// What keeps the bytes of a bundle, and makes a record of them.
+/// What keeps the bytes of a bundle, for a record of them.
 pub trait Recorder<A: Allocator>: Keep {
-    /// The record of what is kept. It asks for no memory.
-    fn seal(self) -> Sealed<A>
+    /// What is kept. It asks for no memory.
+    fn into_bytes(self) -> RecordBytes<A>
     where
         Self: Sized,
         ensures { result ≡ Self.kept self };
@@ -70,20 +71,22 @@ pub trait Recorder<A: Allocator>: Keep {
 
 /// A record of its own memory.
 impl<A: Allocator> Recorder<A> for Vec<u8, A> {
-    fn seal(self) -> Sealed<A> {
-        Sealed::new(Seq::from_vec(self))
+    fn into_bytes(self) -> RecordBytes<A> {
+        RecordBytes::own(Seq::from_vec(self))
     }
 }
 
-/// The record of a push that ended so: its bytes where it is done, and else none. It asks for no memory.
+/// The record of a push of that stamp that ended so: where it is done, its stamp and its bytes, and else none. It asks
+/// for no memory.
 fn record_of<A: Allocator, K: Recorder<A>>(
     outcome: &Outcome<Done<A>, Refusal<A>>,
+    stamp: Stamp<A>,
     kept: K,
 ) -> Option<Sealed<A>>
-    ensures { result ≡ record_of outcome.now (K.kept kept) }
+    ensures { result ≡ record_of outcome.now (record { stamp = stamp; bundle = K.kept kept }) }
 {
     match outcome {
-        Outcome::Done(_) => Some(kept.seal()),
+        Outcome::Done(_) => Some(kept.into_bytes().seal(stamp)),
         Outcome::Aborted(_) => None,
     }
 }
@@ -119,8 +122,8 @@ pub fn open_kept<J: Storing<A>, D: Device, A: Allocator + Copy, R: Wait>(
 }
 
 /// Keeps one bundle on a push that was opened with room for its record: receives it and has its bytes kept, puts its
-/// mark, waits for its answer, hands in the record of a done push, and waits until all that the answer rests on is on
-/// the device, also where the push was aborted. The client has the receipt that it had, or one that has its promises
+/// mark, waits for its answer, hands in the record of a done push with that stamp, and waits until all that the answer
+/// rests on is on the device, also where the push was aborted. The client has the receipt that it had, or one that has its promises
 /// and all that the answer rests on. **No writer is here**: what is told of the answer, [`reply_kept`] tells.
 pub fn keep_bundle<
     J: Storing<A>,
@@ -136,6 +139,7 @@ pub fn keep_bundle<
     bundle: &mut Unbundler<A>,
     inbox: &mut Inbox,
     reader: &mut I,
+    stamp: Stamp<A>,
     mut recorder: K,
     probe: &mut G,
 ) -> KeptRound<J, D, A>
@@ -143,7 +147,7 @@ pub fn keep_bundle<
     requires recorder { K.kept recorder ≡ [] }
     ensures kept { (x : KeptExchange A)
         × KeepsBundle keeping.now.server.now J.capacity J.first inbox.old inbox.new (I.told reader.old)
-        (I.told reader.new) opened x
+        (I.told reader.new) opened stamp x
         × IsRound D.seen D.may_leave D.moment J.head J.stored J.first x result }
     ensures told { IfOk result.kept (λ kept. MayBeTold J.first result.answer.outcome kept) }
     ensures whole { result.ending ≡ Whole
@@ -173,7 +177,7 @@ pub fn keep_bundle<
     let ended = mark(keeping.server, keeping.rt, sender, ending, probe);
     let (answer, rests, client) = keeping.server.answer_resting(keeping.rt, ended, probe);
     let client = KeptClient::of(client, receipt);
-    let record = record_of(&answer.outcome, recorder);
+    let record = record_of(&answer.outcome, stamp, recorder);
     let kept = keeping
         .ledger
         .keep(keeping.rt, keeping.server, client, room, rests, record);

@@ -9,8 +9,10 @@
 
 mod closing;
 mod connection;
+mod record;
 mod served;
 
 pub use closing::{ClosedKept, close_kept};
 pub use connection::{Keeping, OpenedKept, Recorder, keep_bundle, open_kept, reply_kept};
+pub use record::RecordBytes;
 pub use served::{KeptRound, Replied};

@@ -6,7 +6,7 @@ use hg_help_store_tests::device::Memory;
 use hg_recovery::replay_records;
 use hg_repo::Repo;
 use hg_serve::Closed;
-use hg_store::recover;
+use hg_store::{Entry, Stamp, recover};
 use hg_types::{Node, Seq};
 use std::alloc::Global;
 use std::process::Abort;
@@ -81,7 +81,7 @@ pub fn starts_again<R: RandomSource + Abort>(
 fn is_front<R: RandomSource + Abort>(
     rt: &R,
     alloc: Global,
-    records: &[Seq<u8>],
+    records: &[Entry],
     closed: &Closed,
 ) -> bool {
     match run(rt, alloc, records) {
@@ -111,7 +111,7 @@ fn is_of_first<R: RandomSource + Abort>(
 }
 
 /// Whether a repository is what these pushes give.
-fn is_of<R: RandomSource + Abort>(rt: &R, alloc: Global, again: &Repo, pushes: &[Seq<u8>]) -> bool {
+fn is_of<R: RandomSource + Abort>(rt: &R, alloc: Global, again: &Repo, pushes: &[Entry]) -> bool {
     match run(rt, alloc, pushes) {
         Some(wanted) => {
             let is_same = again.is_same(&wanted);
@@ -123,7 +123,7 @@ fn is_of<R: RandomSource + Abort>(rt: &R, alloc: Global, again: &Repo, pushes: &
 }
 
 /// The first pushes of the journal: each brought one marker, which names it.
-fn first_pushes(alloc: Global, closed: &Closed, count: usize) -> Option<Seq<Seq<u8>>> {
+fn first_pushes(alloc: Global, closed: &Closed, count: usize) -> Option<Seq<Entry>> {
     let markers = closed.repo.markers().get(..count)?;
     let mut pushes = Seq::new(alloc);
     let mut has_all = true;
@@ -135,13 +135,15 @@ fn first_pushes(alloc: Global, closed: &Closed, count: usize) -> Option<Seq<Seq<
 }
 
 /// Adds the push of that thread at that turn. Says whether there was memory for it.
-fn add_push(alloc: Global, pushes: &mut Seq<Seq<u8>>, thread: u8, turn: u8) -> bool {
+fn add_push(alloc: Global, pushes: &mut Seq<Entry>, thread: u8, turn: u8) -> bool {
     let mut push = Vec::new(alloc);
-    mixed(&mut push, thread, turn) && pushes.push(Seq::from_vec(push)).is_ok()
+    let is_made = mixed(&mut push, thread, turn);
+    let entry = Entry::new(Stamp::unnamed(alloc, 1), Seq::from_vec(push));
+    is_made && pushes.push(entry).is_ok()
 }
 
 /// A repository in which these pushes were run.
-fn run<R: RandomSource + Abort>(rt: &R, alloc: Global, pushes: &[Seq<u8>]) -> Option<Repo> {
+fn run<R: RandomSource + Abort>(rt: &R, alloc: Global, pushes: &[Entry]) -> Option<Repo> {
     let mut repo = Repo::new(alloc, settings(), state(rt));
     match replay_records(alloc, &mut repo, pushes) {
         Ok(()) => Some(repo),

@@ -5,7 +5,7 @@ use hg_connection::{BundleEnd, Inbox, Reader, Sending, Writer};
 use hg_durable::{Keeping, KeptRound, Replied, keep_bundle, open_kept, reply_kept};
 use hg_push::OpenFault;
 use hg_serve::{Point, Probe};
-use hg_store::Device;
+use hg_store::{Device, Stamp};
 use hg_stream::{StreamFault, Unbundler};
 use std::alloc::Allocator;
 use std::sync::Wait;
@@ -80,6 +80,7 @@ pub fn connect_kept<
             &mut bundle,
             &mut inbox,
             reader,
+            Stamp::unnamed(keeping.alloc, 1),
             Vec::new(keeping.alloc),
             probe,
         );

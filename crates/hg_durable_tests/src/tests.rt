@@ -473,18 +473,18 @@ fn many_pushes_on_a_device_that_stops_anywhere(rt: HostRuntime) -> Result<(), Fa
 }
 
 // Two clients have two connections each, in turn, of two pushes, each with the receipt that it has. The device takes
-// three calls to open the store and six for a record. Result: after the ledger's end the receipt of each is compared
+// three calls to open the store and eight for a record. Result: after the ledger's end the receipt of each is compared
 // with its tally. Each has one, since a request of it came, also where the device stops before it was answered.
 #[test]
 fn receipts_of_two_clients_grow(rt: HostRuntime) {
     let alloc = rt.alloc();
     for (calls, done, kept) in [
-        (8usize, (0usize, 0usize), 0usize),
-        (9, (1, 0), 1),
-        (15, (2, 0), 2),
-        (21, (2, 1), 3),
-        (33, (3, 2), 5),
-        (51, (4, 4), 8),
+        (10usize, (0usize, 0usize), 0usize),
+        (11, (1, 0), 1),
+        (19, (2, 0), 2),
+        (27, (2, 1), 3),
+        (43, (3, 2), 5),
+        (67, (4, 4), 8),
         (1_000, (4, 4), 8),
     ] {
         let turns = Turns {

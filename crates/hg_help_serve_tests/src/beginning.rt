@@ -33,6 +33,7 @@ pub fn new_log(alloc: Global, calls: usize) -> Option<Log<Memory>>
     let head = Head {
         publishing: false,
         limits: Limits::standard(),
+        identity: Some(*b"a store of tests"),
     };
     let mut file = Vec::new(alloc);
     head.put(&mut file).ok()?;

@@ -4,6 +4,7 @@ use Rattle.std.specs.Prelude.{All}
 use Rattle.std.proofs.lemmas.List.Elements.{All-cons, All-head, All-nil, All-tail}
 use mathlib.Core.List.{IsPrefix}
 use Rattle.hg_types.specs.declared.item.Taken.{Taken}
+use Rattle.hg_store.specs.Entries.{Entry}
 use Rattle.hg_store.specs.declared.head.Head.{Head}
 use Rattle.hg_push.specs.Run.{RepositoryOf}
 use Rattle.hg_commit.specs.Clients.{KeptSeen}
@@ -23,7 +24,7 @@ all_of_front P front whole begins all =
 
 -- what holds at the end with all of these clients holds with the first of them
 pub closes_front : {A D : Type 0} {moment : D → ℕ} {left_since : D → ℕ → List ℕ → Type 0}
-    {may_leave : D → List ℕ → Type 0} {head : Head} {stored : List (List ℕ)} {first : RepositoryOf A} {opened : ℕ}
+    {may_leave : D → List ℕ → Type 0} {head : Head} {stored : List Entry} {first : RepositoryOf A} {opened : ℕ}
     {whole : List (Taken A)} {kept : ℕ} {device : D} (front all : List (KeptSeen A)) → IsPrefix front all
     → ClosesKept moment left_since may_leave head stored first opened all whole kept device
     → ClosesKept moment left_since may_leave head stored first opened front whole kept device

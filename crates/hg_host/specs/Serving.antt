@@ -4,11 +4,12 @@ use Rattle.hg_parts.specs.Repository.{Repository}
 use Rattle.hg_push.specs.Run.{RepositoryOf}
 use Rattle.hg_queue.specs.Words.{history}
 use Rattle.hg_serve.specs.Histories.{serial_run}
+use Rattle.hg_store.specs.Entries.{Entry}
 use Rattle.hg_store.specs.declared.head.Head.{Head}
 use Rattle.hg_commit.specs.Clients.{IsCovered, KeptSeen}
 use Rattle.hg_durable.specs.Closing.{ClosesKept}
 use Rattle.hg_durable.specs.declared.closing.ClosedKept.{ClosedKept}
-use Rattle.hg_hook.specs.Policies.{Asked}
+use Rattle.hg_http.specs.Policies.{Asked}
 use Rattle.hg_web.specs.declared.serve.ConnectionEnd.{ConnectionEnd}
 use Rattle.hg_web.specs.declared.terms.WebTerms.{WebTerms}
 use Rattle.hg_web.specs.Serving.{ServesHttp}
@@ -22,7 +23,7 @@ pub record HostView : Type 0 where
 -- The records of the store led to the repository that the server began with. A client was served over HTTP, on
 -- terms that count the records, with answers that rest on what is on the device, by its receipt.
 pub record HostsHttp {A S : Type 0} (capacity : ℕ) (first : RepositoryOf A) (head : Head)
-    (stored : List (List ℕ)) (kept : KeptSeen A → ℕ → Type 0)
+    (stored : List Entry) (kept : KeptSeen A → ℕ → Type 0)
     (page metrics : S → Repository A → List ℕ → Type 0) (view : HostView) (asked said : Asked A) (before : KeptSeen A)
     (input left out sent : Option (List ℕ)) (end : ConnectionEnd) (after : KeptSeen A) : Type 0 where
   pub recovered : IsRecovered view.publishing head stored first
@@ -32,7 +33,7 @@ pub record HostsHttp {A S : Type 0} (capacity : ℕ) (first : RepositoryOf A) (h
 
 -- A client came back from a connection to the service that was served, from some reader to some writer.
 pub record WasHosted {A S : Type 0} (capacity : ℕ) (first : RepositoryOf A) (head : Head)
-    (stored : List (List ℕ)) (kept : KeptSeen A → ℕ → Type 0)
+    (stored : List Entry) (kept : KeptSeen A → ℕ → Type 0)
     (page metrics : S → Repository A → List ℕ → Type 0) (after : KeptSeen A) : Type 0 where
   pub view : HostView
   pub asked : Asked A
@@ -51,7 +52,7 @@ pub record WasHosted {A S : Type 0} (capacity : ℕ) (first : RepositoryOf A) (h
 -- answer rests on. The repository and the journal are those of the whole history.
 pub record EndsHost {A D S : Type 0} (seen : D → List ℕ) (may_leave : D → List ℕ → Type 0) (moment : D → ℕ)
     (left_since : D → ℕ → List ℕ → Type 0) (capacity : ℕ) (first : RepositoryOf A) (head : Head)
-    (stored : List (List ℕ)) (opened : ℕ) (page metrics : S → Repository A → List ℕ → Type 0)
+    (stored : List Entry) (opened : ℕ) (page metrics : S → Repository A → List ℕ → Type 0)
     (left : ClosedKept D A) : Type 0 where
   pub recovered : IsRecovered head.publishing head stored first
   pub clients : List (KeptSeen A)

@@ -1,6 +1,6 @@
 //! The hook of a host, which is asked before each push.
 
-use hg_hook::{HookAddress, HookAnswer, HookLine, HookQuestion, HookSilence, exchange};
+use hg_http::{HookAddress, HookAnswer, HookLine, HookQuestion, HookSilence, exchange};
 use hg_tcp::{Line, Patience, Places, Sent, set_up};
 use std::alloc::Global;
 use std::io;

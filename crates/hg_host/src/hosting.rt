@@ -224,7 +224,7 @@ where
     R: HostingRuntime,
     requires { IsOpened D.seen D.may_leave recovered }
     ensures { (capacity : ℕ) × IfSome result.left (EndsHost D.seen D.may_leave D.moment D.left_since capacity
-        recovered.repo (head_of recovered.publishing) (records_of recovered.records.items)
+        recovered.repo (head_of recovered.publishing recovered.identity) (records_of recovered.records.items)
         (D.moment recovered.log.device) ⟦<Board<'a, R> as Shown<Global>>⟧.is_page
         ⟦<Board<'a, R> as Shown<Global>>⟧.are_metrics) }
 {

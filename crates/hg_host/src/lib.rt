@@ -19,7 +19,7 @@ mod terms;
 mod watch;
 
 pub use clients::HostedClients;
-pub use hg_hook::HookAddress;
+pub use hg_http::HookAddress;
 pub use hg_tcp::Over;
 pub use hook::HookTerms;
 pub use hosting::{Ended, serve_store};

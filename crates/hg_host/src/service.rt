@@ -23,7 +23,7 @@ use crate::terms::HostTerms;
 use crate::watch::Watcher;
 use hg_commit::{KeptClient, Ledger, Parts, Promises, Storing};
 use hg_durable::{ClosedKept, close_kept};
-use hg_hook::{Hook, Policy};
+use hg_http::{Hook, Policy};
 use hg_queue::{PartQueue, Taker};
 use hg_recovery::Recovered;
 use hg_serve::{Client, Server};
@@ -112,6 +112,7 @@ where
         };
         let Recovered {
             publishing: _,
+            identity: _,
             repo,
             log,
             stored,
@@ -194,6 +195,7 @@ where
             shown: &self.board,
             budget: &self.budget,
             address: self.address(),
+            user: self.terms.user,
             pull: bytes_in(self.terms.pull),
             also: bytes_in(self.terms.also),
             stored: self.stored,

@@ -17,6 +17,8 @@ pub struct HostTerms<'a> {
     pub path: &'a str,
     /// The name that the field `host` of a request has to give, if it has to give one.
     pub name: Option<&'a str>,
+    /// The field of a request that says who pushes. Without one no field is believed.
+    pub user: Option<&'a str>,
     /// What is told behind the capabilities.
     pub also: Option<&'a str>,
     /// Where pulls go, without a query.

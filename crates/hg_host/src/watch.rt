@@ -2,9 +2,11 @@
 
 use crate::hook::HookPool;
 use hg_serve::{Point, Probe};
-use hg_status::{Board, Push, ShownOutcome, brought_by, log_line, seconds_now, shown_outcome};
+use hg_status::{
+    AbortReason, Board, Push, ShownOutcome, brought_by, log_line, millis_now, shown_outcome,
+};
 use hg_tcp::{Over, Places};
-use hg_web::{Watch, WatchedPush};
+use hg_web::{Denial, Watch, WatchedPush};
 use std::alloc::Global;
 use std::str;
 use std::sync::Wait;
@@ -78,6 +80,10 @@ impl<R: Wait + Clock + Eprint> Probe for Watcher<'_, R> {
 }
 
 impl<R: Wait + Clock + Eprint> Watch<Global> for Watcher<'_, R> {
+    fn time(&self) -> u64 {
+        millis_now(self.rt)
+    }
+
     fn pushed(&mut self, pushed: &WatchedPush<'_>) {
         let count = (pushed.rests as u64).saturating_add(self.stored as u64);
         if pushed.is_kept {
@@ -86,7 +92,7 @@ impl<R: Wait + Clock + Eprint> Watch<Global> for Watcher<'_, R> {
         let outcome = shown_outcome(pushed.outcome, count);
         let is_done = matches!(outcome, ShownOutcome::Done(_));
         let push = Push {
-            time: seconds_now(self.rt),
+            time: millis_now(self.rt) / 1_000,
             outcome,
             changesets: if is_done {
                 brought_by(pushed.bundle)
@@ -102,6 +108,26 @@ impl<R: Wait + Clock + Eprint> Watch<Global> for Watcher<'_, R> {
             self.slots.end(self.rt, Over::NumbersEnd);
         }
         if self.logs && pushed.is_kept {
+            self.print(&push);
+        }
+    }
+
+    fn denied(&mut self, why: Denial, bundle: &[u8]) {
+        let reason = match why {
+            Denial::Refused => AbortReason::NotLet,
+            Denial::NoAnswer => AbortReason::NoHook,
+            Denial::NoMemory => AbortReason::NoMemory,
+        };
+        let push = Push {
+            time: millis_now(self.rt) / 1_000,
+            outcome: ShownOutcome::Aborted(reason),
+            changesets: 0,
+            bytes: bundle.len() as u64,
+            locked: 0,
+            synced: 0,
+        };
+        self.board.count(push);
+        if self.logs {
             self.print(&push);
         }
     }

@@ -2,3 +2,4 @@ mod Pieces
 mod Keys
 mod Alone
 mod Following
+mod HookHeads

@@ -5,3 +5,7 @@ pub mod Views
 pub mod Responses
 pub mod Keys
 pub mod Following
+pub mod Policies
+pub mod Hooks
+pub mod Exchanges
+pub mod code

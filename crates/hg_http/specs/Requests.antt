@@ -51,6 +51,16 @@ argument_in fields name = unwrap_or (value_in fields name) []
 unfoldable pub name_of : (A : Type 0) → Request (List ℕ) → List ℕ
 name_of A r = argument_in {A = A} (fields_of (query_of r)) (codes "cmd")
 
+-- the bytes of a field; none where there is no such field
+abbrev pub bytes_in : Option FieldValue → List ℕ
+bytes_in None = []
+bytes_in (Some value) = value.bytes
+
+-- the name of who pushes: what the field says that is believed, and no bytes where none is
+abbrev pub user_of : Option (List ℕ) → Request (List ℕ) → List ℕ
+user_of None r = []
+user_of (Some field) r = bytes_in (value_named (head_of r).headers field)
+
 -- the content type is that of the protocol
 abbrev pub is_protocol : Option FieldValue → Bool
 is_protocol None = false

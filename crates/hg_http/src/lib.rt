@@ -13,12 +13,15 @@
 //!
 //! A [`Follower`] reads along with a server's connection, and keeps of what came only what it could not read yet. So
 //! it can say, where a body is to be dropped, which of the bytes that come next are the rest of its request.
+//!
+//! Whether a push may run: a [`Policy`] is asked, as a [`Hook`] that asks over HTTP ([`exchange`]).
 #![tactic(auto)]
 
 mod address;
 mod answer;
 mod command;
 mod follow;
+mod hook;
 mod key;
 mod request;
 mod view;
@@ -27,6 +30,9 @@ pub use address::{Address, AddressFault, fault_of};
 pub use answer::{HttpAnswer, RequestRefusal, respond};
 pub use command::{Command, Read, argument, command_of, read_of, subject_of};
 pub use follow::{Follower, RequestEnd};
+pub use hook::{
+    Hook, HookAddress, HookAnswer, HookLine, HookQuestion, HookSilence, Policy, Verdict, exchange,
+};
 pub use key::{KeyChange, fits, key_bundle, read_change};
-pub use request::{is_from_client, read_arguments, read_name};
+pub use request::{is_from_client, read_arguments, read_name, user_of};
 pub use view::{StatusView, moved_to, view_of};

@@ -6,7 +6,7 @@ ghost use Rattle.std.specs.Str.{bytes_eq};
 ghost use Rattle.hg_http.specs.Requests.{arguments_of, is_from_client as came_from_client};
 ghost use Rattle.hg_http.specs.Requests.{is_protocol as has_protocol, most_pieces, name_of};
 ghost use Rattle.hg_http.specs.Requests.{piece_name, pieces_from, query_of as query_text};
-ghost use Rattle.hg_http.specs.Requests.{value_named};
+ghost use Rattle.hg_http.specs.Requests.{bytes_in, user_of as named_user, value_named};
 
 use crate::command::argument;
 use bytes::Bytes;
@@ -82,6 +82,27 @@ fn piece<'a, A: Allocator + Copy>(
 {
     let name = format!(in alloc; "x-hgarg-{number}")?;
     Ok(headers.get(name.as_str()))
+}
+
+/// The name of who pushes: what the field says that is believed. It has no bytes where no field is believed, or where
+/// the request has none of that name.
+pub fn user_of<'a>(request: &'a Request<Bytes>, field: Option<&str>) -> &'a [u8]
+    ensures { result.now ≡ named_user (option_copied field.entry) request.now }
+{
+    match field {
+        Some(field) => bytes_of(request.headers().get(field)),
+        None => b"".as_slice(),
+    }
+}
+
+/// The bytes of a field, none where it is not there.
+fn bytes_of<'a>(value: Option<&'a HeaderValue>) -> &'a [u8]
+    ensures { result.now ≡ bytes_in (option_copied value.entry) }
+{
+    match value {
+        Some(value) => value.as_bytes(),
+        None => b"".as_slice(),
+    }
 }
 
 /// Whether a command that changes something came as a client sends it, and no page in a browser could have

@@ -1,6 +1,6 @@
 //! The tests of `hg_http`, over its contracts.
 //!
-//! The tests of `hg_http`, over its contracts.
+//! Questions to a hook and their answers have bytes of HTTP as RFC 9112 has them.
 #![tactic(auto)]
 
 #[cfg(test)]
@@ -9,5 +9,7 @@ mod answer_tests;
 mod command_tests;
 #[cfg(test)]
 mod follow_tests;
+#[cfg(test)]
+mod hook_tests;
 #[cfg(test)]
 mod request_tests;

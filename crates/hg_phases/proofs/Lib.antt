@@ -12,5 +12,6 @@ mod Told
 mod Passing
 mod Soundness
 mod Undoing
+mod Counting
 mod EntryLemmas
 pub mod CallerLemmas

@@ -15,6 +15,7 @@
 //! "check:phases". Nothing here starts a thread or waits.
 #![tactic(auto)]
 
+mod counts;
 mod entries;
 mod fault;
 mod laws;
@@ -25,6 +26,7 @@ mod standing;
 mod tape;
 mod walk;
 
+pub use counts::PhaseCounts;
 pub use entries::read_entries;
 pub use fault::EntryFault;
 pub use laws::{

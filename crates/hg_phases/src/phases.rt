@@ -2,9 +2,11 @@
 
 ghost use Rattle.std.specs.Prelude.{◌≡◌, ◌≢◌, ◌↔◌, ◌<◌, All, length, Some, None, IsTrue, IfOk, OnOk, OnErr};
 ghost use Rattle.hg_log.specs.Parents.{parents_of};
+ghost use Rattle.hg_phases.specs.Counts.{counts_of};
 ghost use Rattle.hg_phases.specs.Order.{phase_at};
 ghost use Rattle.hg_phases.specs.Phases.{registered, advanced, no_rows, AreFor};
 
+use crate::counts::PhaseCounts;
 use crate::order::greater;
 use crate::roots::draft_roots;
 use crate::standing::{Standing, are_same, phase_at, phase_of};
@@ -21,7 +23,8 @@ pub struct Savepoint {
     _private: (),
 }
 
-/// The phase of each row, and the roots of draft and of secret: one byte for each row.
+/// The phase of each row, and the roots of draft and of secret: one byte for each row. Beside them it has how
+/// many rows are in each phase.
 ///
 /// The byte of a row holds its phase, and of which phases it is a root. What is kept for the way back is a
 /// number and a byte for each row that changed.
@@ -43,18 +46,18 @@ impl<A: Allocator> Model for Phases<A> {
 
     ghost view = { λ p. record {
       current = record {
-        phases = phases_told p.index.rows.items;
-        draft = told Draft p.index.rows.items;
-        secret = told Secret p.index.rows.items;
+        phases = phases_told p.index.rows;
+        draft = told Draft p.index.rows;
+        secret = told Secret p.index.rows;
       };
       saved = if p.is_saved then Some (record {
-        phases = phases_told (base_of p.index.saved p.index.rows.items p.index.kept.items);
-        draft = told Draft (base_of p.index.saved p.index.rows.items p.index.kept.items);
-        secret = told Secret (base_of p.index.saved p.index.rows.items p.index.kept.items);
+        phases = phases_told (base_of p.index.saved p.index.rows p.index.kept.items);
+        draft = told Draft (base_of p.index.saved p.index.rows p.index.kept.items);
+        secret = told Secret (base_of p.index.saved p.index.rows p.index.kept.items);
       }) else None;
     } };
 
-    ghost invariant = { λ p. IsSound p.index.rows.items p.index.kept.items p.index.saved };
+    ghost invariant = { λ p. IsSound p.index.rows p.index.kept.items p.index.saved };
 }
 
 impl<A: Allocator + Copy> Phases<A> {
@@ -146,6 +149,13 @@ impl<A: Allocator> Phases<A> {
         ensures { result ≡ phase_at self.now.current.phases rev }
     {
         phase_at(self.index.rows.as_slice(), rev as usize)
+    }
+
+    /// How many rows are in each phase. It costs the same however many rows there are.
+    pub fn counts(&self) -> PhaseCounts
+        ensures { result ≡ counts_of self.now.current.phases }
+    {
+        self.index.rows.counts()
     }
 
     /// The rows that are roots of draft, in ascending order. It takes memory for these alone, and passes over

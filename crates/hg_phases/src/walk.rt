@@ -10,6 +10,7 @@ ghost use Rattle.hg_phases.specs.code.Tape.{undone, rows_of, TapeFollows};
 ghost use Rattle.hg_phases.specs.code.Walk.{IsLowered, AreAt, AreLowered, AreRestood, AreStanding, IsTouched};
 ghost use Rattle.hg_phases.specs.code.Walk.{IsHigherChild, IsHigherRow, standing_in};
 
+use crate::counts::CountedRows;
 use crate::order::greater;
 use crate::standing::{Standing, phase_at, phase_of};
 use crate::tape::{Replaced, replace, undo};
@@ -28,15 +29,15 @@ impl<A: Allocator> Advance<'_, A> {
     /// Gives a row the target as its phase, where there is a row and it is above the target.
     fn lower(
         &self,
-        rows: &mut Vec<Standing, A>,
+        rows: &mut CountedRows<A>,
         changes: &mut Vec<Replaced, A>,
         row: Option<u32>,
     ) -> Result<(), AllocError>
-        requires { IfSome row (λ r. r < length rows.old.items) }
+        requires { IfSome row (λ r. r < length rows.old) }
         ensures ok { OnOk result
-            (IsLowered self.now.target row rows.old.items (rows_of changes.old.items) rows.new.items
+            (IsLowered self.now.target row rows.old (rows_of changes.old.items) rows.new
             (rows_of changes.new.items)) }
-        ensures follows { TapeFollows rows.old.items changes.old.items rows.new.items changes.new.items }
+        ensures follows { TapeFollows rows.old changes.old.items rows.new changes.new.items }
     {
         let Some(rev) = row else { return Ok(()) };
         if phase_at(rows.as_slice(), rev as usize).number() <= self.target.number() {
@@ -49,17 +50,17 @@ impl<A: Allocator> Advance<'_, A> {
     /// once.
     fn lower_all(
         &self,
-        rows: &mut Vec<Standing, A>,
+        rows: &mut CountedRows<A>,
         changes: &mut Vec<Replaced, A>,
         heads: &[u32],
     ) -> Result<(), AllocError>
-        requires heads { All (λ head. head < length rows.old.items) heads.now }
-        requires rows { length rows.old.items ≤ length self.now.log.now.rows }
-        requires lawful { AreLawful (parents_of self.now.log.now.rows) (phases_told rows.old.items) }
+        requires heads { All (λ head. head < length rows.old) heads.now }
+        requires rows { length rows.old ≤ length self.now.log.now.rows }
+        requires lawful { AreLawful (parents_of self.now.log.now.rows) (phases_told rows.old) }
         requires none { changes.old.items ≡ [] }
         ensures ok { OnOk result (AreLowered (parents_of self.now.log.now.rows) self.now.target heads.now
-            rows.old.items rows.new.items (rows_of changes.new.items)) }
-        ensures follows { TapeFollows rows.old.items changes.old.items rows.new.items changes.new.items }
+            rows.old rows.new (rows_of changes.new.items)) }
+        ensures follows { TapeFollows rows.old changes.old.items rows.new changes.new.items }
     {
         // Brings that the log is lawful.
         let _lawful = self.log.len();
@@ -79,22 +80,22 @@ impl<A: Allocator> Advance<'_, A> {
     /// Gives a row the standing that its phase and those of its parents make.
     fn restand(
         &self,
-        rows: &mut Vec<Standing, A>,
+        rows: &mut CountedRows<A>,
         changes: &mut Vec<Replaced, A>,
         row: u32,
     ) -> Result<(), AllocError>
-        requires row { row < length rows.old.items }
-        requires rows { length rows.old.items ≤ length self.now.log.now.rows }
-        ensures ok { OnOk result (rows.new.items ≡ slice_set rows.old.items row
-            (standing_in (parents_of self.now.log.now.rows) (phases_told rows.old.items) row)) }
-        ensures follows { TapeFollows rows.old.items changes.old.items rows.new.items changes.new.items }
+        requires row { row < length rows.old }
+        requires rows { length rows.old ≤ length self.now.log.now.rows }
+        ensures ok { OnOk result (rows.new ≡ slice_set rows.old row
+            (standing_in (parents_of self.now.log.now.rows) (phases_told rows.old) row)) }
+        ensures follows { TapeFollows rows.old changes.old.items rows.new changes.new.items }
     {
         let (p1, p2) = self.log.parent_revs(row);
         let all = rows.as_slice();
         let phase = phase_at(all, row as usize);
         let above = greater(phase_of(all, p1), phase_of(all, p2));
         let standing = Standing::of(phase, above);
-        if standing.is_same(rows[row as usize]) {
+        if standing.is_same(rows.standing(row as usize)) {
             return Ok(());
         }
         replace(rows, changes, row, standing)
@@ -104,16 +105,16 @@ impl<A: Allocator> Advance<'_, A> {
     /// has it whatever its parents are, so where the target is public, no row is looked at.
     fn restand_lowered(
         &self,
-        rows: &mut Vec<Standing, A>,
+        rows: &mut CountedRows<A>,
         changes: &mut Vec<Replaced, A>,
         row: u32,
     ) -> Result<(), AllocError>
-        requires row { row < length rows.old.items }
-        requires rows { length rows.old.items ≤ length self.now.log.now.rows }
-        requires lowered { phase_at (phases_told rows.old.items) row ≡ self.now.target }
-        ensures ok { OnOk result (rows.new.items ≡ slice_set rows.old.items row
-            (standing_in (parents_of self.now.log.now.rows) (phases_told rows.old.items) row)) }
-        ensures follows { TapeFollows rows.old.items changes.old.items rows.new.items changes.new.items }
+        requires row { row < length rows.old }
+        requires rows { length rows.old ≤ length self.now.log.now.rows }
+        requires lowered { phase_at (phases_told rows.old) row ≡ self.now.target }
+        ensures ok { OnOk result (rows.new ≡ slice_set rows.old row
+            (standing_in (parents_of self.now.log.now.rows) (phases_told rows.old) row)) }
+        ensures follows { TapeFollows rows.old changes.old.items rows.new changes.new.items }
     {
         if matches!(self.target, Phase::Public) {
             return Ok(());
@@ -125,15 +126,15 @@ impl<A: Allocator> Advance<'_, A> {
     /// make.
     fn restand_higher(
         &self,
-        rows: &mut Vec<Standing, A>,
+        rows: &mut CountedRows<A>,
         changes: &mut Vec<Replaced, A>,
         row: u32,
     ) -> Result<(), AllocError>
-        requires { length rows.old.items ≤ length self.now.log.now.rows }
+        requires { length rows.old ≤ length self.now.log.now.rows }
         ensures ok { OnOk result (AreRestood (parents_of self.now.log.now.rows)
-            (λ r. IsHigherRow self.now.target (phases_told rows.old.items) row r)
-            rows.old.items rows.new.items) }
-        ensures follows { TapeFollows rows.old.items changes.old.items rows.new.items changes.new.items }
+            (λ r. IsHigherRow self.now.target (phases_told rows.old) row r)
+            rows.old rows.new) }
+        ensures follows { TapeFollows rows.old changes.old.items rows.new changes.new.items }
     {
         if row as usize >= rows.len() {
             return Ok(());
@@ -148,17 +149,17 @@ impl<A: Allocator> Advance<'_, A> {
     /// their parents make.
     fn restand_children(
         &self,
-        rows: &mut Vec<Standing, A>,
+        rows: &mut CountedRows<A>,
         changes: &mut Vec<Replaced, A>,
         row: u32,
     ) -> Result<(), AllocError>
-        requires row { row < length rows.old.items }
-        requires rows { length rows.old.items ≤ length self.now.log.now.rows }
+        requires row { row < length rows.old }
+        requires rows { length rows.old ≤ length self.now.log.now.rows }
         ensures ok { OnOk result (AreRestood (parents_of self.now.log.now.rows)
             (λ r. IsHigherChild (parents_of self.now.log.now.rows) self.now.target
-            (phases_told rows.old.items) row r)
-            rows.old.items rows.new.items) }
-        ensures follows { TapeFollows rows.old.items changes.old.items rows.new.items changes.new.items }
+            (phases_told rows.old) row r)
+            rows.old rows.new) }
+        ensures follows { TapeFollows rows.old changes.old.items rows.new changes.new.items }
     {
         let mut next = self.log.last_child(row);
         'children: while let Some(child) = next {
@@ -174,19 +175,19 @@ impl<A: Allocator> Advance<'_, A> {
     /// A child that is not above the target was lowered too, and is one of these rows itself.
     fn restand_all(
         &self,
-        rows: &mut Vec<Standing, A>,
+        rows: &mut CountedRows<A>,
         changes: &mut Vec<Replaced, A>,
         lowered: usize,
     ) -> Result<(), AllocError>
         requires lowered { lowered ≤ length changes.old.items }
-        requires within { All (λ row. row < length rows.old.items) (rows_of changes.old.items) }
-        requires rows { length rows.old.items ≤ length self.now.log.now.rows }
-        requires phases { AreAt self.now.target (phases_told rows.old.items) (rows_of changes.old.items) }
+        requires within { All (λ row. row < length rows.old) (rows_of changes.old.items) }
+        requires rows { length rows.old ≤ length self.now.log.now.rows }
+        requires phases { AreAt self.now.target (phases_told rows.old) (rows_of changes.old.items) }
         ensures ok { OnOk result (AreRestood (parents_of self.now.log.now.rows)
-            (λ r. IsTouched (parents_of self.now.log.now.rows) self.now.target (phases_told rows.old.items)
+            (λ r. IsTouched (parents_of self.now.log.now.rows) self.now.target (phases_told rows.old)
             (rows_of changes.old.items) lowered r)
-            rows.old.items rows.new.items) }
-        ensures follows { TapeFollows rows.old.items changes.old.items rows.new.items changes.new.items }
+            rows.old rows.new) }
+        ensures follows { TapeFollows rows.old changes.old.items rows.new changes.new.items }
     {
         for place in 0..lowered {
             let row = changes[place].row;
@@ -199,20 +200,20 @@ impl<A: Allocator> Advance<'_, A> {
     /// Makes of rows what an advance makes of them, unless memory is refused on the way.
     fn change_rows(
         &self,
-        rows: &mut Vec<Standing, A>,
+        rows: &mut CountedRows<A>,
         changes: &mut Vec<Replaced, A>,
         heads: &[u32],
     ) -> Result<(), AllocError>
-        requires heads { All (λ head. head < length rows.old.items) heads.now }
-        requires rows { length rows.old.items ≤ length self.now.log.now.rows }
-        requires lawful { AreLawful (parents_of self.now.log.now.rows) (phases_told rows.old.items) }
-        requires standing { AreStanding (parents_of self.now.log.now.rows) rows.old.items }
+        requires heads { All (λ head. head < length rows.old) heads.now }
+        requires rows { length rows.old ≤ length self.now.log.now.rows }
+        requires lawful { AreLawful (parents_of self.now.log.now.rows) (phases_told rows.old) }
+        requires standing { AreStanding (parents_of self.now.log.now.rows) rows.old }
         requires none { changes.old.items ≡ [] }
-        ensures phases { OnOk result (phases_told rows.new.items
+        ensures phases { OnOk result (phases_told rows.new
             ≡ advanced (parents_of self.now.log.now.rows) self.now.target heads.now
-            (phases_told rows.old.items)) }
-        ensures standing { OnOk result (AreStanding (parents_of self.now.log.now.rows) rows.new.items) }
-        ensures follows { TapeFollows rows.old.items changes.old.items rows.new.items changes.new.items }
+            (phases_told rows.old)) }
+        ensures standing { OnOk result (AreStanding (parents_of self.now.log.now.rows) rows.new) }
+        ensures follows { TapeFollows rows.old changes.old.items rows.new changes.new.items }
     {
         // Brings that the log is lawful.
         let _lawful = self.log.len();
@@ -227,21 +228,21 @@ impl<A: Allocator> Advance<'_, A> {
 /// room. Where memory is refused, the rows are unchanged.
 pub fn advance_rows<A: Allocator>(
     log: &Changelog<A>,
-    rows: &mut Vec<Standing, A>,
+    rows: &mut CountedRows<A>,
     room: Vec<Replaced, A>,
     target: Phase,
     heads: &[u32],
 ) -> Result<Vec<Replaced, A>, AllocError>
-    requires heads { All (λ head. head < length rows.old.items) heads.now }
-    requires rows { length rows.old.items ≤ length log.now.rows }
-    requires lawful { AreLawful (parents_of log.now.rows) (phases_told rows.old.items) }
-    requires standing { AreStanding (parents_of log.now.rows) rows.old.items }
+    requires heads { All (λ head. head < length rows.old) heads.now }
+    requires rows { length rows.old ≤ length log.now.rows }
+    requires lawful { AreLawful (parents_of log.now.rows) (phases_told rows.old) }
+    requires standing { AreStanding (parents_of log.now.rows) rows.old }
     requires none { room.items ≡ [] }
-    ensures phases { OnOk result (phases_told rows.new.items
-        ≡ advanced (parents_of log.now.rows) target heads.now (phases_told rows.old.items)) }
-    ensures standing { OnOk result (AreStanding (parents_of log.now.rows) rows.new.items) }
-    ensures changes { IfOk result (λ changes. TapeFollows rows.old.items [] rows.new.items changes.items) }
-    ensures err { OnErr result (rows.new.items ≡ rows.old.items) }
+    ensures phases { OnOk result (phases_told rows.new
+        ≡ advanced (parents_of log.now.rows) target heads.now (phases_told rows.old)) }
+    ensures standing { OnOk result (AreStanding (parents_of log.now.rows) rows.new) }
+    ensures changes { IfOk result (λ changes. TapeFollows rows.old [] rows.new changes.items) }
+    ensures err { OnErr result (rows.new ≡ rows.old) }
 {
     let mut changes = room;
     changes.reserve(heads.len())?;

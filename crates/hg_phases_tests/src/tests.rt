@@ -131,9 +131,22 @@ fn savepoint<A: Allocator>(phases: &mut Phases<A>, log: &Changelog<A>) -> Savepo
     phases.savepoint()
 }
 
-/// Whether these are the phases of all rows that have one.
+/// How many of these phases are that one.
+fn count_of(phases: &[Phase], wanted: Phase) -> u64 {
+    phases.iter().filter(|phase| **phase == wanted).count() as u64
+}
+
+/// Whether so many rows are counted in each phase.
+fn are_counted<A: Allocator>(phases: &Phases<A>, wanted: &[Phase]) -> bool {
+    let counts = phases.counts();
+    (counts.public == count_of(wanted, P))
+        & (counts.draft == count_of(wanted, D))
+        & (counts.secret == count_of(wanted, S))
+}
+
+/// Whether these are the phases of all rows that have one, and counted so.
 fn are<A: Allocator>(phases: &Phases<A>, wanted: &[Phase]) -> bool {
-    if phases.len() != wanted.len() {
+    if phases.len() != wanted.len() || !are_counted(phases, wanted) {
         return false;
     }
     for row in 0..wanted.len() {

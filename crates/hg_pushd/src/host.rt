@@ -5,7 +5,7 @@ ghost use Rattle.hg_recovery.specs.Opening.{IsOpened};
 
 use hg_commands::{Hosting, device_status, tell};
 use hg_host::{Ended, HookAddress, HookTerms, HostTerms, HostingRuntime, Over, serve_store};
-use hg_recovery::{OpeningFault, Recovered, recover_existing, recover_store};
+use hg_recovery::{IfMissing, OpeningFault, Recovered, recover_store};
 use hg_store::{Device, HostFile, StoreFile, StoreFolder};
 use hg_store_tools::TornNote;
 use std::fs::{File, Files};
@@ -41,10 +41,18 @@ fn open<R: Files<File = File> + AllocGlobal>(
         ⟦<StoreFile<HostFile> as Device>⟧.may_leave recovered) }
 {
     let mut folder = StoreFolder::new(rt, hosting.store);
-    if hosting.existing {
-        return recover_existing(rt.alloc(), state, &mut folder, hosting.publishing);
-    }
-    recover_store(rt.alloc(), state, &mut folder, hosting.publishing)
+    let if_missing = if hosting.existing {
+        IfMissing::Refuse
+    } else {
+        IfMissing::Create
+    };
+    recover_store(
+        rt.alloc(),
+        state,
+        &mut folder,
+        hosting.publishing,
+        if_missing,
+    )
 }
 
 /// Binds the address, and serves what was recovered. Where the numbers of pushes come to their end, the store is
@@ -143,6 +151,7 @@ fn terms_of<'a>(hosting: &Hosting<'a>) -> HostTerms<'a> {
         memory: usize::try_from(hosting.memory).unwrap_or(usize::MAX),
         path: hosting.path,
         name: hosting.name,
+        user: hosting.user_header,
         also: hosting.also,
         pull: hosting.pull,
         hook: hook_of(hosting),

@@ -3,7 +3,8 @@
 //! `hg_pushd one` reads a bundle from standard input, runs it and writes the reply bundle to standard output.
 //! `hg_pushd replay` runs the bundles of files, one after the other, and writes a report of what the
 //! repository then holds. `hg_pushd serve` accepts connections and serves each on a thread. `hg_pushd report`,
-//! `hg_pushd log` and `hg_pushd cut` read a store and end it. All of these are functions of `hg_commands`.
+//! `hg_pushd log`, `hg_pushd cut` and `hg_pushd upgrade` read a store, end it, and write it anew. All of these are
+//! functions of `hg_commands`.
 //! `hg_pushd host` answers HTTP, and keeps each push in a store: [`host`] begins it, over `hg_host`. The command
 //! line is read by `hg_commands`.
 #![tactic(auto)]
@@ -12,9 +13,10 @@ mod host;
 
 use hg_commands::{
     Job, asked_for, cut, device_status, log, log_to, one, replay, report, serve, take_closed, tell,
-    words,
+    upgrade, words,
 };
 use hg_host::HostingRuntime;
+use hg_store_tools::BundleForm;
 use std::fs::{File, Files};
 use std::hash::RandomState;
 use std::io;
@@ -43,8 +45,14 @@ where
         Job::Serve(serving) => printed(rt, serve(rt, state, serving)),
         Job::Host(hosting) => host::host(rt, state, hosting),
         Job::Report { store } => write_report(rt, state, store),
-        Job::Log { store, from, to } => write_log(rt, store, *from, *to),
+        Job::Log {
+            store,
+            from,
+            form,
+            to,
+        } => write_log(rt, store, *from, *form, *to),
         Job::Cut { store, at } => cut(rt, rt.alloc(), store, *at),
+        Job::Upgrade { store } => upgrade(rt, rt.alloc(), store),
     }
 }
 
@@ -56,14 +64,14 @@ where
     report(rt, rt.alloc(), state, store, &mut io::writer(rt))
 }
 
-/// Writes the pushes of a store from a place on, to a folder or to standard output.
-fn write_log<R>(rt: &R, store: &str, from: usize, to: Option<&str>) -> u8
+/// Writes the pushes of a store from a place on in that form, to a folder or to standard output.
+fn write_log<R>(rt: &R, store: &str, from: usize, form: BundleForm, to: Option<&str>) -> u8
 where
     R: Files<File = File> + Print + Eprint + AllocGlobal,
 {
     match to {
-        Some(folder) => log_to(rt, rt.alloc(), store, from, folder),
-        None => log(rt, rt.alloc(), store, from, &mut io::writer(rt)),
+        Some(folder) => log_to(rt, rt.alloc(), store, from, form, folder),
+        None => log(rt, rt.alloc(), store, from, form, &mut io::writer(rt)),
     }
 }
 

@@ -1,5 +1,5 @@
 -- What is made of a view is that of the repository that the view is of.
-use Rattle.std.proofs.Common.{◌≡◌, ◌≢◌, ◌<◌, ℕ, List, length, get_or, true, refl, ap, Option, None, Some, Result, Ok, Err, sym, subst, ◌∙◌}
+use Rattle.std.proofs.Common.{◌≡◌, ◌<◌, ℕ, List, [], ◌∷◌, length, get_or, true, ap, Option, None, Some, Result, Ok, Err, sym, subst, ◌∙◌}
 use Rattle.std.specs.Prelude.{IfOk}
 use Rattle.std.specs.List.{AllZip, list_any}
 use Rattle.std.proofs.lemmas.List.Folds.{list_any_at}
@@ -7,16 +7,16 @@ use Rattle.hg_parts.specs.Repository.{Repository}
 use Rattle.hg_wireproto.specs.declared.batch.BatchCommand.{BatchCommand}
 use Rattle.hg_wireproto.specs.BranchMap.{IsBranchMap}
 use Rattle.hg_wireproto.specs.Heads.{IsHeadsText}
+use Rattle.hg_wireproto.specs.Lookup.{begun_text}
 use Rattle.hg_wireproto.specs.Viewed.{Viewed}
 use Rattle.hg_http.specs.declared.command.Read.{Read}
-use Rattle.hg_http.specs.declared.command.Read.TheVariants.{Heads, Known, ListKeys, Lookup, BranchMap}
 use Rattle.hg_http.specs.Commands.{read_of, subject_of}
 use Rattle.hg_http.specs.Requests.{argument_in}
 use Rattle.hg_queries.specs.Copied.{is_branches, is_heads, HasTextFor}
-use Rattle.hg_queries.specs.Copied.{is_long, IsCommandPiece, IsCopyOf, IsJoinedOf, IsOfPiece, IsPieceIf}
+use Rattle.hg_queries.specs.Copied.{IsCommandPiece, IsCopyOf, IsJoinedOf, IsOfPiece, IsOnePiece, IsPieceIf, IsPieceOf}
 use Rattle.hg_queries.specs.Texts.{IsBatchText, IsCommandText, IsTextIf, IsTextOf}
 use Rattle.hg_queries.specs.declared.long.Piece.{Piece}
-use Rattle.hg_queries.specs.declared.long.Piece.TheVariants.{Short, AllHeads, Branches}
+use Rattle.hg_queries.specs.declared.long.Piece.TheVariants.{Short, AllHeads, Branches, Begun}
 use Rattle.hg_queries.proofs.Lists.{AllZip_through}
 
 -- the heads of a view are those of the repository
@@ -32,15 +32,26 @@ branches_of repo view text copied is =
     (subst (λ ms. IsBranchMap view.rows ms repo.phases text) copied.markers
     (subst (λ phases. IsBranchMap view.rows view.markers phases text) copied.phases is))
 
--- of the long answers that is no heads is the branches
-pub long_told : {A : Type 0} (repo : Repository A) (view : Viewed A) (read : Read) (about : List ℕ)
-    (text : List ℕ) → IsCopyOf repo view → is_long read ≡ true → read ≢ Heads
-    → IsBranchMap view.rows view.markers view.phases text → IsTextOf repo read about text
-long_told repo view Heads about text copied long other is = absurd (other refl)
-long_told repo view Known about text copied long other is = absurd (let e = long in cc)
-long_told repo view ListKeys about text copied long other is = absurd (let e = long in cc)
-long_told repo view Lookup about text copied long other is = absurd (let e = long in cc)
-long_told repo view BranchMap about text copied long other is = branches_of repo view text copied is
+-- the text of a piece is what is answered
+pub told : {A : Type 0} (repo : Repository A) (view : Viewed A) → IsCopyOf repo view → (read : Read)
+    (about : List ℕ) (piece : Piece A) (text : List ℕ) → IsPieceOf repo read about piece
+    → IsOfPiece view piece text → IsTextOf repo read about text
+told repo view copied read about (Short made) text is so = subst (IsTextOf repo read about) (sym so) is
+told repo view copied read about AllHeads text is so =
+    subst (λ r. IsTextOf repo r about text) (sym is) (heads_of repo view text copied so)
+told repo view copied read about Branches text is so =
+    subst (λ r. IsTextOf repo r about text) (sym is) (branches_of repo view text copied so)
+told repo view copied read about (Begun key) text is so =
+    subst (λ r. IsTextOf repo r about text) (sym is.0)
+    (so ∙ ap (λ rows. begun_text rows key) copied.rows ∙ ap (begun_text repo.rows) is.1 ∙ sym is.2)
+
+-- one piece has the text of its command
+pub one_told : {A : Type 0} (repo : Repository A) (view : Viewed A) (read : Read) (about : List ℕ) (piece : Piece A)
+    (pieces : List (Piece A)) (text : List ℕ) → IsCopyOf repo view → IsOnePiece repo read about pieces
+    → pieces ≡ piece ∷ [] → IsOfPiece view piece text → IsTextOf repo read about text
+one_told repo view read about piece pieces text copied one is so =
+    let same : one.piece ≡ piece = (let a = one.alone in cc) in
+    told repo view copied read about piece text (subst (IsPieceOf repo read about) same one.is_piece) so
 
 -- the text of a piece is that of its command
 piece_told : {A : Type 0} (repo : Repository A) (view : Viewed A) → IsCopyOf repo view
@@ -53,14 +64,9 @@ piece_told {A} repo view copied command piece text = by (read_of command.name) p
     by None (Short made) is so = so ∙ is
     by None AllHeads is so = absurd is
     by None Branches is so = absurd is
-    by (Some read) (Short made) is so =
-        subst (IsTextOf repo read (argument_in command.arguments (subject_of read))) (sym so) is
-    by (Some read) AllHeads is so =
-        subst (λ r. IsTextOf repo r (argument_in command.arguments (subject_of read)) text) (sym is)
-        (heads_of repo view text copied so)
-    by (Some read) Branches is so =
-        subst (λ r. IsTextOf repo r (argument_in command.arguments (subject_of read)) text) (sym is)
-        (branches_of repo view text copied so)
+    by None (Begun key) is so = absurd is
+    by (Some read) piece is so =
+        told repo view copied read (argument_in command.arguments (subject_of read)) piece text is so
 
 pub batch_told : {A : Type 0} (repo : Repository A) (view : Viewed A) (commands : List (BatchCommand A))
     (pieces : List (Piece A)) (text : List ℕ) → IsCopyOf repo view → AllZip (IsCommandPiece repo) commands pieces
@@ -82,6 +88,7 @@ has_text view heads branches pieces i AllHeads first second low is =
     first (list_any_at is_heads pieces i AllHeads low (ap is_heads (sym is)))
 has_text view heads branches pieces i Branches first second low is =
     second (list_any_at is_branches pieces i Branches low (ap is_branches (sym is)))
+has_text view heads branches pieces i (Begun key) first second low is = tt
 
 -- what holds of a value holds of it in other words
 pub if_ok : {X E : Type 0} (r : Result X E) (P Q : X → Type 0) → ((x : X) → P x → Q x) → IfOk r P → IfOk r Q

@@ -41,9 +41,25 @@ pub struct WatchedPush<'a, A: Allocator = Global> {
     pub bundle: &'a [u8],
 }
 
+/// Why a push was not let through.
+#[derive(Clone, Copy, Debug, PartialEq, Eq)]
+pub enum Denial {
+    /// The policy refused it.
+    Refused,
+    /// Nobody said that it may run.
+    NoAnswer,
+    /// Memory was refused for the question or its answer.
+    NoMemory,
+}
+
 /// Watches one connection: it hears of the places that a push reaches under way, by which times can be taken
 /// (after `Marked` it waits for the lock, after `Answered` for the device), and of each push that ended, before
-/// its answer is sent.
+/// its answer is sent, or was not let through and so not opened.
 pub trait Watch<A: Allocator>: Probe {
+    /// What time it is, in milliseconds since 1970; 0 where there is no clock.
+    fn time(&self) -> u64;
+
     fn pushed(&mut self, pushed: &WatchedPush<'_, A>);
+
+    fn denied(&mut self, why: Denial, bundle: &[u8]);
 }

@@ -14,7 +14,7 @@ use std::alloc::Allocator;
 /// How many commands a batch has at most.
 const MOST_COMMANDS: usize = 16;
 
-/// How many of them may look up a key, which can be a pass over all changesets.
+/// How many of them may look up a key.
 const MOST_LOOKUPS: usize = 4;
 
 /// Why a batch is refused, if it is: a command of it does not only read, or there are too many.

@@ -1,4 +1,5 @@
-//! What has a word for each head: it is made from a view of the changesets, when the server's lock is given back.
+//! What has a word for each head, or wants the ids in their order: it is made from a view of the changesets, when the
+//! server's lock is given back.
 
 ghost use Rattle.std.specs.Prelude.{◌≡◌, true, IfOk};
 ghost use Rattle.std.specs.List.{AllZip, list_any};
@@ -12,25 +13,30 @@ use hg_http::Read;
 use hg_parts::Store;
 use hg_repo::Repo;
 use hg_types::{NoMemory, Seq, Settings};
-use hg_wireproto::{BranchView, Seen, Since, branchmap_text, heads_text, joined_answers};
+use hg_wireproto::{
+    BranchView, Seen, Since, begun_text, branchmap_text, heads_text, is_beginning, joined_answers,
+};
 use std::alloc::{Allocator, Global};
 
-/// What a command is answered: a text, in the form of `hg_wireproto`, or what is made of a view, the heads or the branches
-/// with their heads.
+/// What a command is answered: a text, in the form of `hg_wireproto`, or what is made of a view, the heads, the branches
+/// with their heads, or what changeset a key begins, which is no bookmark.
 #[derive(Drop)]
 pub enum Piece<A: Allocator = Global> {
     Short(Seq<u8, A>),
     AllHeads,
     Branches,
+    Begun(Seq<u8, A>),
 }
 
-/// Whether the command's answer has a word for each head: those of `heads` and `branchmap` have.
-pub fn is_long(read: Read) -> bool
-    ensures { result ≡ goes_long read }
+/// Whether the command's answer has a word for each head, as those of `heads` and `branchmap` have, or takes long to
+/// find, as that to `lookup` of a beginning.
+pub fn is_long(read: Read, about: &[u8]) -> bool
+    ensures { result ≡ goes_long read about.now }
 {
     match read {
         Read::Heads | Read::BranchMap => true,
-        Read::Known | Read::ListKeys | Read::Lookup => false,
+        Read::Lookup => is_beginning(about),
+        Read::Known | Read::ListKeys => false,
     }
 }
 
@@ -91,22 +97,6 @@ fn heads_for<A: Allocator + Copy>(
     Ok(Seq::new(alloc))
 }
 
-/// Whether a piece asks for the heads.
-fn ask_heads<A: Allocator>(pieces: &[Piece<A>]) -> bool
-    ensures { result ≡ list_any is_heads pieces.now }
-{
-    pieces.iter().any(|piece| asks_heads(piece))
-}
-
-fn asks_heads<A: Allocator>(piece: &Piece<A>) -> bool
-    ensures { result ≡ is_heads piece.now }
-{
-    match piece {
-        Piece::AllHeads => true,
-        Piece::Short(_) | Piece::Branches => false,
-    }
-}
-
 /// The text of the branches with their heads, where a piece asks for it.
 fn branches_for<A: Allocator + Copy>(
     alloc: A,
@@ -122,6 +112,22 @@ fn branches_for<A: Allocator + Copy>(
     Ok(Seq::new(alloc))
 }
 
+/// Whether a piece asks for the heads.
+fn ask_heads<A: Allocator>(pieces: &[Piece<A>]) -> bool
+    ensures { result ≡ list_any is_heads pieces.now }
+{
+    pieces.iter().any(|piece| asks_heads(piece))
+}
+
+fn asks_heads<A: Allocator>(piece: &Piece<A>) -> bool
+    ensures { result ≡ is_heads piece.now }
+{
+    match piece {
+        Piece::AllHeads => true,
+        Piece::Short(_) | Piece::Branches | Piece::Begun(_) => false,
+    }
+}
+
 /// Whether a piece asks for the branches.
 fn ask_branches<A: Allocator>(pieces: &[Piece<A>]) -> bool
     ensures { result ≡ list_any is_branches pieces.now }
@@ -134,11 +140,11 @@ fn asks_branches<A: Allocator>(piece: &Piece<A>) -> bool
 {
     match piece {
         Piece::Branches => true,
-        Piece::Short(_) | Piece::AllHeads => false,
+        Piece::Short(_) | Piece::AllHeads | Piece::Begun(_) => false,
     }
 }
 
-/// The text of a piece, of the two that are made of the view.
+/// The text of a piece, where those of the heads and of the branches are made.
 fn text_of<A: Allocator + Copy>(
     alloc: A,
     view: &BranchView<A>,
@@ -150,9 +156,25 @@ fn text_of<A: Allocator + Copy>(
     ensures { IfOk result (λ text. IsOfPiece view.now piece.now text) }
 {
     match piece {
-        Piece::Short(text) => Seq::copy_of(alloc, text.as_slice()),
         Piece::AllHeads => Seq::copy_of(alloc, heads),
         Piece::Branches => Seq::copy_of(alloc, branches),
+        Piece::Short(_) | Piece::Begun(_) => piece_text(alloc, view, piece),
+    }
+}
+
+/// The text of one piece.
+pub fn piece_text<A: Allocator + Copy>(
+    alloc: A,
+    view: &BranchView<A>,
+    piece: &Piece<A>,
+) -> Result<Seq<u8, A>, NoMemory>
+    ensures { IfOk result (λ text. IsOfPiece view.now piece.now text) }
+{
+    match piece {
+        Piece::Short(text) => Seq::copy_of(alloc, text.as_slice()),
+        Piece::AllHeads => heads_text(alloc, view),
+        Piece::Branches => branchmap_text(alloc, view),
+        Piece::Begun(key) => begun_text(alloc, view, key.as_slice()),
     }
 }
 

@@ -1,24 +1,24 @@
 //! Commands that only read, each as a question to the repository.
 
-ghost use Rattle.std.specs.Prelude.{◌≡◌, true, List, IfOk};
+ghost use Rattle.std.specs.Prelude.{◌≡◌, ℕ, List, IfOk, IsTrue};
 ghost use Rattle.std.specs.List.{AllZip};
 ghost use Rattle.hg_parts.specs.Store.{repository_of, IsSound};
 ghost use Rattle.hg_parts.specs.Repository.{Repository};
 ghost use Rattle.hg_queries.specs.Copied.{asks_long as asks_for_long, have_long as some_are_long};
-ghost use Rattle.hg_queries.specs.Copied.{is_long as goes_long};
 ghost use Rattle.hg_wireproto.specs.declared.batch.BatchCommand.{BatchCommand as AnyCommand};
-ghost use Rattle.hg_queries.specs.Copied.{IsCommandPiece, IsCopyOf, IsPieceOf};
+ghost use Rattle.hg_wireproto.specs.Lookup.{begun_text, lookup_text};
+ghost use Rattle.hg_queries.specs.Copied.{ArePieces, IsCommandPiece, IsCopyOf, IsOnePiece, IsPieceOf};
 ghost use Rattle.hg_queries.specs.Texts.{IsBatchText, IsCommandText, IsTextOf};
 
-use crate::long::{Piece, came_to, is_long, joined_pieces};
+use crate::long::{Piece, came_to, is_long, joined_pieces, piece_text};
 use hg_http::{Read, argument, read_of, subject_of};
 use hg_parts::Store;
 use hg_repo::Repo;
 use hg_serve::Question;
 use hg_types::{NoMemory, Seq, Settings};
 use hg_wireproto::{
-    BatchCommand, BranchView, Seen, Since, branchmap_text, heads_text, joined_answers, known_text,
-    listkeys_text, lookup_text,
+    BatchCommand, BranchView, Seen, Since, branchmap_text, heads_text, is_left_to_ids,
+    joined_answers, known_text, listkeys_text, lookup_text,
 };
 use std::alloc::{Allocator, Global};
 
@@ -60,51 +60,55 @@ impl<A: Allocator + Copy> Question<A, Result<Seq<u8, A>, NoMemory>> for Batch<'_
     }
 }
 
-/// What a look brings of the commands of a batch: a piece of each, and what came to the view of which the other texts
-/// are made.
+/// What is asked by one look: one command that reads, and what it asks about, or the commands of a batch.
+#[derive(Clone, Copy)]
+pub enum Asked<'a, A: Allocator = Global> {
+    Command(Read, &'a [u8]),
+    Commands(&'a [BatchCommand<A>]),
+}
+
+/// What a look brings of what is asked: a piece of each command, and what came to the view of which the other texts are
+/// made.
 #[derive(Drop)]
 pub struct Brought<A: Allocator = Global> {
     pub pieces: Seq<Piece<A>, A>,
     pub came: Since<A>,
 }
 
-/// Several commands, of which some have long answers. These are made from a view, which was of what is said here.
+/// What has long answers. These are made from a view, which was of what is said here.
 #[derive(Drop)]
-pub struct LongBatch<'a, 'b, A: Allocator> {
+pub struct LongQuestion<'a, 'b, A: Allocator> {
     pub alloc: A,
-    pub commands: &'a [BatchCommand<A>],
+    pub asked: Asked<'a, A>,
     pub seen: Seen<'b>,
 }
 
-impl<A: Allocator + Copy> Question<A, Result<Brought<A>, NoMemory>> for LongBatch<'_, '_, A> {
+impl<A: Allocator + Copy> Question<A, Result<Brought<A>, NoMemory>> for LongQuestion<'_, '_, A> {
     ghost use Rattle.std.specs.Prelude.{IfOk};
     ghost use Rattle.hg_queries.specs.Copied.{IsBrought};
 
     ghost tells = { λ q repo told. IfOk told (λ brought.
-        IsBrought repo q.seen.changesets q.seen.markers q.seen.obsolete.now q.commands.now brought) };
+        IsBrought repo q.seen.changesets q.seen.markers q.seen.obsolete.now q.asked brought) };
 
     fn ask(&self, repo: &Repo<A>) -> Result<Brought<A>, NoMemory> {
-        let pieces = pieces_of(self.alloc, repo, self.commands)?;
+        let pieces = pieces_of(self.alloc, repo, self.asked)?;
         let came = came_to(self.alloc, self.seen, repo)?;
         Ok(Brought { pieces, came })
     }
 }
 
-/// The text of a command whose answer is long, of a view.
+/// The text of one command, of its piece and of a view.
 pub fn long_text<A: Allocator + Copy>(
     alloc: A,
     view: &BranchView<A>,
-    read: Read,
-    _about: &[u8],
+    pieces: &[Piece<A>],
 ) -> Result<Seq<u8, A>, NoMemory>
-    requires { goes_long read ≡ true }
-    ensures { (repo : Repository A) → IsCopyOf repo view.now
-        → IfOk result (λ text. IsTextOf repo read _about.now text) }
+    ensures { (repo : Repository A) (read : Read) (about : List ℕ) → IsCopyOf repo view.now
+        → IsOnePiece repo read about pieces.now → IfOk result (λ text. IsTextOf repo read about text) }
 {
-    match read {
-        Read::Heads => heads_text(alloc, view),
-        // of the others `branchmap` alone has a long answer
-        _ => branchmap_text(alloc, view),
+    match pieces {
+        [piece] => piece_text(alloc, view, piece),
+        _ => Ok(Seq::new(alloc)),
     }
 }
 
@@ -121,8 +125,36 @@ pub fn batch_text<A: Allocator + Copy>(
     joined_pieces(alloc, view, pieces)
 }
 
-/// The pieces of the commands, in order.
+/// The pieces of what is asked.
 fn pieces_of<A: Allocator + Copy>(
+    alloc: A,
+    repo: &Repo<A>,
+    asked: Asked<'_, A>,
+) -> Result<Seq<Piece<A>, A>, NoMemory>
+    ensures { IfOk result (λ pieces. ArePieces repo.now asked.entry pieces) }
+{
+    match asked {
+        Asked::Command(read, about) => one_piece(alloc, repo, read, about),
+        Asked::Commands(commands) => each_piece(alloc, repo, commands),
+    }
+}
+
+/// The piece of one command, alone.
+fn one_piece<A: Allocator + Copy>(
+    alloc: A,
+    repo: &Repo<A>,
+    read: Read,
+    about: &[u8],
+) -> Result<Seq<Piece<A>, A>, NoMemory>
+    ensures { IfOk result (λ pieces. IsOnePiece repo.now read about.now pieces) }
+{
+    let mut pieces = Seq::new(alloc);
+    pieces.push(piece_of(alloc, repo, read, about)?)?;
+    Ok(pieces)
+}
+
+/// The pieces of the commands, in order.
+fn each_piece<A: Allocator + Copy>(
     alloc: A,
     repo: &Repo<A>,
     commands: &[BatchCommand<A>],
@@ -165,10 +197,27 @@ fn piece_of<A: Allocator + Copy>(
     match read {
         Read::Heads => Ok(Piece::AllHeads),
         Read::BranchMap => Ok(Piece::Branches),
+        Read::Lookup if leaves_to_ids(repo, about) => {
+            Ok(Piece::Begun(Seq::copy_of(alloc, about)?))
+        }
         Read::Known | Read::ListKeys | Read::Lookup => {
             Ok(Piece::Short(text_of(alloc, repo, read, about)?))
         }
     }
+}
+
+/// Whether the ids alone say what a key names.
+fn leaves_to_ids<A: Allocator>(repo: &Repo<A>, key: &[u8]) -> bool
+    ensures { IsTrue result → lookup_text repo.now.rows repo.now.bookmarks key.now ≡ begun_text repo.now.rows key.now }
+{
+    left_in(repo.settings(), repo.store(), key)
+}
+
+fn left_in<A: Allocator>(_settings: &Settings, store: &Store<A>, key: &[u8]) -> bool
+    ensures { let repo = repository_of _settings.now store.now in
+        IsTrue result → lookup_text repo.rows repo.bookmarks key.now ≡ begun_text repo.rows key.now }
+{
+    is_left_to_ids(&store.bookmarks, key)
 }
 
 /// Whether one of a batch's commands has a long answer.
@@ -182,7 +231,10 @@ fn asks_long<A: Allocator>(command: &BatchCommand<A>) -> bool
     ensures { result ≡ asks_for_long command.now }
 {
     match read_of(command.name.as_slice()) {
-        Some(read) => is_long(read),
+        Some(read) => is_long(
+            read,
+            argument(command.arguments.as_slice(), subject_of(read)),
+        ),
         None => false,
     }
 }

@@ -1,17 +1,16 @@
 //! A view that is kept for all who read.
 
-ghost use Rattle.std.specs.Prelude.{◌≡◌, [], true, length, IfOk};
-ghost use Rattle.std.specs.List.{AllZip};
+ghost use Rattle.std.specs.Prelude.{◌≡◌, [], length, IfOk};
 ghost use Rattle.hg_push.specs.Run.{RepositoryOf};
 ghost use Rattle.hg_serve.specs.Answers.{Looks};
 ghost use Rattle.hg_serve.specs.Histories.{serial_run};
 ghost use Rattle.hg_queries.specs.Growth.{IsGrown};
-ghost use Rattle.hg_queries.specs.Copied.{is_long as goes_long, IsCommandPiece, IsCopyOf};
+ghost use Rattle.hg_queries.specs.Copied.{ArePieces, IsCopyOf};
 ghost use Rattle.hg_queries.specs.Texts.{IsBatchText, IsTextOf};
 
 use crate::growth::repositories_grow;
 use crate::long::Piece;
-use crate::reading::{Brought, LongBatch, batch_text, long_text};
+use crate::reading::{Asked, Brought, LongQuestion, batch_text, long_text};
 use hg_http::Read;
 use hg_serve::{Client, Naming, Question, Server};
 use hg_types::{NoMemory, Seq};
@@ -59,7 +58,7 @@ impl<J: Naming<A>, A: Allocator + Copy> ViewCache<J, A> {
     }
 
     /// Answers a command whose answer is long, by one look, and says how many pushes were done then. The
-    /// server's lock is held for what came since the look before, and for nothing else.
+    /// server's lock is held for what came since the look before and for what needs no view, and for nothing else.
     pub fn text<R: Wait>(
         &mut self,
         rt: &R,
@@ -69,15 +68,14 @@ impl<J: Naming<A>, A: Allocator + Copy> ViewCache<J, A> {
         read: Read,
         about: &[u8],
     ) -> (Result<Seq<u8, A>, NoMemory>, usize)
-        requires { goes_long read ≡ true }
         ensures looked { (repo : RepositoryOf A) × Looks J.first client.old client.new repo
             × IfOk result.0 (λ text. IsTextOf repo read about.now text) }
         ensures rests { result.1 ≡ length (serial_run J.first client.new).journal }
     {
-        let none = Vec::new(alloc);
-        let (brought, rests) = self.bring_up(rt, server, alloc, client, none.as_slice());
+        let asked = Asked::Command(read, about);
+        let (brought, rests) = self.bring_up(rt, server, alloc, client, asked);
         match brought {
-            Ok(_) => (long_text(alloc, &self.held, read, about), rests),
+            Ok(pieces) => (long_text(alloc, &self.held, pieces.as_slice()), rests),
             Err(fault) => (Err(fault), rests),
         }
     }
@@ -95,7 +93,8 @@ impl<J: Naming<A>, A: Allocator + Copy> ViewCache<J, A> {
             × IfOk result.0 (λ text. IsBatchText repo commands.now text) }
         ensures rests { result.1 ≡ length (serial_run J.first client.new).journal }
     {
-        let (brought, rests) = self.bring_up(rt, server, alloc, client, commands);
+        let asked = Asked::Commands(commands);
+        let (brought, rests) = self.bring_up(rt, server, alloc, client, asked);
         match brought {
             Ok(pieces) => (batch_text(alloc, &self.held, pieces.as_slice()), rests),
             Err(fault) => (Err(fault), rests),
@@ -110,16 +109,15 @@ impl<J: Naming<A>, A: Allocator + Copy> ViewCache<J, A> {
         server: &Server<J, A>,
         alloc: A,
         client: &mut Client<J, A>,
-        commands: &[BatchCommand<A>],
+        asked: Asked<'_, A>,
     ) -> (Result<Seq<Piece<A>, A>, NoMemory>, usize)
         ensures looked { (repo : RepositoryOf A) × Looks J.first client.old client.new repo
-            × IfOk result.0 (λ pieces. IsCopyOf repo self.new
-            × AllZip (IsCommandPiece repo) commands.now pieces) }
+            × IfOk result.0 (λ pieces. IsCopyOf repo self.new × ArePieces repo asked.entry pieces) }
         ensures rests { result.1 ≡ length (serial_run J.first client.new).journal }
     {
-        let question = LongBatch {
+        let question = LongQuestion {
             alloc,
-            commands,
+            asked,
             seen: self.held.seen(),
         };
         let (brought, rests) = look_beside(rt, server, client, &mut self.witness, &question);

@@ -4,8 +4,8 @@ ghost use Rattle.hg_types.specs.Limits.{IsAllowed};
 
 use hg_http::{HttpAnswer, Read, RequestRefusal, StatusView};
 use hg_queries::{
-    Batch, LongBatch, ReadCommand, Shown, Viewing, batch_text, have_long, is_long, refusal_of,
-    shown_answer,
+    Asked, Batch, LongQuestion, ReadCommand, Shown, Viewing, batch_text, have_long, is_long,
+    refusal_of, shown_answer,
 };
 use hg_repo::Repo;
 use hg_serve::Question;
@@ -103,9 +103,9 @@ fn answer<A: Allocator + Copy>(
     let commands = commands.as_slice();
     if have_long(commands) {
         let view = BranchView::new(alloc);
-        let question = LongBatch {
+        let question = LongQuestion {
             alloc,
-            commands,
+            asked: Asked::Commands(commands),
             seen: view.seen(),
         };
         let brought = question.ask(repo)?;
@@ -121,9 +121,11 @@ const SHORT: &[u8] =
 
 const SHORT_TOLD: &[u8] = b"publishing\tTrue;1";
 
-const LONG: &[u8] = b"heads ;branchmap ;listkeys namespace=phases;branchmap ;hello ";
+const LONG: &[u8] =
+    b"heads ;branchmap ;listkeys namespace=phases;branchmap ;hello ;lookup key=0a;lookup key=tip";
 
-const LONG_TOLD: &[u8] = b"0000000000000000000000000000000000000000\n;;publishing\tTrue;;";
+const LONG_TOLD: &[u8] = b"0000000000000000000000000000000000000000\n;;publishing\tTrue;;;\
+      0 unknown revision '0a'\n;1 0000000000000000000000000000000000000000\n";
 
 #[test]
 fn batches_are_asked(rt: HostRuntime) -> Result<(), Fail> {
@@ -185,11 +187,16 @@ fn batches_have_bounds(rt: HostRuntime) {
         (
             b"lookup key=a;lookup key=b;lookup key=c;lookup key=d",
             None,
-            false,
+            true,
         ),
         (
             b"lookup key=a;lookup key=b;lookup key=c;lookup key=d;lookup key=e",
             long,
+            true,
+        ),
+        (
+            b"lookup key=tip;lookup key=A;lookup key=;lookup ",
+            None,
             false,
         ),
         (
@@ -210,9 +217,25 @@ fn batches_have_bounds(rt: HostRuntime) {
 
 #[test]
 fn what_answers_are_long(rt: HostRuntime) {
-    assert!(rt; is_long(Read::BranchMap) && is_long(Read::Heads));
-    assert!(rt; !is_long(Read::Known));
-    assert!(rt; !is_long(Read::ListKeys) && !is_long(Read::Lookup));
+    assert!(rt; is_long(Read::BranchMap, b"") && is_long(Read::Heads, b""));
+    assert!(rt; !is_long(Read::Known, b"0") && !is_long(Read::ListKeys, b"0"));
+    let most = [b'f'; 39];
+    for beginning in [b"0".as_slice(), b"9a", most.as_slice()] {
+        assert!(rt; is_long(Read::Lookup, beginning));
+    }
+    let all = [b'0'; 40];
+    for other in [
+        b"".as_slice(),
+        b"tip",
+        b"A",
+        b"0 ",
+        b"/",
+        b":",
+        b"g",
+        all.as_slice(),
+    ] {
+        assert!(rt; !is_long(Read::Lookup, other));
+    }
 }
 
 /// Whether the answer that shows a view, where the store had one push and two were done since, is this text.

@@ -14,8 +14,7 @@ use Rattle.hg_stream.specs.declared.fault.StreamFault.TheVariants.{Chunk, Nested
 use Rattle.hg_stream.specs.declared.fault.StreamFault.TheVariants.{Unsupported, TooLarge, Truncated, NoMemory}
 use Rattle.hg_stream.specs.Laws.{HasOneVerdict}
 use Rattle.hg_stream.specs.Places.{IsReading}
-use Rattle.hg_push.specs.Run.{RepositoryOf}
-use Rattle.hg_recovery.specs.Replays.{IsNoBundle, IsUnrun}
+use Rattle.hg_recovery.specs.Replays.{IsNoBundle, IsUnread}
 use Rattle.hg_recovery.specs.declared.restore.RestoreFault.{RestoreFault}
 use Rattle.hg_recovery.specs.declared.restore.RestoreFault.TheVariants.{NoBundle, NoMemory as no_room}
 use Rattle.hg_stream.specs.declared.unbundler.Unbundler.{Unbundler}
@@ -121,8 +120,8 @@ pub told_lem : {A : Type 0} (u v : Unbundler A) → HasOneVerdict A (limits_of u
     → (bytes : List ℕ) (count : ℕ) → HoldsBundle v [] (take count bytes) → (fault : StreamFault)
     → state_of v ≡ Failed fault → fault ≢ Truncated → (place : ℕ) (told : RestoreFault)
     → (fault ≡ NoMemory → told ≡ no_room) → (fault ≢ NoMemory → told ≡ NoBundle place)
-    → (repo : RepositoryOf A) → IsUnrun told place (limits_of u) repo bytes
-told_lem {A} u v verdict same bytes count holds fault failed whole place told memory other repo =
+    → IsUnread A told place (limits_of u) bytes
+told_lem {A} u v verdict same bytes count holds fault failed whole place told memory other =
     elim (is_memory fault) [
       | inl is ↦ rw (memory is) tt
       | inr is ↦ rw (other is) (refl, failed_lem u v verdict same bytes count holds fault failed is whole)

@@ -1,9 +1,8 @@
 -- A store that is made where there is none.
-use Rattle.std.proofs.Common.{◌≡◌, ◌⊎◌, inl, inr, List, ◌∷◌, refl, subst}
+use Rattle.std.proofs.Common.{◌≡◌, inl, inr, List, ◌∷◌, refl, subst}
 use Rattle.std.specs.Prelude.{Result, Ok, Err, MatchResult}
 use Rattle.hg_store.specs.Calls.{Event, missed}
 use Rattle.hg_store.specs.Folders.{IsLookedFor, IsMadeAtMost, IsMadeWhereNone, IsMissedAtMost}
-use Rattle.hg_store.specs.declared.opening.RecoverFault.{RecoverFault}
 use Rattle.hg_store.specs.declared.start.StoreFault.{StoreFault}
 use Rattle.hg_store.specs.declared.start.StoreFault.TheVariants.{Missing, Exists, Held, OtherPublishing, OtherLimits, Recover}
 

@@ -1,48 +1,66 @@
 -- A store that is opened, and the repository that its records lead to.
 use Rattle.std.specs.Prelude.{ℕ, ◌≡◌, Bool, List, [], ◌∷◌, length}
 use Rattle.hg_types.specs.Limits.{standard_limits}
+use Rattle.hg_store.specs.Calls.{Event}
+use Rattle.hg_store.specs.Folders.{IsMadeWhereNone, IsMissedAtMost}
 use Rattle.hg_store.specs.declared.head.Head.{Head}
+use Rattle.hg_store.specs.declared.head.Setup.{Setup}
+use Rattle.hg_store.specs.Entries.{Entry}
+use Rattle.hg_store.specs.Head.{head_for, setup_of}
 use Rattle.hg_store.specs.Log.{IsSettled}
 use Rattle.hg_recovery.specs.Replays.{Replays, StopsAt}
 use Rattle.hg_recovery.specs.declared.restore.RestoreFault.{RestoreFault}
 use Rattle.hg_parts.specs.Repository.{empty_with}
 use Rattle.hg_push.specs.Run.{RepositoryOf}
 use Rattle.hg_store.specs.declared.log.Log.{Log}
+use Rattle.hg_recovery.specs.declared.opening.IfMissing.{IfMissing}
+use Rattle.hg_recovery.specs.declared.opening.IfMissing.TheVariants.{Create, Refuse}
 use Rattle.hg_recovery.specs.declared.opening.Recovered.{Recovered}
 
--- the head of a store of a server that publishes, or does not
-abbrev pub head_of : Bool → Head
-head_of publishing = record { publishing = publishing; limits = standard_limits }
+-- how a server is set up that publishes, or does not
+abbrev pub setup_for : Bool → Setup
+setup_for publishing = record { publishing = publishing; limits = standard_limits }
 
--- the repository without changesets, of a server that is set up as the head says
-abbrev pub empty_repository : {A : Type 0} → Head → RepositoryOf A
-empty_repository head =
-    empty_with (record { publishing = head.publishing; limits = head.limits; first_push = 0 })
+-- the head of a store of that name of such a server
+abbrev pub head_of : Bool → List ℕ → Head
+head_of publishing identity = head_for (setup_for publishing) identity
+
+-- the repository without changesets, of a server that is set up in this way
+abbrev pub empty_repository : {A : Type 0} → Setup → RepositoryOf A
+empty_repository setup =
+    empty_with (record { publishing = setup.publishing; limits = setup.limits; first_push = 0 })
 
 -- The records of a store of that head, run one by one on the empty repository, lead to this one.
-pub record IsRecovered {A : Type 0} (publishing : Bool) (head : Head) (records : List (List ℕ))
+pub record IsRecovered {A : Type 0} (publishing : Bool) (head : Head) (records : List Entry)
     (repo : RepositoryOf A) : Type 0 where
-  pub head_is : head ≡ head_of publishing
-  pub ran : Replays head.limits (empty_repository head) records repo
+  pub setup_is : setup_of head ≡ setup_for publishing
+  pub ran : Replays head.limits (empty_repository (setup_of head)) records repo
 
 -- the records that were noted when a store was opened
-abbrev pub records_of : List (List (List ℕ)) → List (List ℕ)
+abbrev pub records_of : List (List Entry) → List Entry
 records_of [] = []
 records_of (records ∷ more) = records
 
 -- The store has the records that it was opened with, all of them on the device, and they lead to the repository.
 pub record IsOpened {D : Type 0} (seen : D → List ℕ) (may_leave : D → List ℕ → Type 0) (opened : Recovered D) :
     Type 0 where
-  pub settled : IsSettled seen may_leave (head_of opened.publishing) (records_of opened.records.items) opened.log
-  pub recovered : IsRecovered opened.publishing (head_of opened.publishing) (records_of opened.records.items) opened.repo
+  pub settled : IsSettled seen may_leave (head_of opened.publishing opened.identity)
+      (records_of opened.records.items) opened.log
+  pub recovered : IsRecovered opened.publishing (head_of opened.publishing opened.identity)
+      (records_of opened.records.items) opened.repo
   pub count : opened.stored ≡ length (records_of opened.records.items)
 
+-- what is noted of the names in a folder: a store is made where there is none, or is missing
+abbrev pub AreNamesIf : IfMissing → List Event → List Event → Type 0
+AreNamesIf Create before now = IsMadeWhereNone before now
+AreNamesIf Refuse before now = IsMissedAtMost before now
+
 -- the records, run one by one on the empty repository, stop at one of them, for that reason
-abbrev pub StopsOpening : Type 0 → Bool → List (List ℕ) → RestoreFault → Type 0
+abbrev pub StopsOpening : Type 0 → Bool → List Entry → RestoreFault → Type 0
 StopsOpening A publishing records fault =
-    (last : RepositoryOf A) × StopsAt standard_limits (empty_repository (head_of publishing)) records fault last
+    (last : RepositoryOf A) × StopsAt standard_limits (empty_repository (setup_for publishing)) records fault last
 
 -- the same of a store of such a server that was opened: all of its records are on the device
 abbrev pub StopsStored : {D : Type 0} → Type 0 → (D → List ℕ) → (D → List ℕ → Type 0) → Bool → RestoreFault → Type 0
-StopsStored {D} A seen may_leave publishing fault = (records : List (List ℕ)) × (log : Log D)
-    × IsSettled seen may_leave (head_of publishing) records log × StopsOpening A publishing records fault
+StopsStored {D} A seen may_leave publishing fault = (identity : List ℕ) × (records : List Entry) × (log : Log D)
+    × IsSettled seen may_leave (head_of publishing identity) records log × StopsOpening A publishing records fault

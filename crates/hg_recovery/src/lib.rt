@@ -1,6 +1,6 @@
 //! The records of a store, run: each is a bundle, and they are run as pushes, one after the other.
 //!
-//! [`replay_records`] runs them on a repository. [`laws`] says that the repository is determined by the
+//! [`record_parts`] reads one of them, and [`replay_records`] runs them on a repository. [`laws`] says that the repository is determined by the
 //! records, that a front of them gives the repository of the first pushes, and **recovery**: any front of a
 //! store, cut anywhere, is read as the records that stand whole in it, and running these gives the
 //! repository of the serial run of as many pushes. Nothing here starts a thread or waits.
@@ -8,16 +8,16 @@
 //! A store that is opened, and the repository that its records lead to.
 //!
 //! [`recover_store`] opens a store in a folder, or makes it, and runs its records, one by one, on the empty
-//! repository; [`recover_existing`] makes none, and [`recover_records`] does so for a log over any device that is open. What both give is
+//! repository; [`recover_records`] does so for a log over any device that is open. What both give is
 //! [`Recovered`]: the log, for more records, and the repository. [`OpeningFault`] says why a store is not opened.
 //! Nothing here starts a thread, and nothing waits but a device.
 #![tactic(auto)]
 
-mod existing;
 pub mod laws;
 mod opening;
 mod restore;
 
-pub use existing::recover_existing;
-pub use opening::{OpeningFault, Recovered, empty_repository, recover_records, recover_store};
-pub use restore::{RestoreFault, replay_records};
+pub use opening::{
+    IfMissing, OpeningFault, Recovered, empty_repository, recover_records, recover_store,
+};
+pub use restore::{RestoreFault, record_parts, replay_records};

@@ -2,20 +2,23 @@
 
 ghost use Rattle.std.specs.Prelude.{◌≡◌, ◌⊎◌, [], IfErr, IfOk, IsErrOf};
 ghost use Rattle.hg_recovery.specs.declared.restore.RestoreFault.{RestoreFault as AnyRestoreFault};
+ghost use Rattle.hg_store.specs.Head.{head_for};
 ghost use Rattle.hg_store.specs.Log.{IsSettled};
 ghost use Rattle.hg_store.specs.Folders.{IsMadeWhereNone};
 ghost use Rattle.hg_store.specs.Openings.{IsFound, IsOfFolder, IsUnopened};
 ghost use Rattle.hg_store.specs.declared.start.StoreFault.{StoreFault as AnyStoreFault};
 ghost use Rattle.hg_recovery.specs.Faults.{status_of, whole_before_torn};
-ghost use Rattle.hg_recovery.specs.Opening.{empty_repository, head_of, records_of, IsOpened, StopsOpening, StopsStored};
+ghost use Rattle.hg_recovery.specs.Opening.{empty_repository, head_of, records_of, setup_for, AreNamesIf, IsOpened};
+ghost use Rattle.hg_recovery.specs.Opening.{StopsOpening};
+ghost use Rattle.hg_recovery.specs.Opening.{StopsStored};
 ghost use Rattle.hg_types.specs.Limits.{IsAllowed};
 ghost use Rattle.hg_recovery.specs.declared.opening.OpeningFault.TheVariants.{Restore as unrestored, Store as no_store};
 
 use crate::restore::{RestoreFault, replay_records};
 use hg_repo::Repo;
 use hg_store::{
-    Calls, Device, DeviceError, Head, HostFile, Log, Opened, ReadFault, RecoverFault, StoreFault,
-    StoreFile, StoreFolder, create_store, open_store,
+    Calls, Device, DeviceError, Entry, HostFile, Log, Opened, ReadFault, RecoverFault, Setup,
+    StoreFault, StoreFile, StoreFolder, create_store, open_store,
 };
 use hg_types::{Limits, Noted, Seq, Settings};
 use std::alloc::{Allocator, Global};
@@ -80,6 +83,8 @@ impl From<RestoreFault> for OpeningFault {
 pub struct Recovered<D: Device> {
     /// Whether its server publishes.
     pub publishing: bool,
+    /// The name of the store.
+    pub identity: [u8; 16],
     /// The repository that its records lead to.
     pub repo: Repo,
     /// The store, which is open for more records.
@@ -87,84 +92,118 @@ pub struct Recovered<D: Device> {
     /// How many records the store has.
     pub stored: usize,
     /// Its records, which only contracts see.
-    pub records: Noted<Seq<Seq<u8>>>,
+    pub records: Noted<Seq<Entry>>,
 }
 
-/// Opens the store in a folder, or makes it where there is none, and runs its records, one by one, on the empty
-/// repository. It is held against other processes. A store that is refused is as it was.
+/// What is done where a folder has no store.
+#[derive(Clone, Copy, Debug, PartialEq, Eq)]
+pub enum IfMissing {
+    /// One is made.
+    Create,
+    /// That is refused, and none is made.
+    Refuse,
+}
+
+/// Opens the store in a folder, and runs its records, one by one, on the empty repository. Where there is none it is
+/// made, or missing. It is held against other processes. A store that is refused is as it was.
 pub fn recover_store<R: Files<File = File>>(
     alloc: Global,
     state: RandomState,
     folder: &mut StoreFolder<'_, R>,
     publishing: bool,
+    if_missing: IfMissing,
 ) -> Result<Recovered<StoreFile<HostFile>>, OpeningFault>
     ensures ok { IfOk result (λ recovered. IsOpened ⟦<StoreFile<HostFile> as Device>⟧.seen
         ⟦<StoreFile<HostFile> as Device>⟧.may_leave recovered × (recovered.publishing ≡ publishing)) }
 
     // What is served is what the bytes give that were found: they stand for its records, and so does what a crash
     // leaves at any moment since they were read.
-    ensures found { IfOk result (λ recovered. IsFound (head_of publishing)
+    ensures found { IfOk result (λ recovered. IsFound (head_of publishing recovered.identity)
         (records_of recovered.records.items) [] (⟦<HostFile as Calls>⟧.history recovered.log.device.calls)) }
 
-    // No new store takes the place of one that is there.
-    ensures names { IsMadeWhereNone folder.old folder.new }
+    // No new store takes the place of one that is there; and where that is refused, none is made.
+    ensures names { AreNamesIf if_missing folder.old folder.new }
 
     ensures stops { (fault : AnyRestoreFault) → IsErrOf result (unrestored fault) →
         StopsStored Global ⟦<StoreFile<HostFile> as Device>⟧.seen ⟦<StoreFile<HostFile> as Device>⟧.may_leave
         publishing fault }
     ensures unopened { (fault : AnyStoreFault) → IsErrOf result (no_store fault) → IsOfFolder fault
-        ⊎ ((read : HostFile) × IsUnopened fault (head_of publishing) [] (⟦<HostFile as Calls>⟧.history read)) }
+        ⊎ ((read : HostFile) × IsUnopened fault (setup_for publishing) [] (⟦<HostFile as Calls>⟧.history read)) }
 {
-    let head = head_of(publishing);
-    let opened = open_or_create(alloc, folder, &head)?;
-    let Opened { log, records } = opened;
-    Ok(recover_records(alloc, state, publishing, log, &records)?)
+    let opened = open_in(alloc, folder, &setup_for(publishing), if_missing)?;
+    let Opened {
+        log,
+        identity,
+        records,
+    } = opened;
+    Ok(recover_records(alloc, state, publishing, identity, log, &records)?)
 }
 
-/// The head of a store of a server that publishes, or does not.
-pub(crate) fn head_of(publishing: bool) -> Head
-    ensures { result ≡ head_of publishing }
+/// How a server is set up that publishes, or does not.
+fn setup_for(publishing: bool) -> Setup
+    ensures { result ≡ setup_for publishing }
 {
-    Head {
+    Setup {
         publishing,
         limits: Limits::standard(),
     }
 }
 
 /// The repository without changesets, of a server that is set up in this way.
-pub fn empty_repository<A: Allocator + Copy>(alloc: A, state: RandomState, head: &Head) -> Repo<A>
-    requires { IsAllowed head.now.limits }
-    ensures { result ≡ empty_repository head.now }
+pub fn empty_repository<A: Allocator + Copy>(alloc: A, state: RandomState, setup: &Setup) -> Repo<A>
+    requires { IsAllowed setup.now.limits }
+    ensures { result ≡ empty_repository setup.now }
 {
     Repo::new(
         alloc,
         Settings {
-            publishing: head.publishing,
-            limits: head.limits,
+            publishing: setup.publishing,
+            limits: setup.limits,
             first_push: 0,
         },
         state,
     )
 }
 
-/// Opens the store, which is made first where there is none.
-pub(crate) fn open_or_create<R: Files<File = File>>(
+/// Opens the store of a folder. Where there is none it is made, or missing.
+fn open_in<R: Files<File = File>>(
     alloc: Global,
     folder: &mut StoreFolder<'_, R>,
-    head: &Head,
+    setup: &Setup,
+    if_missing: IfMissing,
 ) -> Result<Opened<HostFile>, StoreFault>
     ensures ok { IfOk result (λ opened. IsSettled ⟦<StoreFile<HostFile> as Device>⟧.seen
-        ⟦<StoreFile<HostFile> as Device>⟧.may_leave head.now opened.records opened.log) }
-    ensures found { IfOk result (λ opened. IsFound head.now opened.records []
+        ⟦<StoreFile<HostFile> as Device>⟧.may_leave (head_for setup.now opened.identity) opened.records opened.log) }
+    ensures found { IfOk result (λ opened. IsFound (head_for setup.now opened.identity) opened.records []
+        (⟦<HostFile as Calls>⟧.history opened.log.device.calls)) }
+    ensures names { AreNamesIf if_missing folder.old folder.new }
+    ensures err { IfErr result (λ fault. IsOfFolder fault ⊎ ((read : HostFile)
+        × IsUnopened fault setup.now [] (⟦<HostFile as Calls>⟧.history read))) }
+{
+    match if_missing {
+        IfMissing::Create => open_or_create(alloc, folder, setup),
+        IfMissing::Refuse => open_store(alloc, folder, setup),
+    }
+}
+
+/// Opens the store, which is made first where there is none.
+fn open_or_create<R: Files<File = File>>(
+    alloc: Global,
+    folder: &mut StoreFolder<'_, R>,
+    setup: &Setup,
+) -> Result<Opened<HostFile>, StoreFault>
+    ensures ok { IfOk result (λ opened. IsSettled ⟦<StoreFile<HostFile> as Device>⟧.seen
+        ⟦<StoreFile<HostFile> as Device>⟧.may_leave (head_for setup.now opened.identity) opened.records opened.log) }
+    ensures found { IfOk result (λ opened. IsFound (head_for setup.now opened.identity) opened.records []
         (⟦<HostFile as Calls>⟧.history opened.log.device.calls)) }
     ensures names { IsMadeWhereNone folder.old folder.new }
     ensures err { IfErr result (λ fault. IsOfFolder fault ⊎ ((read : HostFile)
-        × IsUnopened fault head.now [] (⟦<HostFile as Calls>⟧.history read))) }
+        × IsUnopened fault setup.now [] (⟦<HostFile as Calls>⟧.history read))) }
 {
-    match open_store(alloc, folder, head) {
+    match open_store(alloc, folder, setup) {
         Err(StoreFault::Missing) => {
-            create_store(alloc, folder, head)?;
-            open_store(alloc, folder, head)
+            create_store(alloc, folder, setup)?;
+            open_store(alloc, folder, setup)
         }
         opened => opened,
     }
@@ -176,21 +215,23 @@ pub fn recover_records<D: Device + Drop>(
     alloc: Global,
     state: RandomState,
     publishing: bool,
+    identity: [u8; 16],
     log: Log<D>,
-    records: &Seq<Seq<u8>>,
+    records: &Seq<Entry>,
 ) -> Result<Recovered<D>, RestoreFault>
-    requires { IsSettled D.seen D.may_leave (head_of publishing) records.now log }
+    requires { IsSettled D.seen D.may_leave (head_of publishing identity) records.now log }
     ensures ok { IfOk result (λ recovered. IsOpened D.seen D.may_leave recovered
-        × (recovered.publishing ≡ publishing)) }
+        × (recovered.publishing ≡ publishing) × (recovered.identity ≡ identity)) }
     ensures same { IfOk result (λ recovered. (recovered.log ≡ log)
         × (records_of recovered.records.items ≡ records.now)) }
     ensures err { IfErr result (λ fault. StopsOpening Global publishing records.now fault) }
 {
-    let mut repo = empty_repository(alloc, state, &head_of(publishing));
+    let mut repo = empty_repository(alloc, state, &setup_for(publishing));
     replay_records(alloc, &mut repo, records.as_slice())?;
     let stored = records.as_slice().len();
     Ok(Recovered {
         publishing,
+        identity,
         repo,
         log,
         stored,

@@ -7,15 +7,15 @@ ghost use Rattle.hg_stream.specs.declared.state.State.TheVariants.{Reading};
 ghost use Rattle.hg_stream.specs.Frames.{IsBundle};
 ghost use Rattle.hg_stream.specs.Unbundler.{HoldsBundle, limits_of, ready_of, state_of};
 ghost use Rattle.hg_parts.specs.declared.refusal.Refusal.{Refusal as AnyRefusal};
-ghost use Rattle.hg_push.specs.Run.{RepositoryOf};
 ghost use Rattle.hg_recovery.specs.declared.restore.RestoreFault.TheVariants.{NoMemory as OutOfMemory};
-ghost use Rattle.hg_recovery.specs.Replays.{IsUnrun, Replays, ReplaysOne, StopsAt};
+ghost use Rattle.hg_recovery.specs.Replays.{IsUnread, IsUnrun, Replays, ReplaysOne, StopsAt};
 
 use hg_push::laws::memory_refuses_no_part;
 use hg_repo::{Refusal, Repo, Source};
-use hg_stream::laws::{parts_are_few, streams_have_one_verdict};
+use hg_store::Entry;
+use hg_stream::laws::streams_have_one_verdict;
 use hg_stream::{State, StreamFault, Unbundler, all_parts};
-use hg_types::{NoMemory, Part, Seq};
+use hg_types::{Limits, NoMemory, Part};
 use std::alloc::Allocator;
 use thiserror::Error;
 
@@ -48,7 +48,7 @@ impl<E: Into<NoMemory> + Drop> From<E> for RestoreFault {
 pub fn replay_records<A: Allocator + Copy>(
     alloc: A,
     repo: &mut Repo<A>,
-    records: &[Seq<u8, A>],
+    records: &[Entry<A>],
 ) -> Result<(), RestoreFault>
     requires { IsAllowed repo.old.settings.limits }
     ensures ok { OnOk result (Replays repo.old.settings.limits repo.old records.now repo.new) }
@@ -56,8 +56,8 @@ pub fn replay_records<A: Allocator + Copy>(
         StopsAt repo.old.settings.limits repo.old records.now fault repo.new) }
     ensures settings { repo.new.settings ≡ repo.old.settings }
 {
-    for (place, bytes) in records.iter().enumerate() {
-        replay_record(alloc, repo, place, bytes.as_slice())?;
+    for (place, entry) in records.iter().enumerate() {
+        replay_record(alloc, repo, place, entry.bundle())?;
     }
     Ok(())
 }
@@ -77,14 +77,27 @@ fn replay_record<A: Allocator + Copy>(
     ensures settings { repo.new.settings ≡ repo.old.settings }
 {
     let limits = repo.settings().limits;
+    let parts = record_parts(alloc, limits, place, bytes)?;
+    run_parts(repo, place, parts.as_slice())
+}
+
+/// The parts of the record at a place. An `Err` says that it is no whole bundle within the limits, or that memory
+/// was refused.
+pub fn record_parts<A: Allocator + Copy>(
+    alloc: A,
+    limits: Limits,
+    place: usize,
+    bytes: &[u8],
+) -> Result<Vec<Part<A>, A>, RestoreFault>
+    requires { IsAllowed limits }
+    ensures ok { IfOk result (λ parts. IsBundle limits bytes.now parts.items) }
+    ensures err { IfErr result (λ fault. IsUnread A fault place limits bytes.now) }
+{
     let mut bundle = Unbundler::new(alloc, limits);
     if let Err(fault) = feed_whole(&mut bundle, place, bytes) {
         return Err(fault);
     }
-    // so the bundle has few parts
-    parts_are_few::<A>();
-    let parts = all_parts(alloc, &mut bundle)?;
-    run_parts(repo, place, parts.as_slice())
+    Ok(all_parts(alloc, &mut bundle)?)
 }
 
 /// Runs the parts of the record at a place as a push.
@@ -129,8 +142,7 @@ fn feed_whole<A: Allocator + Copy>(
     requires empty { HoldsBundle bundle.old [] [] }
     requires reading { state_of bundle.old ≡ Reading }
     ensures ok { OnOk result (IsBundle (limits_of bundle.old) bytes.now (ready_of bundle.new)) }
-    ensures err { (repo : RepositoryOf A) →
-        IfErr result (λ fault. IsUnrun fault place (limits_of bundle.old) repo bytes.now) }
+    ensures err { IfErr result (λ fault. IsUnread A fault place (limits_of bundle.old) bytes.now) }
 {
     // so bytes that are a bundle are reported as no fault
     streams_have_one_verdict::<A>();

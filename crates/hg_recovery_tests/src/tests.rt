@@ -1,7 +1,8 @@
 //! Bundles that were made by hand, damage at each place, and memory refused in turn.
 
-use hg_recovery::{RestoreFault, replay_records};
+use hg_recovery::{RestoreFault, record_parts, replay_records};
 use hg_repo::Repo;
+use hg_store::{Entry, Stamp};
 use hg_types::{Limits, NoMemory, Seq, Settings};
 use linked_list_allocator::LocalHeap;
 use std::alloc::Allocator;
@@ -34,14 +35,14 @@ const UNKNOWN: [u8; 34] = [
 /// What came of records, and how many markers the repository has then.
 type Told = (Result<(), RestoreFault>, usize);
 
-/// The records as lists of bytes.
+/// Records of these bundles.
 fn records_of<A: Allocator + Copy>(
     alloc: A,
     bytes: &[&[u8]],
-) -> Result<Vec<Seq<u8, A>, A>, NoMemory> {
+) -> Result<Vec<Entry<A>, A>, NoMemory> {
     let mut records = Vec::new(alloc);
-    for record in bytes {
-        records.push(Seq::copy_of(alloc, record)?)?;
+    for bundle in bytes {
+        records.push(Entry::new(Stamp::unnamed(alloc, 0), Seq::copy_of(alloc, bundle)?))?;
     }
     Ok(records)
 }
@@ -64,6 +65,30 @@ fn told_of<A: Allocator + Copy>(
     drop(repo);
     drop(records);
     Ok((told, markers))
+}
+
+/// How many parts the record at a place has.
+fn count_of<A: Allocator + Copy>(
+    alloc: A,
+    place: usize,
+    bytes: &[u8],
+) -> Result<usize, RestoreFault> {
+    match record_parts(alloc, Limits::standard(), place, bytes) {
+        Ok(parts) => Ok(parts.len()),
+        Err(fault) => Err(fault),
+    }
+}
+
+// The parts of a record, also of one that is not done when it is run.
+// M1; E; U; E without its last byte, at place 7. Result: one; none; one; no bundle at place 7.
+#[test]
+fn parts_of_records(rt: HostRuntime) -> Result<(), Fail> {
+    let alloc = rt.alloc();
+    assert!(rt; count_of(alloc, 0, &ONE) == Ok(1));
+    assert!(rt; count_of(alloc, 0, &EMPTY) == Ok(0));
+    assert!(rt; count_of(alloc, 0, &UNKNOWN) == Ok(1));
+    assert!(rt; count_of(alloc, 7, &EMPTY[..11]) == Err(RestoreFault::NoBundle(7)));
+    Ok(())
 }
 
 // Records that run are not refused, and none at all are none.

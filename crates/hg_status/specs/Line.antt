@@ -21,11 +21,14 @@ abbrev pub outcome_text : ShownOutcome → List ℕ
 outcome_text (Done place) = codes "push " ++ (decimal place ++ codes " done")
 outcome_text (Aborted reason) = codes "aborted, " ++ reason_text reason
 
+-- the milliseconds that it held the lock, and those that it waited for the disk
+abbrev pub waits_text : Push → List ℕ → List ℕ → List ℕ
+waits_text push between behind = millis push.locked ++ (between ++ (millis push.synced ++ behind))
+
 -- what it brought, and what it cost
 unfoldable pub cost_text : Push → List ℕ
 cost_text push = codes ": " ++ (decimal push.changesets ++ (codes " changesets, " ++ (decimal push.bytes
-    ++ (codes " bytes, " ++ (millis push.locked ++ (codes " ms in the lock, " ++ (millis push.synced
-    ++ codes " ms for the disk\n")))))))
+    ++ (codes " bytes, " ++ waits_text push (codes " ms in the lock, ") (codes " ms for the disk\n")))))
 
 -- the line: a date, how the push ended, and what it brought and cost
 pub record IsLine (push : Push) (line : List ℕ) : Type 0 where

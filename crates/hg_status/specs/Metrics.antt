@@ -4,8 +4,8 @@ use Rattle.hg_status.specs.declared.push.AbortReason.{AbortReason}
 use Rattle.hg_status.specs.declared.push.AbortReason.TheVariants.{HeadsChanged, PhasesChanged, BookmarksChanged}
 use Rattle.hg_status.specs.declared.push.AbortReason.TheVariants.{Unsupported, KeyFailed, BadPart, BadChangeset}
 use Rattle.hg_status.specs.declared.push.AbortReason.TheVariants.{UnknownNode, ClientAborted, BadEnd, StreamFault}
-use Rattle.hg_status.specs.declared.push.AbortReason.TheVariants.{ConnectionLost, Dropped, NoMemory}
-use Rattle.hg_status.specs.declared.phases.PhaseCounts.{PhaseCounts}
+use Rattle.hg_status.specs.declared.push.AbortReason.TheVariants.{ConnectionLost, Dropped, NoMemory, NotLet, NoHook}
+use Rattle.hg_phases.specs.declared.counts.PhaseCounts.{PhaseCounts}
 use Rattle.hg_status.specs.declared.push_counts.Counters.{Counters}
 use Rattle.hg_status.specs.declared.summary.Summary.{Summary}
 use Rattle.hg_status.specs.Numbers.{seconds}
@@ -25,12 +25,16 @@ unfoldable pub labelled_line : List ℕ → List ℕ → List ℕ → ℕ → Li
 labelled_line name label of value = codes "hg_pushd_" ++ (name ++ (codes "{" ++ (label ++ (codes "=\""
     ++ (of ++ (codes "\"} " ++ (decimal value ++ codes "\n")))))))
 
--- a number that goes up and down, and one that only goes up
-unfoldable pub gauge : List ℕ → List ℕ → ℕ → List ℕ
-gauge name help value = head_lines name (codes "gauge") help ++ value_line name (decimal value)
+-- a number with its kind: what it is, and its value
+unfoldable pub number_lines : List ℕ → List ℕ → List ℕ → List ℕ → List ℕ
+number_lines kind name help value = head_lines name kind help ++ value_line name value
 
-unfoldable pub counter : List ℕ → List ℕ → List ℕ → List ℕ
-counter name help value = head_lines name (codes "counter") help ++ value_line name value
+-- a number that goes up and down, and one that only goes up
+abbrev pub gauge : List ℕ → List ℕ → ℕ → List ℕ
+gauge name help value = number_lines (codes "gauge") name help (decimal value)
+
+abbrev pub counter : List ℕ → List ℕ → List ℕ → List ℕ
+counter name help value = number_lines (codes "counter") name help value
 
 unfoldable pub holdings_lines : {A : Type 0} → Summary A → List ℕ
 holdings_lines summary =
@@ -48,7 +52,7 @@ phase_line phase value = labelled_line (codes "phase_changesets") (codes "phase"
 unfoldable pub phase_lines : PhaseCounts → List ℕ
 phase_lines counts =
     head_lines (codes "phase_changesets") (codes "gauge")
-    (codes "Changesets in each phase, when they were counted last.")
+    (codes "Changesets in each phase.")
     ++ (phase_line (codes "public") counts.public
     ++ (phase_line (codes "draft") counts.draft ++ phase_line (codes "secret") counts.secret))
 
@@ -76,12 +80,15 @@ cut_lines counters =
     ++ (aborted_line counters Dropped
     ++ aborted_line counters NoMemory)))
 
+unfoldable pub denied_lines : Counters → List ℕ
+denied_lines counters = aborted_line counters NotLet ++ aborted_line counters NoHook
+
 unfoldable pub push_lines : Counters → List ℕ
 push_lines counters =
     gauge (codes "start_time_seconds") (codes "When the server started, in seconds since 1970.") counters.start
-    ++ (counter (codes "pushes_done_total") (codes "Pushes that were done.") (decimal counters.done)
     ++ (head_lines (codes "pushes_aborted_total") (codes "counter") (codes "Pushes that were aborted, by reason.")
-    ++ (refused_lines counters ++ cut_lines counters)))
+    ++ (refused_lines counters ++ (cut_lines counters ++ (denied_lines counters
+    ++ counter (codes "pushes_done_total") (codes "Pushes that were done.") (decimal counters.done)))))
 
 unfoldable pub cost_lines : Counters → List ℕ
 cost_lines counters =

@@ -5,14 +5,13 @@ use Rattle.std.specs.Fmt.{format_spec, padded_integral}
 use Rattle.hg_status.specs.declared.date.Date.{Date}
 use Rattle.hg_status.specs.declared.heads.ShownHead.{ShownHead}
 use Rattle.hg_status.specs.declared.holdings.Holdings.{Holdings}
-use Rattle.hg_status.specs.declared.phases.PhaseCounts.{PhaseCounts}
+use Rattle.hg_phases.specs.declared.counts.PhaseCounts.{PhaseCounts}
 use Rattle.hg_status.specs.declared.push.Push.{Push}
 use Rattle.hg_status.specs.declared.push.ShownOutcome.{ShownOutcome}
 use Rattle.hg_status.specs.declared.push.ShownOutcome.TheVariants.{Done, Aborted}
 use Rattle.hg_status.specs.declared.push_counts.Counters.{Counters}
 use Rattle.hg_status.specs.declared.summary.Summary.{Summary}
-use Rattle.hg_status.specs.Line.{reason_text}
-use Rattle.hg_status.specs.Numbers.{millis}
+use Rattle.hg_status.specs.Line.{reason_text, waits_text}
 use Rattle.hg_status.specs.PushCounts.{sum_of}
 use Rattle.hg_status.specs.Rows.{row_of}
 
@@ -115,7 +114,7 @@ outcome_cell (Aborted reason) = codes "<td class=no>" ++ reason_text reason
 
 unfoldable pub cost_cells : Push → List ℕ
 cost_cells push = codes "<td>" ++ (decimal push.changesets ++ (codes "<td>" ++ (decimal push.bytes
-    ++ (codes "<td>" ++ (millis push.locked ++ (codes "<td>" ++ (millis push.synced ++ codes "\n")))))))
+    ++ (codes "<td>" ++ waits_text push (codes "<td>") (codes "\n")))))
 
 -- the row of a push
 unfoldable pub push_row_of : Push → Date → List ℕ

@@ -12,7 +12,7 @@ abbrev pub no_pushes : ℕ → Counters
 no_pushes start = record {
   start = start;
   done = 0;
-  aborted = replicate 14 0;
+  aborted = replicate 16 0;
   changesets = 0;
   bytes = 0;
   locked = 0;

@@ -4,7 +4,7 @@ use Rattle.hg_status.specs.declared.push.AbortReason.{AbortReason}
 use Rattle.hg_status.specs.declared.push.AbortReason.TheVariants.{HeadsChanged, PhasesChanged, BookmarksChanged}
 use Rattle.hg_status.specs.declared.push.AbortReason.TheVariants.{Unsupported, KeyFailed, BadPart, BadChangeset}
 use Rattle.hg_status.specs.declared.push.AbortReason.TheVariants.{UnknownNode, ClientAborted, BadEnd, StreamFault}
-use Rattle.hg_status.specs.declared.push.AbortReason.TheVariants.{ConnectionLost, Dropped, NoMemory}
+use Rattle.hg_status.specs.declared.push.AbortReason.TheVariants.{ConnectionLost, Dropped, NoMemory, NotLet, NoHook}
 
 -- the place of a reason's kind among the counters
 abbrev pub place_of : AbortReason → ℕ
@@ -22,6 +22,8 @@ place_of (StreamFault fault) = 10
 place_of ConnectionLost = 11
 place_of Dropped = 12
 place_of NoMemory = 13
+place_of NotLet = 14
+place_of NoHook = 15
 
 -- what a reason's kind is called
 abbrev pub name_of_reason : AbortReason → List ℕ
@@ -39,3 +41,5 @@ name_of_reason (StreamFault fault) = codes "stream fault"
 name_of_reason ConnectionLost = codes "connection lost"
 name_of_reason Dropped = codes "push dropped"
 name_of_reason NoMemory = codes "out of memory"
+name_of_reason NotLet = codes "refused by the hook"
+name_of_reason NoHook = codes "no answer of the hook"

@@ -1,5 +1,6 @@
 -- What is shown of a repository.
 use Rattle.std.specs.Prelude.{ℕ, ◌≡◌, ◌≤◌, List, length}
+use Rattle.hg_phases.specs.Counts.{counts_of}
 use Rattle.hg_parts.specs.Repository.{Repository}
 use Rattle.hg_status.specs.declared.summary.Summary.{Summary}
 use Rattle.hg_status.specs.Holdings.{AreCounted}
@@ -9,8 +10,9 @@ use Rattle.hg_status.specs.Metrics.{metrics_of}
 abbrev pub IsPage : List ℕ → Type 0
 IsPage text = length text ≤ 65535
 
--- The counters of a summary whose numbers are those of the repository.
+-- The counters of a summary whose numbers are those of the repository, each phase's too.
 pub record ArePageMetrics {A : Type 0} (repo : Repository A) (text : List ℕ) : Type 0 where
   pub summary : Summary A
   pub counted : AreCounted repo.rows repo.markers repo.bookmarks summary.holdings
+  pub phases : summary.phases ≡ counts_of repo.phases
   pub told : text ≡ metrics_of summary

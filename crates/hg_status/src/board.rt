@@ -1,13 +1,13 @@
 //! What a browser and a collector of counters are shown.
 
 ghost use Rattle.std.specs.Prelude.{◌≡◌, ◌≤◌, length, IfOk};
+ghost use Rattle.hg_phases.specs.Counts.{counts_of};
 ghost use Rattle.hg_parts.specs.Store.{repository_of, IsSound};
 ghost use Rattle.hg_status.specs.Holdings.{AreCounted};
 
 use crate::holdings::holdings_of;
 use crate::metrics::metrics_text;
 use crate::page::page_text;
-use crate::phases::{PhaseCounts, count_phases};
 use crate::push::Push;
 use crate::push_counts::{Counters, PushCounts};
 use crate::summary::Summary;
@@ -20,29 +20,18 @@ use std::sync::atomic::{AtomicU64, Ordering};
 use std::sync::{Mutex, Wait};
 use std::time::{Clock, SystemTime, UNIX_EPOCH};
 
-/// How many seconds the numbers of changesets by phase stand before they are counted again.
-const COUNTED_EACH: u64 = 1;
-
-/// How many bytes a record has in a store beside its bundle.
-const FRAME: u64 = 25;
+/// How many bytes a record has in a store beside its bundle and the name of who pushed.
+const FRAME: u64 = 34;
 
 /// After how many pushes a server makes place for another, which numbers pushes anew. There are 4,294,967,295
 /// numbers, so those that are left are more than all connections can still use.
 const NUMBERS: u64 = 4_000_000_000;
-
-/// How many changesets were in each phase, and when that was counted.
-#[derive(Clone, Copy, Drop)]
-struct Counted {
-    time: Option<u64>,
-    counts: PhaseCounts,
-}
 
 /// What is shown of a server: the pushes since its start, its connections, and how long its store is.
 #[derive(Drop)]
 pub struct Board<'a, R: Wait + Clock> {
     rt: &'a R,
     tally: Mutex<PushCounts>,
-    counted: Mutex<Counted>,
     connections: AtomicU64,
     store: AtomicU64,
     stored: AtomicU64,
@@ -58,18 +47,9 @@ impl<'a, R: Wait + Clock> Board<'a, R> {
         store: u64,
         stored: u64,
     ) -> Result<Board<'a, R>, NoMemory> {
-        let counted = Counted {
-            time: None,
-            counts: PhaseCounts {
-                public: 0,
-                draft: 0,
-                secret: 0,
-            },
-        };
         Ok(Board {
             rt,
             tally: Mutex::new(PushCounts::new(alloc, seconds_now(rt))?),
-            counted: Mutex::new(counted),
             connections: AtomicU64::new(0),
             store: AtomicU64::new(store),
             stored: AtomicU64::new(stored),
@@ -87,9 +67,14 @@ impl<'a, R: Wait + Clock> Board<'a, R> {
         self.connections.fetch_sub(1, Ordering::SeqCst);
     }
 
-    /// Counts a push, of any outcome. A done one is in the store.
-    pub fn add(&self, push: Push, is_done: bool) {
+    /// Counts a push that was not opened.
+    pub fn count(&self, push: Push) {
         self.tally.lock(self.rt).add(push);
+    }
+
+    /// Counts a push that ended, in any way. A done one is in the store.
+    pub fn add(&self, push: Push, is_done: bool) {
+        self.count(push);
         if is_done {
             let record = push.bytes.saturating_add(FRAME);
             self.store.fetch_add(record, Ordering::SeqCst);
@@ -110,24 +95,6 @@ impl<'a, R: Wait + Clock> Board<'a, R> {
         Ok((*tally.counters(), Seq::from_vec(recent)))
     }
 
-    /// How many changesets are in each phase, as it was counted some seconds ago at most.
-    fn phases<A: Allocator>(&self, time: u64, store: &Store<A>) -> PhaseCounts
-        requires { length store.now.log.rows ≤ length store.now.phases.current.phases }
-    {
-        let mut counted = self.counted.lock(self.rt);
-        let is_old = match counted.time {
-            Some(before) => time.abs_diff(before) > COUNTED_EACH,
-            None => true,
-        };
-        if is_old {
-            *counted = Counted {
-                time: Some(time),
-                counts: count_phases(&store.log, &store.phases),
-            };
-        }
-        counted.counts
-    }
-
     /// All that is shown of this repository.
     fn summary<A: Allocator + Copy>(
         &self,
@@ -136,8 +103,9 @@ impl<'a, R: Wait + Clock> Board<'a, R> {
         store: &Store<A>,
     ) -> Result<Summary<A>, NoMemory>
         requires { IsSound settings.now store.now }
-        ensures { IfOk result (λ summary. AreCounted store.now.log.rows store.now.markers
+        ensures holdings { IfOk result (λ summary. AreCounted store.now.log.rows store.now.markers
             store.now.bookmarks.current summary.holdings) }
+        ensures phases { IfOk result (λ summary. summary.phases ≡ counts_of store.now.phases.current.phases) }
     {
         let holdings = holdings_of(
             alloc,
@@ -146,14 +114,12 @@ impl<'a, R: Wait + Clock> Board<'a, R> {
             &store.markers,
             &store.bookmarks,
         )?;
-        let time = seconds_now(self.rt);
-        let phases = self.phases(time, store);
         let (counters, recent) = self.pushes(alloc)?;
         Ok(Summary {
-            time,
+            time: seconds_now(self.rt),
             publishing: settings.publishing,
             holdings,
-            phases,
+            phases: store.phases.counts(),
             counters,
             recent,
             connections: self.connections.load(Ordering::SeqCst),
@@ -182,12 +148,17 @@ impl<R: Wait + Clock, A: Allocator + Copy> Shown<A> for Board<'_, R> {
 }
 
 /// The seconds since the beginning of 1970; 0 where there is no clock.
-pub fn seconds_now<R: Clock>(rt: &R) -> u64 {
+fn seconds_now<R: Clock>(rt: &R) -> u64 {
+    millis_now(rt) / 1_000
+}
+
+/// The milliseconds since the beginning of 1970; 0 where there is no clock.
+pub fn millis_now<R: Clock>(rt: &R) -> u64 {
     let Ok(now) = SystemTime::now(rt) else {
         return 0;
     };
     match now.duration_since(UNIX_EPOCH) {
-        Ok(spent) => spent.as_secs(),
+        Ok(spent) => u64::try_from(spent.as_millis()).unwrap_or(0),
         Err(_) => 0,
     }
 }

@@ -32,26 +32,6 @@ pub struct ShownHead<A: Allocator = Global> {
     pub more: u64,
 }
 
-/// The ids of the heads that are shown: the last in the order of the changelog, the last first.
-pub fn last_heads<A: Allocator + Copy>(
-    alloc: A,
-    log: &Changelog<A>,
-) -> Result<Vec<Node, A>, NoMemory> {
-    let heads = log.heads(alloc)?;
-    let mut numbered = Vec::new(alloc);
-    for node in heads.as_slice() {
-        if let Some(rev) = log.rev(node) {
-            numbered.push((rev, *node))?;
-        }
-    }
-    numbered.sort_unstable();
-    let mut last = Vec::new(alloc);
-    for (_rev, node) in numbered.as_slice().iter().rev().take(HEADS) {
-        last.push(*node)?;
-    }
-    Ok(last)
-}
-
 /// The branch that a text names, by its first bytes. None where there are more, and its three lines do not end
 /// in these.
 #[tactic(auto, unfolding(crate::specs::Heads::shown_branch))]

@@ -5,7 +5,7 @@ ghost use Rattle.hg_status.specs.Holdings.{heads_of, AreCounted};
 ghost use Rattle.hg_status.specs.Heads.{IsOf};
 
 pub use crate::heads::ShownHead;
-use crate::heads::{add_bookmarks, last_heads, shown_branch};
+use crate::heads::{HEADS, add_bookmarks, shown_branch};
 use hg_keys::Bookmarks;
 use hg_log::Changelog;
 use hg_obs::Markers;
@@ -31,8 +31,9 @@ pub struct Holdings<A: Allocator = Global> {
     pub looked_at: u64,
 }
 
-/// What is shown of a repository. It costs by the number of its heads, as the answer to `heads` does, and by
-/// what is kept: a hundred heads, at most 4 KiB of the text of each, and a look at 10,000 bookmarks.
+/// What is shown of a repository. It costs by what is kept: a hundred heads, at most 4 KiB of the text of each,
+/// and a look at 10,000 bookmarks; and by a look, in the order of numbers, at the changesets down to the last of
+/// these heads.
 pub fn holdings_of<A: Allocator + Copy>(
     alloc: A,
     log: &Changelog<A>,
@@ -68,7 +69,8 @@ fn count_heads<A: Allocator>(log: &Changelog<A>) -> u64
     }
 }
 
-/// The heads that are shown, without their bookmarks.
+/// The heads that are shown, without their bookmarks. It goes down from the last changeset, and stops once it has
+/// as many heads as are shown, or all.
 fn read_heads<A: Allocator + Copy>(
     alloc: A,
     log: &Changelog<A>,
@@ -76,10 +78,14 @@ fn read_heads<A: Allocator + Copy>(
 ) -> Result<Vec<ShownHead<A>, A>, NoMemory>
     requires { length log.now.rows ≤ length phases.now.current.phases }
 {
-    let nodes = last_heads(alloc, log)?;
+    let wanted = log.head_count().min(HEADS);
     let mut heads = Vec::new(alloc);
-    for node in nodes.as_slice() {
-        if let Some(rev) = log.rev(node) {
+    for rev in (0..log.len()).rev() {
+        if heads.len() >= wanted {
+            break;
+        }
+        let rev = rev as u32;
+        if log.is_head(rev) {
             heads.push(read_head(alloc, log, phases, rev)?)?;
         }
     }

@@ -2,10 +2,9 @@
 //! for each push.
 //!
 //! It takes two steps, so that nothing dear is done while a repository is locked. [`holdings_of`] reads what
-//! is shown of a repository, and [`count_phases`], which goes through all changesets, how many are in each
-//! phase. The [`PushCounts`] counts pushes and keeps the last of them. From these a [`Summary`] is put together,
-//! and [`page_text`] and [`metrics_text`] write it without the repository. [`log_line`] is the line of one
-//! push. Whatever clients named is shown escaped ([`shown_names_are_harmless`]). Nothing here starts a thread or waits.
+//! is shown of a repository. The [`PushCounts`] counts pushes and keeps the last of them. From these a
+//! [`Summary`] is put together, and [`page_text`] and [`metrics_text`] write it without the repository.
+//! [`log_line`] is the line of one push. Whatever clients named is shown escaped ([`shown_names_are_harmless`]). Nothing here starts a thread or waits.
 //!
 //! What a browser and a collector of counters are shown of a server.
 //!
@@ -31,7 +30,6 @@ mod metrics;
 mod name;
 mod numbers;
 mod page;
-mod phases;
 mod push;
 mod push_counts;
 mod reason;
@@ -39,7 +37,7 @@ mod room;
 mod rows;
 mod summary;
 
-pub use board::{Board, seconds_now};
+pub use board::{Board, millis_now};
 pub use brought::brought_by;
 pub use date::{Date, date_of};
 pub use holdings::{Holdings, ShownHead, holdings_of};
@@ -48,7 +46,6 @@ pub use line::log_line;
 pub use metrics::metrics_text;
 pub use name::Name;
 pub use page::page_text;
-pub use phases::{PhaseCounts, count_phases};
 pub use push::{AbortReason, Push, ShownOutcome};
 pub use push_counts::{Counters, PushCounts};
 pub use reason::shown_outcome;

@@ -1,7 +1,7 @@
 //! The line of a push.
 
 ghost use Rattle.std.specs.Prelude.{◌≡◌, ◌++◌, IfOk, OnOk, string_bytes};
-ghost use Rattle.hg_status.specs.Line.{cost_text, outcome_text, reason_text, IsLine};
+ghost use Rattle.hg_status.specs.Line.{cost_text, outcome_text, reason_text, waits_text, IsLine};
 
 use crate::date::{date_of, push_day, push_time};
 use crate::numbers::push_millis;
@@ -33,10 +33,23 @@ fn push_cost<A: Allocator>(line: &mut String<A>, push: &Push) -> Result<(), NoMe
     let changesets = push.changesets;
     let bytes = push.bytes;
     write!(line, ": {changesets} changesets, {bytes} bytes, ")?;
-    push_millis(line, push.locked)?;
-    line.push_str(" ms in the lock, ")?;
-    push_millis(line, push.synced)?;
-    line.push_str(" ms for the disk\n")?;
+    push_waits(line, push, " ms in the lock, ", " ms for the disk\n")
+}
+
+/// Adds the milliseconds that a push held the lock, and those that it waited for the disk.
+pub fn push_waits<A: Allocator>(
+    text: &mut String<A>,
+    push: &Push,
+    between: &str,
+    behind: &str,
+) -> Result<(), NoMemory>
+    ensures { OnOk result (string_bytes text.new
+        ≡ string_bytes text.old ++ waits_text push.now between.now behind.now) }
+{
+    push_millis(text, push.locked)?;
+    text.push_str(between)?;
+    push_millis(text, push.synced)?;
+    text.push_str(behind)?;
     Ok(())
 }
 

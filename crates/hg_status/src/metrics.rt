@@ -1,17 +1,16 @@
 //! The numbers in the text form that Prometheus reads.
 
-ghost use Rattle.std.specs.Prelude.{◌≡◌, ◌++◌, IfOk, OnOk, string_bytes};
-ghost use Rattle.hg_status.specs.Metrics.{aborted_line, cost_lines, counter, cut_lines, gauge, head_lines};
+ghost use Rattle.std.specs.Prelude.{◌≡◌, ◌++◌, IfOk, OnOk, codes, decimal, string_bytes};
+ghost use Rattle.hg_status.specs.Metrics.{aborted_line, cost_lines, cut_lines, denied_lines, head_lines};
 ghost use Rattle.hg_status.specs.Metrics.{holdings_lines, labelled_line, metrics_of, phase_line, phase_lines};
-ghost use Rattle.hg_status.specs.Metrics.{push_lines, refused_lines, value_line};
+ghost use Rattle.hg_status.specs.Metrics.{number_lines, push_lines, refused_lines, value_line};
 ghost use Rattle.hg_status.specs.Numbers.{seconds};
-ghost use Rattle.std.specs.Prelude.{decimal};
 
 use crate::numbers::push_seconds;
-use crate::phases::PhaseCounts;
 use crate::push::AbortReason;
 use crate::push_counts::Counters;
 use crate::summary::Summary;
+use hg_phases::PhaseCounts;
 use hg_types::{NoMemory, Seq};
 use std::alloc::Allocator;
 
@@ -36,34 +35,51 @@ pub fn metrics_text<A: Allocator + Copy>(
 fn push_holdings<A: Allocator>(text: &mut String<A>, summary: &Summary<A>) -> Result<(), NoMemory>
     ensures { OnOk result (string_bytes text.new ≡ string_bytes text.old ++ holdings_lines summary.now) }
 {
-    push_gauge(
+    push_number(
         text,
+        "gauge",
         "changesets",
         "Changesets in the repository.",
         summary.holdings.changesets,
     )?;
-    push_gauge(
+    push_number(
         text,
+        "gauge",
         "heads",
         "Changesets that are nobody's parent.",
         summary.holdings.heads,
     )?;
-    push_gauge(text, "bookmarks", "Bookmarks.", summary.holdings.bookmarks)?;
-    push_gauge(
+    push_number(
         text,
+        "gauge",
+        "bookmarks",
+        "Bookmarks.",
+        summary.holdings.bookmarks,
+    )?;
+    push_number(
+        text,
+        "gauge",
         "markers",
         "Obsolescence markers.",
         summary.holdings.markers,
     )?;
-    push_gauge(text, "store_bytes", "Bytes of the store.", summary.store)?;
-    push_gauge(
+    push_number(
         text,
+        "gauge",
+        "store_bytes",
+        "Bytes of the store.",
+        summary.store,
+    )?;
+    push_number(
+        text,
+        "gauge",
         "store_pushes",
         "Pushes in the store, each durable.",
         summary.stored,
     )?;
-    push_gauge(
+    push_number(
         text,
+        "gauge",
         "connections",
         "Open connections.",
         summary.connections,
@@ -80,7 +96,7 @@ fn push_phases<A: Allocator>(text: &mut String<A>, counts: &PhaseCounts) -> Resu
         text,
         "phase_changesets",
         "gauge",
-        "Changesets in each phase, when they were counted last.",
+        "Changesets in each phase.",
     )?;
     push_phase(text, "public", counts.public)?;
     push_phase(text, "draft", counts.draft)?;
@@ -99,17 +115,12 @@ fn push_phase<A: Allocator>(text: &mut String<A>, phase: &str, count: u64) -> Re
 fn push_pushes<A: Allocator>(text: &mut String<A>, counters: &Counters) -> Result<(), NoMemory>
     ensures { OnOk result (string_bytes text.new ≡ string_bytes text.old ++ push_lines counters.now) }
 {
-    push_gauge(
+    push_number(
         text,
+        "gauge",
         "start_time_seconds",
         "When the server started, in seconds since 1970.",
         counters.start,
-    )?;
-    push_count(
-        text,
-        "pushes_done_total",
-        "Pushes that were done.",
-        counters.done,
     )?;
     push_head(
         text,
@@ -119,6 +130,14 @@ fn push_pushes<A: Allocator>(text: &mut String<A>, counters: &Counters) -> Resul
     )?;
     push_refused(text, counters)?;
     push_cut(text, counters)?;
+    push_denied(text, counters)?;
+    push_number(
+        text,
+        "counter",
+        "pushes_done_total",
+        "Pushes that were done.",
+        counters.done,
+    )?;
     Ok(())
 }
 
@@ -152,6 +171,16 @@ fn push_cut<A: Allocator>(text: &mut String<A>, counters: &Counters) -> Result<(
     Ok(())
 }
 
+/// Adds how many pushes did not run, since the hook did not let them, by reason.
+#[tactic(auto, unfolding(crate::specs::Metrics::denied_lines))]
+fn push_denied<A: Allocator>(text: &mut String<A>, counters: &Counters) -> Result<(), NoMemory>
+    ensures { OnOk result (string_bytes text.new ≡ string_bytes text.old ++ denied_lines counters.now) }
+{
+    push_aborted(text, counters, AbortReason::NotLet)?;
+    push_aborted(text, counters, AbortReason::NoHook)?;
+    Ok(())
+}
+
 /// Adds how many pushes were aborted for a reason.
 #[tactic(auto, unfolding(crate::specs::Metrics::aborted_line))]
 fn push_aborted<A: Allocator>(
@@ -170,14 +199,16 @@ fn push_aborted<A: Allocator>(
 fn push_costs<A: Allocator>(text: &mut String<A>, counters: &Counters) -> Result<(), NoMemory>
     ensures { OnOk result (string_bytes text.new ≡ string_bytes text.old ++ cost_lines counters.now) }
 {
-    push_count(
+    push_number(
         text,
+        "counter",
         "pushed_changesets_total",
         "Changesets that pushes added.",
         counters.changesets,
     )?;
-    push_count(
+    push_number(
         text,
+        "counter",
         "pushed_bytes_total",
         "Bytes of the bundles of pushes.",
         counters.bytes,
@@ -197,39 +228,25 @@ fn push_costs<A: Allocator>(text: &mut String<A>, counters: &Counters) -> Result
     Ok(())
 }
 
-/// Adds a number that goes up and down.
-#[tactic(auto, unfolding(crate::specs::Metrics::gauge, crate::specs::Metrics::value_line))]
-fn push_gauge<A: Allocator>(
+/// Adds a number: a gauge goes up and down, and a counter only up.
+#[tactic(auto, unfolding(crate::specs::Metrics::number_lines, crate::specs::Metrics::value_line))]
+fn push_number<A: Allocator>(
     text: &mut String<A>,
-    name: &str,
-    help: &str,
-    value: u64,
-) -> Result<(), NoMemory>
-    ensures { OnOk result (string_bytes text.new ≡ string_bytes text.old ++ gauge name.now help.now value) }
-{
-    push_head(text, name, "gauge", help)?;
-    writeln!(text, "hg_pushd_{name} {value}")?;
-    Ok(())
-}
-
-/// Adds a number that only goes up.
-#[tactic(auto, unfolding(crate::specs::Metrics::counter, crate::specs::Metrics::value_line))]
-fn push_count<A: Allocator>(
-    text: &mut String<A>,
+    kind: &str,
     name: &str,
     help: &str,
     value: u64,
 ) -> Result<(), NoMemory>
     ensures { OnOk result (string_bytes text.new
-        ≡ string_bytes text.old ++ counter name.now help.now (decimal value)) }
+        ≡ string_bytes text.old ++ number_lines kind.now name.now help.now (decimal value)) }
 {
-    push_head(text, name, "counter", help)?;
+    push_head(text, name, kind, help)?;
     writeln!(text, "hg_pushd_{name} {value}")?;
     Ok(())
 }
 
 /// Adds microseconds that only go up, as seconds.
-#[tactic(auto, unfolding(crate::specs::Metrics::counter, crate::specs::Metrics::value_line))]
+#[tactic(auto, unfolding(crate::specs::Metrics::number_lines, crate::specs::Metrics::value_line))]
 fn push_time<A: Allocator>(
     text: &mut String<A>,
     name: &str,
@@ -237,7 +254,7 @@ fn push_time<A: Allocator>(
     micros: u64,
 ) -> Result<(), NoMemory>
     ensures { OnOk result (string_bytes text.new
-        ≡ string_bytes text.old ++ counter name.now help.now (seconds micros)) }
+        ≡ string_bytes text.old ++ number_lines (codes "counter") name.now help.now (seconds micros)) }
 {
     push_head(text, name, "counter", help)?;
     write!(text, "hg_pushd_{name} ")?;

@@ -34,10 +34,14 @@ pub enum AbortReason {
     Dropped,
     /// Memory was refused.
     NoMemory,
+    /// The hook did not let it through.
+    NotLet,
+    /// Nobody said that it may run.
+    NoHook,
 }
 
 /// How many kinds of reasons there are; stream faults are of one kind.
-pub const REASONS: usize = 14;
+pub const REASONS: usize = 16;
 
 impl AbortReason {
     ghost use Rattle.std.specs.Prelude.{◌≡◌, ◌<◌};
@@ -46,7 +50,7 @@ impl AbortReason {
     /// The place of its kind among all, below [`REASONS`].
     pub(crate) fn place(self) -> usize
         ensures place { result ≡ place_of self }
-        ensures within { result < 14 }
+        ensures within { result < 16 }
     {
         match self {
             AbortReason::HeadsChanged => 0,
@@ -63,6 +67,8 @@ impl AbortReason {
             AbortReason::ConnectionLost => 11,
             AbortReason::Dropped => 12,
             AbortReason::NoMemory => 13,
+            AbortReason::NotLet => 14,
+            AbortReason::NoHook => 15,
         }
     }
 
@@ -85,6 +91,8 @@ impl AbortReason {
             AbortReason::ConnectionLost => "connection lost",
             AbortReason::Dropped => "push dropped",
             AbortReason::NoMemory => "out of memory",
+            AbortReason::NotLet => "refused by the hook",
+            AbortReason::NoHook => "no answer of the hook",
         }
     }
 }

@@ -7,9 +7,8 @@ ghost use Rattle.hg_status.specs.Rows.{more_text, name_text, phase_cell, phase_t
 
 use crate::date::{Date, date_of, push_day, push_time};
 use crate::holdings::ShownHead;
-use crate::line::push_reason;
+use crate::line::{push_reason, push_waits};
 use crate::name::{Name, push_shown};
-use crate::numbers::push_millis;
 use crate::push::{Push, ShownOutcome};
 use hg_types::{NoMemory, Node, Phase};
 use std::alloc::Allocator;
@@ -221,9 +220,5 @@ fn push_costs<A: Allocator>(row: &mut String<A>, push: &Push) -> Result<(), NoMe
     let changesets = push.changesets;
     let bytes = push.bytes;
     write!(row, "<td>{changesets}<td>{bytes}<td>")?;
-    push_millis(row, push.locked)?;
-    row.push_str("<td>")?;
-    push_millis(row, push.synced)?;
-    row.push_str("\n")?;
-    Ok(())
+    push_waits(row, push, "<td>", "\n")
 }

@@ -1,9 +1,9 @@
 //! All that is shown.
 
 use crate::holdings::Holdings;
-use crate::phases::PhaseCounts;
 use crate::push::Push;
 use crate::push_counts::Counters;
+use hg_phases::PhaseCounts;
 use hg_types::Seq;
 use std::alloc::{Allocator, Global};
 
@@ -15,7 +15,7 @@ pub struct Summary<A: Allocator = Global> {
     /// Whether what is pushed becomes public.
     pub publishing: bool,
     pub holdings: Holdings<A>,
-    /// How many changesets are in each phase, when they were counted last.
+    /// How many changesets are in each phase.
     pub phases: PhaseCounts,
     pub counters: Counters,
     /// The last pushes, in the order in which they were answered.

@@ -34,7 +34,17 @@ fn empty<A: Allocator + Copy>(alloc: A, state: RandomState) -> Parts<A> {
 
 /// Adds a changeset without parents, and gives its id.
 fn put<A: Allocator + Copy>(alloc: A, parts: &mut Parts<A>, text: &[u8]) -> Result<Node, NoMemory> {
-    let node = node_id(&NULL, &NULL, text);
+    put_on(alloc, parts, NULL, text)
+}
+
+/// Adds a changeset with that parent, and gives its id.
+fn put_on<A: Allocator + Copy>(
+    alloc: A,
+    parts: &mut Parts<A>,
+    parent: Node,
+    text: &[u8],
+) -> Result<Node, NoMemory> {
+    let node = node_id(&parent, &NULL, text);
     let mut delta = Vec::new(alloc);
     delta.extend_from_slice(&[0, 0, 0, 0, 0, 0, 0, 0])?;
     let size = u32::try_from(text.len()).unwrap_or(u32::MAX);
@@ -42,7 +52,7 @@ fn put<A: Allocator + Copy>(alloc: A, parts: &mut Parts<A>, text: &[u8]) -> Resu
     delta.extend_from_slice(text)?;
     let entry = Entry {
         node,
-        p1: NULL,
+        p1: parent,
         p2: NULL,
         base: NULL,
         delta: Delta::of(Seq::from_vec(delta)),
@@ -117,7 +127,7 @@ fn summary<A: Allocator + Copy>(
 ) -> Result<Summary<A>, NoMemory> {
     let phases = drafts(alloc, &parts.log)?;
     let holdings = holdings_of(alloc, &parts.log, &phases, &parts.markers, &parts.bookmarks)?;
-    let counts = count_phases(&parts.log, &phases);
+    let counts = phases.counts();
     drop(phases);
     let mut recent = Seq::new(alloc);
     for push in tally.recent() {
@@ -292,6 +302,46 @@ fn a_branch_is_told_where_its_lines_were_read(rt: HostRuntime) -> Result<(), Fai
         assert_eq!(rt; has(&text, b"<i>not read</i>"), !is_read);
         assert_eq!(rt; has(&text, b"<bdi>default</bdi>"), is_read);
     }
+    Ok(())
+}
+
+/// The page of a changeset, of another and of a child of the first, with their ids.
+fn page_of_three(
+    alloc: Global,
+    parts: &mut Parts<Global>,
+) -> Result<(Seq<u8>, [Node; 3]), NoMemory> {
+    let first = put(alloc, parts, b"first")?;
+    let other = put(alloc, parts, b"other")?;
+    let child = put_on(alloc, parts, first, b"child")?;
+    let text = page_since(alloc, parts, 0)?;
+    Ok((text, [first, other, child]))
+}
+
+/// Where the text has the first digits of an id.
+fn place_of(alloc: Global, text: &Seq<u8>, node: &Node) -> Result<Option<usize>, Fail> {
+    let digits = hex::encode(alloc, &node.0[..6])?;
+    let place = text
+        .as_slice()
+        .windows(12)
+        .position(|part| part == digits.as_bytes());
+    Ok(place)
+}
+
+// A changeset, another, and a child of the first. Result: three drafts, of which two are heads, the child and then
+// the other.
+#[test]
+fn heads_from_the_last_down(rt: HostRuntime) -> Result<(), Fail> {
+    let alloc = rt.alloc();
+    let state = RandomState::new(&rt)?;
+    let mut parts = empty(alloc, state);
+    let page = page_of_three(alloc, &mut parts);
+    drop(parts);
+    let (text, [first, other, child]) = page?;
+    assert!(rt; has(&text, b"<b>2</b>heads"));
+    assert!(rt; has(&text, b"<b>3 draft</b>"));
+    assert_eq!(rt; place_of(alloc, &text, &first)?, None);
+    let child = place_of(alloc, &text, &child)?;
+    assert!(rt; child.is_some() && child < place_of(alloc, &text, &other)?);
     Ok(())
 }
 

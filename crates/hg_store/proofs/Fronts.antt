@@ -4,45 +4,25 @@ use Rattle.std.proofs.Common.{length, take, drop, refl, sym, ap, ◌∙◌, arit
 use Rattle.std.specs.List.{AllByRecursion}
 use Rattle.std.proofs.lemmas.Bool.{cases_lt}
 use Rattle.std.proofs.lemmas.List.{take-append-le, length-take-le, take_all, append-nil}
-use Rattle.hg_types.specs.Limits.{IsAllowed}
 use Rattle.hg_store.specs.declared.head.Head.{Head}
+use Rattle.hg_store.specs.declared.head.HeadFault.TheVariants.{TooShort}
+use Rattle.hg_store.specs.declared.head.Version.{Version}
+use Rattle.hg_store.specs.declared.head.Version.TheVariants.{First, Second}
+use Rattle.hg_store.specs.Entries.{Entry}
 use Rattle.hg_store.specs.Files.{FrontIsStore, stored}
-use Rattle.hg_store.specs.Head.{first_digest, head_bytes}
-use Rattle.hg_store.specs.Records.{size_bytes, digest_of, IsRecord, frame, frames, IsEnd, over, shut, IsTorn, short, cut_off, ReadsRecords}
-use Rattle.hg_store.proofs.Frames.{length-frame, length-digest}
+use Rattle.hg_store.specs.Head.{HasShortHead, IsHead, IsRefusedFor, first_digest, head_bytes, head_size, magic, version_byte, version_of}
+use Rattle.hg_store.specs.Records.{IsEnd, IsRecord, IsTorn, ReadsRecords, cut_off, digest_of, frame, frames, label, numbers_bytes, numbers_of, numbers_size, open_gate, over, short, shut}
+use Rattle.hg_store.proofs.Frames.{length-digest, length-frame, length-numbers}
 use Rattle.hg_store.proofs.Heads.{length-head}
 
 -- The first n bytes of these records and a shut gate are read as the first of them.
-record FrontReads (start : List ℕ) (records : List (List ℕ)) (n : ℕ) (front : List ℕ) : Type 0 where
+record FrontReads (version : Version) (start : List ℕ) (records : List Entry) (n : ℕ) (front : List ℕ) : Type 0 where
   pub count : ℕ
   pub tail : List ℕ
-  pub reads : ReadsRecords start front (take count records) tail
+  pub reads : ReadsRecords version start front (take count records) tail
   pub few : count ≤ length records
-  pub whole : length (frames start (take count records)) ≤ n
-  pub most : (count ≡ length records) ⊎ (n < length (frames start (take (count + 1) records)))
-
--- the front of a record that is cut off
-pub cut_frame : (before r : List ℕ) (n : ℕ) → IsRecord r → n < length (frame before r)
-    → IsEnd (take n (frame before r)) ⊎ IsTorn (take n (frame before r))
-cut_frame before r zero ir less = inl (over refl)
-cut_frame before r (suc zero) ir less = inr (short [] refl (omega arith))
-cut_frame before r (suc (suc zero)) ir less = inr (short (take 1 (drop 1 (frame before r))) refl (omega arith))
-cut_frame before r (suc (suc (suc zero))) ir less = inr (short (take 2 (drop 1 (frame before r))) refl (omega arith))
-cut_frame before r (suc (suc (suc (suc zero)))) ir less =
-    inr (short (take 3 (drop 1 (frame before r))) refl (omega arith))
-cut_frame before r (suc (suc (suc (suc (suc n))))) ir less =
-    let fields : List ℕ = digest_of before r ++ r in
-    let long : length fields ≡ 20 + length r = omega (
-      arith,
-      length-append (digest_of before r) r,
-      length-digest before r,
-    ) in
-    let size : length (frame before r) ≡ 25 + length r = length-frame before r in
-    inr (cut_off (length r) (take n fields) ir refl (omega (arith, long, size, less, length-take {A = ℕ} n fields)))
-
-shut_end : (n : ℕ) → IsEnd (take n (0 ∷ []))
-shut_end zero = over refl
-shut_end (suc n) = shut (take n []) refl
+  pub whole : length (frames version start (take count records)) ≤ n
+  pub most : (count ≡ length records) ⊎ (n < length (frames version start (take (count + 1) records)))
 
 -- after whole records
 take_behind : (n m : ℕ) (xs ys : List ℕ) → n ≡ length xs + m → take n (xs ++ ys) ≡ xs ++ take m ys
@@ -50,9 +30,34 @@ take_behind n m [] ys is = let e : n ≡ m = omega (arith, is) in ap (λ (k : �
 take_behind zero m (x ∷ xs) ys is = absurd (omega (arith, is))
 take_behind (suc n) m (x ∷ xs) ys is = ap (λ (l : List ℕ). x ∷ l) (take_behind n m xs ys (omega (arith, is)))
 
-front_lem : (start : List ℕ) (records : List (List ℕ)) (n : ℕ) → AllByRecursion IsRecord records
-    → FrontReads start records n (take n (frames start records ++ 0 ∷ []))
-front_lem start [] n each = record {
+-- the front of a record that is cut off
+pub cut_frame : (version : Version) (before : List ℕ) (r : Entry) (n : ℕ) → IsRecord version r
+    → n < length (frame version before r)
+    → IsEnd (take n (frame version before r)) ⊎ IsTorn version (take n (frame version before r))
+cut_frame version before r zero ir less = inl (over refl)
+cut_frame version before r (suc n) ir less =
+    let fields : List ℕ = label version r ++ (digest_of version before r ++ r.bundle) in
+    elim (cases_lt n (numbers_size version)) [
+      | inl few ↦ inr (short (take n fields) refl (omega (arith, few, length-take {A = ℕ} n fields)))
+      | inr some ↦
+          let rest : List ℕ = r.stamp.name ++ (digest_of version before r ++ r.bundle) in
+          let left : ℕ = n - numbers_size version in
+          let spelled : take n fields ≡ numbers_bytes version (numbers_of r) ++ take left rest =
+          ap (take n) (append_assoc (numbers_bytes version (numbers_of r)) r.stamp.name
+          (digest_of version before r ++ r.bundle))
+          ∙ take_behind n left (numbers_bytes version (numbers_of r)) rest
+          (omega (arith, some, length-numbers version (numbers_of r))) in
+          inr (cut_off (numbers_of r) (take left rest) ir (ap (λ (l : List ℕ). open_gate version ∷ l) spelled)
+          (omega (arith, less, some, length-frame version before r, length-take {A = ℕ} left rest)))
+    ]
+
+shut_end : (n : ℕ) → IsEnd (take n (0 ∷ []))
+shut_end zero = over refl
+shut_end (suc n) = shut (take n []) refl
+
+front_lem : (version : Version) (start : List ℕ) (records : List Entry) (n : ℕ) → AllByRecursion (IsRecord version) records
+    → FrontReads version start records n (take n (frames version start records ++ 0 ∷ []))
+front_lem version start [] n each = record {
   count = 0;
   tail = take n (0 ∷ []);
   reads = record { each = tt; ends = inl (shut_end n); spelled = refl };
@@ -60,78 +65,79 @@ front_lem start [] n each = record {
   whole = omega arith;
   most = inl refl;
 }
-front_lem start (r ∷ rs) n each = elim (cases_lt n (length (frame start r))) [
+front_lem version start (r ∷ rs) n each = elim (cases_lt n (length (frame version start r))) [
   | inl less ↦ record {
     count = 0;
-    tail = take n (frame start r);
+    tail = take n (frame version start r);
     reads = record {
       each = tt;
-      ends = cut_frame start r n each.0 less;
-      spelled = ap (take n) (append_assoc (frame start r) (frames (digest_of start r) rs) (0 ∷ []))
-          ∙ take-append-le n (frame start r) (frames (digest_of start r) rs ++ 0 ∷ []) (omega (arith, less));
+      ends = cut_frame version start r n each.0 less;
+      spelled = ap (take n) (append_assoc (frame version start r) (frames version (digest_of version start r) rs) (0 ∷ []))
+          ∙ take-append-le n (frame version start r) (frames version (digest_of version start r) rs ++ 0 ∷ []) (omega (arith, less));
     };
     few = omega arith;
     whole = omega arith;
-    most = inr (omega (arith, less, ap length (append-nil (frame start r))));
+    most = inr (omega (arith, less, ap length (append-nil (frame version start r))));
   }
   | inr enough ↦
-      let rest = front_lem (digest_of start r) rs (n - length (frame start r)) each.1 in
+      let rest = front_lem version (digest_of version start r) rs (n - length (frame version start r)) each.1 in
       record {
         count = suc rest.count;
         tail = rest.tail;
         reads = record {
           each = (each.0, rest.reads.each);
           ends = rest.reads.ends;
-          spelled = ap (take n) (append_assoc (frame start r) (frames (digest_of start r) rs) (0 ∷ []))
-              ∙ take_behind n (n - length (frame start r)) (frame start r)
-              (frames (digest_of start r) rs ++ 0 ∷ []) (omega (arith, enough))
-              ∙ ap (λ (l : List ℕ). frame start r ++ l) rest.reads.spelled
-              ∙ sym (append_assoc (frame start r) (frames (digest_of start r) (take rest.count rs)) rest.tail);
+          spelled = ap (take n) (append_assoc (frame version start r) (frames version (digest_of version start r) rs) (0 ∷ []))
+              ∙ take_behind n (n - length (frame version start r)) (frame version start r)
+              (frames version (digest_of version start r) rs ++ 0 ∷ []) (omega (arith, enough))
+              ∙ ap (λ (l : List ℕ). frame version start r ++ l) rest.reads.spelled
+              ∙ sym (append_assoc (frame version start r) (frames version (digest_of version start r) (take rest.count rs)) rest.tail);
         };
         few = omega (arith, rest.few);
         whole = omega (
           arith,
           rest.whole,
           enough,
-          length-append (frame start r) (frames (digest_of start r) (take rest.count rs)),
+          length-append (frame version start r) (frames version (digest_of version start r) (take rest.count rs)),
         );
         most = most_of r rs n rest.count enough rest.most;
       }
 ]
   where
-    most_of : (q : List ℕ) (qs : List (List ℕ)) (m k : ℕ) → length (frame start q) ≤ m
-        → (k ≡ length qs) ⊎ (m - length (frame start q) < length (frames (digest_of start q) (take (k + 1) qs)))
-        → (suc k ≡ length (q ∷ qs)) ⊎ (m < length (frames start (take (suc k + 1) (q ∷ qs))))
+    most_of : (q : Entry) (qs : List Entry) (m k : ℕ) → length (frame version start q) ≤ m
+        → (k ≡ length qs) ⊎ (m - length (frame version start q) < length (frames version (digest_of version start q) (take (k + 1) qs)))
+        → (suc k ≡ length (q ∷ qs)) ⊎ (m < length (frames version start (take (suc k + 1) (q ∷ qs))))
     most_of q qs m k le (inl all) = inl (ap suc all)
     most_of q qs m k le (inr less) =
         let e : suc k + 1 ≡ suc (k + 1) = omega arith in
-        let same : length (frames start (take (suc k + 1) (q ∷ qs)))
-        ≡ length (frame start q ++ frames (digest_of start q) (take (k + 1) qs)) =
-        ap (λ (j : ℕ). length (frames start (take j (q ∷ qs)))) e in
+        let same : length (frames version start (take (suc k + 1) (q ∷ qs)))
+        ≡ length (frame version start q ++ frames version (digest_of version start q) (take (k + 1) qs)) =
+        ap (λ (j : ℕ). length (frames version start (take j (q ∷ qs)))) e in
         inr (omega (
           arith,
           less,
           le,
           same,
-          length-append (frame start q) (frames (digest_of start q) (take (k + 1) qs)),
+          length-append (frame version start q) (frames version (digest_of version start q) (take (k + 1) qs)),
         ))
 
 -- The same of a whole store.
-pub front_is_store : (head : Head) (records : List (List ℕ)) (n : ℕ) → IsAllowed head.limits
-    → AllByRecursion IsRecord records → 38 ≤ n
+pub front_is_store : (head : Head) (records : List Entry) (n : ℕ) → IsHead head
+    → AllByRecursion (IsRecord (version_of head)) records → head_size (version_of head) ≤ n
     → FrontIsStore head records n (take n (stored head records ++ 0 ∷ []))
 front_is_store head records n allowed each enough =
     let start : List ℕ = first_digest head in
-    let rest = front_lem start records (n - 38) each in
+    let size : ℕ = head_size (version_of head) in
+    let rest = front_lem (version_of head) start records (n - size) each in
     record {
       count = rest.count;
       tail = rest.tail;
       store = record {
-        behind = take (n - 38) (frames start records ++ 0 ∷ []);
+        behind = take (n - size) (frames (version_of head) start records ++ 0 ∷ []);
         begins = record {
-          spelled = ap (take n) (append_assoc (head_bytes head) (frames start records) (0 ∷ []))
-              ∙ take_behind n (n - 38) (head_bytes head) (frames start records ++ 0 ∷ [])
-              (omega (arith, enough, length-head head));
+          spelled = ap (take n) (append_assoc (head_bytes head) (frames (version_of head) start records) (0 ∷ []))
+              ∙ take_behind n (n - size) (head_bytes head) (frames (version_of head) start records ++ 0 ∷ [])
+              (omega (arith, enough, length-head head allowed));
           allowed = allowed;
         };
         reads = rest.reads;
@@ -141,13 +147,13 @@ front_is_store head records n allowed each enough =
         arith,
         rest.whole,
         enough,
-        length-head head,
-        length-append (head_bytes head) (frames start (take rest.count records)),
+        length-head head allowed,
+        length-append (head_bytes head) (frames (version_of head) start (take rest.count records)),
       );
       most = most_of rest.count rest.most;
     }
   where
-    most_of : (k : ℕ) → (k ≡ length records) ⊎ (n - 38 < length (frames (first_digest head) (take (k + 1) records)))
+    most_of : (k : ℕ) → (k ≡ length records) ⊎ (n - head_size (version_of head) < length (frames (version_of head) (first_digest head) (take (k + 1) records)))
         → (k ≡ length records) ⊎ (n < length (stored head (take (k + 1) records)))
     most_of k (inl all) = inl all
     most_of k (inr less) =
@@ -155,9 +161,28 @@ front_is_store head records n allowed each enough =
           arith,
           less,
           enough,
-          length-head head,
-          length-append (head_bytes head) (frames (first_digest head) (take (k + 1) records)),
+          length-head head allowed,
+          length-append (head_bytes head) (frames (version_of head) (first_digest head) (take (k + 1) records)),
         ))
 
-pub no_store : (n : ℕ) (file : List ℕ) → n < 38 → length (take n file) < 38
-no_store n file less = omega (arith, less, length-take {A = ℕ} n file)
+-- a front that is shorter than a head
+short_front : (head : Head) (records : List Entry) (n : ℕ) (version : Version) → version_of head ≡ version
+    → n < head_size version → 38 ≤ n → HasShortHead (take n (stored head records ++ 0 ∷ []))
+short_front head records n First is less enough = absurd (omega (arith, less, enough))
+short_front head records n Second is less enough =
+    let file : List ℕ = stored head records ++ 0 ∷ [] in
+    let m : ℕ = n - 9 in
+    let e : n ≡ suc (suc (suc (suc (suc (suc (suc (suc (suc m)))))))) = omega (arith, enough) in
+    record {
+      behind = take m (drop 9 file);
+      spelled = ap (λ (k : ℕ). take k file) e
+          ∙ ap (λ (v : Version). magic ++ version_byte v ∷ take m (drop 9 file)) is;
+      short = omega (arith, less, length-take {A = ℕ} n file);
+    }
+
+pub no_store : (head : Head) (records : List Entry) (n : ℕ) → n < head_size (version_of head)
+    → IsRefusedFor TooShort (take n (stored head records ++ 0 ∷ []))
+no_store head records n less = elim (cases_lt n 38) [
+  | inl few ↦ inl (omega (arith, few, length-take {A = ℕ} n (stored head records ++ 0 ∷ [])))
+  | inr enough ↦ inr (short_front head records n (version_of head) refl less enough)
+]

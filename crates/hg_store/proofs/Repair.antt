@@ -1,25 +1,27 @@
 -- What a crash leaves while the end of a store is brought in order.
 use Rattle.std.proofs.Common.{◌≡◌, ◌⊎◌, inl, inr, ℕ, zero, suc, ◌+◌, ◌-◌, ◌<◌, ◌≤◌, List, [], ◌∷◌, ◌++◌, length, take, drop}
 use Rattle.std.proofs.Common.{refl, sym, ◌∙◌, ap, subst, arith, append_assoc, length-append, Result, Ok, Err}
-use Rattle.std.specs.Prelude.{OnOk}
+use Rattle.std.specs.Prelude.{IfOk, OnOk}
 use Rattle.std.proofs.lemmas.List.{take_at, take_all, drop_all, append-nil}
 use Rattle.std.specs.List.{AllByRecursion}
 use Rattle.hg_store.specs.declared.head.Head.{Head}
+use Rattle.hg_store.specs.Entries.{Entry}
 use Rattle.hg_store.specs.code.Batches.{EndsAt}
 use Rattle.hg_store.specs.code.Steps.{MayBeCut, MayBeTorn}
+use Rattle.hg_store.specs.declared.head.Version.TheVariants.{First}
 use Rattle.hg_store.specs.Device.{Cut, Overwrites, Only, Torn}
-use Rattle.hg_store.specs.Files.{IsStore, IsTornStore, StandsFor, stored}
-use Rattle.hg_store.specs.Head.{first_digest, head_bytes}
+use Rattle.hg_store.specs.Files.{IsOldStore, IsStore, IsTornStore, StandsFor, stored}
+use Rattle.hg_store.specs.Head.{first_digest, head_bytes, version_of}
 use Rattle.hg_store.specs.Log.{at_rest}
 use Rattle.hg_store.specs.Records.{IsEnd, IsTorn, over, shut, frames}
 use Rattle.hg_store.proofs.Crash.{closed}
 use Rattle.hg_store.proofs.OneReading.{one_reading_lem}
 
-pub spelled : (head : Head) (records : List (List ℕ)) (file tail : List ℕ) → IsStore file head records tail
+pub spelled : (head : Head) (records : List Entry) (file tail : List ℕ) → IsStore file head records tail
     → file ≡ stored head records ++ tail
 spelled head records file tail store =
     store.begins.spelled ∙ ap (λ (l : List ℕ). head_bytes head ++ l) store.reads.spelled
-    ∙ sym (append_assoc (head_bytes head) (frames (first_digest head) records) tail)
+    ∙ sym (append_assoc (head_bytes head) (frames (version_of head) (first_digest head) records) tail)
 
 take_past : (n m : ℕ) (xs ys : List ℕ) → n ≡ length xs + m → take n (xs ++ ys) ≡ xs ++ take m ys
 take_past n m [] ys is = let e : n ≡ m = omega (arith, is) in ap (λ (k : ℕ). take k ys) e
@@ -34,7 +36,7 @@ has_none : (tail : List ℕ) → IsEnd tail → length tail ≤ 0 → tail ≡ [
 has_none tail (over none) few = none
 has_none tail (shut behind is) few = absurd (omega (arith, few, ap length is))
 
-module _ (head : Head) (records : List (List ℕ)) (end : ℕ) (file : List ℕ)
+module _ (head : Head) (records : List Entry) (end : ℕ) (file : List ℕ)
     (rest : EndsAt head records end file) where
   abbrev tail : List ℕ
   tail = rest.stands.0
@@ -99,13 +101,13 @@ module _ (head : Head) (records : List (List ℕ)) (end : ℕ) (file : List ℕ)
     gate_left old only c (inr torn) =
         gate_stands c (subst (λ f. Torn end (0 ∷ []) f c) (only torn.0 torn.1) torn.2)
 
-pub here_stands : (head : Head) (records : List (List ℕ)) (file : List ℕ) (outcomes : List ℕ → Type 0)
+pub here_stands : (head : Head) (records : List Entry) (file : List ℕ) (outcomes : List ℕ → Type 0)
     → StandsFor head records file → Only file outcomes → (c : List ℕ) → outcomes c → StandsFor head records c
 here_stands head records file outcomes stands only c left =
     subst (StandsFor head records) (sym (only c left)) stands
 
 -- what was read is what the file stands for
-pub ends_as : (head other : Head) (records others : List (List ℕ)) (file bytes now tail : List ℕ) (end : ℕ)
+pub ends_as : (head other : Head) (records others : List Entry) (file bytes now tail : List ℕ) (end : ℕ)
     → StandsFor head records file → bytes ≡ file → IsStore bytes other others tail
     → end ≡ length (stored other others) → now ≡ file → EndsAt head records end now
 ends_as head other records others file bytes now tail end stands is store ends same =
@@ -117,13 +119,13 @@ ends_as head other records others file bytes now tail end stands is store ends s
     }
 
 -- what was read and is not torn is what the file stands for
-pub stands_as : (head : Head) (records : List (List ℕ)) (file bytes : List ℕ) (end : ℕ) → bytes ≡ file
+pub stands_as : (head : Head) (records : List Entry) (file bytes : List ℕ) (end : ℕ) → bytes ≡ file
     → IsStore bytes head records (drop end bytes) → IsEnd (drop end bytes) → StandsFor head records file
 stands_as head records file bytes end is store ends =
     subst (StandsFor head records) is (drop end bytes, store, ends)
 
-pub is_torn : (head : Head) (records : List (List ℕ)) (file bytes : List ℕ) (end whole : ℕ) → bytes ≡ file
-    → IsStore bytes head records (drop end bytes) → IsTorn (drop end bytes) → whole ≡ length records
+pub is_torn : (head : Head) (records : List Entry) (file bytes : List ℕ) (end whole : ℕ) → bytes ≡ file
+    → IsStore bytes head records (drop end bytes) → IsTorn (version_of head) (drop end bytes) → whole ≡ length records
     → IsTornStore file whole
 is_torn head records file bytes end whole is store torn count =
     let at : IsTornStore bytes whole = record {
@@ -136,9 +138,17 @@ is_torn head records file bytes end whole is store torn count =
     } in
     subst (λ (f : List ℕ). IsTornStore f whole) is at
 
+pub is_old : (head : Head) (records : List Entry) (file bytes tail : List ℕ) → bytes ≡ file
+    → IsStore bytes head records tail → version_of head ≡ First → IsOldStore file
+is_old head records file bytes tail is store version = subst IsOldStore is (head, records, tail, store, version)
+
 pub only_as : (old new : List ℕ) (before now : List ℕ → Type 0) → Only old before → new ≡ old
     → ((c : List ℕ) → now c → before c) → Only new now
 only_as old new before now only same less c left = only c (less c left) ∙ sym same
+
+pub if_ok : {T E : Type 0} (r : Result T E) (P Q : T → Type 0) → ((x : T) → P x → Q x) → IfOk r P → IfOk r Q
+if_ok (Ok x) P Q f p = f x p
+if_ok (Err e) P Q f p = tt
 
 pub on_ok : {T E : Type 0} (r : Result T E) (P Q : Type 0) → (P → Q) → OnOk r P → OnOk r Q
 on_ok (Ok x) P Q f p = f p

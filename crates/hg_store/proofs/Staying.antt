@@ -1,12 +1,16 @@
 -- What is written at the end of a file, one write after another, and what stays at its front.
 use Rattle.std.proofs.Common.{◌≡◌, ℕ, ◌+◌, ◌-◌, ◌<◌, ◌≤◌, List, [], ◌∷◌, ◌++◌, length, take, drop, get_or}
-use Rattle.std.proofs.Common.{refl, sym, ap, ◌∙◌, arith}
+use Rattle.std.proofs.Common.{refl, sym, ap, ◌∙◌, arith, subst}
 use Rattle.std.proofs.Common.{append_assoc, length-append, take-append-drop}
-use Rattle.std.proofs.lemmas.List.{drop-append-le, take_all}
+use Rattle.std.proofs.lemmas.List.{drop-append-le, take_all, take_more}
+use Rattle.std.specs.List.{AllByRecursion}
+use Rattle.hg_store.specs.Entries.{Entry}
+use Rattle.hg_store.specs.declared.head.Version.{Version}
+use Rattle.hg_store.specs.declared.head.Version.TheVariants.{Second}
 use Rattle.hg_store.specs.Device.{Elapses, Only}
 use Rattle.hg_store.specs.code.Fronts.{Begin, Begins, KeepsFront}
-use Rattle.hg_store.specs.Records.{size_bytes, digest_of, frame, frames, last_digest}
-use Rattle.hg_store.proofs.Frames.{batch_more, frames-append, length-frame}
+use Rattle.hg_store.specs.Records.{IsRecord, digest_of, frame, frames, label, last_digest, numbers_bytes, numbers_of, open_gate}
+use Rattle.hg_store.proofs.Frames.{batch_more, each-push, frames-append, length-frame}
 use Rattle.hg_store.proofs.Moments.{started, goes_on, one_behind}
 
 module _ {D : Type 0} (moment : D → ℕ) (left_since : D → ℕ → List ℕ → Type 0) (may_leave : D → List ℕ
@@ -51,54 +55,70 @@ drop_one [] ys = refl
 drop_one (x ∷ xs) ys =
     let none : 0 ≡ 1 - length (x ∷ xs) = omega arith in ap (λ (n : ℕ). xs ++ drop n ys) none
 
--- the frame by what stands before its bytes
-frame_is_head : (digest r : List ℕ) → (1 ∷ size_bytes (length r) ++ digest_of digest r) ++ r ≡ frame digest r
-frame_is_head digest r = append_assoc (1 ∷ size_bytes (length r)) (digest_of digest r) r
-
-length-head : (size : ℕ) (digest : List ℕ) → 1 ≤ length (1 ∷ size_bytes size ++ digest)
-length-head size digest = omega arith
+-- a record that was written in two pieces, but so many bytes of its front
+pub record_written : (before : List ℕ) (r : Entry) (skipped : ℕ) (old middle new head digest : List ℕ) → skipped ≤ 1
+    → head ≡ open_gate Second ∷ numbers_bytes Second (numbers_of r) → digest ≡ digest_of Second before r
+    → middle ≡ old ++ (drop skipped head ++ r.stamp.name) → new ≡ middle ++ (digest ++ r.bundle)
+    → new ≡ old ++ drop skipped (frame Second before r)
+record_written before r skipped old middle new head digest few head_is digest_is middle_is new_is =
+    let back : List ℕ = digest_of Second before r ++ r.bundle in
+    let whole : (head ++ r.stamp.name) ++ back ≡ frame Second before r =
+    ap (λ (h : List ℕ). (h ++ r.stamp.name) ++ back) head_is in
+    let at_first : skipped ≤ length head = omega (arith, few, ap length head_is) in
+    let at_name : skipped ≤ length (head ++ r.stamp.name) =
+    omega (arith, at_first, length-append head r.stamp.name) in
+    new_is
+    ∙ (λ i. middle_is i ++ (digest_is i ++ r.bundle))
+    ∙ append_assoc old (drop skipped head ++ r.stamp.name) back
+    ∙ ap (λ (l : List ℕ). old ++ (l ++ back)) (sym (drop-append-le skipped head r.stamp.name at_first))
+    ∙ ap (λ (l : List ℕ). old ++ l) (sym (drop-append-le skipped (head ++ r.stamp.name) back at_name))
+    ∙ ap (λ (l : List ℕ). old ++ drop skipped l) whole
 
 -- The records of a batch so far but the gate of the first, with one more.
-pub more_written : (rest before : List ℕ) (batch : List (List ℕ)) (i skipped : ℕ)
-    (seen grown digest next head r : List ℕ) → i < length batch → r ≡ get_or batch i r
-    → seen ≡ rest ++ drop 1 (frames before (take i batch)) → digest ≡ last_digest before (take i batch)
-    → skipped ≡ 1 - length (frames before (take i batch)) → next ≡ digest_of digest r
-    → head ≡ 1 ∷ size_bytes (length r) ++ next → grown ≡ seen ++ (drop skipped head ++ r)
-    → (grown ≡ rest ++ drop 1 (frames before (take (i + 1) batch)))
-    × (next ≡ last_digest before (take (i + 1) batch))
-    × (0 ≡ 1 - length (frames before (take (i + 1) batch)))
-more_written rest before batch i skipped seen grown digest next head r lt is seen_is digest_is skipped_is
-    next_is head_is
-    grown_is =
-    let so_far : List ℕ = frames before (take i batch) in
-    let more = batch_more before batch i so_far (so_far ++ frame digest r) digest next r lt is refl
-    digest_is next_is
-    refl in
-    let whole : head ++ r ≡ frame digest r =
-    ap (λ (h : List ℕ). h ++ r) (head_is ∙ ap (λ (d : List ℕ). 1 ∷ size_bytes (length r) ++ d) next_is)
-    ∙ frame_is_head digest r in
-    let few : skipped ≤ length head =
-    omega (arith, skipped_is, ap length head_is, length-head (length r) next) in
-    let written : drop skipped head ++ r ≡ drop (1 - length so_far) (frame digest r) =
-    sym (drop-append-le skipped head r few) ∙ ap (drop skipped) whole
-    ∙ ap (λ (n : ℕ). drop n (frame digest r)) skipped_is in (
-      grown_is ∙ ap (λ (s : List ℕ). s ++ (drop skipped head ++ r)) seen_is
-          ∙ append_assoc rest (drop 1 so_far) (drop skipped head ++ r)
-          ∙ ap (λ (l : List ℕ). rest ++ (drop 1 so_far ++ l)) written
-          ∙ ap (λ (l : List ℕ). rest ++ l) (sym (drop_one so_far (frame digest r)))
+pub more_written : (rest before : List ℕ) (batch : List Entry) (i skipped : ℕ)
+    (seen grown digest next : List ℕ) (r : Entry) → i < length batch → r ≡ get_or batch i r
+    → seen ≡ rest ++ drop 1 (frames Second before (take i batch))
+    → digest ≡ last_digest Second before (take i batch)
+    → skipped ≡ 1 - length (frames Second before (take i batch)) → next ≡ digest_of Second digest r
+    → grown ≡ seen ++ drop skipped (frame Second digest r)
+    → (grown ≡ rest ++ drop 1 (frames Second before (take (i + 1) batch)))
+    × (next ≡ last_digest Second before (take (i + 1) batch))
+    × (0 ≡ 1 - length (frames Second before (take (i + 1) batch)))
+more_written rest before batch i skipped seen grown digest next r lt is seen_is digest_is skipped_is next_is grown_is =
+    let so_far : List ℕ = frames Second before (take i batch) in
+    let more = batch_more Second before batch i so_far (so_far ++ frame Second digest r) digest next r lt is refl
+    digest_is next_is refl in (
+      grown_is ∙ ap (λ (s : List ℕ). s ++ drop skipped (frame Second digest r)) seen_is
+          ∙ append_assoc rest (drop 1 so_far) (drop skipped (frame Second digest r))
+          ∙ ap (λ (n : ℕ). rest ++ (drop 1 so_far ++ drop n (frame Second digest r))) skipped_is
+          ∙ ap (λ (l : List ℕ). rest ++ l) (sym (drop_one so_far (frame Second digest r)))
           ∙ ap (λ (l : List ℕ). rest ++ drop 1 l) more.0,
       more.1,
-      omega (arith, ap length more.0, length-append so_far (frame digest r), length-frame digest r),
+      omega (
+        arith,
+        ap length more.0,
+        length-append so_far (frame Second digest r),
+        length-frame Second digest r,
+      ),
     )
 
+-- each record so far can be written, and one more
+pub each_more : (batch : List Entry) (i : ℕ) (r : Entry) → i < length batch → r ≡ get_or batch i r
+    → AllByRecursion (IsRecord Second) (take i batch) → IsRecord Second r
+    → AllByRecursion (IsRecord Second) (take (i + 1) batch)
+each_more batch i r lt is each one =
+    let e : take (i + 1) batch ≡ take i batch ++ r ∷ [] = take_more batch i r lt
+    ∙ ap (λ (x : Entry). take i batch ++ x ∷ []) (sym is) in
+    subst (AllByRecursion (IsRecord Second)) (sym e) (each-push Second (take i batch) r each one)
+
 -- the first records of a batch have no more bytes than all
-pub frames_grow : (before : List ℕ) (batch : List (List ℕ)) (i : ℕ)
-    → length (frames before (take i batch)) ≤ length (frames before batch)
+pub frames_grow : (before : List ℕ) (batch : List Entry) (i : ℕ)
+    → length (frames Second before (take i batch)) ≤ length (frames Second before batch)
 frames_grow before batch i =
-    let first : List (List ℕ) = take i batch in
-    let both : length (frames before batch) ≡ length (frames before first)
-    + length (frames (last_digest before first) (drop i batch)) =
-    ap (λ (l : List (List ℕ)). length (frames before l)) (sym (take-append-drop i batch))
-    ∙ ap length (frames-append before first (drop i batch))
-    ∙ length-append (frames before first) (frames (last_digest before first) (drop i batch)) in
+    let first : List Entry = take i batch in
+    let both : length (frames Second before batch) ≡ length (frames Second before first)
+    + length (frames Second (last_digest Second before first) (drop i batch)) =
+    ap (λ (l : List Entry). length (frames Second before l)) (sym (take-append-drop i batch))
+    ∙ ap length (frames-append Second before first (drop i batch))
+    ∙ length-append (frames Second before first) (frames Second (last_digest Second before first) (drop i batch)) in
     omega (arith, both)

@@ -1,4 +1,5 @@
 pub mod Head
+pub mod Entries
 pub mod Records
 pub mod Files
 pub mod Device

@@ -1,15 +1,16 @@
 //! A store in its folder: a file `pushes`, and `pushes.new` while that is made.
 
-ghost use Rattle.std.specs.Prelude.{◌≡◌, ◌⊎◌, [], ◌∷◌, IfErr, IfOk, MatchResult};
+ghost use Rattle.std.specs.Prelude.{◌≡◌, ◌⊎◌, [], ◌∷◌, IfErr, IfOk, MatchResult, length};
 ghost use Rattle.hg_store.specs.Calls.{renewed};
 ghost use Rattle.hg_store.specs.Folders.{IsLookedFor, IsMadeAtMost};
+ghost use Rattle.hg_store.specs.Head.{head_for};
 ghost use Rattle.hg_store.specs.Log.{IsSettled};
 ghost use Rattle.hg_store.specs.Openings.{IsFound, IsOfFolder, IsUnopened};
 
 use crate::calls::Calls;
 use crate::device::{Device, DeviceError};
 use crate::file::StoreFile;
-use crate::head::Head;
+use crate::head::{Head, Setup};
 use crate::history::Call;
 use crate::host::{HostFile, device_error, read_all};
 use crate::names::StoreFolder;
@@ -18,27 +19,32 @@ use crate::placed::{PlacedFile, hold, path_in, sync_folder};
 use crate::start::{Opened, StoreFault, open_file};
 use std::alloc::Allocator;
 use std::fs::{File, Files, OpenOptions};
+use std::io::Read;
 use std::{fs, io};
 
 /// The name of the file.
 const NAME: &str = "pushes";
 
+/// Where the system gives random bytes.
+const RANDOM: &str = "/dev/urandom";
+
 /// Its name while it is made.
 const NEW_NAME: &str = "pushes.new";
 
-/// Makes a store with no record in a folder, which is made if it is not there. Where a store is there it is
-/// refused, and nothing is changed.
+/// Makes a store with no record, and with a name of random bytes, in a folder, which is made if it is not there. Where a
+/// store is there it is refused, and nothing is changed.
 pub fn create_store<R: Files<File = File>, A: Allocator + Copy>(
     alloc: A,
     folder: &mut StoreFolder<'_, R>,
-    head: &Head,
+    setup: &Setup,
 ) -> Result<(), StoreFault>
     ensures err { IfErr result IsOfFolder }
     ensures names { IsMadeAtMost folder.old folder.new }
 {
     make_folder(folder.files(), alloc, folder.path())?;
+    let head = setup.head(new_identity(folder.files())?);
     let mut new = new_store(alloc, folder)?;
-    let result = create_in(folder.files(), alloc, &mut new, head);
+    let result = create_in(folder.files(), alloc, &mut new, &head);
     if result.is_err() {
         new.remove();
     }
@@ -61,29 +67,48 @@ fn create_in<R: Files<File = File>, A: Allocator + Copy>(
     }
 }
 
+/// Random bytes of the system, as the name of a store.
+pub fn new_identity<R: Files<File = File>>(files: &R) -> Result<[u8; 16], StoreFault>
+    ensures size { IfOk result (λ identity. length identity ≡ 16) }
+    ensures err { IfErr result IsOfFolder }
+{
+    match random_bytes(files) {
+        Ok(identity) => Ok(identity),
+        Err(error) => Err(store_fault(error)),
+    }
+}
+
 /// Opens the store in a folder, and holds it against other processes until it is dropped. The folder is synced, since
 /// whoever gave the file its name may have ended before that; where this fails the store is not opened. Then it is
 /// read and brought in order as [`open_file`] does.
 pub fn open_store<R: Files<File = File>, A: Allocator + Copy>(
     alloc: A,
     folder: &mut StoreFolder<'_, R>,
-    head: &Head,
+    setup: &Setup,
 ) -> Result<Opened<HostFile, A>, StoreFault>
     ensures settled { IfOk result (λ opened. IsSettled ⟦<StoreFile<HostFile, A> as Device>⟧.seen
-        ⟦<StoreFile<HostFile, A> as Device>⟧.may_leave head.now opened.records opened.log) }
-    ensures found { IfOk result (λ opened. IsFound head.now opened.records []
+        ⟦<StoreFile<HostFile, A> as Device>⟧.may_leave (head_for setup.now opened.identity) opened.records opened.log) }
+    ensures found { IfOk result (λ opened. IsFound (head_for setup.now opened.identity) opened.records []
         (⟦<HostFile as Calls>⟧.history opened.log.device.calls)) }
     ensures err { IfErr result (λ fault. IsOfFolder fault ⊎ ((read : HostFile)
-        × IsUnopened fault head.now [] (⟦<HostFile as Calls>⟧.history read))) }
+        × IsUnopened fault setup.now [] (⟦<HostFile as Calls>⟧.history read))) }
     ensures names { MatchResult result (λ _. folder.new ≡ folder.old)
         (λ fault. IsLookedFor fault folder.old folder.new) }
 {
     let file = find(alloc, folder)?;
     sync_names(folder.files(), alloc, folder.path())?;
-    match open_file(alloc, HostFile::new(file), head) {
+    match open_file(alloc, HostFile::new(file), setup) {
         Ok(opened) => Ok(opened),
         Err(left) => Err(left.fault),
     }
+}
+
+fn random_bytes<R: Files<File = File>>(files: &R) -> io::Result<[u8; 16]>
+    ensures { IfOk result (λ bytes. length bytes ≡ 16) }
+{
+    let mut bytes = [0; 16];
+    File::open(files, RANDOM)?.read_exact(&mut bytes)?;
+    Ok(bytes)
 }
 
 /// The file of the store, which is held. Where there is none, that is noted.

@@ -1,39 +1,47 @@
 //! A store: a file of records, each on the disk before it is acknowledged. A crash leaves whole records,
 //! none skipped.
 //!
-//! A record is any bytes, as a bundle. [`put_record`] writes it after its size and its digest, which takes
-//! in the digest of the record before; [`read_records`] reads the records of a store, up to its end or to a
-//! torn record. [`laws`] says that a store is read in one way, and that a front of it, cut anywhere, is
-//! read as the records that are whole in it. [`Log`] adds records on a [`Device`], each with the digest of
-//! its bytes, as [`Sealed`] makes it. Nothing here starts a thread or waits.
+//! A record is the bundle of a push, any bytes, with a stamp: when it came, and who pushed it. [`put_record`] writes it
+//! after its numbers, its name and its digest, which takes in the digest of the record before; [`read_records`] reads the
+//! records of a store, up to its end or to a torn record. [`laws`] says that a store is read in one way, and that a front
+//! of it, cut anywhere, is read as the records that are whole in it. [`Log`] adds records on a [`Device`], each with the
+//! digest of its bundle, as [`Sealed`] makes it. Nothing here starts a thread or waits.
 //!
-//! Numbers of several bytes have the high byte first. The head of a store has 38 bytes:
+//! Numbers of several bytes have the high byte first. The head of a store has 54 bytes:
 //!
 //! | bytes | what |
 //! |---|---|
 //! | 8 | the letters `HGPUSHES` |
-//! | 1 | the version, 1 |
+//! | 1 | the version, 2 |
 //! | 1 | 1 where the server publishes, and else 0 |
 //! | 28 | the limits, seven numbers of four bytes, from `params` to `revisions` |
+//! | 16 | random bytes that name the store |
 //!
 //! The records follow, one after the other:
 //!
 //! | bytes | what |
 //! |---|---|
-//! | 1 | the gate: 1 where a record follows, and 0 where none does |
-//! | 4 | the number of its bytes |
-//! | 20 | its digest: SHA-1 of the digest before and of the SHA-1 of its bytes |
-//! | size | its bytes |
+//! | 1 | the gate: 255 where a record follows, and 0 where none does |
+//! | 4 | the number of the bytes of its bundle, `size` |
+//! | 8 | when it came, in milliseconds since 1970 |
+//! | 1 | the number of the bytes of the name, `named` |
+//! | named | the name of who pushed it |
+//! | 20 | its digest: SHA-1 of the digest before, of what stands from `size` to the name, and of the SHA-1 of its bundle |
+//! | size | its bundle |
 //!
 //! The digest before the first record is the SHA-1 of the head.
 //!
 //! A store ends at a gate that is 0, whatever stands after it, or with the file. Less than a whole record
-//! after a gate that is 1 is a torn record. Another gate is damage, and so is another digest in a whole
-//! record.
+//! after an open gate is a torn record. Another gate is damage, and so is another digest in a whole record.
+//!
+//! Version 1 is read, and gets no more records. There the head has the byte 1 and no name, an open gate is 1, a record has
+//! no time, no number of a name and no name, and its digest takes in that of the record before and the SHA-1 of its
+//! bundle.
 #![tactic(auto)]
 
 mod calls;
 mod device;
+mod entry;
 mod file;
 mod folder;
 mod head;
@@ -42,6 +50,7 @@ mod host;
 pub mod laws;
 mod log;
 mod names;
+mod numbers;
 mod opening;
 mod place;
 mod placed;
@@ -52,11 +61,13 @@ mod start;
 
 pub use calls::Calls;
 pub use device::{Device, DeviceError};
+pub use entry::{Entry, Stamp, Standing};
 pub use file::StoreFile;
 pub use folder::{
-    create_store, kept_file, make_folder, new_store, open_held, open_store, store_bytes,
+    create_store, kept_file, make_folder, new_identity, new_store, open_held, open_store,
+    store_bytes,
 };
-pub use head::{HEAD_SIZE, Head, HeadFault};
+pub use head::{Head, HeadFault, Setup, Version};
 pub use history::{Call, History};
 pub use host::{HostFile, read_all};
 pub use log::Log;

@@ -2,7 +2,8 @@
 
 ghost use Rattle.std.specs.Prelude.{◌≡◌, ◌<◌, ◌≤◌, ◌+◌, List, ℕ, IfOk, IsErrOf, OnOk, length, take};
 ghost use Rattle.hg_store.specs.Device.{IsUnchanged, LeavesOnly, Only};
-ghost use Rattle.hg_store.specs.Files.{IsTornStore, IsUnread, StandsFor};
+ghost use Rattle.hg_store.specs.Entries.{Entry as AnyEntry};
+ghost use Rattle.hg_store.specs.Files.{IsOldStore, IsTornStore, IsUnread, StandsFor};
 ghost use Rattle.hg_store.specs.Log.{IsSettledAt, at_rest};
 ghost use Rattle.hg_store.specs.code.Batches.{EndsAt};
 ghost use Rattle.hg_store.specs.code.Steps.{MayBeCut};
@@ -10,11 +11,12 @@ ghost use Rattle.hg_store.specs.declared.head.Head.{Head};
 ghost use Rattle.hg_store.specs.declared.device.DeviceError.TheVariants.{Failed, Full};
 ghost use Rattle.hg_store.specs.declared.read.ReadFault.{ReadFault as AnyReadFault};
 ghost use Rattle.hg_store.specs.declared.opening.RecoverFault.TheVariants.{Device as device_fault};
-ghost use Rattle.hg_store.specs.declared.opening.RecoverFault.TheVariants.{Read as unread, Torn as torn_behind};
+ghost use Rattle.hg_store.specs.declared.opening.RecoverFault.TheVariants.{OldVersion as old_version, Read as unread, Torn as torn_behind};
 
 use crate::device::{Device, DeviceError};
 use crate::log::put_synced;
 use crate::read::{Found, ReadFault, read_records};
+use crate::record::SHUT;
 use std::alloc::Allocator;
 use thiserror::Error;
 
@@ -24,6 +26,9 @@ pub enum RecoverFault {
     /// It is not read. Nothing is changed.
     #[error("a store that is not read: {0}")]
     Read(ReadFault),
+    /// It is of version 1. Nothing is changed.
+    #[error("a store of version 1: upgrade it with `hg_pushd upgrade`")]
+    OldVersion,
     /// After so many whole records stands a torn one. Nothing is changed.
     #[error("a torn record behind {0} whole ones")]
     Torn(usize),
@@ -54,9 +59,9 @@ impl From<DeviceError> for RecoverFault {
     }
 }
 
-/// Reads a store, and brings its end in order: what stands after a shut gate is cut off, and where there
-/// is no gate a shut one is written; then all is on the device. A torn store and one that is not read are
-/// refused, and nothing in them is changed. After an `Err` of the device, recover again.
+/// Reads a store of version 2, and brings its end in order: what stands after a shut gate is cut off, and where there
+/// is no gate a shut one is written; then all is on the device. A torn store, one of version 1 and one that is not read
+/// are refused, and nothing in them is changed. After an `Err` of the device, recover again.
 pub fn recover<A: Allocator + Copy, D: Device>(
     alloc: A,
     device: &mut D,
@@ -66,13 +71,15 @@ pub fn recover<A: Allocator + Copy, D: Device>(
         found.end found.digest) }
 
     // A crash at any moment of the call loses none of the records.
-    ensures any_moment { (head : Head) (records : List (List ℕ)) → StandsFor head records (D.seen device.old) →
+    ensures any_moment { (head : Head) (records : List AnyEntry) → StandsFor head records (D.seen device.old) →
         Only (D.seen device.old) (D.may_leave device.old) →
         LeavesOnly D.moment D.left_since device.old device.new (StandsFor head records) }
 
     ensures same_file { D.goes_on device.old device.new }
     ensures torn { (whole : ℕ) → IsErrOf result (torn_behind whole) →
         IsTornStore (D.seen device.old) whole × IsUnchanged D.seen D.may_leave device.old device.new }
+    ensures old_version { IsErrOf result old_version →
+        IsOldStore (D.seen device.old) × IsUnchanged D.seen D.may_leave device.old device.new }
     ensures unread { (fault : AnyReadFault) → IsErrOf result (unread fault) →
         IsUnread fault (D.seen device.old) × IsUnchanged D.seen D.may_leave device.old device.new }
     ensures failed { IsErrOf result (device_fault Failed) → D.faults device.old < D.faults device.new }
@@ -80,6 +87,9 @@ pub fn recover<A: Allocator + Copy, D: Device>(
 {
     let bytes = device.read(alloc)?;
     let found = read_records(alloc, &bytes)?;
+    if found.head.is_old() {
+        return Err(RecoverFault::OldVersion);
+    }
     if found.is_torn {
         return Err(RecoverFault::Torn(found.records.len()));
     }
@@ -91,10 +101,10 @@ pub fn recover<A: Allocator + Copy, D: Device>(
 fn shut_gate<D: Device>(device: &mut D, end: usize, len: usize) -> Result<(), DeviceError>
     requires len { len ≡ length (D.seen device.old) }
     requires end { end ≤ len }
-    ensures at_rest { (head : Head) (records : List (List ℕ)) → EndsAt head records end (D.seen device.old) →
+    ensures at_rest { (head : Head) (records : List AnyEntry) → EndsAt head records end (D.seen device.old) →
         OnOk result (D.seen device.new ≡ at_rest head records) }
     ensures durable { OnOk result (Only (D.seen device.new) (D.may_leave device.new)) }
-    ensures any_moment { (head : Head) (records : List (List ℕ)) → EndsAt head records end (D.seen device.old) →
+    ensures any_moment { (head : Head) (records : List AnyEntry) → EndsAt head records end (D.seen device.old) →
         Only (D.seen device.old) (D.may_leave device.old) →
         LeavesOnly D.moment D.left_since device.old device.new (StandsFor head records) }
     ensures same_file { D.goes_on device.old device.new }
@@ -105,7 +115,7 @@ fn shut_gate<D: Device>(device: &mut D, end: usize, len: usize) -> Result<(), De
     if end < len {
         return cut_synced(device, end + 1);
     }
-    put_synced(device, end, &[0])
+    put_synced(device, end, &[SHUT])
 }
 
 /// Cuts, and syncs.

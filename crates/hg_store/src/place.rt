@@ -3,6 +3,7 @@
 ghost use Rattle.std.specs.Prelude.{◌≡◌, ◌∷◌, ◌⊎◌, [], IfErr, IfOk, OnOk, is_ok};
 ghost use Rattle.std.specs.List.{AllByRecursion};
 ghost use Rattle.hg_store.specs.Calls.{HasFailed, IsPlaced, IsPlacedWhole, placed};
+ghost use Rattle.hg_store.specs.Head.{version_of};
 ghost use Rattle.hg_store.specs.Log.{at_rest};
 ghost use Rattle.hg_store.specs.Records.{IsRecord};
 ghost use Rattle.hg_store.specs.declared.opening.RecoverFault.TheVariants.{Device as device_fault};
@@ -10,11 +11,13 @@ ghost use Rattle.hg_store.specs.declared.start.StoreFault.TheVariants.{Recover};
 
 use crate::calls::Calls;
 use crate::device::DeviceError;
+use crate::entry::Entry;
 use crate::file::told;
 use crate::head::Head;
 use crate::log::batch_bytes;
+use crate::record::SHUT;
 use crate::start::StoreFault;
-use hg_types::{NoMemory, Seq};
+use hg_types::NoMemory;
 use sha1::Sha1;
 use std::alloc::Allocator;
 use std::io;
@@ -40,8 +43,7 @@ pub fn put_whole<N: NewFile>(file: &mut N, bytes: &[u8]) -> Result<(), DeviceErr
     told(file.put_in_place())
 }
 
-/// Writes the store of a server that is set up in this way, with no record, to a new file, and gives it its
-/// name.
+/// Writes a store with this head and no record to a new file, and gives it its name.
 pub fn create_file<N: NewFile, A: Allocator + Copy>(
     alloc: A,
     new: &mut N,
@@ -53,7 +55,7 @@ pub fn create_file<N: NewFile, A: Allocator + Copy>(
     ensures failed { IfErr result (λ fault. (fault ≡ Recover (device_fault DeviceError.Memory))
         ⊎ ((fault ≡ Recover (device_fault DeviceError.Failed)) × HasFailed (N.Calls.history new.new))) }
 {
-    let none: Vec<Seq<u8, A>, A> = Vec::new(alloc);
+    let none: Vec<Entry<A>, A> = Vec::new(alloc);
     let bytes = bytes_at_rest(alloc, head, &none)?;
     put_whole(new, &bytes)?;
     Ok(())
@@ -63,15 +65,15 @@ pub fn create_file<N: NewFile, A: Allocator + Copy>(
 pub fn bytes_at_rest<A: Allocator + Copy>(
     alloc: A,
     head: &Head,
-    records: &[Seq<u8, A>],
+    records: &[Entry<A>],
 ) -> Result<Vec<u8, A>, NoMemory>
-    requires { AllByRecursion IsRecord records.now }
+    requires { AllByRecursion (IsRecord (version_of head.now)) records.now }
     ensures { IfOk result (λ bytes. bytes.items ≡ at_rest head.now records.now) }
 {
     let mut bytes = Vec::new(alloc);
     head.put(&mut bytes)?;
-    let (frames, _digest) = batch_bytes(alloc, &Sha1::digest(&bytes), records)?;
+    let (frames, _digest) = batch_bytes(alloc, head.version(), &Sha1::digest(&bytes), records)?;
     bytes.extend_from_slice(&frames)?;
-    bytes.push(0)?;
+    bytes.push(SHUT)?;
     Ok(bytes)
 }

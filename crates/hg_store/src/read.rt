@@ -4,13 +4,15 @@ ghost use Rattle.std.specs.Prelude.{◌≡◌, ◌++◌, List, ℕ, IfOk, IsErrO
 ghost use Rattle.std.specs.Prelude.{true, false};
 ghost use Rattle.hg_store.specs.declared.head.HeadFault.{HeadFault};
 ghost use Rattle.hg_store.specs.declared.read.ReadFault.TheVariants.{Head as no_head, Damaged as damaged};
+ghost use Rattle.hg_store.specs.Entries.{Entry as AnyEntry};
 ghost use Rattle.hg_store.specs.Files.{IsDamagedStore, IsStore, digest_behind, stored};
-ghost use Rattle.hg_store.specs.Head.{IsRefusedFor};
+ghost use Rattle.hg_store.specs.Head.{IsRefusedFor, version_of};
 ghost use Rattle.hg_store.specs.Records.{IsDamaged, IsEnd, IsRecord, IsTorn, ReadsRecords, frames, last_digest};
 ghost use Rattle.hg_store.specs.declared.record.NoRecord.TheVariants.{Damaged, End, Torn};
 ghost use Rattle.std.specs.List.{AllByRecursion};
 
-use crate::head::{HEAD_SIZE, Head, HeadFault};
+use crate::entry::Entry;
+use crate::head::{Head, HeadFault, Version};
 use crate::record::{NoRecord, next_record};
 use hg_types::{NoMemory, Seq};
 use sha1::Sha1;
@@ -60,7 +62,7 @@ impl<E: Into<NoMemory> + Drop> From<E> for ReadFault {
 pub struct Found<A: Allocator = Global> {
     pub head: Head,
     /// The whole records, in their order.
-    pub records: Seq<Seq<u8, A>, A>,
+    pub records: Seq<Entry<A>, A>,
     /// The digest after which the next record would stand.
     pub digest: [u8; 20],
     /// Where the bytes after the last whole record begin.
@@ -75,31 +77,32 @@ pub fn read_records<A: Allocator + Copy>(alloc: A, file: &[u8]) -> Result<Found<
     ensures store { IfOk result (λ found. IsStore file.now found.head found.records (drop found.end file.now)) }
     ensures digest { IfOk result (λ found. found.digest ≡ digest_behind found.head found.records) }
     ensures end { IfOk result (λ found. found.end ≡ length (stored found.head found.records)) }
-    ensures torn { IfOk result (λ found. found.is_torn ≡ true → IsTorn (drop found.end file.now)) }
+    ensures torn { IfOk result (λ found. found.is_torn ≡ true → IsTorn (version_of found.head) (drop found.end file.now)) }
     ensures whole { IfOk result (λ found. found.is_torn ≡ false → IsEnd (drop found.end file.now)) }
     ensures refused { (fault : HeadFault) → IsErrOf result (no_head fault) → IsRefusedFor fault file.now }
     ensures damaged { (whole : ℕ) → IsErrOf result (damaged whole) → IsDamagedStore file.now whole }
 {
     let head = Head::read(file)?;
-    let (first, behind) = file.split_at(HEAD_SIZE);
+    let size = head.size();
+    let (first, behind) = file.split_at(size);
     let Frames {
         records,
         digest,
         end,
         is_torn,
-    } = read_frames(alloc, &Sha1::digest(first), behind)?;
+    } = read_frames(alloc, head.version(), &Sha1::digest(first), behind)?;
     Ok(Found {
         head,
         records,
         digest,
-        end: HEAD_SIZE + end,
+        end: size + end,
         is_torn,
     })
 }
 
 /// What the bytes after a head were read as.
 struct Frames<A: Allocator> {
-    records: Seq<Seq<u8, A>, A>,
+    records: Seq<Entry<A>, A>,
     digest: [u8; 20],
     end: usize,
     is_torn: bool,
@@ -108,26 +111,27 @@ struct Frames<A: Allocator> {
 /// Reads the records after a head, the first of which stands after that digest.
 fn read_frames<A: Allocator + Copy>(
     alloc: A,
+    version: Version,
     start: &[u8; 20],
     bytes: &[u8],
 ) -> Result<Frames<A>, ReadFault>
-    ensures read { IfOk result (λ found. ReadsRecords start.now bytes.now found.records (drop found.end bytes.now)) }
-    ensures digest { IfOk result (λ found. found.digest ≡ last_digest start.now found.records) }
-    ensures end { IfOk result (λ found. found.end ≡ length (frames start.now found.records)) }
-    ensures torn { IfOk result (λ found. found.is_torn ≡ true → IsTorn (drop found.end bytes.now)) }
+    ensures read { IfOk result (λ found. ReadsRecords version start.now bytes.now found.records (drop found.end bytes.now)) }
+    ensures digest { IfOk result (λ found. found.digest ≡ last_digest version start.now found.records) }
+    ensures end { IfOk result (λ found. found.end ≡ length (frames version start.now found.records)) }
+    ensures torn { IfOk result (λ found. found.is_torn ≡ true → IsTorn version (drop found.end bytes.now)) }
     ensures whole { IfOk result (λ found. found.is_torn ≡ false → IsEnd (drop found.end bytes.now)) }
     ensures refused { (fault : HeadFault) → IsErrOf result (no_head fault) → ⊥ }
-    ensures damaged { (whole : ℕ) → IsErrOf result (damaged whole) → (records : List (List ℕ))
-        × (tail : List ℕ) × (whole ≡ length records) × AllByRecursion IsRecord records
-        × (bytes.now ≡ frames start.now records ++ tail) × IsDamaged (last_digest start.now records) tail }
+    ensures damaged { (whole : ℕ) → IsErrOf result (damaged whole) → (records : List AnyEntry)
+        × (tail : List ℕ) × (whole ≡ length records) × AllByRecursion (IsRecord version) records
+        × (bytes.now ≡ frames version start.now records ++ tail) × IsDamaged version (last_digest version start.now records) tail }
 {
     let mut records = Seq::new(alloc);
     let mut digest = *start;
     let mut rest = bytes;
     let stop = 'records: loop {
-        match next_record(&mut digest, rest) {
+        match next_record(version, &mut digest, rest) {
             Ok((record, after)) => {
-                records.push(Seq::copy_of(alloc, record)?)?;
+                records.push(record.to_entry(alloc)?)?;
                 rest = after;
             }
             Err(stop) => break 'records stop,

@@ -1,25 +1,24 @@
 //! One record of a log.
 
-ghost use Rattle.std.specs.Prelude.{◌≡◌, ◌++◌, ◌∷◌, IfOk, IsErrOf, OnErr};
+ghost use Rattle.std.specs.Prelude.{◌≡◌, ◌≤◌, ◌<◌, ◌^◌, ◌++◌, ◌∷◌, IfOk, IsErrOf, OnErr, length};
 ghost use Rattle.sha1.specs.Sha1.{sha1};
-ghost use Rattle.hg_store.specs.Records.{IsDamaged, IsEnd, IsNext, IsRecord, IsTorn, digest_of, frame, size_bytes};
+ghost use Rattle.hg_store.specs.Entries.{Entry as AnyEntry};
+ghost use Rattle.hg_store.specs.Records.{IsDamaged, IsEnd, IsNext, IsRecord, IsTorn, chained_label, digest_of, frame};
+ghost use Rattle.hg_store.specs.Records.{numbers_bytes, open_gate};
+ghost use Rattle.hg_store.specs.declared.head.Version.TheVariants.{Second};
 
-use crate::head::{is_same, read_byte, read_u32};
+use crate::entry::{Entry, Standing};
+use crate::head::{Version, is_same, read_byte};
+use crate::numbers::{Numbers, read_numbers};
 use hg_types::NoMemory;
 use sha1::Sha1;
 use std::alloc::Allocator;
 
-/// The gate where a record follows. A shut one is 0.
-const OPEN: u8 = 1;
-
-/// How many bytes a size has.
-const SIZE: usize = 4;
+/// A gate where no record follows.
+pub(crate) const SHUT: u8 = 0;
 
 /// How many bytes a digest has.
 const DIGEST: usize = 20;
-
-/// How many bytes a record has before its own: the gate, the size and the digest.
-pub(crate) const HEAD: usize = 1 + SIZE + DIGEST;
 
 /// Why no record is read where one might stand.
 #[derive(Clone, Copy, Debug, PartialEq, Eq)]
@@ -32,8 +31,25 @@ pub enum NoRecord {
     Damaged,
 }
 
-/// The digest of a record after one with that digest, where that of its bytes is there.
-pub(crate) fn chained_after(before: &[u8; 20], inner: &[u8; 20]) -> [u8; 20]
+/// The digest of a record after one with that digest, where that of its bundle is there.
+pub(crate) fn chained_after(
+    version: Version,
+    before: &[u8; 20],
+    numbers: Numbers,
+    name: &[u8],
+    inner: &[u8; 20],
+) -> [u8; 20]
+    ensures { result ≡ sha1 (before.now
+        ++ (chained_label version (numbers_bytes version numbers ++ name.now) ++ inner.now)) }
+{
+    match version {
+        Version::First => chained_first(before, inner),
+        Version::Second => chained_second(before, numbers, name, inner),
+    }
+}
+
+/// The same in version 1.
+fn chained_first(before: &[u8; 20], inner: &[u8; 20]) -> [u8; 20]
     ensures { result ≡ sha1 (before.now ++ inner.now) }
 {
     let mut hasher = Sha1::new();
@@ -42,94 +58,111 @@ pub(crate) fn chained_after(before: &[u8; 20], inner: &[u8; 20]) -> [u8; 20]
     hasher.finalize()
 }
 
-/// The digest of a record after one with that digest.
-fn chained(before: &[u8; 20], bytes: &[u8]) -> [u8; 20]
-    ensures { result ≡ digest_of before.now bytes.now }
+/// The same in version 2.
+fn chained_second(before: &[u8; 20], numbers: Numbers, name: &[u8], inner: &[u8; 20]) -> [u8; 20]
+    ensures { result ≡ sha1 (before.now ++ ((numbers_bytes Second numbers ++ name.now) ++ inner.now)) }
 {
-    chained_after(before, &Sha1::digest(bytes))
-}
-
-/// What stands in a record before its bytes: an open gate, their number, and its digest.
-pub(crate) fn frame_head(size: u32, digest: &[u8; 20]) -> [u8; HEAD]
-    ensures { result ≡ 1 ∷ size_bytes size ++ digest.now }
-{
-    let mut head = [OPEN; HEAD];
-    head[1..5].copy_from_slice(&size.to_be_bytes());
-    head[5..].copy_from_slice(digest);
-    head
+    let mut hasher = Sha1::new();
+    hasher.update(before);
+    hasher.update(&numbers.to_bytes());
+    hasher.update(name);
+    hasher.update(inner);
+    hasher.finalize()
 }
 
 /// Appends a record after one with that digest, and gives its own. Where memory is refused, `out` may have
 /// a part of it.
-pub fn put_record<A: Allocator>(
+pub fn put_record<A: Allocator, B: Allocator>(
     out: &mut Vec<u8, A>,
+    version: Version,
     before: &[u8; 20],
-    bytes: &[u8],
+    entry: &Entry<B>,
 ) -> Result<[u8; 20], NoMemory>
-    requires { IsRecord bytes.now }
-    ensures { IfOk result (λ digest. (digest ≡ digest_of before.now bytes.now)
-        × (out.new.items ≡ out.old.items ++ frame before.now bytes.now)) }
+    requires { IsRecord version entry.now }
+    ensures { IfOk result (λ digest. (digest ≡ digest_of version before.now entry.now)
+        × (out.new.items ≡ out.old.items ++ frame version before.now entry.now)) }
 {
-    let digest = chained(before, bytes);
-    let size = bytes.len() as u32;
-    out.push(OPEN)?;
-    out.extend_from_slice(&size.to_be_bytes())?;
+    let numbers = entry.numbers();
+    let name = entry.stamp().name();
+    let digest = chained_after(
+        version,
+        before,
+        numbers,
+        name,
+        &Sha1::digest(entry.bundle()),
+    );
+    out.push(version.open_gate())?;
+    numbers.put(version, out)?;
+    out.extend_from_slice(name)?;
     out.extend_from_slice(&digest)?;
-    out.extend_from_slice(bytes)?;
+    out.extend_from_slice(entry.bundle())?;
     Ok(digest)
 }
 
 /// The record that these bytes begin with, and what follows it; the digest, which was that of the record
 /// before, is then its own. At an `Err` the digest stays.
 pub fn next_record<'a>(
+    version: Version,
     digest: &mut [u8; 20],
     bytes: &'a [u8],
-) -> Result<(&'a [u8], &'a [u8]), NoRecord>
-    ensures whole { IfOk result (λ found. IsNext digest.old bytes.now found.0.now found.1.now digest.new) }
+) -> Result<(Standing<'a>, &'a [u8]), NoRecord>
+    ensures whole { IfOk result (λ found. IsNext version digest.old bytes.now found.0 found.1.now digest.new) }
     ensures end { IsErrOf result NoRecord.End → IsEnd bytes.now }
-    ensures torn { IsErrOf result NoRecord.Torn → IsTorn bytes.now }
-    ensures damaged { IsErrOf result NoRecord.Damaged → IsDamaged digest.old bytes.now }
+    ensures torn { IsErrOf result NoRecord.Torn → IsTorn version bytes.now }
+    ensures damaged { IsErrOf result NoRecord.Damaged → IsDamaged version digest.old bytes.now }
     ensures same { OnErr result (digest.new ≡ digest.old) }
 {
     if bytes.is_empty() {
         return Err(NoRecord::End);
     }
     let (gate, behind) = read_byte(bytes);
-    if gate > OPEN {
-        return Err(NoRecord::Damaged);
-    }
-    if gate < OPEN {
+    if gate == SHUT {
         return Err(NoRecord::End);
     }
-    record_behind(digest, behind)
+    if gate != version.open_gate() {
+        return Err(NoRecord::Damaged);
+    }
+    record_behind(version, digest, behind)
 }
 
 /// The record after an open gate.
 fn record_behind<'a>(
+    version: Version,
     digest: &mut [u8; 20],
     behind: &'a [u8],
-) -> Result<(&'a [u8], &'a [u8]), NoRecord>
-    ensures whole { IfOk result (λ found. IsNext digest.old (1 ∷ behind.now) found.0.now found.1.now
-        digest.new) }
+) -> Result<(Standing<'a>, &'a [u8]), NoRecord>
+    ensures whole { IfOk result (λ found. IsNext version digest.old (open_gate version ∷ behind.now) found.0
+        found.1.now digest.new) }
     ensures end { IsErrOf result NoRecord.End → ⊥ }
-    ensures torn { IsErrOf result NoRecord.Torn → IsTorn (1 ∷ behind.now) }
-    ensures damaged { IsErrOf result NoRecord.Damaged → IsDamaged digest.old (1 ∷ behind.now) }
+    ensures torn { IsErrOf result NoRecord.Torn → IsTorn version (open_gate version ∷ behind.now) }
+    ensures damaged { IsErrOf result NoRecord.Damaged →
+        IsDamaged version digest.old (open_gate version ∷ behind.now) }
     ensures same { OnErr result (digest.new ≡ digest.old) }
 {
-    if behind.len() < SIZE {
+    let Some((numbers, rest)) = read_numbers(version, behind) else {
+        return Err(NoRecord::Torn);
+    };
+    let size = numbers.size as usize;
+    let named = numbers.named as usize;
+    if rest.len() < named + DIGEST + size {
         return Err(NoRecord::Torn);
     }
-    let (size, rest) = read_u32(behind);
-    let size = size as usize;
-    if rest.len() < DIGEST + size {
-        return Err(NoRecord::Torn);
-    }
+    let (name, rest) = rest.split_at(named);
     let (told, rest) = rest.split_at(DIGEST);
-    let (record, after) = rest.split_at(size);
-    let found = chained(digest, record);
+    let (bundle, after) = rest.split_at(size);
+    let found = chained_after(version, digest, numbers, name, &Sha1::digest(bundle));
     if !is_same(told, found.as_slice()) {
         return Err(NoRecord::Damaged);
     }
     *digest = found;
-    Ok((record, after))
+    Ok((standing(numbers.time, name, bundle), after))
+}
+
+/// A record of these parts.
+fn standing<'a>(time: u64, name: &'a [u8], bundle: &'a [u8]) -> Standing<'a>
+    ensures time { result.stamp.time ≡ time }
+    ensures name { result.stamp.name ≡ name.now }
+    ensures bundle { result.bundle ≡ bundle.now }
+{
+    Standing { time, name, bundle }
 }

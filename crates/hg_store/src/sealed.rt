@@ -1,9 +1,14 @@
 //! A record that is on its way to a store.
 
 ghost use Rattle.std.specs.Prelude.{◌≡◌};
-ghost use Rattle.hg_store.specs.Records.{digest_of};
+ghost use Rattle.hg_store.specs.Entries.{IsStamp};
+ghost use Rattle.hg_store.specs.Records.{IsSized, digest_of, numbers_of};
 ghost use Rattle.hg_store.specs.code.Held.{bytes_of};
+ghost use Rattle.hg_store.specs.declared.head.Version.TheVariants.{Second};
 
+use crate::entry::Stamp;
+use crate::head::Version;
+use crate::numbers::Numbers;
 use crate::record::chained_after;
 use bytes::Bytes;
 use hg_types::Seq;
@@ -11,7 +16,7 @@ use sha1::Sha1;
 use std::alloc::{Allocator, Global};
 use std::marker::Model;
 
-/// Whose the bytes of a record are.
+/// Whose the bytes of a bundle are.
 #[derive(Drop)]
 enum Held<A: Allocator = Global> {
     Own(Seq<u8, A>),
@@ -30,60 +35,89 @@ impl<A: Allocator> Held<A> {
     }
 }
 
-/// The bytes of a record, with their digest. Contracts see it as the bytes. The digest is made before it is
-/// known which record comes before, and so without the store.
+/// A record, with the digest of its bundle. Contracts see it as the record. The digest is made before it is known which
+/// record comes before, and so without the store.
 #[derive(Drop)]
 pub struct Sealed<A: Allocator = Global> {
-    bytes: Held<A>,
+    stamp: Stamp<A>,
+    bundle: Held<A>,
     digest: [u8; 20],
 }
 
 impl<A: Allocator> Model for Sealed<A> {
-    ghost use Rattle.std.specs.Prelude.{◌≡◌, ℕ, List};
+    ghost use Rattle.std.specs.Prelude.{◌≡◌};
     ghost use Rattle.sha1.specs.Sha1.{sha1};
+    ghost use Rattle.hg_store.specs.Entries.{Entry as AnyEntry};
     ghost use Rattle.hg_store.specs.code.Held.{bytes_of};
 
-    ghost Value = { List ℕ };
+    ghost Value = { AnyEntry };
 
-    ghost view = { λ s. bytes_of s.bytes };
+    ghost view = { λ s. record { stamp = s.stamp; bundle = bytes_of s.bundle } };
 
-    ghost invariant = { λ s. s.digest ≡ sha1 (bytes_of s.bytes) };
+    ghost invariant = { λ s. s.digest ≡ sha1 (bytes_of s.bundle) };
 }
 
 impl<A: Allocator> Sealed<A> {
-    /// Makes the digest of the bytes, which takes the time that SHA-1 of them takes, and no memory.
-    pub fn new(bytes: Seq<u8, A>) -> Self
-        ensures { result ≡ bytes }
+    /// Makes the digest of the bundle, which takes the time that SHA-1 of it takes, and no memory.
+    pub fn new(stamp: Stamp<A>, bundle: Seq<u8, A>) -> Self
+        ensures stamp { result.stamp ≡ stamp }
+        ensures bundle { result.bundle ≡ bundle }
     {
-        let digest = Sha1::digest(bytes.as_slice());
+        let digest = Sha1::digest(bundle.as_slice());
         Sealed {
-            bytes: Held::Own(bytes),
+            stamp,
+            bundle: Held::Own(bundle),
             digest,
         }
     }
 
     /// The same of bytes that others hold too, as of the body of a request: they are not copied.
-    pub fn shared(body: Bytes) -> Self
-        ensures { result ≡ body }
+    pub fn shared(stamp: Stamp<A>, body: Bytes) -> Self
+        ensures stamp { result.stamp ≡ stamp }
+        ensures bundle { result.bundle ≡ body }
     {
         let digest = Sha1::digest(body.as_slice());
         Sealed {
-            bytes: Held::Shared(body),
+            stamp,
+            bundle: Held::Shared(body),
             digest,
         }
     }
 
-    /// The bytes.
-    pub fn as_slice(&self) -> &[u8]
-        ensures { result.now ≡ self.now }
+    /// When the push came, and who pushed it.
+    pub fn stamp(&self) -> &Stamp<A>
+        ensures { result.now ≡ self.now.stamp }
     {
-        self.bytes.as_slice()
+        &self.stamp
     }
 
-    /// Its digest in a store, after a record with that digest. The bytes are not read for it.
-    pub(crate) fn chained(&self, before: &[u8; 20]) -> [u8; 20]
-        ensures { result ≡ digest_of before.now self.now }
+    /// Its bundle.
+    pub fn bundle(&self) -> &[u8]
+        ensures { result.now ≡ self.now.bundle }
     {
-        chained_after(before, &self.digest)
+        self.bundle.as_slice()
+    }
+
+    /// Its numbers.
+    pub(crate) fn numbers(&self) -> Numbers
+        requires { IsSized self.now }
+        ensures numbers { result ≡ numbers_of self.now }
+        ensures stamp { IsStamp self.now.stamp }
+    {
+        self.stamp.numbers(self.bundle.as_slice().len())
+    }
+
+    /// Its digest in a store of version 2, after a record with that digest. The bundle is not read for it.
+    pub(crate) fn chained(&self, before: &[u8; 20]) -> [u8; 20]
+        requires { IsSized self.now }
+        ensures { result ≡ digest_of Second before.now self.now }
+    {
+        chained_after(
+            Version::Second,
+            before,
+            self.numbers(),
+            self.stamp.name(),
+            &self.digest,
+        )
     }
 }

@@ -1,15 +1,16 @@
 //! A store in a file that is opened for more records.
 
 ghost use Rattle.std.specs.Prelude.{◌≡◌, IfErr, IfOk, OnOk};
-ghost use Rattle.hg_store.specs.Head.{HasHead};
+ghost use Rattle.hg_store.specs.Head.{HasHead, head_for, setup_of};
 ghost use Rattle.hg_store.specs.Log.{IsSettled};
 ghost use Rattle.hg_store.specs.Openings.{IsFound, IsRefusedAs, IsUnopened};
 ghost use Rattle.hg_store.specs.declared.head.Head.{Head as AnyHead};
 
 use crate::calls::Calls;
 use crate::device::{Device, DeviceError};
+use crate::entry::Entry;
 use crate::file::StoreFile;
-use crate::head::Head;
+use crate::head::{Head, Setup};
 use crate::log::Log;
 use crate::opening::{RecoverFault, recover};
 use crate::read::ReadFault;
@@ -89,11 +90,12 @@ impl<E: Into<NoMemory> + Drop> From<E> for StoreFault {
     }
 }
 
-/// A store that is open for more records, and those that it has.
+/// A store that is open for more records, its name, and the records that it has.
 #[derive(Drop)]
 pub struct Opened<C: Calls, A: Allocator + Copy = Global> {
     pub log: Log<StoreFile<C, A>>,
-    pub records: Seq<Seq<u8, A>, A>,
+    pub identity: [u8; 16],
+    pub records: Seq<Entry<A>, A>,
 }
 
 /// A file that is not opened, and why.
@@ -104,18 +106,18 @@ pub struct Unopened<C: Calls> {
 }
 
 /// Opens the store of a server that is set up in this way: reads it, and brings its end in order as
-/// [`recover`] does. A store with another head is refused, and so is one that [`recover`] refuses, each for what
+/// [`recover`] does. A store of another server is refused, and so is one that [`recover`] refuses, each for what
 /// was read; then nothing in it is changed.
 pub fn open_file<C: Calls, A: Allocator + Copy>(
     alloc: A,
     calls: C,
-    head: &Head,
+    setup: &Setup,
 ) -> Result<Opened<C, A>, Unopened<C>>
     ensures settled { IfOk result (λ opened. IsSettled ⟦<StoreFile<C, A> as Device>⟧.seen
-        ⟦<StoreFile<C, A> as Device>⟧.may_leave head.now opened.records opened.log) }
-    ensures found { IfOk result (λ opened. IsFound head.now opened.records (C.Calls.history calls)
+        ⟦<StoreFile<C, A> as Device>⟧.may_leave (head_for setup.now opened.identity) opened.records opened.log) }
+    ensures found { IfOk result (λ opened. IsFound (head_for setup.now opened.identity) opened.records (C.Calls.history calls)
         (C.Calls.history opened.log.device.calls)) }
-    ensures err { IfErr result (λ left. IsUnopened left.fault head.now (C.Calls.history calls)
+    ensures err { IfErr result (λ left. IsUnopened left.fault setup.now (C.Calls.history calls)
         (C.Calls.history left.calls)) }
 {
     let mut calls = calls;
@@ -123,13 +125,16 @@ pub fn open_file<C: Calls, A: Allocator + Copy>(
         Ok(bytes) => bytes,
         Err(error) => return Err(left_over(StoreFault::from(error), calls)),
     };
-    if let Err(fault) = has_no_other_head(bytes.as_slice(), head) {
+    if let Err(fault) = has_no_other_setup(bytes.as_slice(), setup) {
         return Err(left_over(fault, calls));
     }
     let mut device = StoreFile::of(calls, bytes);
     let found = match recover(alloc, &mut device) {
         Ok(found) => found,
         Err(fault) => return Err(left_over(StoreFault::from(fault), device.into_calls())),
+    };
+    let Some(identity) = found.head.identity else {
+        unreachable!();
     };
     let log = Log {
         device,
@@ -138,6 +143,7 @@ pub fn open_file<C: Calls, A: Allocator + Copy>(
     };
     Ok(Opened {
         log,
+        identity,
         records: found.records,
     })
 }
@@ -148,20 +154,20 @@ fn left_over<C: Calls>(fault: StoreFault, calls: C) -> Unopened<C>
     Unopened { fault, calls }
 }
 
-/// Refuses a file that has another head than this one. One that has none is not refused here.
+/// Refuses a file of a server that is set up in another way. One that has no head is not refused here.
 #[tactic(auto, using(crate::proofs::Opens::no_other, crate::proofs::Opens::none_is_refused))]
-fn has_no_other_head(file: &[u8], head: &Head) -> Result<(), StoreFault>
-    ensures one { OnOk result ((other : AnyHead) → HasHead file.now other → other ≡ head.now) }
-    ensures other { IfErr result (λ fault. IsRefusedAs fault head.now file.now) }
+fn has_no_other_setup(file: &[u8], setup: &Setup) -> Result<(), StoreFault>
+    ensures one { OnOk result ((head : AnyHead) → HasHead file.now head → setup_of head ≡ setup.now) }
+    ensures other { IfErr result (λ fault. IsRefusedAs fault setup.now file.now) }
 {
     let found = match Head::read(file) {
         Ok(found) => found,
         Err(_) => return Ok(()),
     };
-    if found.publishing != head.publishing {
+    if found.publishing != setup.publishing {
         return Err(StoreFault::OtherPublishing);
     }
-    if found.limits != head.limits {
+    if found.limits != setup.limits {
         return Err(StoreFault::OtherLimits);
     }
     Ok(())

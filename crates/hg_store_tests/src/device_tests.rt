@@ -4,8 +4,10 @@
 ghost use Rattle.std.specs.Prelude.{◌≡◌, ◌<◌, ◌≤◌, ◌+◌, ℕ, List, length, IfOk, OnOk};
 ghost use Rattle.std.specs.List.{AllByRecursion};
 ghost use Rattle.hg_store.specs.Log.{IsSettled};
-ghost use Rattle.hg_store.specs.Records.{IsRecord};
+ghost use Rattle.hg_store.specs.Entries.{Entry as AnyEntry};
+ghost use Rattle.hg_store.specs.Records.{IsRecord, IsSized};
 ghost use Rattle.hg_store.specs.declared.head.Head.{Head as AnyHead};
+ghost use Rattle.hg_store.specs.declared.head.Version.TheVariants.{Second};
 
 use crate::paper::outcomes;
 use crate::tests::{TOO_MANY, put_next};
@@ -22,20 +24,25 @@ const NO_LIMIT: usize = 1000;
 const RECORDS: [&[u8]; 4] = [b"first", b"", b"second", b"the third one"];
 
 /// How the server is set up in these tests.
-fn standard() -> Head {
-    Head {
+fn standard() -> Setup {
+    Setup {
         publishing: true,
         limits: Limits::standard(),
     }
 }
 
+/// The head of its store.
+fn head() -> Head {
+    standard().head([7; 16])
+}
+
 /// A store of the first so many records, with a shut gate.
 fn store_of(alloc: Global, count: usize) -> Result<Vec<u8>, Fail> {
     let mut file = Vec::new(alloc);
-    standard().put(&mut file)?;
+    head().put(&mut file)?;
     let mut digest = read_records(alloc, &file)?.digest;
     for record in &RECORDS[..count.min(RECORDS.len())] {
-        digest = put_next(&mut file, &digest, record)?;
+        digest = put_next(alloc, &mut file, Version::Second, &digest, (0, b"", record))?;
     }
     file.push(0)?;
     Ok(file)
@@ -48,14 +55,14 @@ fn add<A: Allocator + Copy>(
     batch: &mut Vec<Sealed<A>, A>,
     record: &[u8],
 ) -> Result<(), NoMemory>
-    requires { AllByRecursion IsRecord batch.old.items }
-    ensures each { OnOk result (AllByRecursion IsRecord batch.new.items) }
+    requires { AllByRecursion IsSized batch.old.items }
+    ensures each { OnOk result (AllByRecursion IsSized batch.new.items) }
     ensures more { OnOk result (length batch.new.items ≡ length batch.old.items + 1) }
 {
     if record.len() >= TOO_MANY {
         return Err(NoMemory);
     }
-    let sealed = Sealed::new(Seq::copy_of(alloc, record)?);
+    let sealed = Sealed::new(Stamp::unnamed(alloc, 0), Seq::copy_of(alloc, record)?);
     batch.push(sealed)?;
     Ok(())
 }
@@ -68,7 +75,7 @@ fn records<A: Allocator + Copy>(
 ) -> Result<Vec<Sealed<A>, A>, NoMemory>
     requires { (from < to) × (to ≤ 4) }
     ensures some { IfOk result (λ batch. 0 < length batch.items) }
-    ensures each { IfOk result (λ batch. AllByRecursion IsRecord batch.items) }
+    ensures each { IfOk result (λ batch. AllByRecursion IsSized batch.items) }
 {
     let mut batch = Vec::new(alloc);
     for record in &RECORDS[from..to] {
@@ -88,7 +95,7 @@ fn paper_with(alloc: Global, calls: usize, room: usize) -> Result<Paper, Fail> {
 
 /// The store on a file, opened.
 fn opened<A: Allocator + Copy>(alloc: A, paper: Paper) -> Result<Opened<Paper, A>, StoreFault>
-    ensures { IfOk result (λ opened. (head : AnyHead) × (records : List (List ℕ))
+    ensures { IfOk result (λ opened. (head : AnyHead) × (records : List AnyEntry)
         × IsSettled ⟦<StoreFile<Paper, A> as Device>⟧.seen ⟦<StoreFile<Paper, A> as Device>⟧.may_leave
         head records opened.log) }
 {
@@ -104,8 +111,8 @@ fn added<A: Allocator + Copy>(
     batch: &[Sealed<A>],
 ) -> (Result<(), DeviceError>, Paper)
     requires some { 0 < length batch.now }
-    requires each { AllByRecursion IsRecord batch.now }
-    requires settled { (head : AnyHead) × (records : List (List ℕ))
+    requires each { AllByRecursion IsSized batch.now }
+    requires settled { (head : AnyHead) × (records : List AnyEntry)
         × IsSettled ⟦<StoreFile<Paper, A> as Device>⟧.seen ⟦<StoreFile<Paper, A> as Device>⟧.may_leave
         head records log }
 {
@@ -138,7 +145,7 @@ fn has_all_or_none(alloc: Global, paper: &Paper, size: usize, added: bool) -> Re
     Ok(so)
 }
 
-// A batch of 1, 2 and 3 records after one, where the file fails at each call in turn. A record is written by two
+// A batch of 1, 2 and 3 records after one, where the file fails at each call in turn. A record is written by four
 // calls, a shut gate and the open one by one each, and each of the two gates is synced.
 #[test]
 fn a_batch_on_a_file_that_fails(rt: HostRuntime) -> Result<(), Fail> {
@@ -146,7 +153,7 @@ fn a_batch_on_a_file_that_fails(rt: HostRuntime) -> Result<(), Fail> {
     for size in 1..4usize {
         let after = store_of(alloc, size + 1)?;
         let batch = records(alloc, 1, size + 1)?;
-        let all = size.saturating_mul(2).saturating_add(4);
+        let all = size.saturating_mul(4).saturating_add(4);
         for calls in 0..all.saturating_add(1) {
             let Opened { log, records: had } = opened(alloc, paper_with(alloc, calls, NO_LIMIT)?)?;
             drop(had);
@@ -282,15 +289,16 @@ fn front(bytes: &[u8], len: usize) -> &[u8] {
 }
 
 /// Why a store of these bytes is not opened. It takes one call, so none that changes the file.
-fn refusal(alloc: Global, file: &[u8], head: &Head) -> Result<Option<StoreFault>, Fail> {
+fn refusal(alloc: Global, file: &[u8], setup: &Setup) -> Result<Option<StoreFault>, Fail> {
     let paper = Paper::new(alloc, file, 1)?;
-    match open_file(alloc, paper, head) {
+    match open_file(alloc, paper, setup) {
         Ok(_) => Ok(None),
         Err(left) => Ok(Some(left.fault)),
     }
 }
 
-// A store cut inside of a record, one with damage, one cut inside of its head, and one of another server.
+// A store cut inside of a record, one with damage, one cut inside of its head, one of another server, and one of version
+// 1.
 #[test]
 fn a_store_that_is_refused(rt: HostRuntime) -> Result<(), Fail> {
     let alloc = rt.alloc();
@@ -305,10 +313,10 @@ fn a_store_that_is_refused(rt: HostRuntime) -> Result<(), Fail> {
         &standard(),
     )?;
     assert_eq!(rt; found, Some(StoreFault::Recover(torn)));
-    let found = refusal(alloc, front(&rest, 37), &standard())?;
+    let found = refusal(alloc, front(&rest, 53), &standard())?;
     assert_eq!(rt; found, Some(StoreFault::Recover(short)));
     let mut file = rest.to_vec(alloc)?;
-    if let Some(byte) = file.as_mut_slice().get_mut(45) {
+    if let Some(byte) = file.as_mut_slice().get_mut(70) {
         *byte ^= 1;
     }
     let found = refusal(alloc, &file, &standard())?;
@@ -322,6 +330,13 @@ fn a_store_that_is_refused(rt: HostRuntime) -> Result<(), Fail> {
     other.limits.rows = 7;
     let found = refusal(alloc, &rest, &other)?;
     assert_eq!(rt; found, Some(StoreFault::OtherLimits));
+
+    let mut old = head();
+    old.identity = None;
+    let mut file = Vec::new(alloc);
+    old.put(&mut file)?;
+    let found = refusal(alloc, &file, &standard())?;
+    assert_eq!(rt; found, Some(StoreFault::Recover(RecoverFault::OldVersion)));
     Ok(())
 }
 
@@ -447,7 +462,7 @@ fn a_store_that_is_made(rt: HostRuntime) -> Result<(), Fail> {
     for file in [&[], longer.as_slice()] {
         for calls in 0..5usize {
             let mut paper = Paper::new(alloc, file, calls)?;
-            let result = create_file(alloc, &mut paper, &standard());
+            let result = create_file(alloc, &mut paper, &head());
             assert_eq!(rt; result.is_ok(), calls == 4, "{calls} calls");
             assert_eq!(rt; paper.is_named, calls >= 3, "{calls} calls");
             if paper.is_named {
@@ -523,7 +538,7 @@ fn memory_refused_to_a_store(rt: HostRuntime) -> Result<(), Fail> {
     let alloc = rt.alloc();
     let mut refused = 0usize;
     let mut added = 0usize;
-    for size in 0..1200usize {
+    for size in 0..2000usize {
         let heap = LocalHeap::new(alloc, size)?;
         let paper = paper_with(alloc, NO_LIMIT, usize::MAX)?;
         match added_over(alloc, &heap, paper)? {
@@ -549,7 +564,7 @@ fn memory_refused_to_a_new_store(rt: HostRuntime) -> Result<(), Fail> {
     for size in 0..400usize {
         let heap = LocalHeap::new(alloc, size)?;
         let mut new = Paper::new(alloc, &[], NO_LIMIT)?;
-        match create_file(&heap, &mut new, &standard()) {
+        match create_file(&heap, &mut new, &head()) {
             Ok(()) => {
                 assert!(rt; new.is_named, "a heap of {size}");
                 assert_eq!(rt; new.synced.as_slice(), whole.as_slice(), "a heap of {size}");
@@ -571,11 +586,11 @@ fn memory_refused_to_a_new_store(rt: HostRuntime) -> Result<(), Fail> {
 /// The bytes of a store of one record, made over a heap.
 fn at_rest_over<'h>(
     heap: &'h LocalHeap,
-    first: Seq<u8, &'h LocalHeap>,
+    first: Entry<&'h LocalHeap>,
 ) -> Result<Vec<u8, &'h LocalHeap>, NoMemory>
-    requires { IsRecord first }
+    requires { IsRecord Second first }
 {
-    bytes_at_rest(heap, &standard(), &[first])
+    bytes_at_rest(heap, &head(), &[first])
 }
 
 // Heaps of each size: the bytes of a store of one record are made, or memory is refused. The record is on a heap of
@@ -584,12 +599,12 @@ fn at_rest_over<'h>(
 fn memory_refused_to_bytes_at_rest(rt: HostRuntime) -> Result<(), Fail> {
     let alloc = rt.alloc();
     let whole = store_of(alloc, 1)?;
-    let ample = LocalHeap::new(alloc, 400)?;
+    let ample = LocalHeap::new(alloc, 600)?;
     let mut refused = 0usize;
     let mut made = 0usize;
-    for size in 0..800usize {
+    for size in 0..1200usize {
         let heap = LocalHeap::new(alloc, size)?;
-        let first = Seq::copy_of(&ample, b"first")?;
+        let first = Entry::new(Stamp::unnamed(&ample, 0), Seq::copy_of(&ample, b"first")?);
         match at_rest_over(&heap, first) {
             Ok(bytes) => {
                 assert_eq!(rt; bytes.as_slice(), whole.as_slice(), "a heap of {size}");

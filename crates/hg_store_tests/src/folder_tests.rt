@@ -1,8 +1,8 @@
 //! Stores in real folders.
 
-ghost use Rattle.std.specs.Prelude.{◌<◌, IfOk, length};
+ghost use Rattle.std.specs.Prelude.{◌<◌, ◌^◌, IfOk, length};
 ghost use Rattle.std.specs.List.{AllByRecursion};
-ghost use Rattle.hg_store.specs.Records.{IsRecord};
+ghost use Rattle.hg_store.specs.Records.{IsSized};
 
 use hg_store::*;
 use hg_types::{Limits, NoMemory, Seq};
@@ -12,38 +12,38 @@ use std::fs::OpenOptions;
 use std::test::*;
 
 /// Where the head and each record of the store of these tests ends.
-const ENDS: [usize; 3] = [38, 68, 97];
+const ENDS: [usize; 3] = [54, 93, 131];
 
-fn standard() -> Head {
-    Head {
+fn standard() -> Setup {
+    Setup {
         publishing: false,
         limits: Limits::standard(),
     }
 }
 
 /// Why a store is not opened.
-fn refusal(rt: &HostRuntime, folder: &str, head: &Head) -> Option<StoreFault> {
-    match open_store(rt.alloc(), &mut StoreFolder::new(rt, folder), head) {
+fn refusal(rt: &HostRuntime, folder: &str, setup: &Setup) -> Option<StoreFault> {
+    match open_store(rt.alloc(), &mut StoreFolder::new(rt, folder), setup) {
         Ok(_) => None,
         Err(fault) => Some(fault),
     }
 }
 
 /// Whether that record is the first one.
-fn begin_with(records: &[Seq<u8>], record: &[u8]) -> bool {
+fn begin_with(records: &[Entry], record: &[u8]) -> bool {
     match records.first() {
-        Some(first) => first.as_slice() == record,
+        Some(first) => first.bundle() == record,
         None => false,
     }
 }
 
 /// A batch of that record alone.
 fn batch_of(alloc: Global, record: &[u8]) -> Result<Vec<Sealed>, NoMemory>
-    requires { IsRecord record.now }
+    requires { length record.now < 2 ^ 32 }
     ensures some { IfOk result (λ batch. 0 < length batch.items) }
-    ensures each { IfOk result (λ batch. AllByRecursion IsRecord batch.items) }
+    ensures each { IfOk result (λ batch. AllByRecursion IsSized batch.items) }
 {
-    let sealed = Sealed::new(Seq::copy_of(alloc, record)?);
+    let sealed = Sealed::new(Stamp::unnamed(alloc, 0), Seq::copy_of(alloc, record)?);
     Ok(Vec::from_array(alloc, [sealed])?)
 }
 
@@ -135,7 +135,7 @@ fn a_file_cut_anywhere(rt: HostRuntime) -> Result<(), Fail> {
     let alloc = rt.alloc();
     fill(&rt, folder)?;
     let file = fs::read(&rt, name)?;
-    assert_eq!(rt; file.len(), 98);
+    assert_eq!(rt; file.len(), 132);
     for len in 0..file.len() + 1 {
         fs::write(&rt, name, &file[..len])?;
         let whole = if len >= ENDS[2] {
@@ -143,11 +143,11 @@ fn a_file_cut_anywhere(rt: HostRuntime) -> Result<(), Fail> {
         } else {
             usize::from(len >= ENDS[1])
         };
-        let is_whole = len == 98 || ENDS.contains(&len);
+        let is_whole = len == 132 || ENDS.contains(&len);
         let bytes = store_bytes(&rt, alloc, folder)?;
         let beside = read_records(alloc, &bytes);
         let refused = refusal(&rt, folder, &standard());
-        if len < 38 {
+        if len < 54 {
             let short = ReadFault::Head(HeadFault::TooShort);
             let fault = StoreFault::Recover(RecoverFault::Read(short));
             assert!(rt; beside.is_err(), "{len} bytes");
@@ -168,6 +168,22 @@ fn a_file_cut_anywhere(rt: HostRuntime) -> Result<(), Fail> {
             );
         }
     }
+    fs::remove_dir_all(&rt, folder)?;
+    Ok(())
+}
+
+// Two stores that are made get names of their own, which each keeps.
+#[test]
+fn a_store_keeps_its_name(rt: HostRuntime) -> Result<(), Fail> {
+    let alloc = rt.alloc();
+    let folder = "hg_store_keeps_its_name";
+    fill(&rt, folder)?;
+    let first = open_store(alloc, &mut StoreFolder::new(&rt, folder), &standard())?.identity;
+    let again = open_store(alloc, &mut StoreFolder::new(&rt, folder), &standard())?.identity;
+    assert_eq!(rt; first, again);
+    fill(&rt, folder)?;
+    let other = open_store(alloc, &mut StoreFolder::new(&rt, folder), &standard())?.identity;
+    assert!(rt; first != other);
     fs::remove_dir_all(&rt, folder)?;
     Ok(())
 }

@@ -1,21 +1,21 @@
 //! The tests of `hg_store`, over its contracts.
 //!
-//! The store of 120 bytes was made outside: a head that does not publish, with the standard limits,
-//! and the records `abc`, nothing, and 1, 0, 0, 0. A store of two records, `first` and `next`, has
-//! 98 bytes, with its shut gate.
+//! The stores of 168 and of 120 bytes, of versions 2 and 1, were made outside: a head that does not
+//! publish, with the standard limits, and records of the bundles `abc`, nothing, and 1, 0, 0, 0. A
+//! store of two records, `first` and `next`, has 132 bytes, with its shut gate.
 //!
 //! Rows of the tables, and what else the tests try:
 //!
-//! - cut at each of its lengths: Result: below 38 bytes no head; after the head and after each
+//! - cut at each of its lengths: Result: below 54 bytes (in version 1 below 38) no head; after the head and after each
 //!   record it is whole; else the records that are whole, and torn. In a folder it is opened where
 //!   it is whole and else refused, and then stays as it was; a reader has the whole records each
 //!   time.
 //! - the records read one by one; the first cut short, too large, behind another gate, with another
 //!   digest. Result: each with what follows it, and the end; torn, torn, damaged, damaged.
-//! - each bit of each record turned. Result: damage after the records before it; or torn, or the
+//! - each byte of each record with each other value. Result: damage after the records before it; or torn, or the
 //!   end, by a gate or a size.
-//! - a batch of 1, 2 and 3 records after one, where the file fails at each of its calls: 6, 8 and
-//!   10. Result: it is added where none fails; whatever is lost, made in part or torn of what was
+//! - a batch of 1, 2 and 3 records after one, where the file fails at each of its calls: 8, 12 and
+//!   16. Result: it is added where none fails; whatever is lost, made in part or torn of what was
 //!   not synced, the first record is there, with all of the batch or none.
 //! - the same batch on a disk with room for each length. Result: it is added where it has room, and
 //!   else the store failed; after that no call is made.
@@ -35,11 +35,11 @@
 //! - a folder: no store; made, made again, filled, opened, opened twice, read beside that, of
 //!   another flag, cut while it is held. Result: no store; there is one; two records; held; two
 //!   records; another flag; held.
-//! - each growth refused: a store is opened and a batch of two added over heaps below 1,200 bytes;
-//!   one is cut over heaps below 1,600, read over heaps below 600, and made over heaps below 400;
-//!   the bytes of one with a record are made over heaps below 800. Result: out of memory, and
+//! - each growth refused: a store is opened and a batch of two added over heaps below 2,000 bytes;
+//!   one is cut over heaps below 1,600, read over heaps below 1,200, and made over heaps below 400;
+//!   the bytes of one with a record are made over heaps below 1,200. Result: out of memory, and
 //!   nothing was written, or all is done; both occur.
-//! - a head and a record put after each other over heaps below 400 bytes. Result: by hand, or the
+//! - a head and a record put after each other over heaps below 800 bytes. Result: by hand, or the
 //!   first bytes of them and out of memory; the head, the record and neither are refused.
 #![tactic(auto)]
 

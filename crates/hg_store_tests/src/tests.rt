@@ -1,20 +1,27 @@
-//! Bytes that were made outside, a store cut at each of its lengths, damage in each of its bytes, and
-//! memory refused in turn.
+//! Bytes that were made outside, stores of both versions cut at each of their lengths, damage in each of their bytes,
+//! and memory refused in turn.
 
 use hg_store::*;
-use hg_types::{Limits, NoMemory};
+use hg_types::{Limits, NoMemory, Seq};
 use linked_list_allocator::LocalHeap;
 use std::alloc::Allocator;
 use std::test::*;
 
-/// The head of a server that does not publish, with the standard limits: by hand.
-const HEAD: [u8; 38] = [
-    72, 71, 80, 85, 83, 72, 69, 83, 1, 0, 0, 1, 0, 0, 4, 0, 0, 0, 16, 0, 0, 0, 0, 0, 39, 16, 1, 0,
-    0, 0, 0, 0, 4, 0, 127, 255, 255, 255,
+/// A store of version 2 whose name is the bytes from 0 to 15, of the records `abc`, pushed by `ann` at
+/// 1,700,000,000,123, nothing, and 1, 0, 0, 0, pushed by `é` at 7; made with Python's hashlib.
+const STORE: [u8; 168] = [
+    72, 71, 80, 85, 83, 72, 69, 83, 2, 0, 0, 1, 0, 0, 4, 0, 0, 0, 16, 0, 0, 0, 0, 0, 39, 16, 1, 0,
+    0, 0, 0, 0, 4, 0, 127, 255, 255, 255, 0, 1, 2, 3, 4, 5, 6, 7, 8, 9, 10, 11, 12, 13, 14, 15,
+    255, 0, 0, 0, 3, 0, 0, 1, 139, 207, 229, 104, 123, 3, 97, 110, 110, 213, 253, 157, 102, 236,
+    230, 32, 224, 7, 78, 230, 148, 29, 27, 114, 128, 235, 148, 109, 84, 97, 98, 99, 255, 0, 0, 0,
+    0, 0, 0, 0, 0, 0, 0, 0, 0, 0, 211, 163, 70, 58, 137, 100, 173, 219, 171, 190, 96, 12, 112, 0,
+    57, 209, 108, 10, 252, 140, 255, 0, 0, 0, 4, 0, 0, 0, 0, 0, 0, 0, 7, 2, 195, 169, 207, 124,
+    201, 209, 152, 180, 210, 106, 52, 178, 84, 150, 234, 243, 124, 28, 236, 183, 31, 206, 1, 0, 0,
+    0,
 ];
 
-/// A store of the records `abc`, nothing, and 1, 0, 0, 0; made with Python's hashlib.
-const STORE: [u8; 120] = [
+/// A store of version 1 of the same bundles; made with Python's hashlib.
+const OLD_STORE: [u8; 120] = [
     72, 71, 80, 85, 83, 72, 69, 83, 1, 0, 0, 1, 0, 0, 4, 0, 0, 0, 16, 0, 0, 0, 0, 0, 39, 16, 1, 0,
     0, 0, 0, 0, 4, 0, 127, 255, 255, 255, 1, 0, 0, 0, 3, 249, 48, 197, 192, 199, 122, 101, 144,
     113, 192, 134, 192, 213, 152, 236, 50, 12, 22, 222, 29, 97, 98, 99, 1, 0, 0, 0, 0, 28, 246,
@@ -23,221 +30,386 @@ const STORE: [u8; 120] = [
     1, 0, 0, 0,
 ];
 
-/// Where the head ends, and each record.
-const ENDS: [usize; 4] = [38, 66, 91, 120];
+/// A store, and where its head and each of its records ends.
+struct Sample {
+    version: Version,
+    store: &'static [u8],
+    ends: [usize; 4],
+}
+
+const SAMPLES: [Sample; 2] = [
+    Sample {
+        version: Version::Second,
+        store: &STORE,
+        ends: [54, 94, 128, 168],
+    },
+    Sample {
+        version: Version::First,
+        store: &OLD_STORE,
+        ends: [38, 66, 91, 120],
+    },
+];
 
 /// More bytes than a record has.
 pub const TOO_MANY: usize = 1 << 32;
 
-/// Appends a record, where it is not too long.
-pub fn put_next<A: Allocator>(
+/// When each of the three records was pushed, by whom, and its bundle; those of version 1 have the bundle alone.
+const RECORDS: [(u64, &[u8], &[u8]); 3] = [
+    (1_700_000_000_123, b"ann", b"abc"),
+    (0, b"", b""),
+    (7, b"\xC3\xA9", b"\x01\0\0\0"),
+];
+
+/// Appends a record of that time and that name, where it can be written.
+pub fn put_next<A: Allocator + Copy>(
+    alloc: A,
     out: &mut Vec<u8, A>,
+    version: Version,
     before: &[u8; 20],
-    record: &[u8],
+    record: (u64, &[u8], &[u8]),
 ) -> Result<[u8; 20], NoMemory> {
-    if record.len() >= TOO_MANY {
+    let (time, name, bundle) = record;
+    if bundle.len() >= TOO_MANY || name.len() >= 256 {
         return Err(NoMemory);
     }
-    put_record(out, before, record)
-}
-
-fn standard(publishing: bool) -> Head {
-    Head {
-        publishing,
-        limits: Limits::standard(),
-    }
-}
-
-/// How many of the records end within so many bytes.
-fn whole_within(len: usize) -> usize {
-    let mut count = 0usize;
-    for end in [ENDS[1], ENDS[2], ENDS[3]] {
-        if end <= len {
-            count = count.saturating_add(1);
+    match version {
+        Version::First => {
+            let entry = Entry::new(Stamp::unnamed(alloc, 0), Seq::copy_of(alloc, bundle)?);
+            put_record(out, Version::First, before, &entry)
+        }
+        Version::Second => {
+            let stamp = Stamp::new(time, Seq::copy_of(alloc, name)?);
+            let entry = Entry::new(stamp, Seq::copy_of(alloc, bundle)?);
+            put_record(out, Version::Second, before, &entry)
         }
     }
-    count
 }
 
-// The head by hand, written and read; each refusal by its name.
+/// The head of the stores.
+fn standard(version: Version) -> Head {
+    Head {
+        publishing: false,
+        limits: Limits::standard(),
+        identity: match version {
+            Version::First => None,
+            Version::Second => Some([0, 1, 2, 3, 4, 5, 6, 7, 8, 9, 10, 11, 12, 13, 14, 15]),
+        },
+    }
+}
+
+/// The first so many bytes.
+fn front(bytes: &[u8], len: usize) -> &[u8] {
+    &bytes[..len.min(bytes.len())]
+}
+
+/// The bytes from there on.
+fn behind(bytes: &[u8], at: usize) -> &[u8] {
+    &bytes[at.min(bytes.len())..]
+}
+
+/// The same bytes with that one in a place.
+fn turned<A: Allocator>(alloc: A, bytes: &[u8], at: usize, byte: u8) -> Result<Vec<u8, A>, Fail> {
+    let mut file = Vec::from_slice(alloc, bytes)?;
+    if let Some(there) = file.as_mut_slice().get_mut(at) {
+        *there = byte;
+    }
+    Ok(file)
+}
+
+impl Sample {
+    fn head_size(&self) -> usize {
+        self.ends[0]
+    }
+
+    /// How many of the records end within so many bytes.
+    fn whole_within(&self, len: usize) -> usize {
+        let mut count = 0usize;
+        for end in [self.ends[1], self.ends[2], self.ends[3]] {
+            if end <= len {
+                count = count.saturating_add(1);
+            }
+        }
+        count
+    }
+
+    /// Where so many records end, and 0 records the head.
+    fn end_of(&self, whole: usize) -> usize {
+        self.ends[whole.min(3)]
+    }
+
+    /// The time, the name and the bundle of a record.
+    fn record(&self, place: usize) -> (u64, &'static [u8], &'static [u8]) {
+        let (time, name, bundle) = RECORDS[place.min(2)];
+        match self.version {
+            Version::First => (0, b"", bundle),
+            Version::Second => (time, name, bundle),
+        }
+    }
+
+    /// The digest of the head.
+    fn start<A: Allocator + Copy>(&self, alloc: A) -> Result<[u8; 20], Fail> {
+        Ok(read_records(alloc, front(self.store, self.head_size()))?.digest)
+    }
+}
+
+// The heads, written and read; each refusal by its name.
 #[test]
 fn heads_as_bytes(rt: HostRuntime) -> Result<(), Fail> {
-    let mut out = Vec::from_slice(rt.alloc(), &[7])?;
-    assert_eq!(rt; standard(false).put(&mut out), Ok(()));
-    let (front, rest) = out.as_slice().split_at(1.min(out.len()));
-    assert_eq!(rt; front, [7].as_slice());
-    assert_eq!(rt; rest, HEAD.as_slice());
-    assert_eq!(rt; Head::read(&HEAD), Ok(standard(false)));
-    assert_eq!(rt; Head::read(&STORE), Ok(standard(false)));
+    for sample in &SAMPLES {
+        let head = standard(sample.version);
+        let bytes = front(sample.store, sample.head_size());
+        let mut out = Vec::from_slice(rt.alloc(), &[7])?;
+        assert_eq!(rt; head.put(&mut out), Ok(()));
+        assert_eq!(rt; front(&out, 1), [7].as_slice());
+        assert_eq!(rt; behind(&out, 1), bytes);
+        assert_eq!(rt; head.size(), sample.head_size());
+        assert_eq!(rt; head.version(), sample.version);
+        assert_eq!(rt; Head::read(bytes), Ok(head));
+        assert_eq!(rt; Head::read(sample.store), Ok(head));
 
-    let mut other = HEAD;
-    other[9] = 1;
-    assert_eq!(rt; Head::read(&other), Ok(standard(true)));
-    other[9] = 2;
-    assert_eq!(rt; Head::read(&other), Err(HeadFault::Publishing));
-    other[8] = 2;
-    assert_eq!(rt; Head::read(&other), Err(HeadFault::Version));
-    other[0] = 104;
-    assert_eq!(rt; Head::read(&other), Err(HeadFault::Magic));
-    assert_eq!(rt; Head::read(&other[..37]), Err(HeadFault::TooShort));
-    for place in 0..7usize {
-        let mut zero = HEAD;
-        let mut above = HEAD;
-        let at = 10 + 4 * place;
-        for k in 0..4usize {
-            zero[at + k] = 0;
-            above[at + k] = 255;
+        let mut publishes = head;
+        publishes.publishing = true;
+        let alloc = rt.alloc();
+        assert_eq!(rt; Head::read(&turned(alloc, bytes, 9, 1)?), Ok(publishes));
+        assert_eq!(rt;
+            Head::read(&turned(alloc, bytes, 9, 2)?),
+            Err(HeadFault::Publishing)
+        );
+        for number in [0, 3, 255] {
+            assert_eq!(rt;
+                Head::read(&turned(alloc, bytes, 8, number)?),
+                Err(HeadFault::Version)
+            );
         }
         assert_eq!(rt;
-            Head::read(&zero),
-            Err(HeadFault::BadLimits),
-            "limit {place}"
+            Head::read(&turned(alloc, bytes, 0, 104)?),
+            Err(HeadFault::Magic)
         );
-        assert_eq!(rt;
-            Head::read(&above),
-            Err(HeadFault::BadLimits),
-            "limit {place}"
-        );
+        for len in 0..sample.head_size() {
+            assert_eq!(rt;
+                Head::read(front(bytes, len)),
+                Err(HeadFault::TooShort),
+                "{len} bytes"
+            );
+        }
+        for place in 0..7usize {
+            let mut zero = Vec::from_slice(alloc, bytes)?;
+            let mut above = Vec::from_slice(alloc, bytes)?;
+            let at = 10 + 4 * place;
+            for k in at..at + 4 {
+                zero = turned(alloc, &zero, k, 0)?;
+                above = turned(alloc, &above, k, 255)?;
+            }
+            assert_eq!(rt;
+                Head::read(&zero),
+                Err(HeadFault::BadLimits),
+                "limit {place}"
+            );
+            assert_eq!(rt;
+                Head::read(&above),
+                Err(HeadFault::BadLimits),
+                "limit {place}"
+            );
+        }
     }
     Ok(())
 }
 
-// The store is written as it was made outside, and read back.
+// A server's setup, and the head of a store of it.
+#[test]
+fn a_setup_and_its_head(rt: HostRuntime) -> Result<(), Fail> {
+    let head = standard(Version::Second);
+    let setup = Setup {
+        publishing: false,
+        limits: Limits::standard(),
+    };
+    assert_eq!(rt; head.setup(), setup);
+    assert_eq!(rt; head.identity.is_some(), true);
+    if let Some(identity) = head.identity {
+        assert_eq!(rt; setup.head(identity), head);
+    }
+    assert_eq!(rt; standard(Version::First).setup(), setup);
+    Ok(())
+}
+
+// The stores are written as they were made outside, and read back.
 #[test]
 fn records_as_bytes(rt: HostRuntime) -> Result<(), Fail> {
-    let mut out = Vec::from_slice(rt.alloc(), &HEAD)?;
-    let found = read_records(rt.alloc(), &HEAD)?;
-    assert!(rt; found.records.is_empty());
-    assert_eq!(rt; found.end, 38);
-    let mut digest = found.digest;
-    for record in [b"abc".as_slice(), &[], &[1, 0, 0, 0]] {
-        digest = put_next(&mut out, &digest, record)?;
+    let alloc = rt.alloc();
+    for sample in &SAMPLES {
+        let mut out = Vec::from_slice(alloc, front(sample.store, sample.head_size()))?;
+        let found = read_records(alloc, &out)?;
+        assert!(rt; found.records.is_empty());
+        assert_eq!(rt; found.end, sample.head_size());
+        let mut digest = found.digest;
+        for place in 0..3usize {
+            digest = put_next(
+                alloc,
+                &mut out,
+                sample.version,
+                &digest,
+                sample.record(place),
+            )?;
+        }
+        assert_eq!(rt; out.as_slice(), sample.store);
+        let found = read_records(alloc, &out)?;
+        for (place, entry) in found.records.as_slice().iter().enumerate() {
+            let (time, name, bundle) = sample.record(place);
+            assert_eq!(rt; entry.stamp().time(), time);
+            assert_eq!(rt; entry.stamp().name(), name);
+            assert_eq!(rt; entry.bundle(), bundle);
+        }
+        assert_eq!(rt; found.records.len(), 3);
     }
-    assert_eq!(rt; out.as_slice(), STORE.as_slice());
     Ok(())
 }
 
-// The records of the store one after the other, and then no bytes, and a shut gate with anything after it.
-// Result: each record and what follows it; the end both times; the digest is that of the last record, which
-// stands in the store.
+// The records of the stores one after the other, and then no bytes, and a shut gate with anything after it. Result: each
+// record and what follows it; the end both times; the digest is that of the last record, which stands in the store.
 #[test]
 fn records_one_by_one(rt: HostRuntime) -> Result<(), Fail> {
-    let mut digest = read_records(rt.alloc(), &HEAD)?.digest;
-    let mut rest = &STORE[38..];
-    for (record, end) in [
-        (b"abc".as_slice(), ENDS[1]),
-        (b"", ENDS[2]),
-        (b"\x01\0\0\0", ENDS[3]),
-    ] {
-        match next_record(&mut digest, rest) {
-            Ok((found, after)) => {
-                assert_eq!(rt; found, record);
-                assert_eq!(rt; after, &STORE[end.min(STORE.len())..]);
-                rest = after;
+    for sample in &SAMPLES {
+        let mut digest = sample.start(rt.alloc())?;
+        let mut rest = behind(sample.store, sample.head_size());
+        for place in 0..3usize {
+            match next_record(sample.version, &mut digest, rest) {
+                Ok((found, after)) => {
+                    assert_eq!(rt;
+                        (found.time, found.name, found.bundle),
+                        sample.record(place)
+                    );
+                    assert_eq!(rt; after, behind(sample.store, sample.end_of(place + 1)));
+                    rest = after;
+                }
+                Err(_) => assert!(rt; false, "no record at {place}"),
             }
-            Err(_) => assert!(rt; false, "no record before {end}"),
         }
+        // the last bundle has four bytes, and its digest stands before it
+        let last = sample.end_of(3).saturating_sub(24);
+        assert_eq!(rt; digest.as_slice(), front(behind(sample.store, last), 20));
+        for file in [b"".as_slice(), &[0], &[0, 1, 2, 255]] {
+            assert_eq!(rt;
+                stop_of(next_record(sample.version, &mut digest, file)),
+                Some(NoRecord::End)
+            );
+        }
+        assert_eq!(rt; digest.as_slice(), front(behind(sample.store, last), 20));
     }
-    assert_eq!(rt; digest.as_slice(), &STORE[96..116]);
-    for file in [b"".as_slice(), &[0], &[0, 1, 2, 255]] {
-        assert_eq!(rt; next_record(&mut digest, file), Err(NoRecord::End));
-    }
-    assert_eq!(rt; digest.as_slice(), &STORE[96..116]);
     Ok(())
 }
 
-// The first record cut at each of its lengths, of the greatest size, behind the gates 2 and 255, with
-// another digest and after another one. Result: torn, torn, damaged, damaged, damaged; and the digest that
-// was given stays, with which the record is read after all.
+/// Why no record was read.
+fn stop_of<T>(found: Result<T, NoRecord>) -> Option<NoRecord> {
+    found.err()
+}
+
+// The first record cut at each of its lengths, of the greatest size, behind each other gate, with another digest and
+// after another one. Result: torn, torn, damaged, damaged, damaged; and the digest that was given stays, with which the
+// record is read after all.
 #[test]
 fn no_record_where_one_might_stand(rt: HostRuntime) -> Result<(), Fail> {
-    let before = read_records(rt.alloc(), &HEAD)?.digest;
-    let mut digest = before;
-    let record = &STORE[38..66];
-    for len in 1..record.len() {
-        assert_eq!(rt;
-            next_record(&mut digest, &record[..len]),
-            Err(NoRecord::Torn),
-            "{len} bytes"
+    let alloc = rt.alloc();
+    for sample in &SAMPLES {
+        let version = sample.version;
+        let before = sample.start(alloc)?;
+        let mut digest = before;
+        let record = front(
+            behind(sample.store, sample.head_size()),
+            sample.end_of(1) - sample.head_size(),
         );
-    }
-    let mut file = STORE;
-    for at in 39..43usize {
-        file[at] = 255;
-    }
-    assert_eq!(rt; next_record(&mut digest, &file[38..]), Err(NoRecord::Torn));
-    for gate in [2, 255] {
-        let mut file = STORE;
-        file[38] = gate;
+        for len in 1..record.len() {
+            let stop = stop_of(next_record(version, &mut digest, front(record, len)));
+            assert_eq!(rt; stop, Some(NoRecord::Torn), "{len} bytes");
+        }
+        let mut great = Vec::from_slice(alloc, record)?;
+        for at in 1..5usize {
+            great = turned(alloc, &great, at, 255)?;
+        }
         assert_eq!(rt;
-            next_record(&mut digest, &file[38..]),
-            Err(NoRecord::Damaged)
+            stop_of(next_record(version, &mut digest, &great)),
+            Some(NoRecord::Torn)
         );
-        assert_eq!(rt; next_record(&mut digest, &[gate]), Err(NoRecord::Damaged));
+        let open = record.first().copied();
+        for gate in 1..=255u8 {
+            if open != Some(gate) {
+                let other = turned(alloc, record, 0, gate)?;
+                let stop = stop_of(next_record(version, &mut digest, &other));
+                assert_eq!(rt; stop, Some(NoRecord::Damaged), "gate {gate}");
+                let stop = stop_of(next_record(version, &mut digest, &[gate]));
+                assert_eq!(rt; stop, Some(NoRecord::Damaged), "gate {gate}");
+            }
+        }
+        let mut other = [7u8; 20];
+        assert_eq!(rt;
+            stop_of(next_record(version, &mut other, record)),
+            Some(NoRecord::Damaged)
+        );
+        assert_eq!(rt; other, [7u8; 20]);
+        assert_eq!(rt; digest, before);
+        assert!(rt; next_record(version, &mut digest, record).is_ok());
     }
-    let mut file = STORE;
-    file[62] ^= 1;
-    assert_eq!(rt;
-        next_record(&mut digest, &file[38..]),
-        Err(NoRecord::Damaged)
-    );
-    let mut other = [7u8; 20];
-    assert_eq!(rt; next_record(&mut other, record), Err(NoRecord::Damaged));
-    assert_eq!(rt; other, [7u8; 20]);
-    assert_eq!(rt; digest, before);
-    assert!(rt; next_record(&mut digest, record).is_ok());
-    assert_eq!(rt; digest.as_slice(), &STORE[43..63]);
     Ok(())
 }
 
 // A store cut at each of its lengths, and with a shut gate and anything after it.
 #[test]
 fn a_store_cut_anywhere(rt: HostRuntime) -> Result<(), Fail> {
-    for len in 0..STORE.len() + 1 {
-        let file = &STORE[..len];
-        match read_records(rt.alloc(), file) {
-            Ok(found) => {
-                let whole = whole_within(len);
-                assert!(rt; len >= 38, "{len} bytes");
-                assert_eq!(rt; found.records.len(), whole, "{len} bytes");
-                assert_eq!(rt; found.end, ENDS[whole.min(3)], "{len} bytes");
-                assert_eq!(rt; found.is_torn, found.end != len, "{len} bytes");
-            }
-            Err(fault) => {
-                assert!(rt; len < 38, "{len} bytes");
-                assert_eq!(rt; fault, ReadFault::Head(HeadFault::TooShort));
+    for sample in &SAMPLES {
+        for len in 0..sample.store.len() + 1 {
+            match read_records(rt.alloc(), front(sample.store, len)) {
+                Ok(found) => {
+                    let whole = sample.whole_within(len);
+                    assert!(rt; len >= sample.head_size(), "{len} bytes");
+                    assert_eq!(rt; found.records.len(), whole, "{len} bytes");
+                    assert_eq!(rt; found.end, sample.end_of(whole), "{len} bytes");
+                    assert_eq!(rt; found.is_torn, found.end != len, "{len} bytes");
+                }
+                Err(fault) => {
+                    assert!(rt; len < sample.head_size(), "{len} bytes");
+                    assert_eq!(rt; fault, ReadFault::Head(HeadFault::TooShort));
+                }
             }
         }
-    }
-    for whole in 0..4usize {
-        let end = ENDS[whole];
-        let mut file = Vec::from_slice(rt.alloc(), &STORE[..end.min(STORE.len())])?;
-        file.extend_from_slice(&[0, 1, 2, 3])?;
-        let found = read_records(rt.alloc(), &file)?;
-        assert_eq!(rt; found.records.len(), whole);
-        assert_eq!(rt; found.end, end);
-        assert!(rt; !found.is_torn);
+        for whole in 0..4usize {
+            let end = sample.end_of(whole);
+            let mut file = Vec::from_slice(rt.alloc(), front(sample.store, end))?;
+            file.extend_from_slice(&[0, 1, 2, 3])?;
+            let found = read_records(rt.alloc(), &file)?;
+            assert_eq!(rt; found.records.len(), whole);
+            assert_eq!(rt; found.end, end);
+            assert!(rt; !found.is_torn);
+        }
     }
     Ok(())
 }
 
-// Each byte after the head with each of its bits turned: the store is refused, or torn, or ends there.
+// Each byte after the head with each other value: the store is refused, or torn, or ends there. It ends there where a
+// gate is shut, and is torn where a size or, in version 2, the length of a name is greater.
 #[test]
 fn a_damaged_record(rt: HostRuntime) -> Result<(), Fail> {
-    for at in 38..STORE.len() {
-        for bit in 0..8u32 {
-            let mut file = STORE;
-            file[at] ^= 1u8 << bit;
-            let before = whole_within(at);
-            match read_records(rt.alloc(), &file) {
-                Ok(found) => {
-                    assert_eq!(rt; found.records.len(), before, "byte {at}, bit {bit}");
-                    let gate = ENDS[before.min(3)];
-                    let in_gate_or_size = at < gate.saturating_add(5);
-                    assert!(rt; in_gate_or_size, "byte {at}, bit {bit}");
-                }
-                Err(fault) => {
-                    assert_eq!(rt; fault, ReadFault::Damaged(before), "byte {at}, bit {bit}");
+    let alloc = rt.alloc();
+    for sample in &SAMPLES {
+        for at in sample.head_size()..sample.store.len() {
+            for add in 1..=255u8 {
+                let Some(byte) = sample.store.get(at) else {
+                    continue;
+                };
+                let value = byte.wrapping_add(add);
+                let file = turned(alloc, sample.store, at, value)?;
+                let before = sample.whole_within(at);
+                match read_records(alloc, &file) {
+                    Ok(found) => {
+                        let behind_gate = at.saturating_sub(sample.end_of(before));
+                        let is_size = behind_gate > 0 && behind_gate < 5;
+                        let is_named = behind_gate == 13 && sample.version == Version::Second;
+                        let shuts = behind_gate == 0 && value == 0;
+                        assert_eq!(rt; found.records.len(), before, "byte {at}, {value}");
+                        assert_eq!(rt; found.is_torn, is_size || is_named, "byte {at}, {value}");
+                        assert!(rt; found.is_torn || shuts, "byte {at}, {value}");
+                    }
+                    Err(fault) => {
+                        assert_eq!(rt; fault, ReadFault::Damaged(before), "byte {at}, {value}");
+                    }
                 }
             }
         }
@@ -250,7 +422,7 @@ fn a_damaged_record(rt: HostRuntime) -> Result<(), Fail> {
 fn memory_refused_to_the_reader(rt: HostRuntime) -> Result<(), Fail> {
     let mut refused = 0usize;
     let mut ample = 0usize;
-    for size in 0..600usize {
+    for size in 0..1200usize {
         let heap = LocalHeap::new(rt.alloc(), size)?;
         match read_records(&heap, &STORE) {
             Ok(found) => {
@@ -269,9 +441,13 @@ fn memory_refused_to_the_reader(rt: HostRuntime) -> Result<(), Fail> {
 }
 
 /// Writes the head and the record `abc`.
-fn put_both<A: Allocator>(out: &mut Vec<u8, A>, first: &[u8; 20]) -> Result<(), NoMemory> {
-    standard(false).put(out)?;
-    let _digest = put_next(out, first, b"abc")?;
+fn put_both<A: Allocator + Copy>(
+    alloc: A,
+    out: &mut Vec<u8, A>,
+    first: &[u8; 20],
+) -> Result<(), NoMemory> {
+    standard(Version::Second).put(out)?;
+    let _digest = put_next(alloc, out, Version::Second, first, RECORDS[0])?;
     Ok(())
 }
 
@@ -279,23 +455,23 @@ fn put_both<A: Allocator>(out: &mut Vec<u8, A>, first: &[u8; 20]) -> Result<(), 
 // first bytes of them are there, and no others.
 #[test]
 fn memory_refused_to_the_writer(rt: HostRuntime) -> Result<(), Fail> {
-    let first = read_records(rt.alloc(), &HEAD)?.digest;
+    let first = read_records(rt.alloc(), front(&STORE, 54))?.digest;
     let mut no_head = 0usize;
     let mut no_record = 0usize;
     let mut ample = 0usize;
-    for size in 0..400usize {
+    for size in 0..800usize {
         let heap = LocalHeap::new(rt.alloc(), size)?;
         let mut out = Vec::new(&heap);
-        let result = put_both(&mut out, &first);
-        let len = out.len().min(STORE.len());
-        assert_eq!(rt; out.as_slice(), &STORE[..len], "a heap of {size}");
+        let result = put_both(&heap, &mut out, &first);
+        let len = out.len();
+        assert_eq!(rt; out.as_slice(), front(&STORE, len), "a heap of {size}");
         if result.is_ok() {
-            assert_eq!(rt; len, ENDS[1], "a heap of {size}");
+            assert_eq!(rt; len, 94, "a heap of {size}");
             ample = ample.saturating_add(1);
-        } else if len < ENDS[0] {
+        } else if len < 54 {
             no_head = no_head.saturating_add(1);
         } else {
-            assert!(rt; len < ENDS[1], "a heap of {size}");
+            assert!(rt; len < 94, "a heap of {size}");
             no_record = no_record.saturating_add(1);
         }
     }

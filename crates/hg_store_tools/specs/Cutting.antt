@@ -1,51 +1,55 @@
 -- A store that is ended before one of its records, and what is kept of those that it loses.
 use Rattle.std.specs.Prelude.{ℕ, ◌≡◌, ◌≢◌, ◌⊎◌, ◌<◌, List, [], ◌++◌, length, take, drop}
-use Rattle.std.specs.List.{AllByRecursion, concat}
+use Rattle.std.specs.List.{AllByRecursion}
 use Rattle.hg_store.specs.declared.head.Head.{Head}
+use Rattle.hg_store.specs.declared.head.Version.{Version}
 use Rattle.hg_store.specs.declared.record.NoRecord.{NoRecord}
 use Rattle.hg_store.specs.declared.record.NoRecord.TheVariants.{Damaged, End, Torn}
-use Rattle.hg_store.specs.Head.{BeginsWithHead, first_digest}
+use Rattle.hg_store.specs.Entries.{Entry}
+use Rattle.hg_store.specs.Head.{BeginsWithHead, first_digest, version_of}
 use Rattle.hg_store.specs.Log.{at_rest}
 use Rattle.hg_store.specs.Records.{IsDamaged, IsEnd, IsRecord, IsTorn, frames, last_digest}
+use Rattle.hg_store_tools.specs.Logging.{joined}
 
 -- what stands after the last whole record, which has this digest: the end, a torn record or damage
-abbrev pub StopsSo : NoRecord → List ℕ → List ℕ → Type 0
-StopsSo End digest tail = IsEnd tail
-StopsSo Torn digest tail = IsTorn tail
-StopsSo Damaged digest tail = IsDamaged digest tail
+abbrev pub StopsSo : NoRecord → Version → List ℕ → List ℕ → Type 0
+StopsSo End version digest tail = IsEnd tail
+StopsSo Torn version digest tail = IsTorn version tail
+StopsSo Damaged version digest tail = IsDamaged version digest tail
 
 -- The bytes after a head are these records, the first after that digest, and something that is no record.
-pub record AreFront (start bytes : List ℕ) (records : List (List ℕ)) (stop : NoRecord) : Type 0 where
-  pub tail : List ℕ
-  pub each : AllByRecursion IsRecord records
-  pub spelled : bytes ≡ frames start records ++ tail
-  pub stops : StopsSo stop (last_digest start records) tail
+pub record AreFront (version : Version) (start bytes : List ℕ) (records : List Entry) (stop : NoRecord) : Type 0
+  where
+    pub tail : List ℕ
+    pub each : AllByRecursion (IsRecord version) records
+    pub spelled : bytes ≡ frames version start records ++ tail
+    pub stops : StopsSo stop version (last_digest version start records) tail
 
 -- The file begins with this head and these records, and then comes something that is no record.
-pub record IsFront (file : List ℕ) (head : Head) (records : List (List ℕ)) (stop : NoRecord) : Type 0 where
+pub record IsFront (file : List ℕ) (head : Head) (records : List Entry) (stop : NoRecord) : Type 0 where
   pub behind : List ℕ
   pub begins : BeginsWithHead file head behind
-  pub front : AreFront (first_digest head) behind records stop
+  pub front : AreFront (version_of head) (first_digest head) behind records stop
 
 -- a record stands at the place, or a torn or damaged one
 abbrev pub HasPlace : ℕ → ℕ → NoRecord → Type 0
 HasPlace at count stop = (at < count) ⊎ ((at ≡ count) × (stop ≢ End))
 
--- The file begins with records and has the place; the records from there on are kept, one after the other, and
--- the store of those before it is left.
+-- The file begins with records and has the place; the bundles of the records from there on are kept, one after the
+-- other, and the store of those before it is left.
 pub record IsCutOf (file : List ℕ) (at : ℕ) (kept left : List ℕ) : Type 0 where
   pub head : Head
-  pub records : List (List ℕ)
+  pub records : List Entry
   pub stop : NoRecord
   pub front : IsFront file head records stop
   pub place : HasPlace at (length records) stop
-  pub kept_is : kept ≡ concat (drop at records)
+  pub kept_is : kept ≡ joined (drop at records)
   pub left_is : left ≡ at_rest head (take at records)
 
 -- the file begins with so many records and has not the place
 pub record HasNoPlace (file : List ℕ) (at count : ℕ) : Type 0 where
   pub head : Head
-  pub records : List (List ℕ)
+  pub records : List Entry
   pub stop : NoRecord
   pub front : IsFront file head records stop
   pub count_is : count ≡ length records

@@ -7,6 +7,8 @@ use Rattle.hg_recovery.specs.declared.restore.RestoreFault.TheVariants.{NoBundle
 use Rattle.hg_recovery.specs.Opening.{empty_repository}
 use Rattle.hg_recovery.specs.Replays.{Replays, StopsAt}
 use Rattle.hg_store.specs.declared.head.Head.{Head}
+use Rattle.hg_store.specs.Entries.{Entry}
+use Rattle.hg_store.specs.Head.{setup_of}
 use Rattle.hg_connection.specs.declared.sending.Sending.{Sending}
 use Rattle.hg_connection.specs.declared.sending.Sending.TheVariants.{Whole as sent_whole, Broken, NoMemory as sent_no_memory}
 use Rattle.hg_connection.specs.Devices.{Output}
@@ -24,10 +26,10 @@ report_text repo count = report_of repo ++ journal_lines count
 -- is its report with the lines of its pushes.
 pub record Reports (A : Type 0) (file : List ℕ) (ending : StoreEnd) (text : List ℕ) : Type 0 where
   pub head : Head
-  pub records : List (List ℕ)
+  pub records : List Entry
   pub read : IsRead file head records ending
   pub repo : RepositoryOf A
-  pub ran : Replays head.limits (empty_repository head) records repo
+  pub ran : Replays head.limits (empty_repository (setup_of head)) records repo
   pub text_is : text ≡ report_text repo (length records)
 
 -- why records do not run to their end, as a fault of the store
@@ -42,9 +44,9 @@ sending_fault Broken = Unsent
 sending_fault sent_no_memory = NoMemory
 
 -- why there is no report of the records: they do not run to their end, or memory was refused
-pub data IsUntold (A : Type 0) (head : Head) (records : List (List ℕ)) (fault : Fault) : Type 0 where
+pub data IsUntold (A : Type 0) (head : Head) (records : List Entry) (fault : Fault) : Type 0 where
   stops : (why : RestoreFault) (last : RepositoryOf A) →
-      StopsAt head.limits (empty_repository head) records why last → fault ≡ unrun_fault why →
+      StopsAt head.limits (empty_repository (setup_of head)) records why last → fault ≡ unrun_fault why →
       IsUntold A head records fault
   starves : fault ≡ NoMemory → IsUntold A head records fault
 
@@ -52,7 +54,7 @@ pub data IsUntold (A : Type 0) (head : Head) (records : List (List ℕ)) (fault 
 -- was written; or the writer did not take it.
 pub data IsUnreported (A : Type 0) (file : List ℕ) (before after : Output) (fault : Fault) : Type 0 where
   unread : IsUnread fault file → after ≡ before → IsUnreported A file before after fault
-  untold : (head : Head) (records : List (List ℕ)) (ending : StoreEnd) → IsRead file head records ending →
+  untold : (head : Head) (records : List Entry) (ending : StoreEnd) → IsRead file head records ending →
       IsUntold A head records fault → after ≡ before → IsUnreported A file before after fault
   unsent : (ending : StoreEnd) (text : List ℕ) (sending : Sending) (count : ℕ) →
       Reports A file ending text → Sends sending count before after text → fault ≡ sending_fault sending →

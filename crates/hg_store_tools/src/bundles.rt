@@ -2,16 +2,15 @@
 
 ghost use Rattle.std.specs.Prelude.{◌≡◌, ◌<◌, ◌+◌, ◌^◌, ◌∷◌, [], ℕ, List, Option, IfErr, IfOk, OnErr, OnOk};
 ghost use Rattle.std.specs.Prelude.{drop, length};
-ghost use Rattle.std.specs.List.{concat};
 ghost use Rattle.std.specs.Io.KnownBytes.{Appends};
 ghost use Rattle.hg_connection.specs.Devices.{TellsMore};
-ghost use Rattle.hg_store_tools.specs.Logging.{IsLogged, IsShelved, IsUnlogged, TakesFront, with_places};
+ghost use Rattle.hg_store_tools.specs.Logging.{IsLogged, IsShelved, IsUnlogged, TakesFront, joined, with_places};
 
 use crate::fault::{Fault, StoreEnd};
 use crate::read::read_whole;
 use crate::report::sent;
 use hg_connection::Writer;
-use hg_types::Seq;
+use hg_store::Entry;
 use std::alloc::Allocator;
 
 /// A place for the bundles of pushes.
@@ -52,7 +51,7 @@ pub fn send_log<A: Allocator + Copy, W: Writer>(
 }
 
 /// The records from a place on, none where it is after the last.
-fn records_from<A: Allocator>(records: &[Seq<u8, A>], from: usize) -> &[Seq<u8, A>]
+pub(crate) fn records_from<A: Allocator>(records: &[Entry<A>], from: usize) -> &[Entry<A>]
     ensures { result.now ≡ drop from records.now }
 {
     if from < records.len() {
@@ -62,18 +61,18 @@ fn records_from<A: Allocator>(records: &[Seq<u8, A>], from: usize) -> &[Seq<u8, 
     }
 }
 
-/// Writes the records, one after the other.
+/// Writes the bundles of the records, one after the other.
 fn send_each<A: Allocator + Copy, W: Writer>(
     writer: &mut W,
-    records: &[Seq<u8, A>],
+    records: &[Entry<A>],
 ) -> Result<(), Fault>
     ensures ok { OnOk result (Appends (W.told writer.old).taken (W.told writer.new).taken
-        (concat records.now)) }
+        (joined records.now)) }
     ensures err { IfErr result (λ fault.
-        TakesFront (concat records.now) (W.told writer.old).taken (W.told writer.new).taken fault) }
+        TakesFront (joined records.now) (W.told writer.old).taken (W.told writer.new).taken fault) }
 {
     for record in records {
-        match sent(writer, record.as_slice()) {
+        match sent(writer, record.bundle()) {
             Ok(()) => {}
             Err(fault) => return Err(fault),
         }
@@ -101,17 +100,17 @@ pub fn put_log<A: Allocator + Copy, S: BundleSink>(
     }
 }
 
-/// Puts the records, the first at this place.
+/// Puts the bundles of the records, the first at this place.
 fn put_each<A: Allocator + Copy, S: BundleSink>(
     shelf: &mut S,
-    records: &[Seq<u8, A>],
+    records: &[Entry<A>],
     first: usize,
 ) -> Result<(), Fault>
     requires { first + length records.now < 2 ^ 64 }
     ensures { OnOk result (TellsMore (S.has shelf.old) (S.has shelf.new) (with_places first records.now)) }
 {
     for (count, record) in records.iter().enumerate() {
-        match shelf.put(first + count, record.as_slice()) {
+        match shelf.put(first + count, record.bundle()) {
             Ok(()) => {}
             Err(fault) => return Err(fault),
         }

@@ -2,26 +2,28 @@
 
 ghost use Rattle.std.specs.Prelude.{◌≡◌, ◌≢◌, ◌⊎◌, ◌<◌, ◌≤◌, [], ℕ, IfOk, IsErrOf, OnOk, false, true};
 ghost use Rattle.std.specs.Prelude.{drop, length, take};
-ghost use Rattle.std.specs.List.{AllByRecursion, concat};
+ghost use Rattle.std.specs.List.{AllByRecursion};
 ghost use Rattle.hg_store.specs.Calls.{IsPlaced, IsPlacedWhole};
+ghost use Rattle.hg_store.specs.Head.{version_of};
 ghost use Rattle.hg_store.specs.Log.{at_rest};
 ghost use Rattle.hg_store.specs.Records.{IsRecord};
 ghost use Rattle.hg_store.specs.declared.record.NoRecord.TheVariants.{End};
 ghost use Rattle.hg_store_tools.specs.Cutting.{HasNoPlace, HasPlace, IsCutOf};
+ghost use Rattle.hg_store_tools.specs.Logging.{joined};
 ghost use Rattle.hg_store_tools.specs.declared.fault.Fault.TheVariants.{NoPlace as no_place};
 
 use crate::fault::Fault;
 use crate::prefix::{StorePrefix, read_front};
-use hg_store::{NewFile, NoRecord, bytes_at_rest, put_whole};
-use hg_types::{NoMemory, Seq};
+use hg_store::{Entry, NewFile, NoRecord, bytes_at_rest, put_whole};
+use hg_types::NoMemory;
 use std::alloc::{Allocator, Global};
 
-/// What a cut makes of the bytes of a store.
+/// What a cut or an upgrade makes of the bytes of a store.
 #[derive(Drop)]
 pub struct StoreCut<A: Allocator = Global> {
-    /// The records from the place on, one after the other.
+    /// Of a cut the bundles of the records from the place on, one after the other; of an upgrade the old store.
     pub kept: Vec<u8, A>,
-    /// The new store: the head, the records before the place, and a shut gate.
+    /// The new store: a head, records, and a shut gate. Of a cut these are the records before the place.
     pub left: Vec<u8, A>,
 }
 
@@ -68,8 +70,8 @@ fn cut_at<A: Allocator + Copy>(
     at: usize,
 ) -> Result<StoreCut<A>, NoMemory>
     requires within { at ≤ length front.now.records }
-    requires each { AllByRecursion IsRecord front.now.records }
-    ensures kept { IfOk result (λ cut. cut.kept.items ≡ concat (drop at front.now.records)) }
+    requires each { AllByRecursion (IsRecord (version_of front.now.head)) front.now.records }
+    ensures kept { IfOk result (λ cut. cut.kept.items ≡ joined (drop at front.now.records)) }
     ensures left { IfOk result (λ cut. cut.left.items ≡ at_rest front.now.head (take at front.now.records)) }
 {
     let (before, behind) = front.records.as_slice().split_at(at);
@@ -78,13 +80,13 @@ fn cut_at<A: Allocator + Copy>(
     Ok(StoreCut { kept, left })
 }
 
-/// The records, one after the other.
-fn joined<A: Allocator + Copy>(alloc: A, records: &[Seq<u8, A>]) -> Result<Vec<u8, A>, NoMemory>
-    ensures { IfOk result (λ bytes. bytes.items ≡ concat records.now) }
+/// The bundles of the records, one after the other.
+fn joined<A: Allocator + Copy>(alloc: A, records: &[Entry<A>]) -> Result<Vec<u8, A>, NoMemory>
+    ensures { IfOk result (λ bytes. bytes.items ≡ joined records.now) }
 {
     let mut bytes = Vec::new(alloc);
     for record in records {
-        bytes.extend_from_slice(record.as_slice())?;
+        bytes.extend_from_slice(record.bundle())?;
     }
     Ok(bytes)
 }

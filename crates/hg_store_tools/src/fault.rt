@@ -36,6 +36,12 @@ pub enum Fault {
     /// It has no such place, since it has so many records.
     #[error("no such place behind {0} pushes")]
     NoPlace(usize),
+    /// After so many whole records stands a torn one.
+    #[error("torn behind {0} pushes: end it there by `hg_pushd cut`")]
+    Torn(usize),
+    /// It is of version 2 already.
+    #[error("a store of version 2 already")]
+    Upgraded,
     /// Another process holds it.
     #[error("another process holds the store")]
     Held,
@@ -74,6 +80,8 @@ pub enum NamedFile<'a> {
     New(&'a str),
     /// What is kept in this folder of a cut before that place.
     Kept(&'a str, usize),
+    /// The store of version 1 that is kept in this folder.
+    Old(&'a str),
     /// The file in this folder of the push at that place.
     Push(&'a str, usize),
     /// The folder itself.
@@ -88,6 +96,7 @@ impl fmt::Display for NamedFile<'_> {
             NamedFile::Store(folder) => write!(f, "{folder}/pushes"),
             NamedFile::New(folder) => write!(f, "{folder}/pushes.new"),
             NamedFile::Kept(folder, place) => write!(f, "{folder}/pushes.cut-{place}"),
+            NamedFile::Old(folder) => write!(f, "{folder}/pushes.1"),
             NamedFile::Push(folder, place) => write!(f, "{folder}/{place:010}"),
             NamedFile::Folder(folder) => write!(f, "{folder}"),
             NamedFile::Output => write!(f, "standard output"),

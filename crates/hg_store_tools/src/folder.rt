@@ -3,21 +3,26 @@
 ghost use Rattle.std.specs.Prelude.{ℕ, List, IfOk};
 ghost use Rattle.hg_connection.specs.declared.sending.Sending.TheVariants.{Whole as sent_whole};
 ghost use Rattle.hg_connection.specs.Sent.{Sends};
-ghost use Rattle.hg_store_tools.specs.Logging.{IsLogged};
+ghost use Rattle.hg_store_tools.specs.Canonical.{IsLoggedAs};
 ghost use Rattle.hg_store_tools.specs.Reporting.{Reports};
 
-use crate::bundles::{put_log, send_log};
+use crate::canonical_log::{BundleForm, put_log_as, send_log_as};
 use crate::cut::{CutFault, StoreCut, cut_of, put_cut};
 use crate::fault::{ArchiveFault, Fault, NamedFile, StoreEnd};
 use crate::host::{FolderShelf, fault_of, fault_of_store};
 use crate::report::send_report;
+use crate::upgrade::upgrade_of;
 use hg_connection::Writer;
 use hg_store::{
-    StoreFault, StoreFolder, kept_file, make_folder, new_store, open_held, read_all, store_bytes,
+    StoreFault, StoreFolder, kept_file, make_folder, new_identity, new_store, open_held, read_all,
+    store_bytes,
 };
 use std::alloc::Allocator;
 use std::fs::{File, Files};
 use std::hash::RandomState;
+
+/// The name of a store of version 1 that is kept.
+const OLD_NAME: &str = "pushes.1";
 
 /// Writes the report of the store in a folder, as [`send_report`] does, also while another process holds it.
 /// Nothing is changed, and nothing is held.
@@ -39,20 +44,22 @@ pub fn report_store<'a, R: Files<File = File>, A: Allocator + Copy, W: Writer>(
     }
 }
 
-/// Writes the bundles of the store in a folder, from a place on, as [`send_log`] does, also while another
-/// process holds it. Nothing is changed, and nothing is held.
+/// Writes the bundles of the store in a folder, from a place on, in that form, as [`send_log`](crate::send_log) and
+/// [`send_canonical_log`](crate::send_canonical_log) do, also while another process holds it. Nothing is changed, and
+/// nothing is held.
 pub fn log_store<'a, R: Files<File = File>, A: Allocator + Copy, W: Writer>(
     files: &R,
     alloc: A,
     folder: &'a str,
     from: usize,
+    form: BundleForm,
     writer: &mut W,
 ) -> Result<StoreEnd, ArchiveFault<'a>>
     ensures { IfOk result (λ ending. (file : List ℕ)
-        × IsLogged file from ending (W.told writer.old).taken (W.told writer.new).taken) }
+        × IsLoggedAs form A file from ending (W.told writer.old).taken (W.told writer.new).taken) }
 {
     let file = about_store(store_bytes(files, alloc, folder), NamedFile::Store(folder))?;
-    match send_log(alloc, file, from, writer) {
+    match send_log_as(alloc, file, from, form, writer) {
         Ok(ending) => Ok(ending),
         Err(fault) => Err(sending_fault(folder, fault)),
     }
@@ -66,12 +73,13 @@ pub fn file_log<'a, R: Files<File = File>, A: Allocator + Copy>(
     alloc: A,
     folder: &'a str,
     from: usize,
+    form: BundleForm,
     to: &'a str,
 ) -> Result<StoreEnd, ArchiveFault<'a>> {
     let file = about_store(store_bytes(files, alloc, folder), NamedFile::Store(folder))?;
     about_store(make_folder(files, alloc, to), NamedFile::Folder(to))?;
     let mut shelf = FolderShelf::of(files, alloc, to);
-    match put_log(alloc, file, from, &mut shelf) {
+    match put_log_as(alloc, file, from, form, &mut shelf) {
         Ok(ending) => Ok(ending),
         Err(fault) => Err(ArchiveFault {
             file: shelf_name(folder, to, shelf.place, fault),
@@ -92,7 +100,32 @@ pub fn cut_store<'a, R: Files<File = File>, A: Allocator + Copy>(
 ) -> Result<(), ArchiveFault<'a>> {
     let mut old = about_store(open_held(files, alloc, folder), NamedFile::Store(folder))?;
     let cut = about(cut_held(alloc, &mut old, at), NamedFile::Store(folder))?;
-    place_cut(files, alloc, folder, at, &cut)
+    let kept = NamedFile::Kept(folder, at);
+    let name = about(cut_name(alloc, at), kept)?;
+    place_cut(files, alloc, folder, kept, name.as_str(), &cut)
+}
+
+/// Writes the store of version 1 in a folder as one of version 2, with a name of random bytes, as [`upgrade_of`] and
+/// [`put_cut`] say. The old one is kept in the file `pushes.1` of the folder; one that is there is not written over. A
+/// store that another process holds is refused, and so is a torn one. Of an `Err` the store is as it was, except where
+/// the new file failed: then the old store is there, or the new one is.
+pub fn upgrade_store<'a, R: Files<File = File>, A: Allocator + Copy>(
+    files: &R,
+    alloc: A,
+    folder: &'a str,
+) -> Result<(), ArchiveFault<'a>> {
+    let store = NamedFile::Store(folder);
+    let mut old = about_store(open_held(files, alloc, folder), store)?;
+    let identity = about_store(new_identity(files), store)?;
+    let upgrade = about(upgrade_held(alloc, &mut old, identity), store)?;
+    place_cut(
+        files,
+        alloc,
+        folder,
+        NamedFile::Old(folder),
+        OLD_NAME,
+        &upgrade,
+    )
 }
 
 /// The same outcome; a fault with the file that it is about.
@@ -146,17 +179,28 @@ fn cut_held<A: Allocator + Copy>(
     }
 }
 
-/// Puts what a cut made into the folder.
+/// What an upgrade makes of a file.
+fn upgrade_held<A: Allocator + Copy>(
+    alloc: A,
+    file: &mut File,
+    identity: [u8; 16],
+) -> Result<StoreCut<A>, Fault> {
+    match read_all(alloc, file) {
+        Ok(bytes) => upgrade_of(alloc, bytes, identity),
+        Err(error) => Err(fault_of(error)),
+    }
+}
+
+/// Puts what a cut or an upgrade made into the folder, and what is kept into a file of that name.
 fn place_cut<'a, R: Files<File = File>, A: Allocator + Copy>(
     files: &R,
     alloc: A,
     folder: &'a str,
-    at: usize,
+    kept_name: NamedFile<'a>,
+    name: &str,
     cut: &StoreCut<A>,
 ) -> Result<(), ArchiveFault<'a>> {
-    let kept_name = NamedFile::Kept(folder, at);
-    let name = about(cut_name(alloc, at), kept_name)?;
-    let mut kept = match kept_file(files, alloc, folder, name.as_str()) {
+    let mut kept = match kept_file(files, alloc, folder, name) {
         Ok(file) => file,
         Err(fault) => return about_store(Err(fault), kept_name),
     };

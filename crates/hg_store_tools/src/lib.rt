@@ -2,11 +2,16 @@
 //! a cut before one of them.
 //!
 //! [`send_report`], [`send_log`] and [`put_log`] are these over the bytes of a store, to any writer, and
-//! [`cut_of`] and [`put_cut`] end one. [`report_store`], [`log_store`], [`file_log`] and [`cut_store`] do it
-//! with a store in a folder. Nothing here starts a thread or waits.
+//! [`cut_of`] and [`put_cut`] end one. [`upgrade_of`] makes one of version 2 of one of version 1. [`report_store`],
+//! [`log_store`], [`file_log`], [`cut_store`] and [`upgrade_store`] do it with a store in a folder.
+//! [`canonical_bundle`] writes of a bundle what may change a repository alone, and [`send_canonical_log`] and
+//! [`put_canonical_log`] give the pushes of a store in that form. Nothing here starts a thread or waits.
 #![tactic(auto)]
 
 mod bundles;
+mod canonical;
+mod canonical_log;
+mod changing;
 mod cut;
 mod fault;
 mod folder;
@@ -14,10 +19,14 @@ mod host;
 mod prefix;
 mod read;
 mod report;
+mod upgrade;
 
 pub use bundles::{BundleSink, put_log, send_log};
+pub use canonical::canonical_bundle;
+pub use canonical_log::{BundleForm, put_canonical_log, send_canonical_log};
 pub use cut::{CutFault, StoreCut, cut_of, put_cut};
 pub use fault::{ArchiveFault, Fault, NamedFile, StoreEnd, TornNote};
-pub use folder::{cut_store, file_log, log_store, report_store};
+pub use folder::{cut_store, file_log, log_store, report_store, upgrade_store};
 pub use prefix::{StorePrefix, read_front};
 pub use report::send_report;
+pub use upgrade::upgrade_of;

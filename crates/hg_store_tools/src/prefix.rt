@@ -7,7 +7,7 @@ ghost use Rattle.hg_store.specs.declared.head.HeadFault.{HeadFault};
 ghost use Rattle.hg_store.specs.Head.{IsRefusedFor};
 
 use crate::fault::Fault;
-use hg_store::{HEAD_SIZE, Head, NoRecord, next_record};
+use hg_store::{Entry, Head, NoRecord, Version, next_record};
 use hg_types::{NoMemory, Seq};
 use sha1::Sha1;
 use std::alloc::{Allocator, Global};
@@ -16,7 +16,7 @@ use std::alloc::{Allocator, Global};
 #[derive(Drop)]
 pub struct StorePrefix<A: Allocator = Global> {
     pub head: Head,
-    pub records: Seq<Seq<u8, A>, A>,
+    pub records: Seq<Entry<A>, A>,
     pub stop: NoRecord,
 }
 
@@ -31,8 +31,8 @@ pub fn read_front<A: Allocator + Copy>(alloc: A, file: &[u8]) -> Result<StorePre
         Ok(head) => head,
         Err(fault) => return Err(Fault::Head(fault)),
     };
-    let (first, behind) = file.split_at(HEAD_SIZE);
-    match read_frames(alloc, &Sha1::digest(first), behind) {
+    let (first, behind) = file.split_at(head.size());
+    match read_frames(alloc, head.version(), &Sha1::digest(first), behind) {
         Ok((records, stop)) => Ok(StorePrefix {
             head,
             records,
@@ -45,18 +45,19 @@ pub fn read_front<A: Allocator + Copy>(alloc: A, file: &[u8]) -> Result<StorePre
 /// The records after a head, the first of which stands after that digest, and what stops them.
 fn read_frames<A: Allocator + Copy>(
     alloc: A,
+    version: Version,
     start: &[u8; 20],
     bytes: &[u8],
-) -> Result<(Seq<Seq<u8, A>, A>, NoRecord), NoMemory>
-    ensures { IfOk result (λ found. AreFront start.now bytes.now found.0 found.1) }
+) -> Result<(Seq<Entry<A>, A>, NoRecord), NoMemory>
+    ensures { IfOk result (λ found. AreFront version start.now bytes.now found.0 found.1) }
 {
     let mut records = Seq::new(alloc);
     let mut digest = *start;
     let mut rest = bytes;
     let stop = 'records: loop {
-        match next_record(&mut digest, rest) {
+        match next_record(version, &mut digest, rest) {
             Ok((record, after)) => {
-                records.push(Seq::copy_of(alloc, record)?)?;
+                records.push(record.to_entry(alloc)?)?;
                 rest = after;
             }
             Err(stop) => break 'records stop,

@@ -4,7 +4,7 @@ ghost use Rattle.std.specs.Prelude.{◌≡◌, IfErr, IfOk, length};
 ghost use Rattle.hg_store_tools.specs.Reading.{IsRead, IsUnread, store_end};
 
 use crate::fault::{Fault, StoreEnd};
-use hg_store::{Found, Head, ReadFault, read_records};
+use hg_store::{Entry, Found, Head, ReadFault, read_records};
 use hg_types::Seq;
 use std::alloc::{Allocator, Global};
 
@@ -12,7 +12,7 @@ use std::alloc::{Allocator, Global};
 #[derive(Drop)]
 pub struct Whole<A: Allocator = Global> {
     pub head: Head,
-    pub records: Seq<Seq<u8, A>, A>,
+    pub records: Seq<Entry<A>, A>,
     pub ending: StoreEnd,
 }
 

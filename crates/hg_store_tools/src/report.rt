@@ -8,6 +8,7 @@ ghost use Rattle.hg_connection.specs.declared.sending.Sending.{Sending as AnySen
 ghost use Rattle.hg_connection.specs.declared.sending.Sending.TheVariants.{Whole as sent_whole};
 ghost use Rattle.hg_connection.specs.Sent.{Sends};
 ghost use Rattle.hg_recovery.specs.Opening.{empty_repository};
+ghost use Rattle.hg_store.specs.Head.{setup_of};
 ghost use Rattle.hg_store_tools.specs.Reporting.{IsUnreported, IsUntold, Reports};
 ghost use Rattle.hg_store_tools.specs.Reporting.{report_text, sending_fault, unrun_fault};
 
@@ -16,8 +17,8 @@ use crate::read::read_whole;
 use hg_connection::{Sending, Writer, send};
 use hg_recovery::{RestoreFault, empty_repository, replay_records};
 use hg_repo::{Repo, add_journal_lines};
-use hg_store::Head;
-use hg_types::{NoMemory, Seq};
+use hg_store::{Entry, Head};
+use hg_types::NoMemory;
 use std::alloc::Allocator;
 use std::hash::RandomState;
 
@@ -56,15 +57,15 @@ fn report_text<A: Allocator + Copy>(
     alloc: A,
     state: RandomState,
     head: &Head,
-    records: &[Seq<u8, A>],
+    records: &[Entry<A>],
 ) -> Result<Vec<u8, A>, Fault>
     requires { IsAllowed head.now.limits }
     ensures ok { IfOk result (λ text. (repo : RepositoryOf A)
-        × Replays head.now.limits (empty_repository head.now) records.now repo
+        × Replays head.now.limits (empty_repository (setup_of head.now)) records.now repo
         × (text.items ≡ report_text repo (length records.now))) }
     ensures err { IfErr result (λ fault. IsUntold A head.now records.now fault) }
 {
-    let mut repo = empty_repository(alloc, state, head);
+    let mut repo = empty_repository(alloc, state, &head.setup());
     match replay_records(alloc, &mut repo, records) {
         Ok(()) => {}
         Err(fault) => {
@@ -81,7 +82,7 @@ fn report_text<A: Allocator + Copy>(
 }
 
 /// Why records do not run to their end, as a fault of the store.
-fn unrun_fault(fault: RestoreFault) -> Fault
+pub(crate) fn unrun_fault(fault: RestoreFault) -> Fault
     ensures { result ≡ unrun_fault fault }
 {
     match fault {

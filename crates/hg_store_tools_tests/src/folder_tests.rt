@@ -2,10 +2,10 @@
 
 ghost use Rattle.std.specs.Prelude.{◌≡◌, ◌<◌, ◌+◌, IfOk, OnOk, length};
 ghost use Rattle.std.specs.List.{AllByRecursion};
-ghost use Rattle.hg_store.specs.Records.{IsRecord};
+ghost use Rattle.hg_store.specs.Records.{IsSized};
 
 use crate::made::*;
-use hg_store::{Sealed, StoreFolder, create_store, open_store};
+use hg_store::{RecoverFault, Sealed, Stamp, StoreFault, StoreFolder, create_store, open_store};
 use hg_store_tools::*;
 use hg_types::{NoMemory, Seq};
 use std::alloc::Global;
@@ -16,14 +16,14 @@ use std::test::*;
 /// Adds a record to a batch, where it is not too long.
 #[tactic(auto, using(crate::proofs::Batches::each_more))]
 fn add(alloc: Global, batch: &mut Vec<Sealed>, record: &[u8]) -> Result<(), NoMemory>
-    requires { AllByRecursion IsRecord batch.old.items }
-    ensures each { OnOk result (AllByRecursion IsRecord batch.new.items) }
+    requires { AllByRecursion IsSized batch.old.items }
+    ensures each { OnOk result (AllByRecursion IsSized batch.new.items) }
     ensures more { OnOk result (length batch.new.items ≡ length batch.old.items + 1) }
 {
     if record.len() >= TOO_MANY {
         return Err(NoMemory);
     }
-    let sealed = Sealed::new(Seq::copy_of(alloc, record)?);
+    let sealed = Sealed::new(Stamp::unnamed(alloc, 0), Seq::copy_of(alloc, record)?);
     batch.push(sealed)?;
     Ok(())
 }
@@ -31,7 +31,7 @@ fn add(alloc: Global, batch: &mut Vec<Sealed>, record: &[u8]) -> Result<(), NoMe
 /// A batch of M1, E and M2.
 fn batch_of_three(alloc: Global) -> Result<Vec<Sealed>, NoMemory>
     ensures some { IfOk result (λ batch. 0 < length batch.items) }
-    ensures each { IfOk result (λ batch. AllByRecursion IsRecord batch.items) }
+    ensures each { IfOk result (λ batch. AllByRecursion IsSized batch.items) }
 {
     let mut batch = Vec::new(alloc);
     add(alloc, &mut batch, &ONE)?;
@@ -45,9 +45,9 @@ fn fill(rt: &HostRuntime, folder: &str) -> Result<(), Fail> {
     let alloc = rt.alloc();
     let _ = fs::remove_dir_all(rt, folder);
     let mut place = StoreFolder::new(rt, folder);
-    create_store(alloc, &mut place, &head(false))?;
+    create_store(alloc, &mut place, &setup(false))?;
     let batch = batch_of_three(alloc)?;
-    let mut opened = open_store(alloc, &mut place, &head(false))?;
+    let mut opened = open_store(alloc, &mut place, &setup(false))?;
     opened.log.append(&batch)?;
     Ok(())
 }
@@ -75,8 +75,18 @@ fn no_store(rt: HostRuntime) -> Result<(), Fail> {
             );
         }
     }
-    assert!(rt; log_store(&rt, alloc, folder, 0, &mut text).is_err());
-    assert!(rt; file_log(&rt, alloc, folder, 0, "hg_archive_no_log").is_err());
+    assert!(rt; log_store(&rt, alloc, folder, 0, BundleForm::Stored, &mut text).is_err());
+    assert!(rt;
+        file_log(
+            &rt,
+            alloc,
+            folder,
+            0,
+            BundleForm::Canonical,
+            "hg_archive_no_log"
+        )
+        .is_err()
+    );
     assert!(rt; cut_store(&rt, alloc, folder, 0).is_err());
     assert!(rt; text.is_empty());
     assert_eq!(rt; fs::exists(&rt, folder)?, false);
@@ -92,12 +102,14 @@ fn beside_a_server(rt: HostRuntime) -> Result<(), Fail> {
     let alloc = rt.alloc();
     let state = RandomState::new(&rt)?;
     fill(&rt, folder)?;
-    let opened = open_store(alloc, &mut StoreFolder::new(&rt, folder), &head(false))?;
+    let opened = open_store(alloc, &mut StoreFolder::new(&rt, folder), &setup(false))?;
     let mut text = Vec::new(alloc);
     assert!(rt; report_store(&rt, alloc, state, folder, &mut text) == Ok(StoreEnd::Whole));
     assert!(rt; text.as_slice() == MARKERS.as_bytes());
     let mut log = Vec::new(alloc);
-    assert!(rt; log_store(&rt, alloc, folder, 1, &mut log) == Ok(StoreEnd::Whole));
+    assert!(rt;
+        log_store(&rt, alloc, folder, 1, BundleForm::Canonical, &mut log) == Ok(StoreEnd::Whole)
+    );
     assert!(rt; log.len() == 80 && log.as_slice().get(12..) == Some(TWO.as_slice()));
     let held = ArchiveFault {
         file: NamedFile::Store(folder),
@@ -110,7 +122,7 @@ fn beside_a_server(rt: HostRuntime) -> Result<(), Fail> {
     let file = fs::read(&rt, name)?;
     let mut torn = fs::read(&rt, name)?;
     let last = torn.len().saturating_sub(1);
-    turn(&mut torn, last, 1);
+    turn(&mut torn, last, 255);
     fs::write(&rt, name, torn.as_slice())?;
     let mut text = Vec::new(alloc);
     assert!(rt; report_store(&rt, alloc, state, folder, &mut text) == Ok(StoreEnd::Torn(3)));
@@ -137,11 +149,11 @@ fn a_log_in_a_folder(rt: HostRuntime) -> Result<(), Fail> {
     let to = "hg_archive_logged/log";
     let alloc = rt.alloc();
     fill(&rt, folder)?;
-    assert!(rt; file_log(&rt, alloc, folder, 1, to) == Ok(StoreEnd::Whole));
+    assert!(rt; file_log(&rt, alloc, folder, 1, BundleForm::Canonical, to) == Ok(StoreEnd::Whole));
     assert_eq!(rt; fs::exists(&rt, "hg_archive_logged/log/0000000000")?, false);
     assert!(rt; fs::read(&rt, "hg_archive_logged/log/0000000001")?.as_slice() == EMPTY.as_slice());
     assert!(rt; fs::read(&rt, "hg_archive_logged/log/0000000002")?.as_slice() == TWO.as_slice());
-    match file_log(&rt, alloc, folder, 0, to) {
+    match file_log(&rt, alloc, folder, 0, BundleForm::Stored, to) {
         Ok(_) => assert!(rt; false, "a file that is there"),
         Err(fault) => {
             assert_eq!(rt; fault.status(), 3);
@@ -173,7 +185,9 @@ fn a_cut_in_a_folder(rt: HostRuntime) -> Result<(), Fail> {
     assert!(rt; cut_store(&rt, alloc, folder, 3) == Err(no_place));
     assert!(rt; fs::read(&rt, name)?.as_slice() == file.as_slice());
     assert!(rt; cut_store(&rt, alloc, folder, 1) == Ok(()));
-    assert!(rt; fs::read(&rt, name)?.as_slice() == shut_store(alloc, false, &[&ONE])?.as_slice());
+    let left = fs::read(&rt, name)?;
+    let wanted = shut_store(alloc, false, &[&ONE])?;
+    assert!(rt; left.as_slice().get(54..).is_some() && left.len() == wanted.len());
     let kept = fs::read(&rt, "hg_archive_cut/pushes.cut-1")?;
     assert!(rt; kept.len() == 80 && kept.as_slice().get(12..) == Some(TWO.as_slice()));
     assert_eq!(rt; fs::exists(&rt, "hg_archive_cut/pushes.new")?, false);
@@ -187,9 +201,44 @@ fn a_cut_in_a_folder(rt: HostRuntime) -> Result<(), Fail> {
     assert!(rt; cut_store(&rt, alloc, folder, 1) == Err(exists));
     assert!(rt; fs::read(&rt, name)?.as_slice() == file.as_slice());
     assert!(rt; fs::read(&rt, "hg_archive_cut/pushes.cut-1")?.len() == 80);
-    let opened = open_store(alloc, &mut StoreFolder::new(&rt, folder), &head(false))?;
+    let opened = open_store(alloc, &mut StoreFolder::new(&rt, folder), &setup(false))?;
     assert_eq!(rt; opened.records.len(), 3);
     drop(opened);
+    fs::remove_dir_all(&rt, folder)?;
+    Ok(())
+}
+
+// A store of version 1 in a folder is upgraded once, and is opened then.
+// M1, E, M2. Result: refused as of version 1; three records in version 2, and the old file; of version 2 already.
+#[test]
+fn an_upgrade_in_a_folder(rt: HostRuntime) -> Result<(), Fail> {
+    let folder = "hg_archive_upgraded";
+    let name = "hg_archive_upgraded/pushes";
+    let alloc = rt.alloc();
+    fill(&rt, folder)?;
+    let old = store_with(alloc, &old_head(false), &[&ONE, &EMPTY, &TWO])?;
+    fs::write(&rt, name, old.as_slice())?;
+    match open_store(alloc, &mut StoreFolder::new(&rt, folder), &setup(false)) {
+        Ok(_) => assert!(rt; false, "a store of version 1"),
+        Err(fault) => assert_eq!(rt; fault, StoreFault::Recover(RecoverFault::OldVersion)),
+    }
+    assert!(rt; upgrade_store(&rt, alloc, folder) == Ok(()));
+    assert!(rt; fs::read(&rt, "hg_archive_upgraded/pushes.1")?.as_slice() == old.as_slice());
+    let opened = open_store(alloc, &mut StoreFolder::new(&rt, folder), &setup(false))?;
+    assert_eq!(rt; opened.records.len(), 3);
+    drop(opened);
+    let again = ArchiveFault {
+        file: NamedFile::Store(folder),
+        fault: Fault::Upgraded,
+    };
+    assert!(rt; upgrade_store(&rt, alloc, folder) == Err(again));
+    fs::write(&rt, name, old.as_slice())?;
+    let exists = ArchiveFault {
+        file: NamedFile::Old(folder),
+        fault: Fault::Exists,
+    };
+    assert!(rt; upgrade_store(&rt, alloc, folder) == Err(exists));
+    assert!(rt; fs::read(&rt, name)?.as_slice() == old.as_slice());
     fs::remove_dir_all(&rt, folder)?;
     Ok(())
 }

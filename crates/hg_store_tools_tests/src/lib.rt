@@ -2,7 +2,7 @@
 //!
 //! `E` is a bundle without parts, `M1` and `M2` one with a part `obsmarkers` of one marker each, of the ids of
 //! twenty bytes 1 and 2, `U` one with a mandatory part of the type `UNKNOWN`, `C` one of a changeset without
-//! parents; all by hand. The report of `C` has one changeset, draft; of `M1` one marker, of `M2` another.
+//! parents, `X` and `P` one with a part `PushKey` among others, and alone; all by hand. The report of `C` has one changeset, draft; of `M1` one marker, of `M2` another.
 //!
 //! Rows of the tables, and what else the tests try:
 //!
@@ -25,8 +25,15 @@
 //! - a folder: no store; a report and a log beside a process that holds it; the log in a folder, twice; a cut
 //!   while it is held, at a place that it has not, at one that it has, and again. Result: no store; both; there
 //!   is a file; held; no such place; the records before it and the file of the others; there is a file.
+//! - the canonical bundle of `X`, which has stream parameters, parts and parameters that change nothing, chunks and
+//!   an interruption; of what it gives; of bytes that are no bundle. Result: `P`; `P`; no bundle at its place.
+//! - a log of canonical bundles of `X`, `E`, `X` from each place; one that meets no bundle; a writer that fails after
+//!   each number of bytes; each growth refused. Result: `P`, `E`, `P` from there on; what stands before it; a front;
+//!   out of memory, or `P`.
 #![tactic(auto)]
 
+#[cfg(test)]
+mod canonical_tests;
 #[cfg(test)]
 mod folder_tests;
 #[cfg(test)]

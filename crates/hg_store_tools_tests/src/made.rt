@@ -1,7 +1,7 @@
 //! Bundles and stores that were made by hand.
 
-use hg_store::{Head, put_record};
-use hg_types::{Limits, NoMemory};
+use hg_store::{Entry, Head, Setup, Stamp, Version, put_record};
+use hg_types::{Limits, NoMemory, Seq};
 use sha1::Sha1;
 use std::alloc::Allocator;
 
@@ -41,32 +41,71 @@ pub const CHANGESET: [u8; 193] = [
     0, 0, 0, 0, 0, 0, 0, 0, 0,
 ];
 
+/// Stream parameters, a part `REPLYCAPS`, an advisory one of a type that is not known, and a part `PushKey` with one
+/// parameter more than its four, whose payload `abc` has two chunks, and a part `output` between them.
+pub const MIXED: [u8; 165] = [
+    72, 71, 50, 48, 0, 0, 0, 3, 97, 61, 98, 0, 0, 0, 16, 9, 82, 69, 80, 76, 89, 67, 65, 80, 83, 0,
+    0, 0, 0, 0, 0, 0, 0, 0, 0, 0, 0, 0, 16, 5, 111, 116, 104, 101, 114, 0, 0, 0, 1, 1, 0, 1, 1,
+    120, 121, 0, 0, 0, 1, 122, 0, 0, 0, 0, 0, 0, 0, 47, 7, 80, 117, 115, 104, 75, 101, 121, 0, 0,
+    1, 2, 4, 1, 9, 1, 3, 1, 3, 0, 3, 1, 1, 1, 110, 97, 109, 101, 115, 112, 97, 99, 101, 110, 107,
+    101, 121, 107, 111, 108, 100, 110, 101, 119, 118, 120, 121, 0, 0, 0, 1, 97, 255, 255, 255, 255,
+    0, 0, 0, 13, 6, 111, 117, 116, 112, 117, 116, 0, 0, 0, 9, 0, 0, 0, 0, 0, 2, 104, 105, 0, 0, 0,
+    0, 0, 0, 0, 2, 98, 99, 0, 0, 0, 0, 0, 0, 0, 0,
+];
+
+/// The part `PushKey` alone, with its four parameters and its payload in one chunk.
+pub const PLAIN: [u8; 70] = [
+    72, 71, 50, 48, 0, 0, 0, 0, 0, 0, 0, 43, 7, 80, 117, 115, 104, 75, 101, 121, 0, 0, 1, 2, 4, 0,
+    9, 1, 3, 1, 3, 0, 3, 1, 110, 97, 109, 101, 115, 112, 97, 99, 101, 110, 107, 101, 121, 107, 111,
+    108, 100, 110, 101, 119, 118, 0, 0, 0, 3, 97, 98, 99, 0, 0, 0, 0, 0, 0, 0, 0,
+];
+
 /// The report of a store of [`ONE`], [`EMPTY`] and [`TWO`].
 pub const MARKERS: &str = "O 0000000000000101010101010101010101010101010101010101\n\
     O 0000000000000202020202020202020202020202020202020202\n\
     J 0\nJ 1\nJ 2\n";
 
-/// The head of a server with the standard limits.
+/// How a server is set up with the standard limits.
+pub fn setup(publishing: bool) -> Setup {
+    Setup {
+        publishing,
+        limits: Limits::standard(),
+    }
+}
+
+/// The head of a store of such a server.
 pub fn head(publishing: bool) -> Head {
+    setup(publishing).head([9; 16])
+}
+
+/// That of one of version 1.
+pub fn old_head(publishing: bool) -> Head {
     Head {
         publishing,
         limits: Limits::standard(),
+        identity: None,
     }
 }
 
 /// More bytes than a record has.
 pub const TOO_MANY: usize = 1 << 32;
 
-/// Appends a record, where it is not too long.
-fn put_next<A: Allocator>(
+/// Appends a record without a stamp, where it is not too long.
+fn put_next<A: Allocator + Copy>(
+    alloc: A,
     out: &mut Vec<u8, A>,
+    version: Version,
     before: &[u8; 20],
-    record: &[u8],
+    bundle: &[u8],
 ) -> Result<[u8; 20], NoMemory> {
-    if record.len() >= TOO_MANY {
+    if bundle.len() >= TOO_MANY {
         return Err(NoMemory);
     }
-    put_record(out, before, record)
+    let entry = Entry::new(Stamp::unnamed(alloc, 0), Seq::copy_of(alloc, bundle)?);
+    match version {
+        Version::First => put_record(out, Version::First, before, &entry),
+        Version::Second => put_record(out, Version::Second, before, &entry),
+    }
 }
 
 /// Turns these bits of the byte at a place, where there is one.
@@ -76,19 +115,28 @@ pub fn turn(bytes: &mut [u8], at: usize, bits: u8) {
     }
 }
 
-/// A store of these records, without a gate after them.
+/// A store of that head and these records, without a gate after them.
+pub fn store_with<A: Allocator + Copy>(
+    alloc: A,
+    head: &Head,
+    bundles: &[&[u8]],
+) -> Result<Vec<u8, A>, NoMemory> {
+    let mut bytes = Vec::new(alloc);
+    head.put(&mut bytes)?;
+    let mut digest = Sha1::digest(&bytes);
+    for bundle in bundles {
+        digest = put_next(alloc, &mut bytes, head.version(), &digest, bundle)?;
+    }
+    Ok(bytes)
+}
+
+/// The same of a server that publishes or does not.
 pub fn store_of<A: Allocator + Copy>(
     alloc: A,
     publishing: bool,
     bundles: &[&[u8]],
 ) -> Result<Vec<u8, A>, NoMemory> {
-    let mut bytes = Vec::new(alloc);
-    head(publishing).put(&mut bytes)?;
-    let mut digest = Sha1::digest(&bytes);
-    for bundle in bundles {
-        digest = put_next(&mut bytes, &digest, bundle)?;
-    }
-    Ok(bytes)
+    store_with(alloc, &head(publishing), bundles)
 }
 
 /// The same with a shut gate after them.

@@ -57,22 +57,22 @@ fn reports(rt: HostRuntime) -> Result<(), Fail> {
 }
 
 // A store of C cut at each of its lengths.
-// Result: below 38 bytes no store; up to one byte before the end of its record nothing, and torn but at 38;
+// Result: below 54 bytes no store; up to one byte before the end of its record nothing, and torn but at 54;
 // then the report of C.
 #[test]
 fn cut_at_each_length(rt: HostRuntime) -> Result<(), Fail> {
     let state = RandomState::new(&rt)?;
     let file = shut_store(rt.alloc(), false, &[&CHANGESET])?;
-    assert!(rt; file.len() == 38 + 25 + 193 + 1);
+    assert!(rt; file.len() == 54 + 34 + 193 + 1);
     let draft = "C 0 b80de5d138758541c5f05265ad144ab9fa86d1db 1 0\nJ 0\n";
     for len in 0..file.len() + 1 {
         let (told, text) = report_of(&rt, state, &file[..len])?;
         let (told_log, log) = log_of(&rt, &file[..len], 0)?;
         assert!(rt; told == told_log, "{len} bytes");
-        if len < 38 {
+        if len < 54 {
             assert!(rt; told == Err(Fault::Head(HeadFault::TooShort)) && text.is_empty());
-        } else if len < 256 {
-            let ending = if len == 38 {
+        } else if len < 281 {
+            let ending = if len == 54 {
                 StoreEnd::Whole
             } else {
                 StoreEnd::Torn(0)
@@ -90,14 +90,14 @@ fn cut_at_each_length(rt: HostRuntime) -> Result<(), Fail> {
 }
 
 // Each byte of a record is turned in one bit.
-// C, the bytes from the gate to its end. Result: damage at place 0, nothing is written; of the gate the end;
-// of the size damage, or torn.
+// C, the bytes from the gate to its end, and all bits of the gate. Result: damage at place 0, nothing is written; of
+// the size damage, or torn; the end.
 #[test]
 fn one_byte_turned(rt: HostRuntime) -> Result<(), Fail> {
     let state = RandomState::new(&rt)?;
     let mut file = shut_store(rt.alloc(), false, &[&CHANGESET])?;
-    assert!(rt; file.len() == 257);
-    for at in 38..256usize {
+    assert!(rt; file.len() == 282);
+    for at in 54..281usize {
         turn(&mut file, at, 1);
         let (told, text) = report_of(&rt, state, &file)?;
         let (told_log, log) = log_of(&rt, &file, 0)?;
@@ -106,15 +106,14 @@ fn one_byte_turned(rt: HostRuntime) -> Result<(), Fail> {
             "at {at}"
         );
         match at {
-            38 => assert!(rt; told == Ok(StoreEnd::Whole)),
-            39..42 => assert!(rt; told == Ok(StoreEnd::Torn(0)), "at {at}"),
+            55..58 => assert!(rt; told == Ok(StoreEnd::Torn(0)), "at {at}"),
             _ => assert!(rt; told == Err(Fault::Damaged(0)), "at {at}"),
         }
         turn(&mut file, at, 1);
     }
-    turn(&mut file, 38, 3);
+    turn(&mut file, 54, 255);
     let (told, text) = report_of(&rt, state, &file)?;
-    assert!(rt; told == Err(Fault::Damaged(0)) && text.is_empty());
+    assert!(rt; told == Ok(StoreEnd::Whole) && text.is_empty());
     Ok(())
 }
 
@@ -285,6 +284,46 @@ fn places_of<R: Abort>(
         }
     }
     Ok(places)
+}
+
+// A store of version 1 is read, cut and upgraded, and one of version 2 is not upgraded.
+// M1, E, M2. Result: the report and the log; of a cut before place 1 a store of version 1; of an upgrade the store of
+// version 2 of these, and the old one; torn after two; of version 2 already; damage at place 0.
+#[test]
+fn a_store_of_version_1(rt: HostRuntime) -> Result<(), Fail> {
+    let alloc = rt.alloc();
+    let state = RandomState::new(&rt)?;
+    let bundles: [&[u8]; 3] = [&ONE, &EMPTY, &TWO];
+    let old = store_with(alloc, &old_head(false), &bundles)?;
+    let (told, text) = report_of(&rt, state, &old)?;
+    assert!(rt; told == Ok(StoreEnd::Whole) && text.as_slice() == MARKERS.as_bytes());
+    let (told, log) = log_of(&rt, &old, 2)?;
+    assert!(rt; told == Ok(StoreEnd::Whole) && log.as_slice() == TWO.as_slice());
+    match cut_of(alloc, &old, 1) {
+        Ok(cut) => {
+            let mut left = store_with(alloc, &old_head(false), &bundles[..1])?;
+            left.push(0)?;
+            assert!(rt; cut.left.as_slice() == left.as_slice());
+        }
+        Err(_) => assert!(rt; false, "a cut"),
+    }
+    match upgrade_of(alloc, old.to_vec(alloc)?, [9; 16]) {
+        Ok(made) => {
+            assert!(rt; made.kept.as_slice() == old.as_slice());
+            let new = shut_store(alloc, false, &bundles)?;
+            assert!(rt; made.left.as_slice() == new.as_slice());
+            let again = upgrade_of(alloc, made.left, [9; 16]);
+            assert!(rt; again.err() == Some(Fault::Upgraded));
+        }
+        Err(_) => assert!(rt; false, "an upgrade"),
+    }
+    let mut torn = old.to_vec(alloc)?;
+    torn.truncate(old.len().saturating_sub(1));
+    assert!(rt; upgrade_of(alloc, torn, [9; 16]).err() == Some(Fault::Torn(2)));
+    let mut damaged = old.to_vec(alloc)?;
+    turn(&mut damaged, 38, 2);
+    assert!(rt; upgrade_of(alloc, damaged, [9; 16]).err() == Some(Fault::Damaged(0)));
+    Ok(())
 }
 
 // A cut before each place.

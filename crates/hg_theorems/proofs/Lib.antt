@@ -1,5 +1,8 @@
 mod Both
 mod Bytes
+mod CanonicalRun
+mod CanonicalBundle
+mod Following
 mod Known
 mod Reached
 mod Settings

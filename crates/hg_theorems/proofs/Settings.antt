@@ -2,6 +2,7 @@
 use Rattle.std.proofs.Common.{◌≡◌, ◌∙◌, ◌+◌, ℕ, Bool, true, false, cond, List, [], ◌∷◌, Option, Some, None}
 use Rattle.std.proofs.Common.{Result, Ok, Err, ap, refl, subst, sym}
 use Rattle.hg_types.specs.declared.entry.Entry.{Entry}
+use Rattle.hg_store.specs.Entries.{Entry as Recorded}
 use Rattle.hg_types.specs.declared.limits.Limits.{Limits}
 use Rattle.hg_types.specs.declared.node.Node.{Node}
 use Rattle.hg_types.specs.declared.part.Part.{Part}
@@ -199,9 +200,9 @@ module _ {A : Type 0} where
       → run_push repo ps ≡ Ok (new, done) → new.settings ≡ repo.settings
   of_push repo new ps done is = subst (PushStays repo) is (push_stays repo ps)
 
-  pub of_records : (limits : Limits) (first last : Repository A) (records : List (List ℕ))
+  pub of_records : (limits : Limits) (first last : Repository A) (records : List Recorded)
       → Replays limits first records last → last.settings ≡ first.settings
   of_records limits first last [] same = sym (ap (λ (repo : Repository A). repo.settings) same)
-  of_records limits first last (bytes ∷ others) ran =
+  of_records limits first last (entry ∷ others) ran =
       of_records limits ran.0 last others ran.2
       ∙ of_push first ran.0 ran.1.parts ran.1.done ran.1.ran

@@ -2,6 +2,7 @@
 use Rattle.std.specs.Prelude.{ℕ, ◌≡◌, ◌≤◌, ◌<◌, Bool, List, ◌++◌, All, length, take}
 use mathlib.Core.List.{IsPrefix}
 use Rattle.hg_types.specs.declared.item.Taken.{Taken}
+use Rattle.hg_store.specs.Entries.{Entry}
 use Rattle.hg_store.specs.declared.head.Head.{Head}
 use Rattle.hg_store.specs.Files.{StandsFor}
 use Rattle.hg_push.specs.Changed.{OneByOne}
@@ -32,15 +33,15 @@ pub record WasThere {A : Type 0} (first : RepositoryOf A) (h : List (Taken A)) (
 -- The file stands for the records that the server began with and, after them, so many more at least. Run one by one on
 -- the empty repository, all of them lead to the one to which as many pushes lead, the first of the server's journal. No
 -- opening of the file finds other records, or serves another repository.
-pub record Recovers {A : Type 0} (publishing : Bool) (head : Head) (stored : List (List ℕ)) (first : RepositoryOf A)
+pub record Recovers {A : Type 0} (publishing : Bool) (head : Head) (stored : List Entry) (first : RepositoryOf A)
     (h : List (Taken A)) (least : ℕ) (file : List ℕ) : Type 0 where
-  pub records : List (List ℕ)
+  pub records : List Entry
   pub stands : StandsFor head (stored ++ records) file
   pub enough : least ≤ length records
   pub repo : RepositoryOf A
   pub recovered : IsRecovered publishing head (stored ++ records) repo
   pub after : IsAfter first h (length records) repo
-  pub alone : (other : Head) (found : List (List ℕ)) (served : RepositoryOf A) → StandsFor other found file
+  pub alone : (other : Head) (found : List Entry) (served : RepositoryOf A) → StandsFor other found file
       → IsRecovered publishing other found served → (found ≡ stored ++ records) × (served ≡ repo)
 
 -- A push that is done by the history of a client is one of the first so many of a journal, at the same place and with
@@ -55,7 +56,7 @@ pub record IsAmong {A : Type 0} (first : RepositoryOf A) (client h : List (Taken
 -- many as the promise counts or more. Each push that is done by what the client has seen, at a place that the promise
 -- counts, is one of these.
 pub record FindsAgain {A D : Type 0} (left_since : D → ℕ → List ℕ → Type 0) (publishing : Bool) (head : Head)
-    (stored : List (List ℕ)) (first : RepositoryOf A) (h : List (Taken A)) (device : D) (client : KeptSeen A)
+    (stored : List Entry) (first : RepositoryOf A) (h : List (Taken A)) (device : D) (client : KeptSeen A)
     (promise : Promise) : Type 0 where
   pub opened : (file : List ℕ) → left_since device promise.moment file
       → Recovers publishing head stored first h promise.count file
@@ -67,7 +68,7 @@ pub record FindsAgain {A D : Type 0} (left_since : D → ℕ → List ℕ → Ty
 -- repository of the first pushes of the journal of one history, which begins the server's: all that were brought to
 -- the device. And all that these clients were answered rests on is found again, whatever an end has left since.
 pub record FindsAll {A D : Type 0} (left_since : D → ℕ → List ℕ → Type 0) (may_leave : D → List ℕ → Type 0)
-    (publishing : Bool) (head : Head) (stored : List (List ℕ)) (first : RepositoryOf A)
+    (publishing : Bool) (head : Head) (stored : List Entry) (first : RepositoryOf A)
     (clients : List (KeptSeen A)) (whole : List (Taken A)) (kept : ℕ) (device : D) : Type 0 where
   pub h : List (Taken A)
   pub begins : IsPrefix h whole

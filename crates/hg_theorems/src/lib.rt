@@ -10,6 +10,7 @@
 //! this crate. Nothing here starts a thread or waits.
 #![tactic(auto)]
 
+pub mod canonical;
 pub mod recovery;
 mod values;
 

@@ -9,6 +9,7 @@ ghost use Rattle.hg_repo.specs.declared.done.Done.{Done};
 ghost use Rattle.hg_push.specs.Places.{IsPlace};
 ghost use Rattle.hg_push.specs.Run.{RepositoryOf, run_push};
 ghost use Rattle.hg_serve.specs.Histories.{newest_first, serial_run};
+ghost use Rattle.hg_store.specs.Entries.{Entry};
 ghost use Rattle.hg_store.specs.declared.head.Head.{Head};
 ghost use Rattle.hg_commit.specs.Clients.{KeptSeen};
 ghost use Rattle.hg_commit.specs.Lives.{IsFront, IsKeptSince, Lives};
@@ -33,14 +34,14 @@ use std::alloc::Allocator;
 pub fn runs_keep_settings<A: Allocator>()
     ensures push { (repo new : RepositoryOf A) (parts : List (AnyPart A)) (done : Done A) →
         run_push repo parts ≡ Ok (new, done) → new.settings ≡ repo.settings }
-    ensures records { (limits : AnyLimits) (first last : RepositoryOf A) (records : List (List ℕ)) →
+    ensures records { (limits : AnyLimits) (first last : RepositoryOf A) (records : List Entry) →
         Replays limits first records last → last.settings ≡ first.settings }
 {}
 
 /// A file with the records of a front of a journal is opened as the repository which that front gives: as many pushes,
 /// run one by one from the repository that the server began with.
 pub fn fronts_are_recovered<A: Allocator>()
-    ensures { (publishing : Bool) (head : Head) (stored : List (List ℕ)) (first : RepositoryOf A)
+    ensures { (publishing : Bool) (head : Head) (stored : List Entry) (first : RepositoryOf A)
         (h : List (TakenItem A)) (least : ℕ) (file : List ℕ) → IsRecovered publishing head stored first →
         IsFront head stored first h least file → Recovers publishing head stored first h least file }
 {
@@ -70,16 +71,16 @@ pub fn what_is_recovered_was_there<A: Allocator>()
 /// first pushes of the server's journal, run one by one, as many as there are new records. What an end leaves from now
 /// on has each record that was brought to the device, and what one has left since a promise as many as that counts.
 pub fn what_an_end_leaves_is_recovered<A: Allocator, D: Device>()
-    ensures always { (publishing : Bool) (head : Head) (stored : List (List ℕ)) (first : RepositoryOf A)
+    ensures always { (publishing : Bool) (head : Head) (stored : List Entry) (first : RepositoryOf A)
         (opened : ℕ) (h : List (TakenItem A)) (count : ℕ) (device : D) →
         IsRecovered publishing head stored first →
         Lives D.moment D.left_since D.may_leave head stored first opened h count device → (file : List ℕ) →
         D.left_since device opened file → Recovers publishing head stored first h 0 file }
-    ensures now { (publishing : Bool) (head : Head) (stored : List (List ℕ)) (first : RepositoryOf A) (opened : ℕ)
+    ensures now { (publishing : Bool) (head : Head) (stored : List Entry) (first : RepositoryOf A) (opened : ℕ)
         (h : List (TakenItem A)) (count : ℕ) (device : D) → IsRecovered publishing head stored first →
         Lives D.moment D.left_since D.may_leave head stored first opened h count device → (file : List ℕ) →
         D.may_leave device file → Recovers publishing head stored first h count file }
-    ensures promised { (publishing : Bool) (head : Head) (stored : List (List ℕ)) (first : RepositoryOf A)
+    ensures promised { (publishing : Bool) (head : Head) (stored : List Entry) (first : RepositoryOf A)
         (h : List (TakenItem A)) (count : ℕ) (device : D) (promise : Promise) →
         IsRecovered publishing head stored first →
         IsKeptSince D.moment D.left_since head stored first h count device promise → (file : List ℕ) →
@@ -92,7 +93,7 @@ pub fn what_an_end_leaves_is_recovered<A: Allocator, D: Device>()
 /// counts, is one of those, at its place and with its parts: whatever an end has left since the promise. The client's
 /// history and the one by which the promise is kept begin one history, as those of two clients of a server do.
 pub fn what_a_client_saw_done_is_recovered<A: Allocator, D: Device>()
-    ensures { (publishing : Bool) (head : Head) (stored : List (List ℕ)) (first : RepositoryOf A)
+    ensures { (publishing : Bool) (head : Head) (stored : List Entry) (first : RepositoryOf A)
         (client witness whole : List (TakenItem A)) (count : ℕ) (device : D) (promise : Promise) (p place : ℕ) →
         IsRecovered publishing head stored first → IsPrefix client whole → IsPrefix witness whole →
         IsKeptSince D.moment D.left_since head stored first witness count device promise →
@@ -111,7 +112,7 @@ pub fn what_a_client_saw_done_is_recovered<A: Allocator, D: Device>()
 /// left at any moment since one of these clients was answered, opened again, gives the repository of the serial run of
 /// one history, which has each push that the answer rests on.
 pub fn what_was_answered_is_recovered<A: Allocator, D: Device>()
-    ensures { (publishing : Bool) (head : Head) (stored : List (List ℕ)) (first : RepositoryOf A) (opened : ℕ)
+    ensures { (publishing : Bool) (head : Head) (stored : List Entry) (first : RepositoryOf A) (opened : ℕ)
         (clients : List (KeptSeen A)) (whole : List (TakenItem A)) (kept : ℕ) (device : D) →
         IsRecovered publishing head stored first →
         ClosesKept D.moment D.left_since D.may_leave head stored first opened clients whole kept device →

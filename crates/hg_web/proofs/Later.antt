@@ -7,6 +7,7 @@ use mathlib.Core.List.{IsPrefix}
 use Rattle.http.specs.declared.request.Request.{Request}
 use Rattle.hg_parts.specs.Repository.{Repository}
 use Rattle.hg_push.specs.Run.{RepositoryOf}
+use Rattle.hg_store.specs.Entries.{Stamp}
 use Rattle.hg_commit.specs.Clients.{HasCome, IsLater, KeptSeen}
 use Rattle.hg_commit.specs.Orders.{Came, Comes, HasGrown, ReceiptView}
 use Rattle.hg_commit.specs.Records.{done_in}
@@ -24,7 +25,7 @@ use Rattle.hg_http.specs.declared.view.StatusView.{StatusView}
 use Rattle.hg_http.specs.Addresses.{fault_of}
 use Rattle.hg_http.specs.Commands.{command_of}
 use Rattle.hg_http.specs.Requests.{arguments_of, is_from_client, name_of}
-use Rattle.hg_hook.specs.declared.policy.Verdict.{Verdict}
+use Rattle.hg_http.specs.declared.hook.policy.Verdict.{Verdict}
 use Rattle.hg_web.specs.Letting.{denial_of, IfLet}
 use Rattle.hg_web.specs.Answering.{AnswersAddressed, AnswersAsked, AnswersBatch, AnswersCommand, AnswersForced, AnswersKey}
 use Rattle.hg_web.specs.Answering.{AnswersPush, AnswersRequest}
@@ -138,28 +139,29 @@ module _ {A : Type 0} (capacity : ℕ) (first : RepositoryOf A) (kept : KeptSeen
     said_at_later says IsText is =
         looked_later first kept before after (λ repo. IsText repo is.text) is.looks
 
-    pushes_later : (body : List ℕ) (ended : Option (KeptPush A)) →
-        Pushes capacity first kept before body ended after → IsLater before after
-    pushes_later body None (inl is) = same_later before after is
-    pushes_later body None (inr is) = come_later before after is
-    pushes_later body (Some told) is = subst (λ c. IsLater before c) is.3 (record {
+    pushes_later : (stamp : Stamp) (body : List ℕ) (ended : Option (KeptPush A)) →
+        Pushes capacity first kept stamp before body ended after → IsLater before after
+    pushes_later stamp body None (inl is) = same_later before after is
+    pushes_later stamp body None (inr is) = come_later before after is
+    pushes_later stamp body (Some told) is = subst (λ c. IsLater before c) is.3 (record {
       seen = is.1.answers.earlier;
       grows = came_and_grew before.receipt is.1.asked is.0.after.receipt is.1.promised is.1.comes is.1.grows;
     })
 
-    pushed_later : (body : List ℕ) (reply : How A → List ℕ) →
-        IsPushAnswered capacity first kept body reply before answer after → IsLater before after
-    pushed_later body reply is = pushes_later body is.ended is.pushes
+    pushed_later : (stamp : Stamp) (body : List ℕ) (reply : How A → List ℕ) →
+        IsPushAnswered capacity first kept stamp body reply before answer after → IsLater before after
+    pushed_later stamp body reply is = pushes_later stamp body is.ended is.pushes
 
-    let_later : (bundle : List ℕ) (reply : How A → List ℕ) (denial : Option (HttpAnswer A)) →
-        IfLet denial (λ b a n. IsPushAnswered capacity first kept bundle reply b a n) before answer after →
+    let_later : (user bundle : List ℕ) (reply : How A → List ℕ) (denial : Option (HttpAnswer A)) →
+        IfLet denial (λ b a n. (time : ℕ) × IsPushAnswered capacity first kept
+        (record { time = time; name = user }) bundle reply b a n) before answer after →
         IsLater before after
-    let_later bundle reply None is = pushed_later bundle reply is
-    let_later bundle reply (Some denial) is = same_later before after is.1
+    let_later user bundle reply None is = pushed_later (record { time = is.0; name = user }) bundle reply is.1
+    let_later user bundle reply (Some denial) is = same_later before after is.1
 
-    push_later : (bundle : List ℕ) (reply : How A → List ℕ) →
-        AnswersPush capacity first kept asks bundle reply before answer after → IsLater before after
-    push_later bundle reply is = let_later bundle reply (denial_of is.verdict) is.answers
+    push_later : (user bundle : List ℕ) (reply : How A → List ℕ) →
+        AnswersPush capacity first kept asks user bundle reply before answer after → IsLater before after
+    push_later user bundle reply is = let_later user bundle reply (denial_of is.verdict) is.answers
 
     from_later : (is_from : Bool) (Says : KeptSeen A → HttpAnswer A → KeptSeen A → Type 0) →
         (Says before answer after → IsLater before after) →
@@ -172,25 +174,26 @@ module _ {A : Type 0} (capacity : ℕ) (first : RepositoryOf A) (kept : KeptSeen
     batch_later commands (Some why) is = same_later before after is.1
     batch_later commands None is = said_at_later _ _ is
 
-    forced_later : (body : List ℕ) (forced : Bool) →
-        AnswersForced capacity first kept asks body forced before answer after → IsLater before after
-    forced_later body false is = same_later before after is.1
-    forced_later body true is = push_later body _ is
+    forced_later : (user body : List ℕ) (forced : Bool) →
+        AnswersForced capacity first kept asks user body forced before answer after → IsLater before after
+    forced_later user body false is = same_later before after is.1
+    forced_later user body true is = push_later user body _ is
 
-    key_later : (namespace key old new : List ℕ) (fits : Bool) →
-        AnswersKey capacity first kept asks namespace key old new fits before answer after → IsLater before after
-    key_later namespace key old new false is = same_later before after is.1
-    key_later namespace key old new true is = push_later _ _ is
+    key_later : (user namespace key old new : List ℕ) (fits : Bool) →
+        AnswersKey capacity first kept asks user namespace key old new fits before answer after → IsLater before after
+    key_later user namespace key old new false is = same_later before after is.1
+    key_later user namespace key old new true is = push_later user _ _ is
 
-    command_later : (pull also : Option (List ℕ)) (command : Command) (fields : List (Field A)) (r : Request (List ℕ)) →
-        AnswersCommand capacity first kept asks pull also command fields r before answer after →
+    command_later : (believed pull also : Option (List ℕ)) (command : Command) (fields : List (Field A))
+        (r : Request (List ℕ)) →
+        AnswersCommand capacity first kept asks believed pull also command fields r before answer after →
         IsLater before after
-    command_later pull also Capabilities fields r is = said_later _ is
-    command_later pull also GetBundle fields r is = said_later _ is
-    command_later pull also (ReadOnly read) fields r is = said_at_later _ _ is
-    command_later pull also Batch fields r is = batch_later _ _ is
-    command_later pull also Unbundle fields r is = from_later (is_from_client r) _ (forced_later _ _) is
-    command_later pull also PushKey fields r is = from_later (is_from_client r) _ (key_later _ _ _ _ _) is
+    command_later believed pull also Capabilities fields r is = said_later _ is
+    command_later believed pull also GetBundle fields r is = said_later _ is
+    command_later believed pull also (ReadOnly read) fields r is = said_at_later _ _ is
+    command_later believed pull also Batch fields r is = batch_later _ _ is
+    command_later believed pull also Unbundle fields r is = from_later (is_from_client r) _ (forced_later _ _ _) is
+    command_later believed pull also PushKey fields r is = from_later (is_from_client r) _ (key_later _ _ _ _ _ _) is
 
 module _ {A : Type 0} (capacity : ℕ) (first : RepositoryOf A) (around : Around A)
     (asks : List ℕ → Verdict A → Type 0) (before : KeptSeen A) (answer : HttpAnswer A) (after : KeptSeen A)
@@ -204,7 +207,7 @@ module _ {A : Type 0} (capacity : ℕ) (first : RepositoryOf A) (around : Around
         AnswersAsked capacity first around asks command fields r before answer after → IsLater before after
     asked_later None fields r is = view_later _ is
     asked_later (Some command) fields r is =
-        command_later capacity first around.kept asks before answer after around.pull around.also command fields r is
+        command_later capacity first around.kept asks before answer after around.believed around.pull around.also command fields r is
 
     addressed_later : (fault : Option AddressFault) (command : Option Command) (fields : List (Field A))
         (r : Request (List ℕ)) →

@@ -1,12 +1,14 @@
 -- A push that is let through, and one that is not.
 use Rattle.std.proofs.Common.{◌≡◌, ℕ, Bool, List, Option, Some, None, refl, sym, subst, ◌∙◌, inl}
 use Rattle.std.specs.Prelude.{Result, Ok, Err}
+use Rattle.hg_store.specs.Entries.{Stamp}
+use Rattle.hg_push.specs.Run.{RepositoryOf}
 use Rattle.hg_commit.specs.Clients.{KeptSeen}
-use Rattle.hg_hook.specs.declared.policy.Verdict.{Verdict}
+use Rattle.hg_http.specs.declared.hook.policy.Verdict.{Verdict}
 use Rattle.hg_http.specs.declared.answer.HttpAnswer.{HttpAnswer}
 use Rattle.hg_web.specs.Answering.{OrLacks}
 use Rattle.hg_web.specs.Letting.{AnswersIfLet, denial_of, IfLet}
-use Rattle.hg_web.specs.Pushes.{Answered}
+use Rattle.hg_web.specs.Pushes.{Answered, How, IsPushAnswered}
 
 module _ {A : Type 0} (asks : List ℕ → Verdict A → Type 0) (bundle : List ℕ)
     (Pushes : KeptSeen A → HttpAnswer A → KeptSeen A → Type 0) (before : KeptSeen A)
@@ -38,3 +40,12 @@ pub or_lacks : {A E : Type 0} (looks : Bool) (Says : KeptSeen A → HttpAnswer A
     Answered Says before result after → Answered (OrLacks looks Says) before result after
 or_lacks looks Says before (Ok answer) after is = inl is
 or_lacks looks Says before (Err fault) after is = is
+
+-- a push that was answered is one at some time, by the one whose name its stamp has
+pub timed : {A E : Type 0} (capacity : ℕ) (first : RepositoryOf A) (kept : KeptSeen A → ℕ → Type 0) (stamp : Stamp)
+    (bundle : List ℕ) (reply : How A → List ℕ) (before : KeptSeen A) (result : Result (HttpAnswer A) E)
+    (after : KeptSeen A) → Answered (IsPushAnswered capacity first kept stamp bundle reply) before result after →
+    Answered (λ b a n. (time : ℕ) × IsPushAnswered capacity first kept
+    (record { time = time; name = stamp.name }) bundle reply b a n) before result after
+timed capacity first kept stamp bundle reply before (Ok answer) after is = (stamp.time, is)
+timed capacity first kept stamp bundle reply before (Err fault) after is = is

@@ -14,6 +14,7 @@ use Rattle.hg_connection.specs.declared.sending.Sending.TheVariants.{Whole as se
 use Rattle.hg_connection.specs.declared.bundle_end.BundleEnd.{BundleEnd}
 use Rattle.hg_connection.specs.declared.bundle_end.BundleEnd.TheVariants.{InputEnded, ReadFailed}
 use Rattle.hg_connection.specs.Receiving.{IsReceived, last_read, mark_of, push_items, Ran, StopsBundle}
+use Rattle.hg_store.specs.Entries.{Entry, Stamp}
 use Rattle.hg_store.specs.declared.head.Head.{Head}
 use Rattle.hg_commit.specs.Clients.{HasCome, IsCovered, IsLater, KeptSeen, KeptView}
 use Rattle.hg_durable.specs.Kept.{IsKeptOrNot, IsReplied, KeepsBundle, KeptExchange, OpenedView, RepliesBy}
@@ -56,7 +57,7 @@ has bytes = record { taken = Some bytes; uses = None }
 
 -- the reply that a buffer has, where all of it was sent there
 module _ {A D E : Type 0} (seen : D → List ℕ) (may_leave : D → List ℕ → Type 0) (moment : D → ℕ) (head : Head)
-    (stored : List (List ℕ)) (first : RepositoryOf A) (how : How A) (reply : List ℕ)
+    (stored : List Entry) (first : RepositoryOf A) (how : How A) (reply : List ℕ)
   where
     abbrev Replies : Result (KeptView A) E → List ℕ → List WriteAnswer → Replied → Type 0
     Replies kept gone uses replied =
@@ -73,11 +74,11 @@ module _ {A D E : Type 0} (seen : D → List ℕ) (may_leave : D → List ℕ �
         h.0 ∙ (by.went ∙ sym (sent_all by.gone by.uses (reply_of how) there.1))
 
 module _ {A D : Type 0} (seen : D → List ℕ) (may_leave : D → List ℕ → Type 0) (moment : D → ℕ) (head : Head)
-    (stored : List (List ℕ)) (limits : Limits) (capacity : ℕ) (first : RepositoryOf A)
+    (stored : List Entry) (limits : Limits) (capacity : ℕ) (first : RepositoryOf A)
     (before after : KeptSeen A) (body waiting : List ℕ) (left : BodyView) (opened : OpenedView A)
-    (x : KeptExchange A)
+    (stamp : Stamp) (x : KeptExchange A)
     (v : KeepsBundle limits capacity first [] waiting (input_of (record { bytes = body; at = 0; reads = [] }))
-    (input_of left) opened x)
+    (input_of left) opened stamp x)
     (come : HasCome before opened.client)
     (same : limits ≡ first.settings.limits)
   where
@@ -102,7 +103,7 @@ module _ {A D : Type 0} (seen : D → List ℕ) (may_leave : D → List ℕ → 
         subst (λ (h : List (Taken A)). Answers capacity first x.push put h x.how x.takes x.after.history) come.0
         v.is.answers
 
-    is_push : kept x.after x.rests → IsPush capacity first kept before body x
+    is_push : kept x.after x.rests → IsPush capacity first kept stamp before body x
     is_push are_kept = record {
       asked = opened.client.receipt;
       promised = come.1.0;
@@ -114,6 +115,7 @@ module _ {A D : Type 0} (seen : D → List ℕ) (may_leave : D → List ℕ → 
       grows = v.is.grows;
       rests_on = v.is.rests_on;
       recorded = v.is.recorded;
+      handed = v.hands_in;
       is_kept = are_kept;
       read = none_failed v.is.received.pieces x.ending
           (subst AllGave v.is.received.reads_are (subst AllGave v.flows.told (all_given left.bytes left.reads)));
@@ -129,9 +131,9 @@ module _ {A D : Type 0} (seen : D → List ℕ) (may_leave : D → List ℕ → 
     }
 
     pub pushed : {E F : Type 0} (how : How A) → x.how ≡ how → (it : Result (KeptView A) (KeptSeen A × E))
-        → IsKeptOrNot seen may_leave moment head stored first x.after x.rests it
+        → IsKeptOrNot seen may_leave moment head stored first x.after x.rests x.handed it
         → (told : Result (Option (KeptPush A)) F) → IsOfRound it how told after
-        → PushesOrFails capacity first kept before body told after
+        → PushesOrFails capacity first kept stamp before body told after
     pushed how is (Ok all) k (Ok (Some told)) t = (
       x,
       is_push k.1,
@@ -146,11 +148,11 @@ module _ {A D : Type 0} (seen : D → List ℕ) (may_leave : D → List ℕ → 
 
 -- one bundle, told of where it began
 module _ {A : Type 0} (limits : Limits) (capacity : ℕ) (first : RepositoryOf A) (opened : OpenedView A)
-    (x : KeptExchange A) (waiting : List ℕ) (left : BodyView)
+    (stamp : Stamp) (x : KeptExchange A) (waiting : List ℕ) (left : BodyView)
   where
     pub begun : (waited waited_at : List ℕ) (start start_at : BodyView) → waited ≡ waited_at → start ≡ start_at
-        → KeepsBundle limits capacity first waited waiting (input_of start) (input_of left) opened x
-        → KeepsBundle limits capacity first waited_at waiting (input_of start_at) (input_of left) opened x
+        → KeepsBundle limits capacity first waited waiting (input_of start) (input_of left) opened stamp x
+        → KeepsBundle limits capacity first waited_at waiting (input_of start_at) (input_of left) opened stamp x
     begun waited waited_at start start_at w s v =
         subst (λ (y : List ℕ × BodyView). KeepsBundle limits capacity first y.0 waiting (input_of y.1) (input_of left)
-        opened x) (λ i. (w i, s i)) v
+        opened stamp x) (λ i. (w i, s i)) v

@@ -1,5 +1,5 @@
 -- What each request is answered.
-use Rattle.std.specs.Prelude.{ℕ, ◌≡◌, ◌⊎◌, ◌+◌, Bool, true, false, List, ◌∷◌, ◌++◌, Option, Some, None, codes, bytes_eq}
+use Rattle.std.specs.Prelude.{ℕ, ◌≡◌, ◌⊎◌, ◌+◌, Bool, true, false, List, ◌∷◌, ◌++◌, Option, Some, None, codes, bytes_eq, take}
 use Rattle.std.specs.Option.{option_copied}
 use Rattle.http.specs.declared.request.Request.{Request}
 use Rattle.http.specs.Request.{body_of}
@@ -31,25 +31,26 @@ use Rattle.hg_http.specs.declared.command.Command.TheVariants.{GetBundle, PushKe
 use Rattle.hg_http.specs.Addresses.{fault_of}
 use Rattle.hg_http.specs.Commands.{command_of, subject_of}
 use Rattle.hg_http.specs.Keys.{fits, key_parts}
-use Rattle.hg_http.specs.Requests.{argument_in, arguments_of, is_from_client, name_of}
+use Rattle.hg_http.specs.Requests.{argument_in, arguments_of, is_from_client, name_of, user_of}
 use Rattle.hg_http.specs.Responses.{CarriesAnswer}
 use Rattle.hg_queries.specs.Texts.{refusal_of, IsBatchText, IsTextOf}
 use Rattle.hg_queries.specs.Views.{finished, IsViewed}
-use Rattle.hg_hook.specs.Policies.{Asked as AskedPolicy, AsksOnce, HasAsked}
-use Rattle.hg_hook.specs.declared.policy.Verdict.{Verdict}
+use Rattle.hg_http.specs.Policies.{Asked as AskedPolicy, AsksOnce, HasAsked}
+use Rattle.hg_http.specs.declared.hook.policy.Verdict.{Verdict}
 use Rattle.hg_web.specs.Letting.{AnswersIfLet}
 use Rattle.hg_web.specs.Pushes.{How, IsPushAnswered, key_line, set_line}
 use Rattle.hg_web.specs.declared.terms.WebTerms.{WebTerms}
 
 -- What answers say and rest on beside the repository: which text may be the page and which the counters, of a
 -- repository; that by a history so many done pushes are on the device; how many pushes the store had when it was
--- opened; what the server answers to; where pulls go; and what is told behind the capabilities.
+-- opened; what the server answers to; which field says who pushes; where pulls go; and what is told behind the capabilities.
 pub record Around (A : Type 0) : Type 1 where
   pub page : Repository A → List ℕ → Type 0
   pub metrics : Repository A → List ℕ → Type 0
   pub kept : KeptSeen A → ℕ → Type 0
   pub stored : ℕ
   pub address : Address
+  pub believed : Option (List ℕ)
   pub pull : Option (List ℕ)
   pub also : Option (List ℕ)
 
@@ -62,6 +63,7 @@ around_of kept page metrics terms = record {
   kept = kept;
   stored = terms.stored;
   address = terms.address;
+  believed = option_copied terms.user;
   pull = option_copied terms.pull;
   also = option_copied terms.also;
 }
@@ -113,49 +115,50 @@ AnswersBatch first kept commands (Some why) before answer after = IsSaid (Refuse
 AnswersBatch first kept commands None before answer after =
     IsTextAt first kept (λ repo text. IsBatchText repo commands text) before answer after
 
--- a push of a bundle, where it was let through, with such a text for its outcome
+-- a push of a bundle by that user, at some time, where it was let through, with such a text for its outcome
 abbrev pub AnswersPush : {A : Type 0} → ℕ → RepositoryOf A → (KeptSeen A → ℕ → Type 0) →
-    (List ℕ → Verdict A → Type 0) → List ℕ → (How A → List ℕ) → KeptSeen A → HttpAnswer A → KeptSeen A → Type 0
-AnswersPush capacity first kept asks bundle reply before answer after =
-    AnswersIfLet asks bundle (λ b a n. IsPushAnswered capacity first kept bundle reply b a n) before answer after
+    (List ℕ → Verdict A → Type 0) → List ℕ → List ℕ → (How A → List ℕ) → KeptSeen A → HttpAnswer A → KeptSeen A → Type 0
+AnswersPush capacity first kept asks user bundle reply before answer after =
+    AnswersIfLet asks bundle (λ b a n. (time : ℕ) × IsPushAnswered capacity first kept
+    (record { time = time; name = user }) bundle reply b a n) before answer after
 
 -- a push of the body, where its heads are forced: `force` in hexadecimal digits
 abbrev pub AnswersForced : {A : Type 0} → ℕ → RepositoryOf A → (KeptSeen A → ℕ → Type 0) →
-    (List ℕ → Verdict A → Type 0) → List ℕ → Bool → KeptSeen A → HttpAnswer A → KeptSeen A → Type 0
-AnswersForced capacity first kept asks body false before answer after =
+    (List ℕ → Verdict A → Type 0) → List ℕ → List ℕ → Bool → KeptSeen A → HttpAnswer A → KeptSeen A → Type 0
+AnswersForced capacity first kept asks user body false before answer after =
     IsSaid (Refused NotForced) before answer after
-AnswersForced capacity first kept asks body true before answer after =
-    AnswersPush capacity first kept asks body reply_of before answer after
+AnswersForced capacity first kept asks user body true before answer after =
+    AnswersPush capacity first kept asks user body reply_of before answer after
 
 -- a push that sets the key
 abbrev pub AnswersFitting : {A : Type 0} → ℕ → RepositoryOf A → (KeptSeen A → ℕ → Type 0) →
-    (List ℕ → Verdict A → Type 0) → List ℕ → List ℕ → List ℕ → List ℕ → KeptSeen A → HttpAnswer A → KeptSeen A →
+    (List ℕ → Verdict A → Type 0) → List ℕ → List ℕ → List ℕ → List ℕ → List ℕ → KeptSeen A → HttpAnswer A → KeptSeen A →
     Type 0
-AnswersFitting {A} capacity first kept asks namespace key old new before answer after =
-    AnswersPush capacity first kept asks (bundle_bytes (key_parts {A = A} namespace key old new)) key_line before
+AnswersFitting {A} capacity first kept asks user namespace key old new before answer after =
+    AnswersPush capacity first kept asks user (bundle_bytes (key_parts {A = A} namespace key old new)) key_line before
     answer after
 
 -- the same where a part can hold the values; else it is not set
 abbrev pub AnswersKey : {A : Type 0} → ℕ → RepositoryOf A → (KeptSeen A → ℕ → Type 0) →
-    (List ℕ → Verdict A → Type 0) → List ℕ → List ℕ → List ℕ → List ℕ → Bool → KeptSeen A → HttpAnswer A →
+    (List ℕ → Verdict A → Type 0) → List ℕ → List ℕ → List ℕ → List ℕ → List ℕ → Bool → KeptSeen A → HttpAnswer A →
     KeptSeen A → Type 0
-AnswersKey capacity first kept asks namespace key old new false before answer after =
+AnswersKey capacity first kept asks user namespace key old new false before answer after =
     IsSaid (Text (set_line false)) before answer after
-AnswersKey capacity first kept asks namespace key old new true before answer after =
-    AnswersFitting capacity first kept asks namespace key old new before answer after
+AnswersKey capacity first kept asks user namespace key old new true before answer after =
+    AnswersFitting capacity first kept asks user namespace key old new before answer after
 
 -- a change of a key is answered by a push, where its values fit; else as not set
 abbrev pub AnswersChange : {A : Type 0} → ℕ → RepositoryOf A → (KeptSeen A → ℕ → Type 0) →
-    (List ℕ → Verdict A → Type 0) → List ℕ → List ℕ → List ℕ → List ℕ → KeptSeen A → HttpAnswer A → KeptSeen A →
+    (List ℕ → Verdict A → Type 0) → List ℕ → List ℕ → List ℕ → List ℕ → List ℕ → KeptSeen A → HttpAnswer A → KeptSeen A →
     Type 0
-AnswersChange capacity first kept asks namespace key old new before answer after =
-    AnswersKey capacity first kept asks namespace key old new (fits namespace key old new) before answer after
+AnswersChange capacity first kept asks user namespace key old new before answer after =
+    AnswersKey capacity first kept asks user namespace key old new (fits namespace key old new) before answer after
 
 -- the change that the arguments ask for
 abbrev pub AnswersPushKey : {A : Type 0} → ℕ → RepositoryOf A → (KeptSeen A → ℕ → Type 0) →
-    (List ℕ → Verdict A → Type 0) → List (Field A) → KeptSeen A → HttpAnswer A → KeptSeen A → Type 0
-AnswersPushKey capacity first kept asks fields before answer after =
-    AnswersChange capacity first kept asks (argument_in fields (codes "namespace"))
+    (List ℕ → Verdict A → Type 0) → List ℕ → List (Field A) → KeptSeen A → HttpAnswer A → KeptSeen A → Type 0
+AnswersPushKey capacity first kept asks user fields before answer after =
+    AnswersChange capacity first kept asks user (argument_in fields (codes "namespace"))
     (argument_in fields (codes "key")) (argument_in fields (codes "old")) (argument_in fields (codes "new"))
     before answer after
 
@@ -175,25 +178,29 @@ abbrev pub capabilities_with : Option (List ℕ) → List ℕ
 capabilities_with None = capabilities_told
 capabilities_with (Some also) = capabilities_told ++ 32 ∷ also
 
+-- the name of who pushes, by the field that is believed: at most 255 bytes, cut behind that
+abbrev pub user_named : Option (List ℕ) → Request (List ℕ) → List ℕ
+user_named believed r = take 255 (user_of believed r)
+
 -- the answer to a command with these arguments, and what its client has seen then
 abbrev pub AnswersCommand : {A : Type 0} → ℕ → RepositoryOf A → (KeptSeen A → ℕ → Type 0) →
-    (List ℕ → Verdict A → Type 0) → Option (List ℕ) → Option (List ℕ) → Command → List (Field A) →
+    (List ℕ → Verdict A → Type 0) → Option (List ℕ) → Option (List ℕ) → Option (List ℕ) → Command → List (Field A) →
     Request (List ℕ) → KeptSeen A → HttpAnswer A → KeptSeen A → Type 0
-AnswersCommand capacity first kept asks pull also Capabilities fields r before answer after =
+AnswersCommand capacity first kept asks believed pull also Capabilities fields r before answer after =
     IsSaid (Text (capabilities_with also)) before answer after
-AnswersCommand capacity first kept asks pull also GetBundle fields r before answer after =
+AnswersCommand capacity first kept asks believed pull also GetBundle fields r before answer after =
     IsSaid (pull_answer pull r) before answer after
-AnswersCommand capacity first kept asks pull also (ReadOnly read) fields r before answer after =
+AnswersCommand capacity first kept asks believed pull also (ReadOnly read) fields r before answer after =
     IsTextAt first kept (λ repo text. IsTextOf repo read (argument_in fields (subject_of read)) text)
     before answer after
-AnswersCommand capacity first kept asks pull also Batch fields r before answer after =
+AnswersCommand capacity first kept asks believed pull also Batch fields r before answer after =
     let commands = commands_of (argument_in fields (codes "cmds")) in
     AnswersBatch first kept commands (refusal_of commands) before answer after
-AnswersCommand capacity first kept asks pull also Unbundle fields r before answer after =
-    IfFromClient (is_from_client r) (AnswersForced capacity first kept asks (body_of r)
+AnswersCommand capacity first kept asks believed pull also Unbundle fields r before answer after =
+    IfFromClient (is_from_client r) (AnswersForced capacity first kept asks (user_named believed r) (body_of r)
     (bytes_eq (argument_in fields (codes "heads")) (codes "666f726365"))) before answer after
-AnswersCommand capacity first kept asks pull also PushKey fields r before answer after =
-    IfFromClient (is_from_client r) (AnswersPushKey capacity first kept asks fields) before answer after
+AnswersCommand capacity first kept asks believed pull also PushKey fields r before answer after =
+    IfFromClient (is_from_client r) (AnswersPushKey capacity first kept asks (user_named believed r) fields) before answer after
 
 -- The answer without a command: a view, of the repository at one point of the serial order. A report names so
 -- many pushes as the store had, and those that were done here.
@@ -210,7 +217,7 @@ abbrev pub AnswersAsked : {A : Type 0} → ℕ → RepositoryOf A → Around A �
 AnswersAsked capacity first around asks None fields r before answer after =
     AnswersView first around (view_of around.address r) before answer after
 AnswersAsked capacity first around asks (Some command) fields r before answer after =
-    AnswersCommand capacity first around.kept asks around.pull around.also command fields r before answer after
+    AnswersCommand capacity first around.kept asks around.believed around.pull around.also command fields r before answer after
 
 -- what is for this server is answered so; what is not is told why, and nothing changes
 abbrev pub AnswersAddressed : {A : Type 0} → ℕ → RepositoryOf A → Around A → (List ℕ → Verdict A → Type 0) →

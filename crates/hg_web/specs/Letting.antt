@@ -1,8 +1,8 @@
 -- Which pushes run: those that a policy lets through.
 use Rattle.std.specs.Prelude.{ℕ, ◌≡◌, List, Option, Some, None}
 use Rattle.hg_commit.specs.Clients.{KeptSeen}
-use Rattle.hg_hook.specs.declared.policy.Verdict.{Verdict}
-use Rattle.hg_hook.specs.declared.policy.Verdict.TheVariants as Verdicts
+use Rattle.hg_http.specs.declared.hook.policy.Verdict.{Verdict}
+use Rattle.hg_http.specs.declared.hook.policy.Verdict.TheVariants as Verdicts
 use Rattle.hg_http.specs.declared.answer.HttpAnswer.{HttpAnswer}
 use Rattle.hg_http.specs.declared.answer.HttpAnswer.TheVariants.{NotLet, Refused}
 use Rattle.hg_http.specs.declared.answer.RequestRefusal.TheVariants.{NoHook, NoMemory}

@@ -1,5 +1,6 @@
 pub mod Looking
 pub mod Pushes
+pub mod Pushers
 pub mod Letting
 pub mod Answering
 pub mod Serving

@@ -1,6 +1,6 @@
 -- A push over HTTP, and what it is answered.
 use Rattle.std.specs.Prelude.{ℕ, ◌≡◌, ◌≢◌, ◌⊎◌, ◌++◌, Bool, true, false, ◌&&◌, List, [], ◌∷◌}
-use Rattle.std.specs.Prelude.{Option, Some, None, codes, bytes_eq, IfSome, Result, Ok, Err}
+use Rattle.std.specs.Prelude.{Option, Some, None, option_to_list, codes, bytes_eq, IfSome, Result, Ok, Err}
 use Rattle.std.specs.List.{list_any}
 use Rattle.hg_types.specs.declared.part.Part.{Part}
 use Rattle.hg_types.specs.declared.part.Param.{Param}
@@ -16,9 +16,10 @@ use Rattle.hg_serve.specs.Answers.{Answers as IsAnswered}
 use Rattle.hg_serve.specs.Histories.{newest_first}
 use Rattle.hg_connection.specs.declared.bundle_end.BundleEnd.TheVariants.{InputEnded, ReadFailed}
 use Rattle.hg_connection.specs.Receiving.{IsReceived, mark_of, push_items}
+use Rattle.hg_store.specs.Entries.{Stamp}
 use Rattle.hg_commit.specs.Clients.{HasCome, IsLater, KeptSeen}
 use Rattle.hg_commit.specs.Orders.{Comes, HasGrown, ReceiptView}
-use Rattle.hg_durable.specs.Kept.{IsRecorded, KeptExchange}
+use Rattle.hg_durable.specs.Kept.{AreRecorded, KeptExchange, record_of}
 use Rattle.hg_http.specs.declared.answer.HttpAnswer.{HttpAnswer}
 use Rattle.hg_http.specs.declared.answer.HttpAnswer.TheVariants.{Text, Refused}
 use Rattle.hg_http.specs.declared.answer.RequestRefusal.TheVariants.{NotOpened, NoAnswer}
@@ -36,11 +37,11 @@ Answered Says before (Err e) after = IsLater before after
 
 -- One bundle was pushed: its bytes begin the body, and end before it only after an end mark or a fault. No
 -- read of the body failed. The push goes on from what its client had seen, and ended so. The answer rests on so
--- many done pushes, of which a done one is the last, with its bundle as its record; all of these were on the
--- device, and the receipt of its client has a promise of them. It is one push: a request of its client came, the push
+-- many done pushes, of which a done one is the last, with its bundle as its record, which was handed in with that stamp;
+-- all of these were on the device, and the receipt of its client has a promise of them. It is one push: a request of its client came, the push
 -- was opened for it, and no other request of this client came until it was answered.
 pub record IsPush {A : Type 0} (capacity : ℕ) (first : RepositoryOf A)
-    (kept : KeptSeen A → ℕ → Type 0) (before : KeptSeen A) (body : List ℕ) (x : KeptExchange A) :
+    (kept : KeptSeen A → ℕ → Type 0) (stamp : Stamp) (before : KeptSeen A) (body : List ℕ) (x : KeptExchange A) :
     Type 0
   where
     pub asked : ReceiptView
@@ -53,7 +54,8 @@ pub record IsPush {A : Type 0} (capacity : ℕ) (first : RepositoryOf A)
         before.history x.how x.takes x.after.history
     pub grows : HasGrown asked x.after.receipt
     pub rests_on : RestsOn run_push first (newest_first x.after.history) x.push x.how x.rests
-    pub recorded : IsRecorded first x.after.history x.rests x.consumed x.how
+    pub recorded : AreRecorded first x.after.history x.rests x.handed
+    pub handed : x.handed ≡ option_to_list (record_of x.how (record { stamp = stamp; bundle = x.consumed }))
     pub is_kept : kept x.after x.rests
     pub read : x.ending ≢ ReadFailed
     pub behind : List ℕ
@@ -65,19 +67,19 @@ abbrev pub IsNotOpened : {A : Type 0} → KeptSeen A → KeptSeen A → Type 0
 IsNotOpened before after = (after ≡ before) ⊎ HasCome before after
 
 -- No push was opened; or one was, and ended so. Its reply was made, if there was memory for it.
-abbrev pub Pushes : {A : Type 0} → ℕ → RepositoryOf A → (KeptSeen A → ℕ → Type 0) → KeptSeen A →
+abbrev pub Pushes : {A : Type 0} → ℕ → RepositoryOf A → (KeptSeen A → ℕ → Type 0) → Stamp → KeptSeen A →
     List ℕ → Option (KeptPush A) → KeptSeen A → Type 0
-Pushes capacity first kept before body None after = IsNotOpened before after
-Pushes {A} capacity first kept before body (Some push) after =
-    (x : KeptExchange A) × IsPush capacity first kept before body x × (x.how ≡ push.outcome)
+Pushes capacity first kept stamp before body None after = IsNotOpened before after
+Pushes {A} capacity first kept stamp before body (Some push) after =
+    (x : KeptExchange A) × IsPush capacity first kept stamp before body x × (x.how ≡ push.outcome)
     × (x.after ≡ after) × IfSome push.reply (λ reply. reply ≡ reply_of push.outcome)
 
 -- the same; where the store failed, nothing is answered
-abbrev pub PushesOrFails : {A E : Type 0} → ℕ → RepositoryOf A → (KeptSeen A → ℕ → Type 0) → KeptSeen A →
+abbrev pub PushesOrFails : {A E : Type 0} → ℕ → RepositoryOf A → (KeptSeen A → ℕ → Type 0) → Stamp → KeptSeen A →
     List ℕ → Result (Option (KeptPush A)) E → KeptSeen A → Type 0
-PushesOrFails capacity first kept before body (Ok pushed) after =
-    Pushes capacity first kept before body pushed after
-PushesOrFails capacity first kept before body (Err e) after = IsLater before after
+PushesOrFails capacity first kept stamp before body (Ok pushed) after =
+    Pushes capacity first kept stamp before body pushed after
+PushesOrFails capacity first kept stamp before body (Err e) after = IsLater before after
 
 -- a push that ended so is answered by this text, or there was no memory for the answer
 abbrev pub IsReplyTo : {A : Type 0} → (How A → List ℕ) → How A → HttpAnswer A → Type 0
@@ -88,12 +90,12 @@ abbrev pub IsReply : {A : Type 0} → (How A → List ℕ) → Option (KeptPush 
 IsReply reply None answer = answer ≡ Refused NotOpened
 IsReply reply (Some push) answer = IsReplyTo reply push.outcome answer
 
--- A push of that bundle was answered: it was not opened; or it was, and the answer reports how it ended.
+-- A push of that bundle, with that stamp, was answered: it was not opened; or it was, and the answer reports how it ended.
 pub record IsPushAnswered {A : Type 0} (capacity : ℕ) (first : RepositoryOf A)
-    (kept : KeptSeen A → ℕ → Type 0) (body : List ℕ) (reply : How A → List ℕ) (before : KeptSeen A)
+    (kept : KeptSeen A → ℕ → Type 0) (stamp : Stamp) (body : List ℕ) (reply : How A → List ℕ) (before : KeptSeen A)
     (answer : HttpAnswer A) (after : KeptSeen A) : Type 0 where
   pub ended : Option (KeptPush A)
-  pub pushes : Pushes capacity first kept before body ended after
+  pub pushes : Pushes capacity first kept stamp before body ended after
   pub answer_is : IsReply reply ended answer
 
 -- ---- a push that sets one key

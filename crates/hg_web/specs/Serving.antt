@@ -9,7 +9,7 @@ use Rattle.http_server.specs.declared.response.Response.{Response}
 use Rattle.http_server.specs.declared.state.Config.{Config}
 use Rattle.http_server.specs.declared.state.State.TheVariants.{Aborted, Open}
 use Rattle.http_server.specs.Exchange.{Call, Chain}
-use Rattle.http_server.specs.History.{History, IsServed}
+use Rattle.http_server.specs.History.{History, IsDone, IsServed}
 use Rattle.hg_parts.specs.Repository.{Repository}
 use Rattle.hg_types.specs.declared.item.CutReason.TheVariants.{ReadFailed}
 use Rattle.hg_push.specs.declared.outcome.Outcome.TheVariants.{Aborted as IsAborted}
@@ -17,7 +17,7 @@ use Rattle.hg_push.specs.declared.outcome.Reason.TheVariants.{Cut, NoMemory}
 use Rattle.hg_push.specs.Reply.{reply_of}
 use Rattle.hg_push.specs.Run.{RepositoryOf}
 use Rattle.hg_commit.specs.Clients.{IsLater, KeptSeen}
-use Rattle.hg_hook.specs.Policies.{Asked as AskedPolicy}
+use Rattle.hg_http.specs.Policies.{Asked as AskedPolicy}
 use Rattle.hg_web.specs.declared.serve.ConnectionEnd.{ConnectionEnd}
 use Rattle.hg_web.specs.declared.serve.ConnectionEnd.TheVariants.{Done, NotStored}
 use Rattle.hg_web.specs.declared.terms.WebTerms.{WebTerms}
@@ -76,9 +76,10 @@ abbrev pub IsNoRoomAnswer : Type 0 → List ℕ → Type 0
 IsNoRoomAnswer breaks answer = (answer ≡ no_room_text true)
     ⊎ (breaks × ((is_last : Bool) × IsPrefix answer (no_room_text is_last)))
 
--- a stretch without a refused request: memory was never refused for its answers, or the connection broke off
+-- a stretch without a refused request: memory was never refused for its answers, and HTTP has nothing more to do, by
+-- the library's own word for it; or the connection broke off
 abbrev pub EndsPlainly : Type 0 → History → Type 0
-EndsPlainly breaks history = breaks ⊎ (history.state ≢ Aborted)
+EndsPlainly breaks history = breaks ⊎ ((history.state ≢ Aborted) × IsDone history)
 
 -- How a connection ends, with the bytes that were dropped and those that were sent after the last stretch. There
 -- are none; or the connection broke off within a request, to which a front of the answer that says so was sent, or
@@ -109,11 +110,11 @@ pub record Converses {V : Type 0} (breaks : Type 0) (config : Config)
 -- responses to them: each reports the answer to its request, and each goes on from what the client had seen
 -- before it. Where a body finds no room, or memory is refused before a request is answered, the rest of that request
 -- is read and dropped, the answer says so, and the connection goes on. A body that ends before its length is no
--- request: the answer says that the connection was lost. Where it is done, memory was refused for no
--- answer that was made. All bytes that were read are those that were received or dropped, and all that were written
--- those that were sent. The client has seen what the last answer spoke of; it may have seen more only where the
--- connection ended since the store failed. Each push that ran was let through by the policy, which was asked about it
--- and nothing else.
+-- request: the answer says that the connection was lost. Where it is done, HTTP has nothing more to do: all was sent,
+-- and it is no more open; and memory was refused for no answer that was made. All bytes that were read are those that
+-- were received or dropped, and all that were written those that were sent. The client has seen what the last answer
+-- spoke of; it may have seen more only where the connection ended since the store failed. Each push that ran was let
+-- through by the policy, which was asked about it and nothing else.
 pub record ServesHttp {A S : Type 0} (capacity : ℕ) (first : RepositoryOf A)
     (kept : KeptSeen A → ℕ → Type 0) (page metrics : S → Repository A → List ℕ → Type 0)
     (terms : WebTerms S) (asked said : AskedPolicy A) (before : KeptSeen A)

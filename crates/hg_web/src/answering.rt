@@ -6,31 +6,29 @@ ghost use Rattle.std.specs.Str.{bytes_eq};
 ghost use Rattle.http.specs.Request.{body_of};
 ghost use Rattle.hg_http.specs.Addresses.{fault_of as fault_named};
 ghost use Rattle.hg_http.specs.Commands.{command_of as command_named, subject_of as subject};
-ghost use Rattle.hg_http.specs.Requests.{argument_in, arguments_of, is_from_client as came_from_client};
+ghost use Rattle.hg_http.specs.Requests.{argument_in, arguments_of};
 ghost use Rattle.hg_http.specs.Requests.{name_of};
 ghost use Rattle.hg_wireproto.specs.Batch.{commands_of};
 ghost use Rattle.hg_queries.specs.Texts.{refusal_of as why_refused, IsBatchText, IsTextOf};
 ghost use Rattle.hg_commit.specs.Clients.{IsCovered};
-ghost use Rattle.hg_web.specs.Answering.{AnswersAddressed, AnswersRequest, AnswersAsked, AnswersBatch, AnswersCommand};
-ghost use Rattle.hg_web.specs.Answering.{AnswersForced, capabilities_with};
-ghost use Rattle.hg_web.specs.Answering.{AnswersPushKey, around_of, IfFromClient, is_look, IsSaid, IsTextAt, OrLacks};
-ghost use Rattle.hg_web.specs.Answering.{pull_answer};
-ghost use Rattle.hg_hook.specs.Policies.{AsksOnce, HasAsked};
+ghost use Rattle.hg_web.specs.Answering.{AnswersRequest, AnswersAsked, AnswersBatch, AnswersCommand, AnswersForced};
+ghost use Rattle.hg_web.specs.Answering.{around_of, capabilities_with, is_look, IsTextAt, OrLacks, pull_answer, user_named};
+ghost use Rattle.hg_http.specs.Policies.{AsksOnce, HasAsked};
 ghost use Rattle.hg_web.specs.Pushes.{Answered};
 
 use crate::key::push_key;
 use crate::letting::unbundle_if_let;
 use crate::long::{LongCommand, LongCommands};
 use crate::looking::{Asking, Look, look_kept};
+use crate::pusher::Pusher;
 use crate::terms::{Host, WebTerms};
 use crate::viewing::answer_view;
 use bytes::Bytes;
 use hg_commit::{KeptClient, NotStored, Storing};
 use hg_durable::Keeping;
-use hg_hook::Policy;
 use hg_http::{
-    Command, HttpAnswer, Read, RequestRefusal, argument, command_of, fault_of, is_from_client,
-    moved_to, read_arguments, read_name, subject_of, view_of,
+    Address, AddressFault, Command, HttpAnswer, Policy, Read, RequestRefusal, argument, command_of,
+    fault_of, is_from_client, moved_to, read_arguments, read_name, subject_of, user_of, view_of,
 };
 use hg_queries::{Batch, ReadCommand, Shown, Watch, have_long, is_long, refusal_of};
 use hg_store::Device;
@@ -63,58 +61,32 @@ pub fn answer_request<
         (HasAsked (P.asked policy.old) (P.asked policy.new)) request.now) client result.1 result.0 }
     ensures asks { AsksOnce (P.asked policy.old) (P.asked policy.new) }
 {
-    match read_request(host.keeping.alloc, request) {
-        Ok((command, fields)) => {
+    match read_request(host.keeping.alloc, &terms.address, request) {
+        Ok((_, _, Some(fault))) => (client, Ok(HttpAnswer::Misaddressed(fault))),
+        Ok((command, fields, None)) => {
             let fields = fields.as_slice();
-            answer_addressed(host, terms, client, command, fields, request, watch, policy)
+            answer_asked(command, fields, request, host, terms, client, watch, policy)
         }
         Err(_) => (client, Ok(HttpAnswer::Refused(RequestRefusal::NoMemory))),
     }
 }
 
-/// The command of a request, and its arguments.
+/// The command of a request, its arguments, and why it is not answered here: it is for another server, or may be read
+/// otherwise.
 fn read_request<A: Allocator + Copy>(
     alloc: A,
+    address: &Address<'_>,
     request: &Request<Bytes>,
-) -> Result<(Option<Command>, Seq<Field<A>, A>), NoMemory>
+) -> Result<(Option<Command>, Seq<Field<A>, A>, Option<AddressFault>), NoMemory>
     ensures { IfOk result (λ read. (read.0 ≡ command_named (name_of A request.now))
-        × (read.1 ≡ arguments_of request.now)) }
+        × (read.1 ≡ arguments_of request.now)
+        × (read.2 ≡ fault_named address.now (command_named (name_of A request.now)) request.now)) }
 {
     let name = read_name(alloc, request)?;
     let fields = read_arguments(alloc, request)?;
-    Ok((command_of(name.as_slice()), fields))
-}
-
-/// Answers what was asked of this server. What is for another one, or may be read otherwise, is told so.
-fn answer_addressed<
-    J: Storing<A>,
-    D: Device,
-    A: Allocator + Copy,
-    R: Wait,
-    S: Shown<A>,
-    V: Watch<A>,
-    P: Policy<A>,
->(
-    host: &Host<'_, J, D, R, A>,
-    terms: &WebTerms<'_, S>,
-    client: KeptClient<J, A>,
-    command: Option<Command>,
-    fields: &[Field<A>],
-    request: &Request<Bytes>,
-    watch: &mut V,
-    policy: &mut P,
-) -> (KeptClient<J, A>, Result<HttpAnswer<A>, NotStored>)
-    ensures answered { Answered (OrLacks (is_look command) (AnswersAddressed J.capacity J.first
-        (around_of (IsCovered D.seen D.may_leave D.moment J.head J.stored J.first) S.is_page S.are_metrics terms.now)
-        (HasAsked (P.asked policy.old) (P.asked policy.new)) (fault_named terms.now.address command request.now)
-        command fields.now request.now)) client result.1 result.0 }
-    ensures asks { AsksOnce (P.asked policy.old) (P.asked policy.new) }
-{
-    match fault_of(host.keeping.alloc, &terms.address, command, request) {
-        Ok(None) => answer_asked(host, terms, client, command, fields, request, watch, policy),
-        Ok(Some(fault)) => (client, Ok(HttpAnswer::Misaddressed(fault))),
-        Err(_) => (client, Ok(HttpAnswer::Refused(RequestRefusal::NoMemory))),
-    }
+    let command = command_of(name.as_slice());
+    let fault = fault_of(alloc, address, command, request)?;
+    Ok((command, fields, fault))
 }
 
 /// Answers what was asked: a command, or a view.
@@ -127,12 +99,12 @@ fn answer_asked<
     V: Watch<A>,
     P: Policy<A>,
 >(
-    host: &Host<'_, J, D, R, A>,
-    terms: &WebTerms<'_, S>,
-    client: KeptClient<J, A>,
     command: Option<Command>,
     fields: &[Field<A>],
     request: &Request<Bytes>,
+    host: &Host<'_, J, D, R, A>,
+    terms: &WebTerms<'_, S>,
+    client: KeptClient<J, A>,
     watch: &mut V,
     policy: &mut P,
 ) -> (KeptClient<J, A>, Result<HttpAnswer<A>, NotStored>)
@@ -144,7 +116,7 @@ fn answer_asked<
 {
     match command {
         Some(command) => {
-            answer_command(host, terms, client, command, fields, request, watch, policy)
+            answer_command(command, fields, request, host, terms, client, watch, policy)
         }
         None => answer_view(
             &host.keeping,
@@ -165,18 +137,19 @@ fn answer_command<
     V: Watch<A>,
     P: Policy<A>,
 >(
-    host: &Host<'_, J, D, R, A>,
-    terms: &WebTerms<'_, S>,
-    client: KeptClient<J, A>,
     command: Command,
     fields: &[Field<A>],
     request: &Request<Bytes>,
+    host: &Host<'_, J, D, R, A>,
+    terms: &WebTerms<'_, S>,
+    client: KeptClient<J, A>,
     watch: &mut V,
     policy: &mut P,
 ) -> (KeptClient<J, A>, Result<HttpAnswer<A>, NotStored>)
     ensures answered { Answered (OrLacks (is_look (Some command)) (AnswersCommand J.capacity J.first
         (IsCovered D.seen D.may_leave D.moment J.head J.stored J.first)
-        (HasAsked (P.asked policy.old) (P.asked policy.new)) (option_copied terms.now.pull)
+        (HasAsked (P.asked policy.old) (P.asked policy.new)) (option_copied terms.now.user)
+        (option_copied terms.now.pull)
         (option_copied terms.now.also) command fields.now request.now)) client result.1 result.0 }
     ensures asks { AsksOnce (P.asked policy.old) (P.asked policy.new) }
 {
@@ -184,8 +157,31 @@ fn answer_command<
         Command::ReadOnly(read) => answer_read(host, client, read, fields),
         Command::Capabilities => (client, Ok(capabilities(host.keeping.alloc, terms.also))),
         Command::Batch => answer_batch(host, client, fields),
-        Command::Unbundle => answer_unbundle(host, client, fields, request, watch, policy),
-        Command::PushKey => answer_pushkey(host, client, fields, request, watch, policy),
+        Command::Unbundle if is_from_client(request) => {
+            let believed = terms.user;
+            answer_unbundle(
+                fields,
+                request,
+                believed,
+                &host.keeping,
+                client,
+                watch,
+                policy,
+            )
+        }
+        Command::PushKey if is_from_client(request) => {
+            let believed = terms.user;
+            push_key(
+                &host.keeping,
+                client,
+                fields,
+                request,
+                believed,
+                watch,
+                policy,
+            )
+        }
+        Command::Unbundle | Command::PushKey => (client, Ok(HttpAnswer::Forbidden)),
         Command::GetBundle => (
             client,
             Ok(answer_pull(host.keeping.alloc, terms.pull, request)),
@@ -236,7 +232,7 @@ fn answer_read<J: Storing<A>, D: Device, A: Allocator + Copy, R: Wait>(
 {
     let alloc = host.keeping.alloc;
     let about = argument(fields, subject_of(read));
-    if is_long(read) {
+    if is_long(read, about) {
         let command = LongCommand {
             alloc,
             shelf: host.shelf,
@@ -333,7 +329,7 @@ fn answer_commands<J: Storing<A>, D: Device, A: Allocator + Copy, R: Wait>(
     answer_look(&host.keeping, client, &Asking { question })
 }
 
-/// Answers a push, which is the body of the request.
+/// Answers a push of a body, where its heads are forced.
 fn answer_unbundle<
     J: Storing<A>,
     D: Device,
@@ -342,28 +338,27 @@ fn answer_unbundle<
     V: Watch<A>,
     P: Policy<A>,
 >(
-    host: &Host<'_, J, D, R, A>,
-    client: KeptClient<J, A>,
     fields: &[Field<A>],
     request: &Request<Bytes>,
+    believed: Option<&str>,
+    keeping: &Keeping<'_, J, D, R, A>,
+    client: KeptClient<J, A>,
     watch: &mut V,
     policy: &mut P,
 ) -> (KeptClient<J, A>, Result<HttpAnswer<A>, NotStored>)
-    ensures answered { Answered (IfFromClient (came_from_client request.now) (AnswersForced J.capacity J.first
+    ensures answered { Answered (AnswersForced J.capacity J.first
         (IsCovered D.seen D.may_leave D.moment J.head J.stored J.first)
-        (HasAsked (P.asked policy.old) (P.asked policy.new)) (body_of request.now)
-        (bytes_eq (argument_in fields.now (codes "heads")) (codes "666f726365"))))
+        (HasAsked (P.asked policy.old) (P.asked policy.new)) (user_named (option_copied believed.entry) request.now)
+        (body_of request.now)
+        (bytes_eq (argument_in fields.now (codes "heads")) (codes "666f726365")))
         client result.1 result.0 }
     ensures asks { AsksOnce (P.asked policy.old) (P.asked policy.new) }
 {
-    if !is_from_client(request) {
-        return (client, Ok(HttpAnswer::Forbidden));
-    }
     if !are_forced(argument(fields, b"heads".as_slice())) {
         return (client, Ok(HttpAnswer::Refused(RequestRefusal::NotForced)));
     }
-    let body = request.body();
-    unbundle_if_let(&host.keeping, client, body, watch, policy)
+    let pusher = Pusher::new(watch.time(), user_of(request, believed));
+    unbundle_if_let(keeping, client, request.body(), &pusher, watch, policy)
 }
 
 /// Whether the heads of a push are forced: `force` in hexadecimal digits.
@@ -371,31 +366,4 @@ fn are_forced(heads: &[u8]) -> bool
     ensures { result ≡ bytes_eq heads.now (codes "666f726365") }
 {
     heads == b"666f726365".as_slice()
-}
-
-/// Answers a push that sets one key.
-fn answer_pushkey<
-    J: Storing<A>,
-    D: Device,
-    A: Allocator + Copy,
-    R: Wait,
-    V: Watch<A>,
-    P: Policy<A>,
->(
-    host: &Host<'_, J, D, R, A>,
-    client: KeptClient<J, A>,
-    fields: &[Field<A>],
-    request: &Request<Bytes>,
-    watch: &mut V,
-    policy: &mut P,
-) -> (KeptClient<J, A>, Result<HttpAnswer<A>, NotStored>)
-    ensures answered { Answered (OrLacks false (IfFromClient (came_from_client request.now) (AnswersPushKey
-        J.capacity J.first (IsCovered D.seen D.may_leave D.moment J.head J.stored J.first)
-        (HasAsked (P.asked policy.old) (P.asked policy.new)) fields.now))) client result.1 result.0 }
-    ensures asks { AsksOnce (P.asked policy.old) (P.asked policy.new) }
-{
-    if !is_from_client(request) {
-        return (client, Ok(HttpAnswer::Forbidden));
-    }
-    push_key(&host.keeping, client, fields, watch, policy)
 }

@@ -4,8 +4,7 @@ ghost use Rattle.std.specs.Prelude.{◌≡◌, []};
 
 use bytes::Bytes;
 use hg_connection::Keep;
-use hg_durable::Recorder;
-use hg_store::Sealed;
+use hg_durable::{RecordBytes, Recorder};
 use hg_types::NoMemory;
 use std::alloc::Allocator;
 use std::marker::Model;
@@ -57,9 +56,9 @@ impl Keep for BodyPrefix {
 }
 
 impl<A: Allocator> Recorder<A> for BodyPrefix {
-    fn seal(self) -> Sealed<A> {
+    fn into_bytes(self) -> RecordBytes<A> {
         let BodyPrefix { mut body, count } = self;
         body.truncate(count);
-        Sealed::shared(body)
+        RecordBytes::shared(body)
     }
 }

@@ -3,8 +3,9 @@
 ghost use Rattle.std.specs.Prelude.{◌≡◌, ◌⊎◌, true, false};
 ghost use Rattle.hg_http.specs.Keys.{fits as can_fit};
 ghost use Rattle.std.specs.List.{list_any};
-ghost use Rattle.hg_hook.specs.Policies.{AsksOnce, HasAsked};
-ghost use Rattle.hg_web.specs.Answering.{AnswersChange, AnswersFitting, AnswersPushKey, OrLacks};
+ghost use Rattle.hg_http.specs.Policies.{AsksOnce, HasAsked};
+ghost use Rattle.std.specs.Option.{option_copied};
+ghost use Rattle.hg_web.specs.Answering.{AnswersChange, AnswersFitting, AnswersPushKey, OrLacks, user_named};
 ghost use Rattle.hg_commit.specs.Clients.{IsCovered};
 ghost use Rattle.hg_web.specs.Pushes.{Answered, IsPushAnswered, IsReply, is_one as returns_one};
 ghost use Rattle.hg_web.specs.Pushes.{is_set as key_is_set, key_line, set_line};
@@ -12,16 +13,20 @@ ghost use Rattle.hg_web.specs.Pushes.{says_one as part_says_one};
 
 use crate::letting::push_key_if_let;
 use crate::push::{KeptPush, push_bundle};
+use crate::pusher::Pusher;
+use bytes::Bytes;
 use hg_commit::{KeptClient, NotStored, Storing};
 use hg_durable::Keeping;
-use hg_hook::Policy;
-use hg_http::{HttpAnswer, KeyChange, RequestRefusal, fits, key_bundle, read_change};
+use hg_http::{
+    HttpAnswer, KeyChange, Policy, RequestRefusal, fits, key_bundle, read_change, user_of,
+};
 use hg_push::Outcome;
 use hg_queries::Watch;
 use hg_repo::{Done, Refusal as RunRefusal};
 use hg_store::Device;
 use hg_types::{Param, Part, Seq};
 use hg_wireproto::Field;
+use http::Request;
 use std::alloc::Allocator;
 use std::sync::Wait;
 
@@ -30,16 +35,37 @@ pub fn push_key<J: Storing<A>, D: Device, A: Allocator + Copy, R: Wait, V: Watch
     keeping: &Keeping<'_, J, D, R, A>,
     client: KeptClient<J, A>,
     fields: &[Field<A>],
+    request: &Request<Bytes>,
+    believed: Option<&str>,
     watch: &mut V,
     policy: &mut P,
 ) -> (KeptClient<J, A>, Result<HttpAnswer<A>, NotStored>)
     ensures answered { Answered (OrLacks false (AnswersPushKey J.capacity J.first
         (IsCovered D.seen D.may_leave D.moment J.head J.stored J.first)
-        (HasAsked (P.asked policy.old) (P.asked policy.new)) fields.now)) client result.1 result.0 }
+        (HasAsked (P.asked policy.old) (P.asked policy.new)) (user_named (option_copied believed.entry) request.now)
+        fields.now)) client result.1 result.0 }
+    ensures asks { AsksOnce (P.asked policy.old) (P.asked policy.new) }
+{
+    let pusher = Pusher::new(watch.time(), user_of(request, believed));
+    push_fields(keeping, client, fields, &pusher, watch, policy)
+}
+
+/// Sets a key that these fields name.
+fn push_fields<J: Storing<A>, D: Device, A: Allocator + Copy, R: Wait, V: Watch<A>, P: Policy<A>>(
+    keeping: &Keeping<'_, J, D, R, A>,
+    client: KeptClient<J, A>,
+    fields: &[Field<A>],
+    pusher: &Pusher<'_>,
+    watch: &mut V,
+    policy: &mut P,
+) -> (KeptClient<J, A>, Result<HttpAnswer<A>, NotStored>)
+    ensures answered { Answered (OrLacks false (AnswersPushKey J.capacity J.first
+        (IsCovered D.seen D.may_leave D.moment J.head J.stored J.first)
+        (HasAsked (P.asked policy.old) (P.asked policy.new)) pusher.now.name fields.now)) client result.1 result.0 }
     ensures asks { AsksOnce (P.asked policy.old) (P.asked policy.new) }
 {
     let change = read_change(fields);
-    push_change(keeping, client, &change, watch, policy)
+    push_change(keeping, client, &change, pusher, watch, policy)
 }
 
 /// Asks for a change by a push of its own, where a part can hold its values.
@@ -47,12 +73,13 @@ fn push_change<J: Storing<A>, D: Device, A: Allocator + Copy, R: Wait, V: Watch<
     keeping: &Keeping<'_, J, D, R, A>,
     client: KeptClient<J, A>,
     change: &KeyChange<'_>,
+    pusher: &Pusher<'_>,
     watch: &mut V,
     policy: &mut P,
 ) -> (KeptClient<J, A>, Result<HttpAnswer<A>, NotStored>)
     ensures answered { Answered (OrLacks false (AnswersChange J.capacity J.first
         (IsCovered D.seen D.may_leave D.moment J.head J.stored J.first)
-        (HasAsked (P.asked policy.old) (P.asked policy.new)) change.now.namespace.now
+        (HasAsked (P.asked policy.old) (P.asked policy.new)) pusher.now.name change.now.namespace.now
         change.now.key.now change.now.old.now change.now.new.now)) client result.1 result.0 }
     ensures asks { AsksOnce (P.asked policy.old) (P.asked policy.new) }
 {
@@ -62,7 +89,7 @@ fn push_change<J: Storing<A>, D: Device, A: Allocator + Copy, R: Wait, V: Watch<
             Ok(line_of(keeping.alloc, false, RequestRefusal::NoMemory)),
         );
     }
-    set_key(keeping, client, change, watch, policy)
+    set_key(keeping, client, change, pusher, watch, policy)
 }
 
 /// Pushes the bundle that asks for a change.
@@ -70,6 +97,7 @@ fn set_key<J: Storing<A>, D: Device, A: Allocator + Copy, R: Wait, V: Watch<A>, 
     keeping: &Keeping<'_, J, D, R, A>,
     client: KeptClient<J, A>,
     change: &KeyChange<'_>,
+    pusher: &Pusher<'_>,
     watch: &mut V,
     policy: &mut P,
 ) -> (KeptClient<J, A>, Result<HttpAnswer<A>, NotStored>)
@@ -77,12 +105,12 @@ fn set_key<J: Storing<A>, D: Device, A: Allocator + Copy, R: Wait, V: Watch<A>, 
         change.now.new.now ≡ true }
     ensures answered { Answered (OrLacks false (AnswersFitting J.capacity J.first
         (IsCovered D.seen D.may_leave D.moment J.head J.stored J.first)
-        (HasAsked (P.asked policy.old) (P.asked policy.new)) change.now.namespace.now
+        (HasAsked (P.asked policy.old) (P.asked policy.new)) pusher.now.name change.now.namespace.now
         change.now.key.now change.now.old.now change.now.new.now)) client result.1 result.0 }
     ensures asks { AsksOnce (P.asked policy.old) (P.asked policy.new) }
 {
     match key_bundle(keeping.alloc, change) {
-        Ok(bundle) => push_key_if_let(keeping, client, bundle.as_slice(), watch, policy),
+        Ok(bundle) => push_key_if_let(keeping, client, bundle.as_slice(), pusher, watch, policy),
         Err(_) => (client, Ok(HttpAnswer::Refused(RequestRefusal::NoMemory))),
     }
 }
@@ -92,14 +120,18 @@ pub fn push_for_key<J: Storing<A>, D: Device, A: Allocator + Copy, R: Wait, V: W
     keeping: &Keeping<'_, J, D, R, A>,
     client: KeptClient<J, A>,
     bundle: &[u8],
+    pusher: &Pusher<'_>,
     watch: &mut V,
 ) -> (KeptClient<J, A>, Result<HttpAnswer<A>, NotStored>)
     ensures { Answered (IsPushAnswered J.capacity J.first
-        (IsCovered D.seen D.may_leave D.moment J.head J.stored J.first) bundle.now key_line)
+        (IsCovered D.seen D.may_leave D.moment J.head J.stored J.first) pusher.now bundle.now key_line)
         client result.1 result.0 }
 {
+    let Ok(stamp) = pusher.stamp(keeping.alloc) else {
+        return (client, Ok(reply_to(keeping.alloc, &None)));
+    };
     let kept = Vec::new(keeping.alloc);
-    let (client, pushed) = push_bundle(keeping, client, bundle, kept, watch);
+    let (client, pushed) = push_bundle(keeping, client, bundle, stamp, kept, watch);
     match pushed {
         Ok(pushed) => (client, Ok(reply_to(keeping.alloc, &pushed))),
         Err(fault) => (client, Err(fault)),

@@ -3,19 +3,19 @@
 ghost use Rattle.std.specs.Prelude.{◌≡◌};
 ghost use Rattle.hg_push.specs.Reply.{reply_of};
 ghost use Rattle.hg_commit.specs.Clients.{IsCovered};
-ghost use Rattle.hg_hook.specs.Policies.{AsksOnce, HasAsked};
+ghost use Rattle.hg_http.specs.Policies.{AsksOnce, HasAsked};
 ghost use Rattle.hg_web.specs.Answering.{AnswersPush};
 ghost use Rattle.hg_web.specs.Letting.{denial_of};
 ghost use Rattle.hg_web.specs.Pushes.{Answered, key_line};
 
 use crate::key::push_for_key;
 use crate::push::unbundle;
+use crate::pusher::Pusher;
 use bytes::Bytes;
 use hg_commit::{KeptClient, NotStored, Storing};
 use hg_durable::Keeping;
-use hg_hook::{Policy, Verdict};
-use hg_http::{HttpAnswer, RequestRefusal};
-use hg_queries::Watch;
+use hg_http::{HttpAnswer, Policy, RequestRefusal, Verdict};
+use hg_queries::{Denial, Watch};
 use hg_store::Device;
 use std::alloc::Allocator;
 use std::sync::Wait;
@@ -32,17 +32,18 @@ pub fn unbundle_if_let<
     keeping: &Keeping<'_, J, D, R, A>,
     client: KeptClient<J, A>,
     body: &Bytes,
+    pusher: &Pusher<'_>,
     watch: &mut V,
     policy: &mut P,
 ) -> (KeptClient<J, A>, Result<HttpAnswer<A>, NotStored>)
     ensures answered { Answered (AnswersPush J.capacity J.first
         (IsCovered D.seen D.may_leave D.moment J.head J.stored J.first)
-        (HasAsked (P.asked policy.old) (P.asked policy.new)) body.now reply_of) client result.1 result.0 }
+        (HasAsked (P.asked policy.old) (P.asked policy.new)) pusher.now.name body.now reply_of) client result.1 result.0 }
     ensures asks { AsksOnce (P.asked policy.old) (P.asked policy.new) }
 {
-    match ask(policy, body.as_slice()) {
+    match ask(policy, watch, pusher.user(), body.as_slice()) {
         Some(denial) => (client, Ok(denial)),
-        None => unbundle(keeping, client, body, watch),
+        None => unbundle(keeping, client, body, pusher, watch),
     }
 }
 
@@ -58,26 +59,47 @@ pub fn push_key_if_let<
     keeping: &Keeping<'_, J, D, R, A>,
     client: KeptClient<J, A>,
     bundle: &[u8],
+    pusher: &Pusher<'_>,
     watch: &mut V,
     policy: &mut P,
 ) -> (KeptClient<J, A>, Result<HttpAnswer<A>, NotStored>)
     ensures answered { Answered (AnswersPush J.capacity J.first
         (IsCovered D.seen D.may_leave D.moment J.head J.stored J.first)
-        (HasAsked (P.asked policy.old) (P.asked policy.new)) bundle.now key_line) client result.1 result.0 }
+        (HasAsked (P.asked policy.old) (P.asked policy.new)) pusher.now.name bundle.now key_line) client result.1 result.0 }
     ensures asks { AsksOnce (P.asked policy.old) (P.asked policy.new) }
 {
-    match ask(policy, bundle) {
+    match ask(policy, watch, pusher.user(), bundle) {
         Some(denial) => (client, Ok(denial)),
-        None => push_for_key(keeping, client, bundle, watch),
+        None => push_for_key(keeping, client, bundle, pusher, watch),
     }
 }
 
-/// Asks whether the push of a bundle may run. Where it may not, that is answered.
-fn ask<P: Policy<A>, A: Allocator>(policy: &mut P, bundle: &[u8]) -> Option<HttpAnswer<A>>
+/// Asks whether the push of a bundle may run, and says who pushes. Where it may not, that is answered, and who watches
+/// hears of it.
+fn ask<P: Policy<A>, V: Watch<A>, A: Allocator>(
+    policy: &mut P,
+    watch: &mut V,
+    user: Option<&[u8]>,
+    bundle: &[u8],
+) -> Option<HttpAnswer<A>>
     ensures { (verdict : Verdict A) × HasAsked (P.asked policy.old) (P.asked policy.new) bundle.now verdict
         × (result ≡ denial_of verdict) }
 {
-    denial_of(policy.let_through(None, bundle))
+    let verdict = policy.let_through(user, bundle);
+    if let Some(why) = reason_of(&verdict) {
+        watch.denied(why, bundle);
+    }
+    denial_of(verdict)
+}
+
+/// Why a push may not run, if it may not.
+fn reason_of<A: Allocator>(verdict: &Verdict<A>) -> Option<Denial> {
+    match verdict {
+        Verdict::LetThrough => None,
+        Verdict::Refused(_) => Some(Denial::Refused),
+        Verdict::NoAnswer => Some(Denial::NoAnswer),
+        Verdict::NoMemory => Some(Denial::NoMemory),
+    }
 }
 
 /// What is answered where a push may not run.

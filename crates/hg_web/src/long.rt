@@ -1,7 +1,4 @@
-//! What has a word for each head: it is made of a view that all who read share.
-
-ghost use Rattle.std.specs.Prelude.{◌≡◌, true};
-ghost use Rattle.hg_queries.specs.Copied.{is_long as goes_long};
+//! What has a word for each head, or wants the ids in their order: it is made of a view that all who read share.
 
 use crate::looking::Look;
 use hg_http::Read;
@@ -19,7 +16,6 @@ pub struct LongCommand<'a, J: Naming<A>, A: Allocator = Global> {
     pub shelf: &'a Mutex<ViewCache<J, A>>,
     pub read: Read,
     pub about: &'a [u8],
-    ghost is_long: { goes_long read ≡ true },
 }
 
 impl<J: Naming<A>, A: Allocator + Copy> Look<J, A, Result<Seq<u8, A>, NoMemory>>

@@ -9,6 +9,7 @@ ghost use Rattle.hg_web.specs.code.Rounds.{IsOfRound};
 
 use crate::body::Body;
 use crate::body_prefix::BodyPrefix;
+use crate::pusher::Pusher;
 use bytes::Bytes;
 use hg_commit::{KeptClient, NotStored, Storing};
 use hg_connection::{Inbox, Sending};
@@ -18,7 +19,7 @@ use hg_push::Outcome;
 use hg_queries::{Watch, WatchedPush};
 use hg_repo::{Done, Refusal as RunRefusal};
 use hg_serve::Answer as Awaiting;
-use hg_store::Device;
+use hg_store::{Device, Stamp};
 use hg_stream::Unbundler;
 use hg_types::Seq;
 use std::alloc::{Allocator, Global};
@@ -32,7 +33,7 @@ pub struct KeptPush<A: Allocator = Global> {
     pub reply: Option<Seq<u8, A>>,
 }
 
-/// Pushes a bundle, whose bytes are kept there. Says how the push ended, if one was opened; the store may have failed.
+/// Pushes a bundle, whose bytes are kept there, with that stamp. Says how the push ended, if one was opened; the store may have failed.
 pub fn push_bundle<
     J: Storing<A>,
     D: Device,
@@ -44,12 +45,13 @@ pub fn push_bundle<
     keeping: &Keeping<'_, J, D, R, A>,
     client: KeptClient<J, A>,
     bundle: &[u8],
+    stamp: Stamp<A>,
     kept: K,
     watch: &mut V,
 ) -> (KeptClient<J, A>, Result<Option<KeptPush<A>>, NotStored>)
     requires { K.kept kept ≡ [] }
     ensures { PushesOrFails J.capacity J.first
-        (IsCovered D.seen D.may_leave D.moment J.head J.stored J.first) client bundle.now result.1 result.0 }
+        (IsCovered D.seen D.may_leave D.moment J.head J.stored J.first) stamp client bundle.now result.1 result.0 }
 {
     let limits = *keeping.server.limits();
     let opened = match open_kept(keeping, client) {
@@ -65,6 +67,7 @@ pub fn push_bundle<
         &mut unbundler,
         &mut inbox,
         &mut body,
+        stamp,
         kept,
         watch,
     );
@@ -127,17 +130,21 @@ pub fn unbundle<J: Storing<A>, D: Device, A: Allocator + Copy, R: Wait, V: Watch
     keeping: &Keeping<'_, J, D, R, A>,
     client: KeptClient<J, A>,
     body: &Bytes,
+    pusher: &Pusher<'_>,
     watch: &mut V,
 ) -> (KeptClient<J, A>, Result<HttpAnswer<A>, NotStored>)
     ensures { Answered (IsPushAnswered J.capacity J.first
-        (IsCovered D.seen D.may_leave D.moment J.head J.stored J.first) body.now reply_of)
+        (IsCovered D.seen D.may_leave D.moment J.head J.stored J.first) pusher.now body.now reply_of)
         client result.1 result.0 }
 {
+    let Ok(stamp) = pusher.stamp(keeping.alloc) else {
+        return (client, Ok(reply_to(None)));
+    };
     let kept = match body.clone() {
         Ok(body) => BodyPrefix::of(body),
         Err(_) => return (client, Ok(reply_to(None))),
     };
-    let (client, pushed) = push_bundle(keeping, client, body.as_slice(), kept, watch);
+    let (client, pushed) = push_bundle(keeping, client, body.as_slice(), stamp, kept, watch);
     match pushed {
         Ok(pushed) => (client, Ok(reply_to(pushed))),
         Err(fault) => (client, Err(fault)),

@@ -18,6 +18,8 @@ pub struct WebTerms<'a, S> {
     pub budget: &'a Budget,
     /// What the server answers to.
     pub address: Address<'a>,
+    /// The field of a request that says who pushes. Without one no field is believed.
+    pub user: Option<&'a str>,
     /// Where pulls go, without a query.
     pub pull: Option<&'a [u8]>,
     /// What is told behind the capabilities.

@@ -27,11 +27,11 @@ use hg_queue::{PartQueue, Taker};
 use hg_recovery::replay_records;
 use hg_repo::Repo;
 use hg_serve::{Point, Probe, Server};
-use hg_store::{Device, Log, recover};
+use hg_store::{Device, Log, read_records, recover};
 use hg_types::{NoMemory, Seq};
 use hg_web::{
-    Address, Budget, ConnectionEnd, Shown, Verdict, ViewCache, Watch, WatchedPush, WebTerms,
-    serve_http,
+    Address, Budget, ConnectionEnd, Denial, Shown, Verdict, ViewCache, Watch, WatchedPush,
+    WebTerms, serve_http,
 };
 use std::alloc::{AllocFailed, Allocator, Global};
 use std::hash::RandomState;
@@ -64,6 +64,9 @@ impl<A: Allocator + Copy> Shown<A> for Words {
     }
 }
 
+/// What time it is in these tests.
+const TIME: u64 = 1_700_000_000_123;
+
 /// Counts what is reported to it.
 #[derive(Drop)]
 struct Tally {
@@ -71,6 +74,8 @@ struct Tally {
     answered: usize,
     kept: usize,
     lost: usize,
+    /// How many were not let through.
+    denied: usize,
     bytes: usize,
 }
 
@@ -81,6 +86,7 @@ impl Tally {
             answered: 0,
             kept: 0,
             lost: 0,
+            denied: 0,
             bytes: 0,
         }
     }
@@ -97,6 +103,10 @@ impl Probe for Tally {
 }
 
 impl<A: Allocator> Watch<A> for Tally {
+    fn time(&self) -> u64 {
+        TIME
+    }
+
     fn pushed(&mut self, pushed: &WatchedPush<'_, A>) {
         if pushed.is_kept {
             self.kept = self.kept.saturating_add(1);
@@ -104,6 +114,10 @@ impl<A: Allocator> Watch<A> for Tally {
             self.lost = self.lost.saturating_add(1);
         }
         self.bytes = self.bytes.saturating_add(pushed.bundle.len());
+    }
+
+    fn denied(&mut self, _why: Denial, _bundle: &[u8]) {
+        self.denied = self.denied.saturating_add(1);
     }
 }
 
@@ -162,6 +176,10 @@ struct Way<'a> {
     budget: usize,
     /// What the server answers to.
     address: Address<'a>,
+    /// The field that says who pushes.
+    user: Option<&'a str>,
+    /// The name of who pushes, by that.
+    name: &'a [u8],
     /// Where pulls go.
     pull: Option<&'a [u8]>,
     /// What is told behind the capabilities.
@@ -182,6 +200,8 @@ const PLAIN: Way<'static> = Way {
     calls: 1_000_000,
     budget: 1_000_000,
     address: ANYWHERE,
+    user: None,
+    name: b"",
     pull: None,
     also: None,
     refusal: None,
@@ -199,6 +219,8 @@ struct Left {
     journal: usize,
     /// How many pushes the device has.
     kept: usize,
+    /// How many of them have the time of these tests, and the name that is wanted.
+    stamped: usize,
 }
 
 /// The state by which a repository hashes ids.
@@ -222,6 +244,20 @@ fn kept_on<R: RandomSource + Abort>(rt: &R, alloc: Global, device: &Memory) -> u
     let mut repo = Repo::new(alloc, settings(), state(rt));
     assert!(rt; replay_records(alloc, &mut repo, found.records.as_slice()).is_ok());
     found.records.len()
+}
+
+/// How many records are found on the device that have the time of these tests and this name.
+fn stamped_on(alloc: Global, device: &Memory, name: &[u8]) -> usize {
+    let Ok(found) = read_records(alloc, &device.bytes) else {
+        return 0;
+    };
+    let mut count = 0;
+    for record in found.records.as_slice() {
+        if record.stamp().time() == TIME && record.stamp().name() == name {
+            count = (count as usize).saturating_add(1);
+        }
+    }
+    count
 }
 
 /// The text that was written.
@@ -281,6 +317,7 @@ fn play<J: Storing<Global>, R: RandomSource + Wait + Abort>(
         shown: &Words,
         budget: &budget,
         address: way.address,
+        user: way.user,
         pull: way.pull,
         also: way.also,
         stored: 0,
@@ -340,6 +377,7 @@ fn play<J: Storing<Global>, R: RandomSource + Wait + Abort>(
         asked: policy.asked,
         journal: closed.journal.len(),
         kept: kept_on(rt, alloc, &device),
+        stamped: stamped_on(alloc, &device, way.name),
     }
 }
 
@@ -389,6 +427,22 @@ fn conversed<R: RandomSource + Wait + Abort>(
 fn a_real_client_pushes_three_times(rt: HostRuntime) {
     let said = [(ASKED_0, TOLD_0), (ASKED_1, TOLD_1), (ASKED_2, TOLD_2)];
     assert_eq!(rt; conversed(&rt, rt.alloc(), &said), 3);
+}
+
+/// The record of a push has the time at which it came. It has the name that a field says which is believed, and none
+/// where no field is.
+#[test]
+fn a_record_has_the_stamp_of_its_push(rt: HostRuntime) {
+    let alloc = rt.alloc();
+    let left = served(&rt, alloc, &[ASKED_0], PLAIN);
+    assert_eq!(rt; left.stamped, 1);
+    let way = Way {
+        user: Some("User-Agent"),
+        name: b"mercurial/proto-1.0 (Mercurial 6.3.2)",
+        ..PLAIN
+    };
+    let left = served(&rt, alloc, &[ASKED_0, ASKED_1], way);
+    assert_eq!(rt; (left.kept, left.stamped), (2, 2));
 }
 
 /// Another client pushes between what a client asks and its push.

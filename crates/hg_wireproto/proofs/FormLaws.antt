@@ -15,7 +15,7 @@ use Rattle.percent_encoding.specs.Percent.{percent_decode}
 use Rattle.percent_encoding.proofs.PercentLemmas.{percent_decode-nil, percent_decode_escape, percent_decode_not_percent}
 use Rattle.hg_wireproto.specs.declared.form.Field.{Field}
 use Rattle.hg_wireproto.specs.Text.{behind_first}
-use Rattle.hg_wireproto.specs.Form.{is_ampersand, is_equals, spaced, plain_of, field_of, fields_in, fields_of}
+use Rattle.hg_wireproto.specs.Form.{is_ampersand, is_equals, spaced, plain_of, field_by, fields_by, fields_of}
 use Rattle.hg_wireproto.specs.Spelling.{is_special, IsSpelled, IsPiece, IsForm}
 use Rattle.hg_wireproto.specs.Spelling.IsSpelled.{nothing, itself, space, escape}
 
@@ -145,14 +145,13 @@ value_behind xs ys plain =
     (ap (drop (length xs + 1)) (sym (append_assoc xs (61 ∷ []) ys))
     ∙ drop_at (xs ++ 61 ∷ []) ys (length xs + 1) (length_push xs 61))
 
-nonempty : {A : Type 0} (xs ys : List ℕ) (field : Field A) → field_of (xs ++ 61 ∷ ys) ≡ field
-    → fields_in (xs ++ 61 ∷ ys) ≡ field ∷ []
+nonempty : {A : Type 0} (xs ys : List ℕ) (field : Field A) → field_by plain_of (xs ++ 61 ∷ ys) ≡ field
+    → fields_by plain_of (xs ++ 61 ∷ ys) ≡ field ∷ []
 nonempty {A} [] ys field e = ap (λ (f : Field A). f ∷ []) e
 nonempty {A} (x ∷ xs) ys field e = ap (λ (f : Field A). f ∷ []) e
 
 field_back : {A : Type 0} (name value : List ℕ) (field : Field A) → IsSpelled name field.name
-    → IsSpelled value field.value → field_of (name ++ 61 ∷ value) ≡ field
-unfolding field_of
+    → IsSpelled value field.value → field_by plain_of (name ++ 61 ∷ value) ≡ field
 field_back {A} name value field named valued =
     let plain = spelled_apart 61 equals name field.name named in
     let made : List ℕ → List ℕ → Field A = λ n v. record { name = n; value = v } in
@@ -163,9 +162,9 @@ field_back {A} name value field named valued =
     ∙ ap (λ (v : List ℕ). made field.name v) (spelled_back value field.value valued)
 
 piece_back : {A : Type 0} (piece : List ℕ) (field : Field A) → IsPiece piece field
-    → fields_in piece ≡ field ∷ []
+    → fields_by plain_of piece ≡ field ∷ []
 piece_back {A} piece field p =
-    ap (λ (t : List ℕ). let told : List (Field A) = fields_in t in told) p.piece_is
+    ap (λ (t : List ℕ). let told : List (Field A) = fields_by plain_of t in told) p.piece_is
     ∙ nonempty p.name p.value field (field_back p.name p.value field p.name_is p.value_is)
 
 piece_apart : {A : Type 0} (piece : List ℕ) (field : Field A) → IsPiece piece field
@@ -185,13 +184,13 @@ pieces_back {A} [] [] each = refl
 pieces_back {A} [] (field ∷ fields) each = absurd each
 pieces_back {A} (piece ∷ pieces) [] each = absurd each
 pieces_back {A} (piece ∷ []) (field ∷ []) each =
-    ap (flat_map (λ (t : List ℕ). let told : List (Field A) = fields_in t in told))
+    ap (flat_map (λ (t : List ℕ). let told : List (Field A) = fields_by plain_of t in told))
     (slice_split_none is_ampersand piece (piece_apart piece field each.0))
-    ∙ append-nil (fields_in piece)
+    ∙ append-nil (fields_by plain_of piece)
     ∙ piece_back piece field each.0
 pieces_back {A} (piece ∷ []) (field ∷ other ∷ fields) each = absurd each.1
 pieces_back {A} (piece ∷ next ∷ pieces) (field ∷ fields) each =
-    ap (flat_map (λ (t : List ℕ). let told : List (Field A) = fields_in t in told))
+    ap (flat_map (λ (t : List ℕ). let told : List (Field A) = fields_by plain_of t in told))
     (slice_split_at is_ampersand piece 38 (join_with_byte 38 (next ∷ pieces))
     (piece_apart piece field each.0) refl)
     ∙ ap (λ (first : List (Field A)). first ++ fields_of (join_with_byte 38 (next ∷ pieces)))

@@ -41,7 +41,7 @@ use Rattle.hg_wireproto.proofs.Lines.{heads_said, id_word, taken_more}
 -- ---- rows
 
 -- a row is still there once one more is
-has_on : (front : List Changeset) (row : Changeset) (r : ℕ) (id : List ℕ) → HasNode front r id
+pub has_on : (front : List Changeset) (row : Changeset) (r : ℕ) (id : List ℕ) → HasNode front r id
     → HasNode (front ++ row ∷ []) r id
 has_on front row r id has =
     let within : r < length front = slice_get_within front r has.row has.row_at in
@@ -55,7 +55,7 @@ has_on front row r id has =
     }
 
 -- a row is the last, or was there before it
-has_back : (front : List Changeset) (row : Changeset) (r : ℕ) (id : List ℕ) → HasNode (front ++ row ∷ []) r id
+pub has_back : (front : List Changeset) (row : Changeset) (r : ℕ) (id : List ℕ) → HasNode (front ++ row ∷ []) r id
     → (row.node ≡ id) ⊎ HasNode front r id
 has_back front row r id has =
     let all : List Changeset = front ++ row ∷ [] in
@@ -133,7 +133,7 @@ module _ (rows : List Changeset) (lawful : AreLawful rows) (r : ℕ) (row : Chan
 
 -- ---- the number of an id
 
-apart : (a b : List ℕ) → a ≢ b → bytes_eq a b ≡ false
+pub apart : (a b : List ℕ) → a ≢ b → bytes_eq a b ≡ false
 apart a b other = by (bytes_eq a b) refl
   where
     by : (v : Bool) → bytes_eq a b ≡ v → bytes_eq a b ≡ false
@@ -293,17 +293,20 @@ module _ (rows old : List Changeset) (first n : ℕ) (within : first ≤ length 
   pub front_within : n ≤ length rows
   front_within = omega (arith, as_many, within)
 
+  pub front_is : old ≡ take n rows
+  front_is = is ∙ ap (λ (k : ℕ). take k rows) (sym as_many)
+
   pub front_heads : (nodes : List Node) → AreHeadIds old nodes → AreHeadIds (take n rows) nodes
   front_heads nodes held =
-      subst (λ rs. AreHeadIds rs nodes) (is ∙ ap (λ (k : ℕ). take k rows) (sym as_many)) held
+      subst (λ rs. AreHeadIds rs nodes) front_is held
 
 -- ---- the order of ids
 
 -- the order of ids is that of their bytes
-order_is : (a b : Node) → ord.cmp-value.it a b ≡ slice_cmp nat_cmp a.0 b.0
+pub order_is : (a b : Node) → ord.cmp-value.it a b ≡ slice_cmp nat_cmp a.0 b.0
 order_is a b = search rules
 
-order_total : IsTotalOrder ord.cmp-value.it
+pub order_total : IsTotalOrder ord.cmp-value.it
 order_total = record {
   antisymm = λ x y. order_is x y ∙ nat_list_cmp_total.antisymm x.0 y.0 ∙ ap ordering_reverse (sym (order_is y x));
   trans = λ x y z low high. order_is x z ∙ nat_list_cmp_total.trans x.0 y.0 z.0 (sym (order_is x y) ∙ low)
@@ -312,7 +315,7 @@ order_total = record {
       ∙ sym (order_is y z);
 }
 
-order_exact : CmpEqualImpliesEq ord.cmp-value.it
+pub order_exact : CmpEqualImpliesEq ord.cmp-value.it
 order_exact x y same = same_node x y (exact_bytes x.0 y.0 (sym (order_is x y) ∙ same))
 
 same_at : (a b : Node) → a ≡ b → is_at (ord.cmp-value.it a) b ≡ true

@@ -3,6 +3,7 @@ mod Fields
 mod Lines
 mod Escapes
 mod Ranges
+mod Beginnings
 mod Naming
 mod EscapeLaws
 mod FormLaws
@@ -20,4 +21,6 @@ mod Coming
 mod Covering
 mod Uncovering
 mod HeadIds
+mod OrderedIds
 pub mod Publishing
+mod LookedUp

@@ -1,5 +1,5 @@
 -- Words and lines with a byte after each, and joined.
-use Rattle.std.proofs.Common.{◌≡◌, ℕ, ◌+◌, ◌-◌, ◌<◌, List, [], ◌∷◌, ◌++◌, length, map, take, get_or, refl, sym}
+use Rattle.std.proofs.Common.{◌≡◌, ℕ, ◌+◌, ◌-◌, List, [], ◌∷◌, ◌++◌, length, map, take, refl, sym}
 use Rattle.std.proofs.Common.{ap, ◌∙◌, arith, ◌≤◌, Bool, true, false, filter, Some, slice_get}
 use Rattle.std.specs.Prelude.{if◌then◌else◌, ◌==◌}
 use Rattle.std.specs.List.{flat_map, join_with_byte, slice_split}
@@ -16,7 +16,6 @@ use Rattle.hg_log.specs.Rows.{HasNode}
 use Rattle.hg_wireproto.specs.Text.{ended, lines_if}
 use Rattle.hg_wireproto.specs.Heads.{is_space, known_digit, known_text}
 use Rattle.hg_wireproto.specs.Batch.{escaped}
-use Rattle.hg_wireproto.proofs.Pieces.{made_more}
 
 -- the digits of a head, and a space
 abbrev pub id_word : Node → List ℕ

@@ -1,7 +1,7 @@
 -- The last changeset, and the changesets whose digits a key begins.
 use Rattle.std.proofs.Common.{◌≡◌, ℕ, ◌+◌, ◌-◌, ◌<◌, Bool, true, false, List, [], ◌∷◌, ◌++◌, length, take, drop}
-use Rattle.std.proofs.Common.{filter, Some, None, Option, slice_get, refl, sym, ap, ◌∙◌, arith, eqb-true}
-use Rattle.std.specs.Prelude.{if◌then◌else◌, ◌==◌, nat_eq, is_some}
+use Rattle.std.proofs.Common.{filter, Some, None, Option, slice_get, refl, sym, ap, ◌∙◌, arith}
+use Rattle.std.specs.Prelude.{if◌then◌else◌, nat_eq, is_some}
 use Rattle.std.specs.List.{starts_with}
 use Rattle.hex.specs.Hex.{encode_lower}
 use Rattle.std.proofs.lemmas.List.{append-nil, take-append-drop}
@@ -13,7 +13,7 @@ use Rattle.hg_log.specs.HeadCount.{id_at}
 use Rattle.hg_log.specs.Rows.{HasNode}
 use Rattle.hg_wireproto.specs.declared.lookup.Resolved.{Resolved}
 use Rattle.hg_wireproto.specs.declared.lookup.Resolved.TheVariants.{Id, Ambiguous, Unknown}
-use Rattle.hg_wireproto.specs.Lookup.{begun_by, id_or, is_begun, one_of, tip_of}
+use Rattle.hg_wireproto.specs.Lookup.{id_or, is_begun, one_of, tip_of}
 use Rattle.hg_wireproto.proofs.Lines.{has_id, taken_more}
 
 pub tip_none : (rows : List Changeset) → length rows ≡ 0
@@ -29,18 +29,6 @@ tip_at (row ∷ rows) node some has =
     let id = λ (id : List ℕ). let made : Node = record { 0 = id } in made in
     sym (ap id (has_id (row ∷ rows) (length (row ∷ rows) - 1) node.0 has))
     ∙ ap (λ (r : ℕ). id (id_at (row ∷ rows) r)) last
-
-pub begun_none : (rows : List Changeset) (key : List ℕ) → (length key == 0) ≡ true → Unknown ≡ begun_by rows key
-begun_none rows [] none = refl
-begun_none rows (byte ∷ bytes) none = absurd (omega (arith, eqb-true (length (byte ∷ bytes)) 0 none))
-
-true_false : true ≡ false → ⊥
-true_false e = cc
-
-pub begun_some : (rows : List Changeset) (key : List ℕ) → (length key == 0) ≡ false
-    → one_of (filter (is_begun key) rows) ≡ begun_by rows key
-begun_some rows [] some = absurd (true_false some)
-begun_some rows (byte ∷ bytes) some = refl
 
 no_row : (rows : List Changeset) → Unknown ≡ one_of rows → rows ≡ []
 no_row [] e = refl

@@ -5,7 +5,7 @@ use Rattle.std.specs.List.{slice_split, before_first, flat_map, join_with_byte}
 use Rattle.hg_wireproto.specs.declared.form.Field.{Field}
 use Rattle.hg_wireproto.specs.declared.batch.BatchCommand.{BatchCommand}
 use Rattle.hg_wireproto.specs.Text.{behind_first}
-use Rattle.hg_wireproto.specs.Form.{is_equals}
+use Rattle.hg_wireproto.specs.Form.{fields_by}
 
 -- the byte between commands
 abbrev pub is_semicolon : ℕ → Bool
@@ -61,21 +61,9 @@ unescaped (b ∷ letter ∷ rest) =
     if b == 58 then unescape_by b letter (byte_of letter) (unescaped (letter ∷ rest)) (unescaped rest)
     else b ∷ unescaped (letter ∷ rest)
 
--- an argument: the name ends at the first `=`, and the value stands after it; without one it is empty
-unfoldable pub argument_of : {A : Type 0} → List ℕ → Field A
-argument_of piece = record {
-  name = unescaped (before_first is_equals piece);
-  value = unescaped (unwrap_or (behind_first is_equals piece) []);
-}
-
--- an empty piece is no argument
-abbrev pub arguments_in : {A : Type 0} → List ℕ → List (Field A)
-arguments_in [] = []
-arguments_in (byte ∷ bytes) = argument_of (byte ∷ bytes) ∷ []
-
--- arguments stand between `,`
+-- arguments are fields that stand between `,`
 unfoldable pub arguments_of : {A : Type 0} → List ℕ → List (Field A)
-arguments_of text = flat_map arguments_in (slice_split is_comma text)
+arguments_of text = flat_map (fields_by unescaped) (slice_split is_comma text)
 
 -- a command: its name ends at the first space, and its arguments stand after it
 unfoldable pub command_of : {A : Type 0} → List ℕ → BatchCommand A

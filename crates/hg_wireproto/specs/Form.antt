@@ -22,21 +22,22 @@ spaced b = if b == 43 then 32 else b
 unfoldable pub plain_of : List ℕ → List ℕ
 plain_of text = percent_decode (map spaced text)
 
--- the name ends at the first `=`, and the value stands after it; without one it is empty
-unfoldable pub field_of : {A : Type 0} → List ℕ → Field A
-field_of piece = record {
-  name = plain_of (before_first is_equals piece);
-  value = plain_of (unwrap_or (behind_first is_equals piece) []);
+-- a piece, whose parts are read so: the name ends at the first `=`, and the value stands after it; without one it is
+-- empty
+abbrev pub field_by : {A : Type 0} → (List ℕ → List ℕ) → List ℕ → Field A
+field_by read piece = record {
+  name = read (before_first is_equals piece);
+  value = read (unwrap_or (behind_first is_equals piece) []);
 }
 
 -- an empty piece is no field
-abbrev pub fields_in : {A : Type 0} → List ℕ → List (Field A)
-fields_in [] = []
-fields_in (byte ∷ bytes) = field_of (byte ∷ bytes) ∷ []
+abbrev pub fields_by : {A : Type 0} → (List ℕ → List ℕ) → List ℕ → List (Field A)
+fields_by read [] = []
+fields_by read (byte ∷ bytes) = field_by read (byte ∷ bytes) ∷ []
 
 -- the fields of a form, in order
 unfoldable pub fields_of : {A : Type 0} → List ℕ → List (Field A)
-fields_of text = flat_map fields_in (slice_split is_ampersand text)
+fields_of text = flat_map (fields_by plain_of) (slice_split is_ampersand text)
 
 -- the values of that name, in order
 abbrev pub values_in : {A : Type 0} → List (Field A) → List ℕ → List (List ℕ)

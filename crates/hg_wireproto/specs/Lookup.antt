@@ -1,7 +1,7 @@
 -- What a key names: a changeset, or nothing, and what is printed of it.
-use Rattle.std.specs.Prelude.{ℕ, ◌==◌, nat_eq, Bool, ◌||◌, List, [], ◌∷◌, ◌++◌, length, map, filter}
-use Rattle.std.specs.Prelude.{Option, Some, None, codes, bytes_eq, if◌then◌else◌}
-use Rattle.std.specs.List.{starts_with}
+use Rattle.std.specs.Prelude.{ℕ, ◌==◌, nat_eq, nat_le, nat_lt, Bool, ◌&&◌, ◌||◌, not, List, [], ◌∷◌, ◌++◌, length, map}
+use Rattle.std.specs.Prelude.{filter, Option, Some, None, is_some, codes, bytes_eq, if◌then◌else◌}
+use Rattle.std.specs.List.{list_all, starts_with}
 use Rattle.hex.specs.Hex.{encode_lower}
 use Rattle.hg_types.specs.declared.node.Node.{Node}
 use Rattle.hg_types.specs.NullId.{null_id}
@@ -28,10 +28,17 @@ one_of [] = Unknown
 one_of (row ∷ []) = Id (record { 0 = row.node })
 one_of (row ∷ other ∷ rows) = Ambiguous
 
--- the changeset that a key begins; the empty key begins none
+-- a lower-case hexadecimal digit
+abbrev pub is_lower_digit : ℕ → Bool
+is_lower_digit b = (nat_le 48 b && nat_le b 57) || (nat_le 97 b && nat_le b 102)
+
+-- a beginning of digits: some of them, and not all 40
+unfoldable pub is_beginning : List ℕ → Bool
+is_beginning key = nat_lt 0 (length key) && nat_lt (length key) 40 && list_all is_lower_digit key
+
+-- the changeset that a key begins
 abbrev pub begun_by : List Changeset → List ℕ → Resolved
-begun_by rows [] = Unknown
-begun_by rows (byte ∷ bytes) = one_of (filter (is_begun (byte ∷ bytes)) rows)
+begun_by rows key = if is_beginning key then one_of (filter (is_begun key) rows) else Unknown
 
 -- the id that 40 digits are, where it is null or that of a changeset
 abbrev pub known_of : List Changeset → Option Node → Option Node
@@ -60,6 +67,14 @@ lookup_line key (Id node) = codes "1 " ++ (encode_lower node.0 ++ 10 ∷ [])
 lookup_line key Ambiguous = codes "0 ambiguous identifier" ++ 10 ∷ []
 lookup_line key Unknown =
     codes "0 unknown revision '" ++ (map without_line_feed key ++ (codes "'" ++ 10 ∷ []))
+
+-- only the ids say what a key names: it is a beginning, and no bookmark
+abbrev pub is_left_to_ids : Pairs → List ℕ → Bool
+is_left_to_ids pairs key = is_beginning key && not (is_some (node_of pairs key))
+
+-- what a client gets for such a key
+unfoldable pub begun_text : List Changeset → List ℕ → List ℕ
+begun_text rows key = lookup_line key (begun_by rows key)
 
 -- what a client gets for a key
 unfoldable pub lookup_text : List Changeset → Pairs → List ℕ → List ℕ

@@ -4,4 +4,6 @@ pub mod Branches
 pub mod Viewed
 pub mod Covered
 pub mod HeadIds
+pub mod Ids
 pub mod Kept
+pub mod Spellings

@@ -2,11 +2,10 @@
 
 ghost use Rattle.std.specs.Prelude.{◌≡◌, ◌<◌, ◌≤◌, ◌++◌, ◌∷◌, drop, length, IfOk, OnOk};
 ghost use Rattle.std.specs.List.{list_any, position};
-ghost use Rattle.hg_wireproto.specs.Batch.{answers_joined, argument_of, arguments_in, arguments_of};
-ghost use Rattle.hg_wireproto.specs.Batch.{byte_of as byte_for, command_of, commands_of, escaped};
+ghost use Rattle.hg_wireproto.specs.Batch.{answers_joined, byte_of as byte_for, command_of, commands_of, escaped};
 ghost use Rattle.hg_wireproto.specs.Batch.{letter_of as letter_for, needs_escape, unescaped};
 
-use crate::form::Field;
+use crate::form::{Field, Spelling, read_fields};
 use crate::text::{joined, pieces, split_once};
 use hg_types::{NoMemory, Seq};
 use std::alloc::{Allocator, Global};
@@ -44,42 +43,9 @@ fn read_command<A: Allocator + Copy>(alloc: A, piece: &[u8]) -> Result<BatchComm
 {
     let (name, arguments) = split_once(piece, b' ');
     let name = Seq::copy_of(alloc, name)?;
-    let arguments = read_arguments(alloc, arguments.unwrap_or(b"".as_slice()))?;
+    let arguments = arguments.unwrap_or(b"".as_slice());
+    let arguments = read_fields(alloc, Spelling::Batch, arguments)?;
     Ok(BatchCommand { name, arguments })
-}
-
-fn read_arguments<A: Allocator + Copy>(alloc: A, text: &[u8]) -> Result<Seq<Field<A>, A>, NoMemory>
-    ensures { IfOk result (λ fields. fields ≡ arguments_of text.now) }
-{
-    let pieces = pieces(alloc, text, b',')?;
-    let mut fields = Seq::new(alloc);
-    for piece in &pieces {
-        push_argument(alloc, &mut fields, piece)?;
-    }
-    Ok(fields)
-}
-
-/// Adds the argument of a piece, unless the piece is empty.
-fn push_argument<A: Allocator + Copy>(
-    alloc: A,
-    fields: &mut Seq<Field<A>, A>,
-    piece: &[u8],
-) -> Result<(), NoMemory>
-    ensures { OnOk result (fields.new ≡ fields.old ++ arguments_in piece.now) }
-{
-    if !piece.is_empty() {
-        fields.push(read_argument(alloc, piece)?)?;
-    }
-    Ok(())
-}
-
-fn read_argument<A: Allocator + Copy>(alloc: A, piece: &[u8]) -> Result<Field<A>, NoMemory>
-    ensures { IfOk result (λ field. field ≡ argument_of piece.now) }
-{
-    let (name, value) = split_once(piece, b'=');
-    let name = unescape(alloc, name)?;
-    let value = unescape(alloc, value.unwrap_or(b"".as_slice()))?;
-    Ok(Field { name, value })
 }
 
 /// The byte that a letter after a `:` stands for.
@@ -109,7 +75,7 @@ fn letter_of(byte: u8) -> Option<u8>
 }
 
 /// A text with bytes for its escapes.
-fn unescape<A: Allocator + Copy>(alloc: A, text: &[u8]) -> Result<Seq<u8, A>, NoMemory>
+pub fn unescape<A: Allocator + Copy>(alloc: A, text: &[u8]) -> Result<Seq<u8, A>, NoMemory>
     ensures { IfOk result (λ bytes. bytes ≡ unescaped text.now) }
 {
     let mut bytes = Vec::new(alloc);

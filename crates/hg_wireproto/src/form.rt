@@ -3,8 +3,10 @@
 ghost use Rattle.std.specs.Prelude.{◌≡◌, ◌++◌, map, IfOk, OnOk};
 ghost use Rattle.std.specs.Option.{option_map};
 ghost use Rattle.std.specs.Str.{bytes_eq};
-ghost use Rattle.hg_wireproto.specs.Form.{field_of, fields_in, fields_of, plain_of, spaced, value_in};
+ghost use Rattle.hg_wireproto.specs.Form.{field_by, fields_by, fields_of, plain_of, spaced, value_in};
+ghost use Rattle.hg_wireproto.specs.code.Spellings.{fields_spelled, separator_of, spelled};
 
+use crate::batch::unescape;
 use crate::text::{pieces, split_once};
 use hg_types::{NoMemory, Seq};
 use percent_encoding::percent_decode;
@@ -17,16 +19,59 @@ pub struct Field<A: Allocator = Global> {
     pub value: Seq<u8, A>,
 }
 
+/// How a text spells fields.
+#[derive(Clone, Copy)]
+pub enum Spelling {
+    /// As a form: they stand between `&`, and `+` and `%XX` stand for bytes.
+    Form,
+    /// As a batch: they stand between `,`, and a `:` with a letter stands for a byte.
+    Batch,
+}
+
+impl Spelling {
+    /// The byte between fields.
+    fn separator(self) -> u8
+        ensures { result ≡ separator_of self }
+    {
+        match self {
+            Spelling::Form => b'&',
+            Spelling::Batch => b',',
+        }
+    }
+
+    /// The bytes that a name or a value stands for.
+    fn read<A: Allocator + Copy>(self, alloc: A, text: &[u8]) -> Result<Seq<u8, A>, NoMemory>
+        ensures { IfOk result (λ bytes. bytes ≡ spelled self text.now) }
+    {
+        match self {
+            Spelling::Form => plain(alloc, text),
+            Spelling::Batch => unescape(alloc, text),
+        }
+    }
+}
+
 /// Reads a form, which is all of the text. Pieces are parted by `&`, and an empty piece is none. The first
 /// `=` parts name and value; where it is lacking the value is empty. In both `+` is a space and `%` with two
 /// hexadecimal digits is a byte; anything else stands for itself.
+#[tactic(auto, unfolding(crate::specs::Form::fields_of))]
 pub fn read_form<A: Allocator + Copy>(alloc: A, text: &[u8]) -> Result<Seq<Field<A>, A>, NoMemory>
     ensures { IfOk result (λ fields. fields ≡ fields_of text.now) }
 {
-    let pieces = pieces(alloc, text, b'&')?;
+    read_fields(alloc, Spelling::Form, text)
+}
+
+/// The fields of a text. An empty piece is none.
+pub fn read_fields<A: Allocator + Copy>(
+    alloc: A,
+    spelling: Spelling,
+    text: &[u8],
+) -> Result<Seq<Field<A>, A>, NoMemory>
+    ensures { IfOk result (λ fields. fields ≡ fields_spelled spelling text.now) }
+{
+    let pieces = pieces(alloc, text, spelling.separator())?;
     let mut fields = Seq::new(alloc);
     for piece in &pieces {
-        push_field(alloc, &mut fields, piece)?;
+        push_field(alloc, spelling, &mut fields, piece)?;
     }
     Ok(fields)
 }
@@ -34,23 +79,28 @@ pub fn read_form<A: Allocator + Copy>(alloc: A, text: &[u8]) -> Result<Seq<Field
 /// Adds the field of a piece, unless the piece is empty.
 fn push_field<A: Allocator + Copy>(
     alloc: A,
+    spelling: Spelling,
     fields: &mut Seq<Field<A>, A>,
     piece: &[u8],
 ) -> Result<(), NoMemory>
-    ensures { OnOk result (fields.new ≡ fields.old ++ fields_in piece.now) }
+    ensures { OnOk result (fields.new ≡ fields.old ++ fields_by (spelled spelling) piece.now) }
 {
     if !piece.is_empty() {
-        fields.push(read_field(alloc, piece)?)?;
+        fields.push(read_field(alloc, spelling, piece)?)?;
     }
     Ok(())
 }
 
-fn read_field<A: Allocator + Copy>(alloc: A, piece: &[u8]) -> Result<Field<A>, NoMemory>
-    ensures { IfOk result (λ field. field ≡ field_of piece.now) }
+fn read_field<A: Allocator + Copy>(
+    alloc: A,
+    spelling: Spelling,
+    piece: &[u8],
+) -> Result<Field<A>, NoMemory>
+    ensures { IfOk result (λ field. field ≡ field_by (spelled spelling) piece.now) }
 {
     let (name, value) = split_once(piece, b'=');
-    let name = plain(alloc, name)?;
-    let value = plain(alloc, value.unwrap_or(b"".as_slice()))?;
+    let name = spelling.read(alloc, name)?;
+    let value = spelling.read(alloc, value.unwrap_or(b"".as_slice()))?;
     Ok(Field { name, value })
 }
 

@@ -3,15 +3,17 @@
 //!
 //! Each text is a function of values that are borrowed: nothing is changed, and the only refusal is out of
 //! memory. [`read_form`] and [`read_batch`] read the two forms of arguments, [`stands_once`] says whether
-//! a form has a name once at most, and [`joined_answers`] writes the answers of a batch. [`heads_text`], [`known_text`], [`listkeys_text`] and [`lookup_text`]
-//! are the bodies of the answers to the commands of those names, and [`capabilities_text`] is a constant. Whatever
-//! bytes are asked, there is an answer. Nothing here starts a thread or waits.
+//! a form has a name once at most, and [`joined_answers`] writes the answers of a batch. [`heads_text`], [`known_text`],
+//! [`listkeys_text`] and [`lookup_text`] are the bodies of the answers to the commands of those names, [`begun_text`] that
+//! to a `lookup` which only ids can answer, and [`capabilities_text`] is a constant. Whatever bytes are asked, there is an
+//! answer. Nothing here starts a thread or waits.
 //!
 //! The commands and their texts are those of Mercurial's `internals.wireprotocol`, "Commands", as a client of its
 //! version 6.3 sends and reads them.
 #![tactic(auto)]
 
 mod batch;
+mod begun;
 mod behind;
 mod branch;
 mod branches;
@@ -23,6 +25,7 @@ mod form;
 mod head_ids;
 mod heads;
 mod hidden;
+mod ids;
 mod kept;
 mod laws;
 mod listkeys;
@@ -34,6 +37,7 @@ mod text;
 mod viewed;
 
 pub use batch::{BatchCommand, joined_answers, read_batch};
+pub use begun::{begun_text, is_beginning};
 pub use branch::branch_of;
 pub use branchmap::branchmap_text;
 pub use capabilities::capabilities_text;
@@ -42,7 +46,7 @@ pub use heads::{heads_text, known_text};
 pub use hidden::hidden_changesets;
 pub use laws::{escapes_are_read_back, forms_are_read_back};
 pub use listkeys::listkeys_text;
-pub use lookup::lookup_text;
+pub use lookup::{is_left_to_ids, lookup_text};
 pub use once::stands_once;
 pub use since::{Seen, Since};
 pub use viewed::BranchView;

@@ -1,15 +1,16 @@
 //! The answer to `lookup`: the changeset that a key names.
 
-ghost use Rattle.std.specs.Prelude.{◌≡◌, [], nat_eq, map, IfOk, filter};
-ghost use Rattle.std.specs.List.{starts_with};
-ghost use Rattle.hex.specs.Hex.{encode_lower};
+ghost use Rattle.std.specs.Prelude.{◌≡◌, List, [], map, IfOk, IsTrue, filter};
+ghost use Rattle.hg_log.specs.Changeset.{Changeset};
 ghost use Rattle.hg_wireproto.specs.Lookup.{begun_by as begins, id_or, is_begun, known_of as known_id};
+ghost use Rattle.hg_wireproto.specs.Lookup.{begun_text as told_begun, is_left_to_ids as left_to_ids};
 ghost use Rattle.hg_wireproto.specs.Lookup.{lookup_line};
 ghost use Rattle.hg_wireproto.specs.Lookup.{lookup_text as told_lookup, named_by, one_of, tip_of as last_of};
 ghost use Rattle.hg_wireproto.specs.Lookup.{without_line_feed};
 ghost use Rattle.hg_wireproto.specs.declared.lookup.Resolved.TheVariants.{Id, Unknown};
 
-use crate::text::{digits_of, node_in_hex, push_id};
+use crate::begun::{begins_digits, is_beginning};
+use crate::text::{node_in_hex, push_id};
 use hg_keys::Bookmarks;
 use hg_log::Changelog;
 use hg_types::{NoMemory, Node, Seq};
@@ -32,8 +33,8 @@ pub enum Resolved {
 /// - a beginning of the lower-case digits of exactly one changeset. Of several it is
 ///   `ambiguous identifier`.
 ///
-/// Any other key, the empty one too, is reported as `unknown revision 'KEY'`, its line feeds as spaces. Only a
-/// beginning costs a pass over the changesets.
+/// Any other key, the empty one too, is reported as `unknown revision 'KEY'`, its line feeds as spaces. Only what
+/// [`is_left_to_ids`] costs a pass over the changesets; `begun_text` says the same of a view, by two look-ups.
 #[tactic(auto, unfolding(crate::specs::Lookup::lookup_text))]
 pub fn lookup_text<A: Allocator + Copy>(
     alloc: A,
@@ -46,8 +47,19 @@ pub fn lookup_text<A: Allocator + Copy>(
     line_of(alloc, key, named_of(log, bookmarks, key))
 }
 
+/// Whether only the ids say what a key names: it is a beginning, and no bookmark. Then `begun_text` is what `lookup` has
+/// to answer.
+pub fn is_left_to_ids<A: Allocator>(bookmarks: &Bookmarks<A>, key: &[u8]) -> bool
+    ensures left { result ≡ left_to_ids bookmarks.now.current key.now }
+    ensures told { IsTrue result → (rows : List Changeset)
+        → told_lookup rows bookmarks.now.current key.now ≡ told_begun rows key.now }
+{
+    is_beginning(key) && bookmarks.get(key).is_none()
+}
+
+/// The line that says what a key names.
 #[tactic(auto, unfolding(crate::specs::Lookup::lookup_line))]
-fn line_of<A: Allocator + Copy>(
+pub fn line_of<A: Allocator + Copy>(
     alloc: A,
     key: &[u8],
     named: Resolved,
@@ -135,10 +147,10 @@ fn tip_of<A: Allocator>(log: &Changelog<A>) -> Node
 fn begun_by<A: Allocator>(log: &Changelog<A>, key: &[u8]) -> Resolved
     ensures { result ≡ begins log.now.rows key.now }
 {
-    if key.is_empty() {
-        return Resolved::Unknown;
+    if is_beginning(key) {
+        return one_begun(log, key);
     }
-    one_begun(log, key)
+    Resolved::Unknown
 }
 
 fn one_begun<A: Allocator>(log: &Changelog<A>, key: &[u8]) -> Resolved
@@ -164,10 +176,4 @@ fn named_as(found: Option<Node>) -> Resolved
         Some(node) => Resolved::Id(node),
         None => Resolved::Unknown,
     }
-}
-
-fn begins_digits(key: &[u8], node: &Node) -> bool
-    ensures { result ≡ starts_with nat_eq (encode_lower node.now.0) key.now }
-{
-    digits_of(node).as_slice().starts_with(key)
 }

@@ -4,10 +4,12 @@ ghost use Rattle.std.specs.Prelude.{◌≡◌, ◌≤◌, [], length, IfOk};
 ghost use Rattle.hg_wireproto.specs.Viewed.{AreSeen, IsBefore};
 ghost use Rattle.hg_wireproto.specs.code.Covered.{AreCovered, AreCoveredTo};
 ghost use Rattle.hg_wireproto.specs.code.HeadIds.{AreHeadIds};
+ghost use Rattle.hg_wireproto.specs.code.Ids.{AreIds};
 
 use crate::copied::Copied;
 use crate::covered::covered_changesets;
 use crate::head_ids::bring_up;
+use crate::ids::add_ids;
 use crate::plain::cover_came;
 use crate::since::{Seen, Since};
 use hg_log::Changelog;
@@ -19,27 +21,29 @@ use std::collections::BTreeSet;
 use std::marker::Model;
 
 /// What is kept of changesets, markers and phases: of each changeset its id, its parents, the name of its branch,
-/// whether it is obsolete, and whether it is a head of its branch; and the ids of all heads, in their order.
-/// Contracts see the changesets, the markers and the phases of which it was made.
+/// whether it is obsolete, and whether it is a head of its branch; and the ids of all heads, and of all changesets, in
+/// their order. Contracts see the changesets, the markers and the phases of which it was made.
 #[derive(Drop)]
 pub struct BranchView<A: Allocator = Global> {
     copied: Copied<A>,
     /// For each changeset, whether it is no head of its branch.
     covered: Vec<bool, A>,
     heads: BTreeSet<Node, A>,
+    ids: BTreeSet<Node, A>,
 }
 
 impl<A: Allocator> Model for BranchView<A> {
     ghost use Rattle.hg_wireproto.specs.Viewed.{Viewed};
     ghost use Rattle.hg_wireproto.specs.code.Covered.{AreCovered};
     ghost use Rattle.hg_wireproto.specs.code.HeadIds.{AreHeadIds};
+    ghost use Rattle.hg_wireproto.specs.code.Ids.{AreIds};
 
     ghost Value = { Viewed A };
 
     ghost view = { λ v. v.copied };
 
     ghost invariant = { λ v. AreCovered v.copied.rows v.copied.markers v.copied.phases v.covered.items
-        × AreHeadIds v.copied.rows v.heads.keys };
+        × AreHeadIds v.copied.rows v.heads.keys × AreIds v.copied.rows v.ids.keys };
 }
 
 impl<A: Allocator + Copy> BranchView<A> {
@@ -75,6 +79,7 @@ impl<A: Allocator> BranchView<A> {
             copied: Copied::new(alloc),
             covered: Vec::new(alloc),
             heads: BTreeSet::new(alloc),
+            ids: BTreeSet::new(alloc),
         }
     }
 
@@ -110,6 +115,7 @@ impl<A: Allocator> BranchView<A> {
             copied,
             covered,
             mut heads,
+            mut ids,
         } = self;
         let first = copied.len();
         let alloc = *covered.allocator();
@@ -122,10 +128,12 @@ impl<A: Allocator> BranchView<A> {
             covered_changesets(alloc, &copied)?
         };
         bring_up(&mut heads, &copied, first)?;
+        add_ids(&mut ids, &copied, first)?;
         Ok(BranchView {
             copied,
             covered,
             heads,
+            ids,
         })
     }
 
@@ -148,6 +156,13 @@ impl<A: Allocator> BranchView<A> {
         ensures { AreHeadIds self.now.rows result.now.keys }
     {
         &self.heads
+    }
+
+    /// The ids of all changesets.
+    pub(crate) fn ids(&self) -> &BTreeSet<Node, A>
+        ensures { AreIds self.now.rows result.now.keys }
+    {
+        &self.ids
     }
 }
 

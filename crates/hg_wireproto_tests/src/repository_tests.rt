@@ -117,7 +117,7 @@ fn a_batch(rt: HostRuntime) -> Result<(), Fail> {
 }
 
 /// Text that is given in pieces.
-fn joined(alloc: Global, pieces: &[&[u8]]) -> Result<Vec<u8>, Fail> {
+pub fn joined(alloc: Global, pieces: &[&[u8]]) -> Result<Vec<u8>, Fail> {
     let mut text = Vec::new(alloc);
     for piece in pieces {
         text.extend_from_slice(piece)?;

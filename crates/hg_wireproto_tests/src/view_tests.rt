@@ -3,6 +3,7 @@
 
 use crate::branch_tests::{Row, counts, ids_of, is_text, is_told, prune_at, put_row, rows};
 use crate::phased::drafts;
+use crate::repository_tests::joined;
 use crate::watched::Watched;
 use hg_help_tests::changelog::put_text;
 use hg_log::{Changelog, node_id};
@@ -140,6 +141,59 @@ fn is_told_by(alloc: Global, view: &BranchView, all: &[Made]) -> Result<bool, Fa
     let heads = heads_by_definition(alloc, all)?;
     let told = is_text(branchmap_text(alloc, view), map.as_slice());
     Ok(is_text(heads_text(alloc, view), heads.as_slice()) && told)
+}
+
+/// The line that a beginning of digits is answered, by the definition.
+fn line_by_definition(alloc: Global, all: &[Made], key: &[u8]) -> Result<Vec<u8>, Fail> {
+    let mut named = Vec::new(alloc);
+    for made in all {
+        let digits = hex::encode(alloc, made.node.0.as_slice())?;
+        if digits.as_str().as_bytes().starts_with(key) {
+            named.push(digits)?;
+        }
+    }
+    match named.as_slice() {
+        [] => joined(alloc, &[b"0 unknown revision '", key, b"'\n"]),
+        [one] => joined(alloc, &[b"1 ", one.as_str().as_bytes(), b"\n"]),
+        _ => Ok(b"0 ambiguous identifier\n".to_vec(alloc)?),
+    }
+}
+
+/// Whether that many digits of an id, and as many with another at their end, name what they do by the definition.
+fn is_begun(
+    alloc: Global,
+    view: &BranchView,
+    all: &[Made],
+    node: Node,
+    count: usize,
+) -> Result<bool, Fail> {
+    let digits = hex::encode(alloc, node.0.as_slice())?;
+    let mut key = digits
+        .as_str()
+        .as_bytes()
+        .get(..count)
+        .ok_or("too few digits")?
+        .to_vec(alloc)?;
+    let line = line_by_definition(alloc, all, key.as_slice())?;
+    let told = is_text(begun_text(alloc, view, key.as_slice()), line.as_slice());
+    let _ = key.pop();
+    key.push(b'7')?;
+    let line = line_by_definition(alloc, all, key.as_slice())?;
+    Ok(told && is_text(begun_text(alloc, view, key.as_slice()), line.as_slice()))
+}
+
+/// Whether beginnings of all ids, of each length in turn, name what they do by the definition.
+fn are_begun(alloc: Global, view: &BranchView, all: &[Made]) -> Result<bool, Fail> {
+    let mut told = true;
+    for (place, made) in all.iter().enumerate() {
+        let count = if place % 2 == 0 {
+            place % 5 + 1
+        } else {
+            place % 39 + 1
+        };
+        told = is_begun(alloc, view, all, made.node, count)? && told;
+    }
+    Ok(told)
 }
 
 /// The text of the changeset of that place.
@@ -308,6 +362,28 @@ fn is_history_told(alloc: Global, state: RandomState, seed: u64) -> Result<bool,
     }
     let last = is_brought_up(alloc, &mut history)?;
     Ok(told && last && is_whole(alloc, &history)?)
+}
+
+#[test]
+fn beginnings_in_random_histories(rt: HostRuntime) -> Result<(), Fail> {
+    let alloc = rt.alloc();
+    let state = RandomState::new(&rt)?;
+    for seed in 0..6u64 {
+        let begun = is_history_begun(alloc, state, seed)?;
+        assert!(rt; begun);
+    }
+    Ok(())
+}
+
+/// Whether beginnings name what they do by the definition, once a history has grown and its view is brought up.
+fn is_history_begun(alloc: Global, state: RandomState, seed: u64) -> Result<bool, Fail> {
+    let mut history = History::new(alloc, state, seed);
+    let mut told = true;
+    for _step in 0..60 {
+        told = is_step_told(alloc, &mut history, seed)? && told;
+    }
+    let last = is_brought_up(alloc, &mut history)?;
+    Ok(told && last && are_begun(alloc, history.watched.view(), history.all.as_slice())?)
 }
 
 /// One step of a history, after which its view may be brought up. Whether it is told then.

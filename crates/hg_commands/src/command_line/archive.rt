@@ -1,9 +1,10 @@
-//! The words after `report`, `log` and `cut`, the commands that look at a store or end it.
+//! The words after `report`, `log`, `cut` and `upgrade`, the commands that look at a store, end it, or write it anew.
 
 use crate::command_line::command::Job;
 use crate::command_line::options::{CommandRow, Kind, OptionRow, STORE, word_of};
 use clap::ArgMatches;
 use clap::builder::ValueParser;
+use hg_store_tools::BundleForm;
 
 /// The command `report`.
 pub const REPORT: CommandRow<'static> = CommandRow {
@@ -36,6 +37,14 @@ pub const LOG: CommandRow<'static> = CommandRow {
             default: &[],
             help: "Where each push gets a file of its own, named by its place; made if it is not there",
         },
+        OptionRow {
+            name: "canonical",
+            kind: Kind::Flag,
+            value: "",
+            is_required: false,
+            default: &[],
+            help: "Each push with nothing in it but what may change a repository",
+        },
     ],
 };
 
@@ -57,6 +66,14 @@ pub const CUT: CommandRow<'static> = CommandRow {
     ],
 };
 
+/// The command `upgrade`.
+pub const UPGRADE: CommandRow<'static> = CommandRow {
+    name: "upgrade",
+    about: "Writes a store of version 1 as one of version 2, and keeps the old one beside it",
+    after: "Example: hg_pushd upgrade --store /var/lib/deqtorap/store",
+    options: &[STORE],
+};
+
 /// The number of a push in its store.
 const PLACE: Kind = Kind::Number(ValueParser::Unsigned(0, u64::MAX));
 
@@ -72,6 +89,7 @@ pub fn read_log<'a>(matches: &ArgMatches<'a>) -> Job<'a> {
     Job::Log {
         store: word_of(matches, "store"),
         from: place_of(matches, "from"),
+        form: form_of(matches),
         to: matches.get_str("to"),
     }
 }
@@ -81,6 +99,22 @@ pub fn read_cut<'a>(matches: &ArgMatches<'a>) -> Job<'a> {
     Job::Cut {
         store: word_of(matches, "store"),
         at: place_of(matches, "at"),
+    }
+}
+
+/// The form of bundles that the options name.
+fn form_of(matches: &ArgMatches<'_>) -> BundleForm {
+    if matches.get_flag("canonical") {
+        BundleForm::Canonical
+    } else {
+        BundleForm::Stored
+    }
+}
+
+/// Reads what stands after `upgrade`.
+pub fn read_upgrade<'a>(matches: &ArgMatches<'a>) -> Job<'a> {
+    Job::Upgrade {
+        store: word_of(matches, "store"),
     }
 }
 

@@ -1,11 +1,14 @@
 //! The command line.
 
-use crate::command_line::archive::{CUT, LOG, REPORT, read_cut, read_log, read_report};
+use crate::command_line::archive::{
+    CUT, LOG, REPORT, UPGRADE, read_cut, read_log, read_report, read_upgrade,
+};
 use crate::command_line::hosting::{HOST, Hosting, read_hosting};
 use crate::command_line::options::{CommandRow, Kind, OptionRow, PUBLISHING, command_of};
 use crate::command_line::serving::{SERVE, Serving, read_serving};
 use clap::error::ErrorKind;
 use clap::{ArgMatches, Command, Error};
+use hg_store_tools::BundleForm;
 use std::alloc::{AllocError, Global};
 use std::io;
 
@@ -29,16 +32,21 @@ pub enum Job<'a> {
     Report {
         store: &'a str,
     },
-    /// The bundles of a store from a place on, to standard output or each to a file of its own.
+    /// The bundles of a store from a place on in that form, to standard output or each to a file of its own.
     Log {
         store: &'a str,
         from: usize,
+        form: BundleForm,
         to: Option<&'a str>,
     },
     /// The end of a store before a place.
     Cut {
         store: &'a str,
         at: usize,
+    },
+    /// A store of version 1 that is written as one of version 2.
+    Upgrade {
+        store: &'a str,
     },
 }
 
@@ -69,7 +77,7 @@ const REPLAY: CommandRow<'static> = CommandRow {
 };
 
 /// The commands, in the order in which help has them.
-const COMMANDS: [CommandRow<'static>; 7] = [ONE, REPLAY, SERVE, HOST, REPORT, LOG, CUT];
+const COMMANDS: [CommandRow<'static>; 8] = [ONE, REPLAY, SERVE, HOST, REPORT, LOG, CUT, UPGRADE];
 
 /// How the program ends.
 const STATUSES: &str =
@@ -132,6 +140,7 @@ fn read_command<'a>(
         "report" => Ok(read_report(inner)),
         "log" => Ok(read_log(inner)),
         "cut" => Ok(read_cut(inner)),
+        "upgrade" => Ok(read_upgrade(inner)),
         _ => Ok(read_one(inner)),
     }
 }

@@ -28,6 +28,8 @@ pub struct Hosting<'a> {
     pub name: Option<&'a str>,
     /// What is told behind the capabilities.
     pub also: Option<&'a str>,
+    /// The field of a request that says who pushes, if one is believed.
+    pub user_header: Option<&'a str>,
     /// Where who pulls is sent on to.
     pub pull: Option<&'a str>,
     /// Whether the store has to be there.
@@ -52,6 +54,9 @@ impl Hosting<'_> {
         if self.also.is_some_and(|also| !is_line(also)) {
             return Some("--also is one line of text");
         }
+        if self.user_header.is_some_and(|field| !is_field(field)) {
+            return Some("--user-header is the name of a field: letters, digits, - and _");
+        }
         None
     }
 }
@@ -65,6 +70,12 @@ fn is_path(path: &str) -> bool {
 /// Whether it is a text of one line.
 fn is_line(text: &str) -> bool {
     !text.is_empty() && text.bytes().all(|byte| byte >= b' ' && byte != 127)
+}
+
+/// Whether it may be the name of a field of a request.
+fn is_field(name: &str) -> bool {
+    !name.is_empty()
+        && name.bytes().all(|byte| byte.is_ascii_alphanumeric() || byte == b'-' || byte == b'_')
 }
 
 /// An example.
@@ -143,6 +154,14 @@ pub const HOST: CommandRow<'static> = CommandRow {
             help: "What is told behind the capabilities",
         },
         OptionRow {
+            name: "user-header",
+            kind: Kind::Word,
+            value: "NAME",
+            is_required: false,
+            default: &[],
+            help: "The field that says who pushes, as the proxy sets it; else none is believed",
+        },
+        OptionRow {
             name: "pull",
             kind: Kind::Word,
             value: "URL",
@@ -198,6 +217,7 @@ pub fn read_hosting<'a>(matches: &ArgMatches<'a>) -> Hosting<'a> {
         path: word_of(matches, "path"),
         name: matches.get_str("name"),
         also: matches.get_str("also"),
+        user_header: matches.get_str("user-header"),
         pull: matches.get_str("pull"),
         existing: matches.get_flag("existing"),
         hook: matches.get_str("hook"),

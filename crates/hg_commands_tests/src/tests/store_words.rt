@@ -3,6 +3,7 @@
 use super::words::{refused, spoken};
 use super::*;
 use hg_commands::{Hosting, Job, job_of};
+use hg_store_tools::BundleForm;
 use std::alloc::Global;
 
 /// What `host --store S` asks for: each option at its default.
@@ -17,6 +18,7 @@ const DEFAULTS: Hosting<'static> = Hosting {
     path: "/",
     name: None,
     also: None,
+    user_header: None,
     pull: None,
     existing: false,
     hook: None,
@@ -43,6 +45,7 @@ fn is_same(one: &Hosting<'_>, other: &Hosting<'_>) -> bool {
         && is_same_word(Some(one.path), Some(other.path))
         && is_same_word(one.name, other.name)
         && is_same_word(one.also, other.also)
+        && is_same_word(one.user_header, other.user_header)
         && is_same_word(one.pull, other.pull)
         && one.existing == other.existing
         && is_same_word(one.hook, other.hook)
@@ -66,7 +69,7 @@ fn asks_host(alloc: Global, more: &[&str], wanted: &Hosting<'_>) -> Result<bool,
 fn words_that_ask_for_a_host(rt: HostRuntime) -> Result<(), Fail> {
     let alloc = rt.alloc();
     assert!(rt; asks_host(alloc, &[], &DEFAULTS)?);
-    let rows: [(&[&str], Hosting<'_>); 11] = [
+    let rows: [(&[&str], Hosting<'_>); 12] = [
         (
             &["--listen", "[::1]:80"],
             Hosting {
@@ -106,6 +109,13 @@ fn words_that_ask_for_a_host(rt: HostRuntime) -> Result<(), Fail> {
             &["--also", "stream bundles=1%2C2"],
             Hosting {
                 also: Some("stream bundles=1%2C2"),
+                ..DEFAULTS
+            },
+        ),
+        (
+            &["--user-header", "X-Remote-User"],
+            Hosting {
+                user_header: Some("X-Remote-User"),
                 ..DEFAULTS
             },
         ),
@@ -231,7 +241,7 @@ fn numbers_of_a_host(rt: HostRuntime) -> Result<(), Fail> {
 /// and texts that are empty or have more than one line.
 #[test]
 fn words_that_host_refuses(rt: HostRuntime) -> Result<(), Fail> {
-    let cases: [&[&str]; 27] = [
+    let cases: [&[&str]; 30] = [
         &["host"],
         &["host", "--store"],
         &["host", "--store", "S", "more"],
@@ -256,6 +266,9 @@ fn words_that_host_refuses(rt: HostRuntime) -> Result<(), Fail> {
         &["host", "--store", "S", "--name", "a\nb"],
         &["host", "--store", "S", "--also", ""],
         &["host", "--store", "S", "--also", "a\r\nb"],
+        &["host", "--store", "S", "--user-header", ""],
+        &["host", "--store", "S", "--user-header", "a b"],
+        &["host", "--store", "S", "--user-header", "x-us\u{e9}r"],
         &["host", "--store", "S", "--hook"],
         &["host", "--store", "S", "--hook-wait", "0"],
         &["host", "--store", "S", "--hook-wait", "3601"],
@@ -275,19 +288,40 @@ fn asks_report(alloc: Global, words: &[&str]) -> Result<bool, Fail> {
     })
 }
 
-/// Whether the words ask for the log of the store `S` from that place on, to that folder.
+/// Whether the words ask for the log of the store `S` from that place on, in that form, to that folder.
+fn asks_log_as(
+    alloc: Global,
+    words: &[&str],
+    first: usize,
+    wanted: BundleForm,
+    folder: Option<&str>,
+) -> Result<bool, Fail> {
+    Ok(match job_of(alloc, &spoken(alloc, words)?) {
+        Ok(
+            Job::Log {
+                store,
+                from,
+                form,
+                to,
+            },
+        ) => {
+            is_same_word(Some(store), Some("S"))
+                && from == first
+                && form == wanted
+                && is_same_word(to, folder)
+        }
+        _ => false,
+    })
+}
+
+/// The same of bundles as they are stored.
 fn asks_log(
     alloc: Global,
     words: &[&str],
     first: usize,
     folder: Option<&str>,
 ) -> Result<bool, Fail> {
-    Ok(match job_of(alloc, &spoken(alloc, words)?) {
-        Ok(Job::Log { store, from, to }) => {
-            is_same_word(Some(store), Some("S")) && from == first && is_same_word(to, folder)
-        }
-        _ => false,
-    })
+    asks_log_as(alloc, words, first, BundleForm::Stored, folder)
 }
 
 /// Whether the words ask for a cut of the store `S` before that place.
@@ -320,6 +354,15 @@ fn words_that_look_at_a_store(rt: HostRuntime) -> Result<(), Fail> {
             alloc,
             &["log", "--store", "S", "--from", "3", "--to", "F"],
             3,
+            Some("F")
+        )?
+    );
+    assert!(rt;
+        asks_log_as(
+            alloc,
+            &["log", "--store", "S", "--canonical", "--to", "F"],
+            0,
+            BundleForm::Canonical,
             Some("F")
         )?
     );

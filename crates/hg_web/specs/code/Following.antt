@@ -6,7 +6,7 @@ use Rattle.http_server.specs.declared.response.Response.{Response}
 use Rattle.http_server.specs.declared.state.Config.{Config}
 use Rattle.http_server.specs.declared.state.State.TheVariants.{Aborted, Open}
 use Rattle.http_server.specs.Exchange.{Chain}
-use Rattle.http_server.specs.History.{History, IsServed}
+use Rattle.http_server.specs.History.{History, IsDone, IsServed}
 use Rattle.hg_http.specs.declared.follow.Follower.{Follower}
 use Rattle.hg_http.specs.Following.{AreRequests, FollowsAt, KeepsUp, limits_of}
 use Rattle.hg_web.specs.declared.serve.Stretch.{Stretch}
@@ -76,7 +76,7 @@ abbrev pub EndsStretch : {V E : Type 0} → Config → (V → Asked (List ℕ) �
     Option (List ℕ) → Option (List ℕ) → Option (List ℕ) → Option (List ℕ) → Follower → Result Stretch E → Type 0
 EndsStretch config answers old new input left out sent f (Ok Done) =
     (h : History) × ∥ IsServed config h ∥₁ × Went answers old new input left out sent h []
-    × (h.state ≢ Aborted)
+    × (h.state ≢ Aborted) × IsDone h
 EndsStretch config answers old new input left out sent f (Ok (Refused is_whole)) =
     (h : History) × ∥ IsServed config h ∥₁
     × ((dropped : List ℕ) × Went answers old new input left out sent h dropped × Waits config h dropped is_whole f)

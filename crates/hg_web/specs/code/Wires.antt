@@ -2,7 +2,7 @@
 use Rattle.std.specs.Prelude.{ℕ, List, [], ◌∷◌, Option, Some, None}
 use Rattle.hg_commit.specs.Clients.{KeptSeen}
 use Rattle.hg_commit.specs.Orders.{no_receipt}
-use Rattle.hg_hook.specs.Policies.{Asked}
+use Rattle.hg_http.specs.Policies.{Asked}
 
 abbrev pub nothing_seen : {A : Type 0} → KeptSeen A
 nothing_seen = record { history = []; receipt = no_receipt }

@@ -148,6 +148,7 @@ fn converse_thrice<J: Storing<A>, A: Allocator + Copy, R: RandomSource + Wait + 
         shown: &Words,
         budget: &budget,
         address: ANYWHERE,
+        user: None,
         pull: None,
         also: None,
         stored: 0,

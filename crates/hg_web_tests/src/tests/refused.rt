@@ -525,9 +525,11 @@ fn pushes_that_may_not_run(rt: HostRuntime) {
         left.told.starts_with(joined(&rt, alloc, &[NOT_TODAY, NOT_TODAY, NOT_FORCED]).as_slice())
     );
     assert_eq!(rt; left.asked, 2);
+    assert_eq!(rt; left.tally.denied, 2);
     assert_eq!(rt; left.journal, 0);
     assert_eq!(rt; left.kept, 0);
     let left = served(&rt, alloc, &[asked.as_slice()], PLAIN);
     assert_eq!(rt; left.asked, 2);
+    assert_eq!(rt; left.tally.denied, 0);
     assert_eq!(rt; left.journal, 2);
 }

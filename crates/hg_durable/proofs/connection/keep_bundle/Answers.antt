@@ -1,5 +1,5 @@
 use Rattle.std.proofs.Common.{ℕ, ◌≡◌, ◌≤◌, ◌-◌, List, Option, refl, sym, ◌∙◌, ap, subst}
-use Rattle.std.specs.Prelude.{IfSome}
+use Rattle.std.specs.Prelude.{IfSome, option_to_list}
 use Rattle.hg_types.specs.declared.item.Taken.{Taken}
 use Rattle.hg_push.specs.Places.{RestsOn}
 use Rattle.hg_push.specs.Run.{run_push}
@@ -9,9 +9,10 @@ use Rattle.hg_commit.specs.Clients.{KeptSeen}
 use Rattle.hg_commit.specs.Orders.{HasGrown, ReceiptView}
 use Rattle.hg_commit.specs.Records.{IsRecordOf}
 use Rattle.hg_connection.proofs.CallerLemmas.{bundle_reply_short}
-use Rattle.hg_durable.specs.Kept.{KeptExchange}
-use Rattle.hg_durable.proofs.Exchanges.{answered, client_of, granted, handed, kept_on, kept_or_not, may_be_told, recorded, rested}
+use Rattle.hg_durable.specs.Kept.{IsKeptOrNot, KeptExchange, record_of}
+use Rattle.hg_durable.proofs.Exchanges.{answered, client_of, granted, handed, hands_in, kept_on, kept_or_not, may_be_told, recorded, rested}
 use Rattle.hg_durable.proofs.connection.keep_bundle.Goals as goal
+use Rattle.hg_store.specs.Entries.{Entry}
 
 pub keep-kept-requires-clause-bundle : goal.keep-kept-requires-clause-bundle
 keep-kept-requires-clause-bundle g c =
@@ -24,12 +25,12 @@ keep-kept-requires-clause-bundle g c =
     let rests = c.answer_resting-answer.result.1 in
     let seen : after ≡ c.of-client.result.history = sym (ap (λ (v : KeptSeen g.row.A.Denot). v.history)
     c.of-client.ensures) in
-    subst (λ (y : Option (List ℕ) × List (Taken g.row.A.Denot)). IfSome y.0 (λ bytes. (1 ≤ rests)
-    × IsRecordOf first y.1 (rests - 1) bytes)) (λ i. (sym c.record_of-record.ensures i, seen i))
+    subst (λ (y : Option Entry × List (Taken g.row.A.Denot)). IfSome y.0 (λ entry. (1 ≤ rests)
+    × IsRecordOf first y.1 (rests - 1) entry)) (λ i. (sym c.record_of-record.ensures i, seen i))
     (handed server g.J.Naming.capacity first c.args.inbox.now c.receive_kept-ending.new.inbox _ _
     c.opened.inside.sender c.receive_kept-ending.new.sender c.receive_kept-ending.result
     (g.K.Keep.kept c.receive_kept-ending.new.kept) c.mark-ended.result c.answer_resting-answer.result.0.takes after
-    rests r m c.limits-limits.ensures.first c.answer_resting-answer.result.0.outcome a.answers a.rests)
+    rests r m c.limits-limits.ensures.first c.answer_resting-answer.result.0.outcome a.answers a.rests c.args.stamp)
 
 pub returns-clause-kept : goal.returns-clause-kept
 returns-clause-kept g c =
@@ -47,7 +48,7 @@ returns-clause-kept g c =
     let after : KeptSeen g.row.A.Denot = client_of c.keep-kept.result in
     let e = c.mark-ended.result in
     let gets = granted g.D.Device.seen g.D.Device.may_leave g.D.Device.moment g.J.Storing.head g.J.Storing.stored first
-    client rests c.keep-kept.result k.kept k.failed in
+    client rests (option_to_list c.record_of-record.result) c.keep-kept.result k.kept k.failed in
     let seen : c.answer_resting-answer.result.2 ≡ after.history = sym (gets.same
     ∙ ap (λ (v : KeptSeen g.row.A.Denot). v.history) c.of-client.ensures) in
     let receipt = ap (λ (v : KeptSeen g.row.A.Denot). v.receipt) c.of-client.ensures in
@@ -68,11 +69,13 @@ returns-clause-kept g c =
       how = how;
       takes = takes;
       rests = rests;
+      handed = option_to_list (record_of how (record { stamp = c.args.stamp; bundle = r.is.bundle.consumed }));
       after = after;
     } in (
       x,
-      kept_on server capacity first c.args.inbox.now c.receive_kept-ending.new.inbox _ _ _ c.args.opened x
+      kept_on server capacity first c.args.inbox.now c.receive_kept-ending.new.inbox _ _ _ c.args.opened c.args.stamp x
           c.opened.view_is (record {
+            hands_in = refl;
             is = record {
               received = r.is.bundle.received;
               fresh = c.opened.invariant.1;
@@ -84,7 +87,7 @@ returns-clause-kept g c =
               recorded = recorded server capacity first c.args.inbox.now c.receive_kept-ending.new.inbox
                   _ _ c.opened.inside.sender c.receive_kept-ending.new.sender c.receive_kept-ending.result
                   (g.K.Keep.kept c.receive_kept-ending.new.kept) e takes after.history rests r m
-                  c.limits-limits.ensures.first how answers on;
+                  c.limits-limits.ensures.first how answers on c.args.stamp;
               grows = subst (λ (v : ReceiptView). HasGrown v after.receipt) receipt gets.grows;
               came = gets.came ∙ ap (λ (v : ReceiptView). v.came) receipt;
               short = bundle_reply_short c.replies_are_short.ensures.done c.replies_are_short.ensures.aborted
@@ -108,8 +111,14 @@ returns-clause-kept g c =
         how_is = refl;
         takes_are = refl;
         rests_are = refl;
-        kept_is = kept_or_not g.D.Device.seen g.D.Device.may_leave g.D.Device.moment g.J.Storing.head
-            g.J.Storing.stored first client rests c.keep-kept.result k.kept;
+        kept_is = subst (λ (entries : List Entry). IsKeptOrNot g.D.Device.seen g.D.Device.may_leave g.D.Device.moment
+            g.J.Storing.head g.J.Storing.stored first after rests entries c.keep-kept.result)
+            (ap option_to_list (c.record_of-record.ensures ∙ hands_in server capacity first c.args.inbox.now
+            c.receive_kept-ending.new.inbox _ _ c.opened.inside.sender c.receive_kept-ending.new.sender
+            c.receive_kept-ending.result (g.K.Keep.kept c.receive_kept-ending.new.kept) e takes
+            c.answer_resting-answer.result.2 rests r m c.limits-limits.ensures.first how a.answers c.args.stamp))
+            (kept_or_not g.D.Device.seen g.D.Device.may_leave g.D.Device.moment g.J.Storing.head
+            g.J.Storing.stored first client rests (option_to_list c.record_of-record.result) c.keep-kept.result k.kept);
       },
     )
 

@@ -9,7 +9,7 @@ ghosts-host_named-J-Naming g a =
 abbrev pub ghosts-host_named-J-Storing : goal.ghosts-host_named-J-Storing
 ghosts-host_named-J-Storing g a =
     record {
-      head = head_of a.recovered.publishing;
+      head = head_of a.recovered.publishing a.recovered.identity;
       stored = records_of a.recovered.records.items;
       opened = g.D.Device.moment a.recovered.log.device;
       tally = a.tally.id;

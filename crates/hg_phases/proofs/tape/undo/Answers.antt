@@ -9,15 +9,15 @@ use Rattle.hg_phases.proofs.tape.undo.Goals as goal
 
 pub back-preserved : goal.back-preserved
 back-preserved g c =
-    let rows = c.back.rows.items in
+    let rows = c.back.rows in
     let rest = c.pop.new.self.items in
     let change = c.in-Some.change in
     let popped = c.in-Some.ensures.items in
-    let all = All-pop (λ (r : Replaced). r.row < length c.args.rows.now.items) c.back.left.items rest
+    let all = All-pop (λ (r : Replaced). r.row < length c.args.rows.now) c.back.left.items rest
     (Some change) popped c.back.invariant.within in
-    record {
+    rw c.set.ensures (record {
       len = length-set rows change.row change.standing ∙ c.back.invariant.len;
       within = all.0;
       rest = sym (undone_push rest change rows) ∙ ap (λ ks. undone ks rows) (sym popped)
           ∙ c.back.invariant.rest;
-    }
+    })

@@ -5,9 +5,9 @@ use Rattle.hg_phases.proofs.tape.undo.Given as goal
 
 abbrev pub invariant-back : goal.invariant-back
 invariant-back g l = record {
-  len : length l.rows.items ≡ length l.initial.rows.items;
-  within : All (λ change. change.row < length l.initial.rows.items) l.left.items;
-  rest : undone l.left.items l.rows.items ≡ undone l.initial.left.items l.initial.rows.items;
+  len : length l.rows ≡ length l.initial.rows;
+  within : All (λ change. change.row < length l.initial.rows) l.left.items;
+  rest : undone l.left.items l.rows ≡ undone l.initial.left.items l.initial.rows;
 }
 
 abbrev pub decreases-back : goal.decreases-back

@@ -11,7 +11,7 @@ returns-in-Ended-clause-ok g c =
     (sym c.state.ensures ∙ c.in-Ended.is) c.feed.ensures.limits
 
 pub returns-then-count-bytes-clause-err : goal.returns-then-count-bytes-clause-err
-returns-then-count-bytes-clause-err g c = λ repo. (
+returns-then-count-bytes-clause-err g c = (
   refl,
   unended_lem c.args.bundle.now c.feed.new.self (c.streams_have_one_verdict.ensures _)
       c.feed.ensures.limits c.args.bytes.now c.in-Ok.count (c.in-Ok.ensures.ok [] [] c.requires.empty)
@@ -22,7 +22,7 @@ returns-then-count-bytes-clause-err g c = λ repo. (
 pub returns-in_default : goal.returns-in_default
 returns-in_default g c = record {
   ok = tt;
-  err = λ repo. (
+  err = (
     refl,
     unended_lem c.args.bundle.now c.feed.new.self (c.streams_have_one_verdict.ensures _)
         c.feed.ensures.limits c.args.bytes.now c.in-Ok.count (c.in-Ok.ensures.ok [] [] c.requires.empty)
@@ -33,11 +33,11 @@ returns-in_default g c = record {
 }
 
 pub returns-in-Err-clause-err : goal.returns-in-Err-clause-err
-returns-in-Err-clause-err g c = λ repo.
+returns-in-Err-clause-err g c =
     let at = c.in-Err.ensures.err in
     told_lem c.args.bundle.now c.feed.new.self (c.streams_have_one_verdict.ensures _)
     c.feed.ensures.limits c.args.bytes.now at.0 (at.2 [] [] c.requires.empty) c.in-Err.fault
     c.in-Err.ensures.failed
     (λ is. c.feed.ensures.not_truncated ([], [], c.requires.empty, c.requires.reading)
     (c.in-Err.is ∙ ap Err is)) c.args.place c.stream_fault.result c.stream_fault.ensures.memory
-    c.stream_fault.ensures.other repo
+    c.stream_fault.ensures.other

@@ -1,4 +1,4 @@
-use Rattle.std.proofs.Common.{◌≡◌, ℕ, List, ◌∙◌, ap, subst, sym}
+use Rattle.std.proofs.Common.{◌≡◌, ℕ, List, ap, subst, sym}
 use Rattle.hg_types.specs.declared.limits.Limits.{Limits}
 use Rattle.hg_types.specs.declared.limits.Settings.{Settings}
 use Rattle.hg_types.specs.declared.part.Part.{Part}
@@ -16,12 +16,10 @@ pub returns-clause-ok : goal.returns-clause-ok
 returns-clause-ok g c =
     c.run_parts.ensures.ok c.args.repo.now.settings.limits c.args.bytes.now
     (same_bundle c.args.bytes.now _ _ _ _
-    (c.new-bundle.ensures.limits ∙ ap (λ (s : Settings). s.limits) c.settings.ensures)
-    (c.as_slice.ensures.value ∙ c.in_ok-parts.ensures.parts) c.in_default.ensures.ok)
+    (ap (λ (s : Settings). s.limits) c.settings.ensures) c.as_slice.ensures.value c.in_ok-parts.ensures.ok)
 
 pub returns-clause-fault : goal.returns-clause-fault
 returns-clause-fault g c =
     c.run_parts.ensures.fault c.args.repo.now.settings.limits c.args.bytes.now
     (same_bundle c.args.bytes.now _ _ _ _
-    (c.new-bundle.ensures.limits ∙ ap (λ (s : Settings). s.limits) c.settings.ensures)
-    (c.as_slice.ensures.value ∙ c.in_ok-parts.ensures.parts) c.in_default.ensures.ok)
+    (ap (λ (s : Settings). s.limits) c.settings.ensures) c.as_slice.ensures.value c.in_ok-parts.ensures.ok)

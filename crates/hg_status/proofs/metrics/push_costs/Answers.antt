@@ -8,6 +8,6 @@ returns g c =
     rw (
       c.in_ok-push_time-2.ensures,
       c.in_ok-push_time.ensures,
-      c.in_ok-push_count-2.ensures,
-      c.in_ok-push_count.ensures,
+      c.in_ok-push_number-2.ensures,
+      c.in_ok-push_number.ensures,
     ) (simp append_assoc)

@@ -6,11 +6,11 @@ pub returns : goal.returns
 unfolding holdings_lines
 returns g c =
     rw (
-      c.in_ok-push_gauge-7.ensures,
-      c.in_ok-push_gauge-6.ensures,
-      c.in_ok-push_gauge-5.ensures,
-      c.in_ok-push_gauge-4.ensures,
-      c.in_ok-push_gauge-3.ensures,
-      c.in_ok-push_gauge-2.ensures,
-      c.in_ok-push_gauge.ensures,
+      c.in_ok-push_number-7.ensures,
+      c.in_ok-push_number-6.ensures,
+      c.in_ok-push_number-5.ensures,
+      c.in_ok-push_number-4.ensures,
+      c.in_ok-push_number-3.ensures,
+      c.in_ok-push_number-2.ensures,
+      c.in_ok-push_number.ensures,
     ) (simp append_assoc)

@@ -1,7 +1,7 @@
 use Rattle.std.proofs.Common.{◌≡◌, ℕ, List, drop, sym, ap, ◌∙◌, subst}
 use Rattle.hg_store.specs.Files.{StandsFor}
 use Rattle.hg_store.proofs.Moments.{no_more, one_behind}
-use Rattle.hg_store.proofs.Repair.{ends_as, here_stands, is_torn, only_as, stands_as}
+use Rattle.hg_store.proofs.Repair.{ends_as, here_stands, is_old, is_torn, only_as, stands_as}
 use Rattle.hg_store.proofs.opening.recover.Goals as goal
 
 pub returns-in_err-bytes-clause-any_moment : goal.returns-in_err-bytes-clause-any_moment
@@ -19,6 +19,22 @@ returns-in_err-found-clause-any_moment g c = λ head records stands only.
     (g.met.D.Device.only_now c.args.device.now) (here_stands head records (g.D.Device.seen c.args.device.now)
     (g.D.Device.may_leave c.args.device.now) stands only) c.read.ensures.time c.read.ensures.crash in
     read
+
+pub returns-then-is_old-clause-any_moment : goal.returns-then-is_old-clause-any_moment
+returns-then-is_old-clause-any_moment g c = λ head records stands only.
+    no_more g.D.Device.moment g.D.Device.left_since c.args.device.now c.read.new.self
+    (StandsFor head records) (g.D.Device.may_leave c.args.device.now) (g.D.Device.may_leave c.read.new.self)
+    (g.met.D.Device.only_now c.args.device.now) (here_stands head records (g.D.Device.seen c.args.device.now)
+    (g.D.Device.may_leave c.args.device.now) stands only) c.read.ensures.time c.read.ensures.crash
+
+pub returns-then-is_old-clause-old_version : goal.returns-then-is_old-clause-old_version
+returns-then-is_old-clause-old_version g c = λ is. (
+  is_old c.in_ok-found.found.head c.in_ok-found.found.records (g.D.Device.seen c.args.device.now)
+      c.deref.result.now (drop c.in_ok-found.found.end c.deref.result.now)
+      (c.deref.ensures.value ∙ c.in_ok-bytes.ensures.bytes) c.in_ok-found.ensures.store
+      (c.is_old.ensures.old c.if-is_old.true),
+  record { same = c.read.ensures.seen; outcomes = c.read.ensures.crash },
+)
 
 pub returns-then-found-clause-any_moment : goal.returns-then-found-clause-any_moment
 returns-then-found-clause-any_moment g c = λ head records stands only.
@@ -89,6 +105,7 @@ returns-clause-settled g c =
     c.in_ok-found.ensures.end c.read.ensures.seen in
     record {
       allowed = c.in_ok-found.ensures.store.begins.allowed;
+      version = c.is_old.ensures.new c.if-is_old.false;
       each = c.in_ok-found.ensures.store.reads.each;
       file = c.in_ok-shut_gate.ensures.at_rest c.in_ok-found.found.head c.in_ok-found.found.records ends;
       place = c.in_ok-found.ensures.end;

@@ -7,9 +7,9 @@ use Rattle.hg_store.proofs.read.read_frames.Goals as goal
 
 pub records-preserved : goal.records-preserved
 records-preserved g c =
-    one_kept c.args.start.now c.args.bytes.now c.records.records c.push.new.self c.records.digest
-    c.records.rest.now c.in-Ok.record.now c.in_ok-copy_of-in-Ok.field-0 c.in-Ok.after.now
-    c.next_record.new.digest c.records.invariant c.in-Ok.ensures.whole c.in_ok-copy_of-in-Ok.ensures
+    one_kept c.args.version c.args.start.now c.args.bytes.now c.records.records c.push.new.self c.records.digest
+    c.records.rest.now c.in-Ok.record c.in_ok-to_entry-in-Ok.field-0 c.in-Ok.after.now
+    c.next_record.new.digest c.records.invariant c.in-Ok.ensures.whole c.in_ok-to_entry-in-Ok.ensures
     c.in_ok-push-in-Ok.ensures.ok
 
 pub returns-in_err-is_torn-clause-damaged : goal.returns-in_err-is_torn-clause-damaged
@@ -24,22 +24,22 @@ returns-in_err-is_torn-clause-damaged g c = λ whole is.
       told.1 ∙ c.len.ensures,
       i.each,
       i.spelled,
-      subst (λ (d : List ℕ). IsDamaged d c.records.rest.now) i.digest_is found,
+      subst (λ (d : List ℕ). IsDamaged c.args.version d c.records.rest.now) i.digest_is found,
     )
 
 pub returns-clause-read : goal.returns-clause-read
 returns-clause-read g c =
     let at_end : c.in_ok-is_torn.is_torn ≡ false → IsEnd c.records.rest.now = λ is. c.in-Err.ensures.end (ap Err (c.in_ok-is_torn.ensures.end is)) in
-    let torn : c.in_ok-is_torn.is_torn ≡ true → IsTorn c.records.rest.now = λ is. c.in-Err.ensures.torn (ap Err (c.in_ok-is_torn.ensures.torn is)) in
-    all_read c.args.start.now c.args.bytes.now c.records.records c.records.digest c.records.rest.now
-    c.records.invariant _ refl (stops_at c.in_ok-is_torn.is_torn c.records.rest.now torn at_end)
+    let torn : c.in_ok-is_torn.is_torn ≡ true → IsTorn c.args.version c.records.rest.now = λ is. c.in-Err.ensures.torn (ap Err (c.in_ok-is_torn.ensures.torn is)) in
+    all_read c.args.version c.args.start.now c.args.bytes.now c.records.records c.records.digest c.records.rest.now
+    c.records.invariant _ refl (stops_at c.args.version c.in_ok-is_torn.is_torn c.records.rest.now torn at_end)
 
 pub returns-clause-torn : goal.returns-clause-torn
 returns-clause-torn g c = λ is.
-    torn_at c.args.start.now c.args.bytes.now c.records.records c.records.digest c.records.rest.now
+    torn_at c.args.version c.args.start.now c.args.bytes.now c.records.records c.records.digest c.records.rest.now
     c.records.invariant _ refl (c.in-Err.ensures.torn (ap Err (c.in_ok-is_torn.ensures.torn is)))
 
 pub returns-clause-whole : goal.returns-clause-whole
 returns-clause-whole g c = λ is.
-    ends_at c.args.start.now c.args.bytes.now c.records.records c.records.digest c.records.rest.now
+    ends_at c.args.version c.args.start.now c.args.bytes.now c.records.records c.records.digest c.records.rest.now
     c.records.invariant _ refl (c.in-Err.ensures.end (ap Err (c.in_ok-is_torn.ensures.end is)))

@@ -1,34 +1,25 @@
-use Rattle.std.proofs.Common.{◌≡◌, ℕ, List, ◌∷◌, sym, ap, ◌∙◌, subst, arith}
-use Rattle.std.specs.Prelude.{IfOk}
-use Rattle.hg_store.specs.Records.{IsTorn, IsDamaged, IsNext, shut, no_gate}
+use Rattle.std.proofs.Common.{◌≡◌, ℕ, List, ◌∷◌, sym, ap, ◌∙◌, subst}
+use Rattle.hg_store.specs.Records.{IsDamaged, IsTorn, no_gate, open_gate, shut}
 use Rattle.hg_store.proofs.record.next_record.Goals as goal
 
-pub returns-then-gate-gt-OPEN-clause-damaged : goal.returns-then-gate-gt-OPEN-clause-damaged
-returns-then-gate-gt-OPEN-clause-damaged c = λ _.
-    no_gate c.read_byte-gate.result.0 c.read_byte-gate.result.1.now c.read_byte-gate.ensures
-    c.if-gate-gt-OPEN.true
-
-pub returns-then-gate-lt-OPEN-clause-end : goal.returns-then-gate-lt-OPEN-clause-end
-returns-then-gate-lt-OPEN-clause-end c = λ _.
-    let is : c.read_byte-gate.result.0 ≡ 0 = omega (arith, c.if-gate-lt-OPEN.true) in
+pub returns-then-gate-eq-SHUT-clause-end : goal.returns-then-gate-eq-SHUT-clause-end
+returns-then-gate-eq-SHUT-clause-end c = λ _.
     shut c.read_byte-gate.result.1.now
-    (c.read_byte-gate.ensures ∙ ap (λ (g : ℕ). g ∷ c.read_byte-gate.result.1.now) is)
+    (c.read_byte-gate.ensures ∙ ap (λ (g : ℕ). g ∷ c.read_byte-gate.result.1.now) c.if-gate-eq-SHUT.true)
 
-pub returns-clause-whole : goal.returns-clause-whole
-returns-clause-whole c =
-    let is : c.read_byte-gate.result.0 ≡ 1 = omega (arith, c.if-gate-gt-OPEN.false, c.if-gate-lt-OPEN.false) in
-    let spelled = c.read_byte-gate.ensures ∙ ap (λ (g : ℕ). g ∷ c.read_byte-gate.result.1.now) is in
-    subst (λ (bytes : List ℕ). IfOk c.record_behind.result (λ found. IsNext c.args.digest.now bytes found.0.now
-    found.1.now c.record_behind.new.digest)) (sym spelled) c.record_behind.ensures.whole
+pub returns-then-gate-open_gate-clause-damaged : goal.returns-then-gate-open_gate-clause-damaged
+returns-then-gate-open_gate-clause-damaged c = λ _.
+    no_gate c.read_byte-gate.result.0 c.read_byte-gate.result.1.now c.read_byte-gate.ensures
+    c.if-gate-eq-SHUT.false (λ e. c.if-gate-open_gate.true (e ∙ sym c.open_gate.ensures))
 
 pub returns-clause-torn : goal.returns-clause-torn
 returns-clause-torn c = λ torn.
-    let is : c.read_byte-gate.result.0 ≡ 1 = omega (arith, c.if-gate-gt-OPEN.false, c.if-gate-lt-OPEN.false) in
+    let is : c.read_byte-gate.result.0 ≡ open_gate c.args.version = c.if-gate-open_gate.false ∙ c.open_gate.ensures in
     let spelled = c.read_byte-gate.ensures ∙ ap (λ (g : ℕ). g ∷ c.read_byte-gate.result.1.now) is in
-    subst IsTorn (sym spelled) (c.record_behind.ensures.torn torn)
+    subst (IsTorn c.args.version) (sym spelled) (c.record_behind.ensures.torn torn)
 
 pub returns-clause-damaged : goal.returns-clause-damaged
 returns-clause-damaged c = λ damaged.
-    let is : c.read_byte-gate.result.0 ≡ 1 = omega (arith, c.if-gate-gt-OPEN.false, c.if-gate-lt-OPEN.false) in
+    let is : c.read_byte-gate.result.0 ≡ open_gate c.args.version = c.if-gate-open_gate.false ∙ c.open_gate.ensures in
     let spelled = c.read_byte-gate.ensures ∙ ap (λ (g : ℕ). g ∷ c.read_byte-gate.result.1.now) is in
-    subst (IsDamaged c.args.digest.now) (sym spelled) (c.record_behind.ensures.damaged damaged)
+    subst (IsDamaged c.args.version c.args.digest.now) (sym spelled) (c.record_behind.ensures.damaged damaged)

@@ -1,5 +1,5 @@
 use Rattle.std.proofs.Common.{take}
-use Rattle.std.specs.List.{concat}
+use Rattle.hg_store_tools.specs.Logging.{joined}
 use Rattle.std.specs.Io.KnownBytes.{Appends}
 use Rattle.hg_store_tools.proofs.bundles.send_each.Given as goal
 
@@ -7,4 +7,4 @@ use Rattle.hg_store_tools.proofs.bundles.send_each.Given as goal
 abbrev pub invariant-loop-record : goal.invariant-loop-record
 invariant-loop-record g l =
     Appends (g.W.Writer.told l.fn.writer).taken (g.W.Writer.told l.writer).taken
-    (concat (take l.record-index l.records))
+    (joined (take l.record-index l.records))

@@ -1,4 +1,5 @@
-use Rattle.std.proofs.Common.{ℕ, List, refl, subst}
+use Rattle.std.proofs.Common.{List, refl, subst}
+use Rattle.hg_store.specs.Entries.{Entry}
 use Rattle.hg_store_tools.specs.Reporting.{IsUntold, untold}
 use Rattle.hg_store_tools.proofs.Told.{unsent_report}
 use Rattle.hg_store_tools.proofs.report.send_report.Goals as goal
@@ -6,7 +7,7 @@ use Rattle.hg_store_tools.proofs.report.send_report.Goals as goal
 pub returns-in-Err-report_text-clause-err : goal.returns-in-Err-report_text-clause-err
 returns-in-Err-report_text-clause-err g c =
     untold c.in-Ok.whole.head c.in-Ok.whole.records c.in-Ok.whole.ending c.in-Ok.ensures.ok
-    (subst (λ (rs : List (List ℕ)). IsUntold g.row.A.Denot c.in-Ok.whole.head rs c.in-Err-report_text.fault)
+    (subst (λ (rs : List Entry). IsUntold g.row.A.Denot c.in-Ok.whole.head rs c.in-Err-report_text.fault)
     c.as_slice.ensures c.in-Err-report_text.ensures.err) refl
 
 pub returns-in-Err-sent-clause-err : goal.returns-in-Err-sent-clause-err

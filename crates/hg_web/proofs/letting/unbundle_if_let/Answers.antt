@@ -1,6 +1,6 @@
 use Rattle.std.proofs.Common.{ℕ, List, inr, subst}
-use Rattle.hg_hook.specs.Policies.{HasAsked}
-use Rattle.hg_web.proofs.Lettings.{denied, let_run}
+use Rattle.hg_http.specs.Policies.{HasAsked}
+use Rattle.hg_web.proofs.Lettings.{denied, let_run, timed}
 use Rattle.hg_web.proofs.letting.unbundle_if_let.Goals as goal
 
 pub returns-in-Some-clause-answered : goal.returns-in-Some-clause-answered
@@ -18,7 +18,8 @@ returns-in-None-clause-answered g c =
     let e = c.ask.ensures in
     let asked = subst (λ (b : List ℕ). HasAsked (g.P.Policy.asked c.args.policy.now)
     (g.P.Policy.asked c.ask.new.policy) b e.0) c.as_slice.ensures e.1 in
-    let_run _ _ _ _ _ e.0 asked e.2 _ _ c.in-None.is c.unbundle.ensures
+    let_run _ _ _ _ _ e.0 asked e.2 _ _ c.in-None.is
+    (timed _ _ _ c.args.pusher.now _ _ _ _ _ c.unbundle.ensures)
 
 pub returns-in-None-clause-asks : goal.returns-in-None-clause-asks
 returns-in-None-clause-asks g c = let e = c.ask.ensures in inr (_, (e.0, e.1))

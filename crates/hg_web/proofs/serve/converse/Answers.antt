@@ -90,6 +90,7 @@ returns-then-is_done g c =
           (went_on _ _ _ _ _ _ _ _ (history c.turns.connection) h inv.0 a.ensures.calls a.ensures.quiet)
           c.send_all.ensures.sent) (kept_same _) c.flush.ensures.bytes,
       λ is. absurd (c.is_aborted.ensures c.if-is_aborted.false (sym c.send_all.ensures.sent.state ∙ is)),
+      c.is_done.ensures.0 c.if-is_done.true,
     )
 
 pub returns-in_err-flush-2 : goal.returns-in_err-flush-2

@@ -20,7 +20,7 @@ pub returns-in-Done : goal.returns-in-Done
 returns-in-Done g c =
     let e = ended_as _ c.args.config _ _ _ _ _ _ _ _ _ (Ok Done) c.new-connection.ensures.config
     (c.in_ok-ended.was ∙ ap Ok c.in-Done.is) c.converse-ended.ensures in
-    ends_plainly _ _ _ _ _ _ _ _ _ _ _ _ e.0 c.stretches.invariant e.1 e.2 (inr e.3)
+    ends_plainly _ _ _ _ _ _ _ _ _ _ _ _ e.0 c.stretches.invariant e.1 e.2 (inr (e.3, e.4))
 
 pub returns-in_err-refuse-in-Refused : goal.returns-in_err-refuse-in-Refused
 returns-in_err-refuse-in-Refused g c =
@@ -59,4 +59,4 @@ stretches-preserved g c =
 pub returns : goal.returns
 returns g c =
     ends_plainly _ _ _ _ _ _ _ _ _ _ _ _ new_history c.stretches.invariant ∣ new_served _ ∣₁
-    (went_none _ _ _ _ new_history refl) (inr (λ is. cc))
+    (went_none _ _ _ _ new_history refl) (inl (λ is. cc))

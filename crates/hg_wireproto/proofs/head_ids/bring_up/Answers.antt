@@ -1,4 +1,4 @@
-use Rattle.std.proofs.Common.{◌≤◌, ◌+◌, List, length, take, arith, subst}
+use Rattle.std.proofs.Common.{List, arith, subst}
 use Rattle.std.proofs.lemmas.List.{take_all}
 use Rattle.hg_log.specs.Changeset.{Changeset}
 use Rattle.hg_wireproto.specs.code.HeadIds.{AreHeadIds, AreLeft}

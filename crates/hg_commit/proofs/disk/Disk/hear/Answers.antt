@@ -12,15 +12,15 @@ invariant_of-self g c =
     let new = c.meet.new.witness in (
       i.0,
       λ b. keeps_on g.D.Device.seen g.D.Device.may_leave g.J.Storing.head g.J.Storing.stored first old new d.count
-          d.log (λ k bytes r. c.records_stay.ensures.later first old new k bytes c.meet.ensures.later r) (i.1 b),
+          d.log (λ k entry r. c.records_stay.ensures.later first old new k entry c.meet.ensures.later r) (i.1 b),
       each_moves first old new
-          (λ k bytes r. c.records_stay.ensures.later first old new k bytes c.meet.ensures.later r) d.count
+          (λ k entry r. c.records_stay.ensures.later first old new k entry c.meet.ensures.later r) d.count
           d.batch.items i.2,
       lives_on g.D.Device.moment g.D.Device.left_since g.D.Device.may_leave g.J.Storing.head g.J.Storing.stored first
           g.J.Storing.opened old new d.count d.log.device
-          (λ k bytes r. c.records_stay.ensures.later first old new k bytes c.meet.ensures.later r) i.3,
+          (λ k entry r. c.records_stay.ensures.later first old new k entry c.meet.ensures.later r) i.3,
       promises_on g.D.Device.moment g.D.Device.left_since g.J.Storing.head g.J.Storing.stored first old new d.count
-          d.log.device (λ k bytes r. c.records_stay.ensures.later first old new k bytes c.meet.ensures.later r)
+          d.log.device (λ k entry r. c.records_stay.ensures.later first old new k entry c.meet.ensures.later r)
           d.keeper i.4,
       i.5,
     )

@@ -7,6 +7,7 @@ use Rattle.hg_commit.specs.Lives.{IsKeptSince}
 use Rattle.hg_commit.specs.Promises.{Promise}
 use Rattle.hg_commit.proofs.Living.{begins, kept_front, promise_now}
 use Rattle.hg_commit.proofs.disk.Disk.new.Goals as goal
+use Rattle.hg_store.specs.Entries.{Entry}
 
 pub invariant_of-result : goal.invariant_of-result
 invariant_of-result g c =
@@ -23,7 +24,7 @@ invariant_of-result g c =
     let keeps = nothing seen may_leave head stored first c.args.witness log c.requires.settled in (
       c.requires.allowed,
       λ b. keeps,
-      subst (λ (l : List (List ℕ)). AreRecordsFrom first c.args.witness 0 l) (sym c.in-Ok.ensures.items) tt,
+      subst (λ (l : List Entry). AreRecordsFrom first c.args.witness 0 l) (sym c.in-Ok.ensures.items) tt,
       begins g.D.Device.moment g.D.Device.left_since may_leave head stored first g.J.Storing.opened c.args.witness
           log.device c.requires.opened (g.met.D.Device.only_now log.device)
           (kept_front seen may_leave head stored first c.records_are_read_back.ensures c.args.witness 0 log keeps),

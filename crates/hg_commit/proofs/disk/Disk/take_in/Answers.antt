@@ -4,6 +4,7 @@ use Rattle.hg_commit.specs.Locks.{DiskView}
 use Rattle.hg_commit.specs.Records.{AreRecordsFrom, IsRecordOf}
 use Rattle.hg_commit.proofs.Lists.{one_more}
 use Rattle.hg_commit.proofs.disk.Disk.take_in.Goals as goal
+use Rattle.hg_store.specs.Entries.{Entry}
 
 pub invariant_of-self : goal.invariant_of-self
 invariant_of-self g c =
@@ -11,11 +12,11 @@ invariant_of-self g c =
     let i = c.self.invariant in
     let first = g.J.Naming.first in
     let here = subst (λ (v : DiskView g.row.A.Denot g.row.D.Denot). IsRecordOf first v.history (v.count + length v.batch)
-    c.args.bytes) (sym c.self.view_is) c.requires.next in (
+    c.args.entry) (sym c.self.view_is) c.requires.next in (
       i.0,
       i.1,
-      subst (λ (l : List (List ℕ)). AreRecordsFrom first d.witness d.count l) (sym c.push_reserved.ensures.items)
-          (one_more first d.witness d.count d.batch.items c.args.bytes i.2 here),
+      subst (λ (l : List Entry). AreRecordsFrom first d.witness d.count l) (sym c.push_reserved.ensures.items)
+          (one_more first d.witness d.count d.batch.items c.args.entry i.2 here),
       i.3,
       i.4,
       i.5,

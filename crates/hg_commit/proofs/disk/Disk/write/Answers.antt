@@ -1,8 +1,9 @@
-use Rattle.std.proofs.Common.{◌≡◌, ◌≤◌, ◌+◌, ◌++◌, ◌∷◌, [], false, true, ℕ, List, sym, subst, ◌∙◌}
+use Rattle.std.proofs.Common.{◌≡◌, ◌≤◌, ◌+◌, ◌++◌, ◌∷◌, [], false, true, ℕ, List, ap, append-nil, sym, subst, vec_len, ◌∙◌}
 use Rattle.std.proofs.Common.{arith, length}
 use Rattle.std.specs.List.{AllByRecursion}
+use Rattle.hg_store.specs.Entries.{Entry}
 use Rattle.hg_store.specs.Device.{LeavesOnly}
-use Rattle.hg_store.specs.Records.{IsRecord}
+use Rattle.hg_store.specs.Records.{IsSized}
 use Rattle.hg_store.specs.Log.{IsBeforeOrAfter, IsSettled}
 use Rattle.std.specs.Prelude.{Contains}
 use Rattle.std.proofs.lemmas.List.Elements.{All-push, All-same, All-weaker, Contains-push}
@@ -11,15 +12,17 @@ use Rattle.hg_commit.specs.Promises.{Promise}
 use Rattle.hg_commit.specs.Locks.{DiskView}
 use Rattle.hg_commit.specs.Records.{AreRecordsFrom, KeepsRecords}
 use Rattle.hg_commit.proofs.Keeping.{keeps_more}
+use Rattle.hg_commit.proofs.Handing.{none_more, off}
 use Rattle.hg_commit.proofs.Lists.{fit, went_well}
-use Rattle.hg_commit.proofs.Living.{kept_front, lives_after, lives_failed, promise_now, promises_after, written_front}
+use Rattle.hg_commit.proofs.Living.{kept_front, lives_after, lives_failed, promise_now, promises_after, still_front, written_front}
 use Rattle.hg_commit.proofs.disk.Disk.write.Goals as goal
+use Rattle.hg_commit.proofs.disk.Disk.write.Goals.{then-self-via-then-self, then-self-via-else-self+then-is_empty}
 
 pub append-requires-clause-each : goal.append-requires-clause-each
 append-requires-clause-each g c =
     let d = c.self.inside in
     let i = c.self.invariant in
-    subst (λ (l : List (List ℕ)). AllByRecursion IsRecord l) (sym c.as_slice.ensures.value)
+    subst (λ (l : List Entry). AllByRecursion IsSized l) (sym c.as_slice.ensures.value)
     (fit g.J.Naming.first i.0 d.witness d.count d.batch.items i.2)
 
 -- no promise counts more than the records that are there now
@@ -43,7 +46,7 @@ invariant_of-self-then-is_err g c =
     let k = i.1 c.if-self.false in
     let run = written_front g.D.Device.seen g.D.Device.may_leave head stored first moment left_since d.witness d.count
     d.batch.items d.log k i.2 d.log.device c.append.new.self.device
-    (subst (λ (l : List (List ℕ)). LeavesOnly moment left_since d.log.device c.append.new.self.device
+    (subst (λ (l : List Entry). LeavesOnly moment left_since d.log.device c.append.new.self.device
     (IsBeforeOrAfter head (stored ++ k.records) l)) c.as_slice.ensures.value
     (c.append.ensures.any_moment head (stored ++ k.records) k.settled)) in (
       i.0,
@@ -70,7 +73,7 @@ returns-then-is_err-clause-any_moment g c =
     c.append.new.self.device (IsFront head stored first v.history v.count)) c.self.view_is
     (written_front g.D.Device.seen g.D.Device.may_leave head stored first moment left_since d.witness d.count
     d.batch.items d.log k i.2 d.log.device c.append.new.self.device
-    (subst (λ (l : List (List ℕ)). LeavesOnly moment left_since d.log.device c.append.new.self.device
+    (subst (λ (l : List Entry). LeavesOnly moment left_since d.log.device c.append.new.self.device
     (IsBeforeOrAfter head (stored ++ k.records) l)) c.as_slice.ensures.value
     (c.append.ensures.any_moment head (stored ++ k.records) k.settled)))
 
@@ -88,7 +91,7 @@ returns-clause-any_moment g c =
     c.append.new.self.device (IsFront head stored first v.history v.count)) c.self.view_is
     (written_front g.D.Device.seen g.D.Device.may_leave head stored first moment left_since d.witness d.count
     d.batch.items d.log k i.2 d.log.device c.append.new.self.device
-    (subst (λ (l : List (List ℕ)). LeavesOnly moment left_since d.log.device c.append.new.self.device
+    (subst (λ (l : List Entry). LeavesOnly moment left_since d.log.device c.append.new.self.device
     (IsBeforeOrAfter head (stored ++ k.records) l)) c.as_slice.ensures.value
     (c.append.ensures.any_moment head (stored ++ k.records) k.settled)))
 
@@ -107,7 +110,7 @@ invariant_of-self-2 g c =
     let k = i.1 c.if-self.false in
     let ack = went_well c.append.result (sym c.is_err.ensures.value ∙ c.if-is_err.false)
     (c.append.ensures.acknowledged head (stored ++ k.records) k.settled) in
-    let settled = subst (λ (l : List (List ℕ)). IsSettled seen may_leave head ((stored ++ k.records) ++ l)
+    let settled = subst (λ (l : List Entry). IsSettled seen may_leave head ((stored ++ k.records) ++ l)
     c.append.new.self) c.as_slice.ensures.value ack in
     let ok = d.batch.ok in
     let more : d.count + length d.batch.items ≡ d.count + c.len.result = omega (arith, c.len.ensures, ok) in
@@ -116,7 +119,7 @@ invariant_of-self-2 g c =
     i.2) in
     let run = written_front seen may_leave head stored first moment left_since d.witness d.count d.batch.items d.log
     k i.2 d.log.device c.append.new.self.device
-    (subst (λ (l : List (List ℕ)). LeavesOnly moment left_since d.log.device c.append.new.self.device
+    (subst (λ (l : List Entry). LeavesOnly moment left_since d.log.device c.append.new.self.device
     (IsBeforeOrAfter head (stored ++ k.records) l)) c.as_slice.ensures.value
     (c.append.ensures.any_moment head (stored ++ k.records) k.settled)) in
     let now = c.append.new.self.device in
@@ -127,7 +130,7 @@ invariant_of-self-2 g c =
     c.append.new.self keeps in (
       i.0,
       λ b. keeps,
-      subst (λ (l : List (List ℕ)). AreRecordsFrom first d.witness (d.count + c.len.result) l)
+      subst (λ (l : List Entry). AreRecordsFrom first d.witness (d.count + c.len.result) l)
           (sym c.clear.ensures.items) tt,
       lives_after moment left_since may_leave head stored first g.J.Storing.opened d.witness d.count
           (d.count + c.len.result) d.log.device c.append.new.self.device i.3 run
@@ -140,3 +143,64 @@ invariant_of-self-2 g c =
           (g.met.D.Device.only_now now) front)),
       λ b. subst (λ (l : List Promise). Contains l one) (sym c.raise.ensures) (Contains-push d.keeper one),
     )
+
+pub append-requires-clause-settled : goal.append-requires-clause-settled
+append-requires-clause-settled g c =
+    let k = c.self.invariant.1 c.if-self.false in
+    (g.J.Storing.head, g.J.Storing.stored ++ k.records, k.settled)
+
+pub returns-then-self-clause-written : goal.returns-then-self-clause-written
+returns-then-self-clause-written g c =
+    let d = c.self.inside in
+    let broken = ap (λ (v : DiskView g.row.A.Denot g.row.D.Denot). v.is_broken) c.self.view_is in
+    let batch = ap (λ (v : DiskView g.row.A.Denot g.row.D.Denot). v.batch) c.self.view_is in
+    elim c.then-self.branch [
+      | then-self-via-then-self w ↦ λ b. absurd (off (sym w.if-self.true ∙ (broken ∙ b)))
+      | then-self-via-else-self+then-is_empty w ↦ λ b.
+          none_more c.args.self.now.count c.args.self.now.batch d.batch.items (sym batch) (vec_len d.batch) d.batch.ok.0
+          (sym w.is_empty.ensures ∙ w.if-is_empty.true)
+    ]
+
+pub returns-then-self-clause-added : goal.returns-then-self-clause-added
+returns-then-self-clause-added g c = λ records settled b.
+    let none = (returns-then-self-clause-written g c b).1 in
+    subst (λ (l : List Entry). IsSettled g.D.Device.seen g.D.Device.may_leave g.J.Storing.head l c.args.self.now.log)
+    (sym (ap (λ (l : List Entry). records ++ l) none ∙ append-nil records)) settled
+
+pub returns-then-self-clause-any_moment : goal.returns-then-self-clause-any_moment
+returns-then-self-clause-any_moment g c =
+    let d = c.self.inside in
+    let moment = g.D.Device.moment in
+    let left_since = g.D.Device.left_since in
+    let head = g.J.Storing.head in
+    let stored = g.J.Storing.stored in
+    let first = g.J.Naming.first in
+    subst (λ (v : DiskView g.row.A.Denot g.row.D.Denot). LeavesOnly moment left_since v.device v.device
+    (IsFront head stored first v.history v.count)) c.self.view_is
+    (still_front moment left_since g.D.Device.may_leave head stored first g.J.Storing.opened d.witness d.count
+    d.log.device (g.met.D.Device.only_now d.log.device) c.self.invariant.3)
+
+pub returns-then-self-ge-MOST-clause-any_moment : goal.returns-then-self-ge-MOST-clause-any_moment
+returns-then-self-ge-MOST-clause-any_moment g c =
+    let d = c.self.inside in
+    let moment = g.D.Device.moment in
+    let left_since = g.D.Device.left_since in
+    let head = g.J.Storing.head in
+    let stored = g.J.Storing.stored in
+    let first = g.J.Naming.first in
+    subst (λ (v : DiskView g.row.A.Denot g.row.D.Denot). LeavesOnly moment left_since v.device d.log.device
+    (IsFront head stored first v.history v.count)) c.self.view_is
+    (still_front moment left_since g.D.Device.may_leave head stored first g.J.Storing.opened d.witness d.count
+    d.log.device (g.met.D.Device.only_now d.log.device) c.self.invariant.3)
+
+pub returns-clause-added : goal.returns-clause-added
+returns-clause-added g c = λ records settled b.
+    let seen = g.D.Device.seen in
+    let may_leave = g.D.Device.may_leave in
+    let head = g.J.Storing.head in
+    let here = subst (λ (v : DiskView g.row.A.Denot g.row.D.Denot). IsSettled seen may_leave head records v.log)
+    (sym c.self.view_is) settled in
+    let ack = went_well c.append.result (sym c.is_err.ensures.value ∙ c.if-is_err.false)
+    (c.append.ensures.acknowledged head records here) in
+    subst (λ (l : List Entry). IsSettled seen may_leave head (records ++ l) c.append.new.self)
+    (c.as_slice.ensures.value ∙ ap (λ (v : DiskView g.row.A.Denot g.row.D.Denot). v.batch) c.self.view_is) ack

@@ -15,16 +15,16 @@ invariant_of-self g c =
     let i = c.self.invariant in
     let first = g.J.Naming.first in
     let new = c.meet.new.witness in (
-      All-weaker (λ (r : Record g.row.A.Denot). IsRecordOf first w.witness r.place r.bytes)
-          (λ r. IsRecordOf first new r.place r.bytes)
-          (λ r p. c.records_stay.ensures.later first w.witness new r.place r.bytes c.meet.ensures.later p)
+      All-weaker (λ (r : Record g.row.A.Denot). IsRecordOf first w.witness r.place r.entry)
+          (λ r. IsRecordOf first new r.place r.entry)
+          (λ r p. c.records_stay.ensures.later first w.witness new r.place r.entry c.meet.ensures.later p)
           w.records.items i.0,
       λ b. subst (λ (l : List Promise). Covers g.D.Device.seen g.D.Device.may_leave g.D.Device.moment
           g.J.Storing.head g.J.Storing.stored first new l w.count)
           (sym c.again.ensures.same)
           (covered_on g.D.Device.seen g.D.Device.may_leave g.D.Device.moment g.J.Storing.head g.J.Storing.stored
           first w.witness new w.counted w.count
-          (λ k bytes r. c.records_stay.ensures.later first w.witness new k bytes c.meet.ensures.later r) (i.1 b)),
+          (λ k entry r. c.records_stay.ensures.later first w.witness new k entry c.meet.ensures.later r) (i.1 b)),
       i.2,
     )
 
@@ -38,7 +38,7 @@ returns-clause-covered g c =
     let same : w.count ≡ c.args.self.now.count = ap (λ v. v.count) c.self.view_is in
     let all = covered_on g.D.Device.seen g.D.Device.may_leave g.D.Device.moment g.J.Storing.head g.J.Storing.stored
     first w.witness new w.counted w.count
-    (λ k bytes r. c.records_stay.ensures.later first w.witness new k bytes c.meet.ensures.later r)
+    (λ k entry r. c.records_stay.ensures.later first w.witness new k entry c.meet.ensures.later r)
     (c.self.invariant.1 whole) in
     let receipt : List Promise = w.counted in
     subst (λ (l : List Promise). Covers g.D.Device.seen g.D.Device.may_leave g.D.Device.moment
@@ -46,5 +46,5 @@ returns-clause-covered g c =
     (sym c.again.ensures.promised)
     (covered_back g.D.Device.seen g.D.Device.may_leave g.D.Device.moment g.J.Storing.head g.J.Storing.stored first
     new mine receipt w.count c.args.rests (done_in first mine) (omega (arith, c.requires.low, same))
-    c.requires.done (λ k bytes low r. c.records_stay.ensures.earlier first mine new k bytes c.meet.ensures.one low r)
+    c.requires.done (λ k entry low r. c.records_stay.ensures.earlier first mine new k entry c.meet.ensures.one low r)
     all)

@@ -18,15 +18,15 @@ invariant_of-self-2 g c =
     let all = subst (λ (v : DiskView g.row.A.Denot g.row.D.Denot). IsPrefix v.history new) c.counted.ensures.same
     c.show.ensures.all in
     let count : c.args.disk.now.count ≡ c.count-self-inside.result = sym c.count-self-inside.ensures in (
-      All-weaker (λ (r : Record g.row.A.Denot). IsRecordOf first w.witness r.place r.bytes)
-          (λ r. IsRecordOf first new r.place r.bytes)
-          (λ r p. c.records_stay.ensures.later first w.witness new r.place r.bytes c.show.ensures.later p)
+      All-weaker (λ (r : Record g.row.A.Denot). IsRecordOf first w.witness r.place r.entry)
+          (λ r. IsRecordOf first new r.place r.entry)
+          (λ r p. c.records_stay.ensures.later first w.witness new r.place r.entry c.show.ensures.later p)
           w.records.items i.0,
       λ b. subst (λ (n : ℕ). Covers g.D.Device.seen g.D.Device.may_leave g.D.Device.moment g.J.Storing.head
           g.J.Storing.stored first new c.counted.result n) count
           (covered_on g.D.Device.seen g.D.Device.may_leave g.D.Device.moment g.J.Storing.head g.J.Storing.stored
           first there new c.counted.result c.args.disk.now.count
-          (λ k bytes r. c.records_stay.ensures.later first there new k bytes all r)
+          (λ k entry r. c.records_stay.ensures.later first there new k entry all r)
           c.counted.ensures.covered),
       i.2,
     )

@@ -11,7 +11,7 @@ use Rattle.hg_phases.proofs.phases.Phases.advance.Goals as goal
 
 pub advance_rows-requires-clause-standing : goal.advance_rows-requires-clause-standing
 advance_rows-requires-clause-standing g c =
-    let was = c.self.inside.index.rows.items in
+    let was = c.self.inside.index.rows in
     let fits = rw (← c.self.view_is) at c.requires.fits in
     rw c.room-room.ensures.rows (standing_told (parents_of c.args.log.now.rows) was fits.draft fits.secret)
 
@@ -19,16 +19,16 @@ pub returns-clause-fits : goal.returns-clause-fits
 returns-clause-fits g c =
     let log = c.args.log.now.rows in
     let parents = parents_of log in
-    let was = c.self.inside.index.rows.items in
-    let mid = c.advance_rows.new.rows.items in
-    let now = c.keep.new.self.rows.items in
+    let was = c.self.inside.index.rows in
+    let mid = c.advance_rows.new.rows in
+    let now = c.keep.new.self.rows in
     let same : now ≡ mid = c.in_ok-keep.ensures.ok in
     let fits : AreFor log (record {
       phases = phases_told was;
       draft = told Draft was;
       secret = told Secret was;
     }) = rw (← c.self.view_is) at c.requires.fits in
-    let before : c.room-room.new.self.rows.items ≡ was = c.room-room.ensures.rows in
+    let before : c.room-room.new.self.rows ≡ was = c.room-room.ensures.rows in
     let size : length mid ≡ length was =
     c.in_ok-changes.ensures.changes.as_long ∙ ap (λ rows. length rows) before in
     let phases : phases_told mid ≡ advanced parents c.args.target c.args.heads.now (phases_told was) =

@@ -7,7 +7,7 @@ use Rattle.hg_phases.proofs.phases.Phases.new.Goals as goal
 pub invariant_of-result : goal.invariant_of-result
 invariant_of-result g c =
     let index = c.new.result in
-    sound_unsaved index.rows.items index.kept.items index.saved c.new.ensures.saved
+    sound_unsaved index.rows index.kept.items index.saved c.new.ensures.saved
     c.new.ensures.kept (omega (arith, ap length c.new.ensures.rows))
 
 pub returns : goal.returns

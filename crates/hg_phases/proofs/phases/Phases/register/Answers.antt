@@ -17,10 +17,10 @@ use Rattle.hg_phases.proofs.phases.Phases.register.Goals as goal
 pub invariant_of-self-2 : goal.invariant_of-self-2
 invariant_of-self-2 g c =
     let old = c.self.inside in
-    let was = old.index.rows.items in
+    let was = old.index.rows in
     let x = c.of-row.result in
-    let now = c.push.new.self.items in
-    let grown : now ≡ was ++ x ∷ [] = c.in_ok-push.ensures.items in
+    let now = c.push.new.self in
+    let grown : now ≡ was ++ x ∷ [] = c.in_ok-push.ensures.ok in
     let next : c.args.rev ≡ length (phases_told was) = rw (← c.self.view_is) at c.requires.next in
     let at : c.args.rev ≡ length was = next ∙ length-map was phase_told in
     let longer : length now ≡ length was + 1 = ap length grown ∙ length_push was x in
@@ -31,10 +31,10 @@ invariant_of-self-2 g c =
 pub returns-clause-ok : goal.returns-clause-ok
 returns-clause-ok g c =
     let old = c.self.inside in
-    let was = old.index.rows.items in
+    let was = old.index.rows in
     let x = c.of-row.result in
-    let now = c.push.new.self.items in
-    let grown : now ≡ was ++ x ∷ [] = c.in_ok-push.ensures.items in
+    let now = c.push.new.self in
+    let grown : now ≡ was ++ x ∷ [] = c.in_ok-push.ensures.ok in
     let next : c.args.rev ≡ length (phases_told was) = rw (← c.self.view_is) at c.requires.next in
     let at : c.args.rev ≡ length was = next ∙ length-map was phase_told in
     let rows = c.args.log.now.rows in
@@ -64,10 +64,10 @@ returns-clause-ok g c =
 pub returns-clause-fits : goal.returns-clause-fits
 returns-clause-fits g c =
     let old = c.self.inside in
-    let was = old.index.rows.items in
+    let was = old.index.rows in
     let x = c.of-row.result in
-    let now = c.push.new.self.items in
-    let grown : now ≡ was ++ x ∷ [] = c.in_ok-push.ensures.items in
+    let now = c.push.new.self in
+    let grown : now ≡ was ++ x ∷ [] = c.in_ok-push.ensures.ok in
     let next : c.args.rev ≡ length (phases_told was) = rw (← c.self.view_is) at c.requires.next in
     let at : c.args.rev ≡ length was = next ∙ length-map was phase_told in
     let rows = c.args.log.now.rows in
@@ -120,10 +120,10 @@ returns-clause-fits g c =
 pub returns-clause-saved : goal.returns-clause-saved
 returns-clause-saved g c =
     let old = c.self.inside in
-    let was = old.index.rows.items in
+    let was = old.index.rows in
     let x = c.of-row.result in
-    let now = c.push.new.self.items in
-    let grown : now ≡ was ++ x ∷ [] = c.in_ok-push.ensures.items in
+    let now = c.push.new.self in
+    let grown : now ≡ was ++ x ∷ [] = c.in_ok-push.ensures.ok in
     let base : base_of old.index.saved now old.index.kept.items ≡ base_of old.index.saved was
     old.index.kept.items =
     ap (λ xs. base_of old.index.saved xs old.index.kept.items) grown

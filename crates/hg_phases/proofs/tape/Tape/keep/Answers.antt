@@ -29,7 +29,7 @@ returns-then-is_empty-clause-base g c =
     let kept : c.take_over.new.self.kept.items ≡ self.kept.items ++ more =
     rw none c.take_over.ensures.kept in
     rw (kept, c.take_over.ensures.saved, c.take_over.ensures.rows)
-    (base_kept self.saved self.rows.items self.kept.items c.args.changes.items)
+    (base_kept self.saved self.rows self.kept.items c.args.changes.items)
 
 pub returns-in-Ok-clause-replaced : goal.returns-in-Ok-clause-replaced
 returns-in-Ok-clause-replaced g c =
@@ -41,4 +41,4 @@ pub returns-in-Ok-clause-base : goal.returns-in-Ok-clause-base
 returns-in-Ok-clause-base g c =
     let self = c.args.self.now in
     rw (c.in-Ok.ensures.ok, c.as_slice.ensures.value)
-    (base_kept self.saved self.rows.items self.kept.items c.args.changes.items)
+    (base_kept self.saved self.rows self.kept.items c.args.changes.items)

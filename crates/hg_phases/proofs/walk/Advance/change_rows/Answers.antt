@@ -12,8 +12,8 @@ pub returns-clause-standing : goal.returns-clause-standing
 returns-clause-standing g c =
     let log = c.args.self.now.log.now.rows in
     let parents = parents_of log in
-    let now = c.lower_all.new.rows.items in
-    let next = c.restand_all.new.rows.items in
+    let now = c.lower_all.new.rows in
+    let next = c.restand_all.new.rows in
     let changes = c.lower_all.new.changes.items in
     let lowered = c.in_ok-lower_all.ensures.ok in
     let held = c.lower_all.new.changes.ok in
@@ -23,5 +23,5 @@ returns-clause-standing g c =
     let are = subst (λ (n : ℕ). AreRestood parents
     (λ r. IsTouched parents target (phases_told now) (rows_of changes) n r) now next)
     all c.in_ok-restand_all.ensures.ok in
-    stands_again parents (ordered log c.len-lawful.ensures.lawful) target c.args.rows.now.items now next
+    stands_again parents (ordered log c.len-lawful.ensures.lawful) target c.args.rows.now now next
     (rows_of changes) c.requires.lawful c.requires.standing lowered.as_long lowered.above lowered.each are

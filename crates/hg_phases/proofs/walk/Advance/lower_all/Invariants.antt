@@ -6,17 +6,17 @@ use Rattle.hg_phases.proofs.walk.Advance.lower_all.Given as goal
 
 abbrev pub invariant-loop-head : goal.invariant-loop-head
 invariant-loop-head g l = record {
-  follows : TapeFollows l.fn.rows.items l.fn.changes.items l.rows.items l.changes.items;
-  walked : AreWalked (parents_of l.self.log.now.rows) l.self.target l.heads l.fn.rows.items l.head-index 0
-      l.rows.items (rows_of l.changes.items);
+  follows : TapeFollows l.fn.rows l.fn.changes.items l.rows l.changes.items;
+  walked : AreWalked (parents_of l.self.log.now.rows) l.self.target l.heads l.fn.rows l.head-index 0
+      l.rows (rows_of l.changes.items);
 }
 
 abbrev pub invariant-down : goal.invariant-down
 invariant-down g l = record {
-  follows : TapeFollows l.fn.rows.items l.fn.changes.items l.rows.items l.changes.items;
-  walked : AreWalked (parents_of l.self.log.now.rows) l.self.target l.heads l.fn.rows.items (length l.heads) l.place
-      l.rows.items (rows_of l.changes.items);
+  follows : TapeFollows l.fn.rows l.fn.changes.items l.rows l.changes.items;
+  walked : AreWalked (parents_of l.self.log.now.rows) l.self.target l.heads l.fn.rows (length l.heads) l.place
+      l.rows (rows_of l.changes.items);
 }
 
 abbrev pub decreases-down : goal.decreases-down
-decreases-down g l = (sum_by height l.rows.items + length l.changes.items) - l.place
+decreases-down g l = (sum_by height l.rows + length l.changes.items) - l.place

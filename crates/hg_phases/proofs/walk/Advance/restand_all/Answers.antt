@@ -14,7 +14,7 @@ pub loop-place-init : goal.loop-place-init
 loop-place-init g c =
     let parents = parents_of c.args.self.now.log.now.rows in
     let listed = rows_of c.args.changes.now.items in
-    let rows = c.args.rows.now.items in
+    let rows = c.args.rows.now in
     let target = c.args.self.now.target in
     record {
       follows = follows_same rows c.args.changes.now.items;
@@ -42,7 +42,7 @@ restand_lowered-requires-clause-lowered g c =
     let here : c.index.result.now.row ≡ get_or (rows_of changes) i 0 =
     rows_read c.loop-place.changes.items i c.index.result.now (omega (arith, low, follows.longer))
     c.index.ensures ∙ follows.first i low in
-    ap (phase_at (phases_told c.loop-place.rows.items)) here
+    ap (phase_at (phases_told c.loop-place.rows)) here
     ∙ ap (λ (ps : List Phase). phase_at ps (get_or (rows_of changes) i 0)) c.loop-place.invariant.restood.phases
     ∙ c.requires.phases i (omega (arith, low, rows_length changes))
 
@@ -78,7 +78,7 @@ loop-place-preserved g c =
     let changes = c.args.changes.now.items in
     let listed = rows_of changes in
     let i = c.loop-place.place in
-    let old = c.args.rows.now.items in
+    let old = c.args.rows.now in
     let follows = c.loop-place.invariant.follows in
     let low : i < length changes = omega (arith, c.loop-place-test.true, c.requires.lowered) in
     let here : c.index.result.now.row ≡ get_or listed i 0 =
@@ -89,17 +89,17 @@ loop-place-preserved g c =
     let target = c.args.self.now.target in
     let phases = phases_told old in
     let middle = restood_set parents (λ r. IsTouched parents target phases listed i r)
-    (λ r. IsTouched parents target phases listed i r ⊎ (r ≡ get_or listed i 0)) old c.loop-place.rows.items
-    c.restand_lowered.new.rows.items (get_or listed i 0) within (rw here at c.in_ok-restand_lowered.ensures.ok)
+    (λ r. IsTouched parents target phases listed i r ⊎ (r ≡ get_or listed i 0)) old c.loop-place.rows
+    c.restand_lowered.new.rows (get_or listed i 0) within (rw here at c.in_ok-restand_lowered.ensures.ok)
     (λ r r_in either. either) c.loop-place.invariant.restood in
     record {
       follows = follows_on _ _ _ _ _ _ (follows_on _ _ _ _ _ _ follows
           c.in_ok-restand_lowered.ensures.follows) c.in_ok-restand_children.ensures.follows;
       restood = restood_on parents
           (λ r. IsTouched parents target phases listed i r ⊎ (r ≡ get_or listed i 0))
-          (λ r. IsHigherChild parents target (phases_told c.restand_lowered.new.rows.items) (get_or listed i 0) r)
+          (λ r. IsHigherChild parents target (phases_told c.restand_lowered.new.rows) (get_or listed i 0) r)
           (λ r. IsTouched parents target phases listed (i + 1) r) old
-          c.restand_lowered.new.rows.items c.restand_children.new.rows.items
+          c.restand_lowered.new.rows c.restand_children.new.rows
           (λ r r_in touched. elim (touched_more parents target phases listed i r touched) [
             | inl one ↦ inl one
             | inr child ↦ inr (
@@ -114,9 +114,9 @@ pub returns-clause-ok : goal.returns-clause-ok
 returns-clause-ok g c =
     let parents = parents_of c.args.self.now.log.now.rows in
     let listed = rows_of c.args.changes.now.items in
-    let phases = phases_told c.args.rows.now.items in
+    let phases = phases_told c.args.rows.now in
     restood_fewer parents (λ r. IsTouched parents c.args.self.now.target phases listed c.loop-place.place r)
-    (λ r. IsTouched parents c.args.self.now.target phases listed c.args.lowered r) c.args.rows.now.items c.loop-place.rows.items
+    (λ r. IsTouched parents c.args.self.now.target phases listed c.args.lowered r) c.args.rows.now c.loop-place.rows
     (λ r r_in touched. record {
       place = touched.place;
       within = omega (arith, touched.within, c.loop-place-test.false);

@@ -13,7 +13,7 @@ children-init g c =
     let log = c.args.self.now.log.now.rows in
     let parents = parents_of log in
     let next = c.last_child-next.result in
-    let rows = c.args.rows.now.items in
+    let rows = c.args.rows.now in
     record {
       follows = follows_same rows c.args.changes.now.items;
       restood = restood_none parents
@@ -36,8 +36,8 @@ children-preserved g c =
     let row = c.args.row in
     let target = c.args.self.now.target in
     let child = c.in-Some.child in
-    let old = c.args.rows.now.items in
-    let rows = c.children.rows.items in
+    let old = c.args.rows.now in
+    let rows = c.children.rows in
     let next = c.child_before-next.result in
     let is = c.child_before-next.ensures in
     let here : IsNext parents row (length log) (Some child) = rw c.in-Some.is at c.children.invariant.next in
@@ -51,7 +51,7 @@ children-preserved g c =
           (λ r. IsLater parents row (Some child) r × IsHigher target (phases_told old) r)
           (λ r. IsHigherRow target (phases_told rows) child r)
           (λ r. IsLater parents row next r × IsHigher target (phases_told old) r) old rows
-          c.restand_higher.new.rows.items
+          c.restand_higher.new.rows
           (λ r r_in later. elim (behind_next parents row child next is r later.0) [
             | inl before ↦ inl (before, later.1)
             | inr e ↦ inr (e, subst (λ (ps : List Phase). IsHigher target ps r) (sym restood.phases) later.1)

@@ -8,9 +8,9 @@ use Rattle.hg_phases.proofs.walk.Advance.restand_children.Given as goal
 
 abbrev pub invariant-children : goal.invariant-children
 invariant-children g l = record {
-  follows : TapeFollows l.initial.rows.items l.initial.changes.items l.rows.items l.changes.items;
+  follows : TapeFollows l.initial.rows l.initial.changes.items l.rows l.changes.items;
   restood : AreRestood (parents_of l.self.log.now.rows) (λ r. IsLater (parents_of l.self.log.now.rows) l.row l.next r
-      × IsHigher l.self.target (phases_told l.initial.rows.items) r) l.initial.rows.items l.rows.items;
+      × IsHigher l.self.target (phases_told l.initial.rows) r) l.initial.rows l.rows;
   next : IsNext (parents_of l.self.log.now.rows) l.row (length l.self.log.now.rows) l.next;
 }
 

@@ -9,10 +9,10 @@ use Rattle.hg_phases.proofs.walk.Advance.restand_higher.Goals as goal
 pub returns-clause-ok : goal.returns-clause-ok
 returns-clause-ok g c =
     let parents = parents_of c.args.self.now.log.now.rows in
-    let rows = c.args.rows.now.items in
-    let within : c.args.row < length rows = omega (arith, c.if-row-len.false, c.len.ensures, c.args.rows.now.ok) in
+    let rows = c.args.rows.now in
+    let within : c.args.row < length rows = omega (arith, c.if-row-len.false, c.len.ensures) in
     on_ok_weaker c.restand.result
     (λ is. restood_set parents (λ r. ⊥) (λ r. IsHigherRow c.args.self.now.target (phases_told rows) c.args.row r) rows rows
-    c.restand.new.rows.items c.args.row within is (λ r r_in higher. inr higher.0)
+    c.restand.new.rows c.args.row within is (λ r r_in higher. inr higher.0)
     (restood_none parents (λ r. ⊥) rows (λ r r_in none. none)))
     c.restand.ensures.ok

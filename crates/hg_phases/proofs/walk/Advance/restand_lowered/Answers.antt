@@ -7,7 +7,7 @@ use Rattle.hg_phases.proofs.walk.Advance.restand_lowered.Goals.{in-Public, in_de
 
 pub returns-then-matches-clause-ok : goal.returns-then-matches-clause-ok
 returns-then-matches-clause-ok g c =
-    let rows = c.args.rows.now.items in
+    let rows = c.args.rows.now in
     let is : c.args.self.now.target ≡ Public = elim c.match-matches.branch [
       | in-Public w ↦ w.in-Public.is
       | in_default w ↦ absurd (let e : true ≡ false = sym c.if-matches.true ∙ w.matches-is in cc)

@@ -11,7 +11,7 @@ invariant_of-self g c =
     let looked = c.look_beside-brought.ensures.looked in
     let repo = looked.0 in
     let brought = subst (λ r. IfOk r (λ b. IsBrought repo c.seen.result.changesets c.seen.result.markers
-    c.seen.result.obsolete.now c.args.commands.now b)) c.in-Ok.is looked.4 in
+    c.seen.result.obsolete.now c.args.asked b)) c.in-Ok.is looked.4 in
     all_front c.in-Ok-with.view repo _ _ _ _ c.in-Ok.field-0.came c.in-Ok-with.ensures brought.came looked.3
 
 pub invariant_of-self-in-Err-1 : goal.invariant_of-self-in-Err-1
@@ -31,7 +31,7 @@ with-requires g c =
     let held = c.self.inside.held in
     let came = c.in-Ok.field-0.came in
     let brought = subst (λ r. IfOk r (λ b. IsBrought repo c.seen.result.changesets c.seen.result.markers
-    c.seen.result.obsolete.now c.args.commands.now b)) c.in-Ok.is looked.4 in
+    c.seen.result.obsolete.now c.args.asked b)) c.in-Ok.is looked.4 in
     subst (λ view. IsBefore view came) (sym c.replace-held.ensures.value)
     (goes_on held came c.seen.result.changesets c.seen.result.markers c.seen.result.obsolete.now repo.rows repo.markers
     repo.phases c.seen.ensures.changesets c.seen.ensures.markers c.seen.ensures.obsolete c.seen.ensures.phases

@@ -1,8 +1,16 @@
 use Rattle.std.proofs.Common.{◌+◌, ◌≤◌, ◌∷◌, ◌∙◌, [], List, ℕ, length, drop, ap, sym, arith, length-append}
 use Rattle.hg_store.specs.Files.{stored}
 use Rattle.hg_store.specs.Records.{frames}
-use Rattle.hg_store.proofs.Staying.{kept_on, kept_synced, only_begins}
+use Rattle.hg_store.specs.declared.head.Version.TheVariants.{Second}
+use Rattle.hg_store.proofs.Staying.{kept_at_first, kept_on, kept_synced, only_begins}
 use Rattle.hg_store.proofs.log.Log.stage.Goals as goal
+
+pub returns-then-self-ge-MOST_BYTES-clause-front : goal.returns-then-self-ge-MOST_BYTES-clause-front
+returns-then-self-ge-MOST_BYTES-clause-front g c =
+    let s = c.requires.settled.2 in
+    let old : List ℕ = g.D.Device.seen c.args.self.now.device in
+    kept_at_first g.D.Device.moment g.D.Device.left_since g.D.Device.may_leave old c.args.self.now.device
+    (g.met.D.Device.only_now c.args.self.now.device) (only_begins old _ s.durable)
 
 pub returns-in_err-end-clause-front : goal.returns-in_err-end-clause-front
 returns-in_err-end-clause-front g c =
@@ -32,7 +40,7 @@ returns-in_err-write_behind-clause-front g c =
       c.in_ok-end.ensures.end,
       ap length
           c.in_ok-end.ensures.written,
-      length-append old (drop 1 (frames c.args.self.now.digest c.args.batch.now)),
+      length-append old (drop 1 (frames Second c.args.self.now.digest c.args.batch.now)),
     ) in
     kept_on g.D.Device.moment g.D.Device.left_since g.D.Device.may_leave old _ _ _ first
     (c.write_behind.ensures.front old behind first.outcomes)
@@ -53,7 +61,7 @@ returns-in_err-sync-clause-front g c =
       c.in_ok-end.ensures.end,
       ap length
           c.in_ok-end.ensures.written,
-      length-append old (drop 1 (frames c.args.self.now.digest c.args.batch.now)),
+      length-append old (drop 1 (frames Second c.args.self.now.digest c.args.batch.now)),
     ) in
     let second = kept_on g.D.Device.moment g.D.Device.left_since g.D.Device.may_leave old
     c.args.self.now.device
@@ -79,7 +87,7 @@ returns-clause-front g c =
       c.in_ok-end.ensures.end,
       ap length
           c.in_ok-end.ensures.written,
-      length-append old (drop 1 (frames c.args.self.now.digest c.args.batch.now)),
+      length-append old (drop 1 (frames Second c.args.self.now.digest c.args.batch.now)),
     ) in
     let second = kept_on g.D.Device.moment g.D.Device.left_since g.D.Device.may_leave old
     c.args.self.now.device

@@ -1,6 +1,6 @@
 use Rattle.std.proofs.Common.{◌∙◌, ap, rules, subst, sym}
 use Rattle.hg_commit.specs.Clients.{IsCovered}
-use Rattle.hg_hook.specs.Policies.{HasAsked}
+use Rattle.hg_http.specs.Policies.{HasAsked}
 use Rattle.hg_web.specs.Answering.{around_of, AnswersRequest}
 use Rattle.hg_web.specs.Pushes.{Answered}
 use Rattle.hg_web.specs.code.Wires.{seen_by}

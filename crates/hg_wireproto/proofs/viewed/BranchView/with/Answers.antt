@@ -3,9 +3,10 @@ use Rattle.hg_log.specs.Rows.{AreLawful}
 use Rattle.hg_wireproto.specs.Viewed.{IsBefore, Viewed}
 use Rattle.hg_wireproto.specs.code.Covered.{AreCovered, AreCoveredTo}
 use Rattle.hg_wireproto.specs.code.HeadIds.{AreHeadIds}
+use Rattle.hg_wireproto.specs.code.Ids.{AreIds}
 use Rattle.hg_wireproto.proofs.Coming.{obsolete_same}
 use Rattle.hg_wireproto.proofs.Covering.{covered_on}
-use Rattle.hg_wireproto.proofs.HeadIds.{front_heads, front_within}
+use Rattle.hg_wireproto.proofs.HeadIds.{front_heads, front_is, front_within}
 use Rattle.hg_wireproto.proofs.viewed.BranchView.with.Goals as goal
 use Rattle.hg_wireproto.proofs.viewed.BranchView.with.Goals.{then-stays+in_ok-covered, else-stays+in_ok-covered-2}
 
@@ -42,6 +43,24 @@ bring_up-requires-clause-told g c =
     c.leaves_kept-stays.ensures.first (ap (λ (v : Viewed g.row.A.Denot). v.rows) c.self.view_is ∙ c.requires.rows)
     c.len-first.ensures.len c.self.inside.heads.keys c.self.invariant.1)
 
+pub add_ids-requires-clause-within : goal.add_ids-requires-clause-within
+add_ids-requires-clause-within g c =
+    let came = c.args.came in
+    subst (λ (v : Viewed g.row.A.Denot). c.len-first.result ≤ length v.rows) (sym c.in_ok-copied.ensures)
+    (front_within came.rows c.self.inside.copied.rows came.first c.len-first.result
+    c.leaves_kept-stays.ensures.first (ap (λ (v : Viewed g.row.A.Denot). v.rows) c.self.view_is ∙ c.requires.rows)
+    c.len-first.ensures.len)
+
+pub add_ids-requires-clause-told : goal.add_ids-requires-clause-told
+add_ids-requires-clause-told g c =
+    let came = c.args.came in
+    subst (λ (v : Viewed g.row.A.Denot). AreIds (take c.len-first.result v.rows) c.self.inside.ids.keys)
+    (sym c.in_ok-copied.ensures)
+    (subst (λ rs. AreIds rs c.self.inside.ids.keys)
+    (front_is came.rows c.self.inside.copied.rows came.first c.len-first.result
+    c.leaves_kept-stays.ensures.first (ap (λ (v : Viewed g.row.A.Denot). v.rows) c.self.view_is ∙ c.requires.rows)
+    c.len-first.ensures.len) c.self.invariant.2)
+
 pub invariant_of-result : goal.invariant_of-result
 invariant_of-result g c =
     let copied = c.in_ok-copied.copied in (
@@ -54,4 +73,5 @@ invariant_of-result g c =
             w.in_ok-covered-2.ensures
       ],
       c.in_ok-bring_up.ensures,
+      c.in_ok-add_ids.ensures,
     )

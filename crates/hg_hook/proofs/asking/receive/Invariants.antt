@@ -1,5 +1,0 @@
-use Rattle.hg_hook.specs.code.Answers.{IsReading}
-use Rattle.hg_hook.proofs.asking.receive.Given as goal
-
-abbrev pub invariant-reads : goal.invariant-reads
-invariant-reads g l = IsReading (g.I.Read.remaining l.fn.reader) (g.I.Read.remaining l.reader) l.answer

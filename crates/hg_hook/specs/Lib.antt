@@ -1,4 +1,0 @@
-pub mod Policies
-pub mod Hooks
-pub mod Exchanges
-pub mod code

@@ -1,9 +1,0 @@
-use Rattle.std.proofs.Common.{◌≡◌, take}
-use Rattle.std.specs.List.{flat_map}
-use Rattle.hg_wireproto.specs.Form.{fields_in}
-use Rattle.hg_wireproto.proofs.Pieces.{texts}
-use Rattle.hg_wireproto.proofs.form.read_form.Given as goal
-
--- the fields of the pieces so far
-abbrev pub invariant-loop-piece : goal.invariant-loop-piece
-invariant-loop-piece g l = l.fields ≡ flat_map fields_in (texts (take l.piece-index l.piece-items))
