@@ -208,8 +208,9 @@ class Pushed:
         results.see(f"{what}: the cut", status == 0, said)
         results.see(f"{what}: what is cut is kept", self.kept(at) == lost)
         self.bundles = self.bundles[:at]
-        left = store(self.bundles, end=b"")
-        results.see(f"{what}: the pushes before it", read(self.file).rstrip(b"\0") == left.rstrip(b"\0"))
+        status, told, said = self.run("log", "--store", self.name)
+        results.see(f"{what}: the pushes before it", status == 0 and told == b"".join(self.bundles), said)
+        results.see(f"{what}: their records", whole.startswith(read(self.file).rstrip(b"\0")))
 
     def changesets(self):
         """The changesets of the report, in its order, and how many pushes it has."""
