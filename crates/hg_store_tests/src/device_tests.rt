@@ -155,7 +155,7 @@ fn a_batch_on_a_file_that_fails(rt: HostRuntime) -> Result<(), Fail> {
         let batch = records(alloc, 1, size + 1)?;
         let all = size.saturating_mul(4).saturating_add(4);
         for calls in 0..all.saturating_add(1) {
-            let Opened { log, records: had } = opened(alloc, paper_with(alloc, calls, NO_LIMIT)?)?;
+            let Opened { log, records: had, .. } = opened(alloc, paper_with(alloc, calls, NO_LIMIT)?)?;
             drop(had);
             let (result, paper) = added(log, &batch);
             assert_eq!(rt;
@@ -181,7 +181,7 @@ fn a_batch_on_a_full_disk(rt: HostRuntime) -> Result<(), Fail> {
     let after = store_of(alloc, 3)?.len();
     let batch = records(alloc, 1, 3)?;
     for room in before..after.saturating_add(2) {
-        let Opened { log, records: had } = opened(alloc, paper_with(alloc, NO_LIMIT, room)?)?;
+        let Opened { log, records: had, .. } = opened(alloc, paper_with(alloc, NO_LIMIT, room)?)?;
         drop(had);
         let (result, paper) = added(log, &batch);
         assert_eq!(rt; result.is_ok(), room >= after, "room for {room}");
@@ -199,7 +199,7 @@ fn a_file_after_a_failure(rt: HostRuntime) -> Result<(), Fail> {
     let alloc = rt.alloc();
     let batch = records(alloc, 1, 2)?;
     let room = store_of(alloc, 1)?.len();
-    let Opened { log, records: had } = opened(alloc, paper_with(alloc, NO_LIMIT, room)?)?;
+    let Opened { log, records: had, .. } = opened(alloc, paper_with(alloc, NO_LIMIT, room)?)?;
     drop(had);
     let mut log = log;
     assert_eq!(rt; log.append(&batch), Err(DeviceError::Failed));
@@ -513,7 +513,7 @@ fn refused_over(fault: StoreFault) -> Came {
 fn added_over(alloc: Global, heap: &LocalHeap, paper: Paper) -> Result<Came, Fail> {
     match opened(heap, paper) {
         Ok(opened) => {
-            let Opened { log, records: had } = opened;
+            let Opened { log, records: had, .. } = opened;
             drop(had);
             let Ok(batch) = records(heap, 1, 3) else {
                 return Ok(Came::NoBatch);

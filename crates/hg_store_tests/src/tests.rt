@@ -299,7 +299,7 @@ fn records_one_by_one(rt: HostRuntime) -> Result<(), Fail> {
 }
 
 /// Why no record was read.
-fn stop_of<T>(found: Result<T, NoRecord>) -> Option<NoRecord> {
+fn stop_of<T: Drop>(found: Result<T, NoRecord>) -> Option<NoRecord> {
     found.err()
 }
 
