@@ -121,7 +121,7 @@ http {{
         listen {hub}:8080;
         location / {{
             {handing}
-            proxy_pass http://deqtorap;
+            proxy_pass http://deqtorap_host;
         }}
     }}
 }}
@@ -385,6 +385,9 @@ class Clients:
         line = Line(address, machine)
         number = 0
         while not self.is_over:
+            if machine and machine == self.trial.quiet:
+                time.sleep(pause)
+                continue
             number += 1
             token = f"push-{name}-{number}."
             self.sent(token, machine or "front")
@@ -473,7 +476,7 @@ class Trial:
         self.third = machines["three"]
         self.holder, self.other = (machines[it] for it in (("one", "two") if number % 2 else ("two", "one")))
         self.store, self.began, self.over, self.deposed, self.since = f"store-{number}", None, None, None, None
-        self.ends_by_itself, self.mirror, self.hgweb, self.lost = False, None, None, []
+        self.ends_by_itself, self.mirror, self.hgweb, self.lost, self.quiet = False, None, None, [], None
         os.makedirs(f"{self.room}/log")
         with open(f"{self.room}/hgrc", "w", encoding="utf-8") as file:
             file.write(MERCURIAL.format(top=TOP))
@@ -487,15 +490,14 @@ class Trial:
     # ---- the beginning and the end
 
     def begin(self):
-        flags = ("--shared",) if SHARED else ()
         # the first opening makes the store
         self.holder.serve(self.store)
         until("the first host serves", self.holder.serves)
         if SHARED:
             self.holder.host.kill()
-            self.holder.serve(self.store, *flags, "--standby")
+            self.serve(self.holder)
             until("the first host serves", self.holder.serves)
-            self.other.serve(self.store, *flags, "--standby")
+            self.serve(self.other)
         self.hg("init", "mirrored")
         with open(f"{self.room}/mirrored/.hg/hgrc", "w", encoding="utf-8") as file:
             file.write(f"[mirror]\nstore = {self.third.at}/{self.store}\n")
@@ -510,6 +512,10 @@ class Trial:
             self.hg("clone", f"http://{MACHINES['three']}:8002/", name)
         self.load()
         time.sleep(BEFORE)
+
+    def serve(self, machine):
+        """Starts a host that has to find the store."""
+        machine.serve(self.store, *(("--shared", "--standby") if SHARED else ("--existing",)))
 
     def follow(self):
         """The mirror and hgweb, on the third machine."""
@@ -550,8 +556,8 @@ class Trial:
         end = time.monotonic() + PATIENCE
         while time.monotonic() < end:
             tried = time.monotonic()
-            if not SHARED:
-                self.other.serve(self.store, "--existing")
+            if self.other.host is None or self.other.host.status() is not None:
+                self.serve(self.other)
             while not self.other.serves() and self.other.host.status() is None and time.monotonic() < end:
                 time.sleep(0.02)
             if self.other.serves():
@@ -572,8 +578,17 @@ class Trial:
         until("pushes go on", is_answered)
         time.sleep(AFTER)
 
+    def hush(self):
+        """Every second time nobody pushes at the holder's machine from now on until the holder is back: a push that
+        waits there makes reads wait too, and without one the deposed holder reads out of its memory."""
+        if self.turn % 2:
+            self.quiet = self.holder.name
+            time.sleep(0.5)
+
     def fenced(self):
-        """The deposed holder, which runs again, ends by itself."""
+        """The deposed holder, which is back, is asked to read and to push, and ends by itself."""
+        time.sleep(1)
+        self.quiet = None
         until("the deposed holder ends", lambda: self.deposed.host.status() is not None)
         host = self.deposed.host
         if host.status() != 3:
@@ -672,6 +687,7 @@ def machine(trial):
 
 
 def cut(trial):
+    trial.hush()
     trial.strike(trial.holder)
     Network.link(trial.holder.name, False)
     trial.take_over()
@@ -682,6 +698,7 @@ def cut(trial):
 
 def freeze(trial):
     """A machine that stands still answers its network nothing either."""
+    trial.hush()
     trial.strike(trial.holder)
     Network.link(trial.holder.name, False)
     for process in (trial.holder.host, trial.holder.fuse):
