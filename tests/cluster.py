@@ -14,10 +14,10 @@ hgweb. nginx is before the two, by the lines of docs/cluster.md. While clients p
 
 Where the holder is the one, a second `host` on the other machine is tried each second until it gets the lock. Where
 the program has `--shared` and `--standby` both hosts have them, and the second one waits by itself; --alone leaves them
-off. After each drill: every push that was answered as done is in the store, once,
-and after all that were answered before it was sent; no push was answered by the deposed holder; that one ended with
-status 3; the mirror has every push, and `hg verify` finds nothing. It prints how long no push was answered. Reads that
-miss a push that was answered before they were sent are counted, and are faults with `--shared`.
+off. After each drill every push that was answered as done is in the store, once, and after all that were answered
+before it was sent; the deposed holder answered no push, and ended with status 3; the mirror has every push, and `hg
+verify` finds nothing. It prints how long no push was answered. Reads that miss a push that was answered before they
+were sent are counted, and are faults with `--shared`.
 
 --short has the three drills of SHORT, in less than five minutes. Without it there are as many of each as DRILLS says,
 or N of each. --keep leaves the logs. It needs root, Debian's packages ceph-mon, ceph-osd, ceph-mds and ceph-fuse, hg
