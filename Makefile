@@ -10,6 +10,7 @@
 #   make wrong-bodies, make run-tests   two parts of the gate by themselves
 #   make try-install, make try-team   try the installation, and every command of docs/team.md in a room of its own
 #   make try-clients   random pushes of three real clients to host, mirrored: a quarter of an hour
+#   make try-cluster   a store on a Ceph cluster of this machine, and the end of each of its parts: two hours
 #   make install     installs what was built below PREFIX (/usr/local), in DESTDIR where that is given
 #   make deb         makes a Debian package of what was built
 #   make docs        makes build/docs of the sources: the index, definitions, examples and wrong bodies
@@ -28,7 +29,7 @@ SOURCES := crates.txt $(shell find crates -name out -prune -o -type f \
 PUSHED := examples/pushes/first-changesets/01.hg20
 
 .PHONY: run build serve-demo host-demo test test-all wrong-bodies run-tests docs \
-	bench install deb man try-install try-team try-clients clean \
+	bench install deb man try-install try-team try-clients try-cluster clean \
 	toolchain
 
 run: $(UNPROVED)
@@ -95,6 +96,9 @@ try-team: $(PROGRAM)
 
 try-clients: $(PROGRAM)
 	@python3 tests/clients.py $(PROGRAM)
+
+try-cluster: $(PROGRAM)
+	@python3 tests/cluster.py $(PROGRAM)
 
 docs:
 	@python3 tools/documents.py
