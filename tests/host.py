@@ -280,15 +280,19 @@ def who_pushed_stands_in_the_record(host):
 @case
 def a_store_that_has_to_be_there(host):
     """A file system that is not mounted: its folder is empty, and stays so. One that is there is opened."""
-    words = ("host", "--store", host.store, "--listen", "127.0.0.1:0", "--existing")
+    words = ("host", "--store", host.store, "--listen", "127.0.0.1:0")
     for make in (lambda: None, lambda: os.mkdir(host.store)):
         make()
-        want("no store", host.run(*words)[::2], (3, f"hg_pushd: {host.store}/pushes: no store\n"))
+        for flag in ("--existing", "--shared"):
+            want(f"no store, {flag}", host.run(*words, flag)[::2],
+                 (3, f"hg_pushd: {host.store}/pushes: no store\n"))
     want("what is in it", os.listdir(host.store), [])
     host.start()
     host.push(EMPTY)
     host.kill()
-    want("a store", host.start("--existing"), (1, 0))
+    for flag in ("--existing", "--shared"):
+        want(f"a store, {flag}", host.start(flag), (1, 0))
+        host.kill()
 
 
 @case

@@ -34,6 +34,8 @@ pub struct Hosting<'a> {
     pub pull: Option<&'a str>,
     /// Whether the store has to be there.
     pub existing: bool,
+    /// Whether the folder is one of several machines.
+    pub shared: bool,
     /// Where it is asked whether a push may run.
     pub hook: Option<&'a str>,
     /// For how many seconds its answer is waited for.
@@ -178,6 +180,14 @@ pub const HOST: CommandRow<'static> = CommandRow {
             help: "Refuses a folder without a store, and makes none",
         },
         OptionRow {
+            name: "shared",
+            kind: Kind::Flag,
+            value: "",
+            is_required: false,
+            default: &[],
+            help: "The folder is of several machines (CephFS): answers rest on a beat; and --existing",
+        },
+        OptionRow {
             name: "hook",
             kind: Kind::Word,
             value: "URL",
@@ -219,7 +229,8 @@ pub fn read_hosting<'a>(matches: &ArgMatches<'a>) -> Hosting<'a> {
         also: matches.get_str("also"),
         user_header: matches.get_str("user-header"),
         pull: matches.get_str("pull"),
-        existing: matches.get_flag("existing"),
+        existing: matches.get_flag("existing") || matches.get_flag("shared"),
+        shared: matches.get_flag("shared"),
         hook: matches.get_str("hook"),
         hook_wait: matches.get_one("hook-wait").unwrap_or(1),
         log: matches.get_flag("log"),
