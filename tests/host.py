@@ -280,15 +280,19 @@ def who_pushed_stands_in_the_record(host):
 @case
 def a_store_that_has_to_be_there(host):
     """A file system that is not mounted: its folder is empty, and stays so. One that is there is opened."""
-    words = ("host", "--store", host.store, "--listen", "127.0.0.1:0", "--existing")
+    words = ("host", "--store", host.store, "--listen", "127.0.0.1:0")
     for make in (lambda: None, lambda: os.mkdir(host.store)):
         make()
-        want("no store", host.run(*words)[::2], (3, f"hg_pushd: {host.store}/pushes: no store\n"))
+        for flag in ("--existing", "--shared"):
+            want(f"no store, {flag}", host.run(*words, flag)[::2],
+                 (3, f"hg_pushd: {host.store}/pushes: no store\n"))
     want("what is in it", os.listdir(host.store), [])
     host.start()
     host.push(EMPTY)
     host.kill()
-    want("a store", host.start("--existing"), (1, 0))
+    for flag in ("--existing", "--shared"):
+        want(f"a store, {flag}", host.start(flag), (1, 0))
+        host.kill()
 
 
 @case
@@ -569,6 +573,43 @@ def a_store_that_fails(host):
     host.kill()
     want("the first are stored", 0 < done < 100, True)
     want("all that were told as done, and one more at most", host.start()[0] in (done, done + 1), True)
+
+
+REFUSED = bundle((b"CHECK:HEADS", (), bytes(19) + b"\x01"))
+
+
+def fail_writes(host):
+    """From now on each write of the server fails, as where another machine took the store over."""
+    resource.prlimit(host.process.pid, resource.RLIMIT_FSIZE, (0, 0))
+
+
+def is_answered(ask):
+    try:
+        return ask()[0] == 200
+    except (Wrong, ConnectionError):
+        return False
+
+
+@case
+def answers_of_a_server_that_lost_its_store(host):
+    """Its writes fail from a moment on. With --shared nothing that rests on the repository is answered after that: not
+    a command that reads, nor the report, nor a push that is refused; and the process ends. Without, all of these are."""
+    asked = [lambda: host.ask("/?cmd=heads"), lambda: host.ask("/?cmd=listkeys&namespace=bookmarks"),
+             lambda: host.ask("/?cmd=batch", fields=("x-hgarg-1: cmds=heads+",)), lambda: host.ask("/report"),
+             lambda: host.push(REFUSED)]
+    host.start(ignores_signals=True)
+    want("a push", host.push(EMPTY)[2], EMPTY_REPLY)
+    fail_writes(host)
+    want("answers that need no write", [is_answered(ask) for ask in asked], [True] * len(asked))
+    host.kill()
+    for ask in asked:
+        host.start("--shared", ignores_signals=True)
+        want("an answer before", is_answered(ask), True)
+        fail_writes(host)
+        want("an answer after", is_answered(ask), False)
+        want("its status", host.process.wait(10), 3)
+        want("what it says", host.process.stderr.read(), b"hg_pushd: the store failed\n")
+        host.kill()
 
 
 @case

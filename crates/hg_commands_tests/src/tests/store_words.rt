@@ -21,6 +21,8 @@ const DEFAULTS: Hosting<'static> = Hosting {
     user_header: None,
     pull: None,
     existing: false,
+    shared: false,
+    standby: false,
     hook: None,
     hook_wait: 60,
     log: false,
@@ -48,6 +50,8 @@ fn is_same(one: &Hosting<'_>, other: &Hosting<'_>) -> bool {
         && is_same_word(one.user_header, other.user_header)
         && is_same_word(one.pull, other.pull)
         && one.existing == other.existing
+        && one.shared == other.shared
+        && one.standby == other.standby
         && is_same_word(one.hook, other.hook)
         && one.hook_wait == other.hook_wait
         && one.log == other.log
@@ -123,6 +127,21 @@ fn words_that_ask_for_a_host(rt: HostRuntime) -> Result<(), Fail> {
             &["--existing"],
             Hosting {
                 existing: true,
+                ..DEFAULTS
+            },
+        ),
+        (
+            &["--standby"],
+            Hosting {
+                standby: true,
+                ..DEFAULTS
+            },
+        ),
+        (
+            &["--shared"],
+            Hosting {
+                existing: true,
+                shared: true,
                 ..DEFAULTS
             },
         ),
