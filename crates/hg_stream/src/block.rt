@@ -5,6 +5,9 @@ ghost use Rattle.std.specs.Prelude.{◌≡◌, ◌≤◌, ◌<◌, ◌+◌, ◌+
 use hg_chunks::SizeField;
 use std::alloc::{Allocator, Global};
 
+/// How many bytes of memory for blocks are kept for the next bundle at most.
+const KEPT: usize = 1_024;
+
 /// How many bytes of a block are still to come.
 #[derive(Clone, Copy)]
 pub struct Left {
@@ -74,6 +77,17 @@ impl<A: Allocator> BlockIn<A> {
         self.size = SizeField::new();
         self.block.clear();
         self.awaits = Awaits::Size;
+    }
+
+    /// The same for the next bundle: memory for more than [`KEPT`] bytes is given back.
+    pub fn begin_again(&mut self, alloc: A, most: u32)
+        ensures empty { HoldsBlock self.new [] }
+        ensures most { self.new.most ≡ most }
+    {
+        if self.block.capacity() > KEPT {
+            self.block = Vec::new(alloc);
+        }
+        self.restart(most);
     }
 
     /// Takes some bytes, up to the end of the piece or of the block at most.
