@@ -148,7 +148,7 @@ def within(path, function):
             elif named := re.match(r"fn=\((\d+)\) (.*)", line):
                 names[named[1]] = named[2]
             elif line.startswith("calls="):
-                awaited = function in called
+                awaited = called == function or called.startswith(f"{function}::<")
     return cost
 
 

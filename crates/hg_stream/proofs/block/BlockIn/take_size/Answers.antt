@@ -19,9 +19,9 @@ returns-in_err-step-clause-err g c =
       c.loop-taken.taken + 1,
       omega (arith, c.loop-taken-test.true),
       λ rest h. rw (
-            ← taken_more rest c.args.piece.now c.loop-taken.taken c.loop-taken-test.true,
-            ← c.loop-taken.invariant.most,
-          )
+        ← taken_more rest c.args.piece.now c.loop-taken.taken c.loop-taken-test.true,
+        ← c.loop-taken.invariant.most,
+      )
           (c.in_err-step.ensures.err (rest ++ take c.loop-taken.taken c.args.piece.now)
           (c.loop-taken.invariant.took rest h)),
     )
