@@ -77,7 +77,9 @@ impl Repo {
         Repo { publishing, ..Repo::default() }
     }
 
-    /// Runs a push. Refused, it changes nothing, and the error is the part of its reply.
+    /// Runs a push. Refused, it changes nothing, and the error is the part of its reply. It is a function of its own,
+    /// so that a profile tells what is done under the lock.
+    #[inline(never)]
     pub fn run(&mut self, parts: &[Part]) -> Result<Vec<Reply>, Reply> {
         let mut undo = Undo { rows: self.rows.len(), markers: self.markers.len(), ..Undo::default() };
         let result = self.run_parts(parts, &mut undo);

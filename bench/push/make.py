@@ -98,4 +98,5 @@ def main(folder):
         write(os.path.join(folder, "blocks"), "%03d" % block, push(blocks.entries(1000)))
 
 
-main(sys.argv[1])
+if __name__ == "__main__":
+    main(sys.argv[1])

@@ -1,3 +1,4 @@
+mod Sizes
 mod Magic
 mod Steps
 mod Chunks

@@ -1,9 +1,13 @@
 //! A block of bytes after its size, however it is cut: the stream parameters, or a header.
 
 ghost use Rattle.std.specs.Prelude.{◌≡◌, ◌≤◌, ◌<◌, ◌+◌, ◌++◌, ◌∷◌, [], List, ℕ, length, take, IfOk, IfErr};
+ghost use Rattle.std.specs.Prelude.{IsTrue, ◌↔◌};
 
 use hg_chunks::SizeField;
 use std::alloc::{Allocator, Global};
+
+/// How many bytes of memory for blocks are kept for the next bundle at most.
+const KEPT: usize = 1_024;
 
 /// How many bytes of a block are still to come.
 #[derive(Clone, Copy)]
@@ -76,6 +80,17 @@ impl<A: Allocator> BlockIn<A> {
         self.awaits = Awaits::Size;
     }
 
+    /// The same for the next bundle: memory for more than [`KEPT`] bytes is given back.
+    pub fn begin_again(&mut self, alloc: A, most: u32)
+        ensures empty { HoldsBlock self.new [] }
+        ensures most { self.new.most ≡ most }
+    {
+        if self.block.capacity() > KEPT {
+            self.block = Vec::new(alloc);
+        }
+        self.restart(most);
+    }
+
     /// Takes some bytes, up to the end of the piece or of the block at most.
     pub fn feed(&mut self, piece: &[u8]) -> Result<(usize, BlockStep), BlockFault>
         requires { 0 < length piece.now }
@@ -89,16 +104,46 @@ impl<A: Allocator> BlockIn<A> {
         ensures most { self.new.most ≡ self.old.most }
     {
         match self.awaits {
-            Awaits::Size => {
-                let step = self.take_size_byte(piece[0])?;
-                Ok((1, step))
-            }
+            Awaits::Size => self.take_size(piece),
             Awaits::Data(left) => {
                 let count = left.bytes.min(piece.len());
                 let step = self.take_data(left, &piece[..count])?;
                 Ok((count, step))
             }
         }
+    }
+
+    /// Takes bytes of a size, up to the end of the piece or of the size at most.
+    fn take_size(&mut self, piece: &[u8]) -> Result<(usize, BlockStep), BlockFault>
+        requires awaits { self.old.awaits ≡ Awaits.Size }
+        requires piece { 0 < length piece.now }
+        ensures some { IfOk result (λ r. 0 < r.0) }
+        ensures count { IfOk result (λ r. r.0 ≤ length piece.now) }
+        ensures ok { IfOk result (λ r. (rest : List ℕ) → HoldsBlock self.old rest →
+            BlockStops r.1 self.new (rest ++ take r.0 piece.now)) }
+        ensures err { IfErr result (λ fault. (place : ℕ) × (place ≤ length piece.now)
+            × ((rest : List ℕ) → HoldsBlock self.old rest →
+            BlockFails fault self.old.most (rest ++ take place piece.now))) }
+        ensures most { self.new.most ≡ self.old.most }
+    {
+        let mut taken = 0;
+        while taken < piece.len() {
+            match self.take_size_byte(piece[taken])? {
+                BlockStep::More => taken += 1,
+                step => return Ok((taken + 1, step)),
+            }
+            if !self.is_in_size() {
+                return Ok((taken, BlockStep::More));
+            }
+        }
+        Ok((taken, BlockStep::More))
+    }
+
+    /// Whether the size goes on.
+    fn is_in_size(&self) -> bool
+        ensures { IsTrue result ↔ (self.now.awaits ≡ Awaits.Size) }
+    {
+        matches!(self.awaits, Awaits::Size)
     }
 
     fn take_size_byte(&mut self, byte: u8) -> Result<BlockStep, BlockFault>

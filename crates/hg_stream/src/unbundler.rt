@@ -27,6 +27,9 @@ use std::mem;
 /// `HG20`, as a number.
 const MAGIC: i32 = 0x4847_3230;
 
+/// How many places for finished parts are kept for the next bundle at most.
+const KEPT_PLACES: usize = 64;
+
 /// Where the reader is in the bundle.
 #[derive(Clone, Copy)]
 enum Stage {
@@ -171,8 +174,8 @@ impl<A: Allocator + Copy> Unbundler<A> {
         }
     }
 
-    /// Begins the next bundle, as a new reader with the same limits. It takes no memory, and gives back what
-    /// the last bundle took.
+    /// Begins the next bundle, as a new reader with the same limits. It takes no memory, and keeps what the last
+    /// bundle took for headers and for the list of its parts, where that is little.
     pub fn restart(&mut self)
         requires ended { state_of self.old ≡ Ended }
         requires given { ready_of self.old ≡ [] }
@@ -181,7 +184,14 @@ impl<A: Allocator + Copy> Unbundler<A> {
         ensures state { state_of self.new ≡ Reading }
         ensures ready { ready_of self.new ≡ [] }
     {
-        *self = Unbundler::new(self.alloc, self.limits);
+        self.stream_left = self.limits.stream;
+        self.parts_left = self.limits.parts;
+        self.stage = Stage::Magic;
+        self.magic = SizeField::new();
+        self.block.begin_again(self.alloc, self.limits.params);
+        if self.ready.capacity() > KEPT_PLACES {
+            self.ready = VecDeque::new(self.alloc);
+        }
     }
 
     /// How far the reader is.

@@ -11,6 +11,9 @@ use std::alloc::Allocator;
 
 const MAGIC: [u8; 4] = *b"HG20";
 
+/// How many bytes are asked for at once: as many as a reply and its longest header mostly have.
+const ROOM: usize = 256;
+
 /// The bundle of the parts, which are numbered by their places. It has no stream parameters; a mandatory type
 /// is written in upper case, an advisory one in lower case; a payload is one chunk where it is not empty.
 pub fn write_bundle<A: Allocator + Copy>(
@@ -21,7 +24,7 @@ pub fn write_bundle<A: Allocator + Copy>(
     requires count { length parts.now < 2 ^ 32 }
     ensures { IfOk result (λ bundle. bundle.items ≡ bundle_bytes parts.now) }
 {
-    let mut out = Vec::new(alloc);
+    let mut out = Vec::with_capacity(alloc, ROOM)?;
     out.extend_from_slice(&MAGIC)?;
     put_i32(&mut out, 0)?;
     for (place, part) in parts.iter().enumerate() {
@@ -41,7 +44,7 @@ fn write_part<A: Allocator + Copy>(
     requires { CanBeWritten part.now }
     ensures { OnOk result (out.new.items ≡ out.old.items ++ part_bytes place part.now) }
 {
-    let mut header = Vec::new(alloc);
+    let mut header = Vec::with_capacity(alloc, ROOM)?;
     write_head(
         &mut header,
         part.kind.as_slice(),

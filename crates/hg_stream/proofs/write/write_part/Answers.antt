@@ -7,7 +7,7 @@ append_block-requires g c =
     let written = rw (
       c.as_slice.ensures,
       c.as_slice-2.ensures,
-      c.new-header.ensures.items,
+      c.in_ok-header.ensures.items,
     ) at c.in_ok-write_head.ensures.ok in
     let within = header_within c.args.part.now.kind c.args.place c.args.part.now.params c.ranges.place.fits
     c.requires.header in
