@@ -83,12 +83,12 @@ def heads(*nodes):
 
 def group(*entries):
     """A changegroup of version 02. An entry is a changeset's text, a delta on null, and its first parent."""
-    chunks = b""
+    chunks = []
     for text, parent in entries:
         delta = number(0) + number(0) + number(len(text)) + text if text else b""
         body = node_of(text, parent) + parent + NULL + NULL + node_of(text, parent) + delta
-        chunks += number(len(body) + 4) + body
-    return (b"CHANGEGROUP", ((b"version", b"02"),), chunks + bytes(12))
+        chunks.append(number(len(body) + 4) + body)
+    return (b"CHANGEGROUP", ((b"version", b"02"),), b"".join(chunks) + bytes(12))
 
 
 def parts_of(text):
