@@ -3,3 +3,4 @@ mod Harmless
 mod Feeding
 mod Steps
 mod Paging
+mod HeadsShown

@@ -12,3 +12,4 @@ pub mod Metrics
 pub mod Showing
 pub mod Brought
 pub mod Outcomes
+pub mod code

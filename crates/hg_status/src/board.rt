@@ -3,7 +3,7 @@
 ghost use Rattle.std.specs.Prelude.{◌≡◌, ◌≤◌, length, IfOk};
 ghost use Rattle.hg_phases.specs.Counts.{counts_of};
 ghost use Rattle.hg_parts.specs.Store.{repository_of, IsSound};
-ghost use Rattle.hg_status.specs.Holdings.{AreCounted};
+ghost use Rattle.hg_status.specs.Holdings.{AreCounted, AreShown};
 
 use crate::holdings::holdings_of;
 use crate::metrics::metrics_text;
@@ -103,7 +103,10 @@ impl<'a, R: Wait + Clock> Board<'a, R> {
         store: &Store<A>,
     ) -> Result<Summary<A>, NoMemory>
         requires { IsSound settings.now store.now }
+        ensures publishing { IfOk result (λ summary. summary.publishing ≡ settings.now.publishing) }
         ensures holdings { IfOk result (λ summary. AreCounted store.now.log.rows store.now.markers
+            store.now.bookmarks.current summary.holdings) }
+        ensures heads { IfOk result (λ summary. AreShown store.now.log.rows store.now.phases.current.phases
             store.now.bookmarks.current summary.holdings) }
         ensures phases { IfOk result (λ summary. summary.phases ≡ counts_of store.now.phases.current.phases) }
     {
@@ -130,9 +133,10 @@ impl<'a, R: Wait + Clock> Board<'a, R> {
 }
 
 impl<R: Wait + Clock, A: Allocator + Copy> Shown<A> for Board<'_, R> {
-    ghost use Rattle.hg_status.specs.Showing.{ArePageMetrics, IsPage};
+    ghost use Rattle.hg_status.specs.declared.page.TheConstants.{TOP};
+    ghost use Rattle.hg_status.specs.Showing.{ArePageMetrics, IsRepositoryPage};
 
-    ghost is_page = { λ board repo text. IsPage text };
+    ghost is_page = { λ board repo text. IsRepositoryPage TOP.now repo text };
 
     ghost are_metrics = { λ board repo text. ArePageMetrics repo text };
 

@@ -1,7 +1,10 @@
 //! Which heads are shown, and what of them.
 
-ghost use Rattle.std.specs.Prelude.{◌≡◌, ◌<◌, length, IfOk, IfSome};
-ghost use Rattle.hg_status.specs.Heads.{count_lines as lines_in, front_of, shown_branch as told_branch};
+ghost use Rattle.std.specs.Prelude.{◌≡◌, ◌≤◌, [], List, ℕ, map, take, IfOk, OnOk};
+ghost use Rattle.hg_types.specs.declared.phase.Phase.{Phase as AnyPhase};
+ghost use Rattle.hg_log.specs.Changeset.{Changeset};
+ghost use Rattle.hg_status.specs.Heads.{count_lines as lines_in, front_of, shown_branch as told_branch, AreOf};
+ghost use Rattle.hg_status.specs.code.Giving.{given};
 
 use crate::name::{Name, first_of};
 use hg_keys::Bookmarks;
@@ -62,37 +65,56 @@ fn count_lines(text: &[u8]) -> usize
     text.iter().filter(|byte| **byte == b'\n').count()
 }
 
-/// Gives bookmarks to the heads that they are on.
+/// Gives bookmarks to the heads that they are on: so many of them, the first in the order of their names.
 pub fn add_bookmarks<A: Allocator + Copy>(
     alloc: A,
     heads: &mut Vec<ShownHead<A>, A>,
     bookmarks: &Bookmarks<A>,
     len: usize,
-) -> Result<(), NoMemory> {
+) -> Result<(), NoMemory>
+    requires { len ≤ 10000 }
+    ensures { (rows : List Changeset) (phases : List AnyPhase) (revs : List ℕ) →
+        AreOf rows phases [] revs heads.old.items →
+        OnOk result (AreOf rows phases (take len bookmarks.now.current) revs heads.new.items) }
+{
     let mut entries = bookmarks.entries();
-    for _ in 0..len {
-        if let Some((name, node)) = entries.next()
-            && let Some(head) = place_of(heads.as_slice(), &node)
-        {
-            add_bookmark(alloc, &mut heads[head], name)?;
-        }
+    for _place in 0..len {
+        let Some((name, node)) = entries.next() else {
+            return Ok(());
+        };
+        give_bookmark(alloc, heads.as_mut_slice(), name, &node)?;
     }
     Ok(())
 }
 
-/// The place of the head with that id.
-fn place_of<A: Allocator>(heads: &[ShownHead<A>], node: &Node) -> Option<usize>
-    ensures { IfSome result (λ place. place < length heads.now) }
+/// Gives a bookmark to the head that it is on, if that is among these.
+fn give_bookmark<A: Allocator + Copy>(
+    alloc: A,
+    heads: &mut [ShownHead<A>],
+    name: &[u8],
+    node: &Node,
+) -> Result<(), NoMemory>
+    ensures { OnOk result (heads.new ≡ map (given (name.now, node.now)) heads.old) }
 {
-    heads.iter().position(|head| head.node == *node)
+    for head in heads.iter_mut() {
+        add_bookmark(alloc, head, name, node)?;
+    }
+    Ok(())
 }
 
-/// Gives a bookmark to a head: its name, or one more in number.
+/// Gives a bookmark to a head, if it is on that: its name, or one more in number.
+#[tactic(auto, unfolding(crate::specs::code::Giving::given))]
 fn add_bookmark<A: Allocator + Copy>(
     alloc: A,
     head: &mut ShownHead<A>,
     name: &[u8],
-) -> Result<(), NoMemory> {
+    node: &Node,
+) -> Result<(), NoMemory>
+    ensures { OnOk result (head.new ≡ given (name.now, node.now) head.old) }
+{
+    if head.node != *node {
+        return Ok(());
+    }
     if head.bookmarks.len() < BOOKMARKS {
         let name = first_of(alloc, name)?;
         head.bookmarks.push(name)?;

@@ -1,8 +1,9 @@
 //! What is shown of a repository.
 
-ghost use Rattle.std.specs.Prelude.{◌≡◌, ◌<◌, ◌≤◌, length, IfOk};
-ghost use Rattle.hg_status.specs.Holdings.{heads_of, AreCounted};
-ghost use Rattle.hg_status.specs.Heads.{IsOf};
+ghost use Rattle.std.specs.Prelude.{◌≡◌, ◌<◌, ◌≤◌, [], length, IfOk, OnOk};
+ghost use Rattle.hg_status.specs.Holdings.{heads_of, AreCounted, AreShown};
+ghost use Rattle.hg_status.specs.Heads.{shown_revs, AreOf, IsOf};
+ghost use Rattle.hg_status.specs.code.Giving.{AddsIfHead};
 
 pub use crate::heads::ShownHead;
 use crate::heads::{HEADS, add_bookmarks, shown_branch};
@@ -42,7 +43,9 @@ pub fn holdings_of<A: Allocator + Copy>(
     bookmarks: &Bookmarks<A>,
 ) -> Result<Holdings<A>, NoMemory>
     requires { length log.now.rows ≤ length phases.now.current.phases }
-    ensures { IfOk result (λ holdings. AreCounted log.now.rows markers.now bookmarks.now.current holdings) }
+    ensures counted { IfOk result (λ holdings. AreCounted log.now.rows markers.now bookmarks.now.current holdings) }
+    ensures shown { IfOk result (λ holdings. AreShown log.now.rows phases.now.current.phases bookmarks.now.current
+        holdings) }
 {
     let mut heads = read_heads(alloc, log, phases)?;
     let looked_at = bookmarks.len().min(LOOKED_AT);
@@ -77,22 +80,41 @@ fn read_heads<A: Allocator + Copy>(
     phases: &Phases<A>,
 ) -> Result<Vec<ShownHead<A>, A>, NoMemory>
     requires { length log.now.rows ≤ length phases.now.current.phases }
+    ensures { IfOk result (λ heads. AreOf log.now.rows phases.now.current.phases [] (shown_revs log.now.rows)
+        heads.items) }
 {
     let wanted = log.head_count().min(HEADS);
     let mut heads = Vec::new(alloc);
     for rev in (0..log.len()).rev() {
         if heads.len() >= wanted {
-            break;
+            return Ok(heads);
         }
-        let rev = rev as u32;
-        if log.is_head(rev) {
-            heads.push(read_head(alloc, log, phases, rev)?)?;
-        }
+        add_head(alloc, &mut heads, log, phases, rev as u32)?;
     }
     Ok(heads)
 }
 
+/// Adds a changeset, if it is a head.
+fn add_head<A: Allocator + Copy>(
+    alloc: A,
+    heads: &mut Vec<ShownHead<A>, A>,
+    log: &Changelog<A>,
+    phases: &Phases<A>,
+    rev: u32,
+) -> Result<(), NoMemory>
+    requires row { rev < length log.now.rows }
+    requires phases { length log.now.rows ≤ length phases.now.current.phases }
+    ensures { OnOk result (AddsIfHead log.now.rows phases.now.current.phases rev heads.old.items heads.new.items) }
+{
+    if log.is_head(rev) {
+        let head = read_head(alloc, log, phases, rev)?;
+        heads.push(head)?;
+    }
+    Ok(())
+}
+
 /// A head without its bookmarks.
+#[tactic(auto, unfolding(crate::specs::Heads::names_on))]
 fn read_head<A: Allocator + Copy>(
     alloc: A,
     log: &Changelog<A>,
@@ -101,7 +123,7 @@ fn read_head<A: Allocator + Copy>(
 ) -> Result<ShownHead<A>, NoMemory>
     requires row { rev < length log.now.rows }
     requires phases { length log.now.rows ≤ length phases.now.current.phases }
-    ensures { IfOk result (λ head. IsOf log.now.rows phases.now.current.phases rev head) }
+    ensures { IfOk result (λ head. IsOf log.now.rows phases.now.current.phases [] rev head) }
 {
     let branch = shown_branch(alloc, log.text(rev))?;
     Ok(ShownHead {
