@@ -575,6 +575,43 @@ def a_store_that_fails(host):
     want("all that were told as done, and one more at most", host.start()[0] in (done, done + 1), True)
 
 
+REFUSED = bundle((b"CHECK:HEADS", (), bytes(19) + b"\x01"))
+
+
+def fail_writes(host):
+    """From now on each write of the server fails, as where another machine took the store over."""
+    resource.prlimit(host.process.pid, resource.RLIMIT_FSIZE, (0, 0))
+
+
+def is_answered(ask):
+    try:
+        return ask()[0] == 200
+    except (Wrong, ConnectionError):
+        return False
+
+
+@case
+def answers_of_a_server_that_lost_its_store(host):
+    """Its writes fail from a moment on. With --shared nothing that rests on the repository is answered after that: not
+    a command that reads, nor the report, nor a push that is refused; and the process ends. Without, all of these are."""
+    asked = [lambda: host.ask("/?cmd=heads"), lambda: host.ask("/?cmd=listkeys&namespace=bookmarks"),
+             lambda: host.ask("/?cmd=batch", fields=("x-hgarg-1: cmds=heads+",)), lambda: host.ask("/report"),
+             lambda: host.push(REFUSED)]
+    host.start(ignores_signals=True)
+    want("a push", host.push(EMPTY)[2], EMPTY_REPLY)
+    fail_writes(host)
+    want("answers that need no write", [is_answered(ask) for ask in asked], [True] * len(asked))
+    host.kill()
+    for ask in asked:
+        host.start("--shared", ignores_signals=True)
+        want("an answer before", is_answered(ask), True)
+        fail_writes(host)
+        want("an answer after", is_answered(ask), False)
+        want("its status", host.process.wait(10), 3)
+        want("what it says", host.process.stderr.read(), b"hg_pushd: the store failed\n")
+        host.kill()
+
+
 @case
 def where_others_reach_it(host):
     """In a network of its own, which leads nowhere, it listens everywhere, and says what it does not know."""

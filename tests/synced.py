@@ -8,7 +8,9 @@ synced. That is the least that a crash may leave. So it is shown
 - that no reply to a push leaves before its record is on that disk, behind an open commit byte;
 - that a commit byte is opened only where the records after it are on that disk already;
 - that a new store is whole on that disk, under its name, before a client is served;
-- that a start syncs the file, and has the system drop what it kept of it, before it reads the file.
+- that a start syncs the file, and has the system drop what it kept of it, before it reads the file;
+- that with --shared no answer to a read leaves before a write of the file and a sync behind it, both of which began
+  after the request had come, and that readers share them.
 
 Then the same calls are played with one left out, or at another place, and each time the fault has to be found.
 """
@@ -29,6 +31,7 @@ HEAD, OPEN = 54, 0xff
 CALLS = ("openat", "mkdir", "pwrite64", "write", "ftruncate", "fsync", "fdatasync", "rename", "fadvise64", "read",
          "recvfrom", "sendto", "sendmsg", "writev", "close")
 CLIENTS, PUSHES = 6, 8
+READERS, READS = 6, 12
 
 
 # ---- the calls of a trace
@@ -128,10 +131,11 @@ def whole_behind(text, at):
 class Played:
     """The calls of one process, played on such a disk. What is wrong is told at the first call that is."""
 
-    def __init__(self, store, disk):
-        self.store, self.disk, self.asked, self.replies = store, disk, {}, 0
+    def __init__(self, store, disk, beats=False):
+        self.store, self.disk, self.asked, self.replies, self.beats = store, disk, {}, 0, beats
         self.file, self.serves, self.begun = f"{store}/pushes", False, {}
         self.opened, self.fresh = "new", False
+        self.reads, self.came, self.wrote, self.beat = 0, {}, -1, -1
 
     def play(self, calls):
         for ends, call in events_of(calls):
@@ -147,7 +151,7 @@ class Played:
         name = call.name
         if name in ("fsync", "fdatasync"):
             path = call.path()
-            self.begun[id(call)] = bytes(self.disk.files.get(path, b"")), set(self.disk.names)
+            self.begun[id(call)] = bytes(self.disk.files.get(path, b"")), set(self.disk.names), self.wrote
         elif name in ("sendto", "sendmsg", "writev"):
             self.send(call)
         elif name == "pwrite64" and call.path() == self.file:
@@ -158,6 +162,8 @@ class Played:
     def ended(self, call):
         name = call.name
         if name == "pwrite64":
+            if call.path() == self.file:
+                self.wrote = max(self.wrote, call.began)
             self.disk.write(call.path(), call.numbers()[-1], call.texts()[0][:int(call.gave)])
         elif name == "ftruncate":
             path, size = call.path(), int(re.findall(r", (\d+)", call.words)[-1])
@@ -176,11 +182,14 @@ class Played:
             self.opened, self.fresh = "opened", False
         elif name == "recvfrom":
             self.asked[call.path()] = self.asked.get(call.path(), b"") + b"".join(call.texts())
+            self.came[call.path()] = call.ended
         elif name == "write" and b"listening on" in b"".join(call.texts()):
             self.listen()
 
     def sync(self, call):
-        path, (text, names) = call.path(), self.begun[id(call)]
+        path, (text, names, wrote) = call.path(), self.begun[id(call)]
+        if path == self.file:
+            self.beat = max(self.beat, wrote)
         if path in self.disk.files:
             self.disk.synced[path] = text
             if path == self.file and self.opened == "opened":
@@ -203,9 +212,13 @@ class Played:
             raise Wrong("a commit byte is opened before the records behind it are on the disk")
 
     def send(self, call):
-        """A reply to a push has its record on the disk."""
+        """A reply to a push has its record on the disk; an answer to a read has a beat that began since it came."""
         asked = self.asked.pop(call.path(), b"")
         head, _, body = asked.partition(b"\r\n\r\n")
+        if self.beats and head.startswith(b"GET /?cmd=heads "):
+            self.reads += 1
+            if self.beat < self.came[call.path()]:
+                raise Wrong("an answer leaves before a write and a sync that began after it was asked for")
         if not head.startswith(b"POST /?cmd=unbundle "):
             return
         self.replies += 1
@@ -246,12 +259,25 @@ def push_all(server, client, round_of, failed):
         failed.append(why)
 
 
-def serve_round(server, round_of):
-    """Starts the program, has clients push side by side, and ends it. Gives the number of its process."""
-    server.start()
+def read_all(server, failed):
+    try:
+        with server.connect() as line:
+            told = line.makefile("rb")
+            for _ in range(READS):
+                line.sendall(request("/?cmd=heads", None, ()))
+                want("a read", answer(told)[0], 200)
+    except (Wrong, OSError) as why:
+        failed.append(why)
+
+
+def serve_round(server, round_of, shared=False):
+    """Starts the program, has clients push side by side, and ends it. Where the store is shared, others read meanwhile.
+    Gives the number of its process."""
+    server.start(*["--shared"] * shared)
     failed = []
     threads = [threading.Thread(target=push_all, args=(server, client, round_of, failed))
                for client in range(CLIENTS)]
+    threads += [threading.Thread(target=read_all, args=(server, failed)) for _ in range(READERS * shared)]
     for it in threads:
         it.start()
     for it in threads:
@@ -313,6 +339,15 @@ def early_commit(calls, store):
             for it in calls]
 
 
+def early_answer(calls, store):
+    """The first answer to a read that leaves as soon as it was asked for."""
+    asked = next(call for call in calls if call.name == "recvfrom" and call.texts()[:1]
+                 and call.texts()[0].startswith(b"GET /?cmd=heads "))
+    send = next(call for call in calls if call.name == "sendto" and call.path() == asked.path()
+                and call.began > asked.ended)
+    return [Call(it.name, it.words, it.gave, asked.ended + 0.5, asked.ended + 0.5) if it is send else it for it in calls]
+
+
 FAULTS = {
     "a sync that is not made": (0, unsynced),
     "a reply before the last sync": (0, early_reply),
@@ -324,6 +359,7 @@ FAULTS = {
         1, lambda calls, store: without(calls, is_sync(f"{store}/pushes", ("fsync",)))),
     "a start that reads what the system kept": (
         1, lambda calls, store: without(calls, lambda call: call.name == "fadvise64")),
+    "an answer before its beat": (2, early_answer),
 }
 
 
@@ -332,7 +368,7 @@ def is_found(rounds, store, place, turned):
     disk = Disk()
     for number, calls in enumerate(rounds[:place + 1]):
         try:
-            Played(store, disk).play(turned(calls, store) if number == place else calls)
+            Played(store, disk, number == 2).play(turned(calls, store) if number == place else calls)
         except Wrong:
             return number == place
     return False
@@ -345,11 +381,12 @@ def main():
     with tempfile.TemporaryDirectory(prefix="synced-") as folder:
         host.PROGRAM, server = traced(folder), host.Host(folder)
         try:
-            rounds = [calls_in(trace_of(folder, serve_round(server, number))) for number in range(2)]
+            rounds = [calls_in(trace_of(folder, serve_round(server, number, number == 2))) for number in range(3)]
             disk = Disk()
             for number, calls in enumerate(rounds):
-                played = Played(server.store, disk).play(calls)
+                played = Played(server.store, disk, number == 2).play(calls)
                 want(f"replies of round {number}", played.replies, CLIENTS * PUSHES)
+            want("answers to reads", played.reads, READERS * READS)
             with open(f"{server.store}/pushes", "rb") as file:
                 want("the file", bytes(disk.files[f"{server.store}/pushes"]), file.read())
         except Wrong as why:
@@ -357,13 +394,14 @@ def main():
             return 1
         finally:
             server.kill()
-        print(f"as wanted: {2 * CLIENTS * PUSHES} replies after their records were synced")
+        print(f"as wanted: {3 * CLIENTS * PUSHES} replies after their records were synced")
+        print(f"as wanted: {READERS * READS} reads after a write and a sync that began behind them")
         failed = 0
         for name, (place, turned) in FAULTS.items():
             found = is_found(rounds, server.store, place, turned)
             failed += not found
             print(f"{'as wanted: found' if found else 'FAILED: not found'}: {name}")
-    print(f"synced.py: {len(FAULTS) + 1 - failed} as wanted, {failed} not")
+    print(f"synced.py: {len(FAULTS) + 2 - failed} as wanted, {failed} not")
     return 1 if failed else 0
 
 

@@ -98,3 +98,11 @@ module _ {A D : Type 0} (seen : D → List ℕ) (may_leave : D → List ℕ → 
               (omega (arith, length-front rests k.records all, few))
               (fewer first h 0 rests count k.records low k.each);
         }
+
+    -- a log that has the same records
+    pub keeps_same : (h : List (Taken A)) (count : ℕ) (log log' : Log D)
+        → (k : KeepsRecords seen may_leave head stored first h count log)
+        → IsSettled seen may_leave head (stored ++ k.records) log'
+        → KeepsRecords seen may_leave head stored first h count log'
+    keeps_same h count log log' k settled =
+        record { records = k.records; settled = settled; each = k.each; number = k.number }

@@ -114,6 +114,21 @@ module _ {A D : Type 0} (seen : D → List ℕ) (may_leave : D → List ℕ → 
           (λ during. inr (batch_front h count batch log k each file during)) (run.before t file le left);
     }
 
+    -- and of a beat
+    pub beat_front : (moment : D → ℕ) (left_since : D → ℕ → List ℕ → Type 0) (h : List (Taken A)) (count : ℕ)
+        (log : Log D) → (k : KeepsRecords seen may_leave head stored first h count log) → (old new : D)
+        → LeavesOnly moment left_since old new (StandsFor head (stored ++ k.records))
+        → LeavesOnly moment left_since old new (IsFront head stored first h count)
+    beat_front moment left_since h count log k old new run =
+        let front : (file : List ℕ) → StandsFor head (stored ++ k.records) file → IsFront head stored first h count file =
+        λ file stands. record { records = k.records; stands = stands; each = k.each; enough = omega (arith, k.number) } in
+        record {
+          later = run.later;
+          each = λ file left. front file (run.each file left);
+          before = λ t file le left. ⊎_elim (λ past. inl past) (λ during. inr (front file during))
+              (run.before t file le left);
+        }
+
 module _ {A D : Type 0} (moment : D → ℕ) (left_since : D → ℕ → List ℕ → Type 0)
     (may_leave : D → List ℕ → Type 0) (head : Head) (stored : List Entry) (first : RepositoryOf A) (opened : ℕ)
   where

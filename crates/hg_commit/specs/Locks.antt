@@ -20,12 +20,14 @@ pub record DiskView (A D : Type 0) : Type 0 where
   pub history : List (Taken A)
 
 -- The records that wait, the highest place first: how many are on the device, whether it is broken, and the history
--- that their witness has seen.
+-- that their witness has seen. Writes are numbered as they begin: how many began, and the last one that ended well.
 pub record WaitingView (A : Type 0) : Type 0 where
   pub records : List (Record A)
   pub count : ℕ
   pub is_broken : Bool
   pub history : List (Taken A)
+  pub begun : ℕ
+  pub ended : ℕ
 
 -- One record more waits, among those that waited before.
 pub record IsHandedIn {A : Type 0} (before : List (Record A)) (entry : Record A) (now : List (Record A)) : Type 0

@@ -1,6 +1,6 @@
 //! The device under its lock, with the records that are on it and the batch that is written next.
 
-ghost use Rattle.std.specs.Prelude.{◌≡◌, ◌≤◌, ◌<◌, ◌+◌, ◌++◌, ◌∷◌, [], false, true, length};
+ghost use Rattle.std.specs.Prelude.{◌≡◌, ◌≢◌, ◌≤◌, ◌<◌, ◌+◌, ◌++◌, ◌∷◌, ◌↔◌, [], false, true, length, IsTrue};
 ghost use Rattle.std.specs.Prelude.{All, IfOk, IfErr, IfSome, List};
 ghost use mathlib.Core.List.{IsPrefix};
 ghost use Rattle.hg_types.specs.Limits.{IsAllowed};
@@ -155,6 +155,13 @@ impl<J: Storing<A>, D: Device, A: Allocator + Copy> Disk<J, D, A> {
         tally.grant(&mut self.keeper)
     }
 
+    /// Whether the batch has no record.
+    pub fn is_idle(&self) -> bool
+        ensures { IsTrue result ↔ (self.now.batch ≡ []) }
+    {
+        self.batch.is_empty()
+    }
+
     /// Takes the record of the push at the next place into the batch. It has room, so no memory is asked for.
     pub fn take_in(&mut self, entry: Sealed<A>)
         requires next { IsRecordOf J.first self.old.history (self.old.count + length self.old.batch) entry }
@@ -181,6 +188,10 @@ impl<J: Storing<A>, D: Device, A: Allocator + Copy> Disk<J, D, A> {
         // At any moment of the call an end leaves the records that were on the device before it.
         ensures any_moment { LeavesOnly D.moment D.left_since self.old.device self.new.device
             (IsFront J.head J.stored J.first self.old.history self.old.count) }
+
+        // A batch has a beat.
+        ensures beat { self.old.batch ≢ [] → self.new.is_broken ≡ false →
+            D.beats self.old.device < D.beats self.new.device }
     {
         records_are_read_back();
         if self.is_broken || self.batch.is_empty() {
@@ -197,6 +208,43 @@ impl<J: Storing<A>, D: Device, A: Allocator + Copy> Disk<J, D, A> {
         self.count += self.batch.len();
         self.batch.clear();
         tally.raise(&mut self.keeper, self.count, &self.log);
+    }
+
+    /// **A beat**: the device writes and syncs, and its file stays as it is. All that is on it is promised once more, by
+    /// now. Where that fails, the device is broken from then on.
+    pub fn beat(&mut self, tally: &OpenTally<J, A>)
+        ensures lasting { self.old.is_broken ≡ true → self.new.is_broken ≡ true }
+        ensures same { (self.new.history ≡ self.old.history) × (self.new.count ≡ self.old.count)
+            × (self.new.batch ≡ self.old.batch) }
+        ensures beat { self.new.is_broken ≡ false → D.beats self.old.device < D.beats self.new.device }
+
+        // At any moment of the call an end leaves the records that are on the device.
+        ensures any_moment { LeavesOnly D.moment D.left_since self.old.device self.new.device
+            (IsFront J.head J.stored J.first self.old.history self.old.count) }
+    {
+        records_are_read_back();
+        if self.is_broken {
+            return;
+        }
+        if self.log.beat().is_err() {
+            self.is_broken = true;
+            return;
+        }
+        let count = self.count;
+        tally.raise(&mut self.keeper, count, &self.log);
+    }
+
+    /// Writes the batch. Where it has no record, and beats are wanted, there is a beat.
+    pub fn advance(&mut self, tally: &OpenTally<J, A>, with_beats: bool)
+        ensures lasting { self.old.is_broken ≡ true → self.new.is_broken ≡ true }
+        ensures beat { with_beats ≡ true → self.new.is_broken ≡ false →
+            D.beats self.old.device < D.beats self.new.device }
+    {
+        if with_beats && self.is_idle() {
+            self.beat(tally);
+        } else {
+            self.write(tally);
+        }
     }
 
     /// The log, how many records are on it after those that it was opened with, whether it is broken, the client

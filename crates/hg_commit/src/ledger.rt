@@ -41,6 +41,7 @@ pub struct Ledger<J: Storing<A>, D: Device, A: Allocator = Global> {
     disk: Mutex<Disk<J, D, A>>,
     doors: Doors,
     tally: OpenTally<J, A>,
+    has_beats: bool,
 }
 
 /// What is left of a ledger: its log, how many records were brought to the device after those that it was opened
@@ -78,6 +79,7 @@ impl<J: Storing<A>, D: Device, A: Allocator + Copy> Ledger<J, D, A> {
                     disk: Mutex::new(disk),
                     doors: Doors::new(),
                     tally,
+                    has_beats: false,
                 })
             }
             Err((log, first, keeper)) => Err(Parts {
@@ -88,6 +90,14 @@ impl<J: Storing<A>, D: Device, A: Allocator + Copy> Ledger<J, D, A> {
                 tally: tally.close(keeper),
             }),
         }
+    }
+
+    /// The ledger with beats, or without, as it is at first. With beats what has no record of its own is kept, and a
+    /// receipt is given, only once a write and a sync went well that began after the call: the device was this server's
+    /// then. All who wait share one, and a batch of records counts as one. Without beats nothing is called for these.
+    pub fn beating(mut self, has_beats: bool) -> Self {
+        self.has_beats = has_beats;
+        self
     }
 
     /// Takes room for the record of a push that is not opened yet.
@@ -120,8 +130,9 @@ impl<J: Storing<A>, D: Device, A: Allocator + Copy> Ledger<J, D, A> {
         ensures failed { IfErr result (λ back. IsGranted client back.0) }
     {
         let mut client = client;
+        let with_beat = self.has_beats && entry.is_none();
         let handed = self.hand_in(rt, server, &mut client.client, room, rests, entry);
-        match self.receipt(rt, server, &mut client, rests) {
+        match self.await_receipt(rt, server, &mut client, rests, with_beat) {
             Ok(()) => Ok(Kept::new(client, rests, handed)),
             Err(fault) => Err((client, fault)),
         }
@@ -164,7 +175,8 @@ impl<J: Storing<A>, D: Device, A: Allocator + Copy> Ledger<J, D, A> {
         client.come(&self.tally)
     }
 
-    /// Waits until so many done pushes are on the device. The client has a receipt for them then.
+    /// Waits until so many done pushes are on the device, and with beats for one that begins now. The client has a
+    /// receipt for them then.
     pub fn receipt<R: Wait>(
         &self,
         rt: &R,
@@ -179,7 +191,27 @@ impl<J: Storing<A>, D: Device, A: Allocator + Copy> Ledger<J, D, A> {
         ensures covered { IfOk result (λ _. IsCovered D.seen D.may_leave D.moment J.head J.stored J.first client.new
             rests) }
     {
-        match self.await_records(rt, server, &mut client.client, rests) {
+        self.await_receipt(rt, server, client, rests, self.has_beats)
+    }
+
+    /// Waits until so many done pushes are on the device, and maybe for a beat that begins now. The client has a receipt
+    /// for them then.
+    fn await_receipt<R: Wait>(
+        &self,
+        rt: &R,
+        server: &Server<J, A>,
+        client: &mut KeptClient<J, A>,
+        rests: usize,
+        with_beat: bool,
+    ) -> Result<(), NotStored>
+        requires { rests ≤ done_in J.first client.old.history }
+        ensures same { client.new.history ≡ client.old.history }
+        ensures grows { HasGrown client.old.receipt client.new.receipt }
+        ensures came { client.new.receipt.came ≡ client.old.receipt.came }
+        ensures covered { IfOk result (λ _. IsCovered D.seen D.may_leave D.moment J.head J.stored J.first client.new
+            rests) }
+    {
+        match self.await_records(rt, server, &mut client.client, rests, with_beat) {
             Ok(grant) => {
                 client.take_in(&self.tally, grant);
                 Ok(())
@@ -188,13 +220,14 @@ impl<J: Storing<A>, D: Device, A: Allocator + Copy> Ledger<J, D, A> {
         }
     }
 
-    /// A grant for so many done pushes, once they are on the device.
+    /// A grant for so many done pushes, once they are on the device, and maybe behind a beat that begins now.
     fn await_records<R: Wait>(
         &self,
         rt: &R,
         server: &Server<J, A>,
         client: &mut Client<J, A>,
         rests: usize,
+        with_beat: bool,
     ) -> Result<Grant<J, A>, NotStored>
         requires { rests ≤ done_in J.first client.old }
         ensures same { client.new ≡ client.old }
@@ -202,8 +235,11 @@ impl<J: Storing<A>, D: Device, A: Allocator + Copy> Ledger<J, D, A> {
             grant rests) }
     {
         let mut waiting = self.waiting.lock(rt);
+        let Some(awaited) = waiting.awaited(with_beat) else {
+            return Err(NotStored);
+        };
         'waiting: for _ in rt.forever() {
-            match waiting.step(rt, server, client, &self.tally, rests) {
+            match waiting.step(rt, server, client, &self.tally, rests, awaited) {
                 Ok(grant) => return Ok(grant),
                 Err(NextStep::Stop) => return Err(NotStored),
                 Err(NextStep::Wait(door)) => waiting = self.doors.at(door).wait(rt, waiting),
@@ -216,7 +252,7 @@ impl<J: Storing<A>, D: Device, A: Allocator + Copy> Ledger<J, D, A> {
         unreachable!()
     }
 
-    /// Writes a batch, and wakes those who wait for it. Others may hand in their records meanwhile.
+    /// Writes a batch, or has a beat, and wakes those who wait for it. Others may hand in their records meanwhile.
     fn write<R: Wait>(
         &self,
         rt: &R,
@@ -224,9 +260,10 @@ impl<J: Storing<A>, D: Device, A: Allocator + Copy> Ledger<J, D, A> {
         mut waiting: MutexGuard<'_, Waiting<J, D, A>>,
     ) {
         let mut disk = self.disk.lock(rt);
+        waiting.begin();
         waiting.load(rt, server, &mut *disk);
         drop(waiting);
-        disk.write(&self.tally);
+        disk.advance(&self.tally, self.has_beats);
         let mut waiting = self.waiting.lock(rt);
         waiting.note(rt, server, &self.tally, &mut *disk);
         let door = waiting.opened();
@@ -252,6 +289,7 @@ impl<J: Storing<A>, D: Device, A: Allocator + Copy> Ledger<J, D, A> {
             disk,
             doors: _,
             tally,
+            has_beats: _,
         } = self;
         let (log, kept, is_broken, first, keeper) = disk.into_inner().into_parts();
         let second = waiting.into_inner().into_witness();

@@ -1,6 +1,6 @@
 //! The records that wait, under their lock.
 
-ghost use Rattle.std.specs.Prelude.{◌≡◌, ◌≤◌, ◌++◌, ◌∷◌, [], false, true, length, IfOk, IfSome, IfNone};
+ghost use Rattle.std.specs.Prelude.{◌≡◌, ◌≤◌, ◌<◌, ◌+◌, ◌-◌, ◌^◌, ◌++◌, ◌∷◌, [], false, true, length, IfOk, IfSome, IfNone};
 ghost use Rattle.hg_commit.specs.Clients.{Covers};
 ghost use Rattle.hg_commit.specs.Locks.{IsHandedIn};
 ghost use mathlib.Core.List.{IsPrefix};
@@ -41,7 +41,8 @@ pub enum NextStep {
 
 /// The records that wait, the highest place first, and room for more; how many are on the device, with a grant
 /// for them; whether a thread writes, how many are on the device after that, and at which door that is waited for;
-/// and whether a write or a sync failed.
+/// how many writes began, and the number of the last one that ended well; and whether a write or a sync failed. Where
+/// nothing is to be written, a write is a beat.
 pub struct Waiting<J: Storing<A>, D: Device, A: Allocator = Global> {
     records: Vec<Record<A>, A>,
     rooms: Rooms<J, A>,
@@ -50,6 +51,8 @@ pub struct Waiting<J: Storing<A>, D: Device, A: Allocator = Global> {
     is_writing: bool,
     coming: usize,
     door: BatchDoor,
+    begun: u64,
+    ended: u64,
     is_broken: bool,
     witness: Client<J, A>,
     of: PhantomData<D>,
@@ -67,6 +70,8 @@ impl<J: Storing<A>, D: Device, A: Allocator> Model for Waiting<J, D, A> {
       count = w.count;
       is_broken = w.is_broken;
       history = w.witness;
+      begun = w.begun;
+      ended = w.ended;
     } };
 
     ghost invariant = { λ w. AreWaiting J.first w.witness w.records.items
@@ -88,6 +93,8 @@ impl<J: Storing<A>, D: Device, A: Allocator + Copy> Waiting<J, D, A> {
             is_writing: false,
             coming: 0,
             door: BatchDoor::First,
+            begun: 0,
+            ended: 0,
             is_broken: false,
             witness,
             of: PhantomData,
@@ -137,7 +144,20 @@ impl<J: Storing<A>, D: Device, A: Allocator + Copy> Waiting<J, D, A> {
         handed
     }
 
-    /// The grant of a thread whose reply rests on so many done pushes, or what comes next for it.
+    /// The write that is waited for before an answer: where that is to rest on a beat, the next one that begins, and
+    /// else none, as 0. `None` where the numbers end.
+    pub fn awaited(&self, with_beat: bool) -> Option<u64>
+        ensures { with_beat ≡ true → IfSome result (λ write. write ≡ self.now.begun + 1) }
+    {
+        if with_beat {
+            self.begun.checked_add(1)
+        } else {
+            Some(0)
+        }
+    }
+
+    /// The grant of a thread whose reply rests on so many done pushes, once the write of that number ended well, or what
+    /// comes next for it.
     pub fn step<R: Wait>(
         &mut self,
         rt: &R,
@@ -145,28 +165,31 @@ impl<J: Storing<A>, D: Device, A: Allocator + Copy> Waiting<J, D, A> {
         client: &mut Client<J, A>,
         tally: &OpenTally<J, A>,
         rests: usize,
+        awaited: u64,
     ) -> Result<Grant<J, A>, NextStep>
         requires { rests ≤ done_in J.first client.old }
         ensures same { client.new ≡ client.old }
+        ensures whole { IfOk result (λ _. self.old.is_broken ≡ false) }
+        ensures awaited { IfOk result (λ _. awaited ≤ self.old.ended) }
         ensures covered { IfOk result (λ grant. Covers D.seen D.may_leave D.moment J.head J.stored J.first client.old
             grant rests) }
     {
         if self.is_broken {
             return Err(NextStep::Stop);
         }
-        if rests <= self.count {
+        if rests <= self.count && awaited <= self.ended {
             return Ok(self.grant(rt, server, client, tally, rests));
         }
-        if self.is_writing || !self.has_next() {
-            return Err(NextStep::Wait(self.door_for(rests)));
+        if self.is_writing || !(self.has_next() || self.ended < awaited) {
+            return Err(NextStep::Wait(self.door_for(rests, awaited)));
         }
         Err(NextStep::Write)
     }
 
-    /// Where a thread waits whose reply rests on so many done pushes: with those of the batch that is written, if these
-    /// are in it, and else for the next one.
-    fn door_for(&self, rests: usize) -> BatchDoor {
-        if self.is_writing && rests <= self.coming {
+    /// Where a thread waits whose reply rests on so many done pushes and on the write of that number: with those of the
+    /// batch that is written, if these are in it and that is it, and else for the next one.
+    fn door_for(&self, rests: usize, awaited: u64) -> BatchDoor {
+        if self.is_writing && rests <= self.coming && awaited <= self.begun {
             return self.door;
         }
         self.door.other()
@@ -198,6 +221,14 @@ impl<J: Storing<A>, D: Device, A: Allocator + Copy> Waiting<J, D, A> {
             Some(record) => record.place == self.count,
             None => false,
         }
+    }
+
+    /// A write begins, with the next number.
+    pub fn begin(&mut self)
+        ensures begun { self.old.begun < 2 ^ 64 - 1 → self.new.begun ≡ self.old.begun + 1 }
+        ensures same { self.new ≡ record self.old { begun = self.new.begun } }
+    {
+        self.begun = self.begun.saturating_add(1);
     }
 
     /// Moves the records that come next into the batch of a thread that writes. Those who waited for the next batch wait
@@ -254,6 +285,8 @@ impl<J: Storing<A>, D: Device, A: Allocator + Copy> Waiting<J, D, A> {
         disk: &mut Disk<J, D, A>,
     )
         ensures lasting { self.old.is_broken ≡ true → self.new.is_broken ≡ true }
+        ensures failed { disk.old.is_broken ≡ true → (self.new.is_broken ≡ true) × (self.new.ended ≡ self.old.ended) }
+        ensures ended { disk.old.is_broken ≡ false → self.new.ended ≡ self.old.begun }
     {
         records_stay::<A>();
         self.is_writing = false;
@@ -261,6 +294,7 @@ impl<J: Storing<A>, D: Device, A: Allocator + Copy> Waiting<J, D, A> {
             self.is_broken = true;
             return;
         }
+        self.ended = self.begun;
         self.count = disk.count();
         self.counted = disk.counted(tally);
         disk.show(rt, server, &mut self.witness);
@@ -276,6 +310,8 @@ impl<J: Storing<A>, D: Device, A: Allocator + Copy> Waiting<J, D, A> {
             is_writing: _,
             coming: _,
             door: _,
+            begun: _,
+            ended: _,
             is_broken: _,
             witness,
             of: _,

@@ -263,6 +263,7 @@ fn play<J: Storing<Global> + Send + Sync, R: Threads + Wait + Abort + Sync>(
     repo: Repo,
     log: Log<Memory>,
     tally: Promises,
+    has_beats: bool,
 ) -> Left
     requires begins { OpensWith J.table J.capacity J.first queue taker repo }
     requires settled { IsSettled ⟦<Memory as Device>⟧.seen ⟦<Memory as Device>⟧.may_leave J.head J.stored log }
@@ -272,7 +273,7 @@ fn play<J: Storing<Global> + Send + Sync, R: Threads + Wait + Abort + Sync>(
     let server = Server::<J>::new(alloc, repo, queue, taker);
     let (first, second) = (client_of(rt, &server), client_of(rt, &server));
     let ledger = match Ledger::new(alloc, log, (first, second), tally) {
-        Ok(ledger) => ledger,
+        Ok(ledger) => ledger.beating(has_beats),
         Err(_parts) => panic!(rt; "no memory for a ledger"),
     };
     let open = Open::new(alloc, server, ledger);
@@ -294,11 +295,12 @@ fn play<J: Storing<Global> + Send + Sync, R: Threads + Wait + Abort + Sync>(
     }
 }
 
-/// Runs the threads on a device that fails after so many calls.
+/// Runs the threads on a device that fails after so many calls, with beats or without.
 fn run<R: Threads + Wait + RandomSource + Abort + Sync>(
     rt: &R,
     alloc: Global,
     calls: usize,
+    has_beats: bool,
 ) -> Left {
     let Some(log) = new_log(alloc, calls) else {
         panic!(rt; "no store");
@@ -309,7 +311,7 @@ fn run<R: Threads + Wait + RandomSource + Abort + Sync>(
     match PartQueue::new(alloc, 8) {
         Ok((queue, taker)) => {
             let repo = Repo::new(alloc, settings(), state(rt));
-            play::<Brand, R>(rt, alloc, queue, taker, repo, log, tally)
+            play::<Brand, R>(rt, alloc, queue, taker, repo, log, tally, has_beats)
         }
         Err(_) => panic!(rt; "no memory for a queue"),
     }
@@ -337,10 +339,13 @@ impl Left {
 /// How many pushes are done: two of three of each thread.
 const DONE: usize = 8 * 16;
 
+/// How many are aborted.
+const ABORTED: usize = 8 * 8;
+
 #[test]
 fn eight_threads_are_all_kept(rt: HostRuntime) -> Result<(), Fail> {
     let alloc = rt.alloc();
-    let left = run(&rt, alloc, 1_000_000);
+    let left = run(&rt, alloc, 1_000_000, false);
     assert!(rt; left.refused == 0);
     assert!(rt; left.kept == DONE);
     assert!(rt; left.starts_again(&rt, alloc, 0) == DONE);
@@ -350,16 +355,33 @@ fn eight_threads_are_all_kept(rt: HostRuntime) -> Result<(), Fail> {
     Ok(())
 }
 
+// The same with beats. Result: each thread goes on, and its aborted pushes, which have no record, waited for a sync of
+// their own thread's asking or of another's: at least one for each aborted push of one thread.
+#[test]
+fn eight_threads_with_beats(rt: HostRuntime) -> Result<(), Fail> {
+    let alloc = rt.alloc();
+    let left = run(&rt, alloc, 1_000_000, true);
+    assert!(rt; left.refused == 0);
+    assert!(rt; left.kept == DONE);
+    assert!(rt; left.starts_again(&rt, alloc, 0) == DONE);
+    assert!(rt; left.device.syncs > ABORTED / 8);
+    assert!(rt; left.device.syncs < 2 * DONE + ABORTED);
+    drop(left);
+    Ok(())
+}
+
 #[test]
 fn eight_threads_on_a_device_that_stops(rt: HostRuntime) -> Result<(), Fail> {
     let alloc = rt.alloc();
     for calls in 3..40usize {
-        let left = run(&rt, alloc, calls);
-        assert!(rt; left.refused > 0);
-        for part in [0, 1, 30, 100, 100_000] {
-            let _count = left.starts_again(&rt, alloc, part);
+        for has_beats in [false, true] {
+            let left = run(&rt, alloc, calls, has_beats);
+            assert!(rt; left.refused > 0);
+            for part in [0, 1, 30, 100, 100_000] {
+                let _count = left.starts_again(&rt, alloc, part);
+            }
+            drop(left);
         }
-        drop(left);
     }
     Ok(())
 }
@@ -375,7 +397,7 @@ struct Receipts {
     promised: [u64; 2],
 }
 
-/// Asks for receipts before and after one push that is done, on a server of that name.
+/// Asks for receipts before and after one push that is done, on a server of that name, with beats or without.
 fn ask<J: Storing<Global>, R: Wait + Abort>(
     rt: &R,
     alloc: Global,
@@ -384,6 +406,7 @@ fn ask<J: Storing<Global>, R: Wait + Abort>(
     repo: Repo,
     log: Log<Memory>,
     tally: Promises,
+    has_beats: bool,
 ) -> Receipts
     requires begins { OpensWith J.table J.capacity J.first queue taker repo }
     requires settled { IsSettled ⟦<Memory as Device>⟧.seen ⟦<Memory as Device>⟧.may_leave J.head J.stored log }
@@ -394,7 +417,7 @@ fn ask<J: Storing<Global>, R: Wait + Abort>(
     let (first, second) = (client_of(rt, &server), client_of(rt, &server));
     let mut mine = KeptClient::new(client_of(rt, &server));
     let ledger = match Ledger::new(alloc, log, (first, second), tally) {
-        Ok(ledger) => ledger,
+        Ok(ledger) => ledger.beating(has_beats),
         Err(_parts) => panic!(rt; "no memory for a ledger"),
     };
     let mut other = KeptClient::new(client_of(rt, &server));
@@ -415,7 +438,7 @@ fn ask<J: Storing<Global>, R: Wait + Abort>(
         witnesses: (first, second),
         mut tally,
     } = parts;
-    assert!(rt; is_broken != of_one.is_ok());
+    assert!(rt; is_broken != of_none.is_ok());
     let told = Receipts {
         before: before.is_ok(),
         of_one: of_one.is_ok(),
@@ -424,7 +447,7 @@ fn ask<J: Storing<Global>, R: Wait + Abort>(
         promised: [promised_before, promised_after],
     };
     let (mine, receipt) = mine.into_parts();
-    assert!(rt; has_receipt(&mut tally, receipt));
+    assert!(rt; has_receipt(&mut tally, receipt) == before.is_ok());
     let (other, receipt) = other.into_parts();
     assert!(rt; has_receipt(&mut tally, receipt));
     let Ok(mut clients) = Vec::with_capacity(alloc, 4) else {
@@ -442,7 +465,12 @@ fn ask<J: Storing<Global>, R: Wait + Abort>(
 }
 
 /// The same, on a device that fails after so many calls.
-fn asked<R: Wait + RandomSource + Abort>(rt: &R, alloc: Global, calls: usize) -> Receipts {
+fn asked<R: Wait + RandomSource + Abort>(
+    rt: &R,
+    alloc: Global,
+    calls: usize,
+    has_beats: bool,
+) -> Receipts {
     let Some(log) = new_log(alloc, calls) else {
         panic!(rt; "no store");
     };
@@ -452,7 +480,7 @@ fn asked<R: Wait + RandomSource + Abort>(rt: &R, alloc: Global, calls: usize) ->
     match PartQueue::new(alloc, 8) {
         Ok((queue, taker)) => {
             let repo = Repo::new(alloc, settings(), state(rt));
-            ask::<Brand, R>(rt, alloc, queue, taker, repo, log, tally)
+            ask::<Brand, R>(rt, alloc, queue, taker, repo, log, tally, has_beats)
         }
         Err(_) => panic!(rt; "no memory for a queue"),
     }
@@ -473,7 +501,7 @@ fn receipts_before_a_push_and_after_it(rt: HostRuntime) {
             syncs: 3,
             promised: [0, 1],
         };
-        assert_eq!(rt; asked(&rt, alloc, calls), receipts, "{calls} calls");
+        assert_eq!(rt; asked(&rt, alloc, calls, false), receipts, "{calls} calls");
     }
     for (calls, syncs) in [(3, 1usize), (5, 1), (7, 1), (8, 1), (9, 2), (10, 2)] {
         let receipts = Receipts {
@@ -483,7 +511,35 @@ fn receipts_before_a_push_and_after_it(rt: HostRuntime) {
             syncs,
             promised: [0, 0],
         };
-        assert_eq!(rt; asked(&rt, alloc, calls), receipts, "{calls} calls");
+        assert_eq!(rt; asked(&rt, alloc, calls, false), receipts, "{calls} calls");
+    }
+}
+
+// The same with beats: each receipt takes two calls more, with one sync, and the record none. Result: where the device
+// stops at one of these calls that receipt is refused, and each one after it, though the record is promised already: so
+// it is from a moment on at which another server holds the file.
+#[test]
+fn receipts_with_beats(rt: HostRuntime) {
+    let alloc = rt.alloc();
+    for (calls, before, of_one, of_none, syncs, count) in [
+        (4, false, false, false, 1usize, 0u64),
+        (5, true, false, false, 2, 0),
+        (12, true, false, false, 3, 0),
+        (13, true, false, false, 4, 1),
+        (14, true, false, false, 4, 1),
+        (15, true, true, false, 5, 1),
+        (16, true, true, false, 5, 1),
+        (17, true, true, true, 6, 1),
+        (1_000, true, true, true, 6, 1),
+    ] {
+        let receipts = Receipts {
+            before,
+            of_one,
+            of_none,
+            syncs,
+            promised: [0, count],
+        };
+        assert_eq!(rt; asked(&rt, alloc, calls, true), receipts, "{calls} calls");
     }
 }
 

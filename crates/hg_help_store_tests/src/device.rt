@@ -27,6 +27,8 @@ pub struct Memory {
     pub syncs: usize,
     /// One call for each that failed. Contracts alone see it.
     failed: History,
+    /// The writes and syncs that went well. Contracts alone see them.
+    made: History,
 }
 
 impl Memory {
@@ -40,11 +42,13 @@ impl Memory {
             is_cut: false,
             syncs: 0,
             failed: History::new(),
+            made: History::new(),
         })
     }
 
     fn call(&mut self) -> Result<(), DeviceError>
         ensures same { self.new.bytes.items ≡ self.old.bytes.items }
+        ensures made { self.new.made ≡ self.old.made }
         ensures cause { HasCause (length self.old.failed.events) (length self.new.failed.events) result }
     {
         if self.calls == 0 {
@@ -75,6 +79,7 @@ impl Memory {
 /// To contracts it is a file that no crash ever meets. What one leaves, tests ask of `crashed`.
 impl Device for Memory {
     ghost use Rattle.std.specs.Prelude.{length, ⊤};
+    ghost use Rattle.hg_store.specs.Calls.{beats_in, ends_written};
 
     ghost seen = { λ m. m.bytes.items };
 
@@ -85,6 +90,10 @@ impl Device for Memory {
     ghost left_since = { λ _ _ _. ⊥ };
 
     ghost faults = { λ m. length m.failed.events };
+
+    ghost is_written = { λ m. ends_written m.made.events };
+
+    ghost beats = { λ m. beats_in m.made.events };
 
     ghost counts_now = { λ _ _ _ _ none. none };
 
@@ -107,6 +116,7 @@ impl Device for Memory {
         };
         self.writes.push(write)?;
         self.call()?;
+        self.made = self.made.and(&Call::Wrote(at, bytes, true));
         self.bytes = whole;
         Ok(())
     }
@@ -130,6 +140,7 @@ impl Device for Memory {
         }
         self.writes = Vec::new(self.alloc);
         self.syncs = self.syncs.saturating_add(1);
+        self.made = self.made.and(&Call::Synced(true));
         Ok(())
     }
 }

@@ -121,7 +121,7 @@ where
         let server = Server::new(alloc, repo, queue, taker);
         let witnesses = (new_client(rt, &server), new_client(rt, &server));
         let ledger = match Ledger::new(alloc, log, witnesses, tally) {
-            Ok(ledger) => ledger,
+            Ok(ledger) => ledger.beating(terms.shared),
             Err(parts) => {
                 free.destroy_empty();
                 end_unused(rt, alloc, server, parts);

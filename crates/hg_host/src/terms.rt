@@ -25,6 +25,8 @@ pub struct HostTerms<'a> {
     pub pull: Option<&'a str>,
     /// Who is asked before each push.
     pub hook: Option<HookTerms<'a>>,
+    /// Whether other machines may take the store over, so that answers rest on beats.
+    pub shared: bool,
     /// Whether a line is printed for each push.
     pub logs: bool,
 }

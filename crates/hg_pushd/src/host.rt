@@ -155,6 +155,7 @@ fn terms_of<'a>(hosting: &Hosting<'a>) -> HostTerms<'a> {
         also: hosting.also,
         pull: hosting.pull,
         hook: hook_of(hosting),
+        shared: hosting.shared,
         logs: hosting.log,
     }
 }

@@ -1,8 +1,9 @@
 -- What a crash leaves in each of the two steps of an append.
 use Rattle.std.proofs.Common.{◌≡◌, inl, inr, ℕ, ◌+◌, ◌<◌, List, [], ◌∷◌, ◌++◌, length, take, drop}
 use Rattle.std.proofs.Common.{refl, sym, ◌∙◌, ap, subst, arith, append_assoc, length-append, take-append-drop}
-use Rattle.std.proofs.lemmas.List.{take_at, drop_at}
+use Rattle.std.proofs.lemmas.List.{append-nil, take_at, drop_at}
 use Rattle.std.specs.List.{AllByRecursion}
+use Rattle.std.specs.Prelude.{Err, Ok, OnOk, Result}
 use Rattle.hg_store.specs.declared.head.Head.{Head}
 use Rattle.hg_store.specs.Entries.{Entry}
 use Rattle.hg_store.specs.declared.head.Version.{Version}
@@ -133,6 +134,55 @@ pub holds_same : (old other : List ℕ) (at there : ℕ) (bytes more new : List 
     → bytes ≡ more → Overwrites old at bytes new → Overwrites other there more new
 holds_same old other at there bytes more new a b c held =
     held ∙ (λ i. take (b i) (a i) ++ c i ++ drop (b i + length (c i)) (a i))
+
+-- where an answer is Ok, two things that hold of it say a third
+pub on_ok_both : {T E : Type 0} {P Q R : Type 0} (r : Result T E) → (P → Q → R) → OnOk r P → OnOk r Q → OnOk r R
+on_ok_both (Ok x) f p q = f p q
+on_ok_both (Err e) f p q = tt
+
+-- the shut gate, written over itself
+pub shut_again : (head : Head) (records : List Entry) (c : List ℕ)
+    → Overwrites (at_rest head records) (length (stored head records)) (0 ∷ []) c → c ≡ at_rest head records
+shut_again head records c holds =
+    let at : ℕ = length (stored head records) in
+    holds
+    ∙ ap (λ (l : List ℕ). l ++ (0 ∷ []) ++ drop (at + 1) (at_rest head records))
+    (take_at (stored head records) (0 ∷ []) _ refl)
+    ∙ ap (λ (l : List ℕ). stored head records ++ (0 ∷ []) ++ drop (at + 1) l) (sym (append-nil (at_rest head records)))
+    ∙ ap (λ (l : List ℕ). stored head records ++ (0 ∷ []) ++ l)
+    (drop_at (at_rest head records) [] _ (length-at_rest head records))
+    ∙ append_assoc (stored head records) (0 ∷ []) []
+
+-- a log whose gate is written over itself
+module _ {D : Type 0} (seen : D → List ℕ) (may_leave : D → List ℕ → Type 0) (head : Head) (records : List Entry)
+    (log : Log D) (s : IsSettled seen may_leave head records log) where
+  -- whatever a crash leaves of it stands for its records
+  pub beat_leaves : (c : List ℕ) → MayBeTorn log.end (0 ∷ []) (may_leave log.device) c → StandsFor head records c
+  beat_leaves c (inl left) =
+      rests head records (seen log.device) (may_leave log.device) s.allowed s.each s.file s.durable c left
+  beat_leaves c (inr torn) = elim (torn.2.one_byte refl) [
+    | inl same ↦ subst (StandsFor head records) (sym same)
+        (rests head records (seen log.device) (may_leave log.device) s.allowed s.each s.file s.durable torn.0 torn.1)
+    | inr held ↦ subst (StandsFor head records) (sym (shut_again head records c
+        (holds_same torn.0 (at_rest head records) log.end (length (stored head records)) (0 ∷ []) (0 ∷ []) c
+        (s.durable torn.0 torn.1 ∙ s.file) s.place refl held)))
+        (closed head records [] s.allowed s.each)
+  ]
+
+  -- and once it is synced, it is as it was
+  pub beat_settled : (new : D) → Overwrites (seen log.device) log.end (0 ∷ []) (seen new)
+      → Only (seen new) (may_leave new) → IsSettledAt seen may_leave head records new log.end log.digest
+  beat_settled new held durable = record {
+    allowed = s.allowed;
+    version = s.version;
+    each = s.each;
+    file = shut_again head records (seen new)
+        (holds_same (seen log.device) (at_rest head records) log.end (length (stored head records)) (0 ∷ []) (0 ∷ [])
+        (seen new) s.file s.place refl held);
+    place = s.place;
+    chained = s.chained;
+    durable = durable;
+  }
 
 -- a log to which a batch is added
 module _ {D : Type 0} (seen : D → List ℕ) (may_leave : D → List ℕ → Type 0) (head : Head) (records batch : List Entry)

@@ -1,5 +1,6 @@
 -- The calls on a file with their answers, and what they make of it where each did what it answered.
 use Rattle.std.specs.Prelude.{ℕ, zero, suc, ◌≡◌, ◌⊎◌, ◌+◌, ◌<◌, ◌≤◌, Bool, true, false, List, [], ◌∷◌, ◌++◌, length, take, drop, ⊤}
+use Rattle.std.specs.Prelude.{◌==◌, ◌&&◌, if◌then◌else◌}
 use Rattle.hg_store.specs.Device.{Cut, Only, Torn}
 
 -- A call: which one, a place or a length, bytes, and whether it answered Ok.
@@ -86,6 +87,20 @@ state_of calls = state_from [] calls
 -- the calls that were made until then, and more after them, or none
 abbrev pub Continue : List Event → List Event → Type 0
 Continue earlier calls = (more : List Event) × (calls ≡ more ++ earlier)
+
+-- the newest call was a write that answered Ok
+abbrev pub ends_written : List Event → Bool
+ends_written [] = false
+ends_written (call ∷ earlier) = (call.0 == 1) && call.3
+
+-- a sync that answered Ok, right behind such a write
+abbrev pub is_beat : Event → List Event → Bool
+is_beat call earlier = (call.0 == 3) && (call.3 && ends_written earlier)
+
+-- how many of the calls were beats
+abbrev pub beats_in : List Event → ℕ
+beats_in [] = 0
+beats_in (call ∷ earlier) = (if is_beat call earlier then 1 else 0) + beats_in earlier
 
 -- a call of these failed
 abbrev pub HasFailed : List Event → Type 0

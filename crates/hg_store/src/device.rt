@@ -1,6 +1,6 @@
 //! A file as the log sees it: what a read returns, and what a crash may leave.
 
-ghost use Rattle.std.specs.Prelude.{◌≡◌, ◌≤◌, List, ℕ, length, take, IfOk, OnOk};
+ghost use Rattle.std.specs.Prelude.{◌≡◌, ◌≤◌, ◌<◌, Bool, true, List, ℕ, length, take, IfOk, OnOk};
 ghost use Rattle.hg_store.specs.declared.device.DeviceError.TheVariants.{Memory};
 ghost use Rattle.hg_store.specs.Device.{Only, CrashesFollow, Torn, Cut, Overwrites, Elapses, HasCause};
 
@@ -48,6 +48,12 @@ pub trait Device {
     /// How often the disk has failed.
     ghost faults: { Self → ℕ };
 
+    /// Whether the last call was a write that answered Ok.
+    ghost is_written: { Self → Bool };
+
+    /// How many beats it had: syncs that answered Ok, each right behind a write that did.
+    ghost beats: { Self → ℕ };
+
     /// A file, and the same one after more calls, or none.
     ghost goes_on: { Self → Self → Type 0 };
 
@@ -59,6 +65,7 @@ pub trait Device {
         ensures time { Elapses (moment self.old) (moment self.new) (left_since self.old) (left_since self.new)
             (may_leave self.new) }
         ensures same_file { goes_on self.old self.new }
+        ensures beats { beats self.old ≤ beats self.new }
         ensures cause { HasCause (faults self.old) (faults self.new) result };
 
     /// Writes over what is there, and past the end. Until a sync, a crash may leave any bytes in the range;
@@ -70,6 +77,8 @@ pub trait Device {
         ensures time { Elapses (moment self.old) (moment self.new) (left_since self.old) (left_since self.new)
             (may_leave self.new) }
         ensures same_file { goes_on self.old self.new }
+        ensures waits { OnOk result (is_written self.new ≡ true) }
+        ensures beats { beats self.old ≤ beats self.new }
         ensures cause { HasCause (faults self.old) (faults self.new) result };
 
     /// Cuts the file to a length. Until a sync, a crash may leave any length from that one on.
@@ -80,6 +89,7 @@ pub trait Device {
         ensures time { Elapses (moment self.old) (moment self.new) (left_since self.old) (left_since self.new)
             (may_leave self.new) }
         ensures same_file { goes_on self.old self.new }
+        ensures beats { beats self.old ≤ beats self.new }
         ensures cause { HasCause (faults self.old) (faults self.new) result };
 
     /// After it, a crash leaves what a read returns.
@@ -90,6 +100,8 @@ pub trait Device {
         ensures time { Elapses (moment self.old) (moment self.new) (left_since self.old) (left_since self.new)
             (may_leave self.new) }
         ensures same_file { goes_on self.old self.new }
+        ensures beat { OnOk result (is_written self.old ≡ true → beats self.old < beats self.new) }
+        ensures beats { beats self.old ≤ beats self.new }
         ensures cause { HasCause (faults self.old) (faults self.new) result };
 
     /// This moment is one of those since an earlier one.

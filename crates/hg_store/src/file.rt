@@ -2,7 +2,8 @@
 //! answered.
 
 ghost use Rattle.std.specs.Prelude.{◌≡◌, ◌∷◌, List, ℕ, Some, Ok, IfOk, MatchResult, false, is_ok, length};
-ghost use Rattle.hg_store.specs.Calls.{Continue, Event, LeftSince, MayLeave, began, gave_up, state_of};
+ghost use Rattle.hg_store.specs.Calls.{Continue, Event, LeftSince, MayLeave, beats_in, began, ends_written, gave_up};
+ghost use Rattle.hg_store.specs.Calls.{state_of};
 ghost use Rattle.hg_store.specs.FileLaws.{more_continue, now_alone, now_counts};
 
 use crate::calls::Calls;
@@ -82,6 +83,10 @@ impl<C: Calls, A: Allocator + Copy> Device for StoreFile<C, A> {
     ghost left_since = { λ f. LeftSince (C.Calls.history f.calls) };
 
     ghost faults = { λ f. (state_of (C.Calls.history f.calls)).faults };
+
+    ghost is_written = { λ f. ends_written (C.Calls.history f.calls) };
+
+    ghost beats = { λ f. beats_in (C.Calls.history f.calls) };
 
     ghost goes_on = { λ f g. Continue (C.Calls.history f.calls) (C.Calls.history g.calls) };
 

@@ -10,6 +10,7 @@ ghost use Rattle.hg_store.specs.Entries.{Entry as AnyEntry};
 ghost use Rattle.hg_store.specs.Records.{IsRecord, IsSized, digest_of, frame, frames, last_digest, open_gate};
 ghost use Rattle.hg_store.specs.declared.head.Head.{Head};
 ghost use Rattle.hg_store.specs.declared.head.Version.TheVariants.{Second};
+ghost use Rattle.hg_store.specs.Files.{StandsFor};
 ghost use Rattle.hg_store.specs.Log.{IsBeforeOrAfter, IsSettled};
 ghost use Rattle.hg_store.specs.code.Batches.{ungated};
 ghost use Rattle.hg_store.specs.code.Steps.{MayBeTorn};
@@ -60,6 +61,7 @@ fn write_behind<D: Device>(device: &mut D, at: usize, bytes: &[u8]) -> Result<()
     ensures front { (front : List ℕ) → length front ≤ at → Begin front (D.may_leave device.old) →
         KeepsFront D.moment D.left_since D.may_leave front device.old device.new }
     ensures later { D.faults device.old ≤ D.faults device.new }
+    ensures beats { D.beats device.old ≤ D.beats device.new }
     ensures failed { IsErrOf result DeviceError.Failed → D.faults device.old < D.faults device.new }
     ensures full { IsErrOf result DeviceError.Full → ⊥ }
 {
@@ -80,6 +82,7 @@ fn write_both<D: Device>(
     ensures front { (front : List ℕ) → length front ≤ at → Begin front (D.may_leave device.old) →
         KeepsFront D.moment D.left_since D.may_leave front device.old device.new }
     ensures later { D.faults device.old ≤ D.faults device.new }
+    ensures beats { D.beats device.old ≤ D.beats device.new }
     ensures failed { IsErrOf result DeviceError.Failed → D.faults device.old < D.faults device.new }
     ensures full { IsErrOf result DeviceError.Full → ⊥ }
 {
@@ -109,6 +112,7 @@ fn write_record<D: Device, A: Allocator>(
     ensures front { (front : List ℕ) → length front ≤ at → Begin front (D.may_leave device.old) →
         KeepsFront D.moment D.left_since D.may_leave front device.old device.new }
     ensures later { D.faults device.old ≤ D.faults device.new }
+    ensures beats { D.beats device.old ≤ D.beats device.new }
     ensures failed { IsErrOf result DeviceError.Failed → D.faults device.old < D.faults device.new }
     ensures full { IsErrOf result DeviceError.Full → ⊥ }
 {
@@ -135,6 +139,7 @@ fn write_batch<D: Device, A: Allocator>(
     ensures front { (front : List ℕ) → length front ≤ start → Begin front (D.may_leave device.old) →
         KeepsFront D.moment D.left_since D.may_leave front device.old device.new }
     ensures later { D.faults device.old ≤ D.faults device.new }
+    ensures beats { D.beats device.old ≤ D.beats device.new }
     ensures failed { IsErrOf result DeviceError.Failed → D.faults device.old < D.faults device.new }
     ensures full { IsErrOf result DeviceError.Full →
         2 ^ 62 ≤ start + length (frames Second before.now batch.now) }
@@ -164,8 +169,10 @@ pub(crate) fn put_synced<D: Device>(
     ensures durable { OnOk result (Only (D.seen device.new) (D.may_leave device.new)) }
     ensures any_moment { LeavesOnly D.moment D.left_since device.old device.new
         (MayBeTorn at bytes.now (D.may_leave device.old)) }
+    ensures beat { OnOk result (D.beats device.old < D.beats device.new) }
     ensures same_file { D.goes_on device.old device.new }
     ensures later { D.faults device.old ≤ D.faults device.new }
+    ensures beats { D.beats device.old ≤ D.beats device.new }
     ensures failed { IsErrOf result DeviceError.Failed → D.faults device.old < D.faults device.new }
     ensures full { IsErrOf result DeviceError.Full → ⊥ }
 {
@@ -193,6 +200,9 @@ impl<D: Device> Log<D> {
             LeavesOnly D.moment D.left_since self.old.device self.new.device
             (IsBeforeOrAfter head records batch.now) }
 
+        // It has a beat, at least.
+        ensures beat { OnOk result (D.beats self.old.device < D.beats self.new.device) }
+
         // It does not give up by itself.
         ensures failed { IsErrOf result DeviceError.Failed →
             D.faults self.old.device < D.faults self.new.device }
@@ -204,6 +214,27 @@ impl<D: Device> Log<D> {
         self.end = end;
         self.digest = digest;
         Ok(())
+    }
+
+    /// **A beat**: the shut gate is written over itself and synced, so that the device has answered now. The file stays
+    /// as it is, at any moment. At `Err`, open the file again.
+    pub fn beat(&mut self) -> Result<(), DeviceError>
+        requires { (head : Head) × (records : List AnyEntry)
+            × IsSettled D.seen D.may_leave head records self.old }
+        ensures same { (head : Head) (records : List AnyEntry) →
+            IsSettled D.seen D.may_leave head records self.old →
+            OnOk result (IsSettled D.seen D.may_leave head records self.new) }
+        ensures any_moment { (head : Head) (records : List AnyEntry) →
+            IsSettled D.seen D.may_leave head records self.old →
+            LeavesOnly D.moment D.left_since self.old.device self.new.device (StandsFor head records) }
+        ensures beat { OnOk result (D.beats self.old.device < D.beats self.new.device) }
+
+        // It does not give up by itself.
+        ensures failed { IsErrOf result DeviceError.Failed →
+            D.faults self.old.device < D.faults self.new.device }
+        ensures full { IsErrOf result DeviceError.Full → ⊥ }
+    {
+        put_synced(&mut self.device, self.end, &[SHUT])
     }
 
     /// Writes the records of a batch after the shut gate, and a shut gate after them, and syncs. Gives the
@@ -222,6 +253,7 @@ impl<D: Device> Log<D> {
         ensures front { KeepsFront D.moment D.left_since D.may_leave (D.seen self.old.device) self.old.device
             self.new.device }
         ensures later { D.faults self.old.device ≤ D.faults self.new.device }
+        ensures beats { D.beats self.old.device ≤ D.beats self.new.device }
         ensures failed { IsErrOf result DeviceError.Failed →
             D.faults self.old.device < D.faults self.new.device }
         ensures full { IsErrOf result DeviceError.Full →

@@ -71,6 +71,7 @@ loop-record-preserved g c =
           kept_on g.D.Device.moment g.D.Device.left_since g.D.Device.may_leave front _ _ _ first
           (c.write_record.ensures.front front at first.outcomes);
       later = omega (arith, i.later, c.in_ok-at.ensures.later);
+      beats = omega (arith, i.beats, c.in_ok-at.ensures.beats);
     }
 
 pub returns-in_err-at-clause-failed : goal.returns-in_err-at-clause-failed

@@ -18,4 +18,5 @@ invariant-loop-record g l = record {
   front : (front : List ℕ) → length front ≤ l.fn.start → Begin front (g.D.Device.may_leave l.fn.device)
       → KeepsFront g.D.Device.moment g.D.Device.left_since g.D.Device.may_leave front l.fn.device l.device;
   later : g.D.Device.faults l.fn.device ≤ g.D.Device.faults l.device;
+  beats : g.D.Device.beats l.fn.device ≤ g.D.Device.beats l.device;
 }

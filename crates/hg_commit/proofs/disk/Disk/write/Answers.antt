@@ -1,4 +1,4 @@
-use Rattle.std.proofs.Common.{◌≡◌, ◌≤◌, ◌+◌, ◌++◌, ◌∷◌, [], false, true, ℕ, List, ap, append-nil, sym, subst, vec_len, ◌∙◌}
+use Rattle.std.proofs.Common.{◌≡◌, ◌<◌, ◌≤◌, ◌+◌, ◌++◌, ◌∷◌, [], false, true, ℕ, List, ap, append-nil, sym, subst, vec_len, ◌∙◌}
 use Rattle.std.proofs.Common.{arith, length}
 use Rattle.std.specs.List.{AllByRecursion}
 use Rattle.hg_store.specs.Entries.{Entry}
@@ -204,3 +204,13 @@ returns-clause-added g c = λ records settled b.
     (c.append.ensures.acknowledged head records here) in
     subst (λ (l : List Entry). IsSettled seen may_leave head (records ++ l) c.append.new.self)
     (c.as_slice.ensures.value ∙ ap (λ (v : DiskView g.row.A.Denot g.row.D.Denot). v.batch) c.self.view_is) ack
+
+pub returns-then-self-clause-beat : goal.returns-then-self-clause-beat
+returns-then-self-clause-beat g c = λ some b. absurd (some (returns-then-self-clause-written g c b).1)
+
+pub returns-clause-beat : goal.returns-clause-beat
+returns-clause-beat g c = λ some b.
+    let beats = g.D.Device.beats in
+    subst (λ (v : DiskView g.row.A.Denot g.row.D.Denot). beats v.device < beats c.append.new.self.device)
+    c.self.view_is
+    (went_well c.append.result (sym c.is_err.ensures.value ∙ c.if-is_err.false) c.append.ensures.beat)

@@ -1,6 +1,6 @@
 use Rattle.std.proofs.Common.{◌∙◌}
 use Rattle.hg_commit.proofs.Covering.{covered_by}
-use Rattle.hg_commit.proofs.ledger.Ledger.receipt.Goals as goal
+use Rattle.hg_commit.proofs.ledger.Ledger.await_receipt.Goals as goal
 
 pub returns-in-Ok-clause-covered : goal.returns-in-Ok-clause-covered
 returns-in-Ok-clause-covered g c =
