@@ -44,6 +44,7 @@ PIECES = {
     "clients": ["tests/serve.sh"],
     "stores": ["tests/store.sh"],
     "what is synced": ["tests/synced.py"],
+    "standbys": ["tests/standby.py"],
     "examples": ["tests/check.sh"],
 }
 # what looks how long an answer takes, or may lose the end of one on a busy machine: nothing runs beside it

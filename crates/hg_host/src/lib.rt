@@ -15,6 +15,7 @@ mod hook;
 mod hosting;
 mod runtime;
 mod service;
+mod standby;
 mod terms;
 mod watch;
 
@@ -25,4 +26,5 @@ pub use hook::HookTerms;
 pub use hosting::{Ended, serve_store};
 pub use runtime::HostingRuntime;
 pub use service::HostService;
+pub use standby::answer_as_standby;
 pub use terms::HostTerms;

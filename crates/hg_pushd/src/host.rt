@@ -4,9 +4,11 @@ ghost use Rattle.std.specs.Prelude.{IfOk};
 ghost use Rattle.hg_recovery.specs.Opening.{IsOpened};
 
 use hg_commands::{Hosting, device_status, tell};
-use hg_host::{Ended, HookAddress, HookTerms, HostTerms, HostingRuntime, Over, serve_store};
+use hg_host::{
+    Ended, HookAddress, HookTerms, HostTerms, HostingRuntime, Over, answer_as_standby, serve_store,
+};
 use hg_recovery::{IfMissing, OpeningFault, Recovered, recover_store};
-use hg_store::{Device, HostFile, StoreFile, StoreFolder};
+use hg_store::{Device, HostFile, StoreFault, StoreFile, StoreFolder};
 use hg_store_tools::TornNote;
 use std::fs::{File, Files};
 use std::hash::RandomState;
@@ -14,8 +16,9 @@ use std::io;
 use std::net::{Net, SocketAddr, TcpListener, TcpStream};
 use std::sync::Wait;
 
-/// Opens the store, binds the address, says where it listens, and serves until the store fails, in this order.
-/// Gives the status; what ends it is printed. Nothing is opened where the address of the hook is none.
+/// Opens the store, binds the address, says where it listens, and serves until the store fails, in this order; a
+/// standby binds first, and opens the store once no other process has it. Gives the status; what ends it is printed.
+/// Nothing is opened where the address of the hook is none.
 pub fn host<R: Files<File = File> + AllocGlobal + HostingRuntime>(
     rt: &R,
     state: RandomState,
@@ -25,10 +28,46 @@ pub fn host<R: Files<File = File> + AllocGlobal + HostingRuntime>(
         let _ = eprintln!(rt; "hg_pushd: --hook wants http://HOST:PORT/PATH");
         return 2;
     }
+    if hosting.standby {
+        return stand_by(rt, hosting);
+    }
     match open(rt, state, hosting) {
         Ok(recovered) => listen(rt, hosting, recovered),
         Err(fault) => not_opened(rt, hosting.store, &fault),
     }
+}
+
+/// Binds the address, and asks for the store each second until no other process has it. Who connects meanwhile is told
+/// so. Then it is served.
+fn stand_by<R: Files<File = File> + AllocGlobal + HostingRuntime>(
+    rt: &R,
+    hosting: &Hosting<'_>,
+) -> u8 {
+    let (listener, address) = match bind(rt, hosting.listen) {
+        Ok(bound) => bound,
+        Err(error) => return not_bound(rt, hosting.listen, &error),
+    };
+    let _ = eprintln!(rt; "hg_pushd: standby on http://{address}/");
+    'asking: for _ in rt.forever() {
+        let Ok(state) = RandomState::new(rt) else {
+            return printed(rt, 3);
+        };
+        match open(rt, state, hosting) {
+            Err(OpeningFault::Store(StoreFault::Held)) => {}
+            Err(fault) => return not_opened(rt, hosting.store, &fault),
+            Ok(recovered) => return serve_opened(rt, hosting, &listener, address, recovered),
+        }
+        if let Err(error) = answer_as_standby(rt, &listener) {
+            return not_bound(rt, hosting.listen, &error);
+        }
+    }
+    unreachable!()
+}
+
+/// A status, which is printed.
+fn printed<R: Eprint>(rt: &R, status: u8) -> u8 {
+    tell(rt, status);
+    status
 }
 
 /// Opens the store. Where none is there it is made, or refused if it has to be there.
@@ -66,17 +105,29 @@ fn listen<R: Files<File = File> + AllocGlobal + HostingRuntime>(
         ⟦<StoreFile<HostFile> as Device>⟧.may_leave recovered }
 {
     match bind(rt, hosting.listen) {
-        Ok((listener, address)) => {
-            print_listening(rt, address, &recovered);
-            match serve(rt, hosting, &listener, address, recovered) {
-                Some(status) => status,
-                None => serve_again(rt, hosting, &listener, address),
-            }
-        }
+        Ok((listener, address)) => serve_opened(rt, hosting, &listener, address, recovered),
         Err(error) => {
             drop(recovered);
             not_bound(rt, hosting.listen, &error)
         }
+    }
+}
+
+/// Says where it listens, and serves what was recovered, as [`listen`] does.
+fn serve_opened<R: Files<File = File> + AllocGlobal + HostingRuntime>(
+    rt: &R,
+    hosting: &Hosting<'_>,
+    listener: &TcpListener,
+    address: SocketAddr,
+    recovered: Recovered<StoreFile<HostFile>>,
+) -> u8
+    requires { IsOpened ⟦<StoreFile<HostFile> as Device>⟧.seen
+        ⟦<StoreFile<HostFile> as Device>⟧.may_leave recovered }
+{
+    print_listening(rt, address, &recovered);
+    match serve(rt, hosting, listener, address, recovered) {
+        Some(status) => status,
+        None => serve_again(rt, hosting, listener, address),
     }
 }
 
@@ -124,8 +175,7 @@ fn serve_anew<R: Files<File = File> + AllocGlobal + HostingRuntime>(
     address: SocketAddr,
 ) -> Option<u8> {
     let Ok(state) = RandomState::new(rt) else {
-        tell(rt, 3);
-        return Some(3);
+        return Some(printed(rt, 3));
     };
     match open(rt, state, hosting) {
         Ok(recovered) => serve(rt, hosting, listener, address, recovered),

@@ -36,6 +36,8 @@ pub struct Hosting<'a> {
     pub existing: bool,
     /// Whether the folder is one of several machines.
     pub shared: bool,
+    /// Whether a store that another process has is waited for.
+    pub standby: bool,
     /// Where it is asked whether a push may run.
     pub hook: Option<&'a str>,
     /// For how many seconds its answer is waited for.
@@ -188,6 +190,14 @@ pub const HOST: CommandRow<'static> = CommandRow {
             help: "The folder is of several machines (CephFS): answers rest on a beat; and --existing",
         },
         OptionRow {
+            name: "standby",
+            kind: Kind::Flag,
+            value: "",
+            is_required: false,
+            default: &[],
+            help: "Waits for a store that another process has, answers 503 meanwhile, and then serves it",
+        },
+        OptionRow {
             name: "hook",
             kind: Kind::Word,
             value: "URL",
@@ -231,6 +241,7 @@ pub fn read_hosting<'a>(matches: &ArgMatches<'a>) -> Hosting<'a> {
         pull: matches.get_str("pull"),
         existing: matches.get_flag("existing") || matches.get_flag("shared"),
         shared: matches.get_flag("shared"),
+        standby: matches.get_flag("standby"),
         hook: matches.get_str("hook"),
         hook_wait: matches.get_one("hook-wait").unwrap_or(1),
         log: matches.get_flag("log"),

@@ -22,6 +22,7 @@ const DEFAULTS: Hosting<'static> = Hosting {
     pull: None,
     existing: false,
     shared: false,
+    standby: false,
     hook: None,
     hook_wait: 60,
     log: false,
@@ -50,6 +51,7 @@ fn is_same(one: &Hosting<'_>, other: &Hosting<'_>) -> bool {
         && is_same_word(one.pull, other.pull)
         && one.existing == other.existing
         && one.shared == other.shared
+        && one.standby == other.standby
         && is_same_word(one.hook, other.hook)
         && one.hook_wait == other.hook_wait
         && one.log == other.log
@@ -125,6 +127,13 @@ fn words_that_ask_for_a_host(rt: HostRuntime) -> Result<(), Fail> {
             &["--existing"],
             Hosting {
                 existing: true,
+                ..DEFAULTS
+            },
+        ),
+        (
+            &["--standby"],
+            Hosting {
+                standby: true,
                 ..DEFAULTS
             },
         ),
