@@ -73,7 +73,7 @@ fn asks_host(alloc: Global, more: &[&str], wanted: &Hosting<'_>) -> Result<bool,
 fn words_that_ask_for_a_host(rt: HostRuntime) -> Result<(), Fail> {
     let alloc = rt.alloc();
     assert!(rt; asks_host(alloc, &[], &DEFAULTS)?);
-    let rows: [(&[&str], Hosting<'_>); 12] = [
+    let rows: [(&[&str], Hosting<'_>); 14] = [
         (
             &["--listen", "[::1]:80"],
             Hosting {
