@@ -6,7 +6,7 @@ ghost use Rattle.hg_recovery.specs.Opening.{IsOpened};
 use hg_commands::{Hosting, device_status, tell};
 use hg_host::{Ended, HookAddress, HookTerms, HostTerms, HostingRuntime, Over, serve_store};
 use hg_recovery::{IfMissing, OpeningFault, Recovered, recover_store};
-use hg_store::{Device, HostFile, StoreFile, StoreFolder};
+use hg_store::{Device, HostFile, KeptTail, StoreFile, StoreFolder};
 use hg_store_tools::TornNote;
 use std::fs::{File, Files};
 use std::hash::RandomState;
@@ -31,8 +31,9 @@ pub fn host<R: Files<File = File> + AllocGlobal + HostingRuntime>(
     }
 }
 
-/// Opens the store. Where none is there it is made, or refused if it has to be there.
-fn open<R: Files<File = File> + AllocGlobal>(
+/// Opens the store. Where none is there it is made, or refused if it has to be there. What it had after its last whole
+/// record is kept, and that is printed.
+fn open<R: Files<File = File> + AllocGlobal + Eprint>(
     rt: &R,
     state: RandomState,
     hosting: &Hosting<'_>,
@@ -46,13 +47,26 @@ fn open<R: Files<File = File> + AllocGlobal>(
     } else {
         IfMissing::Create
     };
-    recover_store(
+    let recovered = recover_store(
         rt.alloc(),
         state,
         &mut folder,
         hosting.publishing,
         if_missing,
-    )
+    );
+    if let Some(kept) = folder.kept() {
+        print_kept(rt, hosting.store, kept);
+    }
+    recovered
+}
+
+/// Prints where the tail of a store is kept.
+fn print_kept<R: Eprint>(rt: &R, folder: &str, kept: KeptTail) {
+    let size = kept.size;
+    let place = kept.place;
+    let _ = eprintln!(rt;
+        "hg_pushd: {folder}/pushes: {place} pushes are whole; {size} bytes behind them are kept in {folder}/{kept}"
+    );
 }
 
 /// Binds the address, and serves what was recovered. Where the numbers of pushes come to their end, the store is
@@ -93,10 +107,14 @@ fn serve<R: Files<File = File> + AllocGlobal + HostingRuntime>(
 {
     let terms = terms_of(hosting);
     let Ended { over, left } = serve_store(rt, rt.alloc(), terms, listener, address, recovered);
+    let is_foreign = match &left {
+        Some(closed) => closed.log.device.calls().is_foreign(),
+        None => false,
+    };
     drop(left);
     match over {
         Over::NumbersEnd => None,
-        over => Some(status_at(rt, over)),
+        over => Some(status_at(rt, over, is_foreign)),
     }
 }
 
@@ -219,15 +237,19 @@ fn not_bound<R: Eprint>(rt: &R, listen: &str, error: &io::Error) -> u8 {
     status
 }
 
-/// The status where serving ended for good, which is printed.
-fn status_at<R: Eprint>(rt: &R, over: Over) -> u8 {
+/// The status where serving ended for good, which is printed. The store may have failed since it was changed by another.
+fn status_at<R: Eprint>(rt: &R, over: Over, is_foreign: bool) -> u8 {
     match over {
         Over::NoMemory => {
             tell(rt, 4);
             4
         }
         Over::StoreFailed | Over::NumbersEnd => {
-            let _ = eprintln!(rt; "hg_pushd: the store failed");
+            if is_foreign {
+                let _ = eprintln!(rt; "hg_pushd: the store was changed by another");
+            } else {
+                let _ = eprintln!(rt; "hg_pushd: the store failed");
+            }
             3
         }
     }

@@ -2,14 +2,15 @@
 use Rattle.std.specs.Prelude.{ℕ, ◌≡◌, ◌≢◌, ◌⊎◌, ◌+◌, List, ◌∷◌, length, ⊤}
 use Rattle.hg_store.specs.declared.head.Head.{Head}
 use Rattle.hg_store.specs.declared.head.Setup.{Setup}
-use Rattle.hg_store.specs.declared.opening.RecoverFault.TheVariants.{Read, OldVersion, Torn, Device}
+use Rattle.hg_store.specs.declared.opening.RecoverFault.TheVariants.{Read, OldVersion, Torn, Tail, Device}
 use Rattle.hg_store.specs.declared.start.StoreFault.{StoreFault}
-use Rattle.hg_store.specs.declared.start.StoreFault.TheVariants.{Missing, Exists, Held, OtherPublishing, OtherLimits, Recover}
+use Rattle.hg_store.specs.declared.start.StoreFault.TheVariants.{Missing, Exists, Held, Linked, OtherPublishing, OtherLimits, Recover}
 use Rattle.hg_store.specs.Calls.{Continue, Event, LeftSince, MayLeave, began, state_of}
 use Rattle.hg_store.specs.Device.{Only}
 use Rattle.hg_store.specs.Entries.{Entry}
 use Rattle.hg_store.specs.Files.{IsOldStore, IsTornStore, IsUnread, StandsFor}
 use Rattle.hg_store.specs.Head.{HasHead}
+use Rattle.hg_store.specs.Tails.{IsTailRefused}
 
 -- A store in a file is open for more records. The first call on the file read it: the bytes that were found stand for
 -- these records, and so does what a crash may have left of it at any moment since.
@@ -19,12 +20,13 @@ pub record IsFound (head : Head) (records : List Entry) (before now : List Event
   pub stands : StandsFor head records bytes
   pub any_moment : (left : List ℕ) → LeftSince now (length before + 1) left → StandsFor head records left
 
--- what a folder may answer in the place of a store: there is none, there is one already, or it is held; or a device
--- failed, or memory was refused
+-- what a folder may answer in the place of a store: there is none, there is one already, it is held, or it is no file
+-- or a link; or a device failed, or memory was refused
 abbrev pub IsOfFolder : StoreFault → Type 0
 IsOfFolder Missing = ⊤
 IsOfFolder Exists = ⊤
 IsOfFolder Held = ⊤
+IsOfFolder Linked = ⊤
 IsOfFolder (Recover (Device fault)) = ⊤
 IsOfFolder other = ⊥
 
@@ -35,6 +37,7 @@ IsRefusedAs OtherLimits setup bytes = (head : Head) × HasHead bytes head × (he
 IsRefusedAs (Recover (Read fault)) setup bytes = IsUnread fault bytes
 IsRefusedAs (Recover OldVersion) setup bytes = IsOldStore bytes
 IsRefusedAs (Recover (Torn whole)) setup bytes = IsTornStore bytes whole
+IsRefusedAs (Recover (Tail fault)) setup bytes = IsTailRefused fault bytes
 IsRefusedAs other setup bytes = ⊥
 
 -- A file was read, and holds the bytes that were found, all of them on the disk.
