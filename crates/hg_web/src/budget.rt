@@ -80,6 +80,11 @@ impl<'a> Share<'a> {
         !self.is_over
     }
 
+    /// Whether some of a request came that was not answered.
+    pub(crate) fn is_begun(&self) -> bool {
+        self.came > 0
+    }
+
     /// Forgets what came, since it was answered. What was taken stays taken: the connection keeps the block of its
     /// longest body, and what comes next lies in that block.
     pub(crate) fn forget(&mut self) {

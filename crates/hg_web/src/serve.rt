@@ -14,16 +14,17 @@ ghost use Rattle.hg_http.specs.Following.{AreRequests, FollowsAt, KeepsUp, limit
 ghost use Rattle.hg_web.specs.code.Following.{Brings, EndsStretch, HasRead, HasSent, Passes};
 
 use crate::budget::Share;
+use crate::dismissal::unread_as;
 use crate::terms::{Host, WebTerms};
 use crate::wire::Wire;
 use hg_commit::{KeptClient, Ledger, Storing};
 use hg_connection::{Sending, send};
 use hg_durable::Keeping;
 use hg_http::{Follower, Policy, RequestEnd};
-use hg_queries::{Shown, ViewCache, Watch};
+use hg_queries::{Dismissal, Shown, ViewCache, Watch};
 use hg_serve::Server;
 use hg_store::Device;
-use http_server::{Config, Connection, State};
+use http_server::{Config, Connection, Reason, State};
 use std::alloc::{Allocator, Global};
 use std::hash::RandomState;
 use std::io;
@@ -174,17 +175,49 @@ fn serve_stretches<
         // Dropped here once, and not at each place where the function returns: with its block what was taken for it
         // goes back, however it ended.
         drop(connection);
+        tell_broken(wire, share, &ended);
         share.clear(rt);
         match ended? {
             Stretch::Done => return Ok(()),
             Stretch::Refused { is_whole } => {
-                if refuse(is_whole, &mut follower, reader, writer)? {
+                let refused = refuse(is_whole, &mut follower, reader, writer);
+                wire.dismiss(dismissal_at(&refused));
+                if refused? {
                     return Ok(());
                 }
             }
         }
     }
     Err(ErrorKind::TimedOut.into())
+}
+
+/// Tells who watches of a request within which the connection broke off.
+fn tell_broken<
+    J: Storing<A>,
+    D: Device,
+    R: Wait,
+    S: Shown<A>,
+    V: Watch<A>,
+    P: Policy<A>,
+    A: Allocator + Copy,
+>(wire: &mut Wire<'_, J, D, R, S, V, P, A>, share: &Share<'_>, ended: &io::Result<Stretch>)
+    ensures { wire.new ≡ wire.old }
+{
+    if ended.is_err() && share.is_begun() && !wire.has_failed() {
+        wire.dismiss(Dismissal::Lost);
+    }
+}
+
+/// Why a request was refused that found no room, by how its rest was read and answered.
+fn dismissal_at(refused: &io::Result<bool>) -> Dismissal {
+    match refused {
+        Ok(_) => Dismissal::NoRoom,
+        Err(error) => match error.kind() {
+            ErrorKind::WriteZero => Dismissal::NoRoom,
+            ErrorKind::InvalidData => Dismissal::NoRequest,
+            _ => Dismissal::Lost,
+        },
+    }
 }
 
 /// Reads and drops the rest of a request that found no room, if it was not read whole, and answers that. Says
@@ -356,7 +389,25 @@ fn advance<
     if has_answered {
         share.forget();
     }
+    tell_refused(connection, wire);
     has_answered
+}
+
+/// Tells who watches of a request that HTTP refused. Nothing is read after it, so that is told once.
+fn tell_refused<
+    J: Storing<A>,
+    D: Device,
+    R: Wait,
+    S: Shown<A>,
+    V: Watch<A>,
+    P: Policy<A>,
+    A: Allocator + Copy,
+>(connection: &Connection, wire: &mut Wire<'_, J, D, R, S, V, P, A>)
+    ensures { wire.new ≡ wire.old }
+{
+    if let State::Closing(Reason::Refused(why)) = connection.state() {
+        wire.dismiss(unread_as(why));
+    }
 }
 
 /// Whether memory was refused for what was received, or for its answer.

@@ -6,11 +6,12 @@ ghost use Rattle.hg_commit.specs.Clients.{IsCovered, IsLater};
 ghost use Rattle.hg_web.specs.Answering.{Responds};
 
 use crate::answering::answer_request;
+use crate::dismissal::dismissal_of;
 use crate::terms::{Host, WebTerms};
 use bytes::Bytes;
 use hg_commit::{KeptClient, NotStored, Storing};
-use hg_http::{Policy, respond};
-use hg_queries::{Shown, Watch};
+use hg_http::{HttpAnswer, Policy, respond};
+use hg_queries::{Dismissal, Shown, Watch};
 use hg_store::Device;
 use http::Request;
 use http_server::{Log, Response, Service};
@@ -134,6 +135,13 @@ where
         hold(self.global, &mut self.spare)
     }
 
+    /// Tells who watches why a request was refused.
+    pub(crate) fn dismiss(&mut self, why: Dismissal)
+        ensures { self.new ≡ self.old }
+    {
+        self.watch.dismissed(why);
+    }
+
     /// Its client and its policy, and whether the store failed before a request was answered.
     pub fn into_parts(self) -> (KeptClient<J, A>, P, bool)
         ensures later { IsLater self.entry.seen result.0 }
@@ -192,6 +200,7 @@ where
                 put_back(&mut self.client, client);
                 self.answered = answered;
                 self.spare = Vec::new(self.global);
+                tell_dismissed(&mut *self.watch, &answer);
                 respond(self.global, &answer, response);
                 Ok(())
             }
@@ -228,6 +237,13 @@ where
         response: &mut Response,
     ) -> Result<(), AllocError> {
         self.answer(request, response)
+    }
+}
+
+/// Tells who watches why a request was refused, where its answer says so.
+fn tell_dismissed<V: Watch<A>, A: Allocator>(watch: &mut V, answer: &HttpAnswer<A>) {
+    if let Some(why) = dismissal_of(answer) {
+        watch.dismissed(why);
     }
 }
 
