@@ -358,6 +358,47 @@ def bodies_beyond_the_memory(host):
 
 
 @case
+def what_a_body_held_goes_back(host):
+    """A connection that was answered and stays open holds no room: others find it."""
+    host.start("--memory", "1048576")
+    kind = ("content-type: application/mercurial-0.1", "x-hgarg-1: heads=666f726365")
+    lines = [host.connect() for _ in range(8)]
+    for line in lines:
+        line.sendall(request("/?cmd=unbundle", EMPTY + bytes(500_000), kind))
+        want("each is answered", answer(line.makefile("rb"))[2], EMPTY_REPLY)
+    for line in lines:
+        line.sendall(request("/?cmd=heads", None, ()))
+        want("and goes on", answer(line.makefile("rb"))[2], b"0" * 40 + b"\n")
+        line.close()
+
+
+@case
+def answers_that_nobody_reads(host):
+    """An answer counts for `--memory` until it was sent. A connection with one that waits is not read further."""
+    host.start("--memory", str(32 << 20))
+    heads = 30_000
+    host.push(bundle(CAPS, group(*((b"%d" % number, NULL) for number in range(heads)))))
+    asked = request("/?cmd=batch", None, ("x-hgarg-1: cmds=" + "%3B".join(["heads+"] * 16),))
+    size, refused = 16 * 41 * heads + 15, (200, "application/hg-error", b"there is no memory for the answer\n")
+    with socket.socket() as slow, host.connect() as other:
+        slow.setsockopt(socket.SOL_SOCKET, socket.SO_RCVBUF, 65_536)
+        slow.connect(("127.0.0.1", host.port))
+        slow.sendall(asked * 7)
+        slow.settimeout(60)
+        want("it begins", slow.recv(1, socket.MSG_PEEK), b"H")
+        file = other.makefile("rb")
+        for _ in range(3):
+            other.sendall(asked)
+            want("another finds no room", answer(file), refused)
+        want("short ones go on", host.ask("/?cmd=known&nodes=")[0], 200)
+        unread = slow.makefile("rb")
+        for _ in range(7):
+            want("the first is told all of it", len(answer(unread)[2]), size)
+        other.sendall(asked)
+        want("and then the other", len(answer(file)[2]), size)
+
+
+@case
 def a_line_for_each_push(host):
     host.start("--log")
     host.push(EMPTY)

@@ -49,6 +49,17 @@ status_of OtherName = 421
 status_of OtherPath = 404
 status_of UnclearCommand = 400
 
+-- the text of an answer
+abbrev pub text_of : {A : Type 0} → HttpAnswer A → List ℕ
+text_of (Text text) = text
+text_of (Refused why) = refusal_text why
+text_of (NotLet why) = why
+text_of Forbidden = []
+text_of NotFound = []
+text_of (Misaddressed fault) = []
+text_of (Shown view text) = text
+text_of (Moved address) = address
+
 -- the status, the fields and the body that report an answer
 abbrev pub Says : {A : Type 0} → HttpAnswer A → Response → Type 0
 Says (Text text) response = IsResponse 200 (of_type (codes "application/mercurial-0.1")) text response

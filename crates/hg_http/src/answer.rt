@@ -74,6 +74,25 @@ pub enum HttpAnswer<A: Allocator = Global> {
     Moved(Seq<u8, A>),
 }
 
+impl<A: Allocator> HttpAnswer<A> {
+    ghost use Rattle.std.specs.Prelude.{◌≡◌, length};
+    ghost use Rattle.hg_http.specs.Responses.{text_of};
+
+    /// How many bytes of text it has.
+    pub fn len(&self) -> usize
+        ensures { result ≡ length (text_of self.now) }
+    {
+        match self {
+            HttpAnswer::Text(text) => text.len(),
+            HttpAnswer::Shown(_, text) => text.len(),
+            HttpAnswer::NotLet(line) => line.len(),
+            HttpAnswer::Moved(address) => address.len(),
+            HttpAnswer::Refused(why) => why.text().len(),
+            HttpAnswer::Forbidden | HttpAnswer::NotFound | HttpAnswer::Misaddressed(_) => 0,
+        }
+    }
+}
+
 /// Fills a blank response with the answer. Where memory is refused for it, the response says so, by a line,
 /// or by its status where memory is refused for that as well.
 pub fn respond<A: Allocator>(alloc: Global, answer: &HttpAnswer<A>, response: &mut Response)
@@ -85,7 +104,9 @@ pub fn respond<A: Allocator>(alloc: Global, answer: &HttpAnswer<A>, response: &m
     }
 }
 
-fn respond_nothing(response: &mut Response)
+/// Says that there is no memory for the answer: by a line, or by the status alone where memory is refused for that as
+/// well.
+pub fn respond_nothing(response: &mut Response)
     ensures { SaysNothing response.new }
 {
     response.clear();

@@ -27,7 +27,7 @@ mod request;
 mod view;
 
 pub use address::{Address, AddressFault, fault_of};
-pub use answer::{HttpAnswer, RequestRefusal, respond};
+pub use answer::{HttpAnswer, RequestRefusal, respond, respond_nothing};
 pub use command::{Command, Read, argument, command_of, read_of, subject_of};
 pub use follow::{Follower, RequestEnd};
 pub use hook::{

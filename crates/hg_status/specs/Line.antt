@@ -40,4 +40,4 @@ pub record IsLine (push : Push) (line : List ℕ) : Type 0 where
 -- the line of a request that was refused: a date, and why
 pub record IsDismissalLine (why : Dismissal) (line : List ℕ) : Type 0 where
   pub date : List ℕ
-  pub says : line ≡ date ++ (codes "Z refused, " ++ (name_of_dismissal why ++ codes "\n"))
+  pub says : line ≡ date ++ (codes "Z " ++ (codes "refused, " ++ (name_of_dismissal why ++ codes "\n")))

@@ -90,8 +90,8 @@ impl<A: Allocator> PushCounts<A> {
         ensures counters { self.new.counters ≡ with_dismissed self.old.counters why }
         ensures recent { self.new.recent ≡ self.old.recent }
     {
-        let place = place(why);
-        self.counters.dismissed[place] = self.counters.dismissed[place].saturating_add(1);
+        let at = place(why);
+        self.counters.dismissed[at] = self.counters.dismissed[at].saturating_add(1);
     }
 }
 

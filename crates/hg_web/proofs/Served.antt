@@ -16,11 +16,11 @@ use Rattle.http_server.specs.Exchange.{Chain}
 use Rattle.http_server.specs.History.{History, IsServed, new_history}
 use Rattle.http_server.proofs.KnownLemmas.{Appends-then, Consumes-then}
 use Rattle.http_server.proofs.StreamLemmas.{Chain-append}
-use Rattle.hg_web.specs.Serving.{calls_of, Converses, EndsConnection, EndsPlainly, IsNoRoomAnswer, IsRefused}
-use Rattle.hg_web.specs.Serving.{lost_text, no_room_text, read_of, Refused, sent_of}
+use Rattle.hg_web.specs.Serving.{calls_of, Converses, EndsConnection, EndsPlainly, IsNoRoomAnswer, IsOver, lost_text}
+use Rattle.hg_web.specs.Serving.{no_room_text, Over, read_of, refusal_of, sent_of}
 use Rattle.hg_http.specs.declared.follow.Follower.{Follower}
 use Rattle.hg_http.specs.Following.{limits_of}
-use Rattle.hg_web.specs.code.Following.{Passes, Waits, Went}
+use Rattle.hg_web.specs.code.Following.{AreAnswered, Passes, Waits, Went}
 use Rattle.hg_web.specs.declared.serve.ConnectionEnd.{ConnectionEnd}
 use Rattle.hg_web.specs.declared.serve.ConnectionEnd.TheVariants.{NotStored}
 
@@ -48,16 +48,16 @@ new_served config = record {
 -- the stretches of a connection up to a place between two of them
 pub record SoFar {V : Type 0} (config : Config) (answers : V → Asked (List ℕ) → Response → V → Type 0) (old now : V)
     (input left out sent : Option (List ℕ)) : Type 0 where
-  pub refused : List Refused
-  pub each : AllByRecursion (IsRefused config) refused
-  pub calls : Chain answers old (flat_map calls_of refused) now
-  pub read : Consumes input left (flat_map read_of refused)
-  pub written : Appends out sent (flat_map sent_of refused)
+  pub over : List Over
+  pub each : AllByRecursion (IsOver config) over
+  pub calls : Chain answers old (flat_map calls_of over) now
+  pub read : Consumes input left (flat_map read_of over)
+  pub written : Appends out sent (flat_map sent_of over)
 
 module _ {V : Type 0} (config : Config) (answers : V → Asked (List ℕ) → Response → V → Type 0) where
   pub begins : (old : V) (input out : Option (List ℕ)) → SoFar config answers old old input input out out
   begins old input out = record {
-    refused = [];
+    over = [];
     each = tt;
     calls = refl;
     read = Consumes-nil input;
@@ -72,24 +72,24 @@ module _ {V : Type 0} (config : Config) (answers : V → Asked (List ℕ) → Re
       subst (λ bytes. Consumes input rest bytes) (append_assoc h.received dropped more)
       (Consumes-then input left rest (h.received ++ dropped) more went.read passed)
 
-  pub one_refused : (old now new : V) (input left middle rest out sent between wrote : Option (List ℕ))
-      (h : History) (dropped more : List ℕ) → SoFar config answers old now input left out sent →
-      IsRefused config (record { history = h; dropped = dropped ++ more }) →
+  pub one_over : (old now new : V) (input left middle rest out sent between wrote : Option (List ℕ))
+      (h : History) (dropped more : List ℕ) (refuses : Bool) → SoFar config answers old now input left out sent →
+      IsOver config (record { history = h; dropped = dropped ++ more; refuses = refuses }) →
       Went answers now new left middle sent between h dropped → Consumes middle rest more →
-      Appends between wrote (no_room_text false) → SoFar config answers old new input rest out wrote
-  one_refused old now new input left middle rest out sent between wrote h dropped more x is went passed answer =
-      let last : Refused = record { history = h; dropped = dropped ++ more } in
+      Appends between wrote (refusal_of refuses) → SoFar config answers old new input rest out wrote
+  one_over old now new input left middle rest out sent between wrote h dropped more refuses x is went passed answer =
+      let last : Over = record { history = h; dropped = dropped ++ more; refuses = refuses } in
       record {
-        refused = x.refused ++ last ∷ [];
-        each = each_more (IsRefused config) x.refused last x.each is;
-        calls = subst (λ cs. Chain answers old cs new) (sym (one_more calls_of x.refused last))
-            (Chain-append answers (flat_map calls_of x.refused) h.calls old now new x.calls went.calls);
-        read = subst (λ bytes. Consumes input rest bytes) (sym (one_more read_of x.refused last))
-            (Consumes-then input left rest (flat_map read_of x.refused) (read_of last) x.read
+        over = x.over ++ last ∷ [];
+        each = each_more (IsOver config) x.over last x.each is;
+        calls = subst (λ cs. Chain answers old cs new) (sym (one_more calls_of x.over last))
+            (Chain-append answers (flat_map calls_of x.over) h.calls old now new x.calls went.calls);
+        read = subst (λ bytes. Consumes input rest bytes) (sym (one_more read_of x.over last))
+            (Consumes-then input left rest (flat_map read_of x.over) (read_of last) x.read
             (read_all now new left middle rest sent between h dropped more went passed));
-        written = subst (λ bytes. Appends out wrote bytes) (sym (one_more sent_of x.refused last))
-            (Appends-then out sent wrote (flat_map sent_of x.refused) (sent_of last) x.written
-            (Appends-then sent between wrote h.sent (no_room_text false) went.written answer));
+        written = subst (λ bytes. Appends out wrote bytes) (sym (one_more sent_of x.over last))
+            (Appends-then out sent wrote (flat_map sent_of x.over) (sent_of last) x.written
+            (Appends-then sent between wrote h.sent (refusal_of refuses) went.written answer));
       }
 
   pub ends_with : (breaks : Type 0) (old now new : V)
@@ -101,17 +101,17 @@ module _ {V : Type 0} (config : Config) (answers : V → Asked (List ℕ) → Re
   ends_with breaks old now new input left middle rest out sent between wrote h dropped more answer x served went
       passed last ends =
       record {
-        refused = x.refused;
+        over = x.over;
         each = x.each;
         history = h;
         served = served;
-        calls = Chain-append answers (flat_map calls_of x.refused) h.calls old now new x.calls went.calls;
+        calls = Chain-append answers (flat_map calls_of x.over) h.calls old now new x.calls went.calls;
         passed = dropped ++ more;
         answer = answer;
         ends = ends;
-        read = Consumes-then input left rest (flat_map read_of x.refused) (h.received ++ (dropped ++ more)) x.read
+        read = Consumes-then input left rest (flat_map read_of x.over) (h.received ++ (dropped ++ more)) x.read
             (read_all now new left middle rest sent between h dropped more went passed);
-        written = Appends-then out sent wrote (flat_map sent_of x.refused) (h.sent ++ answer) x.written
+        written = Appends-then out sent wrote (flat_map sent_of x.over) (h.sent ++ answer) x.written
             (Appends-then sent between wrote h.sent answer went.written last);
       }
 
@@ -127,7 +127,7 @@ module _ {V : Type 0} (config : Config) (answers : V → Asked (List ℕ) → Re
 -- the request that a stretch came to, and the rest of it
 pub is_refused : (config : Config) (h : History) (dropped more : List ℕ) (is_whole : Bool) (f : Follower) →
     ∥ IsServed config h ∥₁ → Waits config h dropped is_whole f → Passes is_whole f more →
-    IsRefused config (record { history = h; dropped = dropped ++ more })
+    IsOver config (record { history = h; dropped = dropped ++ more; refuses = true })
 is_refused config h dropped more true f served waits none =
     let at = waits.within in
     let all : h.received ++ dropped ≡ h.received ++ (dropped ++ more) =
@@ -152,6 +152,18 @@ is_refused config h dropped more false f served waits passes =
           (subst (λ s. ReadsRequests (limits_of f) s whole.0 []) (append_assoc h.received dropped more) whole.1);
       one = omega (arith, whole.2, at.2);
     }
+
+-- a stretch that has answered all
+pub is_answered : (config : Config) (h : History) → ∥ IsServed config h ∥₁ → AreAnswered config h →
+    IsOver config (record { history = h; dropped = []; refuses = false })
+is_answered config h served done = record {
+  served = served;
+  open_still = done.open_still;
+  all_sent = done.all_sent;
+  requests = done.requests;
+  whole = subst (λ s. ReadsRequests config.limits s done.requests []) (sym (append-nil h.received)) done.whole;
+  one = omega (arith, done.all);
+}
 
 -- how a refused request ends a connection
 pub ends_refused : (breaks : Type 0) (config : Config) (h : History) (dropped more : List ℕ) (is_whole : Bool)
@@ -193,7 +205,7 @@ pub converses_as : {V : Type 0} (A B : Type 0) (config : Config)
     (A → B) → Converses A config answers old new input left out sent →
     Converses B config answers old new input left out sent
 converses_as A B config answers old new input left out sent f x = record {
-  refused = x.refused;
+  over = x.over;
   each = x.each;
   history = x.history;
   served = x.served;

@@ -20,7 +20,7 @@ use Rattle.hg_commit.specs.Clients.{KeptSeen}
 use Rattle.hg_parts.specs.Repository.{Repository}
 use Rattle.hg_push.specs.Run.{RepositoryOf}
 use Rattle.hg_web.specs.Answering.{Responds, WireView}
-use Rattle.hg_web.specs.code.Following.{Brings, EndsStretch, GoesOn, HasSent, IsWithin, Waits, Went}
+use Rattle.hg_web.specs.code.Following.{AreAnswered, Brings, EndsStretch, GoesOn, HasSent, IsWithin, Waits, Went}
 use Rattle.hg_web.specs.declared.serve.Stretch.{Stretch}
 
 module _ {A S : Type 0} (capacity : ℕ) (first : RepositoryOf A) (kept : KeptSeen A → ℕ → Type 0)
@@ -206,6 +206,25 @@ waits_read config h rested next is_whole now_whole is_held from to left rest wai
           (subst (λ n. IsWithin config now_whole (stream ++ (b.given ++ b.dropped)) n to)
           (ap length (sym b.has_read.calls))
           (goes_within config now_whole from to stream (b.given ++ b.dropped) (length h.calls) limits within b.follows));
+    }
+
+-- at the end of a request, a connection that rests has answered all
+pub answered_all : (config : Config) (before rested next : History) (is_whole : Bool) (f : Follower) →
+    is_whole ≡ true → Waits config before [] is_whole f → rested.received ≡ before.received → Rests config rested →
+    rested.state ≡ Open → rested.pending ≡ [] → next.received ≡ rested.received → next.calls ≡ rested.calls →
+    next.state ≡ Open → next.pending ≡ [] → AreAnswered config next
+answered_all config before rested next is_whole f is waits same rests still none received called open_now sent =
+    let at = subst (λ b. IsWithin config b (before.received ++ []) (length before.calls) f) is waits.within in
+    let whole = at.1 in
+    let stream : before.received ++ [] ≡ rested.received = append-nil before.received ∙ sym same in
+    let read = subst (λ s. ReadsRequests config.limits s whole.0 []) stream whole.1 in
+    let all = (rests still (omega (arith, ap length none))).1 in
+    record {
+      open_still = open_now;
+      all_sent = sent;
+      requests = whole.0;
+      whole = subst (λ s. ReadsRequests config.limits s whole.0 []) (sym received) read;
+      all = omega (arith, ap length called, all whole.0 [] read);
     }
 
 -- a stretch that begins waits

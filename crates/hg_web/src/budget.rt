@@ -1,11 +1,11 @@
-//! How many bytes the bodies of all requests hold together.
+//! How many bytes the bodies of all requests and the answers that wait hold together.
 
 use std::sync::{Mutex, Wait};
 
-/// How many bytes of a request are free: a head has no more.
+/// How many bytes of a request, and of an answer, are free: a head has no more.
 const FREE: usize = 16_384;
 
-/// How many bytes the bodies of all requests may hold together. It is shared by all connections of a server.
+/// How many bytes the bodies of all requests, and the answers until they are sent, may hold together. It is shared by all connections of a server.
 #[derive(Drop)]
 pub struct Budget {
     left: Mutex<usize>,
@@ -37,7 +37,8 @@ impl Budget {
     }
 }
 
-/// What one connection holds of it: as many bytes as its longest body had, and a head is free.
+/// What the bodies of one connection hold of it: as many bytes as the longest had since it gave all back, and a head is
+/// free.
 #[derive(Drop)]
 pub(crate) struct Share<'a> {
     budget: &'a Budget,
@@ -85,8 +86,13 @@ impl<'a> Share<'a> {
         self.came > 0
     }
 
-    /// Forgets what came, since it was answered. What was taken stays taken: the connection keeps the block of its
-    /// longest body, and what comes next lies in that block.
+    /// Whether all that came was answered, and something is held still. The connection keeps the block of its longest
+    /// body: it goes back with the connection.
+    pub(crate) fn is_spent(&self) -> bool {
+        self.came == 0 && self.taken > 0
+    }
+
+    /// Forgets what came, since it was answered. What was taken stays taken.
     pub(crate) fn forget(&mut self) {
         self.came = 0;
         self.is_over = false;
@@ -95,6 +101,41 @@ impl<'a> Share<'a> {
     /// Gives all back: the connection is gone, and its block with it.
     pub(crate) fn clear<R: Wait>(&mut self, rt: &R) {
         self.forget();
+        if self.taken > 0 {
+            self.budget.give_back(rt, self.taken);
+            self.taken = 0;
+        }
+    }
+}
+
+/// What the answer of one connection holds of a budget until it is sent. A short one is free.
+#[derive(Drop)]
+pub(crate) struct AnswerShare<'a> {
+    budget: &'a Budget,
+    taken: usize,
+}
+
+impl<'a> AnswerShare<'a> {
+    /// Nothing yet.
+    pub(crate) fn new(budget: &'a Budget) -> AnswerShare<'a> {
+        AnswerShare { budget, taken: 0 }
+    }
+
+    /// Takes room for an answer of so many bytes, and says whether there was any.
+    pub(crate) fn hold<R: Wait>(&mut self, rt: &R, bytes: usize) -> bool {
+        let wanted = bytes.saturating_sub(FREE);
+        if wanted == 0 {
+            return true;
+        }
+        let is_held = self.budget.take(rt, wanted);
+        if is_held {
+            self.taken = self.taken.saturating_add(wanted);
+        }
+        is_held
+    }
+
+    /// Gives all back: what it was taken for was sent, or is lost.
+    pub(crate) fn clear<R: Wait>(&mut self, rt: &R) {
         if self.taken > 0 {
             self.budget.give_back(rt, self.taken);
             self.taken = 0;

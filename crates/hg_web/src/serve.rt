@@ -132,9 +132,12 @@ enum Stretch {
         /// Whether it was read whole.
         is_whole: bool,
     },
+    /// All requests were answered, and all answers were sent. What their bodies held is to go back.
+    Answered,
 }
 
-/// Serves one stretch of requests after the other: each ends where a request finds no room.
+/// Serves one stretch of requests after the other: each ends where a request finds no room, or where a long body was
+/// answered.
 fn serve_stretches<
     J: Storing<A>,
     D: Device,
@@ -175,10 +178,10 @@ fn serve_stretches<
         // Dropped here once, and not at each place where the function returns: with its block what was taken for it
         // goes back, however it ended.
         drop(connection);
-        tell_broken(wire, share, &ended);
-        share.clear(rt);
+        leave(rt, wire, share, &ended);
         match ended? {
             Stretch::Done => return Ok(()),
+            Stretch::Answered => {}
             Stretch::Refused { is_whole } => {
                 let refused = refuse(is_whole, &mut follower, reader, writer);
                 wire.dismiss(dismissal_at(&refused));
@@ -191,8 +194,8 @@ fn serve_stretches<
     Err(ErrorKind::TimedOut.into())
 }
 
-/// Tells who watches of a request within which the connection broke off.
-fn tell_broken<
+/// Gives back what a stretch held. Tells who watches of a request within which the connection broke off.
+fn leave<
     J: Storing<A>,
     D: Device,
     R: Wait,
@@ -200,12 +203,19 @@ fn tell_broken<
     V: Watch<A>,
     P: Policy<A>,
     A: Allocator + Copy,
->(wire: &mut Wire<'_, J, D, R, S, V, P, A>, share: &Share<'_>, ended: &io::Result<Stretch>)
+>(
+    rt: &R,
+    wire: &mut Wire<'_, J, D, R, S, V, P, A>,
+    share: &mut Share<'_>,
+    ended: &io::Result<Stretch>,
+)
     ensures { wire.new ≡ wire.old }
 {
     if ended.is_err() && share.is_begun() && !wire.has_failed() {
         wire.dismiss(Dismissal::Lost);
     }
+    wire.let_go();
+    share.clear(rt);
 }
 
 /// Why a request was refused that found no room, by how its rest was read and answered.
@@ -350,6 +360,9 @@ fn converse<
             if !share.has_room() {
                 return Ok(Stretch::Refused { is_whole });
             }
+            if is_spent(is_whole, share) {
+                return Ok(Stretch::Answered);
+            }
             let came = read_on(rt, connection, follower, share, reader)?;
             is_whole = came.is_whole;
             let has_spare = wire.hold_spare();
@@ -361,7 +374,15 @@ fn converse<
     Err(ErrorKind::TimedOut.into())
 }
 
-/// Answers what was received, and says whether anything was. What came for it is forgotten.
+/// Whether a request was read whole, and what its body held is to go back.
+fn is_spent(is_whole: bool, share: &Share<'_>) -> bool
+    ensures { result ≡ true → is_whole ≡ true }
+{
+    is_whole && share.is_spent()
+}
+
+/// Answers what was received, and says whether anything was. What came for it is forgotten. The answer before it was
+/// sent, and holds nothing any more.
 fn advance<
     J: Storing<A>,
     D: Device,
@@ -383,6 +404,7 @@ fn advance<
     ensures config { config_of connection.new ≡ config_of connection.old }
     ensures rests { Rests (config_of connection.new) (history connection.new) }
 {
+    wire.let_go();
     let before = wire.answered();
     connection.advance(wire);
     let has_answered = wire.answered() != before;

@@ -3,14 +3,16 @@
 ghost use Rattle.std.specs.Prelude.{◌≡◌, ◌≤◌, false, true, None, Some, OnErr, OnOk, vec_capacity};
 ghost use Rattle.http_server.specs.Response.{IsBlank};
 ghost use Rattle.hg_commit.specs.Clients.{IsCovered, IsLater};
+ghost use Rattle.hg_http.specs.Responses.{CarriesAnswer};
 ghost use Rattle.hg_web.specs.Answering.{Responds};
 
 use crate::answering::answer_request;
+use crate::budget::AnswerShare;
 use crate::dismissal::dismissal_of;
 use crate::terms::{Host, WebTerms};
 use bytes::Bytes;
 use hg_commit::{KeptClient, NotStored, Storing};
-use hg_http::{HttpAnswer, Policy, respond};
+use hg_http::{HttpAnswer, Policy, respond, respond_nothing};
 use hg_queries::{Dismissal, Shown, Watch};
 use hg_store::Device;
 use http::Request;
@@ -47,6 +49,8 @@ pub struct Wire<
     has_failed: bool,
     /// Memory that is given back before an answer is put together, so that there is some.
     spare: Vec<u8>,
+    /// What the answer that waits to be sent holds of the budget.
+    share: AnswerShare<'a>,
     /// What the client had seen when the last request was answered, and what the policy had been asked.
     seen: Log<KeptClient<J, A>, P>,
 }
@@ -102,6 +106,7 @@ where
         ensures { result ≡ record { seen = client; asked = P.asked policy; terms = terms.now; answered = 0 } }
     {
         let seen = Log::new().and(&client, &policy);
+        let share = AnswerShare::new(terms.budget);
         Wire {
             host,
             terms,
@@ -112,6 +117,7 @@ where
             answered: 0,
             has_failed: false,
             spare: Vec::new(global),
+            share,
             seen,
         }
     }
@@ -133,6 +139,13 @@ where
         ensures { self.new ≡ self.old }
     {
         hold(self.global, &mut self.spare)
+    }
+
+    /// Gives back what the last answer held: it was sent, or is lost.
+    pub(crate) fn let_go(&mut self)
+        ensures { self.new ≡ self.old }
+    {
+        self.share.clear(self.host.keeping.rt);
     }
 
     /// Tells who watches why a request was refused.
@@ -158,6 +171,7 @@ where
             answered: _,
             has_failed,
             spare: _,
+            share: _,
             seen: _,
         } = self;
         match client {
@@ -201,7 +215,9 @@ where
                 self.answered = answered;
                 self.spare = Vec::new(self.global);
                 tell_dismissed(&mut *self.watch, &answer);
-                respond(self.global, &answer, response);
+                let rt = self.host.keeping.rt;
+                let has_room = take_room(rt, &mut self.share, &mut *self.watch, answer.len());
+                respond_in(has_room, self.global, &answer, response);
                 Ok(())
             }
             Err(NotStored) => {
@@ -237,6 +253,37 @@ where
         response: &mut Response,
     ) -> Result<(), AllocError> {
         self.answer(request, response)
+    }
+}
+
+/// Takes room for an answer of so many bytes, and says whether there was any. Where there is none, who watches hears of
+/// it.
+fn take_room<R: Wait, V: Watch<A>, A: Allocator>(
+    rt: &R,
+    share: &mut AnswerShare<'_>,
+    watch: &mut V,
+    bytes: usize,
+) -> bool {
+    let has_room = share.hold(rt, bytes);
+    if !has_room {
+        watch.dismissed(Dismissal::NoRoom);
+    }
+    has_room
+}
+
+/// Fills a blank response with the answer, or says that there is no room for it.
+fn respond_in<A: Allocator>(
+    has_room: bool,
+    alloc: Global,
+    answer: &HttpAnswer<A>,
+    response: &mut Response,
+)
+    requires { IsBlank response.old }
+    ensures { CarriesAnswer answer.now response.new }
+{
+    match has_room {
+        true => respond(alloc, answer, response),
+        false => respond_nothing(response),
     }
 }
 

@@ -42,9 +42,11 @@ use std::random::RandomSource;
 use std::sync::{Mutex, Wait};
 use std::test::*;
 
-/// A page of one word, and as many counters as there are changesets.
+/// A page of one word and so many letters, and as many counters as there are changesets.
 #[derive(Drop)]
-struct Words;
+struct Words {
+    letters: usize,
+}
 
 impl<A: Allocator + Copy> Shown<A> for Words {
     ghost use Rattle.std.specs.Prelude.{⊤};
@@ -55,7 +57,11 @@ impl<A: Allocator + Copy> Shown<A> for Words {
 
     fn page(&self, alloc: A, repo: &Repo<A>) -> Result<Seq<u8, A>, NoMemory> {
         let _rows = repo.settings();
-        Seq::copy_of(alloc, b"<p>hello".as_slice())
+        let mut text = Vec::from_slice(alloc, b"<p>hello".as_slice())?;
+        for _ in 0..self.letters {
+            text.push(b'x')?;
+        }
+        Ok(Seq::from_vec(text))
     }
 
     fn metrics(&self, alloc: A, repo: &Repo<A>) -> Result<Seq<u8, A>, NoMemory> {
@@ -196,6 +202,8 @@ struct Way<'a> {
     also: Option<&'a [u8]>,
     /// Why no push may run.
     refusal: Option<&'a [u8]>,
+    /// How many letters the page has beside its word.
+    letters: usize,
 }
 
 /// The server answers at `/`, whatever name it is called by.
@@ -215,6 +223,7 @@ const PLAIN: Way<'static> = Way {
     pull: None,
     also: None,
     refusal: None,
+    letters: 0,
 };
 
 /// What is left after some connections.
@@ -323,8 +332,11 @@ fn play<J: Storing<Global>, R: RandomSource + Wait + Abort>(
         Err(_parts) => panic!(rt; "no memory for a ledger"),
     };
     let budget = Budget::new(way.budget);
+    let words = Words {
+        letters: way.letters,
+    };
     let terms = WebTerms {
-        shown: &Words,
+        shown: &words,
         budget: &budget,
         address: way.address,
         user: way.user,

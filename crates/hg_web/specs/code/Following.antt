@@ -2,6 +2,7 @@
 use Rattle.std.specs.Prelude.{◌≡◌, ◌≢◌, ℕ, ◌+◌, ◌≤◌, Bool, true, false, List, [], ◌++◌, length, Option, Result, Ok, Err}
 use Rattle.std.specs.Io.KnownBytes.{Appends, Consumes}
 use Rattle.http.specs.declared.request.Request.{Request as Asked}
+use Rattle.http1.specs.Message.{Request, ReadsRequests}
 use Rattle.http_server.specs.declared.response.Response.{Response}
 use Rattle.http_server.specs.declared.state.Config.{Config}
 use Rattle.http_server.specs.declared.state.State.TheVariants.{Aborted, Open}
@@ -10,7 +11,7 @@ use Rattle.http_server.specs.History.{History, IsDone, IsServed}
 use Rattle.hg_http.specs.declared.follow.Follower.{Follower}
 use Rattle.hg_http.specs.Following.{AreRequests, FollowsAt, KeepsUp, limits_of}
 use Rattle.hg_web.specs.declared.serve.Stretch.{Stretch}
-use Rattle.hg_web.specs.declared.serve.Stretch.TheVariants.{Done, Refused}
+use Rattle.hg_web.specs.declared.serve.Stretch.TheVariants.{Answered, Done, Refused}
 
 -- these bytes were read, and nothing was sent or called
 pub record HasRead (old new : History) (more : List ℕ) : Type 0 where
@@ -71,7 +72,15 @@ pub record Went {V : Type 0} (answers : V → Asked (List ℕ) → Response → 
   pub written : Appends out sent h.sent
   pub calls : Chain answers old h.calls new
 
--- How a stretch ends: it is done, or it waits at a request that found no room, or it broke off.
+-- A stretch that has answered all: what was received are whole requests, and each had its call. All was sent.
+pub record AreAnswered (config : Config) (h : History) : Type 0 where
+  pub open_still : h.state ≡ Open
+  pub all_sent : h.pending ≡ []
+  pub requests : List Request
+  pub whole : ReadsRequests config.limits h.received requests []
+  pub all : length requests ≤ length h.calls
+
+-- How a stretch ends: it is done, or it waits at a request that found no room, or it has answered all, or it broke off.
 abbrev pub EndsStretch : {V E : Type 0} → Config → (V → Asked (List ℕ) → Response → V → Type 0) → V → V →
     Option (List ℕ) → Option (List ℕ) → Option (List ℕ) → Option (List ℕ) → Follower → Result Stretch E → Type 0
 EndsStretch config answers old new input left out sent f (Ok Done) =
@@ -80,6 +89,8 @@ EndsStretch config answers old new input left out sent f (Ok Done) =
 EndsStretch config answers old new input left out sent f (Ok (Refused is_whole)) =
     (h : History) × ∥ IsServed config h ∥₁
     × ((dropped : List ℕ) × Went answers old new input left out sent h dropped × Waits config h dropped is_whole f)
+EndsStretch config answers old new input left out sent f (Ok Answered) =
+    (h : History) × ∥ IsServed config h ∥₁ × Went answers old new input left out sent h [] × AreAnswered config h
 EndsStretch config answers old new input left out sent f (Err error) =
     (h : History) × ∥ IsServed config h ∥₁ × Went answers old new input left out sent h []
 

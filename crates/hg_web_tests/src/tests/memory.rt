@@ -144,8 +144,9 @@ fn converse_thrice<J: Storing<A>, A: Allocator + Copy, R: RandomSource + Wait + 
     talk: Talk<'_>,
 ) -> (Client<J, A>, Client<J, A>, Came) {
     let budget = Budget::new(1_000_000);
+    let words = Words { letters: 0 };
     let terms = WebTerms {
-        shown: &Words,
+        shown: &words,
         budget: &budget,
         address: ANYWHERE,
         user: None,

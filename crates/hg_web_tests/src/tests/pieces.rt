@@ -252,6 +252,39 @@ fn a_body_finds_no_room(rt: HostRuntime) {
     assert_no_room(&rt, alloc, chunked.as_slice());
 }
 
+/// What is asked for a page, and what is answered where there is no room for it.
+const PAGE: &[u8] = b"GET / HTTP/1.1\r\nhost: a\r\n\r\n";
+
+const NO_ANSWER: &[u8] =
+    b"HTTP/1.1 200 OK\r\ncontent-type: application/hg-error\r\ncontent-length: 34\r\n\r\n\
+    there is no memory for the answer\n";
+
+/// An answer that is longer than the room for it is not given. Where it fits, each is: it holds nothing once it was sent.
+#[test]
+fn an_answer_finds_no_room(rt: HostRuntime) {
+    let alloc = rt.alloc();
+    let said = joined(&rt, alloc, &[PAGE, PAGE, HEADS]);
+    let way = Way {
+        letters: 30_000,
+        budget: 13_000,
+        ..PLAIN
+    };
+    let left = served(&rt, alloc, &[said.as_slice()], way);
+    let told = joined(&rt, alloc, &[NO_ANSWER, NO_ANSWER, NO_HEADS]);
+    assert!(rt; left.end == ConnectionEnd::Done);
+    assert!(rt; left.told == told);
+    assert_eq!(rt; left.tally.dismissed, 2);
+    assert!(rt; left.tally.why == Some(Dismissal::NoRoom));
+    let way = Way {
+        budget: 14_000,
+        ..way
+    };
+    let left = served(&rt, alloc, &[said.as_slice(), said.as_slice()], way);
+    assert!(rt; left.end == ConnectionEnd::Done);
+    assert!(rt; left.told.len() > 60_000 && left.told.ends_with(NO_HEADS));
+    assert_eq!(rt; left.tally.dismissed, 0);
+}
+
 /// What a body takes is taken once for its connection, and is there again for the next one.
 #[test]
 fn what_a_body_takes_stays_with_its_connection(rt: HostRuntime) {

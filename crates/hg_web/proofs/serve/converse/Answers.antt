@@ -4,10 +4,10 @@ use Rattle.http_server.specs.Connection.{history}
 use Rattle.http_server.specs.History.{IsServed, Rests}
 use Rattle.http_server.proofs.Theorems.{always_served}
 use Rattle.hg_web.proofs.Served.{nothing_waits}
-use Rattle.hg_web.proofs.Stretches.{calls_grow, ends_err, kept_same, not_false, open_still}
+use Rattle.hg_web.proofs.Stretches.{answered_all, calls_grow, ends_err, kept_same, not_false, open_still}
 use Rattle.hg_web.proofs.Stretches.{waits_all, waits_first, waits_later, waits_read}
 use Rattle.hg_web.proofs.Stretches.{went_all, went_kept, went_none, went_on, went_read, went_sent, went_told}
-use Rattle.hg_web.proofs.serve.converse.Goals.{then-is_idle+in_ok-flush-2+else-not-has_room+in_ok-came+else-not-came+else-not-has_spare}
+use Rattle.hg_web.proofs.serve.converse.Goals.{then-is_idle+in_ok-flush-2+else-not-has_room+else-is_spent+in_ok-came+else-not-came+else-not-has_spare}
 use Rattle.hg_web.proofs.serve.converse.Goals.{else-is_idle}
 use Rattle.hg_web.proofs.serve.converse.Goals as goal
 
@@ -133,6 +133,29 @@ returns-then-not-has_room g c =
       ),
     )
 
+pub returns-then-is_spent : goal.returns-then-is_spent
+returns-then-is_spent g c =
+    let inv = c.turns.invariant in
+    let a = c.advance-has_answered in
+    let before = history c.turns.connection in
+    let h = history a.new.connection in
+    let next = history c.send_all.new.connection in
+    let sent = c.send_all.ensures.sent in
+    let config = a.ensures.config ∙ inv.1 in
+    let none = nothing_waits _ h.pending c.wants_write-is_idle.ensures.1 c.if-is_idle.true in
+    let still = open_still next c.in_ok-send_all.ensures.all
+    (λ done. let wrong = subst IsTrue c.if-is_done.false (c.is_done.ensures.1 done) in cc) in (
+      next,
+      subst (λ k. ∥ IsServed k next ∥₁) (c.send_all.ensures.config ∙ config) (always_served c.send_all.new.connection),
+      went_kept _ _ _ _ _ _ _ _ _ next []
+          (went_sent _ _ _ _ _ _ _ _ h next
+          (went_on _ _ _ _ _ _ _ _ before h inv.0 a.ensures.calls a.ensures.quiet) sent)
+          (kept_same _) c.flush-then-is_idle.ensures.bytes,
+      answered_all _ before h next c.turns.is_whole c.turns.follower (c.is_spent.ensures c.if-is_spent.true) inv.2
+          a.ensures.quiet.0 (subst (λ k. Rests k h) config a.ensures.rests) (sym sent.state ∙ still) none sent.received
+          sent.calls still c.in_ok-send_all.ensures.all,
+    )
+
 pub returns-in_err-came : goal.returns-in_err-came
 returns-in_err-came g c =
     let inv = c.turns.invariant in
@@ -198,7 +221,7 @@ turns-preserved g c =
     (calls_grow before.calls h.calls next.calls a.ensures.calls.0 a.ensures.calls.1 sent.calls)
     still c.in_ok-send_all.ensures.all in
     elim c.if-is_idle.branch [
-      | then-is_idle+in_ok-flush-2+else-not-has_room+in_ok-came+else-not-came+else-not-has_spare w ↦
+      | then-is_idle+in_ok-flush-2+else-not-has_room+else-is_spent+in_ok-came+else-not-came+else-not-has_spare w ↦
           let now = history w.read_on.new.connection in
           let none = nothing_waits _ h.pending c.wants_write-is_idle.ensures.1 w.if-is_idle.true in
           let b = w.in_ok-came.ensures.ok in
