@@ -8,6 +8,7 @@ ghost use Rattle.hg_parts.specs.Replies.{answering, reply_part, IsReply};
 ghost use Rattle.hg_parts.specs.code.Replies.{CanReply};
 
 use hg_types::{NoMemory, Param, Part, Payload, Seq, Short};
+use itoa::Buffer;
 use std::alloc::Allocator;
 
 /// The reply of that type to the part with that id: `in-reply-to` has the id, in decimal, and `key` the
@@ -37,9 +38,9 @@ fn part_answering<A: Allocator + Copy>(
 ) -> Result<Part<A>, NoMemory>
     ensures { IfOk result (λ reply. reply ≡ reply_part kind.now id key.now value.now) }
 {
-    let id_text = format!(in alloc; "{id}")?;
+    let mut digits = Buffer::new();
     let mut params = Seq::new(alloc);
-    params.push(answering(alloc, b"in-reply-to", id_text.as_bytes())?)?;
+    params.push(answering(alloc, b"in-reply-to", digits.format(id).as_bytes())?)?;
     params.push(answering(alloc, key, value)?)?;
     Ok(Part {
         kind: Short::copy_of(alloc, kind)?,

@@ -15,7 +15,7 @@
 //! than the heads that came, or, where heads went, one less than their number below zero (Mercurial's
 //! `internals.wireprotocol`, "Commands", "unbundle").
 
-ghost use Rattle.std.specs.Prelude.{◌≡◌, ◌<◌, ◌^◌, ◌++◌, All, length, string_bytes, IfOk, IfSome, IsTrue, OnOk};
+ghost use Rattle.std.specs.Prelude.{◌≡◌, ◌<◌, ◌^◌, ◌++◌, All, length, IfOk, IfSome, IsTrue, OnOk};
 ghost use Rattle.std.specs.Option.{option_to_list};
 ghost use Rattle.hg_log.specs.Answer.{answer_of};
 ghost use Rattle.hg_log.specs.Parents.{rev_of};
@@ -40,7 +40,8 @@ use hg_cgroup::{GroupFault, decode};
 use hg_keys::phase_in_text;
 use hg_log::{AddFault, Added, Changelog};
 use hg_phases::Phases;
-use hg_types::{BoxedSeq, Entry, NoMemory, Node, Param, Part, Phase, Settings};
+use hg_types::{BoxedSeq, Entry, NoMemory, Node, Param, Part, Phase, Settings, Short};
+use itoa::Buffer;
 use std::alloc::Allocator;
 
 /// Reads the payload and the parameters. Faults of the format are another version, another `targetphase` and
@@ -291,19 +292,19 @@ fn result_text<A: Allocator + Copy>(
     alloc: A,
     before: usize,
     after: usize,
-) -> Result<String<A>, NoMemory>
+) -> Result<Short<A>, NoMemory>
     requires before { before < 2 ^ 32 }
     requires after { after < 2 ^ 32 }
-    ensures { IfOk result (λ text. string_bytes text ≡ result_text before after) }
+    ensures { IfOk result (λ text. text ≡ result_text before after) }
 {
-    let text = if before <= after {
+    if before <= after {
         let more = after - before + 1;
-        format!(in alloc; "{more}")?
-    } else {
-        let fewer = before - after + 1;
-        format!(in alloc; "-{fewer}")?
-    };
-    Ok(text)
+        let mut digits = Buffer::new();
+        return Short::copy_of(alloc, digits.format(more).as_bytes());
+    }
+    let fewer = before - after + 1;
+    let text = format!(in alloc; "-{fewer}")?;
+    Short::copy_of(alloc, text.as_bytes())
 }
 
 /// The reply, where the client reads one.
@@ -323,6 +324,6 @@ fn reply_to_group<A: Allocator + Copy>(
         return Ok(None);
     }
     let text = result_text(alloc, before, after)?;
-    let reply = reply_part(alloc, b"reply:changegroup", id, b"return", text.as_bytes())?;
+    let reply = reply_part(alloc, b"reply:changegroup", id, b"return", text.as_slice())?;
     Ok(Some(reply))
 }

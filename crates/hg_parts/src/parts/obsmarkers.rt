@@ -17,6 +17,7 @@ use crate::store::Store;
 use crate::turn::Turn;
 use hg_obs::{Marker, MarkerFault, markers_stay_lawful, read_markers};
 use hg_types::{BoxedSeq, NoMemory, Part};
+use itoa::Buffer;
 use std::alloc::{Allocator, Global};
 use std::marker::Model;
 
@@ -94,7 +95,8 @@ fn reply_to_markers<A: Allocator + Copy>(
     if !replying {
         return Ok(None);
     }
-    let text = format!(in alloc; "{count}")?;
+    let mut digits = Buffer::new();
+    let text = digits.format(count);
     let reply = reply_part(alloc, b"reply:obsmarkers", id, b"new", text.as_bytes())?;
     Ok(Some(reply))
 }

@@ -8,14 +8,14 @@ use Rattle.hg_parts.proofs.parts.changegroup.reply_to_group.Goals as goal
 
 pub reply_part-requires : goal.reply_part-requires
 reply_part-requires g c =
-    let text : c.as_bytes.result.now ≡ result_text c.args.before c.args.after = c.as_bytes.ensures.value
+    let text : c.as_slice.result.now ≡ result_text c.args.before c.args.after = c.as_slice.ensures
     ∙ c.in_ok-text.ensures in
     subst (λ (bytes : List ℕ). CanReply (codes "reply:changegroup") (codes "return") bytes) (sym text)
     (can_reply c.args.before c.args.after c.requires.before c.requires.after)
 
 pub returns-clause-value : goal.returns-clause-value
 returns-clause-value g c =
-    let text : c.as_bytes.result.now ≡ result_text c.args.before c.args.after = c.as_bytes.ensures.value
+    let text : c.as_slice.result.now ≡ result_text c.args.before c.args.after = c.as_slice.ensures
     ∙ c.in_ok-text.ensures in
     let made : Part g.row.A.Denot = reply_part (codes "reply:changegroup") c.args.id (codes "return")
     (result_text c.args.before c.args.after) in

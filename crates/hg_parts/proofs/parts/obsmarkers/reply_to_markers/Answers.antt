@@ -20,14 +20,14 @@ can_tell count few = record {
 pub reply_part-requires : goal.reply_part-requires
 reply_part-requires g c =
     let text : c.as_bytes.result.now ≡ decimal c.args.count = c.as_bytes.ensures.value
-    ∙ c.in_ok-text.ensures.ok in
+    ∙ c.format.ensures.text in
     subst (λ (bytes : List ℕ). CanReply (codes "reply:obsmarkers") (codes "new") bytes) (sym text)
     (can_tell c.args.count c.ranges.count.fits)
 
 pub returns-clause-value : goal.returns-clause-value
 returns-clause-value g c =
     let text : c.as_bytes.result.now ≡ decimal c.args.count = c.as_bytes.ensures.value
-    ∙ c.in_ok-text.ensures.ok in
+    ∙ c.format.ensures.text in
     let made : Part g.row.A.Denot = reply_part (codes "reply:obsmarkers") c.args.id (codes "new")
     (decimal c.args.count) in
     replied c.args.replying c.in_ok-reply.reply made c.if-not-replying.false
