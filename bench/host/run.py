@@ -276,18 +276,6 @@ def markers(count):
         yield many.bundle(number)
 
 
-def write_store(folder, pushes):
-    """A store with these pushes, as `host` writes it."""
-    os.makedirs(folder)
-    digest = many.hashlib.sha1(many.HEAD).digest()
-    with open(f"{folder}/pushes", "wb") as out:
-        out.write(many.HEAD)
-        for one in pushes:
-            digest = many.hashlib.sha1(digest + many.hashlib.sha1(one).digest()).digest()
-            out.write(b"\1" + len(one).to_bytes(4, "big") + digest + one)
-        out.write(b"\0")
-
-
 def starts():
     empty = Host(f"{FOLDER}/empty")
     before = empty.resident()
@@ -295,7 +283,8 @@ def starts():
     empty.end()
     for what, pushes in (("changeset", changesets), ("marker", markers)):
         store = f"{FOLDER}/{what}"
-        write_store(store, pushes(STORED))
+        os.makedirs(store)
+        many.write_store(f"{store}/pushes", pushes(STORED))
         seconds = []
         for _ in range(TURNS):
             server = Host(store)

@@ -3,7 +3,6 @@
 Each row has the figure of the program, that of the plain one, the first by the second, and what was wanted: of that
 ratio, or of the program's figure by itself.
 """
-import hashlib
 import os
 import re
 import resource
@@ -13,8 +12,10 @@ import subprocess
 import sys
 import time
 
-sys.path.append(os.path.join(os.path.dirname(os.path.abspath(__file__)), "..", "push"))
+BENCH = os.path.dirname(os.path.dirname(os.path.abspath(__file__)))
+sys.path += [f"{BENCH}/push", f"{BENCH}/store"]
 import make
+import many
 
 program, folder, turns = sys.argv[1], sys.argv[2], int(sys.argv[3])
 BOTH = (program, f"{folder}/plain")
@@ -209,21 +210,13 @@ def hashes(ours):
         tell(f"SHA-1 of 40 + {size} bytes, ns", min(first), min(second))
 
 
-def write_store(path):
-    """A store of pushes of one changeset each, as `host` writes it; and a push of all of these."""
-    line, whole = make.Line(), make.push(make.Line().entries(STORED))
-    head = struct.pack(">8sBB7I", b"HGPUSHES", 2, 0, 65536, 1 << 26, 1 << 28, 10000, 1 << 24, 1024, (1 << 31) - 1)
-    made = [head + b"the name of this"]
-    digest = hashlib.sha1(made[0]).digest()
-    for _ in range(STORED):
-        push = make.push(line.entry())
-        stamp = struct.pack(">IQB", len(push), 0, 0)
-        digest = hashlib.sha1(digest + stamp + hashlib.sha1(push).digest()).digest()
-        made.append(b"\xff" + stamp + digest + push)
+def write_stored(path):
+    """A store of pushes of one changeset each, and a push of all of these."""
+    line = make.Line()
     os.mkdir(path)
-    for name, data in (("pushes", b"".join(made) + b"\0"), ("whole", whole)):
-        with open(f"{path}/{name}" if name == "pushes" else f"{folder}/{name}", "wb") as out:
-            out.write(data)
+    many.write_store(f"{path}/pushes", (make.push(line.entry()) for _ in range(STORED)))
+    with open(f"{folder}/whole", "wb") as out:
+        out.write(make.push(make.Line().entries(STORED)))
 
 
 def opened(store):
@@ -243,7 +236,7 @@ def opened(store):
 def stores():
     """The opening of a store, and beside it SHA-1 of its file and `one` of its changesets."""
     store = f"{folder}/store"
-    write_store(store)
+    write_stored(store)
     ours, beside = [], []
     for _ in range(turns):
         ours.append(opened(store))
