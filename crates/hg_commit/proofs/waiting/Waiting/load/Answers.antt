@@ -1,4 +1,4 @@
-use Rattle.std.proofs.Common.{◌≡◌, ◌≤◌, ◌+◌, ◌∙◌, ℕ, List, ap, false, subst, sym}
+use Rattle.std.proofs.Common.{◌≡◌, ◌≤◌, ◌+◌, ◌∙◌, ℕ, List, [], ◌∷◌, ap, arith, false, inl, length, length-append, subst, sym}
 use Rattle.std.specs.Prelude.{vec_len, vec_capacity}
 use mathlib.Core.List.{IsPrefix}
 use Rattle.hg_types.specs.declared.item.Taken.{Taken}
@@ -8,6 +8,8 @@ use Rattle.hg_commit.specs.Handing.{MovesTo}
 use Rattle.hg_commit.specs.Locks.{AreWaiting, WaitingView}
 use Rattle.hg_commit.specs.Records.{IsRecordOf}
 use Rattle.hg_commit.specs.declared.waiting.Record.{Record}
+use Rattle.hg_commit.specs.declared.disk.TheConstants.{BATCH, BATCH_BYTES}
+use Rattle.hg_commit.proofs.Batches.{within_on}
 use Rattle.hg_commit.proofs.Handing.{moves_none, moves_on}
 use Rattle.hg_commit.proofs.waiting.Waiting.load.Goals as goal
 
@@ -31,6 +33,7 @@ loading-init g c =
       moved = subst (λ (b : List Entry). MovesTo waiting batch w.records.items b) (sym c.hear.ensures.records.1)
           (subst (λ (l : List (Record g.row.A.Denot)). MovesTo waiting batch l batch)
           (ap (λ (v : WaitingView g.row.A.Denot). v.records) (sym c.self.view_is)) (moves_none waiting batch));
+      within = inl c.hear.ensures.records.1;
     }
 
 pub take_in-requires-clause-next : goal.take_in-requires-clause-next
@@ -57,4 +60,12 @@ loading-preserved g c =
           (subst (λ (b : List Entry). MovesTo waiting batch less b) (sym c.take_in.ensures.taken)
           (moves_on waiting c.loading.self.records less batch c.loading.disk.batch told c.loading.invariant.moved
           c.in-Some-pop_at.ensures.last));
+      within = within_on BATCH BATCH_BYTES batch c.loading.disk.batch c.take_in.new.self.batch told.entry
+          c.in-Some.ensures.few c.in-Some-pop_at.ensures.fits c.take_in.ensures.taken;
     }
+
+pub loading-smaller : goal.loading-smaller
+loading-smaller g c =
+    let more = ap length c.take_in.ensures.taken ∙ length-append c.loading.disk.batch (c.in-Some-pop_at.record.entry ∷ []) in
+    let few = c.in-Some.ensures.few in
+    omega (arith, more, few)
