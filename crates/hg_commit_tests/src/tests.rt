@@ -217,7 +217,7 @@ fn long_marker<R: Abort>(rt: &R, alloc: Global, thread: u8, metadata: usize) -> 
         && made.extend_from_slice(&bytes[6..]).is_ok()
         && made.extend_from_slice(b"k:").is_ok()
         && made.resize(end, b'v').is_ok();
-    assert!(*rt; is_made);
+    assert!(rt; is_made);
     made
 }
 

@@ -1,4 +1,4 @@
-use Rattle.std.proofs.Common.{◌≡◌, ◌+◌, ◌-◌, ℕ, List, sym, ap, subst}
+use Rattle.std.proofs.Common.{◌≡◌, ◌+◌, ◌-◌, List, sym, ap, subst}
 use Rattle.std.proofs.Common.{arith, length}
 use Rattle.hg_commit.specs.Handing.{batch_bytes}
 use Rattle.hg_commit.specs.Locks.{DiskView}
@@ -23,9 +23,9 @@ invariant_of-self g c =
       i.3,
       i.4,
       i.5,
-      subst (λ (l : List Entry). c.unwrap_or.result ≡ BATCH_BYTES - batch_bytes l) (sym c.push_reserved.ensures.items)
-          (left_on BATCH_BYTES d.left c.unwrap_or.result d.batch.items c.args.entry c.left_beside.result i.6
-          c.left_beside.ensures c.unwrap_or.ensures),
+      subst (λ (l : List Entry). c.unwrap_or-self-inside.result ≡ BATCH_BYTES - batch_bytes l) (sym c.push_reserved.ensures.items)
+          (left_on BATCH_BYTES d.left c.unwrap_or-self-inside.result d.batch.items c.args.entry c.left_beside.result i.6
+          c.left_beside.ensures c.unwrap_or-self-inside.ensures),
     )
 
 pub push_reserved-requires : goal.push_reserved-requires

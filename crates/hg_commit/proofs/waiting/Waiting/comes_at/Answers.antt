@@ -6,16 +6,16 @@ use Rattle.hg_commit.specs.declared.waiting.Record.{Record}
 use Rattle.hg_commit.proofs.Batches.{no_last, told_of_last}
 use Rattle.hg_commit.proofs.waiting.Waiting.comes_at.Goals as goal
 
-pub returns-in-Some-then-record-place-clause-stays : goal.returns-in-Some-then-record-place-clause-stays
-returns-in-Some-then-record-place-clause-stays g c = λ t.
+pub returns-then-record-place-clause-stays : goal.returns-then-record-place-clause-stays
+returns-then-record-place-clause-stays g c = λ t.
     let x = c.in-Some.record.now in
     told_of_last (Stays BATCH_BYTES c.args.place c.args.disk.now.batch) c.args.self.now.records x
     (subst (λ (l : List (Record g.row.A.Denot)). x ≡ get_or l (length l - 1) x)
     (c.deref.ensures.value ∙ ap (λ (v : WaitingView g.row.A.Denot). v.records) c.self.view_is)
     (c.in-Some.ensures.item.3.1 x)) (inl c.if-record-place.true)
 
-pub returns-in-Some-clause-comes : goal.returns-in-Some-clause-comes
-returns-in-Some-clause-comes g c = λ t.
+pub returns-else-record-place-clause-comes : goal.returns-else-record-place-clause-comes
+returns-else-record-place-clause-comes g c = λ t.
     let x = c.in-Some.record.now in
     told_of_last (λ (next : Record g.row.A.Denot). (next.place ≡ c.args.place)
     × Fits BATCH_BYTES c.args.disk.now.batch next.entry) c.args.self.now.records x
@@ -23,8 +23,8 @@ returns-in-Some-clause-comes g c = λ t.
     (c.deref.ensures.value ∙ ap (λ (v : WaitingView g.row.A.Denot). v.records) c.self.view_is)
     (c.in-Some.ensures.item.3.1 x)) (c.if-record-place.false, c.fits.ensures.0 t)
 
-pub returns-in-Some-clause-stays : goal.returns-in-Some-clause-stays
-returns-in-Some-clause-stays g c = λ t.
+pub returns-else-record-place-clause-stays : goal.returns-else-record-place-clause-stays
+returns-else-record-place-clause-stays g c = λ t.
     let x = c.in-Some.record.now in
     told_of_last (Stays BATCH_BYTES c.args.place c.args.disk.now.batch) c.args.self.now.records x
     (subst (λ (l : List (Record g.row.A.Denot)). x ≡ get_or l (length l - 1) x)
@@ -32,4 +32,7 @@ returns-in-Some-clause-stays g c = λ t.
     (c.in-Some.ensures.item.3.1 x)) (inr (λ may. true≢false (sym (c.fits.ensures.1 may) ∙ t)))
 
 pub returns-in-None-clause-stays : goal.returns-in-None-clause-stays
-returns-in-None-clause-stays g c = let h = c.in-None.ensures.item in ?
+returns-in-None-clause-stays g c = λ t.
+    let none = c.in-None.ensures.item.3 in
+    let same = ap length (c.deref.ensures.value ∙ ap (λ (v : WaitingView g.row.A.Denot). v.records) c.self.view_is) in
+    no_last (Stays BATCH_BYTES c.args.place c.args.disk.now.batch) c.args.self.now.records (omega (arith, none, same))

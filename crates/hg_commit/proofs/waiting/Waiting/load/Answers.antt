@@ -1,14 +1,14 @@
-use Rattle.std.proofs.Common.{◌≡◌, ◌≤◌, ◌+◌, ◌∙◌, ℕ, List, [], ◌∷◌, ap, arith, false, inl, length, length-append, subst, sym}
-use Rattle.std.specs.Prelude.{vec_len, vec_capacity}
+use Rattle.std.proofs.Common.{◌≡◌, ◌≤◌, ◌+◌, ◌∙◌, ℕ, List, [], ◌∷◌, ap, arith, false, inl, inr, length, length-append, subst, sym}
+use Rattle.std.specs.Prelude.{IfNone, Option, vec_len, vec_capacity}
 use mathlib.Core.List.{IsPrefix}
 use Rattle.hg_types.specs.declared.item.Taken.{Taken}
 use Rattle.hg_store.specs.Entries.{Entry}
 use Rattle.hg_commit.specs.Clients.{Covers}
-use Rattle.hg_commit.specs.Handing.{MovesTo}
+use Rattle.hg_commit.specs.Handing.{IfLast, IsFull, MovesTo, Stays}
 use Rattle.hg_commit.specs.Locks.{AreWaiting, WaitingView}
 use Rattle.hg_commit.specs.Records.{IsRecordOf}
 use Rattle.hg_commit.specs.declared.waiting.Record.{Record}
-use Rattle.hg_commit.specs.declared.disk.TheConstants.{BATCH, BATCH_BYTES}
+use Rattle.hg_commit.specs.declared.disk.TheConstants.{BATCH, BATCH_BYTES, MOST}
 use Rattle.hg_commit.proofs.Batches.{within_on}
 use Rattle.hg_commit.proofs.Handing.{moves_none, moves_on}
 use Rattle.hg_commit.proofs.waiting.Waiting.load.Goals as goal
@@ -49,7 +49,7 @@ loading-preserved g c =
     let waiting = c.args.self.now.records in
     let batch = c.args.disk.now.batch in
     let less = c.pop_at.new.self.records in
-    let view = c.self-in-loading.view_is in
+    let view = c.self-in-Some.view_is in
     let told = c.in-Some-pop_at.record in
     let there = ap (λ (v : WaitingView g.row.A.Denot). v.history) view ∙ c.in-Some-pop_at.ensures.same in
     record {
@@ -69,3 +69,15 @@ loading-smaller g c =
     let more = ap length c.take_in.ensures.taken ∙ length-append c.loading.disk.batch (c.in-Some-pop_at.record.entry ∷ []) in
     let few = c.in-Some.ensures.few in
     omega (arith, more, few)
+
+pub returns-in-None-clause-most : goal.returns-in-None-clause-most
+returns-in-None-clause-most g c =
+    let batch = c.loading.disk.batch in
+    let next = c.loading.disk.count + length batch in
+    inr (subst (λ (l : List (Record g.row.A.Denot)). IfLast (Stays BATCH_BYTES next batch) l) (sym c.in-None.ensures.none)
+    (subst (λ (n : ℕ). IfLast (Stays BATCH_BYTES n batch) c.loading.self.records) c.in-Some.ensures.place
+    c.in-None.ensures.stays))
+
+pub returns-clause-most : goal.returns-clause-most
+returns-clause-most g c =
+    inl (subst (λ (r : Option ℕ). IfNone r (IsFull MOST BATCH c.loading.disk)) c.in_default.is c.next_place.ensures.full)
