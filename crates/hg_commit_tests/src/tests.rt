@@ -203,8 +203,8 @@ fn push_all<J: Storing<Global>, D: Device + Drop, R: Wait + Abort>(
 }
 
 /// How many bytes of metadata the markers of the first threads have, where these are long: no two records with such a
-/// one are a batch together, and one is longer than the bound of a batch.
-const LONG: [usize; 3] = [17 << 20, 9 << 20, 9 << 20];
+/// one are a batch together.
+const LONG: [usize; 2] = [17 << 19; 2];
 
 /// The marker of a thread, with so much metadata, which is one key and its value.
 fn long_marker<R: Abort>(rt: &R, alloc: Global, thread: u8, metadata: usize) -> Vec<u8> {
@@ -424,8 +424,8 @@ fn eight_threads_with_beats(rt: HostRuntime) -> Result<(), Fail> {
     Ok(())
 }
 
-// Three threads push once each, records of 17 MiB and twice 9 MiB, while a batch with more than one has at most 16 MiB.
-// Result: each is a batch of its own, with two syncs, whichever waits meanwhile, and each is written by somebody.
+// Two threads push once each, records of 8.5 MiB, while a batch with more than one has at most 16 MiB. Result: each is a
+// batch of its own, with two syncs, also where one waits while the other is written, and each is written by somebody.
 #[test]
 fn long_records_are_batches_of_their_own(rt: HostRuntime) -> Result<(), Fail> {
     let alloc = rt.alloc();
