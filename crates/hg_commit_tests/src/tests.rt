@@ -202,61 +202,13 @@ fn push_all<J: Storing<Global>, D: Device + Drop, R: Wait + Abort>(
     }
 }
 
-/// How many bytes of metadata the markers of the first threads have, where these are long: no two records with such a
-/// one are a batch together.
-const LONG: [usize; 2] = [17 << 19; 2];
-
-/// The marker of a thread, with so much metadata, which is one key and its value.
-fn long_marker<R: Abort>(rt: &R, alloc: Global, thread: u8, metadata: usize) -> Vec<u8> {
-    let mut made = Vec::new(alloc);
-    let size = u32::try_from(metadata).unwrap_or(u32::MAX).to_be_bytes();
-    let bytes = marker(thread, 0);
-    let end = bytes.len().saturating_add(metadata);
-    let is_made = made.extend_from_slice(&bytes[..2]).is_ok()
-        && made.extend_from_slice(&size).is_ok()
-        && made.extend_from_slice(&bytes[6..]).is_ok()
-        && made.extend_from_slice(b"k:").is_ok()
-        && made.resize(end, b'v').is_ok();
-    assert!(rt; is_made);
-    made
-}
-
-/// One push with a long marker, of each of the first threads.
-fn push_long<J: Storing<Global>, D: Device + Drop, R: Wait + Abort>(
-    rt: &R,
-    alloc: Global,
-    open: &Open<J, D>,
-    told: &Told,
-    thread: u8,
-) {
-    let Some(&metadata) = LONG.get(usize::from(thread)) else {
-        return;
-    };
-    let payload = long_marker(rt, alloc, thread, metadata);
-    let mine = KeptClient::new(client_of(rt, &open.server));
-    let mine = push_once(rt, alloc, &open.server, &open.ledger, mine, told, &payload);
-    if let Err(_client) = open.leave(rt, mine) {
-        panic!(rt; "no memory for a client");
-    }
-}
-
-/// What the threads push.
-#[derive(Clone, Copy)]
-enum Work {
-    /// Each many small ones.
-    Small,
-    /// The first ones a long one each.
-    Long,
-}
-
-/// What the threads push, at what, and where what comes of it is noted.
+/// What the threads push at, and where what comes of it is noted.
 #[derive(Drop)]
 struct Pushing<'s, J: Storing<Global>, D: Device, R: Wait> {
     rt: &'s R,
     alloc: Global,
     open: &'s Open<J, D>,
     told: &'s Told,
-    work: Work,
 }
 
 impl<'s, J, D, R> Pushing<'s, J, D, R>
@@ -267,10 +219,7 @@ where
 {
     /// The pushes of the thread of that number.
     fn push(&self, thread: u8) {
-        match self.work {
-            Work::Small => push_all(self.rt, self.alloc, self.open, self.told, thread),
-            Work::Long => push_long(self.rt, self.alloc, self.open, self.told, thread),
-        }
+        push_all(self.rt, self.alloc, self.open, self.told, thread);
     }
 
     /// Starts the threads.
@@ -291,7 +240,7 @@ where
 }
 
 /// The pushes of all threads.
-fn push_from_threads<J, D, R>(rt: &R, alloc: Global, open: &Open<J, D>, told: &Told, work: Work)
+fn push_from_threads<J, D, R>(rt: &R, alloc: Global, open: &Open<J, D>, told: &Told)
 where
     J: Storing<Global> + Send + Sync,
     D: Device + Drop + Send,
@@ -302,7 +251,6 @@ where
         alloc,
         open,
         told,
-        work,
     };
     pushing.push_by_all();
 }
@@ -316,7 +264,6 @@ fn play<J: Storing<Global> + Send + Sync, R: Threads + Wait + Abort + Sync>(
     log: Log<Memory>,
     tally: Promises,
     has_beats: bool,
-    work: Work,
 ) -> Left
     requires begins { OpensWith J.table J.capacity J.first queue taker repo }
     requires settled { IsSettled ⟦<Memory as Device>⟧.seen ⟦<Memory as Device>⟧.may_leave J.head J.stored log }
@@ -334,7 +281,7 @@ fn play<J: Storing<Global> + Send + Sync, R: Threads + Wait + Abort + Sync>(
         kept: Mutex::new(0),
         refused: Mutex::new(0),
     };
-    push_from_threads(rt, alloc, &open, &told, work);
+    push_from_threads(rt, alloc, &open, &told);
     let (closed, device) = match open.close() {
         Ok(closed) => closed,
         Err(_open) => panic!(rt; "no memory for clients"),
@@ -354,7 +301,6 @@ fn run<R: Threads + Wait + RandomSource + Abort + Sync>(
     alloc: Global,
     calls: usize,
     has_beats: bool,
-    work: Work,
 ) -> Left {
     let Some(log) = new_log(alloc, calls) else {
         panic!(rt; "no store");
@@ -365,7 +311,7 @@ fn run<R: Threads + Wait + RandomSource + Abort + Sync>(
     match PartQueue::new(alloc, 8) {
         Ok((queue, taker)) => {
             let repo = Repo::new(alloc, settings(), state(rt));
-            play::<Brand, R>(rt, alloc, queue, taker, repo, log, tally, has_beats, work)
+            play::<Brand, R>(rt, alloc, queue, taker, repo, log, tally, has_beats)
         }
         Err(_) => panic!(rt; "no memory for a queue"),
     }
@@ -399,7 +345,7 @@ const ABORTED: usize = 8 * 8;
 #[test]
 fn eight_threads_are_all_kept(rt: HostRuntime) -> Result<(), Fail> {
     let alloc = rt.alloc();
-    let left = run(&rt, alloc, 1_000_000, false, Work::Small);
+    let left = run(&rt, alloc, 1_000_000, false);
     assert!(rt; left.refused == 0);
     assert!(rt; left.kept == DONE);
     assert!(rt; left.starts_again(&rt, alloc, 0) == DONE);
@@ -414,7 +360,7 @@ fn eight_threads_are_all_kept(rt: HostRuntime) -> Result<(), Fail> {
 #[test]
 fn eight_threads_with_beats(rt: HostRuntime) -> Result<(), Fail> {
     let alloc = rt.alloc();
-    let left = run(&rt, alloc, 1_000_000, true, Work::Small);
+    let left = run(&rt, alloc, 1_000_000, true);
     assert!(rt; left.refused == 0);
     assert!(rt; left.kept == DONE);
     assert!(rt; left.starts_again(&rt, alloc, 0) == DONE);
@@ -424,27 +370,12 @@ fn eight_threads_with_beats(rt: HostRuntime) -> Result<(), Fail> {
     Ok(())
 }
 
-// Two threads push once each, records of 8.5 MiB, while a batch with more than one has at most 16 MiB. Result: each is a
-// batch of its own, with two syncs, also where one waits while the other is written, and each is written by somebody.
-#[test]
-fn long_records_are_batches_of_their_own(rt: HostRuntime) -> Result<(), Fail> {
-    let alloc = rt.alloc();
-    let left = run(&rt, alloc, 1_000_000, false, Work::Long);
-    assert!(rt; left.refused == 0);
-    assert!(rt; left.kept == LONG.len());
-    // one sync more opens the store
-    assert!(rt; left.device.syncs == 1 + 2 * LONG.len());
-    assert!(rt; left.starts_again(&rt, alloc, 0) == LONG.len());
-    drop(left);
-    Ok(())
-}
-
 #[test]
 fn eight_threads_on_a_device_that_stops(rt: HostRuntime) -> Result<(), Fail> {
     let alloc = rt.alloc();
     for calls in 3..40usize {
         for has_beats in [false, true] {
-            let left = run(&rt, alloc, calls, has_beats, Work::Small);
+            let left = run(&rt, alloc, calls, has_beats);
             assert!(rt; left.refused > 0);
             for part in [0, 1, 30, 100, 100_000] {
                 let _count = left.starts_again(&rt, alloc, part);
