@@ -63,7 +63,7 @@ pub fn bytes_are_below_256()
 pub fn obsolete_ids_are_those_of_obsolete_rows<A: Allocator>()
     ensures { (repo : Repository A) (r : ℕ) → AreLawfulRows repo.rows → r < length repo.rows →
         (is_obsolete repo (record { 0 = id_at repo.rows r }) ≡ true)
-            ↔ IsObsolete repo.rows repo.markers repo.phases r }
+        ↔ IsObsolete repo.rows repo.markers repo.phases r }
 {}
 
 /// Phases that are saved, advanced and rolled back are those of before, whether the advance was made or memory
