@@ -144,10 +144,14 @@ fn serve<R: Files<File = File> + AllocGlobal + HostingRuntime>(
 {
     let terms = terms_of(hosting);
     let Ended { over, left } = serve_store(rt, rt.alloc(), terms, listener, address, recovered);
+    let is_foreign = match &left {
+        Some(closed) => closed.log.device.calls().is_foreign(),
+        None => false,
+    };
     drop(left);
     match over {
         Over::NumbersEnd => None,
-        over => Some(status_at(rt, over)),
+        over => Some(status_at(rt, over, is_foreign)),
     }
 }
 
@@ -270,15 +274,19 @@ fn not_bound<R: Eprint>(rt: &R, listen: &str, error: &io::Error) -> u8 {
     status
 }
 
-/// The status where serving ended for good, which is printed.
-fn status_at<R: Eprint>(rt: &R, over: Over) -> u8 {
+/// The status where serving ended for good, which is printed. The store may have failed since it was changed by another.
+fn status_at<R: Eprint>(rt: &R, over: Over, is_foreign: bool) -> u8 {
     match over {
         Over::NoMemory => {
             tell(rt, 4);
             4
         }
         Over::StoreFailed | Over::NumbersEnd => {
-            let _ = eprintln!(rt; "hg_pushd: the store failed");
+            if is_foreign {
+                let _ = eprintln!(rt; "hg_pushd: the store was changed by another");
+            } else {
+                let _ = eprintln!(rt; "hg_pushd: the store failed");
+            }
             3
         }
     }

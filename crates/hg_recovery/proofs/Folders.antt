@@ -4,12 +4,13 @@ use Rattle.std.specs.Prelude.{Result, Ok, Err, MatchResult}
 use Rattle.hg_store.specs.Calls.{Event, missed}
 use Rattle.hg_store.specs.Folders.{IsLookedFor, IsMadeAtMost, IsMadeWhereNone, IsMissedAtMost}
 use Rattle.hg_store.specs.declared.start.StoreFault.{StoreFault}
-use Rattle.hg_store.specs.declared.start.StoreFault.TheVariants.{Missing, Exists, Held, OtherPublishing, OtherLimits, Recover}
+use Rattle.hg_store.specs.declared.start.StoreFault.TheVariants.{Missing, Exists, Held, Linked, OtherPublishing, OtherLimits, Recover}
 
 missed_for : (fault : StoreFault) (before now : List Event) → IsLookedFor fault before now → IsMissedAtMost before now
 missed_for Missing before now looked = inr looked
 missed_for Exists before now looked = inl looked
 missed_for Held before now looked = inl looked
+missed_for Linked before now looked = inl looked
 missed_for OtherPublishing before now looked = inl looked
 missed_for OtherLimits before now looked = inl looked
 missed_for (Recover fault) before now looked = inl looked

@@ -9,7 +9,7 @@ use Rattle.hg_store.specs.declared.opening.RecoverFault.{RecoverFault}
 use Rattle.hg_store.specs.declared.opening.RecoverFault.TheVariants.{Read, OldVersion, Torn, Device}
 use Rattle.hg_store.specs.declared.read.ReadFault.{ReadFault}
 use Rattle.hg_store.specs.declared.start.StoreFault.{StoreFault}
-use Rattle.hg_store.specs.declared.start.StoreFault.TheVariants.{Missing, Exists, Held, OtherPublishing, OtherLimits, Recover}
+use Rattle.hg_store.specs.declared.start.StoreFault.TheVariants.{Missing, Exists, Held, Linked, OtherPublishing, OtherLimits, Recover}
 use Rattle.hg_store.specs.Calls.{Continue, Event, LeftSince, MayLeave, began, state_of}
 use Rattle.hg_store.specs.Device.{Only}
 use Rattle.hg_store.specs.Files.{IsOldStore, IsTornStore, IsUnread, StandsFor}
@@ -74,6 +74,7 @@ refused_is fault setup bytes before now read refused = as_told fault refused
     as_told Missing none = absurd none
     as_told Exists none = absurd none
     as_told Held none = absurd none
+    as_told Linked none = absurd none
 
 module _ (bytes : List ℕ) (before at_first : List Event) (read : at_first ≡ began bytes ∷ before) where
   pub only_first : Only (state_of at_first).seen (MayLeave (state_of at_first))

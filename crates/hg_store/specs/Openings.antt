@@ -4,7 +4,7 @@ use Rattle.hg_store.specs.declared.head.Head.{Head}
 use Rattle.hg_store.specs.declared.head.Setup.{Setup}
 use Rattle.hg_store.specs.declared.opening.RecoverFault.TheVariants.{Read, OldVersion, Torn, Device}
 use Rattle.hg_store.specs.declared.start.StoreFault.{StoreFault}
-use Rattle.hg_store.specs.declared.start.StoreFault.TheVariants.{Missing, Exists, Held, OtherPublishing, OtherLimits, Recover}
+use Rattle.hg_store.specs.declared.start.StoreFault.TheVariants.{Missing, Exists, Held, Linked, OtherPublishing, OtherLimits, Recover}
 use Rattle.hg_store.specs.Calls.{Continue, Event, LeftSince, MayLeave, began, state_of}
 use Rattle.hg_store.specs.Device.{Only}
 use Rattle.hg_store.specs.Entries.{Entry}
@@ -19,12 +19,13 @@ pub record IsFound (head : Head) (records : List Entry) (before now : List Event
   pub stands : StandsFor head records bytes
   pub any_moment : (left : List ℕ) → LeftSince now (length before + 1) left → StandsFor head records left
 
--- what a folder may answer in the place of a store: there is none, there is one already, or it is held; or a device
--- failed, or memory was refused
+-- what a folder may answer in the place of a store: there is none, there is one already, it is held, or it is no file
+-- or a link; or a device failed, or memory was refused
 abbrev pub IsOfFolder : StoreFault → Type 0
 IsOfFolder Missing = ⊤
 IsOfFolder Exists = ⊤
 IsOfFolder Held = ⊤
+IsOfFolder Linked = ⊤
 IsOfFolder (Recover (Device fault)) = ⊤
 IsOfFolder other = ⊥
 

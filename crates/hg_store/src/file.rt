@@ -40,6 +40,13 @@ impl<C: Calls, A: Allocator + Copy> StoreFile<C, A> {
         }
     }
 
+    /// The file.
+    pub fn calls(&self) -> &C
+        ensures { result.now ≡ self.now.calls }
+    {
+        &self.calls
+    }
+
     /// Gives the file back, whose bytes may then be read anew.
     pub fn into_calls(self) -> C
         ensures { result ≡ self.calls }

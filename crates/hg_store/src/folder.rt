@@ -1,4 +1,4 @@
-//! A store in its folder: a file `pushes`, and `pushes.new` while that is made.
+//! A store in its folder: a file `pushes`, and `pushes.new` while that is made. No link is followed to either.
 
 ghost use Rattle.std.specs.Prelude.{◌≡◌, ◌⊎◌, [], ◌∷◌, IfErr, IfOk, MatchResult, length};
 ghost use Rattle.hg_store.specs.Calls.{renewed};
@@ -15,10 +15,10 @@ use crate::history::Call;
 use crate::host::{HostFile, device_error, read_all};
 use crate::names::StoreFolder;
 use crate::place::create_file;
-use crate::placed::{PlacedFile, hold, path_in, sync_folder};
+use crate::placed::{Access, PlacedFile, hold, open_plain, path_in, sync_folder};
 use crate::start::{Opened, StoreFault, open_file};
 use std::alloc::Allocator;
-use std::fs::{File, Files, OpenOptions};
+use std::fs::{File, Files};
 use std::io::Read;
 use std::{fs, io};
 
@@ -140,18 +140,21 @@ pub fn store_bytes<R: Files<File = File>, A: Allocator + Copy>(
     ensures { IfErr result IsOfFolder }
 {
     let name = path_in(alloc, folder, NAME)?;
-    match read_file(files, alloc, name.as_str()) {
-        Ok(bytes) => Ok(bytes),
+    match open_plain(files, Access::Read, name.as_str()) {
+        Ok(Some(file)) => bytes_of(alloc, file),
+        Ok(None) => Err(StoreFault::Linked),
         Err(error) => Err(store_fault(error)),
     }
 }
 
-fn read_file<R: Files<File = File>, A: Allocator + Copy>(
-    files: &R,
-    alloc: A,
-    name: &str,
-) -> io::Result<Vec<u8, A>> {
-    read_all(alloc, &mut File::open(files, name)?)
+/// All bytes of a file of a store.
+fn bytes_of<A: Allocator + Copy>(alloc: A, mut file: File) -> Result<Vec<u8, A>, StoreFault>
+    ensures { IfErr result IsOfFolder }
+{
+    match read_all(alloc, &mut file) {
+        Ok(bytes) => Ok(bytes),
+        Err(error) => Err(store_fault(error)),
+    }
 }
 
 /// Makes the folder and syncs the one that has it, unless it is there.
@@ -203,8 +206,9 @@ pub fn open_held<R: Files<File = File>, A: Allocator + Copy>(
 {
     let name = path_in(alloc, folder, NAME)?;
     let name = name.as_str();
-    match OpenOptions::new().read(true).write(true).open(files, name) {
-        Ok(file) => held(files, file, name),
+    match open_plain(files, Access::Change, name) {
+        Ok(Some(file)) => held(files, file, name),
+        Ok(None) => Err(StoreFault::Linked),
         Err(error) => Err(store_fault(error)),
     }
 }

@@ -1,6 +1,6 @@
 //! A file of the system.
 
-ghost use Rattle.std.specs.Prelude.{◌≡◌, ◌∷◌, []};
+ghost use Rattle.std.specs.Prelude.{◌≡◌, ◌∷◌, [], true};
 ghost use Rattle.hg_store.specs.History.{event_of};
 
 use crate::calls::Calls;
@@ -12,13 +12,54 @@ use std::fs::File;
 use std::io;
 use std::io::{Read, Seek, SeekFrom};
 use std::os::fd::AsRawFd;
-use std::os::unix::fs::FileExt;
+use std::os::unix::fs::{FileExt, MetadataExt};
+
+/// What tells a file from others: its device and its number there, how many names it has, and its length.
+#[derive(Clone, Copy, Debug, PartialEq, Eq)]
+struct Signs {
+    device: u64,
+    number: u64,
+    names: u64,
+    length: u64,
+}
+
+impl Signs {
+    /// Those of a file.
+    fn of(file: &File) -> io::Result<Signs> {
+        let found = file.metadata()?;
+        Ok(Signs {
+            device: found.dev(),
+            number: found.ino(),
+            names: found.nlink(),
+            length: found.len(),
+        })
+    }
+
+    /// Whether a file with these signs is one that was opened with the others, with one name: nobody else has changed
+    /// its length, taken its name away or given it another.
+    fn are_still(&self, opened: &Signs) -> bool
+        ensures same { result ≡ true → (self.now.device ≡ opened.now.device) × (self.now.number ≡ opened.now.number)
+            × (self.now.length ≡ opened.now.length) × (self.now.names ≡ 1) }
+    {
+        self.device == opened.device
+            && self.number == opened.number
+            && self.length == opened.length
+            && self.names == 1
+    }
+}
 
 /// An open file of the system. Each call makes one call of the system and notes it; that is to be read
-/// here, and no contract says it.
+/// here, and no contract says it. Before the first change after it was read or synced, the file is looked at: where it
+/// is not the one that was read any more, the change is not made, and fails.
 #[derive(Drop)]
 pub struct HostFile {
     file: File,
+    /// What it had when it was read, with the length that it was given since.
+    signs: Option<Signs>,
+    /// Whether it was changed since it was read or synced last.
+    is_begun: bool,
+    /// Whether another has changed it.
+    is_foreign: bool,
     pub(crate) history: History,
 }
 
@@ -29,8 +70,77 @@ impl HostFile {
     {
         HostFile {
             file,
+            signs: None,
+            is_begun: false,
+            is_foreign: false,
             history: History::new(),
         }
+    }
+
+    /// Whether another has changed the file.
+    pub fn is_foreign(&self) -> bool {
+        self.is_foreign
+    }
+
+    /// All of its bytes, read from the disk. From then on it is the file that it was then.
+    fn read_own<A: Allocator + Copy>(&mut self, alloc: A) -> io::Result<Vec<u8, A>>
+        ensures { self.new.history ≡ self.old.history }
+    {
+        let bytes = read_anew(alloc, &mut self.file)?;
+        let mut signs = Signs::of(&self.file)?;
+        signs.length = bytes.len() as u64;
+        self.signs = Some(signs);
+        self.is_begun = false;
+        Ok(bytes)
+    }
+
+    /// Looks whether the file is still the one that was read, where a batch of changes begins.
+    fn begin_change(&mut self) -> io::Result<()>
+        ensures { self.new.history ≡ self.old.history }
+    {
+        let Some(opened) = self.signs else {
+            return Ok(());
+        };
+        if !self.is_begun && !Signs::of(&self.file)?.are_still(&opened) {
+            self.is_foreign = true;
+            return Err(io::Error::from(io::ErrorKind::Other));
+        }
+        self.is_begun = true;
+        Ok(())
+    }
+
+    /// Remembers how long the file is.
+    fn grow(&mut self, length: u64)
+        ensures { self.new.history ≡ self.old.history }
+    {
+        if let Some(signs) = &mut self.signs {
+            signs.length = length;
+        }
+    }
+
+    /// Writes these bytes from that place on, where the file is the one that was read.
+    fn write_own(&mut self, at: usize, bytes: &[u8]) -> io::Result<()>
+        ensures { self.new.history ≡ self.old.history }
+    {
+        self.begin_change()?;
+        self.file.write_all_at(bytes, at as u64)?;
+        let end = (at as u64).saturating_add(bytes.len() as u64);
+        let length = match &self.signs {
+            Some(signs) => signs.length.max(end),
+            None => end,
+        };
+        self.grow(length);
+        Ok(())
+    }
+
+    /// Cuts the file to a length, where it is the one that was read.
+    fn shorten_own(&mut self, len: usize) -> io::Result<()>
+        ensures { self.new.history ≡ self.old.history }
+    {
+        self.begin_change()?;
+        self.file.set_len(len as u64)?;
+        self.grow(len as u64);
+        Ok(())
     }
 
     /// Notes a call.
@@ -73,7 +183,7 @@ impl Calls for HostFile {
     ghost history = { λ f. f.history.events };
 
     fn begin<A: Allocator + Copy>(&mut self, alloc: A) -> Result<Seq<u8, A>, DeviceError> {
-        match read_anew(alloc, &mut self.file) {
+        match self.read_own(alloc) {
             Ok(bytes) => {
                 self.note(&Call::Began(&bytes));
                 Ok(Seq::from_vec(bytes))
@@ -83,19 +193,20 @@ impl Calls for HostFile {
     }
 
     fn write(&mut self, at: usize, bytes: &[u8]) -> io::Result<()> {
-        let answer = self.file.write_all_at(bytes, at as u64);
+        let answer = self.write_own(at, bytes);
         self.note(&Call::Wrote(at, bytes, answer.is_ok()));
         answer
     }
 
     fn shorten(&mut self, len: usize) -> io::Result<()> {
-        let answer = self.file.set_len(len as u64);
+        let answer = self.shorten_own(len);
         self.note(&Call::Shortened(len, answer.is_ok()));
         answer
     }
 
     fn sync(&mut self) -> io::Result<()> {
         let answer = self.file.sync_data();
+        self.is_begun = false;
         self.note(&Call::Synced(answer.is_ok()));
         answer
     }

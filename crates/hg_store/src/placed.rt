@@ -10,6 +10,7 @@ use crate::place::NewFile;
 use hg_types::{NoMemory, Seq};
 use std::alloc::Allocator;
 use std::fs::{File, Files, OpenOptions, TryLockError};
+use std::io::ErrorKind;
 use std::os::unix::fs::MetadataExt;
 use std::{fs, io};
 
@@ -40,11 +41,75 @@ pub fn hold<R: Files<File = File>>(files: &R, file: &File, name: &str) -> io::Re
     }
 }
 
-/// Whether the file is the one of this name.
+/// Whether the file is the one of this name, and the name is no link to it.
 fn is_named<R: Files<File = File>>(files: &R, file: &File, name: &str) -> io::Result<bool> {
     let held = file.metadata()?;
-    let named = fs::metadata(files, name)?;
+    let named = fs::symlink_metadata(files, name)?;
     Ok(held.dev() == named.dev() && held.ino() == named.ino())
+}
+
+/// How a file is opened.
+#[derive(Clone, Copy, Debug, PartialEq, Eq)]
+pub enum Access {
+    /// It is read.
+    Read,
+    /// It is read and written.
+    Change,
+}
+
+/// Opens a file that is there. There is none where the name is a link, or another thing than a file.
+pub fn open_plain<R: Files<File = File>>(
+    files: &R,
+    access: Access,
+    name: &str,
+) -> io::Result<Option<File>> {
+    if !fs::symlink_metadata(files, name)?.is_file() {
+        return Ok(None);
+    }
+    let file = OpenOptions::new()
+        .read(true)
+        .write(access == Access::Change)
+        .open(files, name)?;
+    if is_named(files, &file, name)? {
+        Ok(Some(file))
+    } else {
+        Ok(None)
+    }
+}
+
+/// Makes a file of that name, in which nothing is, and holds it. What has the name is taken away, unless another
+/// process holds it: then there is none.
+fn make_new<R: Files<File = File>>(files: &R, name: &str) -> io::Result<Option<File>> {
+    match File::create_new(files, name) {
+        Ok(file) => held_new(files, file, name),
+        Err(error) if error.kind() == ErrorKind::AlreadyExists => make_again(files, name),
+        Err(error) => Err(error),
+    }
+}
+
+/// The same where a file of that name was left over.
+fn make_again<R: Files<File = File>>(files: &R, name: &str) -> io::Result<Option<File>> {
+    let left = open_plain(files, Access::Change, name)?;
+    if let Some(file) = &left {
+        if !hold(files, file, name)? {
+            return Ok(None);
+        }
+    }
+    fs::remove_file(files, name)?;
+    match File::create_new(files, name) {
+        Ok(file) => held_new(files, file, name),
+        Err(error) if error.kind() == ErrorKind::AlreadyExists => Ok(None),
+        Err(error) => Err(error),
+    }
+}
+
+/// The file, where it is held.
+fn held_new<R: Files<File = File>>(files: &R, file: File, name: &str) -> io::Result<Option<File>> {
+    if hold(files, &file, name)? {
+        Ok(Some(file))
+    } else {
+        Ok(None)
+    }
 }
 
 /// A file that is written beside its place, and held.
@@ -60,8 +125,7 @@ pub struct PlacedFile<'a, R: Files, A: Allocator> {
 }
 
 impl<'a, R: Files<File = File>, A: Allocator + Copy> PlacedFile<'a, R, A> {
-    /// Makes the file beside, or opens the one that is there, and holds it. What is in it stays. There is none
-    /// where another process holds it.
+    /// Makes the file beside anew and holds it. There is none where another process holds one of that name.
     pub fn make(
         files: &'a R,
         folder: &'a str,
@@ -71,14 +135,9 @@ impl<'a, R: Files<File = File>, A: Allocator + Copy> PlacedFile<'a, R, A> {
     ) -> io::Result<Option<Self>>
         ensures { IfOk result (λ made. IfSome made (λ file. file.host.history.events ≡ [])) }
     {
-        let file = OpenOptions::new()
-            .read(true)
-            .write(true)
-            .create(true)
-            .open(files, beside.as_str())?;
-        if !hold(files, &file, beside.as_str())? {
+        let Some(file) = make_new(files, beside.as_str())? else {
             return Ok(None);
-        }
+        };
         Ok(Some(PlacedFile {
             files,
             folder,

@@ -30,6 +30,9 @@ pub enum StoreFault {
     /// Another process holds it.
     #[error("another process holds the store")]
     Held,
+    /// Its name is a link, or that of another thing than a file.
+    #[error("no file, or a link to one")]
+    Linked,
     /// It was made with another publishing flag.
     #[error("a store of another publishing flag")]
     OtherPublishing,
