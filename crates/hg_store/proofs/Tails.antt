@@ -112,7 +112,7 @@ module _ (version : Version) (start tail digest : List ℕ) (count beyond : ℕ)
       pub one_more : (IsFull count beyond → ⊥) → (grown : ℕ)
           → grown ≡ beyond_with count beyond (length (frame version digest found)) → count + 1 ≤ 64 → grown < 2 ^ 40
           → Walks version start tail next (count + 1) grown after
-      one_more open grown grown_is few small = record {
+      one_more room grown grown_is few small = record {
         into = λ hidden passes. has.into (found ∷ hidden) (
           gate,
           behind,
@@ -137,7 +137,7 @@ module _ (version : Version) (start tail digest : List ℕ) (count beyond : ℕ)
               (digest_of version digest first)) same passes.4 in
               let one = frame_is version digest first found passes.2 after its.is is.is (sym its.spelled ∙ is.spelled) in
               elim passes.5 [
-                | inl full ↦ absurd (open full)
+                | inl full ↦ absurd (room full)
                 | inr more ↦ (
                   others,
                   subst (λ (d : List ℕ). PassesBatch version d (count + 1) grown others after) (sym is.digest)
@@ -161,13 +161,13 @@ grown_later (suc count) beyond size grown some is = is
 
 -- a batch that is not full has few records, with few bytes after its first
 pub not_full : (count beyond : ℕ) → (IsFull count beyond → ⊥) → (count < 64) × (beyond ≤ 2 ^ 24)
-not_full count beyond open = (few, small)
+not_full count beyond room = (few, small)
   where
     few : count < 64
-    few = elim (cases_lt count 64) [ inl less ↦ less | inr more ↦ absurd (open (inl more)) ]
+    few = elim (cases_lt count 64) [ inl less ↦ less | inr more ↦ absurd (room (inl more)) ]
 
     small : beyond ≤ 2 ^ 24
-    small = elim (cases_lt (2 ^ 24) beyond) [ inl less ↦ absurd (open (inr less)) | inr more ↦ more ]
+    small = elim (cases_lt (2 ^ 24) beyond) [ inl less ↦ absurd (room (inr less)) | inr more ↦ more ]
 
 -- what was kept of the one reading of a file
 pub tail_is : (file bytes : List ℕ) (head other : Head) (records others : List Entry) (tail found : List ℕ) (place : ℕ)
