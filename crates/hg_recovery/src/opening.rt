@@ -124,6 +124,11 @@ pub fn recover_store<R: Files<File = File>>(
     ensures found { IfOk result (λ recovered. IsFound (head_of publishing recovered.identity)
         (records_of recovered.records.items) [] (⟦<HostFile as Calls>⟧.history recovered.log.device.calls)) }
 
+    // No byte of the file is lost: what it had after its last whole record is only zeros, or was kept in the folder
+    // before it was cut off.
+    ensures tail { IfOk result (λ recovered. LosesNothing [] (⟦<HostFile as Calls>⟧.history recovered.log.device.calls)
+        folder.new) }
+
     // No new store takes the place of one that is there; and where that is refused, none is made.
     ensures names { AreNamesIf if_missing folder.old folder.new }
 
@@ -131,7 +136,8 @@ pub fn recover_store<R: Files<File = File>>(
         StopsStored Global ⟦<StoreFile<HostFile> as Device>⟧.seen ⟦<StoreFile<HostFile> as Device>⟧.may_leave
         publishing fault }
     ensures unopened { (fault : AnyStoreFault) → IsErrOf result (no_store fault) → IsOfFolder fault
-        ⊎ ((read : HostFile) × IsUnopened fault (setup_for publishing) [] (⟦<HostFile as Calls>⟧.history read)) }
+        ⊎ ((read : HostFile) × IsUnopened fault (setup_for publishing) [] (⟦<HostFile as Calls>⟧.history read)
+        × LosesNothing [] (⟦<HostFile as Calls>⟧.history read) folder.new) }
 {
     let opened = open_in(alloc, folder, &setup_for(publishing), if_missing)?;
     let Opened {

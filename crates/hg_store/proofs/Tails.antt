@@ -1,5 +1,5 @@
 -- What stands after the last whole record, and what is lost of it.
-use Rattle.std.proofs.Common.{◌≡◌, ◌⊎◌, inl, inr, ℕ, zero, suc, ◌+◌, ◌-◌, ◌<◌, ◌≤◌, ◌^◌, List, [], ◌∷◌, ◌++◌, length, true}
+use Rattle.std.proofs.Common.{◌≡◌, ◌≢◌, ◌⊎◌, inl, inr, ℕ, zero, suc, ◌+◌, ◌-◌, ◌<◌, ◌≤◌, ◌^◌, List, [], ◌∷◌, ◌++◌, length, true}
 use Rattle.std.proofs.Common.{refl, sym, ap, ◌∙◌, subst, arith, length-append}
 use Rattle.hg_store.specs.Calls.{Continue, Event, LeftSince, MayLeave, began, state_of, tail_kept}
 use Rattle.hg_store.specs.Device.{LeavesOnly, Only}
@@ -151,13 +151,13 @@ module _ (version : Version) (start tail digest : List ℕ) (count beyond : ℕ)
               ]
 
 -- how many bytes stand after the first, with one record more
-pub grown_first : (count beyond size : ℕ) → count ≤ 0 → beyond ≡ beyond_with count beyond size
+pub grown_first : (count beyond size : ℕ) → count ≡ 0 → beyond ≡ beyond_with count beyond size
 grown_first zero beyond size none = refl
 grown_first (suc count) beyond size none = absurd (omega (arith, none))
 
-pub grown_later : (count beyond size grown : ℕ) → 0 < count → grown ≡ beyond + size → grown ≡ beyond_with count beyond size
-grown_later zero beyond size grown some is = absurd (omega (arith, some))
-grown_later (suc count) beyond size grown some is = is
+pub grown_later : (count beyond size : ℕ) → count ≢ 0 → beyond + size ≡ beyond_with count beyond size
+grown_later zero beyond size some = absurd (some refl)
+grown_later (suc count) beyond size some = refl
 
 -- a batch that is not full has few records, with few bytes after its first
 pub not_full : (count beyond : ℕ) → (IsFull count beyond → ⊥) → (count < 64) × (beyond ≤ 2 ^ 24)

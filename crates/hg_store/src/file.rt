@@ -88,9 +88,9 @@ impl<C: Calls, A: Allocator + Copy> StoreFile<C, A> {
             self.refuse();
             return Err(DeviceError::Failed);
         }
-        let answer = self.calls.sync();
-        self.broken = answer.is_err();
-        told(answer)
+        let synced = self.calls.sync();
+        self.broken = synced.is_err();
+        told(synced)
     }
 
     /// Refuses a call.

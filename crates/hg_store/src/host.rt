@@ -49,8 +49,8 @@ impl Signs {
 }
 
 /// An open file of the system. Each call makes one call of the system and notes it; that is to be read
-/// here, and no contract says it. Before the first change after it was read or synced, the file is looked at: where it
-/// is not the one that was read any more, the change is not made, and fails.
+/// here, and no contract says it. Before the first change after it was read or synced, the file is looked at: where it is
+/// not the one that was read any more, the change is not made, and fails.
 #[derive(Drop)]
 pub struct HostFile {
     file: File,
@@ -78,7 +78,9 @@ impl HostFile {
     }
 
     /// Whether another has changed the file.
-    pub fn is_foreign(&self) -> bool {
+    pub fn is_foreign(&self) -> bool
+        ensures { result ≡ self.now.is_foreign }
+    {
         self.is_foreign
     }
 

@@ -1,9 +1,9 @@
 //! What stands after the last whole record of a store. It is kept before it is cut off, and where it has more records
 //! than one batch holds, the store is damaged.
 
-ghost use Rattle.std.specs.Prelude.{◌≡◌, ◌⊎◌, ◌∷◌, List, ℕ, IsErrOf, MatchResult, OnErr, OnOk, false, true};
+ghost use Rattle.std.specs.Prelude.{◌≡◌, ◌⊎◌, ◌∷◌, ◌+◌, ◌<◌, ◌^◌, List, ℕ, IsErrOf, MatchResult, OnErr, OnOk, false, true};
 ghost use Rattle.hg_store.specs.Calls.{Event, tail_kept};
-ghost use Rattle.hg_store.specs.Tails.{HidesRecords, IsFull, is_blank};
+ghost use Rattle.hg_store.specs.Tails.{HidesRecords, IsFull, beyond_with, is_blank};
 ghost use Rattle.hg_store.specs.declared.tail.TailFault.TheVariants.{Hidden as hidden_behind};
 
 use crate::device::DeviceError;
@@ -93,6 +93,15 @@ fn is_full(count: usize, beyond: usize) -> bool
     count >= BATCH_RECORDS || beyond > BATCH_BYTES
 }
 
+/// The bytes after the first record of a batch of so many, with a record of that size more.
+#[tactic(auto, using(crate::proofs::Tails::grown_first, crate::proofs::Tails::grown_later))]
+fn beyond_with(count: usize, beyond: usize, size: usize) -> usize
+    requires { beyond + size < 2 ^ 64 }
+    ensures { result ≡ beyond_with count beyond size }
+{
+    if count == 0 { beyond } else { beyond + size }
+}
+
 /// Whether more records than one batch holds stand there, each behind a gate of any value, the first after that
 /// digest.
 fn hides_records(version: Version, start: &[u8; 20], tail: &[u8]) -> bool
@@ -111,9 +120,7 @@ fn hides_records(version: Version, start: &[u8; 20], tail: &[u8]) -> bool
         if is_full(count, beyond) {
             return true;
         }
-        if count > 0 {
-            beyond += rest.len() - after.len();
-        }
+        beyond = beyond_with(count, beyond, rest.len() - after.len());
         count += 1;
         rest = after;
     }
