@@ -643,52 +643,6 @@ def a_store_behind_a_link(host):
 
 
 @case
-def a_store_that_another_changed(host):
-    """While it is served, the file gets a second name, or grows, or loses its name: the next push is not answered, and
-    the server ends."""
-    path = f"{host.store}/pushes"
-    for change in (lambda: os.link(path, f"{host.folder}/other"), lambda: os.unlink(path),
-                   lambda: os.truncate(path, 10_000)):
-        host.start()
-        host.push(EMPTY)
-        change()
-        try:
-            told = host.push(EMPTY)
-        except (OSError, ValueError, IndexError, Wrong):
-            told = None
-        want("the push", told, None)
-        want("status", host.process.wait(30), 3)
-        want("the line", "hg_pushd: the store was changed by another\n" in host.process.stderr.read().decode(), True)
-        host.process.stderr.close()
-        host.process = None
-        for name in (path, f"{host.folder}/other"):
-            if os.path.exists(name):
-                os.unlink(name)
-
-
-@case
-def a_store_behind_a_link(host):
-    """A link is not followed to a store, nor to the file in which a new one is made."""
-    host.start()
-    host.push(EMPTY)
-    host.kill()
-    path, other = f"{host.store}/pushes", f"{host.folder}/other"
-    os.rename(path, other)
-    os.symlink(other, path)
-    with open(other, "rb") as file:
-        before = file.read()
-    for words in (("host", "--listen", "127.0.0.1:0"), ("report",), ("log",)):
-        want(f"status of {words[0]}", host.run(*words, "--store", host.store)[0], 3)
-    os.unlink(path)
-    os.symlink(other, f"{path}.new")
-    want("a new store", host.start(), (0, 0))
-    host.kill()
-    with open(other, "rb") as file:
-        want("what the link led to", file.read(), before)
-    want("the folder", sorted(os.listdir(host.store)), ["pushes"])
-
-
-@case
 def a_record_that_does_not_run(host):
     """A store with a push that is not done when it is run again, and with one that is no bundle, is not served."""
     host.start()
