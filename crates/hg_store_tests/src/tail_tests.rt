@@ -73,6 +73,16 @@ fn opened(alloc: Global, file: &[u8], calls: usize, fails: bool) -> Result<Came,
     }
 }
 
+/// The first so many bytes.
+fn front(bytes: &[u8], len: usize) -> &[u8] {
+    &bytes[..len.min(bytes.len())]
+}
+
+/// The bytes from there on.
+fn behind(bytes: &[u8], at: usize) -> &[u8] {
+    &bytes[at.min(bytes.len())..]
+}
+
 /// Whether just this tail was kept, which stood after so many records.
 fn has_kept(drawer: &Drawer, place: usize, tail: &[u8]) -> bool {
     match drawer.tails.as_slice() {
@@ -87,14 +97,17 @@ fn has_kept(drawer: &Drawer, place: usize, tail: &[u8]) -> bool {
 fn a_gate_that_is_shut(rt: HostRuntime) -> Result<(), Fail> {
     let alloc = rt.alloc();
     let (file, end) = store_of(alloc, &[3, 0, 5, 100, 2], 1)?;
-    let tail = &file[end..];
+    let tail = behind(&file, end);
     for calls in 1..6usize {
         let came = opened(alloc, &file, calls, false)?;
         assert_eq!(rt; came.records.is_ok(), calls == 5, "{calls} calls");
         assert!(rt; has_kept(&came.drawer, 1, tail), "{calls} calls");
         if calls == 5 {
             assert_eq!(rt; came.records, Ok(1));
-            assert_eq!(rt; came.paper.synced.as_slice(), &file[..end + 1]);
+            assert_eq!(rt;
+                came.paper.synced.as_slice(),
+                front(&file, end.saturating_add(1))
+            );
         }
     }
     let came = opened(alloc, &file, NO_LIMIT, true)?;
@@ -105,6 +118,28 @@ fn a_gate_that_is_shut(rt: HostRuntime) -> Result<(), Fail> {
     Ok(())
 }
 
+// Each gate with each value that no gate has: the store is damaged, and nothing changes.
+#[test]
+fn a_gate_of_another_value(rt: HostRuntime) -> Result<(), Fail> {
+    let alloc = rt.alloc();
+    let sizes = [3usize, 0, 5, 100, 2];
+    for place in 0..sizes.len() {
+        let (file, at) = store_of(alloc, &sizes, place)?;
+        let damaged = StoreFault::Recover(RecoverFault::Read(ReadFault::Damaged(place)));
+        for value in 1..255u8 {
+            let mut turned = file.to_vec(alloc)?;
+            if let Some(gate) = turned.as_mut_slice().get_mut(at) {
+                *gate = value;
+            }
+            let came = opened(alloc, &turned, NO_LIMIT, false)?;
+            assert_eq!(rt; came.records, Err(damaged), "gate {place} is {value}");
+            assert_eq!(rt; came.paper.bytes.as_slice(), turned.as_slice());
+            assert!(rt; came.drawer.tails.is_empty() && came.paper.steps.is_empty());
+        }
+    }
+    Ok(())
+}
+
 // A shut gate, nothing, and zeroes after the records: nothing is kept.
 #[test]
 fn a_tail_that_says_nothing(rt: HostRuntime) -> Result<(), Fail> {
@@ -112,7 +147,7 @@ fn a_tail_that_says_nothing(rt: HostRuntime) -> Result<(), Fail> {
     let (file, _) = store_of(alloc, &[3, 4], 9)?;
     for more in [0usize, 1, 5_000] {
         let mut longer = file.to_vec(alloc)?;
-        longer.resize(file.len() - 1 + more, 0)?;
+        longer.resize(file.len().saturating_sub(1).saturating_add(more), 0)?;
         let came = opened(alloc, &longer, NO_LIMIT, false)?;
         assert_eq!(rt; came.records, Ok(2));
         assert!(rt; came.drawer.tails.is_empty());
@@ -121,14 +156,14 @@ fn a_tail_that_says_nothing(rt: HostRuntime) -> Result<(), Fail> {
     Ok(())
 }
 
-// Behind one record stand 64 more, 65, 66; then three, of which the second has 16 MiB less one byte with its frame, and
-// so on: the store is damaged where one stands behind more than a batch may hold.
+// Behind one record stand as many as a batch has, and more; then three, of which the second has 16 MiB with its frame of
+// 37 bytes, and one more: the store is damaged where one stands behind more than a batch may hold.
 #[test]
 fn more_than_one_batch(rt: HostRuntime) -> Result<(), Fail> {
     let alloc = rt.alloc();
     let hidden = StoreFault::Recover(RecoverFault::Tail(TailFault::Hidden(1)));
-    for more in [63usize, 64, 65, 200] {
-        let sizes = vec![in alloc; 1usize; more + 1]?;
+    for (count, more) in [(64usize, 63usize), (65, 64), (66, 65), (201, 200)] {
+        let sizes = vec![in alloc; 1usize; count]?;
         let (file, end) = store_of(alloc, &sizes, 1)?;
         let came = opened(alloc, &file, NO_LIMIT, false)?;
         if more > BATCH_RECORDS {
@@ -137,18 +172,13 @@ fn more_than_one_batch(rt: HostRuntime) -> Result<(), Fail> {
             assert!(rt; came.drawer.tails.is_empty() && came.paper.steps.is_empty());
         } else {
             assert_eq!(rt; came.records, Ok(1), "{more} records");
-            assert!(rt; has_kept(&came.drawer, 1, &file[end..]));
+            assert!(rt; has_kept(&came.drawer, 1, behind(&file, end)));
         }
     }
-    let frame = 37;
-    for size in [BATCH_BYTES - frame, BATCH_BYTES - frame + 1] {
+    for (less, wanted) in [(37usize, Ok(1)), (36, Err(hidden))] {
+        let size = BATCH_BYTES - less;
         let (file, _) = store_of(alloc, &[1, 2, size, 3], 1)?;
         let came = opened(alloc, &file, NO_LIMIT, false)?;
-        let wanted = if size + frame > BATCH_BYTES {
-            Err(hidden)
-        } else {
-            Ok(1)
-        };
         assert_eq!(rt; came.records, wanted, "{size} bytes");
     }
     Ok(())
@@ -161,9 +191,10 @@ fn gates_that_are_written_again(rt: HostRuntime) -> Result<(), Fail> {
     for count in [0usize, 1, 63, 64, 65, 100] {
         let sizes = vec![in alloc; 4usize; count]?;
         let (file, _) = store_of(alloc, &sizes, count + 1)?;
-        let calls = 4 + count.min(BATCH_RECORDS);
+        let least = 3 + count.min(BATCH_RECORDS);
+        let calls = least + 1;
         assert!(rt;
-            opened(alloc, &file, calls - 1, false)?.records.is_err(),
+            opened(alloc, &file, least, false)?.records.is_err(),
             "{count} records"
         );
         let came = opened(alloc, &file, calls, false)?;
@@ -198,7 +229,7 @@ fn tails_in_a_folder(rt: HostRuntime) -> Result<(), Fail> {
         fs::write(&rt, "hg_store_tails/pushes", file.as_slice())?;
         let mut place = StoreFolder::new(&rt, folder);
         assert!(rt; open_store(alloc, &mut place, &standard()).is_ok());
-        let size = file.len() - end;
+        let size = behind(file, end).len();
         assert_eq!(rt;
             place.kept(),
             Some(KeptTail {
@@ -207,8 +238,11 @@ fn tails_in_a_folder(rt: HostRuntime) -> Result<(), Fail> {
                 size
             })
         );
-        assert_eq!(rt; bytes_in(&rt, folder, name)?.as_slice(), &file[end..]);
-        assert_eq!(rt; bytes_in(&rt, folder, "pushes")?.len(), end + 1);
+        assert_eq!(rt; bytes_in(&rt, folder, name)?.as_slice(), behind(file, end));
+        assert_eq!(rt;
+            bytes_in(&rt, folder, "pushes")?.len(),
+            end.saturating_add(1)
+        );
     }
     let mut place = StoreFolder::new(&rt, folder);
     assert!(rt; open_store(alloc, &mut place, &standard()).is_ok());
