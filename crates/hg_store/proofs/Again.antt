@@ -3,6 +3,8 @@ use Rattle.std.proofs.Common.{◌≡◌, ◌⊎◌, inl, inr, ⊎_elim, ℕ, zer
 use Rattle.std.proofs.Common.{refl, sym, ap, ◌∙◌, subst, arith, append_assoc, length-append, take-append-drop, length-drop}
 use Rattle.std.proofs.lemmas.List.{take_at, take_all, drop_at, take_more, append-nil}
 use Rattle.std.proofs.lemmas.Bool.{cases_lt}
+use Rattle.std.specs.Prelude.{Result, Ok, Err, MatchResult, OnOk}
+use Rattle.std.specs.List.{AllByRecursion}
 use Rattle.hg_store.specs.Calls.{Continue, Event, FileState, LeftSince, MayLeave, after_sync, began, gave_up, state_of, synced, wrote}
 use Rattle.hg_store.specs.Device.{Only, Overwrites, Torn}
 use Rattle.hg_store.specs.Entries.{Entry}
@@ -224,6 +226,33 @@ module _ (head : Head) (records : List Entry) (before now : List Event) (left at
             ];
           }
 
+      -- the write failed
+      pub stopped : (later : List Event) → (later ≡ wrote next (255 ∷ []) false ∷ now) ⊎ (later ≡ gave_up ∷ now)
+          → IsStill before later
+      stopped later (inl is) = subst (IsStill before) (sym is) (wrote_again before now so_far.still next gate false)
+      stopped later (inr is) = subst (IsStill before) (sym is) (gave_up_again before now so_far.still)
+
+-- a record has numbers that can be written
+pub record_at : (version : Version) (rs : List Entry) (k : ℕ) (r : Entry) → AllByRecursion (IsRecord version) rs
+    → k < length rs → r ≡ get_or rs k r → IsRecord version r
+record_at version [] k r each less is = absurd (omega (arith, less))
+record_at version (x ∷ rs) zero r each less is = subst (IsRecord version) (sym is) each.0
+record_at version (x ∷ rs) (suc k) r each less is = record_at version rs k r each.1 (omega (arith, less)) is
+
+pub as_second : (version : Version) (r : Entry) → version ≡ Second → IsRecord version r
+    → (length r.bundle < 2 ^ 32) × (length r.stamp.name < 2 ^ 8)
+as_second version r second each =
+    let is : IsRecord Second r = subst (λ (v : Version). IsRecord v r) second each in (is.0, is.2)
+
+-- after a sync, whatever it answered
+pub synced_still : {T E : Type 0} (r : Result T E) (before now later : List Event) → IsStill before now
+    → MatchResult r (λ _. later ≡ synced true ∷ now)
+    (λ _. (later ≡ synced false ∷ now) ⊎ (later ≡ gave_up ∷ now)) → IsStill before later
+synced_still (Ok done) before now later still is = subst (IsStill before) (sym is) (synced_again before now still true)
+synced_still (Err why) before now later still (inl is) =
+    subst (IsStill before) (sym is) (synced_again before now still false)
+synced_still (Err why) before now later still (inr is) = subst (IsStill before) (sym is) (gave_up_again before now still)
+
 -- all of them, and the file was synced
 pub all_again : (head : Head) (records : List Entry) (before now done : List Event) (left at least : ℕ)
     → Progress head records before now left at → left ≤ least → least ≡ length records - 64
@@ -233,6 +262,15 @@ all_again head records before now done left at least so_far few is calls = recor
   calls = calls ∙ ap (λ (l : List Event). synced true ∷ l) so_far.calls;
   each = λ k less near. so_far.each k (omega (arith, few, is, near)) less;
 }
+
+-- the same, where the sync answered Ok
+pub synced_all : {T E : Type 0} (r : Result T E) (head : Head) (records : List Entry) (before now later : List Event)
+    (left at least : ℕ) → Progress head records before now left at → left ≤ least → least ≡ length records - 64
+    → MatchResult r (λ _. later ≡ synced true ∷ now)
+    (λ _. (later ≡ synced false ∷ now) ⊎ (later ≡ gave_up ∷ now)) → OnOk r (AreOpenedAgain head records before later)
+synced_all (Ok done) head records before now later left at least so_far few is calls =
+    all_again head records before now later left at least so_far few is calls
+synced_all (Err why) head records before now later left at least so_far few is calls = tt
 
 -- a file that more calls left as it was
 module _ (at_first mid now : List Event) (still : IsStill mid now) (more : Continue at_first mid) where

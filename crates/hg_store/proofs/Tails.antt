@@ -11,6 +11,9 @@ use Rattle.hg_store.specs.Tails.{HidesRecords, IsFull, IsHidingStore, IsKept, Is
 use Rattle.hg_store.specs.declared.head.Head.{Head}
 use Rattle.hg_store.specs.declared.head.Version.{Version}
 use Rattle.hg_store.specs.declared.head.Version.TheVariants.{First, Second}
+use Rattle.std.specs.Prelude.{Result, Ok, Err}
+use Rattle.hg_store.specs.declared.record.NoRecord.{NoRecord}
+use Rattle.hg_store.specs.declared.record.NoRecord.TheVariants.{Damaged, End, Torn}
 use Rattle.hg_store.specs.declared.tail.TailFault.{TailFault}
 use Rattle.hg_store.specs.declared.tail.TailFault.TheVariants.{Hidden, Unkept, NoMemory}
 use Rattle.hg_store.proofs.Frames.{frame_is, length-frame}
@@ -56,6 +59,39 @@ fits Second digest r is =
     let size : length r.bundle < 2 ^ 32 = is.0 in
     let named : length r.stamp.name < 2 ^ 8 = is.2 in
     omega (arith, length-frame Second digest r, size, named)
+
+-- how many bytes stand after the first, with one record more
+pub grown_first : (count beyond size : ℕ) → count ≡ 0 → beyond ≡ beyond_with count beyond size
+grown_first zero beyond size none = refl
+grown_first (suc count) beyond size none = absurd (omega (arith, none))
+
+pub grown_later : (count beyond size : ℕ) → count ≢ 0 → beyond + size ≡ beyond_with count beyond size
+grown_later zero beyond size some = absurd (some refl)
+grown_later (suc count) beyond size some = refl
+
+-- a batch that is not full has few records, with few bytes after its first
+pub not_full : (count beyond : ℕ) → (IsFull count beyond → ⊥) → (count < 64) × (beyond ≤ 2 ^ 24)
+not_full count beyond room = (few, small)
+  where
+    few : count < 64
+    few = elim (cases_lt count 64) [ inl less ↦ less | inr more ↦ absurd (room (inl more)) ]
+
+    small : beyond ≤ 2 ^ 24
+    small = elim (cases_lt (2 ^ 24) beyond) [ inl less ↦ absurd (room (inr less)) | inr more ↦ more ]
+
+-- it stays small
+grown_small : (count beyond size : ℕ) → beyond ≤ 2 ^ 24 → size < 2 ^ 33 → beyond_with count beyond size < 2 ^ 40
+grown_small zero beyond size few less = omega (arith, few)
+grown_small (suc count) beyond size few less = omega (arith, few, less)
+
+-- where no record stands, for whatever reason
+pub none_of : {T : Type 0} (r : Result T NoRecord) (version : Version) (digest bytes : List ℕ) → (r ≡ Err End → ⊥)
+    → (r ≡ Err Torn → IsTorn version bytes) → (r ≡ Err Damaged → IsDamaged version digest bytes)
+    → ((found : T) → r ≡ Ok found → ⊥) → (IsEnd bytes ⊎ IsTorn version bytes) ⊎ IsDamaged version digest bytes
+none_of (Ok found) version digest bytes at_end torn damaged none = absurd (none found refl)
+none_of (Err End) version digest bytes at_end torn damaged none = absurd (at_end refl)
+none_of (Err Torn) version digest bytes at_end torn damaged none = inl (inr (torn refl))
+none_of (Err Damaged) version digest bytes at_end torn damaged none = inr (damaged refl)
 
 module _ (version : Version) (start tail digest : List ℕ) (count beyond : ℕ) (rest : List ℕ)
     (has : Walks version start tail digest count beyond rest) where
@@ -150,24 +186,18 @@ module _ (version : Version) (start tail digest : List ℕ) (count beyond : ℕ)
                 )
               ]
 
--- how many bytes stand after the first, with one record more
-pub grown_first : (count beyond size : ℕ) → count ≡ 0 → beyond ≡ beyond_with count beyond size
-grown_first zero beyond size none = refl
-grown_first (suc count) beyond size none = absurd (omega (arith, none))
-
-pub grown_later : (count beyond size : ℕ) → count ≢ 0 → beyond + size ≡ beyond_with count beyond size
-grown_later zero beyond size some = absurd (some refl)
-grown_later (suc count) beyond size some = refl
-
--- a batch that is not full has few records, with few bytes after its first
-pub not_full : (count beyond : ℕ) → (IsFull count beyond → ⊥) → (count < 64) × (beyond ≤ 2 ^ 24)
-not_full count beyond room = (few, small)
-  where
-    few : count < 64
-    few = elim (cases_lt count 64) [ inl less ↦ less | inr more ↦ absurd (room (inl more)) ]
-
-    small : beyond ≤ 2 ^ 24
-    small = elim (cases_lt (2 ^ 24) beyond) [ inl less ↦ absurd (room (inr less)) | inr more ↦ more ]
+      -- the same by how many bytes are left
+      pub next_walk : (IsFull count beyond → ⊥) → (grown : ℕ)
+          → grown ≡ beyond_with count beyond (length rest - length after)
+          → Walks version start tail next (count + 1) grown after
+      next_walk room grown grown_is =
+          let size : ℕ = length (frame version digest found) in
+          let is_size : grown ≡ beyond_with count beyond size = grown_is ∙ ap (beyond_with count beyond) size_is in
+          let bounds = not_full count beyond room in
+          let few : count + 1 ≤ 64 = omega (arith, bounds.0) in
+          let small : grown < 2 ^ 40 =
+          omega (arith, is_size, grown_small count beyond size bounds.1 (fits version digest found is.is)) in
+          one_more room grown is_size few small
 
 -- what was kept of the one reading of a file
 pub tail_is : (file bytes : List ℕ) (head other : Head) (records others : List Entry) (tail found : List ℕ) (place : ℕ)

@@ -120,7 +120,7 @@ fn hides_records(version: Version, start: &[u8; 20], tail: &[u8]) -> bool
         if is_full(count, beyond) {
             return true;
         }
-        beyond = beyond_with(count, beyond, rest.len() - after.len());
+        beyond = beyond_with(count, beyond, rest.len().saturating_sub(after.len()));
         count += 1;
         rest = after;
     }
