@@ -1,6 +1,6 @@
 //! The gates of the last records, which are written once more before a store is served.
 
-ghost use Rattle.std.specs.Prelude.{◌≡◌, ◌<◌, ◌+◌, OnOk, length};
+ghost use Rattle.std.specs.Prelude.{◌≡◌, ◌<◌, ◌+◌, ◌^◌, OnOk, length};
 ghost use Rattle.hg_store.specs.Again.{AreOpenedAgain, IsStill};
 ghost use Rattle.hg_store.specs.Log.{IsSettledAt};
 ghost use Rattle.hg_store.specs.Records.{IsSized};
