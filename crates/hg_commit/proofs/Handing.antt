@@ -65,7 +65,7 @@ one_more_at before after at x false is never = cc
 pub off : true ≡ false → ⊥
 off e = true≢false e
 
-no_items : {X : Type 0} (xs : List X) → length xs ≡ 0 → xs ≡ []
+pub no_items : {X : Type 0} (xs : List X) → length xs ≡ 0 → xs ≡ []
 no_items [] none = refl
 no_items (x ∷ xs) none = absurd (omega (arith, none))
 

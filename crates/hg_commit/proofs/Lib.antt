@@ -2,6 +2,7 @@ mod Staying
 mod Lists
 mod Keeping
 mod Handing
+mod Batches
 mod Covering
 mod Living
 mod Counting

@@ -1,13 +1,15 @@
 //! The device under its lock, with the records that are on it and the batch that is written next.
 
-ghost use Rattle.std.specs.Prelude.{◌≡◌, ◌≢◌, ◌≤◌, ◌<◌, ◌+◌, ◌++◌, ◌∷◌, ◌↔◌, [], false, true, length, IsTrue};
-ghost use Rattle.std.specs.Prelude.{All, IfOk, IfErr, IfSome, List};
+ghost use Rattle.std.specs.Prelude.{◌≡◌, ◌≢◌, ◌≤◌, ◌<◌, ◌+◌, ◌-◌, ◌++◌, ◌∷◌, ◌↔◌, [], false, true, length, IsTrue};
+ghost use Rattle.std.specs.Prelude.{All, IfOk, IfErr, IfSome, IfNone, List};
+ghost use Rattle.std.specs.Option.{SomeIff};
 ghost use mathlib.Core.List.{IsPrefix};
 ghost use Rattle.hg_types.specs.Limits.{IsAllowed};
 ghost use Rattle.hg_store.specs.Device.{LeavesOnly};
 ghost use Rattle.hg_store.specs.Entries.{Entry};
 ghost use Rattle.hg_store.specs.Log.{IsSettled};
 ghost use Rattle.hg_commit.specs.Clients.{Covers};
+ghost use Rattle.hg_commit.specs.Handing.{Fits, IsFull, record_bytes};
 ghost use Rattle.hg_commit.specs.Lives.{IsFront, IsKeptSince, Lives};
 ghost use Rattle.hg_commit.specs.Records.{IsRecordOf, KeepsRecords};
 
@@ -24,17 +26,24 @@ use std::sync::Wait;
 /// How many records a batch has at most.
 pub const BATCH: usize = 64;
 
+/// How many bytes the records of a batch have together at most, where there is more than one.
+pub const BATCH_BYTES: usize = 16 << 20;
+
 /// How many records there are at most.
-const MOST: usize = 1 << 62;
+pub const MOST: usize = 1 << 62;
+
+/// How many bytes a record has in a file besides its name and its bundle: its gate, its numbers and its digest.
+const FRAME: usize = 34;
 
 /// The device, how many records are on it after those that it was opened with, and a batch that is not
-/// written yet. The records and the batch are, in order, the bundles of the first pushes of the journal that
-/// the witness has seen. Each promise of the tally is kept, and unless it is broken the keeper has one of all these
+/// written yet, with how many bytes more are left to it. The records and the batch are, in order, the bundles of the
+/// first pushes of the journal that the witness has seen. Each promise of the tally is kept, and unless it is broken the keeper has one of all these
 /// records, at this moment. After a write or a sync that failed the device is not called again.
 pub struct Disk<J: Storing<A>, D: Device, A: Allocator = Global> {
     log: Log<D>,
     count: usize,
     batch: Vec<Sealed<A>, A>,
+    left: usize,
     is_broken: bool,
     witness: Client<J, A>,
     keeper: Keeper<J, A>,
@@ -42,9 +51,11 @@ pub struct Disk<J: Storing<A>, D: Device, A: Allocator = Global> {
 
 impl<J: Storing<A>, D: Device, A: Allocator> Model for Disk<J, D, A> {
     ghost use Rattle.std.specs.Prelude.{◌≡◌, ◌-◌, false, All, Contains, vec_len, vec_capacity};
+    ghost use Rattle.hg_commit.specs.Handing.{batch_bytes};
     ghost use Rattle.hg_commit.specs.Lives.{IsKeptSince, Lives};
     ghost use Rattle.hg_commit.specs.Locks.{DiskView};
     ghost use Rattle.hg_commit.specs.Records.{AreRecordsFrom, KeepsRecords};
+    ghost use Rattle.hg_commit.specs.declared.disk.TheConstants.{BATCH_BYTES};
     ghost use Rattle.hg_types.specs.Limits.{IsAllowed};
 
     ghost Value = { DiskView A D };
@@ -66,7 +77,8 @@ impl<J: Storing<A>, D: Device, A: Allocator> Model for Disk<J, D, A> {
         d.log.device
         × All (IsKeptSince D.moment D.left_since J.head J.stored J.first d.witness d.count d.log.device) d.keeper
         × (d.is_broken ≡ false →
-        Contains d.keeper (record { count = d.count; moment = D.moment d.log.device })) };
+        Contains d.keeper (record { count = d.count; moment = D.moment d.log.device }))
+        × (d.left ≡ BATCH_BYTES - batch_bytes d.batch.items) };
 }
 
 impl<J: Storing<A>, D: Device, A: Allocator + Copy> Disk<J, D, A> {
@@ -91,6 +103,7 @@ impl<J: Storing<A>, D: Device, A: Allocator + Copy> Disk<J, D, A> {
                 log,
                 count: 0,
                 batch,
+                left: BATCH_BYTES,
                 is_broken: false,
                 witness,
                 keeper,
@@ -117,11 +130,24 @@ impl<J: Storing<A>, D: Device, A: Allocator + Copy> Disk<J, D, A> {
     pub fn next_place(&self) -> Option<usize>
         ensures place { IfSome result (λ place. place ≡ self.now.count + length self.now.batch) }
         ensures room { IfSome result (λ _. 0 < self.now.room) }
+        ensures few { IfSome result (λ _. length self.now.batch < BATCH) }
+        ensures full { IfNone result (IsFull MOST BATCH self.now) }
     {
-        if self.count >= MOST || self.batch.len() >= self.batch.capacity() {
+        let len = self.batch.len();
+        if self.count >= MOST || len >= BATCH || len >= self.batch.capacity() {
             return None;
         }
-        Some(self.count + self.batch.len())
+        Some(self.count + len)
+    }
+
+    /// Whether a record may come into the batch: it has none yet, or all of them together stay within the bytes of one.
+    pub fn fits(&self, entry: &Sealed<A>) -> bool
+        ensures { IsTrue result ↔ Fits BATCH_BYTES self.now.batch entry.now }
+    {
+        if self.batch.is_empty() {
+            return true;
+        }
+        left_beside(self.left, entry).is_some()
     }
 
     /// The witness sees all that another client has seen.
@@ -170,6 +196,7 @@ impl<J: Storing<A>, D: Device, A: Allocator + Copy> Disk<J, D, A> {
         ensures same { (self.new.history ≡ self.old.history) × (self.new.count ≡ self.old.count)
             × (self.new.device ≡ self.old.device) × (self.new.is_broken ≡ self.old.is_broken) }
     {
+        self.left = left_beside(self.left, &entry).unwrap_or(0);
         self.batch.push_reserved(entry);
     }
 
@@ -207,6 +234,7 @@ impl<J: Storing<A>, D: Device, A: Allocator + Copy> Disk<J, D, A> {
         }
         self.count += self.batch.len();
         self.batch.clear();
+        self.left = BATCH_BYTES;
         tally.raise(&mut self.keeper, self.count, &self.log);
     }
 
@@ -264,10 +292,20 @@ impl<J: Storing<A>, D: Device, A: Allocator + Copy> Disk<J, D, A> {
             log,
             count,
             batch: _,
+            left: _,
             is_broken,
             witness,
             keeper,
         } = self;
         (log, count, is_broken, witness, keeper)
     }
+}
+
+/// What is left of so many bytes beside a record, as it stands in a file. `None` where it has more.
+fn left_beside<A: Allocator>(left: usize, entry: &Sealed<A>) -> Option<usize>
+    ensures { SomeIff result (record_bytes entry.now ≤ left) (left - record_bytes entry.now) }
+{
+    left.checked_sub(FRAME)?
+        .checked_sub(entry.stamp().name().len())?
+        .checked_sub(entry.bundle().len())
 }

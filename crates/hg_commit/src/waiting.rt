@@ -1,13 +1,13 @@
 //! The records that wait, under their lock.
 
-ghost use Rattle.std.specs.Prelude.{◌≡◌, ◌≤◌, ◌<◌, ◌+◌, ◌-◌, ◌^◌, ◌++◌, ◌∷◌, [], false, true, length, IfOk, IfSome, IfNone};
+ghost use Rattle.std.specs.Prelude.{◌≡◌, ◌≢◌, ◌≤◌, ◌<◌, ◌+◌, ◌-◌, ◌^◌, ◌++◌, ◌∷◌, [], false, true, length, IfOk, IfSome, IfNone};
 ghost use Rattle.hg_commit.specs.Clients.{Covers};
 ghost use Rattle.hg_commit.specs.Locks.{IsHandedIn};
 ghost use mathlib.Core.List.{IsPrefix};
-ghost use Rattle.hg_commit.specs.Handing.{MovesTo};
+ghost use Rattle.hg_commit.specs.Handing.{Fits, IfLast, IsWithin, MovesTo, Stays, TakesNoMore};
 ghost use Rattle.hg_commit.specs.Records.{IsRecordOf, done_in};
 
-use crate::disk::{BATCH, Disk};
+use crate::disk::{BATCH, BATCH_BYTES, Disk, MOST};
 use crate::doors::BatchDoor;
 use crate::handed::Handed;
 use crate::laws::records_stay;
@@ -231,21 +231,20 @@ impl<J: Storing<A>, D: Device, A: Allocator + Copy> Waiting<J, D, A> {
         self.begun = self.begun.saturating_add(1);
     }
 
-    /// Moves the records that come next into the batch of a thread that writes. Those who waited for the next batch wait
-    /// for this one.
+    /// Moves the records that come next into the batch of a thread that writes, as many as may. Those who waited for the
+    /// next batch wait for this one. A record that does not come into it waits for the next one, as the first of that.
     pub fn load<R: Wait>(&mut self, rt: &R, server: &Server<J, A>, disk: &mut Disk<J, D, A>)
         ensures moved { MovesTo self.old.records disk.old.batch self.new.records disk.new.batch }
+        ensures within { IsWithin BATCH BATCH_BYTES disk.old.batch disk.new.batch }
+        ensures most { TakesNoMore MOST BATCH BATCH_BYTES disk.new self.new.records }
     {
         records_stay::<A>();
         self.is_writing = true;
         self.coming = self.count;
         self.door = self.door.other();
         disk.hear(rt, server, &mut self.witness);
-        'loading: for _ in 0..BATCH {
-            let Some(place) = disk.next_place() else {
-                return;
-            };
-            match self.pop_at(place) {
+        'loading: while let Some(place) = disk.next_place() {
+            match self.pop_at(place, disk) {
                 Some(record) => {
                     disk.take_in(record.entry);
                     self.coming = place.saturating_add(1);
@@ -255,16 +254,37 @@ impl<J: Storing<A>, D: Device, A: Allocator + Copy> Waiting<J, D, A> {
         }
     }
 
-    /// The last record of those that wait, if it is the one at this place.
-    fn pop_at(&mut self, place: usize) -> Option<Record<A>>
+    /// The last record of those that wait, if it is the one at this place and may come into the batch.
+    fn pop_at(&mut self, place: usize, disk: &Disk<J, D, A>) -> Option<Record<A>>
         ensures same { self.new.history ≡ self.old.history }
         ensures found { IfSome result (λ found. IsRecordOf J.first self.old.history place found.entry) }
+        ensures fits { IfSome result (λ found. Fits BATCH_BYTES disk.now.batch found.entry) }
         ensures last { IfSome result (λ found. self.old.records ≡ self.new.records ++ found ∷ []) }
         ensures none { IfNone result (self.new.records ≡ self.old.records) }
+        ensures stays { IfNone result (IfLast (Stays BATCH_BYTES place disk.now.batch) self.old.records) }
+    {
+        if self.comes_at(place, disk) {
+            self.records.pop()
+        } else {
+            None
+        }
+    }
+
+    /// Whether the last record of those that wait is the one at this place and may come into the batch.
+    fn comes_at(&self, place: usize, disk: &Disk<J, D, A>) -> bool
+        ensures comes { result ≡ true →
+            IfLast (λ next. (next.place ≡ place) × Fits BATCH_BYTES disk.now.batch next.entry) self.now.records }
+        ensures stays { result ≡ false →
+            IfLast (Stays BATCH_BYTES place disk.now.batch) self.now.records }
     {
         match self.records.last() {
-            Some(record) if record.place == place => self.records.pop(),
-            _ => None,
+            Some(record) => {
+                if record.place != place {
+                    return false;
+                }
+                disk.fits(&record.entry)
+            }
+            None => false,
         }
     }
 

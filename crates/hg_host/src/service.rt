@@ -145,8 +145,8 @@ where
 
     /// Ends all, with these clients of its connections and those that no connection has. **Whatever an end might have
     /// left since one of these was answered, and what one leaves from now on, has the records of all that the answer
-    /// rests on. All that was promised and all requests that came have one order**, in which each answer to a request
-    /// that reads has what was promised before it.
+    /// rests on. All that was promised and all requests that came have one order**, the one in which `serve` has for
+    /// each answer to a request that reads what was promised before it.
     pub fn close(self, rt: &R, alloc: Global, clients: Vec<KeptClient<J>>) -> ClosedKept<D>
         ensures serial { serial_run J.first (history result.closed.taker)
             ≡ record { repo = result.closed.repo; journal = result.closed.journal.items } }

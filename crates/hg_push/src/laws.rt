@@ -299,9 +299,10 @@ pub fn turns_are_steps_of_the_journal<A: Allocator>()
         done ≡ other }
 {}
 
-/// What a call of a book may answer: an opening gives the next number, memory is reported to be refused only
-/// where it can be, a reply is the outcome of its push, and no call has an answer of another kind. Of a list
-/// of calls there are as many answers, and each is that of its call, after those before it.
+/// What a call of a book may answer: an opening that answers Ok gives the next number, memory is reported to
+/// be refused only for an item of which the history allows it, a reply that is there is the outcome of its
+/// push, and no step is answered by a reply. Of a list of calls there are as many answers, and each is that
+/// of its call, after those before it.
 pub fn calls_have_their_answers<A: Allocator>()
     ensures opened { (first : RepositoryOf A) (c : Course A) (p : ℕ) →
         IsAnswer run_push first c Open (Opened (Ok p)) → p ≡ c.next }

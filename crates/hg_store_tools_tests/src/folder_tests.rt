@@ -60,7 +60,7 @@ fn text_of(rt: &HostRuntime, fault: &ArchiveFault<'_>) -> Result<String, Fail> {
 // Result: no store, status 3, and the folder is empty.
 #[test]
 fn no_store(rt: HostRuntime) -> Result<(), Fail> {
-    let folder = "hg_archive_no_store";
+    let folder = "hg_tools_no_store";
     let alloc = rt.alloc();
     let state = RandomState::new(&rt)?;
     let _ = fs::remove_dir_all(&rt, folder);
@@ -71,7 +71,7 @@ fn no_store(rt: HostRuntime) -> Result<(), Fail> {
             assert_eq!(rt; fault.status(), 3);
             assert_eq!(rt;
                 text_of(&rt, &fault)?.as_str(),
-                "hg_archive_no_store/pushes: no store"
+                "hg_tools_no_store/pushes: no store"
             );
         }
     }
@@ -83,14 +83,14 @@ fn no_store(rt: HostRuntime) -> Result<(), Fail> {
             folder,
             0,
             BundleForm::Canonical,
-            "hg_archive_no_log"
+            "hg_tools_no_log"
         )
         .is_err()
     );
     assert!(rt; cut_store(&rt, alloc, folder, 0).is_err());
     assert!(rt; text.is_empty());
     assert_eq!(rt; fs::exists(&rt, folder)?, false);
-    assert_eq!(rt; fs::exists(&rt, "hg_archive_no_log")?, false);
+    assert_eq!(rt; fs::exists(&rt, "hg_tools_no_log")?, false);
     Ok(())
 }
 
@@ -98,7 +98,7 @@ fn no_store(rt: HostRuntime) -> Result<(), Fail> {
 // M1, E, M2, torn after them. Result: the report and the log, and torn after three; held.
 #[test]
 fn beside_a_server(rt: HostRuntime) -> Result<(), Fail> {
-    let folder = "hg_archive_beside";
+    let folder = "hg_tools_beside";
     let alloc = rt.alloc();
     let state = RandomState::new(&rt)?;
     fill(&rt, folder)?;
@@ -116,9 +116,9 @@ fn beside_a_server(rt: HostRuntime) -> Result<(), Fail> {
         fault: Fault::Held,
     };
     assert!(rt; cut_store(&rt, alloc, folder, 1) == Err(held));
-    assert_eq!(rt; fs::exists(&rt, "hg_archive_beside/pushes.cut-1")?, false);
+    assert_eq!(rt; fs::exists(&rt, "hg_tools_beside/pushes.cut-1")?, false);
     drop(opened);
-    let name = "hg_archive_beside/pushes";
+    let name = "hg_tools_beside/pushes";
     let file = fs::read(&rt, name)?;
     let mut torn = fs::read(&rt, name)?;
     let last = torn.len().saturating_sub(1);
@@ -131,12 +131,12 @@ fn beside_a_server(rt: HostRuntime) -> Result<(), Fail> {
     let told = format!(in alloc; "{note}")?;
     assert_eq!(rt;
         told.as_str(),
-        "hg_archive_beside/pushes: torn: 3 pushes are whole; \
-         `hg_pushd cut --store hg_archive_beside --at 3` ends it there"
+        "hg_tools_beside/pushes: torn: 3 pushes are whole; \
+         `hg_pushd cut --store hg_tools_beside --at 3` ends it there"
     );
     assert!(rt; cut_store(&rt, alloc, folder, 3) == Ok(()));
     assert!(rt; fs::read(&rt, name)?.as_slice() == file.as_slice());
-    assert_eq!(rt; fs::read(&rt, "hg_archive_beside/pushes.cut-3")?.len(), 0);
+    assert_eq!(rt; fs::read(&rt, "hg_tools_beside/pushes.cut-3")?.len(), 0);
     fs::remove_dir_all(&rt, folder)?;
     Ok(())
 }
@@ -145,25 +145,25 @@ fn beside_a_server(rt: HostRuntime) -> Result<(), Fail> {
 // M1, E, M2, from place 1. Result: the files 1 and 2; there is the file 1 already, and 0 is made.
 #[test]
 fn a_log_in_a_folder(rt: HostRuntime) -> Result<(), Fail> {
-    let folder = "hg_archive_logged";
-    let to = "hg_archive_logged/log";
+    let folder = "hg_tools_logged";
+    let to = "hg_tools_logged/log";
     let alloc = rt.alloc();
     fill(&rt, folder)?;
     assert!(rt; file_log(&rt, alloc, folder, 1, BundleForm::Canonical, to) == Ok(StoreEnd::Whole));
-    assert_eq!(rt; fs::exists(&rt, "hg_archive_logged/log/0000000000")?, false);
-    assert!(rt; fs::read(&rt, "hg_archive_logged/log/0000000001")?.as_slice() == EMPTY.as_slice());
-    assert!(rt; fs::read(&rt, "hg_archive_logged/log/0000000002")?.as_slice() == TWO.as_slice());
+    assert_eq!(rt; fs::exists(&rt, "hg_tools_logged/log/0000000000")?, false);
+    assert!(rt; fs::read(&rt, "hg_tools_logged/log/0000000001")?.as_slice() == EMPTY.as_slice());
+    assert!(rt; fs::read(&rt, "hg_tools_logged/log/0000000002")?.as_slice() == TWO.as_slice());
     match file_log(&rt, alloc, folder, 0, BundleForm::Stored, to) {
         Ok(_) => assert!(rt; false, "a file that is there"),
         Err(fault) => {
             assert_eq!(rt; fault.status(), 3);
             assert_eq!(rt;
                 text_of(&rt, &fault)?.as_str(),
-                "hg_archive_logged/log/0000000001: there is a file already"
+                "hg_tools_logged/log/0000000001: there is a file already"
             );
         }
     }
-    assert!(rt; fs::read(&rt, "hg_archive_logged/log/0000000000")?.as_slice() == ONE.as_slice());
+    assert!(rt; fs::read(&rt, "hg_tools_logged/log/0000000000")?.as_slice() == ONE.as_slice());
     fs::remove_dir_all(&rt, folder)?;
     Ok(())
 }
@@ -173,8 +173,8 @@ fn a_log_in_a_folder(rt: HostRuntime) -> Result<(), Fail> {
 // and M2 are kept; no such place; of the same store again there is a file already, and it is as it was.
 #[test]
 fn a_cut_in_a_folder(rt: HostRuntime) -> Result<(), Fail> {
-    let folder = "hg_archive_cut";
-    let name = "hg_archive_cut/pushes";
+    let folder = "hg_tools_cut";
+    let name = "hg_tools_cut/pushes";
     let alloc = rt.alloc();
     fill(&rt, folder)?;
     let file = fs::read(&rt, name)?;
@@ -188,10 +188,10 @@ fn a_cut_in_a_folder(rt: HostRuntime) -> Result<(), Fail> {
     let left = fs::read(&rt, name)?;
     let wanted = shut_store(alloc, false, &[&ONE])?;
     assert!(rt; left.as_slice().get(54..).is_some() && left.len() == wanted.len());
-    let kept = fs::read(&rt, "hg_archive_cut/pushes.cut-1")?;
+    let kept = fs::read(&rt, "hg_tools_cut/pushes.cut-1")?;
     assert!(rt; kept.len() == 80 && kept.as_slice().get(12..) == Some(TWO.as_slice()));
-    assert_eq!(rt; fs::exists(&rt, "hg_archive_cut/pushes.new")?, false);
-    assert_eq!(rt; fs::exists(&rt, "hg_archive_cut/pushes.cut-1.new")?, false);
+    assert_eq!(rt; fs::exists(&rt, "hg_tools_cut/pushes.new")?, false);
+    assert_eq!(rt; fs::exists(&rt, "hg_tools_cut/pushes.cut-1.new")?, false);
     assert!(rt; cut_store(&rt, alloc, folder, 1).is_err());
     fs::write(&rt, name, file.as_slice())?;
     let exists = ArchiveFault {
@@ -200,7 +200,7 @@ fn a_cut_in_a_folder(rt: HostRuntime) -> Result<(), Fail> {
     };
     assert!(rt; cut_store(&rt, alloc, folder, 1) == Err(exists));
     assert!(rt; fs::read(&rt, name)?.as_slice() == file.as_slice());
-    assert!(rt; fs::read(&rt, "hg_archive_cut/pushes.cut-1")?.len() == 80);
+    assert!(rt; fs::read(&rt, "hg_tools_cut/pushes.cut-1")?.len() == 80);
     let opened = open_store(alloc, &mut StoreFolder::new(&rt, folder), &setup(false))?;
     assert_eq!(rt; opened.records.len(), 3);
     drop(opened);
@@ -212,8 +212,8 @@ fn a_cut_in_a_folder(rt: HostRuntime) -> Result<(), Fail> {
 // M1, E, M2. Result: refused as of version 1; three records in version 2, and the old file; of version 2 already.
 #[test]
 fn an_upgrade_in_a_folder(rt: HostRuntime) -> Result<(), Fail> {
-    let folder = "hg_archive_upgraded";
-    let name = "hg_archive_upgraded/pushes";
+    let folder = "hg_tools_upgraded";
+    let name = "hg_tools_upgraded/pushes";
     let alloc = rt.alloc();
     fill(&rt, folder)?;
     let old = store_with(alloc, &old_head(false), &[&ONE, &EMPTY, &TWO])?;
@@ -223,7 +223,7 @@ fn an_upgrade_in_a_folder(rt: HostRuntime) -> Result<(), Fail> {
         Err(fault) => assert_eq!(rt; fault, StoreFault::Recover(RecoverFault::OldVersion)),
     }
     assert!(rt; upgrade_store(&rt, alloc, folder) == Ok(()));
-    assert!(rt; fs::read(&rt, "hg_archive_upgraded/pushes.1")?.as_slice() == old.as_slice());
+    assert!(rt; fs::read(&rt, "hg_tools_upgraded/pushes.1")?.as_slice() == old.as_slice());
     let opened = open_store(alloc, &mut StoreFolder::new(&rt, folder), &setup(false))?;
     assert_eq!(rt; opened.records.len(), 3);
     drop(opened);

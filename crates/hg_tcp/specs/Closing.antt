@@ -34,11 +34,11 @@ end_status false false Whole = 0
 
 -- A service of a repository, on these terms, was closed. The door was asked for as many connections as the
 -- terms have, or up to one that failed. It heard then whether memory was refused for one, and of these clients.
--- Each of them was served by the server on these terms. The queue has the capacity of the terms, and the history
--- of what its Taker took is one that could have happened, and goes on from what each client has seen. That history
--- gives this repository and this journal, run one by one from the first repository. So much of their text was written. The status says whether a
--- device failed, or memory was refused: for a connection, as the door heard or where one has no client, or for the
--- text.
+-- Each of them was served from this first repository, on these terms. The queue has the capacity of the terms, and
+-- the history of what its Taker took is one that could have happened, and goes on from what each client has seen.
+-- That history gives this repository and this journal, run one by one from the first repository. So much of their
+-- text was written. The status says whether a device failed, or memory was refused: for a connection, as the door
+-- heard or where one has no client, or for the text.
 pub record Closes {A : Type 0} (first : Repository A) (terms : ServeTerms)
     (heard : List (List (Taken A)) → Type 0) (door shut : Option (List DoorUse)) (before after : Output)
     (status : ℕ) : Type 0 where

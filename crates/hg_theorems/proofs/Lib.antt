@@ -4,6 +4,7 @@ mod CanonicalRun
 mod CanonicalBundle
 mod Following
 mod Known
+mod Obsolete
 mod Reached
 mod Settings
 mod Fronts

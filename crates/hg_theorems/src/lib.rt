@@ -16,5 +16,5 @@ mod values;
 
 pub use values::{
     advances_lower_ancestors, bytes_are_below_256, ids_are_known_by_their_rows,
-    saved_bookmarks_come_back, saved_phases_come_back,
+    obsolete_ids_are_those_of_obsolete_rows, saved_bookmarks_come_back, saved_phases_come_back,
 };

@@ -7,12 +7,16 @@ ghost use Rattle.hg_types.specs.declared.phase.Phase.{Phase};
 ghost use Rattle.hg_log.specs.Ancestors.{IsAncestor};
 ghost use Rattle.hg_log.specs.Answer.{is_known as is_known_to_log};
 ghost use Rattle.hg_log.specs.Changeset.{Changeset};
+ghost use Rattle.hg_log.specs.HeadCount.{id_at};
 ghost use Rattle.hg_log.specs.Parents.{parents_of, rev_of};
 ghost use Rattle.hg_log.specs.Rows.{AreLawful as AreLawfulRows, HasNode, IsKnown};
 ghost use Rattle.hg_phases.specs.Order.{lesser, phase_at};
 ghost use Rattle.hg_phases.specs.Phases.{advanced, AreFor};
 ghost use Rattle.hg_keys.specs.Bookmarks.{Pairs};
 ghost use Rattle.hg_keys.specs.Known.{AreOnKnown, is_known as is_known_to_keys};
+ghost use Rattle.hg_parts.specs.Repository.{Repository};
+ghost use Rattle.hg_repo.specs.Reading.{is_obsolete};
+ghost use Rattle.hg_wireproto.specs.Hidden.{IsObsolete};
 
 use hg_keys::Bookmarks;
 use hg_log::Changelog;
@@ -52,6 +56,14 @@ pub fn advances_lower_ancestors()
 /// and each list of such numbers is one.
 pub fn bytes_are_below_256()
     ensures { (bytes : List ℕ) → IsBytes bytes ↔ All (λ byte. byte < 256) bytes }
+{}
+
+/// A changeset is obsolete to who asks by its id, as the report does, just where it is obsolete to who asks by the
+/// number of its row, as the heads of branches do.
+pub fn obsolete_ids_are_those_of_obsolete_rows<A: Allocator>()
+    ensures { (repo : Repository A) (r : ℕ) → AreLawfulRows repo.rows → r < length repo.rows →
+        (is_obsolete repo (record { 0 = id_at repo.rows r }) ≡ true)
+            ↔ IsObsolete repo.rows repo.markers repo.phases r }
 {}
 
 /// Phases that are saved, advanced and rolled back are those of before, whether the advance was made or memory

@@ -38,9 +38,9 @@ impl<J: Naming<A>, A: Allocator + Copy> Server<J, A> {
     }
 
     /// Asks the question of the repository, under the lock, and says how many pushes were done then: all of them
-    /// are what the answer rests on. Its client has then seen the whole history up to now, which goes on from what
-    /// it had seen, and the repository was that of this history's serial run: so with all pushes that were answered
-    /// before. Nothing that is queued is taken. The lock is held for what the question costs, and for nothing else.
+    /// are what the answer rests on. Its client has then seen a history that goes on from what it had seen, and the
+    /// repository was that of this history's serial run: so with all pushes that this client was answered before.
+    /// Nothing that is queued is taken. The lock is held for what the question costs, and for nothing else.
     pub fn look_resting<R: Wait, T, Q: Question<A, T>>(
         &self,
         rt: &R,

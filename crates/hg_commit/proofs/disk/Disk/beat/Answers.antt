@@ -45,6 +45,7 @@ invariant_of-self g c =
       promises_after moment left_since head stored first d.witness d.count d.count d.log.device now (omega arith) run
           d.keeper i.4,
       λ b. absurd (let e : true ≡ false = b in cc),
+      i.6,
     )
 
 -- one that went well leaves all as it was, and promises it by now
@@ -82,6 +83,7 @@ invariant_of-self-2 g c =
           (promise_now moment left_since head stored first may_leave d.witness d.count now
           (g.met.D.Device.only_now now) front)),
       λ b. subst (λ (l : List Promise). Contains l one) (sym c.raise.ensures) (Contains-push d.keeper one),
+      i.6,
     )
 
 pub returns-then-is_err-clause-any_moment : goal.returns-then-is_err-clause-any_moment

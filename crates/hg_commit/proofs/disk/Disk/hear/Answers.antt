@@ -23,4 +23,5 @@ invariant_of-self g c =
           d.log.device (λ k entry r. c.records_stay.ensures.later first old new k entry c.meet.ensures.later r)
           d.keeper i.4,
       i.5,
+      i.6,
     )

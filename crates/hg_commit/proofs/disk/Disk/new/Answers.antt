@@ -1,7 +1,9 @@
-use Rattle.std.proofs.Common.{ℕ, List, [], ◌∷◌, sym, subst}
+use Rattle.std.proofs.Common.{◌≡◌, ◌-◌, List, [], ◌∷◌, refl, sym, subst}
 use Rattle.std.specs.Prelude.{Contains}
 use Rattle.std.proofs.lemmas.List.Elements.{All-cons, All-nil, All-same, Contains-push}
+use Rattle.hg_commit.specs.Handing.{batch_bytes}
 use Rattle.hg_commit.specs.Records.{AreRecordsFrom}
+use Rattle.hg_commit.specs.declared.disk.TheConstants.{BATCH_BYTES}
 use Rattle.hg_commit.proofs.Keeping.{nothing}
 use Rattle.hg_commit.specs.Lives.{IsKeptSince}
 use Rattle.hg_commit.specs.Promises.{Promise}
@@ -35,4 +37,5 @@ invariant_of-result g c =
           (kept_front seen may_leave head stored first c.records_are_read_back.ensures c.args.witness 0 log keeps))
           (All-nil Kept)),
       λ b. subst (λ (l : List Promise). Contains l one) (sym c.requires.nothing) (Contains-push [] one),
+      subst (λ (l : List Entry). BATCH_BYTES ≡ BATCH_BYTES - batch_bytes l) (sym c.in-Ok.ensures.items) refl,
     )

@@ -1,7 +1,10 @@
-use Rattle.std.proofs.Common.{◌+◌, ℕ, List, sym, ap, subst}
+use Rattle.std.proofs.Common.{◌≡◌, ◌+◌, ◌-◌, List, sym, ap, subst}
 use Rattle.std.proofs.Common.{arith, length}
+use Rattle.hg_commit.specs.Handing.{batch_bytes}
 use Rattle.hg_commit.specs.Locks.{DiskView}
 use Rattle.hg_commit.specs.Records.{AreRecordsFrom, IsRecordOf}
+use Rattle.hg_commit.specs.declared.disk.TheConstants.{BATCH_BYTES}
+use Rattle.hg_commit.proofs.Batches.{left_on}
 use Rattle.hg_commit.proofs.Lists.{one_more}
 use Rattle.hg_commit.proofs.disk.Disk.take_in.Goals as goal
 use Rattle.hg_store.specs.Entries.{Entry}
@@ -20,6 +23,9 @@ invariant_of-self g c =
       i.3,
       i.4,
       i.5,
+      subst (λ (l : List Entry). c.unwrap_or-self-inside.result ≡ BATCH_BYTES - batch_bytes l) (sym c.push_reserved.ensures.items)
+          (left_on BATCH_BYTES d.left c.unwrap_or-self-inside.result d.batch.items c.args.entry c.left_beside.result i.6
+          c.left_beside.ensures c.unwrap_or-self-inside.ensures),
     )
 
 pub push_reserved-requires : goal.push_reserved-requires

@@ -1,4 +1,4 @@
-use Rattle.std.proofs.Common.{◌≡◌, ◌<◌, ◌≤◌, ◌+◌, ◌++◌, ◌∷◌, [], false, true, ℕ, List, ap, append-nil, sym, subst, vec_len, ◌∙◌}
+use Rattle.std.proofs.Common.{◌≡◌, ◌<◌, ◌≤◌, ◌+◌, ◌-◌, ◌++◌, ◌∷◌, [], false, true, ℕ, List, ap, append-nil, refl, sym, subst, vec_len, ◌∙◌}
 use Rattle.std.proofs.Common.{arith, length}
 use Rattle.std.specs.List.{AllByRecursion}
 use Rattle.hg_store.specs.Entries.{Entry}
@@ -9,8 +9,10 @@ use Rattle.std.specs.Prelude.{Contains}
 use Rattle.std.proofs.lemmas.List.Elements.{All-push, All-same, All-weaker, Contains-push}
 use Rattle.hg_commit.specs.Lives.{IsFront, IsKeptSince}
 use Rattle.hg_commit.specs.Promises.{Promise}
+use Rattle.hg_commit.specs.Handing.{batch_bytes}
 use Rattle.hg_commit.specs.Locks.{DiskView}
 use Rattle.hg_commit.specs.Records.{AreRecordsFrom, KeepsRecords}
+use Rattle.hg_commit.specs.declared.disk.TheConstants.{BATCH_BYTES}
 use Rattle.hg_commit.proofs.Keeping.{keeps_more}
 use Rattle.hg_commit.proofs.Handing.{none_more, off}
 use Rattle.hg_commit.proofs.Lists.{fit, went_well}
@@ -57,6 +59,7 @@ invariant_of-self-then-is_err g c =
       promises_after moment left_since head stored first d.witness d.count d.count d.log.device
           c.append.new.self.device (omega arith) run d.keeper i.4,
       λ b. absurd (let e : true ≡ false = b in cc),
+      i.6,
     )
 
 pub returns-then-is_err-clause-any_moment : goal.returns-then-is_err-clause-any_moment
@@ -142,6 +145,7 @@ invariant_of-self-2 g c =
           (promise_now moment left_since head stored first may_leave d.witness count now
           (g.met.D.Device.only_now now) front)),
       λ b. subst (λ (l : List Promise). Contains l one) (sym c.raise.ensures) (Contains-push d.keeper one),
+      subst (λ (l : List Entry). BATCH_BYTES ≡ BATCH_BYTES - batch_bytes l) (sym c.clear.ensures.items) refl,
     )
 
 pub append-requires-clause-settled : goal.append-requires-clause-settled

@@ -1,13 +1,15 @@
-use Rattle.std.proofs.Common.{◌≡◌, ◌≤◌, ◌+◌, ◌∙◌, ℕ, List, ap, false, subst, sym}
-use Rattle.std.specs.Prelude.{vec_len, vec_capacity}
+use Rattle.std.proofs.Common.{◌≡◌, ◌≤◌, ◌+◌, ◌∙◌, ℕ, List, [], ◌∷◌, ap, arith, false, inl, inr, length, length-append, subst, sym}
+use Rattle.std.specs.Prelude.{IfNone, Option, vec_len, vec_capacity}
 use mathlib.Core.List.{IsPrefix}
 use Rattle.hg_types.specs.declared.item.Taken.{Taken}
 use Rattle.hg_store.specs.Entries.{Entry}
 use Rattle.hg_commit.specs.Clients.{Covers}
-use Rattle.hg_commit.specs.Handing.{MovesTo}
+use Rattle.hg_commit.specs.Handing.{IfLast, IsFull, MovesTo, Stays}
 use Rattle.hg_commit.specs.Locks.{AreWaiting, WaitingView}
 use Rattle.hg_commit.specs.Records.{IsRecordOf}
 use Rattle.hg_commit.specs.declared.waiting.Record.{Record}
+use Rattle.hg_commit.specs.declared.disk.TheConstants.{BATCH, BATCH_BYTES, MOST}
+use Rattle.hg_commit.proofs.Batches.{within_on}
 use Rattle.hg_commit.proofs.Handing.{moves_none, moves_on}
 use Rattle.hg_commit.proofs.waiting.Waiting.load.Goals as goal
 
@@ -31,6 +33,7 @@ loading-init g c =
       moved = subst (λ (b : List Entry). MovesTo waiting batch w.records.items b) (sym c.hear.ensures.records.1)
           (subst (λ (l : List (Record g.row.A.Denot)). MovesTo waiting batch l batch)
           (ap (λ (v : WaitingView g.row.A.Denot). v.records) (sym c.self.view_is)) (moves_none waiting batch));
+      within = inl c.hear.ensures.records.1;
     }
 
 pub take_in-requires-clause-next : goal.take_in-requires-clause-next
@@ -46,7 +49,7 @@ loading-preserved g c =
     let waiting = c.args.self.now.records in
     let batch = c.args.disk.now.batch in
     let less = c.pop_at.new.self.records in
-    let view = c.self-in-loading.view_is in
+    let view = c.self-in-Some.view_is in
     let told = c.in-Some-pop_at.record in
     let there = ap (λ (v : WaitingView g.row.A.Denot). v.history) view ∙ c.in-Some-pop_at.ensures.same in
     record {
@@ -57,4 +60,24 @@ loading-preserved g c =
           (subst (λ (b : List Entry). MovesTo waiting batch less b) (sym c.take_in.ensures.taken)
           (moves_on waiting c.loading.self.records less batch c.loading.disk.batch told c.loading.invariant.moved
           c.in-Some-pop_at.ensures.last));
+      within = within_on BATCH BATCH_BYTES batch c.loading.disk.batch c.take_in.new.self.batch told.entry
+          c.in-Some.ensures.few c.in-Some-pop_at.ensures.fits c.take_in.ensures.taken;
     }
+
+pub loading-smaller : goal.loading-smaller
+loading-smaller g c =
+    let more = ap length c.take_in.ensures.taken ∙ length-append c.loading.disk.batch (c.in-Some-pop_at.record.entry ∷ []) in
+    let few = c.in-Some.ensures.few in
+    omega (arith, more, few)
+
+pub returns-in-None-clause-most : goal.returns-in-None-clause-most
+returns-in-None-clause-most g c =
+    let batch = c.loading.disk.batch in
+    let next = c.loading.disk.count + length batch in
+    inr (subst (λ (l : List (Record g.row.A.Denot)). IfLast (Stays BATCH_BYTES next batch) l) (sym c.in-None.ensures.none)
+    (subst (λ (n : ℕ). IfLast (Stays BATCH_BYTES n batch) c.loading.self.records) c.in-Some.ensures.place
+    c.in-None.ensures.stays))
+
+pub returns-clause-most : goal.returns-clause-most
+returns-clause-most g c =
+    inl (subst (λ (r : Option ℕ). IfNone r (IsFull MOST BATCH c.loading.disk)) c.in_default.is c.next_place.ensures.full)
