@@ -88,7 +88,7 @@ fn is_blank(bytes: &[u8]) -> bool
 /// Whether a batch of so many records, with so many bytes after the first of them, takes no more.
 fn is_full(count: usize, beyond: usize) -> bool
     ensures full { result ≡ true → IsFull count beyond }
-    ensures open { result ≡ false → IsFull count beyond → ⊥ }
+    ensures room { result ≡ false → IsFull count beyond → ⊥ }
 {
     count >= BATCH_RECORDS || beyond > BATCH_BYTES
 }

@@ -146,15 +146,15 @@ returns-then-found-clause-tail g c = λ head records tail store only.
     (g.D.Device.may_leave c.read.new.self) (g.met.D.Device.only_now c.args.device.now) only c.read.ensures.time
     c.read.ensures.crash))
 
-pub returns-in-Err-keep_tail-clause-tail : goal.returns-in-Err-keep_tail-clause-tail
-returns-in-Err-keep_tail-clause-tail g c = λ head records tail store only.
+pub returns-in-Err-clause-tail : goal.returns-in-Err-clause-tail
+returns-in-Err-clause-tail g c = λ head records tail store only.
     inr (inr (no_more g.D.Device.moment g.D.Device.left_since c.args.device.now c.read.new.self
     (λ (l : List ℕ). l ≡ g.D.Device.seen c.args.device.now) (g.D.Device.may_leave c.args.device.now)
     (g.D.Device.may_leave c.read.new.self) (g.met.D.Device.only_now c.args.device.now) only c.read.ensures.time
     c.read.ensures.crash))
 
-pub returns-in-Err-keep_tail-clause-any_moment : goal.returns-in-Err-keep_tail-clause-any_moment
-returns-in-Err-keep_tail-clause-any_moment g c = λ head records stands only.
+pub returns-in-Err-clause-any_moment : goal.returns-in-Err-clause-any_moment
+returns-in-Err-clause-any_moment g c = λ head records stands only.
     no_more g.D.Device.moment g.D.Device.left_since c.args.device.now c.read.new.self
     (StandsFor head records) (g.D.Device.may_leave c.args.device.now) (g.D.Device.may_leave c.read.new.self)
     (g.met.D.Device.only_now c.args.device.now) (here_stands head records (g.D.Device.seen c.args.device.now)
@@ -167,7 +167,7 @@ returns-in_err-shut_gate-clause-tail g c = λ head records tail store only.
     (g.K.TailKeeper.done c.args.keeper.now) (g.K.TailKeeper.done c.keep_tail.new.keeper)
     (LeavesOnly g.D.Device.moment g.D.Device.left_since c.args.device.now c.shut_gate.new.device
     (λ (l : List ℕ). l ≡ g.D.Device.seen c.args.device.now)) (c.deref.ensures.value ∙ c.in_ok-bytes.ensures.bytes)
-    c.in_ok-found.ensures.store c.split_at.ensures.back c.len-2.ensures c.in_default.ensures.kept store
+    c.in_ok-found.ensures.store (c.split_at.ensures.back ∙ ap (drop c.in_ok-found.found.end) (c.deref-2.ensures.value ∙ sym c.deref.ensures.value)) c.len-2.ensures c.in_default.ensures.kept store
 
 pub returns-in_err-shut_gate-clause-done : goal.returns-in_err-shut_gate-clause-done
 returns-in_err-shut_gate-clause-done g c =
@@ -181,7 +181,7 @@ returns-clause-tail g c = λ head records tail store only.
     (g.K.TailKeeper.done c.args.keeper.now) (g.K.TailKeeper.done c.keep_tail.new.keeper)
     (LeavesOnly g.D.Device.moment g.D.Device.left_since c.args.device.now c.shut_gate.new.device
     (λ (l : List ℕ). l ≡ g.D.Device.seen c.args.device.now)) (c.deref.ensures.value ∙ c.in_ok-bytes.ensures.bytes)
-    c.in_ok-found.ensures.store c.split_at.ensures.back c.len-2.ensures c.in_default.ensures.kept store
+    c.in_ok-found.ensures.store (c.split_at.ensures.back ∙ ap (drop c.in_ok-found.found.end) (c.deref-2.ensures.value ∙ sym c.deref.ensures.value)) c.len-2.ensures c.in_default.ensures.kept store
 
 pub returns-clause-done : goal.returns-clause-done
 returns-clause-done g c =
@@ -192,19 +192,29 @@ pub returns-clause-shown : goal.returns-clause-shown
 returns-clause-shown g c =
     shown_is (g.D.Device.seen c.args.device.now) c.deref.result.now c.split_at.result.1.now
     c.in_ok-found.found.digest c.in_ok-found.found.head c.in_ok-found.found.records c.version.result
-    c.in_ok-found.found.end (c.deref.ensures.value ∙ c.in_ok-bytes.ensures.bytes) c.split_at.ensures.back
+    c.in_ok-found.found.end (c.deref.ensures.value ∙ c.in_ok-bytes.ensures.bytes) (c.split_at.ensures.back ∙ ap (drop c.in_ok-found.found.end) (c.deref-2.ensures.value ∙ sym c.deref.ensures.value))
     c.version.ensures c.in_ok-found.ensures.digest c.in_default.ensures.shown
 
-pub returns-in-Err-keep_tail-clause-tail_refused : goal.returns-in-Err-keep_tail-clause-tail_refused
-returns-in-Err-keep_tail-clause-tail_refused g c = λ fault is.
-    let same : fault ≡ c.in-Err-keep_tail.fault = cc in (
+pub returns-in-Err-clause-tail_refused : goal.returns-in-Err-clause-tail_refused
+returns-in-Err-clause-tail_refused g c = λ fault is.
+    let same : fault ≡ c.in-Err.fault = cc in (
       subst (λ (f : TailFault). IsTailRefused f (g.D.Device.seen c.args.device.now)) (sym same)
-          (refused_as c.in-Err-keep_tail.fault (g.D.Device.seen c.args.device.now) (λ whole told.
-          let why = c.in-Err-keep_tail.ensures.hidden whole (ap Err told) in
+          (refused_as c.in-Err.fault (g.D.Device.seen c.args.device.now) (λ whole told.
+          let why = c.in-Err.ensures.hidden whole (ap Err told) in
           hiding_is c.in_ok-found.found.head c.in_ok-found.found.records c.version.result
           (g.D.Device.seen c.args.device.now) c.deref.result.now c.split_at.result.1.now c.in_ok-found.found.digest
           c.in_ok-found.found.end whole c.len-2.result (c.deref.ensures.value ∙ c.in_ok-bytes.ensures.bytes)
-          c.in_ok-found.ensures.store c.split_at.ensures.back c.version.ensures c.in_ok-found.ensures.digest
+          c.in_ok-found.ensures.store (c.split_at.ensures.back ∙ ap (drop c.in_ok-found.found.end) (c.deref-2.ensures.value ∙ sym c.deref.ensures.value)) c.version.ensures c.in_ok-found.ensures.digest
           c.len-2.ensures why.0 why.1)),
       record { same = c.read.ensures.seen; outcomes = c.read.ensures.crash },
     )
+
+pub returns-in_err-shut_gate-clause-same_file : goal.returns-in_err-shut_gate-clause-same_file
+returns-in_err-shut_gate-clause-same_file g c =
+    g.met.D.Device.goes_on_more c.args.device.now c.read.new.self c.shut_gate.new.device c.read.ensures.same_file
+    c.shut_gate.ensures.same_file
+
+pub returns-clause-same_file : goal.returns-clause-same_file
+returns-clause-same_file g c =
+    g.met.D.Device.goes_on_more c.args.device.now c.read.new.self c.shut_gate.new.device c.read.ensures.same_file
+    c.shut_gate.ensures.same_file

@@ -76,7 +76,7 @@ returns-in-Err-open_again-clause-err g c =
     (c.recover.ensures.any_moment its records stands (only_first c.in-Ok.bytes before at_first read)).each)
     c.in-Err-open_again.error in
     let told = c.left_over-in-Err-open_again.ensures.0 ∙ c.from-in-Err-open_again.ensures in
-    let calls = ap g.C.Calls.history (c.left_over-in-Err-open_again.ensures.1 ∙ c.into_calls.ensures) in
+    let calls = ap g.C.Calls.history (c.left_over-in-Err-open_again.ensures.1 ∙ c.into_calls-in-Err-open_again.ensures) in
     subst (λ f. IsUnopened f c.args.setup.now before (g.C.Calls.history c.left_over-in-Err-open_again.result.calls))
     (sym told) (subst (IsUnopened (Recover (Device c.in-Err-open_again.error)) c.args.setup.now before) (sym calls) why)
 
@@ -86,7 +86,7 @@ returns-in-Err-open_again-clause-tail_err g c =
     let mid = g.C.Calls.history c.recover.new.device.calls in
     let now = g.C.Calls.history c.open_again.new.device.calls in
     let still = c.open_again.ensures.still in
-    let calls = ap g.C.Calls.history (c.left_over-in-Err-open_again.ensures.1 ∙ c.into_calls.ensures) in
+    let calls = ap g.C.Calls.history (c.left_over-in-Err-open_again.ensures.1 ∙ c.into_calls-in-Err-open_again.ensures) in
     subst (λ h. LosesNothing (g.C.Calls.history c.args.calls) h (g.K.TailKeeper.done c.recover.new.keeper)) (sym calls)
     (kept_since c.in-Ok.bytes (g.C.Calls.history c.args.calls) at_first now
     (g.K.TailKeeper.done c.recover.new.keeper) (ap g.C.Calls.history c.of-device.ensures ∙ c.in-Ok.ensures)
