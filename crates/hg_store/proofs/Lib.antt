@@ -5,6 +5,7 @@ mod NoDamage
 mod Fronts
 mod Reading
 mod Stepping
+mod Pieces
 mod Moments
 mod Crash
 mod Staying

@@ -8,7 +8,7 @@ use hg_store::{DeviceError, RecoverFault, StoreFault};
 use std::alloc::Allocator;
 use std::fs::{File, Files};
 use std::io;
-use std::io::{ErrorKind, Write};
+use std::io::{BufReader, ErrorKind, Write};
 
 /// The error of the system as a fault of a store.
 pub fn fault_of(error: io::Error) -> Fault {
@@ -28,6 +28,33 @@ pub fn fault_of_store(fault: StoreFault) -> Fault {
         StoreFault::Recover(RecoverFault::Device(DeviceError::Memory)) => Fault::NoMemory,
         _ => Fault::Failed,
     }
+}
+
+/// How many bytes of a store are read at a time.
+const READ_AHEAD: usize = 65_536;
+
+/// A reader of the store in a folder, which is not held.
+pub fn store_reader<R: Files<File = File>, A: Allocator + Copy>(
+    files: &R,
+    alloc: A,
+    folder: &str,
+) -> Result<BufReader<File, A>, Fault> {
+    match read_file(files, alloc, folder) {
+        Ok(reader) => Ok(reader),
+        Err(error) => match error.kind() {
+            ErrorKind::NotFound => Err(Fault::Missing),
+            _ => Err(fault_of(error)),
+        },
+    }
+}
+
+fn read_file<R: Files<File = File>, A: Allocator + Copy>(
+    files: &R,
+    alloc: A,
+    folder: &str,
+) -> io::Result<BufReader<File, A>> {
+    let name = format!(in alloc; "{folder}/pushes")?;
+    BufReader::with_capacity(alloc, READ_AHEAD, File::open(files, name.as_str())?)
 }
 
 /// A folder in which each bundle gets a file of its own, named by its place in ten digits.
