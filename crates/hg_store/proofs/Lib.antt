@@ -5,7 +5,7 @@ mod NoDamage
 mod Fronts
 mod Reading
 mod Stepping
-mod Pieces
+mod ByPiece
 mod Moments
 mod Crash
 mod Staying

@@ -8,6 +8,7 @@ mod Visits
 mod Files
 mod Logs
 mod Reports
+mod Checks
 mod Headers
 mod Plain
 mod Upgrades

@@ -10,7 +10,7 @@ use crate::bundles::{put_log, send_log};
 use crate::cut::{CutFault, StoreCut, cut_of, put_cut};
 use crate::fault::{ArchiveFault, Fault, NamedFile, StoreEnd};
 use crate::form::BundleForm;
-use crate::host::{FolderShelf, fault_of, fault_of_store, store_reader};
+use crate::host::{FolderShelf, checked_reader, fault_of, fault_of_store, store_reader};
 use crate::report::send_report;
 use crate::upgrade::upgrade_of;
 use hg_connection::Writer;
@@ -45,7 +45,8 @@ pub fn report_store<'a, R: Files<File = File>, A: Allocator + Copy, W: Writer>(
 }
 
 /// Writes the bundles of the store in a folder, from a place on, in that form, as [`send_log`] does, also while another
-/// process holds it. Nothing is changed, and nothing is held.
+/// process holds it. Nothing is changed, and nothing is held. The store is read twice: of a damaged one nothing is
+/// written.
 pub fn log_store<'a, R: Files<File = File>, A: Allocator + Copy, W: Writer>(
     files: &R,
     alloc: A,
@@ -57,7 +58,7 @@ pub fn log_store<'a, R: Files<File = File>, A: Allocator + Copy, W: Writer>(
     ensures { IfOk result (λ ending. (file : List ℕ)
         × IsLogged form A file from ending (W.told writer.old).taken (W.told writer.new).taken) }
 {
-    let mut reader = about(store_reader(files, alloc, folder), NamedFile::Store(folder))?;
+    let mut reader = about(checked_reader(files, alloc, folder), NamedFile::Store(folder))?;
     match send_log(alloc, &mut reader, from, form, writer) {
         Ok(ending) => Ok(ending),
         Err(fault) => Err(sending_fault(folder, fault)),
@@ -65,8 +66,8 @@ pub fn log_store<'a, R: Files<File = File>, A: Allocator + Copy, W: Writer>(
 }
 
 /// The same, each bundle in a file of its own in another folder, named by its place in ten digits. That
-/// folder is made if it is not there. A file that is there is not written over: of those from it on none is
-/// made.
+/// folder is made if it is not there, and not for a damaged store. A file that is there is not written over: of those
+/// from it on none is made.
 pub fn file_log<'a, R: Files<File = File>, A: Allocator + Copy>(
     files: &R,
     alloc: A,
@@ -75,7 +76,7 @@ pub fn file_log<'a, R: Files<File = File>, A: Allocator + Copy>(
     form: BundleForm,
     to: &'a str,
 ) -> Result<StoreEnd, ArchiveFault<'a>> {
-    let mut reader = about(store_reader(files, alloc, folder), NamedFile::Store(folder))?;
+    let mut reader = about(checked_reader(files, alloc, folder), NamedFile::Store(folder))?;
     about_store(make_folder(files, alloc, to), NamedFile::Folder(to))?;
     let mut shelf = FolderShelf::of(files, alloc, to);
     match put_log(alloc, &mut reader, from, form, &mut shelf) {

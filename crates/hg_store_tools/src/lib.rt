@@ -3,7 +3,7 @@
 //!
 //! [`send_report`], [`send_log`] and [`put_log`] are these over a store that a reader gives, in memory for one record,
 //! to any writer. [`canonical_bundle`] writes of a bundle what may change a repository alone: in that [`BundleForm`]
-//! the pushes of a store are given too. [`cut_of`] and [`put_cut`] end a store, and [`upgrade_of`] makes one of
+//! the pushes of a store are given too. [`check_records`] goes through a store and writes nothing. [`cut_of`] and [`put_cut`] end a store, and [`upgrade_of`] makes one of
 //! version 2 of one of version 1, over its bytes. [`report_store`], [`log_store`], [`file_log`], [`cut_store`] and
 //! [`upgrade_store`] do it with a store in a folder. Nothing here starts a thread or waits.
 #![tactic(auto)]
@@ -11,6 +11,7 @@
 mod bundles;
 mod canonical;
 mod changing;
+mod check;
 mod cut;
 mod fault;
 mod folder;
@@ -23,6 +24,7 @@ mod visit;
 
 pub use bundles::{BundleSink, put_log, send_log};
 pub use canonical::canonical_bundle;
+pub use check::check_records;
 pub use cut::{CutFault, StoreCut, cut_of, put_cut};
 pub use fault::{ArchiveFault, Fault, NamedFile, StoreEnd, TornNote};
 pub use folder::{cut_store, file_log, log_store, report_store, upgrade_store};

@@ -1,4 +1,4 @@
-use Rattle.hg_store.proofs.Pieces.{HasCome}
+use Rattle.hg_store.proofs.ByPiece.{HasCome}
 use Rattle.hg_store.proofs.pieces.read_up_to.Given as goal
 
 -- the bytes so far were read, and so many are left to read

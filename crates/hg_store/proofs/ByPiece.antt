@@ -1,33 +1,32 @@
 -- What a reader gives of a store, piece by piece.
 use Rattle.std.proofs.Common.{◌≡◌, ◌≢◌, ◌⊎◌, inl, inr, ℕ, ◌+◌, ◌-◌, ◌<◌, ◌≤◌, List, [], ◌∷◌, ◌++◌, length, take, drop, refl, sym, ap, ◌∙◌, subst, arith}
-use Rattle.std.proofs.Common.{append_assoc, length-append, take-append-drop, length-drop, Bool, true, false, Option, Some, None}
-use Rattle.std.specs.Prelude.{IsTrue, ◌↔◌}
+use Rattle.std.proofs.Common.{append_assoc, length-append, take-append-drop, length-drop, Bool, true, false, Option, Result, Err}
+use Rattle.std.specs.Prelude.{IsErrOf, IsTrue, ◌↔◌}
 use Rattle.std.proofs.lemmas.List.{append-nil, length-take-le}
-use Rattle.std.proofs.KnownBytes.{Consumes-nil, Consumes-trans}
-use Rattle.std.specs.Io.KnownBytes.{Consumes, IsAtEnd}
+use Rattle.std.proofs.KnownBytes.{Consumes-trans}
+use Rattle.std.specs.Io.KnownBytes.{Consumes}
 use Rattle.sha1.specs.Sha1.{sha1}
-use Rattle.hg_store.specs.Entries.{Entry}
-use Rattle.hg_store.specs.declared.head.Head.{Head}
-use Rattle.hg_store.specs.declared.head.HeadFault.{HeadFault}
-use Rattle.hg_store.specs.declared.head.HeadFault.TheVariants.{TooShort}
+use Rattle.hg_store.specs.Entries.{Entry, Stamp}
 use Rattle.hg_store.specs.declared.head.Version.{Version}
 use Rattle.hg_store.specs.declared.numbers.Numbers.{Numbers}
+use Rattle.hg_store.specs.declared.pieces.RecordStop.{RecordStop}
+use Rattle.hg_store.specs.declared.pieces.RecordStop.TheVariants.{NoRecord as no_record}
 use Rattle.hg_store.specs.declared.record.NoRecord.{NoRecord}
 use Rattle.hg_store.specs.declared.record.NoRecord.TheVariants.{Damaged, End, Torn}
-use Rattle.hg_store.specs.Head.{HasHead, HasShortHead, IsHead, IsRefusedFor, head_bytes, head_size, magic, version_of}
-use Rattle.hg_store.specs.Pieces.{GivesNoHead, GivesNoRecord, GivesRecord, IsCutShort, ReadsUpTo}
-use Rattle.hg_store.specs.Records.{AreNumbers, IsEnd, chained_label, cut_off, digest_of, frame, label, no_gate, numbers_bytes, numbers_of, numbers_size, open_gate, over, short, shut}
-use Rattle.hg_store.proofs.Heads.{length-head}
+use Rattle.hg_store.specs.Pieces.{GivesNoRecord, GivesRecord, IsCutShort, ReadsUpTo}
+use Rattle.hg_store.specs.Records.{AreNumbers, chained_label, cut_off, digest_of, frame, no_gate, numbers_bytes, numbers_of, numbers_size, open_gate, short, shut}
 use Rattle.hg_store.proofs.Stepping.{Whole, damaged_is, entry_of, next_is}
 
-no_bytes : (bytes : List ℕ) → length bytes < 1 → bytes ≡ []
-no_bytes [] less = refl
-no_bytes (b ∷ bytes) less = absurd (omega (arith, less))
+-- ---- why none is read
 
-pub nothing_more : (xs ys zs : List ℕ) → xs ≡ ys ++ zs → length xs ≤ length ys → xs ≡ ys
-nothing_more xs ys zs is long =
-    is ∙ ap (λ (l : List ℕ). ys ++ l) (no_bytes zs (omega (arith, ap length is, length-append ys zs, long)))
-    ∙ append-nil ys
+pub stop_is : {T : Type 0} (found stop : NoRecord) → IsErrOf {T = T} (Err (no_record found)) (no_record stop) → found ≡ stop
+stop_is found stop is = cc
+
+-- the same error of another call
+pub err_is : {T U : Type 0} (found stop : RecordStop) → IsErrOf {T = T} (Err found) stop → IsErrOf {T = U} (Err found) stop
+err_is {T} {U} found stop is =
+    let same : found ≡ stop = cc in
+    let made : RecordStop → Result U RecordStop = λ e. Err e in ap made same
 
 -- ---- reads
 
@@ -35,68 +34,6 @@ nothing_more xs ys zs is long =
 abbrev pub HasCome : List ℕ → List ℕ → Option (List ℕ) → Option (List ℕ) → ℕ → ℕ → Type 0
 HasCome before bytes a b left count =
     (more : List ℕ) × (bytes ≡ before ++ more) × Consumes a b more × (length more + left ≡ count)
-
-pub come_none : (before : List ℕ) (a : Option (List ℕ)) (count : ℕ) → HasCome before before a a count count
-come_none before a count = ([], sym (append-nil before), Consumes-nil a, refl)
-
-pub come_more : (before bytes next piece shown : List ℕ) (a b c : Option (List ℕ)) (left rest count got : ℕ)
-    → HasCome before bytes a b left count → Consumes b c (take got piece) → shown ≡ take got piece
-    → next ≡ bytes ++ shown → got ≤ left → got ≤ length piece → rest ≡ left - got
-    → HasCome before next a c rest count
-come_more before bytes next piece shown a b c left rest count got come gone shown_is next_is few small rest_is = (
-  come.0 ++ take got piece,
-  next_is ∙ ap (λ (l : List ℕ). bytes ++ l) shown_is ∙ ap (λ (l : List ℕ). l ++ take got piece) come.1
-      ∙ append_assoc before come.0 (take got piece),
-  Consumes-trans a b c come.0 (take got piece) come.2 gone,
-  omega (arith, length-append come.0 (take got piece), length-take-le got piece small, come.3, few, rest_is),
-)
-
-pub come_whole : (before bytes : List ℕ) (a b : Option (List ℕ)) (left count : ℕ)
-    → HasCome before bytes a b left count → left ≡ 0
-    → (more : List ℕ) × (bytes ≡ before ++ more) × ReadsUpTo count more a b
-come_whole before bytes a b left count come none = (
-  come.0,
-  come.1,
-  record {
-    gone = come.2;
-    few = omega (arith, come.3);
-    short = λ less. absurd (omega (arith, come.3, none, less));
-  },
-)
-
-pub come_last : (before bytes piece : List ℕ) (a b c : Option (List ℕ)) (left count got : ℕ)
-    → HasCome before bytes a b left count → got ≡ 0 → Consumes b c (take got piece) → IsAtEnd c
-    → (more : List ℕ) × (bytes ≡ before ++ more) × ReadsUpTo count more a c
-come_last before bytes piece a b c left count got come none gone at_end =
-    let nothing : Consumes b c [] = subst (λ (n : ℕ). Consumes b c (take n piece)) none gone in (
-      come.0,
-      come.1,
-      record {
-        gone = subst (Consumes a c) (append-nil come.0) (Consumes-trans a b c come.0 [] come.2 nothing);
-        few = omega (arith, come.3);
-        short = λ _. at_end;
-      },
-    )
-
--- in place of what stood in the buffer
-pub refilled : (count : ℕ) (cleared bytes : List ℕ) (a b : Option (List ℕ)) → cleared ≡ []
-    → (more : List ℕ) × (bytes ≡ cleared ++ more) × ReadsUpTo count more a b → ReadsUpTo count bytes a b
-refilled count cleared bytes a b none read =
-    subst (λ (l : List ℕ). ReadsUpTo count l a b) (sym (read.1 ∙ ap (λ (l : List ℕ). l ++ read.0) none)) read.2
-
-pub is_cut_short : (count : ℕ) (bytes : List ℕ) (a b : Option (List ℕ)) → ReadsUpTo count bytes a b
-    → length bytes < count → IsCutShort count a b
-is_cut_short count bytes a b read less = record { part = bytes; gone = read.gone; less = less; over = read.short less }
-
--- less than the first of two pieces, or the first and less than the second
-pub cut_in_first : (count more all : ℕ) (a b : Option (List ℕ)) → all ≡ count + more → IsCutShort count a b
-    → IsCutShort all a b
-cut_in_first count more all a b is cut = record {
-  part = cut.part;
-  gone = cut.gone;
-  less = omega (arith, cut.less, is);
-  over = cut.over;
-}
 
 pub cut_in_second : (count more all : ℕ) (first : List ℕ) (a b c : Option (List ℕ)) → all ≡ count + more
     → length first ≡ count → Consumes a b first → IsCutShort more b c → IsCutShort all a c
@@ -108,19 +45,6 @@ cut_in_second count more all first a b c is size gone cut = record {
 }
 
 -- ---- a gate
-
-one_byte : (bytes rest : List ℕ) (gate : ℕ) → bytes ≡ gate ∷ rest → length bytes ≤ 1 → bytes ≡ gate ∷ []
-one_byte bytes rest gate is few =
-    is ∙ ap (λ (l : List ℕ). gate ∷ l) (no_bytes rest (omega (arith, ap length is, few)))
-
-pub gate_missing : (version : Version) (before bytes : List ℕ) (a b : Option (List ℕ)) → ReadsUpTo 1 bytes a b
-    → bytes ≡ [] → GivesNoRecord End version before a b
-gate_missing version before bytes a b read none = record {
-  tail = bytes;
-  gone = read.gone;
-  stops = over none;
-  over = λ _. read.short (omega (arith, ap length none));
-}
 
 module _ (version : Version) (bytes rest : List ℕ) (gate : ℕ) (a b : Option (List ℕ)) (read : ReadsUpTo 1 bytes a b)
     (is : bytes ≡ gate ∷ rest) where
@@ -145,19 +69,6 @@ module _ (version : Version) (bytes rest : List ℕ) (gate : ℕ) (a b : Option 
       | inr torn ↦ absurd (cc torn)
     ];
   }
-
-  pub gate_passed : gate ≡ open_gate version → Consumes a b (open_gate version ∷ [])
-  gate_passed same =
-      subst (Consumes a b) (one_byte bytes rest gate is read.few ∙ ap (λ (g : ℕ). g ∷ []) same) read.gone
-
--- ---- numbers
-
-pub numbers_given : (version : Version) (numbers : Numbers) (bytes rest : List ℕ) (a b : Option (List ℕ))
-    → ReadsUpTo (numbers_size version) bytes a b → bytes ≡ numbers_bytes version numbers ++ rest
-    → numbers_size version ≤ length (numbers_bytes version numbers) → Consumes a b (numbers_bytes version numbers)
-numbers_given version numbers bytes rest a b read is long =
-    subst (Consumes a b)
-    (nothing_more bytes (numbers_bytes version numbers) rest is (omega (arith, read.few, long))) read.gone
 
 -- ---- a record
 
@@ -202,7 +113,7 @@ module _ (version : Version) (before : List ℕ) (numbers : Numbers) (a b c d : 
         ∙ ap (λ (l : List ℕ). l ++ drop numbers.named front) (sym name_is)
         ∙ ap (λ (l : List ℕ). name ++ l) (sym digest_is)
 
-    bytes : List ℕ
+    abbrev bytes : List ℕ
     bytes = open_gate version ∷ (numbers_bytes version numbers ++ (front ++ bundle))
 
     whole : Whole version bytes digest (entry_of numbers.time name bundle) []
@@ -256,10 +167,11 @@ module _ (version : Version) (before : List ℕ) (numbers : Numbers) (a b c d : 
             digest_is = next.digest;
           }
 
--- ---- a head
-
--- the bytes that were read are a head and no more
-pub head_given : (head : Head) (bytes : List ℕ) (a b : Option (List ℕ)) (has : HasHead bytes head)
-    → length bytes ≤ head_size (version_of head) → Consumes a b bytes → bytes ≡ head_bytes head
-head_given head bytes a b has few gone =
-    nothing_more bytes (head_bytes head) has.0 has.1.spelled (omega (arith, few, length-head head has.1.allowed))
+-- the record that was made of its parts
+pub entry_is : (found : Entry) (stamp : Stamp) (time : ℕ) (name bundle : List ℕ) → found.stamp ≡ stamp
+    → stamp.time ≡ time → stamp.name ≡ name → found.bundle ≡ bundle → entry_of time name bundle ≡ found
+entry_is found stamp time name bundle stamp_is time_is name_is bundle_is =
+    let time_so : found.stamp.time ≡ time = ap (λ (s : Stamp). s.time) stamp_is ∙ time_is in
+    let name_so : found.stamp.name ≡ name = ap (λ (s : Stamp). s.name) stamp_is ∙ name_is in
+    let back : found ≡ entry_of time name bundle =
+    λ i. record { stamp = record { time = time_so i; name = name_so i }; bundle = bundle_is i } in sym back
