@@ -29,6 +29,7 @@ pub trait BundleSink {
 }
 
 /// Which bundles of a store are written, and in which form.
+#[derive(Drop)]
 struct Logging<A: Allocator> {
     alloc: A,
     limits: Limits,
@@ -67,6 +68,7 @@ impl<W: Writer, A: Allocator + Copy> RecordVisit<W, A> for Logging<A> {
 }
 
 /// The bundles of a store that are put on a shelf.
+#[derive(Drop)]
 struct Shelving<A: Allocator> {
     log: Logging<A>,
 }

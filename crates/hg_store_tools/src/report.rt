@@ -38,6 +38,7 @@ impl<A: Allocator> Model for Replayed<A> {
 }
 
 /// Runs each record of a store as a push.
+#[derive(Drop)]
 struct Replaying<A: Allocator> {
     alloc: A,
 }

@@ -1,7 +1,8 @@
 //! A store that a reader gives, gone through one record after the other, in memory for one.
 
-ghost use Rattle.std.specs.Prelude.{◌≡◌, ◌<◌, ◌+◌, ◌^◌, ℕ, IfErr, IfOk, OnOk, Type};
+ghost use Rattle.std.specs.Prelude.{◌≡◌, ◌<◌, ◌+◌, ◌^◌, ℕ, List, Option, IfErr, IfOk, OnOk};
 ghost use Rattle.hg_store.specs.Entries.{Entry as AnyEntry};
+ghost use Rattle.hg_store.specs.declared.pieces.RecordStop.{RecordStop as AnyRecordStop};
 ghost use Rattle.hg_store_tools.specs.declared.fault.Fault.{Fault as AnyFault};
 ghost use Rattle.hg_store_tools.specs.Visiting.{Begins, EndsAs, FailsAs, Visits, StopsVisiting, has_no_begin};
 
@@ -94,7 +95,8 @@ fn end_of(stop: RecordStop, whole: usize) -> Result<StoreEnd, Fault>
 
 /// The error of a reader as a fault of a store.
 fn device_fault(error: DeviceError) -> Fault
-    ensures { (result ≡ Fault.NoMemory) ⊎ (result ≡ Fault.Failed) }
+    ensures begins { (before after : Option (List ℕ)) → has_no_begin result before after }
+    ensures goes_on { (whole : ℕ) (stop : AnyRecordStop) → FailsAs result whole stop }
 {
     match error {
         DeviceError::Memory => Fault::NoMemory,
