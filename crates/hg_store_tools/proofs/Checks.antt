@@ -25,10 +25,10 @@ module _ {T : Type 0} (head : Head) (digest : List ℕ) (a b c : Option (List �
       )
 
   pub not_checked : (fails : ℕ → Entry → Fault → T → T → Type 0) (fault : Fault)
-      → ((place : ℕ) (entry : Entry) (before after : T) → fails place entry fault before after → ⊥)
       → StopsVisiting step fails head digest b c fault first last
+      → ((place : ℕ) (entry : Entry) (before after : T) → fails place entry fault before after → ⊥)
       → (file : List ℕ) × HasToGive a file × IsUnread fault file
-  not_checked fails fault never stops = elim stops [
+  not_checked fails fault stops never = elim stops [
     | unread records tail mid each gone why visited ↦
         let at = whole_file head digest a b mid begins records tail each gone in
         let front = has_front head digest a b mid begins records tail each gone in (

@@ -176,7 +176,7 @@ module _ (head : Head) (digest : List ℕ) (a b c : Option (List ℕ)) (begins :
       file_of a c (head_bytes head ++ (frames (version_of head) digest records ++ tail))
       (Consumes-trans a b c (head_bytes head) (frames (version_of head) digest records ++ tail) begins.gone gone)
 
-  behind_head : List ℕ
+  abbrev behind_head : List ℕ
   behind_head = frames (version_of head) (first_digest head) records ++ (tail ++ whole_file.rest)
 
   spelled_so : whole_file.file ≡ head_bytes head ++ behind_head

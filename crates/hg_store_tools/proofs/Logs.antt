@@ -117,7 +117,7 @@ module _ (A : Type 0) (log : LogForm) where
     Putting_step place entry before after = PutsRecord A log place entry (has before) (has after)
 
     -- they begin at the place, or where the log does
-    start_at : ℕ → ℕ
+    abbrev start_at : ℕ → ℕ
     start_at place = place + (log.from - place)
 
     pub all_put : (place : ℕ) (records : List Entry) (first last : S) → VisitsEach Putting_step place records first last

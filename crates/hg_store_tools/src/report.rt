@@ -21,6 +21,7 @@ use std::io::Read;
 use std::marker::Model;
 
 /// The repository that the records so far lead to, and how many they are.
+#[derive(Drop)]
 struct Replayed<A: Allocator> {
     repo: Repo<A>,
     count: usize,
@@ -106,14 +107,16 @@ fn report_text<R: Read, A: Allocator + Copy>(
         repo: empty_repository(alloc, state, &begun.head.setup()),
         count: 0,
     };
-    let visited = visit_records(alloc, &begun, reader, &Replaying { alloc }, &mut replayed);
-    let Replayed { repo, count } = replayed;
-    let told = match visited {
-        Ok(ending) => told_text(alloc, &repo, count, ending),
-        Err(fault) => Err(fault),
+    let replaying = Replaying { alloc };
+    let ending = match visit_records(alloc, &begun, reader, &replaying, &mut replayed) {
+        Ok(ending) => ending,
+        Err(fault) => {
+            drop(replayed);
+            return Err(fault);
+        }
     };
-    drop(repo);
-    told
+    let Replayed { repo, count } = replayed;
+    told_text(alloc, repo, count, ending)
 }
 
 /// Why records do not run to their end, as a fault of the store.
@@ -130,14 +133,16 @@ pub(crate) fn unrun_fault(fault: RestoreFault) -> Fault
 /// How a store ends, with the report of the repository and a line for each of so many pushes.
 fn told_text<A: Allocator + Copy>(
     alloc: A,
-    repo: &Repo<A>,
+    repo: Repo<A>,
     count: usize,
     ending: StoreEnd,
 ) -> Result<(StoreEnd, Vec<u8, A>), Fault>
-    ensures ok { IfOk result (λ told. (told.0 ≡ ending) × (told.1.items ≡ report_text repo.now count)) }
+    ensures ok { IfOk result (λ told. (told.0 ≡ ending) × (told.1.items ≡ report_text repo count)) }
     ensures err { IfErr result (λ fault. fault ≡ Fault.NoMemory) }
 {
-    match lines_of(alloc, repo, count) {
+    let text = lines_of(alloc, &repo, count);
+    drop(repo);
+    match text {
         Ok(text) => Ok((ending, text)),
         Err(_) => Err(Fault::NoMemory),
     }
