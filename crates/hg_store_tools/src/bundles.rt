@@ -6,7 +6,7 @@ ghost use Rattle.hg_store.specs.Pieces.{HasToGive};
 ghost use Rattle.hg_store_tools.specs.Logging.{IsLogged, IsShelved, IsUnlogged};
 
 use crate::fault::{Fault, StoreEnd};
-use crate::form::{BundleForm, formed};
+use crate::form::{BundleForm, in_form};
 use crate::report::sent;
 use crate::visit::{RecordVisit, begin, visit_records};
 use hg_connection::Writer;
@@ -60,7 +60,7 @@ impl<W: Writer, A: Allocator + Copy> RecordVisit<W, A> for Logging<A> {
         if place < self.from {
             return Ok(());
         }
-        match formed(self.alloc, self.limits, self.form, place, entry.bundle()) {
+        match in_form(self.alloc, self.limits, self.form, place, entry.bundle()) {
             Ok(bundle) => sent(target, bundle.bytes()),
             Err(fault) => Err(fault),
         }
@@ -85,7 +85,7 @@ impl<S: BundleSink, A: Allocator + Copy> RecordVisit<S, A> for Shelving<A> {
         if place < log.from {
             return Ok(());
         }
-        match formed(log.alloc, log.limits, log.form, place, entry.bundle()) {
+        match in_form(log.alloc, log.limits, log.form, place, entry.bundle()) {
             Ok(bundle) => target.put(place, bundle.bytes()),
             Err(fault) => Err(fault),
         }

@@ -40,7 +40,7 @@ impl<A: Allocator> Formed<'_, A> {
 
 /// The bundle of the record at a place, in that form. An `Err` says that it has none: it is no whole bundle within the
 /// limits, or memory was refused.
-pub(crate) fn formed<'a, A: Allocator + Copy>(
+pub(crate) fn in_form<'a, A: Allocator + Copy>(
     alloc: A,
     limits: Limits,
     form: BundleForm,
