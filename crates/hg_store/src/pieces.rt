@@ -280,7 +280,11 @@ fn read_piece<R: Read>(reader: &mut R, most: usize, piece: &mut [u8; PIECE]) -> 
 }
 
 /// Appends the piece. The buffer grows to twice what it has, and not beyond what is left to read.
-fn add_piece<A: Allocator>(bytes: &mut Vec<u8, A>, piece: &[u8], left: usize) -> Result<(), DeviceError>
+fn add_piece<A: Allocator>(
+    bytes: &mut Vec<u8, A>,
+    piece: &[u8],
+    left: usize,
+) -> Result<(), DeviceError>
     ensures { OnOk result (bytes.new.items ≡ bytes.old.items ++ piece.now) }
 {
     if bytes.capacity() - bytes.len() < piece.len() {

@@ -61,31 +61,31 @@ visits_none step version start a first = record {
 
 module _ {T : Type 0} (step : ℕ → Entry → T → T → Type 0) (version : Version) (start digest : List ℕ)
     (a b : Option (List ℕ)) (place : ℕ) (first mid : T) (has : HasVisited step version start digest a b place first mid)
-    where
-  pub more_gone : (c : Option (List ℕ)) (entry : Entry) → Consumes b c (frame version digest entry)
-      → Consumes a c (frames version start (has.records ++ entry ∷ []))
-  more_gone c entry gone =
-      subst (Consumes a c)
-      (ap (λ (d : List ℕ). frames version start has.records ++ frame version d entry) has.digest_is
-      ∙ sym (frames-push version start has.records entry))
-      (Consumes-trans a b c (frames version start has.records) (frame version digest entry) has.gone gone)
+  where
+    pub more_gone : (c : Option (List ℕ)) (entry : Entry) → Consumes b c (frame version digest entry)
+        → Consumes a c (frames version start (has.records ++ entry ∷ []))
+    more_gone c entry gone =
+        subst (Consumes a c)
+        (ap (λ (d : List ℕ). frames version start has.records ++ frame version d entry) has.digest_is
+        ∙ sym (frames-push version start has.records entry))
+        (Consumes-trans a b c (frames version start has.records) (frame version digest entry) has.gone gone)
 
-  pub visits_more : (c : Option (List ℕ)) (entry : Entry) (next : List ℕ) (last : T)
-      → GivesRecord version digest b c entry next → step place entry mid last
-      → HasVisited step version start next a c (place + 1) first last
-  visits_more c entry next last gives done = record {
-    records = has.records ++ entry ∷ [];
-    each = each-push version has.records entry has.each gives.is;
-    gone = more_gone c entry gives.gone;
-    digest_is = gives.digest_is ∙ ap (λ (d : List ℕ). digest_of version d entry) has.digest_is
-        ∙ sym (last_digest-push version start has.records entry);
-    count = omega (arith, length-append has.records (entry ∷ []), has.count);
-    visited = visits-push step 0 has.records entry first mid last has.visited
-        (subst (λ (n : ℕ). step n entry mid last) (sym has.count) done);
-  }
+    pub visits_more : (c : Option (List ℕ)) (entry : Entry) (next : List ℕ) (last : T)
+        → GivesRecord version digest b c entry next → step place entry mid last
+        → HasVisited step version start next a c (place + 1) first last
+    visits_more c entry next last gives done = record {
+      records = has.records ++ entry ∷ [];
+      each = each-push version has.records entry has.each gives.is;
+      gone = more_gone c entry gives.gone;
+      digest_is = gives.digest_is ∙ ap (λ (d : List ℕ). digest_of version d entry) has.digest_is
+          ∙ sym (last_digest-push version start has.records entry);
+      count = omega (arith, length-append has.records (entry ∷ []), has.count);
+      visited = visits-push step 0 has.records entry first mid last has.visited
+          (subst (λ (n : ℕ). step n entry mid last) (sym has.count) done);
+    }
 
-  pub tail_gone : (c : Option (List ℕ)) (tail : List ℕ) → Consumes b c tail → Consumes a c (frames version start has.records ++ tail)
-  tail_gone c tail gone = Consumes-trans a b c (frames version start has.records) tail has.gone gone
+    pub tail_gone : (c : Option (List ℕ)) (tail : List ℕ) → Consumes b c tail → Consumes a c (frames version start has.records ++ tail)
+    tail_gone c tail gone = Consumes-trans a b c (frames version start has.records) tail has.gone gone
 
 -- what a record is read to be, or why none is
 abbrev GivesNone : RecordStop → Version → List ℕ → Option (List ℕ) → Option (List ℕ) → Type 0
@@ -136,8 +136,7 @@ module _ {T : Type 0} (step : ℕ → Entry → T → T → Type 0) (head : Head
     visits_not c (Damaged at) stop ends none =
         let gives = none damaged ends.1 in
         unread has.records gives.tail c has.each
-        (tail_gone step (version_of head) start digest a b place first last has c gives.tail gives.gone)
-        (
+        (tail_gone step (version_of head) start digest a b place first last has c gives.tail gives.gone) (
           ends.0 ∙ sym has.count,
           subst (λ (d : List ℕ). IsDamaged (version_of head) d gives.tail) has.digest_is gives.stops,
         )

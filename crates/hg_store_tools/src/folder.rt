@@ -58,7 +58,10 @@ pub fn log_store<'a, R: Files<File = File>, A: Allocator + Copy, W: Writer>(
     ensures { IfOk result (λ ending. (file : List ℕ)
         × IsLogged form A file from ending (W.told writer.old).taken (W.told writer.new).taken) }
 {
-    let mut reader = about(checked_reader(files, alloc, folder), NamedFile::Store(folder))?;
+    let mut reader = about(
+        checked_reader(files, alloc, folder),
+        NamedFile::Store(folder),
+    )?;
     match send_log(alloc, &mut reader, from, form, writer) {
         Ok(ending) => Ok(ending),
         Err(fault) => Err(sending_fault(folder, fault)),
@@ -76,7 +79,10 @@ pub fn file_log<'a, R: Files<File = File>, A: Allocator + Copy>(
     form: BundleForm,
     to: &'a str,
 ) -> Result<StoreEnd, ArchiveFault<'a>> {
-    let mut reader = about(checked_reader(files, alloc, folder), NamedFile::Store(folder))?;
+    let mut reader = about(
+        checked_reader(files, alloc, folder),
+        NamedFile::Store(folder),
+    )?;
     about_store(make_folder(files, alloc, to), NamedFile::Folder(to))?;
     let mut shelf = FolderShelf::of(files, alloc, to);
     match put_log(alloc, &mut reader, from, form, &mut shelf) {

@@ -7,7 +7,9 @@ ghost use Rattle.hg_store_tools.specs.declared.fault.Fault.{Fault as AnyFault};
 ghost use Rattle.hg_store_tools.specs.Visiting.{Begins, EndsAs, FailsAs, Visits, StopsVisiting, has_no_begin};
 
 use crate::fault::{Fault, StoreEnd};
-use hg_store::{DeviceError, Entry, Head, HeadStop, NoRecord, RecordStop, Version, read_head, read_record};
+use hg_store::{
+    DeviceError, Entry, Head, HeadStop, NoRecord, RecordStop, Version, read_head, read_record,
+};
 use std::alloc::Allocator;
 use std::io::Read;
 

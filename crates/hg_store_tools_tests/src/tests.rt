@@ -24,7 +24,13 @@ fn report_of(rt: &HostRuntime, state: RandomState, file: &[u8]) -> Result<Told, 
 fn log_of(rt: &HostRuntime, file: &[u8], from: usize) -> Result<Told, Fail> {
     let mut bytes = Vec::new(rt.alloc());
     let mut reader = file;
-    let told = send_log(rt.alloc(), &mut reader, from, BundleForm::Stored, &mut bytes);
+    let told = send_log(
+        rt.alloc(),
+        &mut reader,
+        from,
+        BundleForm::Stored,
+        &mut bytes,
+    );
     Ok((told, bytes))
 }
 
@@ -132,9 +138,15 @@ fn damage_after_records(rt: HostRuntime) -> Result<(), Fail> {
         turn(&mut file, last, 1);
         let (told, log) = log_of(&rt, &file, 0)?;
         assert!(rt; told == Err(Fault::Damaged(place)), "at {place}");
-        assert!(rt; log.as_slice() == joined(alloc, &bundles[..place])?.as_slice(), "at {place}");
+        assert!(rt;
+            log.as_slice() == joined(alloc, &bundles[..place])?.as_slice(),
+            "at {place}"
+        );
         let (told, text) = report_of(&rt, state, &file)?;
-        assert!(rt; told == Err(Fault::Damaged(place)) && text.is_empty(), "at {place}");
+        assert!(rt;
+            told == Err(Fault::Damaged(place)) && text.is_empty(),
+            "at {place}"
+        );
     }
     Ok(())
 }
@@ -154,16 +166,34 @@ fn a_reader_that_fails(rt: HostRuntime) -> Result<(), Fail> {
         for good in 0..file.len() + 1 {
             let fails = good < file.len();
             let whole = ends.iter().filter(|end| **end <= good).count();
-            let wanted = if fails { joined(alloc, &bundles[..whole.min(3)])? } else { log.to_vec(alloc)? };
+            let wanted = if fails {
+                joined(alloc, &bundles[..whole.min(3)])?
+            } else {
+                log.to_vec(alloc)?
+            };
             let mut reader = Broken::new(&file, most, good);
             let mut text = Vec::new(alloc);
             let told = send_log(alloc, &mut reader, 0, BundleForm::Stored, &mut text);
-            assert!(rt; told == if fails { Err(Fault::Failed) } else { Ok(StoreEnd::Whole) }, "{good} bytes");
+            assert!(rt;
+                told == if fails {
+                    Err(Fault::Failed)
+                } else {
+                    Ok(StoreEnd::Whole)
+                },
+                "{good} bytes"
+            );
             assert!(rt; text.as_slice() == wanted.as_slice(), "{good} bytes");
             let mut reader = Broken::new(&file, most, good);
             let mut text = Vec::new(alloc);
             let told = send_report(alloc, state, &mut reader, &mut text);
-            assert!(rt; told == if fails { Err(Fault::Failed) } else { Ok(StoreEnd::Whole) }, "{good} bytes");
+            assert!(rt;
+                told == if fails {
+                    Err(Fault::Failed)
+                } else {
+                    Ok(StoreEnd::Whole)
+                },
+                "{good} bytes"
+            );
             assert!(rt; text.is_empty() == fails, "{good} bytes");
         }
     }

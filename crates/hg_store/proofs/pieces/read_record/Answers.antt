@@ -1,4 +1,4 @@
-use Rattle.std.proofs.Common.{◌≡◌, ◌∙◌, List, ℕ, ap, drop, subst, sym, take}
+use Rattle.std.proofs.Common.{◌≡◌, ◌∙◌, ap, drop, subst, sym, take}
 use Rattle.sha1.specs.Sha1.{sha1}
 use Rattle.hg_store.specs.Entries.{Entry}
 use Rattle.hg_store.specs.Pieces.{GivesNoRecord, GivesRecord}
