@@ -1,5 +1,5 @@
 -- What a reader gives of a store, piece by piece.
-use Rattle.std.proofs.Common.{◌≡◌, ◌≢◌, inl, inr, ℕ, ◌+◌, ◌-◌, List, [], ◌∷◌, ◌++◌, length, take, drop, refl, sym, ap, ◌∙◌, subst, arith}
+use Rattle.std.proofs.Common.{◌≡◌, ◌≢◌, inl, inr, ℕ, ◌+◌, List, [], ◌∷◌, ◌++◌, length, take, drop, refl, sym, ap, ◌∙◌, subst, arith}
 use Rattle.std.proofs.Common.{append_assoc, length-append, take-append-drop, length-drop, Bool, true, false, Option, Result, Err}
 use Rattle.std.specs.Prelude.{IsErrOf, IsTrue, ◌↔◌}
 use Rattle.std.proofs.lemmas.List.{append-nil, length-take-le}

@@ -1,6 +1,6 @@
 //! The pushes of a store, each as its bundle: one after the other to a writer, or each to a place of its own.
 
-ghost use Rattle.std.specs.Prelude.{◌≡◌, ◌×◌, ◌∷◌, [], ℕ, List, Option, IfErr, IfOk, OnErr, OnOk};
+ghost use Rattle.std.specs.Prelude.{◌≡◌, ◌∷◌, [], ℕ, List, Option, IfErr, IfOk, OnErr, OnOk};
 ghost use Rattle.hg_connection.specs.Devices.{TellsMore};
 ghost use Rattle.hg_store.specs.Pieces.{HasToGive};
 ghost use Rattle.hg_store_tools.specs.Logging.{IsLogged, IsShelved, IsUnlogged};

@@ -1,6 +1,6 @@
 //! A store that is gone through once, before a log of it is written.
 
-ghost use Rattle.std.specs.Prelude.{◌×◌, ℕ, List, IfErr, IfOk};
+ghost use Rattle.std.specs.Prelude.{ℕ, List, IfErr, IfOk};
 ghost use Rattle.hg_store.specs.Entries.{Entry as AnyEntry};
 ghost use Rattle.hg_store.specs.Pieces.{HasToGive};
 ghost use Rattle.hg_store.specs.declared.head.Head.{Head as AnyHead};

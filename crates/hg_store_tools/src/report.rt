@@ -1,6 +1,6 @@
 //! The report of what a store holds, to any writer.
 
-ghost use Rattle.std.specs.Prelude.{◌≡◌, ◌×◌, ℕ, List, IfErr, IfOk, OnOk};
+ghost use Rattle.std.specs.Prelude.{◌≡◌, ℕ, List, IfErr, IfOk, OnOk};
 ghost use Rattle.hg_connection.specs.declared.sending.Sending.{Sending as AnySending};
 ghost use Rattle.hg_connection.specs.declared.sending.Sending.TheVariants.{Whole as sent_whole};
 ghost use Rattle.hg_connection.specs.Sent.{Sends};

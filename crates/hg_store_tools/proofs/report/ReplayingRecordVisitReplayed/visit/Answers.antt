@@ -1,7 +1,7 @@
 use Rattle.std.proofs.Common.{◌+◌, List, ℕ, refl, subst}
 use Rattle.hg_recovery.specs.Replays.{IsUnrun, ReplaysOne}
 use Rattle.hg_store_tools.specs.Reporting.{Replayed, ReplaysNoRecord, ReplaysRecord}
-use Rattle.hg_store_tools.proofs.report.ReplayingRecordVisit.visit.Goals as goal
+use Rattle.hg_store_tools.proofs.report.ReplayingRecordVisitReplayed.visit.Goals as goal
 
 pub returns-in-Ok-clause-ok : goal.returns-in-Ok-clause-ok
 returns-in-Ok-clause-ok g c =
