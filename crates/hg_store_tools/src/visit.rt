@@ -45,7 +45,10 @@ pub(crate) fn begin<R: Read, A: Allocator + Copy>(
     ensures err { IfErr result (λ fault. has_no_begin fault (R.remaining reader.old) (R.remaining reader.new)) }
 {
     match read_head(alloc, reader) {
-        Ok((head, digest)) => Ok(Beginning { head, digest }),
+        Ok((head, told)) => {
+            let digest = told;
+            Ok(Beginning { head, digest })
+        }
         Err(HeadStop::Head(fault)) => Err(Fault::Head(fault)),
         Err(HeadStop::Device(error)) => Err(device_fault(error)),
     }
