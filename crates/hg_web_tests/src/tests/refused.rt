@@ -526,6 +526,8 @@ fn pushes_that_may_not_run(rt: HostRuntime) {
     );
     assert_eq!(rt; left.asked, 2);
     assert_eq!(rt; left.tally.denied, 2);
+    assert_eq!(rt; left.tally.dismissed, 1);
+    assert!(rt; left.tally.why == Some(Dismissal::NotTaken));
     assert_eq!(rt; left.journal, 0);
     assert_eq!(rt; left.kept, 0);
     let left = served(&rt, alloc, &[asked.as_slice()], PLAIN);
