@@ -37,7 +37,11 @@ pub record IsLine (push : Push) (line : List ℕ) : Type 0 where
   pub date : List ℕ
   pub says : line ≡ date ++ (codes "Z " ++ (outcome_text push.outcome ++ cost_text push))
 
+-- why a request was refused
+unfoldable pub refused_text : Dismissal → List ℕ
+refused_text why = codes "refused, " ++ (name_of_dismissal why ++ codes "\n")
+
 -- the line of a request that was refused: a date, and why
 pub record IsDismissalLine (why : Dismissal) (line : List ℕ) : Type 0 where
   pub date : List ℕ
-  pub says : line ≡ date ++ (codes "Z refused, " ++ (name_of_dismissal why ++ codes "\n"))
+  pub says : line ≡ date ++ (codes "Z " ++ refused_text why)

@@ -1,7 +1,8 @@
 //! The line of a push, and that of a request that was refused before one was opened.
 
 ghost use Rattle.std.specs.Prelude.{◌≡◌, ◌++◌, codes, IfOk, OnOk, string_bytes};
-ghost use Rattle.hg_status.specs.Line.{cost_text, outcome_text, reason_text, waits_text, IsDismissalLine, IsLine};
+ghost use Rattle.hg_status.specs.Line.{cost_text, outcome_text, reason_text, refused_text, waits_text};
+ghost use Rattle.hg_status.specs.Line.{IsDismissalLine, IsLine};
 ghost use Rattle.hg_status.specs.Page.{day_text, time_text};
 
 use crate::date::{Date, date_of, push_day, push_time};
@@ -37,9 +38,8 @@ pub fn dismissal_line<A: Allocator + Copy>(
     let mut line = String::new(alloc);
     let date = date_of(time);
     push_date(&mut line, &date)?;
-    line.push_str("Z refused, ")?;
-    line.push_str(name(why))?;
-    line.push_str("\n")?;
+    line.push_str("Z ")?;
+    push_refusal(&mut line, why)?;
     Ok(Seq::from_vec(line.into_bytes()))
 }
 
@@ -51,6 +51,17 @@ fn push_date<A: Allocator>(line: &mut String<A>, date: &Date) -> Result<(), NoMe
     push_day(line, date)?;
     line.push_str("T")?;
     push_time(line, date)?;
+    Ok(())
+}
+
+/// Adds why a request was refused.
+#[tactic(auto, unfolding(crate::specs::Line::refused_text))]
+fn push_refusal<A: Allocator>(line: &mut String<A>, why: Dismissal) -> Result<(), NoMemory>
+    ensures { OnOk result (string_bytes line.new ≡ string_bytes line.old ++ refused_text why) }
+{
+    line.push_str("refused, ")?;
+    line.push_str(name(why))?;
+    line.push_str("\n")?;
     Ok(())
 }
 
