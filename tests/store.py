@@ -384,7 +384,7 @@ def one_byte_changed(room):
             room.looks("report --store store", status=3, line=line)
             room.looks("log --store store", status=3, line=line)
     room.run("log --store store --to log", status=3, line="store/pushes: damage at place 1")
-    want("files of its log", found_in(room.path("log")), {".": None})
+    want("files of its log", found_in(room.path("log")), {})
 
 
 @case

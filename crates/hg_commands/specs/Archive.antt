@@ -4,8 +4,8 @@ use Rattle.hg_connection.specs.Devices.{Output}
 use Rattle.hg_connection.specs.declared.sending.Sending.TheVariants.{Whole as sent_whole}
 use Rattle.hg_connection.specs.Sent.{Sends}
 use Rattle.hg_store_tools.specs.declared.fault.StoreEnd.{StoreEnd}
-use Rattle.hg_store_tools.specs.declared.canonical_log.BundleForm.{BundleForm}
-use Rattle.hg_store_tools.specs.Canonical.{IsLoggedAs}
+use Rattle.hg_store_tools.specs.declared.form.BundleForm.{BundleForm}
+use Rattle.hg_store_tools.specs.Logging.{IsLogged}
 use Rattle.hg_store_tools.specs.Reporting.{Reports}
 
 -- the report of some file that is a store was written, whole, and flushed
@@ -16,4 +16,4 @@ ReportsStore A before after = (file : List ℕ) × (ending : StoreEnd) × (text 
 -- the bundles of some file that is a store were written from a place on in that form, one after the other
 abbrev pub LogsStore : (A : Type 0) → ℕ → BundleForm → Option (List ℕ) → Option (List ℕ) → Type 0
 LogsStore A from form before after = (file : List ℕ) × (ending : StoreEnd)
-    × IsLoggedAs form A file from ending before after
+    × IsLogged form A file from ending before after

@@ -5,6 +5,7 @@ mod NoDamage
 mod Fronts
 mod Reading
 mod Stepping
+mod ByPiece
 mod Moments
 mod Crash
 mod Staying

@@ -1,6 +1,7 @@
 pub mod Head
 pub mod Entries
 pub mod Records
+pub mod Pieces
 pub mod Files
 pub mod Device
 pub mod Log

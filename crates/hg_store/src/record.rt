@@ -18,7 +18,7 @@ use std::alloc::Allocator;
 pub(crate) const SHUT: u8 = 0;
 
 /// How many bytes a digest has.
-const DIGEST: usize = 20;
+pub(crate) const DIGEST: usize = 20;
 
 /// Why no record is read where one might stand.
 #[derive(Clone, Copy, Debug, PartialEq, Eq)]

@@ -2,11 +2,13 @@ pub mod CallerLemmas
 mod Frames
 mod Fronts
 mod Written
-mod Rests
-mod Told
 mod Kept
 mod Parts
-mod CanonicalLog
+mod Visits
+mod Files
+mod Logs
+mod Reports
+mod Checks
 mod Headers
 mod Plain
 mod Upgrades

@@ -1,5 +1,5 @@
 -- A store that is ended before one of its records, and what is kept of those that it loses.
-use Rattle.std.specs.Prelude.{ℕ, ◌≡◌, ◌≢◌, ◌⊎◌, ◌<◌, List, [], ◌++◌, length, take, drop}
+use Rattle.std.specs.Prelude.{ℕ, ◌≡◌, ◌≢◌, ◌⊎◌, ◌<◌, List, [], ◌∷◌, ◌++◌, length, take, drop}
 use Rattle.std.specs.List.{AllByRecursion}
 use Rattle.hg_store.specs.declared.head.Head.{Head}
 use Rattle.hg_store.specs.declared.head.Version.{Version}
@@ -9,7 +9,11 @@ use Rattle.hg_store.specs.Entries.{Entry}
 use Rattle.hg_store.specs.Head.{BeginsWithHead, first_digest, version_of}
 use Rattle.hg_store.specs.Log.{at_rest}
 use Rattle.hg_store.specs.Records.{IsDamaged, IsEnd, IsRecord, IsTorn, frames, last_digest}
-use Rattle.hg_store_tools.specs.Logging.{joined}
+
+-- the bundles of records, one after the other
+abbrev pub joined : List Entry → List ℕ
+joined [] = []
+joined (first ∷ others) = first.bundle ++ joined others
 
 -- what stands after the last whole record, which has this digest: the end, a torn record or damage
 abbrev pub StopsSo : NoRecord → Version → List ℕ → List ℕ → Type 0

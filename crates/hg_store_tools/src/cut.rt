@@ -8,8 +8,7 @@ ghost use Rattle.hg_store.specs.Head.{version_of};
 ghost use Rattle.hg_store.specs.Log.{at_rest};
 ghost use Rattle.hg_store.specs.Records.{IsRecord};
 ghost use Rattle.hg_store.specs.declared.record.NoRecord.TheVariants.{End};
-ghost use Rattle.hg_store_tools.specs.Cutting.{HasNoPlace, HasPlace, IsCutOf};
-ghost use Rattle.hg_store_tools.specs.Logging.{joined};
+ghost use Rattle.hg_store_tools.specs.Cutting.{HasNoPlace, HasPlace, IsCutOf, joined};
 ghost use Rattle.hg_store_tools.specs.declared.fault.Fault.TheVariants.{NoPlace as no_place};
 
 use crate::fault::Fault;

@@ -3,19 +3,19 @@
 ghost use Rattle.std.specs.Prelude.{ℕ, List, IfOk};
 ghost use Rattle.hg_connection.specs.declared.sending.Sending.TheVariants.{Whole as sent_whole};
 ghost use Rattle.hg_connection.specs.Sent.{Sends};
-ghost use Rattle.hg_store_tools.specs.Canonical.{IsLoggedAs};
+ghost use Rattle.hg_store_tools.specs.Logging.{IsLogged};
 ghost use Rattle.hg_store_tools.specs.Reporting.{Reports};
 
-use crate::canonical_log::{BundleForm, put_log_as, send_log_as};
+use crate::bundles::{put_log, send_log};
 use crate::cut::{CutFault, StoreCut, cut_of, put_cut};
 use crate::fault::{ArchiveFault, Fault, NamedFile, StoreEnd};
-use crate::host::{FolderShelf, fault_of, fault_of_store};
+use crate::form::BundleForm;
+use crate::host::{FolderShelf, checked_reader, fault_of, fault_of_store, store_reader};
 use crate::report::send_report;
 use crate::upgrade::upgrade_of;
 use hg_connection::Writer;
 use hg_store::{
     StoreFault, StoreFolder, kept_file, make_folder, new_identity, new_store, open_held, read_all,
-    store_bytes,
 };
 use std::alloc::Allocator;
 use std::fs::{File, Files};
@@ -37,16 +37,16 @@ pub fn report_store<'a, R: Files<File = File>, A: Allocator + Copy, W: Writer>(
         × Reports A file ending text
         × Sends sent_whole count (W.told writer.old) (W.told writer.new) text) }
 {
-    let file = about_store(store_bytes(files, alloc, folder), NamedFile::Store(folder))?;
-    match send_report(alloc, state, file, writer) {
+    let mut reader = about(store_reader(files, alloc, folder), NamedFile::Store(folder))?;
+    match send_report(alloc, state, &mut reader, writer) {
         Ok(ending) => Ok(ending),
         Err(fault) => Err(sending_fault(folder, fault)),
     }
 }
 
-/// Writes the bundles of the store in a folder, from a place on, in that form, as [`send_log`](crate::send_log) and
-/// [`send_canonical_log`](crate::send_canonical_log) do, also while another process holds it. Nothing is changed, and
-/// nothing is held.
+/// Writes the bundles of the store in a folder, from a place on, in that form, as [`send_log`] does, also while another
+/// process holds it. Nothing is changed, and nothing is held. The store is read twice: of a damaged one nothing is
+/// written.
 pub fn log_store<'a, R: Files<File = File>, A: Allocator + Copy, W: Writer>(
     files: &R,
     alloc: A,
@@ -56,18 +56,21 @@ pub fn log_store<'a, R: Files<File = File>, A: Allocator + Copy, W: Writer>(
     writer: &mut W,
 ) -> Result<StoreEnd, ArchiveFault<'a>>
     ensures { IfOk result (λ ending. (file : List ℕ)
-        × IsLoggedAs form A file from ending (W.told writer.old).taken (W.told writer.new).taken) }
+        × IsLogged form A file from ending (W.told writer.old).taken (W.told writer.new).taken) }
 {
-    let file = about_store(store_bytes(files, alloc, folder), NamedFile::Store(folder))?;
-    match send_log_as(alloc, file, from, form, writer) {
+    let mut reader = about(
+        checked_reader(files, alloc, folder),
+        NamedFile::Store(folder),
+    )?;
+    match send_log(alloc, &mut reader, from, form, writer) {
         Ok(ending) => Ok(ending),
         Err(fault) => Err(sending_fault(folder, fault)),
     }
 }
 
 /// The same, each bundle in a file of its own in another folder, named by its place in ten digits. That
-/// folder is made if it is not there. A file that is there is not written over: of those from it on none is
-/// made.
+/// folder is made if it is not there, and not for a damaged store. A file that is there is not written over: of those
+/// from it on none is made.
 pub fn file_log<'a, R: Files<File = File>, A: Allocator + Copy>(
     files: &R,
     alloc: A,
@@ -76,10 +79,13 @@ pub fn file_log<'a, R: Files<File = File>, A: Allocator + Copy>(
     form: BundleForm,
     to: &'a str,
 ) -> Result<StoreEnd, ArchiveFault<'a>> {
-    let file = about_store(store_bytes(files, alloc, folder), NamedFile::Store(folder))?;
+    let mut reader = about(
+        checked_reader(files, alloc, folder),
+        NamedFile::Store(folder),
+    )?;
     about_store(make_folder(files, alloc, to), NamedFile::Folder(to))?;
     let mut shelf = FolderShelf::of(files, alloc, to);
-    match put_log_as(alloc, file, from, form, &mut shelf) {
+    match put_log(alloc, &mut reader, from, form, &mut shelf) {
         Ok(ending) => Ok(ending),
         Err(fault) => Err(ArchiveFault {
             file: shelf_name(folder, to, shelf.place, fault),

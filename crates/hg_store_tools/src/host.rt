@@ -3,12 +3,13 @@
 ghost use Rattle.std.specs.Prelude.{None};
 
 use crate::bundles::BundleSink;
+use crate::check::check_records;
 use crate::fault::Fault;
 use hg_store::{DeviceError, RecoverFault, StoreFault};
 use std::alloc::Allocator;
 use std::fs::{File, Files};
 use std::io;
-use std::io::{ErrorKind, Write};
+use std::io::{BufReader, ErrorKind, Seek, SeekFrom, Write};
 
 /// The error of the system as a fault of a store.
 pub fn fault_of(error: io::Error) -> Fault {
@@ -28,6 +29,47 @@ pub fn fault_of_store(fault: StoreFault) -> Fault {
         StoreFault::Recover(RecoverFault::Device(DeviceError::Memory)) => Fault::NoMemory,
         _ => Fault::Failed,
     }
+}
+
+/// How many bytes of a store are read at a time.
+const READ_AHEAD: usize = 65_536;
+
+/// A reader of the store in a folder, which is not held.
+pub fn store_reader<R: Files<File = File>, A: Allocator + Copy>(
+    files: &R,
+    alloc: A,
+    folder: &str,
+) -> Result<BufReader<File, A>, Fault> {
+    match read_file(files, alloc, folder) {
+        Ok(reader) => Ok(reader),
+        Err(error) => match error.kind() {
+            ErrorKind::NotFound => Err(Fault::Missing),
+            _ => Err(fault_of(error)),
+        },
+    }
+}
+
+/// A reader of the store in a folder, at its front, of which all records were read and found right.
+pub fn checked_reader<R: Files<File = File>, A: Allocator + Copy>(
+    files: &R,
+    alloc: A,
+    folder: &str,
+) -> Result<BufReader<File, A>, Fault> {
+    let mut reader = store_reader(files, alloc, folder)?;
+    check_records(alloc, &mut reader)?;
+    match reader.seek(SeekFrom::Start(0)) {
+        Ok(_) => Ok(reader),
+        Err(error) => Err(fault_of(error)),
+    }
+}
+
+fn read_file<R: Files<File = File>, A: Allocator + Copy>(
+    files: &R,
+    alloc: A,
+    folder: &str,
+) -> io::Result<BufReader<File, A>> {
+    let name = format!(in alloc; "{folder}/pushes")?;
+    BufReader::with_capacity(alloc, READ_AHEAD, File::open(files, name.as_str())?)
 }
 
 /// A folder in which each bundle gets a file of its own, named by its place in ten digits.

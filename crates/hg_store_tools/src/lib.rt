@@ -1,32 +1,34 @@
 //! A store that is read, and ended, beside the server: the report of what it holds, its pushes as bundles, and
 //! a cut before one of them.
 //!
-//! [`send_report`], [`send_log`] and [`put_log`] are these over the bytes of a store, to any writer, and
-//! [`cut_of`] and [`put_cut`] end one. [`upgrade_of`] makes one of version 2 of one of version 1. [`report_store`],
-//! [`log_store`], [`file_log`], [`cut_store`] and [`upgrade_store`] do it with a store in a folder.
-//! [`canonical_bundle`] writes of a bundle what may change a repository alone, and [`send_canonical_log`] and
-//! [`put_canonical_log`] give the pushes of a store in that form. Nothing here starts a thread or waits.
+//! [`send_report`], [`send_log`] and [`put_log`] are these over a store that a reader gives, in memory for one record,
+//! to any writer. [`canonical_bundle`] writes of a bundle what may change a repository alone: in that [`BundleForm`]
+//! the pushes of a store are given too. [`check_records`] goes through a store and writes nothing. [`cut_of`] and [`put_cut`] end a store, and [`upgrade_of`] makes one of
+//! version 2 of one of version 1, over its bytes. [`report_store`], [`log_store`], [`file_log`], [`cut_store`] and
+//! [`upgrade_store`] do it with a store in a folder. Nothing here starts a thread or waits.
 #![tactic(auto)]
 
 mod bundles;
 mod canonical;
-mod canonical_log;
 mod changing;
+mod check;
 mod cut;
 mod fault;
 mod folder;
+mod form;
 mod host;
 mod prefix;
-mod read;
 mod report;
 mod upgrade;
+mod visit;
 
 pub use bundles::{BundleSink, put_log, send_log};
 pub use canonical::canonical_bundle;
-pub use canonical_log::{BundleForm, put_canonical_log, send_canonical_log};
+pub use check::check_records;
 pub use cut::{CutFault, StoreCut, cut_of, put_cut};
 pub use fault::{ArchiveFault, Fault, NamedFile, StoreEnd, TornNote};
 pub use folder::{cut_store, file_log, log_store, report_store, upgrade_store};
+pub use form::BundleForm;
 pub use prefix::{StorePrefix, read_front};
 pub use report::send_report;
 pub use upgrade::upgrade_of;

@@ -12,13 +12,16 @@
 //!   end of its record the report is empty, and it is torn but at 38 bytes; then the report of `C`.
 //! - each byte of its record turned. Result: damage at place 0, or torn, or the end, by a gate or a size; the
 //!   report is never that of `C`.
+//! - damage in each of three records. Result: damage at its place; the log has those before it, the report nothing.
+//! - a reader that gives few bytes at a time, is interrupted, and fails after each number of bytes. Result: the device
+//!   failed; the log has those that were whole before, the report nothing.
 //! - records that are no bundle, or whose push is not done. Result: damage at their place, and nothing is
 //!   written.
 //! - the log from each place, also after the last. Result: the bundles from there on; none.
 //! - a writer that fails after each number of bytes. Result: the output failed, and a front was written.
 //! - a shelf that refuses a place. Result: those before it.
 //! - each growth refused, for the report, the log and the cut. Result: out of memory, and nothing was
-//!   written, or all was; both occur.
+//!   written but, of a log, whole bundles; or all was; both occur.
 //! - a cut of three records before each place up to the fifth, of a whole, a torn and a damaged store, where
 //!   each of the calls on the two new files fails. Result: the records before the place and what is kept; no
 //!   such place; the new file has no name where the other has none.

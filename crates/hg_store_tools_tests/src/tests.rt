@@ -1,7 +1,7 @@
 //! Stores in memory: reports, logs and cuts.
 
 use crate::made::*;
-use crate::paper::{Board, Narrow};
+use crate::paper::{Board, Broken, Narrow};
 use hg_help_store_tests::paper::Paper;
 use hg_store::HeadFault;
 use hg_store_tools::*;
@@ -16,13 +16,21 @@ type Told = (Result<StoreEnd, Fault>, Vec<u8>);
 
 fn report_of(rt: &HostRuntime, state: RandomState, file: &[u8]) -> Result<Told, Fail> {
     let mut text = Vec::new(rt.alloc());
-    let told = send_report(rt.alloc(), state, file.to_vec(rt.alloc())?, &mut text);
+    let mut reader = file;
+    let told = send_report(rt.alloc(), state, &mut reader, &mut text);
     Ok((told, text))
 }
 
 fn log_of(rt: &HostRuntime, file: &[u8], from: usize) -> Result<Told, Fail> {
     let mut bytes = Vec::new(rt.alloc());
-    let told = send_log(rt.alloc(), file.to_vec(rt.alloc())?, from, &mut bytes);
+    let mut reader = file;
+    let told = send_log(
+        rt.alloc(),
+        &mut reader,
+        from,
+        BundleForm::Stored,
+        &mut bytes,
+    );
     Ok((told, bytes))
 }
 
@@ -117,6 +125,81 @@ fn one_byte_turned(rt: HostRuntime) -> Result<(), Fail> {
     Ok(())
 }
 
+// Damage after records: the log has those before it, and the report nothing.
+// M1, E, M2, each with its last byte turned. Result: damage at its place; the bundles before it; nothing.
+#[test]
+fn damage_after_records(rt: HostRuntime) -> Result<(), Fail> {
+    let state = RandomState::new(&rt)?;
+    let alloc = rt.alloc();
+    let bundles: [&[u8]; 3] = [&ONE, &EMPTY, &TWO];
+    for place in 0..3usize {
+        let mut file = store_of(alloc, false, &bundles[..place + 1])?;
+        let last = file.len().saturating_sub(1);
+        turn(&mut file, last, 1);
+        let (told, log) = log_of(&rt, &file, 0)?;
+        assert!(rt; told == Err(Fault::Damaged(place)), "at {place}");
+        assert!(rt;
+            log.as_slice() == joined(alloc, &bundles[..place])?.as_slice(),
+            "at {place}"
+        );
+        let (told, text) = report_of(&rt, state, &file)?;
+        assert!(rt;
+            told == Err(Fault::Damaged(place)) && text.is_empty(),
+            "at {place}"
+        );
+    }
+    Ok(())
+}
+
+// A reader that gives few bytes at a time, is interrupted once, and fails after each number of bytes.
+// M1, E, M2, at most 1, 7 and 100 bytes at once. Result: the device failed, and the log has the bundles that were read
+// whole before, the report nothing; where it does not fail, all.
+#[test]
+fn a_reader_that_fails(rt: HostRuntime) -> Result<(), Fail> {
+    let state = RandomState::new(&rt)?;
+    let alloc = rt.alloc();
+    let bundles: [&[u8]; 3] = [&ONE, &EMPTY, &TWO];
+    let file = shut_store(alloc, false, &bundles)?;
+    let log = joined(alloc, &bundles)?;
+    let ends: [usize; 3] = [54 + 34 + 68, 54 + 68 + 80, 54 + 102 + 148];
+    for most in [1usize, 7, 100] {
+        for good in 0..file.len() + 1 {
+            let fails = good < file.len();
+            let whole = ends.iter().filter(|end| **end <= good).count();
+            let wanted = if fails {
+                joined(alloc, &bundles[..whole.min(3)])?
+            } else {
+                log.to_vec(alloc)?
+            };
+            let mut reader = Broken::new(&file, most, good);
+            let mut text = Vec::new(alloc);
+            let told = send_log(alloc, &mut reader, 0, BundleForm::Stored, &mut text);
+            assert!(rt;
+                told == if fails {
+                    Err(Fault::Failed)
+                } else {
+                    Ok(StoreEnd::Whole)
+                },
+                "{good} bytes"
+            );
+            assert!(rt; text.as_slice() == wanted.as_slice(), "{good} bytes");
+            let mut reader = Broken::new(&file, most, good);
+            let mut text = Vec::new(alloc);
+            let told = send_report(alloc, state, &mut reader, &mut text);
+            assert!(rt;
+                told == if fails {
+                    Err(Fault::Failed)
+                } else {
+                    Ok(StoreEnd::Whole)
+                },
+                "{good} bytes"
+            );
+            assert!(rt; text.is_empty() == fails, "{good} bytes");
+        }
+    }
+    Ok(())
+}
+
 // Records that are not done when they are run again, whose bytes the log gives all the same.
 // M1, U; M1, E, E without its last byte. Result: place 1 is refused; place 2 is no bundle.
 #[test]
@@ -150,7 +233,8 @@ fn logs(rt: HostRuntime) -> Result<(), Fail> {
             bytes: Vec::new(alloc),
             taken: 3,
         };
-        let told = put_log(alloc, file.to_vec(alloc)?, from, &mut board);
+        let mut reader = file.as_slice();
+        let told = put_log(alloc, &mut reader, from, BundleForm::Stored, &mut board);
         assert!(rt; told == Ok(StoreEnd::Whole) && board.bytes.as_slice() == wanted.as_slice());
         let places: [usize; 3] = [0, 1, 2];
         assert!(rt; board.places.as_slice() == &places[from.min(3)..]);
@@ -171,7 +255,8 @@ fn a_place_that_is_taken(rt: HostRuntime) -> Result<(), Fail> {
             bytes: Vec::new(alloc),
             taken,
         };
-        let told = put_log(alloc, file.to_vec(alloc)?, 0, &mut board);
+        let mut reader = file.as_slice();
+        let told = put_log(alloc, &mut reader, 0, BundleForm::Stored, &mut board);
         assert!(rt; told == Err(Fault::Exists) && board.places.len() == taken);
     }
     Ok(())
@@ -192,7 +277,8 @@ fn a_writer_that_fails(rt: HostRuntime) -> Result<(), Fail> {
             bytes: Vec::new(alloc),
             room,
         };
-        let told = send_log(alloc, file.to_vec(alloc)?, 0, &mut narrow);
+        let mut reader = file.as_slice();
+        let told = send_log(alloc, &mut reader, 0, BundleForm::Stored, &mut narrow);
         let is_whole = room >= log.len();
         assert!(rt; told.is_ok() == is_whole, "room for {room}");
         assert!(rt; is_whole || told == Err(Fault::Unsent), "room for {room}");
@@ -201,7 +287,8 @@ fn a_writer_that_fails(rt: HostRuntime) -> Result<(), Fail> {
             bytes: Vec::new(alloc),
             room,
         };
-        let told = send_report(alloc, state, file.to_vec(alloc)?, &mut narrow);
+        let mut reader = file.as_slice();
+        let told = send_report(alloc, state, &mut reader, &mut narrow);
         let is_whole = room >= MARKERS.len();
         assert!(rt; told.is_ok() == is_whole, "room for {room}");
         assert!(rt; is_whole || told == Err(Fault::Unsent), "room for {room}");
@@ -210,17 +297,17 @@ fn a_writer_that_fails(rt: HostRuntime) -> Result<(), Fail> {
     Ok(())
 }
 
-/// Whether memory was refused, and then nothing was written; else all was done.
-fn was_refused(told: Result<StoreEnd, Fault>, text: &[u8], wanted: &[u8]) -> Option<bool> {
+/// Whether memory was refused, and then one of these was written; else all was done, and the last of them was written.
+fn was_refused(told: Result<StoreEnd, Fault>, text: &[u8], fronts: &[&[u8]]) -> Option<bool> {
     match told {
-        Err(Fault::NoMemory) if text.is_empty() => Some(true),
-        Ok(StoreEnd::Whole) if text == wanted => Some(false),
+        Err(Fault::NoMemory) if fronts.contains(&text) => Some(true),
+        Ok(StoreEnd::Whole) if fronts.last() == Some(&text) => Some(false),
         _ => None,
     }
 }
 
 // The report, the log and the cut over heaps of each size below 16,000 bytes, in steps of 16.
-// M1, E, M2. Result: out of memory, and nothing is written, or all is done; both occur.
+// M1, E, M2. Result: out of memory, and nothing is written but the whole bundles before; or all is done; both occur.
 #[test]
 fn memory_refused(rt: HostRuntime) -> Result<(), Fail> {
     let alloc = rt.alloc();
@@ -228,26 +315,26 @@ fn memory_refused(rt: HostRuntime) -> Result<(), Fail> {
     let bundles: [&[u8]; 3] = [&ONE, &EMPTY, &TWO];
     let file = shut_store(alloc, false, &bundles)?;
     let log = joined(alloc, &bundles)?;
+    let reports: [&[u8]; 2] = [&[], MARKERS.as_bytes()];
+    let logs: [&[u8]; 4] = [&[], &log[..68], &log[..80], &log];
     let mut seen = [false; 6];
     for sixteens in 1..1000usize {
         let heap = LocalHeap::new(alloc, sixteens * 16)?;
         let mut text = Vec::new(alloc);
-        if let Ok(copy) = file.to_vec(&heap) {
-            let told = send_report(&heap, state, copy, &mut text);
-            match was_refused(told, &text, MARKERS.as_bytes()) {
-                Some(true) => seen[0] = true,
-                Some(false) => seen[1] = true,
-                None => assert!(rt; false, "a report with {sixteens} times 16 bytes"),
-            }
+        let mut reader = file.as_slice();
+        let told = send_report(&heap, state, &mut reader, &mut text);
+        match was_refused(told, &text, &reports) {
+            Some(true) => seen[0] = true,
+            Some(false) => seen[1] = true,
+            None => assert!(rt; false, "a report with {sixteens} times 16 bytes"),
         }
         let mut text = Vec::new(alloc);
-        if let Ok(copy) = file.to_vec(&heap) {
-            let told = send_log(&heap, copy, 0, &mut text);
-            match was_refused(told, &text, &log) {
-                Some(true) => seen[2] = true,
-                Some(false) => seen[3] = true,
-                None => assert!(rt; false, "a log with {sixteens} times 16 bytes"),
-            }
+        let mut reader = file.as_slice();
+        let told = send_log(&heap, &mut reader, 0, BundleForm::Stored, &mut text);
+        match was_refused(told, &text, &logs) {
+            Some(true) => seen[2] = true,
+            Some(false) => seen[3] = true,
+            None => assert!(rt; false, "a log with {sixteens} times 16 bytes"),
         }
         match cut_of(&heap, &file, 1) {
             Err(Fault::NoMemory) => seen[4] = true,
