@@ -12,6 +12,7 @@ import resource
 import signal
 import shutil
 import socket
+import struct
 import subprocess
 import sys
 import tempfile
@@ -25,6 +26,7 @@ PROGRAM = os.path.abspath(sys.argv[1])
 HERE = os.path.dirname(os.path.abspath(__file__))
 HG = shutil.which("hg")
 CASES = []
+LIMITS = (65536, 67108864, 268435456, 10000, 16777216, 1024, 2147483647)
 ROOT = "b80de5d138758541c5f05265ad144ab9fa86d1db"
 EMPTY_REPLY = b"HG20" + bytes(8)
 LOST_REPLY = (b"HG20" + bytes(7) + b"\x2a\x0bERROR:ABORT" + bytes(4) + b"\x01\x00\x07\x0fmessageconnection lost"
@@ -65,7 +67,10 @@ class Host:
         self.process = subprocess.Popen([PROGRAM, "host", "--store", self.store, "--listen", "127.0.0.1:0", *words],
                                         stderr=subprocess.PIPE, stdin=subprocess.DEVNULL,
                                         restore_signals=not ignores_signals)
-        self.said = self.process.stderr.readline().decode()
+        self.said, self.kept = self.process.stderr.readline().decode(), []
+        while " bytes behind them are kept in " in self.said:
+            self.kept.append(self.said)
+            self.said = self.process.stderr.readline().decode()
         found = re.fullmatch(r"hg_pushd: listening on http://127\.0\.0\.1:(\d+)/, (\d+) pushes, (\d+) changesets\n",
                              self.said)
         if not found:
@@ -523,6 +528,72 @@ def a_store_cut_at_each_of_its_lengths(host):
         want(f"{length} bytes: {said}", (status, wanted in said), (3, True))
         with open(path, "rb") as file:
             want(f"the file of {length} bytes", file.read(), whole[:length])
+
+
+def frames_of(bundles):
+    """A store of these bundles, and where the gate of each record stands."""
+    made = b"HGPUSHES\2\0" + struct.pack(">7I", *LIMITS) + b"the name of this"
+    digest, gates = hashlib.sha1(made).digest(), []
+    for it in bundles:
+        label = len(it).to_bytes(4, "big") + bytes(9)
+        digest = hashlib.sha1(digest + label + hashlib.sha1(it).digest()).digest()
+        gates.append(len(made))
+        made += b"\xff" + label + digest + it
+    return made + b"\0", gates
+
+
+def files_in(folder):
+    """Its files but the store, each with its bytes."""
+    found = {}
+    for name in os.listdir(folder):
+        if name != "pushes":
+            with open(f"{folder}/{name}", "rb") as file:
+                found[name] = file.read()
+    return found
+
+
+@case
+def a_gate_that_became_shut(host):
+    """Of five pushes the gate of the second becomes 0: the last four are kept, and that is printed. Where it hides more
+    than one batch, or becomes anything else, the store is refused, and stays as it is."""
+    whole, gates = frames_of([EMPTY] * 5)
+    os.mkdir(host.store)
+    path = f"{host.store}/pushes"
+    for at, value in [(gate, value) for gate in gates for value in (1, 2, 127, 128, 254)]:
+        turned = bytearray(whole)
+        turned[at] = value
+        with open(path, "wb") as file:
+            file.write(turned)
+        status, _, said = host.run("host", "--store", host.store, "--listen", "127.0.0.1:0")
+        want(f"gate {value}", (status, f"{path}: a store that is not read: damage" in said), (3, True))
+        with open(path, "rb") as file:
+            want("the file", file.read(), bytes(turned))
+    for bundles, again in ((EMPTY, 0), (EMPTY, 0), (ROOT_PUSH, 2)):
+        whole, gates = frames_of([EMPTY] + [bundles] * 4)
+        turned = bytearray(whole)
+        turned[gates[1]] = 0
+        with open(path, "wb") as file:
+            file.write(turned)
+        want("it is served", host.start(), (1, 0))
+        name = "pushes.tail-1" + (f".{again}" if again else "")
+        size = len(whole) - gates[1]
+        want("what is said", host.kept, [
+            f"hg_pushd: {path}: 1 pushes are whole; {size} bytes behind them are kept in {host.store}/{name}\n"])
+        host.kill()
+        want("what is kept", files_in(host.store)[name], bytes(turned[gates[1]:]))
+        with open(path, "rb") as file:
+            want("the store", file.read(), whole[:gates[1]] + b"\0")
+    whole, gates = frames_of([EMPTY] * 70)
+    turned = bytearray(whole)
+    turned[gates[1]] = 0
+    with open(path, "wb") as file:
+        file.write(turned)
+    before = files_in(host.store)
+    status, _, said = host.run("host", "--store", host.store, "--listen", "127.0.0.1:0")
+    want(f"more than a batch: {said}", (status, f"{path}: " in said and "`hg_pushd cut`" in said), (3, True))
+    with open(path, "rb") as file:
+        want("the file", file.read(), bytes(turned))
+    want("the other files", files_in(host.store), before)
 
 
 @case

@@ -13,3 +13,5 @@ mod Repair
 mod FileSteps
 mod Opens
 mod AtRest
+mod Tails
+mod Again

@@ -10,4 +10,6 @@ pub mod History
 pub mod FileLaws
 pub mod Openings
 pub mod Folders
+pub mod Tails
+pub mod Again
 pub mod code

@@ -6,6 +6,7 @@ ghost use Rattle.hg_store.specs.Folders.{IsLookedFor, IsMadeAtMost};
 ghost use Rattle.hg_store.specs.Head.{head_for};
 ghost use Rattle.hg_store.specs.Log.{IsSettled};
 ghost use Rattle.hg_store.specs.Openings.{IsFound, IsOfFolder, IsUnopened};
+ghost use Rattle.hg_store.specs.Tails.{IsKeptAtMost, LosesNothing};
 
 use crate::calls::Calls;
 use crate::device::{Device, DeviceError};
@@ -80,7 +81,7 @@ pub fn new_identity<R: Files<File = File>>(files: &R) -> Result<[u8; 16], StoreF
 
 /// Opens the store in a folder, and holds it against other processes until it is dropped. The folder is synced, since
 /// whoever gave the file its name may have ended before that; where this fails the store is not opened. Then it is
-/// read and brought in order as [`open_file`] does.
+/// read, its tail is kept in the folder, and it is brought in order, as [`open_file`] does.
 pub fn open_store<R: Files<File = File>, A: Allocator + Copy>(
     alloc: A,
     folder: &mut StoreFolder<'_, R>,
@@ -91,13 +92,18 @@ pub fn open_store<R: Files<File = File>, A: Allocator + Copy>(
     ensures found { IfOk result (λ opened. IsFound (head_for setup.now opened.identity) opened.records []
         (⟦<HostFile as Calls>⟧.history opened.log.device.calls)) }
     ensures err { IfErr result (λ fault. IsOfFolder fault ⊎ ((read : HostFile)
-        × IsUnopened fault setup.now [] (⟦<HostFile as Calls>⟧.history read))) }
-    ensures names { MatchResult result (λ _. folder.new ≡ folder.old)
+        × IsUnopened fault setup.now [] (⟦<HostFile as Calls>⟧.history read)
+        × LosesNothing [] (⟦<HostFile as Calls>⟧.history read) folder.new)) }
+    ensures names { MatchResult result (λ _. IsKeptAtMost folder.old folder.new)
         (λ fault. IsLookedFor fault folder.old folder.new) }
+
+    // What the file had after its last whole record is kept before it is cut off.
+    ensures tail { IfOk result (λ opened. LosesNothing []
+        (⟦<HostFile as Calls>⟧.history opened.log.device.calls) folder.new) }
 {
     let file = find(alloc, folder)?;
     sync_names(folder.files(), alloc, folder.path())?;
-    match open_file(alloc, HostFile::new(file), setup) {
+    match open_file(alloc, HostFile::new(file), setup, folder) {
         Ok(opened) => Ok(opened),
         Err(left) => Err(left.fault),
     }

@@ -31,7 +31,7 @@
 //!
 //! The digest before the first record is the SHA-1 of the head.
 //!
-//! A store ends at a gate that is 0, whatever stands after it, or with the file. Less than a whole record
+//! A store ends at a gate that is 0, whatever stands after it, or with the file. What stands there is kept at an opening. Less than a whole record
 //! after an open gate is a torn record. Another gate is damage, and so is another digest in a whole record.
 //!
 //! Version 1 is read, and gets no more records. There the head has the byte 1 and no name, an open gate is 1, a record has
@@ -44,9 +44,11 @@ mod device;
 mod entry;
 mod file;
 mod folder;
+mod gates;
 mod head;
 mod history;
 mod host;
+mod kept;
 pub mod laws;
 mod log;
 mod names;
@@ -59,6 +61,7 @@ mod read;
 mod record;
 mod sealed;
 mod start;
+mod tail;
 
 pub use calls::Calls;
 pub use device::{Device, DeviceError};
@@ -71,6 +74,7 @@ pub use folder::{
 pub use head::{Head, HeadFault, Setup, Version};
 pub use history::{Call, History};
 pub use host::{HostFile, read_all};
+pub use kept::KeptTail;
 pub use log::Log;
 pub use names::StoreFolder;
 pub use opening::{RecoverFault, recover};
@@ -81,3 +85,4 @@ pub use read::{Found, ReadFault, read_records};
 pub use record::{NoRecord, next_record, put_record};
 pub use sealed::Sealed;
 pub use start::{Opened, StoreFault, Unopened, open_file};
+pub use tail::{BATCH_BYTES, BATCH_RECORDS, TailFault, TailKeeper};

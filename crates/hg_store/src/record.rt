@@ -126,7 +126,7 @@ pub fn next_record<'a>(
 }
 
 /// The record after an open gate.
-fn record_behind<'a>(
+pub(crate) fn record_behind<'a>(
     version: Version,
     digest: &mut [u8; 20],
     behind: &'a [u8],

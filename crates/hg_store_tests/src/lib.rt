@@ -50,4 +50,6 @@ mod folder_tests;
 #[cfg(test)]
 mod paper;
 #[cfg(test)]
+mod tail_tests;
+#[cfg(test)]
 mod tests;

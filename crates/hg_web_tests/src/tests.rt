@@ -23,6 +23,7 @@ use hg_commit::{KeptClient, Ledger, Parts, Storing};
 use hg_durable::{ClosedKept, close_kept};
 use hg_help_serve_tests::{client_of, new_log, settings};
 use hg_help_store_tests::device::Memory;
+use hg_help_store_tests::drawer::Drawer;
 use hg_queue::{PartQueue, Taker};
 use hg_recovery::replay_records;
 use hg_repo::Repo;
@@ -237,7 +238,7 @@ fn kept_on<R: RandomSource + Abort>(rt: &R, alloc: Global, device: &Memory) -> u
         Ok(device) => device,
         Err(_) => panic!(rt; "no memory for a device"),
     };
-    let found = match recover(alloc, &mut again) {
+    let found = match recover(alloc, &mut again, &mut Drawer::new(alloc)) {
         Ok(found) => found,
         Err(_) => panic!(rt; "no store is left"),
     };
