@@ -554,8 +554,9 @@ def files_in(folder):
 
 @case
 def a_gate_that_became_shut(host):
-    """Of five pushes the gate of the second becomes 0: the last four are kept, and that is printed. Where it hides more
-    than one batch, or becomes anything else, the store is refused, and stays as it is."""
+    """Of five pushes the gate of the second becomes 0: the last four are kept, and that is printed; and so are three, of
+    which the second has 16 MiB. Where it hides more than one batch, or becomes anything else, the store is refused, and
+    stays as it is."""
     whole, gates = frames_of([EMPTY] * 5)
     os.mkdir(host.store)
     path = f"{host.store}/pushes"
@@ -568,8 +569,9 @@ def a_gate_that_became_shut(host):
         want(f"gate {value}", (status, f"{path}: a store that is not read: damage" in said), (3, True))
         with open(path, "rb") as file:
             want("the file", file.read(), bytes(turned))
-    for bundles, again in ((EMPTY, 0), (EMPTY, 0), (ROOT_PUSH, 2)):
-        whole, gates = frames_of([EMPTY] + [bundles] * 4)
+    most = [EMPTY, bytes(2 ** 24 - 34), EMPTY]
+    for bundles, again in (([EMPTY] * 4, 0), ([EMPTY] * 4, 0), ([ROOT_PUSH] * 4, 2), (most, 3)):
+        whole, gates = frames_of([EMPTY] + bundles)
         turned = bytearray(whole)
         turned[gates[1]] = 0
         with open(path, "wb") as file:
@@ -583,17 +585,18 @@ def a_gate_that_became_shut(host):
         want("what is kept", files_in(host.store)[name], bytes(turned[gates[1]:]))
         with open(path, "rb") as file:
             want("the store", file.read(), whole[:gates[1]] + b"\0")
-    whole, gates = frames_of([EMPTY] * 70)
-    turned = bytearray(whole)
-    turned[gates[1]] = 0
-    with open(path, "wb") as file:
-        file.write(turned)
-    before = files_in(host.store)
-    status, _, said = host.run("host", "--store", host.store, "--listen", "127.0.0.1:0")
-    want(f"more than a batch: {said}", (status, f"{path}: " in said and "`hg_pushd cut`" in said), (3, True))
-    with open(path, "rb") as file:
-        want("the file", file.read(), bytes(turned))
-    want("the other files", files_in(host.store), before)
+    for bundles in ([EMPTY] * 70, [EMPTY, EMPTY, bytes(2 ** 24 - 33), EMPTY]):
+        whole, gates = frames_of(bundles)
+        turned = bytearray(whole)
+        turned[gates[1]] = 0
+        with open(path, "wb") as file:
+            file.write(turned)
+        before = files_in(host.store)
+        status, _, said = host.run("host", "--store", host.store, "--listen", "127.0.0.1:0")
+        want(f"more than a batch: {said}", (status, f"{path}: " in said and "`hg_pushd cut`" in said), (3, True))
+        with open(path, "rb") as file:
+            want("the file", file.read(), bytes(turned))
+        want("the other files", files_in(host.store), before)
 
 
 @case

@@ -14,7 +14,10 @@ use Rattle.hg_store.specs.declared.head.Version.TheVariants.{First, Second}
 use Rattle.std.specs.Prelude.{Result, Ok, Err}
 use Rattle.hg_store.specs.declared.record.NoRecord.{NoRecord}
 use Rattle.hg_store.specs.declared.record.NoRecord.TheVariants.{Damaged, End, Torn}
+use Rattle.hg_store.specs.declared.head.Setup.{Setup}
+use Rattle.hg_store.specs.declared.start.StoreFault.{StoreFault}
 use Rattle.hg_store.specs.declared.tail.TailFault.{TailFault}
+use Rattle.hg_store.specs.Openings.{IsUnopened}
 use Rattle.hg_store.specs.declared.tail.TailFault.TheVariants.{Hidden, Unkept, NoMemory}
 use Rattle.hg_store.proofs.Frames.{frame_is, length-frame}
 use Rattle.std.proofs.Common.{drop}
@@ -331,3 +334,12 @@ pub later_of : {A B C D : Type 0} → (C → D) → A ⊎ (B ⊎ C) → A ⊎ (B
 later_of f (inl a) = inl a
 later_of f (inr (inl b)) = inr (inl b)
 later_of f (inr (inr c)) = inr (inr (f c))
+
+-- the same of a file on which no call was made before
+pub lost_of_none : (before now done : List Event) → before ≡ [] → LosesNothing before now done
+    → LosesNothing [] now done
+lost_of_none before now done none lost = subst (λ (l : List Event). LosesNothing l now done) none lost
+
+pub unopened_of_none : (fault : StoreFault) (setup : Setup) (before now : List Event) → before ≡ []
+    → IsUnopened fault setup before now → IsUnopened fault setup [] now
+unopened_of_none fault setup before now none why = subst (λ (l : List Event). IsUnopened fault setup l now) none why

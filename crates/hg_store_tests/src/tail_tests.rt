@@ -20,16 +20,16 @@ fn standard() -> Setup {
     }
 }
 
-/// A store of records of these sizes, of which the gate of one is shut, with a shut gate; and where the one ends that
-/// is before it.
+/// A store of records of these sizes, of which the gate of one is shut, or of none, with a shut gate at its end; and
+/// where the first shut gate is.
 fn store_of(alloc: Global, sizes: &[usize], shut: usize) -> Result<(Vec<u8>, usize), Fail> {
     let mut file = Vec::new(alloc);
     standard().head([7; 16]).put(&mut file)?;
     let mut digest = read_records(alloc, &file)?.digest;
-    let mut end = file.len();
+    let mut gate = None;
     for (place, size) in sizes.iter().enumerate() {
         if place == shut {
-            end = file.len();
+            gate = Some(file.len());
         }
         let bundle = vec![in alloc; 7u8; *size]?;
         digest = put_next(
@@ -40,6 +40,7 @@ fn store_of(alloc: Global, sizes: &[usize], shut: usize) -> Result<(Vec<u8>, usi
             (9, b"ann", &bundle),
         )?;
     }
+    let end = gate.unwrap_or(file.len());
     file.push(0)?;
     if let Some(gate) = file.as_mut_slice().get_mut(end) {
         *gate = 0;
@@ -140,6 +141,71 @@ fn a_gate_of_another_value(rt: HostRuntime) -> Result<(), Fail> {
     Ok(())
 }
 
+// A store of three records, each byte after the head with each other value. Result: it is opened where a gate was shut,
+// and then all from that gate on is kept; else it is refused, and nothing changes.
+#[test]
+fn a_byte_of_another_value(rt: HostRuntime) -> Result<(), Fail> {
+    let alloc = rt.alloc();
+    let (file, head) = store_of(alloc, &[], 0)?;
+    let mut shut = 0;
+    let mut refused = 0;
+    let sizes = [2usize, 0, 3];
+    let (file, _) = store_of(alloc, &sizes, 9)?;
+    for at in head..file.len() {
+        for add in 1..=255u8 {
+            let mut turned = file.to_vec(alloc)?;
+            if let Some(byte) = turned.as_mut_slice().get_mut(at) {
+                *byte = byte.wrapping_add(add);
+            }
+            let came = opened(alloc, &turned, NO_LIMIT, false)?;
+            match came.records {
+                Ok(place) => {
+                    shut += 1;
+                    let (cut, gate) = store_of(alloc, &sizes, place)?;
+                    assert_eq!(rt; (at, turned.as_slice()), (gate, cut.as_slice()));
+                    assert!(rt; has_kept(&came.drawer, place, behind(&turned, at)));
+                    assert_eq!(rt; came.paper.synced.as_slice(), front(&turned, at.saturating_add(1)));
+                }
+                Err(_) => {
+                    refused += 1;
+                    assert_eq!(rt; came.paper.bytes.as_slice(), turned.as_slice());
+                    assert!(rt; came.drawer.tails.is_empty() && came.paper.steps.is_empty());
+                }
+            }
+        }
+    }
+    assert_eq!(rt; (shut, refused), (3, (file.len() - head) * 255 - 3));
+    Ok(())
+}
+
+// The same store cut at each of its lengths. Result: behind the head and each record it is opened with what is whole, and
+// else it is refused, and nothing changes.
+#[test]
+fn a_length_of_its_own(rt: HostRuntime) -> Result<(), Fail> {
+    let alloc = rt.alloc();
+    let sizes = [2usize, 0, 3];
+    let (file, _) = store_of(alloc, &sizes, 9)?;
+    let mut place = 0;
+    for len in 0..file.len() {
+        let cut = front(&file, len);
+        let (_, end) = store_of(alloc, &sizes, place)?;
+        let came = opened(alloc, cut, NO_LIMIT, false)?;
+        if len == end {
+            assert_eq!(rt; came.records, Ok(place), "{len} bytes");
+            assert_eq!(rt; front(&came.paper.synced, len), cut);
+            assert_eq!(rt; behind(&came.paper.synced, len), [0].as_slice());
+            assert!(rt; came.drawer.tails.is_empty());
+            place += 1;
+        } else {
+            assert!(rt; came.records.is_err(), "{len} bytes");
+            assert_eq!(rt; came.paper.bytes.as_slice(), cut);
+            assert!(rt; came.drawer.tails.is_empty() && came.paper.steps.is_empty());
+        }
+    }
+    assert_eq!(rt; place, 4);
+    Ok(())
+}
+
 // A shut gate, nothing, and zeroes after the records: nothing is kept.
 #[test]
 fn a_tail_that_says_nothing(rt: HostRuntime) -> Result<(), Fail> {
@@ -156,8 +222,8 @@ fn a_tail_that_says_nothing(rt: HostRuntime) -> Result<(), Fail> {
     Ok(())
 }
 
-// Behind one record stand as many as a batch has, and more; then three, of which the second has 16 MiB with its frame of
-// 37 bytes, and one more: the store is damaged where one stands behind more than a batch may hold.
+// Behind one record stand as many as a batch has, and more: the store is damaged where one stands behind more than a
+// batch may hold.
 #[test]
 fn more_than_one_batch(rt: HostRuntime) -> Result<(), Fail> {
     let alloc = rt.alloc();
@@ -174,12 +240,6 @@ fn more_than_one_batch(rt: HostRuntime) -> Result<(), Fail> {
             assert_eq!(rt; came.records, Ok(1), "{more} records");
             assert!(rt; has_kept(&came.drawer, 1, behind(&file, end)));
         }
-    }
-    for (less, wanted) in [(37usize, Ok(1)), (36, Err(hidden))] {
-        let size = BATCH_BYTES - less;
-        let (file, _) = store_of(alloc, &[1, 2, size, 3], 1)?;
-        let came = opened(alloc, &file, NO_LIMIT, false)?;
-        assert_eq!(rt; came.records, wanted, "{size} bytes");
     }
     Ok(())
 }

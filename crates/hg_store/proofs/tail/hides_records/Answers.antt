@@ -1,4 +1,4 @@
-use Rattle.std.proofs.Common.{◌≡◌, ◌∙◌, ◌∷◌, ap, arith}
+use Rattle.std.proofs.Common.{◌∙◌, ◌∷◌, ap, arith, sym, eqb-true}
 use Rattle.hg_store.specs.Records.{open_gate}
 use Rattle.hg_store.specs.Tails.{beyond_with}
 use Rattle.hg_store.proofs.Tails.{begun, next_walk, none_of, one_too_many, over, shorter, stopped}
@@ -40,4 +40,4 @@ records-preserved c =
 pub returns-clause-shown : goal.returns-clause-shown
 returns-clause-shown c = λ _.
     over c.args.version c.args.start.now c.args.tail.now c.records.digest c.records.count c.records.beyond
-    c.records.rest.now c.records.invariant (omega (arith, c.records-test.false))
+    c.records.rest.now c.records.invariant (eqb-true _ _ (sym c.is_empty.ensures ∙ c.records-test.false))
