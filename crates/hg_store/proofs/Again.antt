@@ -1,12 +1,12 @@
 -- Gates that are written once more.
-use Rattle.std.proofs.Common.{◌≡◌, ◌⊎◌, inl, inr, ⊎_elim, ℕ, zero, suc, ◌+◌, ◌-◌, ◌<◌, ◌≤◌, ◌^◌, Bool, true, false, List, [], ◌∷◌, ◌++◌, length, take, drop, get_or}
+use Rattle.std.proofs.Common.{◌≡◌, ◌⊎◌, inl, inr, ℕ, zero, suc, ◌+◌, ◌-◌, ◌<◌, ◌≤◌, ◌^◌, Bool, true, false, List, [], ◌∷◌, ◌++◌, length, take, drop, get_or}
 use Rattle.std.proofs.Common.{refl, sym, ap, ◌∙◌, subst, arith, append_assoc, length-append, take-append-drop, length-drop}
 use Rattle.std.proofs.lemmas.List.{take_at, take_all, drop_at, take_more, append-nil}
 use Rattle.std.proofs.lemmas.Bool.{cases_lt}
 use Rattle.std.specs.Prelude.{Result, Ok, Err, MatchResult, OnOk}
 use Rattle.std.specs.List.{AllByRecursion}
-use Rattle.hg_store.specs.Calls.{Continue, Event, FileState, LeftSince, MayLeave, after_sync, began, gave_up, state_of, synced, wrote}
-use Rattle.hg_store.specs.Device.{Only, Overwrites, Torn}
+use Rattle.hg_store.specs.Calls.{Continue, Event, FileState, LeftSince, MayLeave, after_sync, gave_up, state_of, synced, wrote}
+use Rattle.hg_store.specs.Device.{Only}
 use Rattle.hg_store.specs.Entries.{Entry}
 use Rattle.hg_store.specs.Files.{digest_behind, stored}
 use Rattle.hg_store.specs.Again.{AreOpenedAgain, IsAmong, IsStill}
@@ -16,7 +16,7 @@ use Rattle.hg_store.specs.Log.{at_rest}
 use Rattle.hg_store.specs.Records.{IsRecord, frame, frames, open_gate}
 use Rattle.hg_store.specs.declared.head.Head.{Head}
 use Rattle.hg_store.specs.declared.head.Version.{Version}
-use Rattle.hg_store.specs.declared.head.Version.TheVariants.{First, Second}
+use Rattle.hg_store.specs.declared.head.Version.TheVariants.{Second}
 use Rattle.hg_store.proofs.FileSteps.{write_leaves}
 use Rattle.hg_store.proofs.Frames.{length-frame, stored-append}
 

@@ -1,12 +1,12 @@
 -- What stands after the last whole record, and what is lost of it.
-use Rattle.std.proofs.Common.{◌≡◌, ◌≢◌, ◌⊎◌, inl, inr, ℕ, zero, suc, ◌+◌, ◌-◌, ◌<◌, ◌≤◌, ◌^◌, List, [], ◌∷◌, ◌++◌, length, true}
+use Rattle.std.proofs.Common.{◌≡◌, ◌≢◌, ◌⊎◌, inl, inr, ℕ, zero, suc, ◌+◌, ◌-◌, ◌<◌, ◌≤◌, ◌^◌, List, [], ◌∷◌, length, true}
 use Rattle.std.proofs.Common.{refl, sym, ap, ◌∙◌, subst, arith, length-append}
 use Rattle.hg_store.specs.Calls.{Continue, Event, LeftSince, MayLeave, began, state_of, tail_kept}
 use Rattle.hg_store.specs.Device.{LeavesOnly, Only}
 use Rattle.hg_store.specs.Entries.{Entry}
 use Rattle.hg_store.specs.Files.{IsStore, digest_behind}
 use Rattle.hg_store.specs.Head.{version_of}
-use Rattle.hg_store.specs.Records.{IsDamaged, IsEnd, IsNext, IsRecord, IsTorn, digest_of, frame, numbers_size, open_gate}
+use Rattle.hg_store.specs.Records.{IsDamaged, IsEnd, IsNext, IsRecord, IsTorn, digest_of, frame, open_gate}
 use Rattle.hg_store.specs.Tails.{HidesRecords, IsFull, IsHidingStore, IsKept, IsKeptAtMost, IsTailRefused, LosesNothing, PassesBatch, beyond_with, is_blank}
 use Rattle.hg_store.specs.declared.head.Head.{Head}
 use Rattle.hg_store.specs.declared.head.Version.{Version}

@@ -1,5 +1,4 @@
 -- What is noted of a call.
-use Rattle.std.specs.Prelude.{ℕ, List}
 use Rattle.hg_store.specs.declared.history.Call.{Call}
 use Rattle.hg_store.specs.declared.history.Call.TheVariants.{Began, Wrote, Shortened, Synced, Placed, GaveUp, Missed, Renewed, TailKept}
 use Rattle.hg_store.specs.Calls.{Event, began, wrote, shortened, synced, placed, gave_up, missed, renewed, tail_kept}

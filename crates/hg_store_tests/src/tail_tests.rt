@@ -164,7 +164,10 @@ fn a_byte_of_another_value(rt: HostRuntime) -> Result<(), Fail> {
                     let (cut, gate) = store_of(alloc, &sizes, place)?;
                     assert_eq!(rt; (at, turned.as_slice()), (gate, cut.as_slice()));
                     assert!(rt; has_kept(&came.drawer, place, behind(&turned, at)));
-                    assert_eq!(rt; came.paper.synced.as_slice(), front(&turned, at.saturating_add(1)));
+                    assert_eq!(rt;
+                        came.paper.synced.as_slice(),
+                        front(&turned, at.saturating_add(1))
+                    );
                 }
                 Err(_) => {
                     refused += 1;

@@ -17,9 +17,13 @@ overflow_sub-at g c =
     let last : c.gates.left ≡ k + 1 = omega (arith, c.gates-test.true) in
     let is : r ≡ get_or found.records k r = c.index-records-left.is
     ∙ ap (λ (rs : List Entry). get_or rs k r) c.as_slice-records.ensures in
-    omega (arith, c.frame_size-at.ensures, fits found.head found.records (g.C.Calls.history c.args.device.now.calls)
-    (g.C.Calls.history c.gates.device.calls) c.gates.left c.gates.at c.gates.invariant c.requires.settled.version
-    c.requires.settled.file k last r is)
+    omega (
+      arith,
+      c.frame_size-at.ensures,
+      fits found.head found.records (g.C.Calls.history c.args.device.now.calls)
+          (g.C.Calls.history c.gates.device.calls) c.gates.left c.gates.at c.gates.invariant c.requires.settled.version
+          c.requires.settled.file k last r is,
+    )
 
 pub returns-in-Err-clause-still : goal.returns-in-Err-clause-still
 returns-in-Err-clause-still g c =

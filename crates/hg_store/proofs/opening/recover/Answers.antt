@@ -1,4 +1,4 @@
-use Rattle.std.proofs.Common.{◌≡◌, inl, inr, ℕ, List, drop, sym, ap, ◌∙◌, subst}
+use Rattle.std.proofs.Common.{◌≡◌, inr, ℕ, List, drop, sym, ap, ◌∙◌, subst}
 use Rattle.hg_store.specs.Files.{StandsFor}
 use Rattle.hg_store.proofs.Moments.{no_more, one_behind}
 use Rattle.hg_store.proofs.Repair.{ends_as, here_stands, is_old, is_torn, only_as, stands_as}

@@ -1,4 +1,4 @@
-use Rattle.std.proofs.Common.{◌≡◌, ◌∙◌, inl, inr, [], ℕ, List, ap, length, refl, subst, sym}
+use Rattle.std.proofs.Common.{◌≡◌, ◌∙◌, inr, [], ℕ, List, ap, length, refl, subst, sym}
 use Rattle.std.specs.List.{AllByRecursion}
 use Rattle.hg_store.specs.Calls.{Continue, state_of}
 use Rattle.hg_store.specs.FileLaws.{now_alone}
@@ -13,7 +13,7 @@ use Rattle.hg_store.specs.Tails.{LosesNothing}
 use Rattle.hg_store.specs.declared.opening.RecoverFault.TheVariants.{Device}
 use Rattle.hg_store.proofs.Again.{after_still, again_for, all_more}
 use Rattle.hg_store.proofs.Tails.{each_of, kept_since, later_of}
-use Rattle.hg_store.proofs.Opens.{failed_is, found_is, has_name, head_is, only_first, refused_is, stopped_is}
+use Rattle.hg_store.proofs.Opens.{failed_is, found_is, head_is, only_first, refused_is, stopped_is}
 use Rattle.hg_store.proofs.start.open_file.Goals as goal
 
 pub returns-in-Err-has_no_other_setup-clause-err : goal.returns-in-Err-has_no_other_setup-clause-err
