@@ -1,8 +1,8 @@
 -- A store that is made where there is none.
-use Rattle.std.proofs.Common.{◌≡◌, inl, inr, List, ◌∷◌, refl, subst}
+use Rattle.std.proofs.Common.{◌≡◌, inl, inr, List, [], ◌∷◌, refl, subst, sym}
 use Rattle.std.specs.Prelude.{Result, Ok, Err, MatchResult}
 use Rattle.hg_store.specs.Calls.{Event, missed}
-use Rattle.hg_store.specs.Tails.{IsKeptAtMost}
+use Rattle.hg_store.specs.Tails.{IsKeptAtMost, LosesNothing}
 use Rattle.hg_store.specs.Folders.{IsLookedFor, IsMadeAtMost, IsMadeWhereNone, IsMissedAtMost}
 use Rattle.hg_store.specs.declared.start.StoreFault.{StoreFault}
 use Rattle.hg_store.specs.declared.start.StoreFault.TheVariants.{Missing, Exists, Held, Linked, OtherPublishing, OtherLimits, Recover}
@@ -32,3 +32,7 @@ pub made_then : (before none made now : List Event) → none ≡ missed ∷ befo
     → IsMissedAtMost made now → IsMadeWhereNone before now
 made_then before none made now is made_is again =
     inr (made, subst (λ (events : List Event). IsMadeAtMost events made) is made_is, again)
+
+-- no byte is lost by the same calls
+pub lost_by : (calls same done : List Event) → same ≡ calls → LosesNothing [] calls done → LosesNothing [] same done
+lost_by calls same done is lost = subst (λ (l : List Event). LosesNothing [] l done) (sym is) lost
