@@ -73,16 +73,18 @@ module _ {T : Type 0} (step : ℕ → Entry → T → T → Type 0) (version : V
     pub visits_more : (c : Option (List ℕ)) (entry : Entry) (next : List ℕ) (last : T)
         → GivesRecord version digest b c entry next → step place entry mid last
         → HasVisited step version start next a c (place + 1) first last
-    visits_more c entry next last gives done = record {
-      records = has.records ++ entry ∷ [];
-      each = each-push version has.records entry has.each gives.is;
-      gone = more_gone c entry gives.gone;
-      digest_is = gives.digest_is ∙ ap (λ (d : List ℕ). digest_of version d entry) has.digest_is
-          ∙ sym (last_digest-push version start has.records entry);
-      count = omega (arith, length-append has.records (entry ∷ []), has.count);
-      visited = visits-push step 0 has.records entry first mid last has.visited
-          (subst (λ (n : ℕ). step n entry mid last) (sym has.count) done);
-    }
+    visits_more c entry next last gives done =
+        let here : place ≡ 0 + length has.records = omega (arith, has.count) in
+        record {
+          records = has.records ++ entry ∷ [];
+          each = each-push version has.records entry has.each gives.is;
+          gone = more_gone c entry gives.gone;
+          digest_is = gives.digest_is ∙ ap (λ (d : List ℕ). digest_of version d entry) has.digest_is
+              ∙ sym (last_digest-push version start has.records entry);
+          count = omega (arith, length-append has.records (entry ∷ []), has.count);
+          visited = visits-push step 0 has.records entry first mid last has.visited
+              (subst (λ (n : ℕ). step n entry mid last) here done);
+        }
 
     pub tail_gone : (c : Option (List ℕ)) (tail : List ℕ) → Consumes b c tail → Consumes a c (frames version start has.records ++ tail)
     tail_gone c tail gone = Consumes-trans a b c (frames version start has.records) tail has.gone gone

@@ -83,9 +83,10 @@ pub fn send_report<R: Read, W: Writer, A: Allocator + Copy>(
         Err(fault) => return Err(fault),
     };
     match sent(writer, &text) {
-        Ok(()) => Ok(ending),
-        Err(fault) => Err(fault),
+        Ok(()) => {}
+        Err(fault) => return Err(fault),
     }
+    Ok(ending)
 }
 
 /// The report of what the records give, and the lines of the journal.

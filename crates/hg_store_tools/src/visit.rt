@@ -44,14 +44,12 @@ pub(crate) fn begin<R: Read, A: Allocator + Copy>(
         Begins (R.remaining reader.old) (R.remaining reader.new) begun.head begun.digest) }
     ensures err { IfErr result (λ fault. has_no_begin fault (R.remaining reader.old) (R.remaining reader.new)) }
 {
-    match read_head(alloc, reader) {
-        Ok((head, told)) => {
-            let digest = told;
-            Ok(Beginning { head, digest })
-        }
-        Err(HeadStop::Head(fault)) => Err(Fault::Head(fault)),
-        Err(HeadStop::Device(error)) => Err(device_fault(error)),
-    }
+    let (head, digest) = match read_head(alloc, reader) {
+        Ok(found) => found,
+        Err(HeadStop::Head(fault)) => return Err(Fault::Head(fault)),
+        Err(HeadStop::Device(error)) => return Err(device_fault(error)),
+    };
+    Ok(Beginning { head, digest })
 }
 
 /// Does it with each record that the reader gives after the head of a store, in their order.

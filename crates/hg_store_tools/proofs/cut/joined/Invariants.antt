@@ -1,5 +1,5 @@
 use Rattle.std.proofs.Common.{◌≡◌, take}
-use Rattle.hg_store_tools.specs.Logging.{joined}
+use Rattle.hg_store_tools.specs.Cutting.{joined}
 use Rattle.hg_store_tools.proofs.cut.joined.Given as goal
 
 abbrev pub invariant-loop-record : goal.invariant-loop-record

@@ -3,7 +3,7 @@ use Rattle.std.proofs.lemmas.Result.{IfOk-weaker, MatchResult-weaker}
 use Rattle.hg_recovery.specs.Opening.{empty_repository}
 use Rattle.hg_store.specs.Pieces.{HasToGive}
 use Rattle.hg_store.specs.declared.head.Setup.{Setup}
-use Rattle.hg_store_tools.specs.Reporting.{IsUntold, Reports}
+use Rattle.hg_store_tools.specs.Reporting.{IsUntold, Replayed, Reports, report_text}
 use Rattle.hg_store_tools.specs.declared.fault.Fault.{Fault}
 use Rattle.hg_store_tools.specs.declared.fault.StoreEnd.{StoreEnd}
 use Rattle.hg_store_tools.proofs.Reports.{not_begun, not_told, reports, starved}
@@ -33,7 +33,8 @@ returns-clause-ok g c =
     subst (λ (e : StoreEnd). (file : List ℕ) × HasToGive a file × Reports g.row.A.Denot file e told.1.items) (sym is.0)
     (reports c.in-Ok.begun.head c.in-Ok.begun.digest a b d c.in-Ok.ensures.ok _ _
     (c.empty_repository.ensures ∙ ap (λ (s : Setup). empty_repository s) c.setup.ensures) refl
-    c.in-Ok-visit_records.ending told.1.items c.in-Ok-visit_records.ensures.ok is.1)) c.told_text.ensures.ok
+    c.in-Ok-visit_records.ending told.1.items c.in-Ok-visit_records.ensures.ok
+    (subst (λ (r : Replayed g.row.A.Denot). told.1.items ≡ report_text r.repo r.count) c.replayed.view_is is.1))) c.told_text.ensures.ok
 
 pub returns-clause-err : goal.returns-clause-err
 returns-clause-err g c =

@@ -9,8 +9,8 @@ returns-in-Err-clause-err g c =
     let told = c.in-Err.ensures.err in
     (told.0, told.1, untold told.2 refl)
 
-pub returns-in-Ok-sent-clause-ok : goal.returns-in-Ok-sent-clause-ok
-returns-in-Ok-sent-clause-ok g c =
+pub returns-clause-ok : goal.returns-clause-ok
+returns-clause-ok g c =
     let told = c.in-Ok.ensures.ok in
     let out = c.in-Ok-sent.ensures.ok in
     let before = g.W.Writer.told c.args.writer.now in

@@ -6,11 +6,11 @@ use Rattle.hg_store_tools.specs.Logging.{IsInForm, LogForm, SendsNoRecord, Sends
 use Rattle.hg_store_tools.proofs.Logs.{sends_front, sends_none, sends_record}
 use Rattle.hg_store_tools.proofs.bundles.LoggingRecordVisit.visit.Goals as goal
 
-pub returns-then-place-from-clause-ok : goal.returns-then-place-from-clause-ok
-returns-then-place-from-clause-ok g c =
+pub returns-then-place-self-clause-ok : goal.returns-then-place-self-clause-ok
+returns-then-place-self-clause-ok g c =
     let told = (g.W.Writer.told c.args.target.now).taken in
     subst (λ (l : LogForm). SendsRecord g.row.A.Denot l c.args.place c.args.entry.now told told) c.self.view_is
-    (inl (c.if-place-from.true, refl))
+    (inl (c.if-place-self.true, refl))
 
 pub returns-in-Ok-clause-ok : goal.returns-in-Ok-clause-ok
 returns-in-Ok-clause-ok g c =
@@ -29,7 +29,7 @@ returns-in-Ok-clause-ok g c =
     c.self.view_is
     (on_ok_weaker c.sent.result
     (λ out. sends_record A log c.args.place c.args.entry.now bundle c.bytes.result.now before after out.0
-    c.if-place-from.false is c.bytes.ensures out.1) c.sent.ensures.ok)
+    c.if-place-self.false is c.bytes.ensures out.1) c.sent.ensures.ok)
 
 pub returns-in-Ok-clause-err : goal.returns-in-Ok-clause-err
 returns-in-Ok-clause-err g c =
@@ -50,7 +50,7 @@ returns-in-Ok-clause-err g c =
     (λ (l : LogForm). SendsNoRecord A l c.args.place c.args.entry.now fault before.taken after.taken)
     c.self.view_is
     (sends_front A log c.args.place c.args.entry.now fault bundle c.bytes.result.now before after out.0 out.1
-    c.if-place-from.false is c.bytes.ensures out.2 out.3))
+    c.if-place-self.false is c.bytes.ensures out.2 out.3))
 
 pub returns-in-Err-clause-err : goal.returns-in-Err-clause-err
 returns-in-Err-clause-err g c =
@@ -62,6 +62,6 @@ returns-in-Err-clause-err g c =
     } in
     let told = (g.W.Writer.told c.args.target.now).taken in
     subst (λ (l : LogForm). SendsNoRecord A l c.args.place c.args.entry.now c.in-Err.fault told told) c.self.view_is
-    (sends_none A log c.args.place c.args.entry.now c.in-Err.fault told c.if-place-from.false
+    (sends_none A log c.args.place c.args.entry.now c.in-Err.fault told c.if-place-self.false
     (subst (λ (stored : List ℕ). IsUncanonical A c.in-Err.fault c.args.place log.limits stored) c.bundle.ensures
     c.in-Err.ensures.err))

@@ -5,11 +5,11 @@ use Rattle.hg_connection.specs.Devices.{TellsMore}
 use Rattle.hg_store_tools.specs.Logging.{IsInForm, LogForm, PutsRecord, formed_bytes}
 use Rattle.hg_store_tools.proofs.bundles.ShelvingRecordVisit.visit.Goals as goal
 
-pub returns-then-place-from-clause-ok : goal.returns-then-place-from-clause-ok
-returns-then-place-from-clause-ok g c =
+pub returns-then-place-log-clause-ok : goal.returns-then-place-log-clause-ok
+returns-then-place-log-clause-ok g c =
     let has = g.S.BundleSink.has c.args.target.now in
     subst (λ (l : LogForm). PutsRecord g.row.A.Denot l c.args.place c.args.entry.now has has) c.log.view_is
-    (inl (c.if-place-from.true, refl))
+    (inl (c.if-place-log.true, refl))
 
 pub returns-in-Ok-clause-ok : goal.returns-in-Ok-clause-ok
 returns-in-Ok-clause-ok g c =
@@ -28,7 +28,7 @@ returns-in-Ok-clause-ok g c =
     c.log.view_is
     (on_ok_weaker c.put.result
     (λ told. inr (
-      c.if-place-from.false,
+      c.if-place-log.false,
       bundle,
       is,
       subst (λ (bytes : List ℕ). TellsMore before after ((c.args.place, bytes) ∷ [])) c.bytes.ensures told,
