@@ -18,6 +18,8 @@ pub record DiskView (A D : Type 0) : Type 0 where
   pub room : ℕ
   pub is_broken : Bool
   pub history : List (Taken A)
+  pub begun : ℕ
+  pub ended : ℕ
 
 -- The records that wait, the highest place first: how many are on the device, whether it is broken, and the history
 -- that their witness has seen. Writes are numbered as they begin: how many began, and the last one that ended well.
