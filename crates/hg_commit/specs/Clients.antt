@@ -55,8 +55,8 @@ pub record Covers {A D : Type 0} (seen : D → List ℕ) (may_leave : D → List
     pub counts : rests ≤ promise.count
     pub reached : promise.moment ≡ moment kept.log.device
 
--- One of these promises is of so many records or more, and was made after the write of that number had begun, or a later
--- one.
+-- One of these promises is of so many records or more, and was made after the write of that number had begun, or a
+-- later one.
 pub record AreWritten (promises : List Promise) (rests write : ℕ) : Type 0 where
   pub promise : Promise
   pub has : Contains promises promise

@@ -99,8 +99,8 @@ pub record Asks (before after : ReceiptView) (begun : ℕ) : Type 0 where
   pub came : after.came ≡ before.came
   pub counts : begun_in after.order ≡ begun
 
--- Behind all that a client had seen it asked for a beat, as the last of its asks; a write began after that; and what was
--- promised after that write had begun is a promise of the client, of so many records or more.
+-- Behind all that a client had seen it asked for a beat, as the last of its asks; a write began after that; and what
+-- was promised after that write had begun is a promise of the client, of so many records or more.
 pub record HasBeat (before after : ReceiptView) (rests : ℕ) : Type 0 where
   pub asked : ReceiptView
   pub begun : ℕ

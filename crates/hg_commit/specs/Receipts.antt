@@ -4,8 +4,9 @@ use Rattle.atomic_table.specs.Seated.{TableId}
 use Rattle.hg_commit.specs.Orders.{Event}
 use Rattle.hg_commit.specs.Promises.{Promise}
 
--- Which tally it is: no other has that name. And all that was promised, the latest last, how many writes began, and what was seen of the one
--- order of all that happened at it. And the name by which rooms for records are counted, and how many parts that has.
+-- Which tally it is: no other has that name. And all that was promised, the latest last, how many writes began, and
+-- what was seen of the one order of all that happened at it. And the name by which rooms for records are counted, and
+-- how many parts that has.
 pub record TallyView : Type 0 where
   pub id : TableId
   pub promises : List Promise

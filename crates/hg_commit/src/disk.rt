@@ -35,10 +35,12 @@ pub const MOST: usize = 1 << 62;
 /// How many bytes a record has in a file besides its name and its bundle: its gate, its numbers and its digest.
 const FRAME: usize = 34;
 
-/// The device, how many records are on it after those that it was opened with, and a batch that is not
-/// written yet, with how many bytes more are left to it. The records and the batch are, in order, the bundles of the
-/// first pushes of the journal that the witness has seen. Writes are numbered as they begin. Each promise of the tally is kept, and unless it is broken the keeper has one of all these
-/// records, at this moment. After a write or a sync that failed the device is not called again.
+/// The device, how many records are on it after those that it was opened with, and a batch that is not written yet,
+/// with how many bytes more are left to it. The records and the batch are, in order, the bundles of the first pushes
+/// of the journal that the witness has seen. Writes are numbered as they begin: how many began, and the number of the
+/// last one that made a promise. Each promise of the tally is kept, and unless it is broken the keeper has one of all
+/// these records, at this moment, made as that write had begun. After a write or a sync that failed the device is not
+/// called again.
 pub struct Disk<J: Storing<A>, D: Device, A: Allocator = Global> {
     log: Log<D>,
     count: usize,

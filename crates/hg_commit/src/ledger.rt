@@ -215,8 +215,8 @@ impl<J: Storing<A>, D: Device, A: Allocator + Copy> Ledger<J, D, A> {
         self.await_receipt(rt, server, client, rests, self.has_beats)
     }
 
-    /// The write that is waited for before an answer: where that is to rest on a beat, the next one that begins, for which
-    /// the client asks, and else none, as 0. `None` where the numbers end.
+    /// The write that is waited for before an answer: where that is to rest on a beat, the next one that begins, for
+    /// which the client asks, and else none, as 0. `None` where the numbers end.
     fn awaited(&self, client: &mut KeptClient<J, A>, with_beat: bool) -> Option<u64>
         ensures same { client.new.history ≡ client.old.history }
         ensures grows { HasGrown client.old.receipt client.new.receipt }

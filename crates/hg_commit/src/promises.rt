@@ -201,8 +201,8 @@ impl<J: Storing<A>, A: Allocator> Model for OpenTally<J, A> {
     ghost invariant = { λ t. (t.table.shared.table_id ≡ J.tally) × (0 < J.tally.words) × (1 < J.tally.words) };
 }
 
-/// The right to make promises at the tally of that name, and to begin writes. Contracts see all promises that were made,
-/// and how many writes began.
+/// The right to make promises at the tally of that name, and to begin writes. Contracts see all promises that were
+/// made, and how many writes began.
 #[derive(Drop)]
 pub struct Keeper<J: Storing<A>, A: Allocator = Global> {
     seat: Seat<(), Known>,

@@ -41,8 +41,8 @@ pub enum NextStep {
 
 /// The records that wait, the highest place first, and room for more; how many are on the device, with a grant
 /// for them; whether a thread writes, how many are on the device after that, and at which door that is waited for;
-/// how many writes began, and the number of the last one that made a promise; and whether a write or a sync failed. Where
-/// nothing is to be written, a write is a beat.
+/// how many writes began, and the number of the last one that made a promise; and whether a write or a sync failed.
+/// Where nothing is to be written, a write is a beat.
 pub struct Waiting<J: Storing<A>, D: Device, A: Allocator = Global> {
     records: Vec<Record<A>, A>,
     rooms: Rooms<J, A>,

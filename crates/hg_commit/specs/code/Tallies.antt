@@ -60,9 +60,9 @@ spent = record {
   heard_order = [];
 }
 
--- What one seat knows, by the one order and by the seat of the keeper: the keeper knows all promises, and how many writes
--- began. What a seat has seen begins the order, and the comings to it and the asks at it are its own. Whatever it knows or
--- heard of was promised.
+-- What one seat knows, by the one order and by the seat of the keeper: the keeper knows all promises, and how many
+-- writes began. What a seat has seen begins the order, and the comings to it and the asks at it are its own. Whatever
+-- it knows or heard of was promised.
 pub record KnownFits (seat : ℕ) (order : List Event) (at : ℕ) (v : Known) : Type 0 where
   pub kept : v.is_keeper ≡ true → (at ≡ seat) × (v.promises ≡ promises_in order) × (v.begun ≡ begun_in order)
   pub low : AreAmong v.promises (promises_in order)
@@ -72,8 +72,8 @@ pub record KnownFits (seat : ℕ) (order : List Event) (at : ℕ) (v : Known) : 
   pub heard_begins : IsPrefix v.heard_order order
 
 -- There is one order of all events: of the promises, of which the first word counts as many as each, or more; of the
--- requests that came and the beats that were asked for, each at its seat; and of the writes that began, of which the second
--- word is the number.
+-- requests that came and the beats that were asked for, each at its seat; and of the writes that began, of which the
+-- second word is the number.
 pub record IsTallied (s : State (Unit {0}) Known) : Type 0 where
   pub word : ℕ
   pub seat : ℕ
