@@ -7,8 +7,8 @@ use Rattle.hg_commit.proofs.disk.Disk.begin.Goals as goal
 pub begin_write-requires : goal.begin_write-requires
 begin_write-requires g c = ap (λ (n : ℕ). n + 1) (sym c.self.invariant.7) ∙ sym c.in-Some.ensures.1
 
-pub invariant_of-self-in-Some : goal.invariant_of-self-in-Some
-invariant_of-self-in-Some g c =
+pub invariant_of-self : goal.invariant_of-self
+invariant_of-self g c =
     let d = c.self.inside in
     let i = c.self.invariant in
     let same : c.begin_write.new.keeper.promises ≡ d.keeper.promises =

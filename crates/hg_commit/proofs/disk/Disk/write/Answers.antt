@@ -218,6 +218,9 @@ returns-clause-added g c = λ records settled b.
 pub returns-then-self-clause-beat : goal.returns-then-self-clause-beat
 returns-then-self-clause-beat g c = λ some b. absurd (some (returns-then-self-clause-written g c b).1)
 
+pub returns-then-self-clause-ended : goal.returns-then-self-clause-ended
+returns-then-self-clause-ended g c = λ some b. absurd (some (returns-then-self-clause-written g c b).1)
+
 pub returns-clause-beat : goal.returns-clause-beat
 returns-clause-beat g c = λ some b.
     let beats = g.D.Device.beats in
