@@ -1,4 +1,3 @@
-use Rattle.std.proofs.Common.{◌≡◌, true≢false, sym, ◌∙◌}
 use Rattle.hg_commit.proofs.Beats.{as_before, asks_grown, next_of}
 use Rattle.hg_commit.proofs.ledger.Ledger.awaited.Goals as goal
 
