@@ -454,6 +454,8 @@ fn show_parts<A: Allocator + Copy>(alloc: A, parts: &mut Parts<A>) -> Result<(),
     drop(text);
     let text = log_line(alloc, &push)?;
     drop(text);
+    let text = dismissal_line(alloc, 0, Dismissal::NotTaken)?;
+    drop(text);
     Ok(())
 }
 
@@ -496,6 +498,10 @@ fn the_numbers(rt: HostRuntime) -> Result<(), Fail> {
         b"hg_pushd_pushes_done_total 1\n".as_slice(),
         b"hg_pushd_pushes_aborted_total{reason=\"heads changed\"} 1\n".as_slice(),
         b"hg_pushd_pushes_aborted_total{reason=\"out of memory\"} 0\n".as_slice(),
+        b"# TYPE hg_pushd_requests_refused_total counter\n".as_slice(),
+        b"hg_pushd_requests_refused_total{reason=\"body over the limit\"} 2\n".as_slice(),
+        b"hg_pushd_requests_refused_total{reason=\"head over the limit\"} 0\n".as_slice(),
+        b"hg_pushd_requests_refused_total{reason=\"connection lost\"} 1\n".as_slice(),
         b"hg_pushd_pushed_changesets_total 1\n".as_slice(),
         b"hg_pushd_pushed_bytes_total 800\n".as_slice(),
         b"hg_pushd_lock_seconds_total 3.000000\n".as_slice(),
@@ -525,6 +531,9 @@ fn numbers_text(alloc: Global, parts: &mut Parts<Global>) -> Result<Seq<u8>, NoM
     push.outcome = ShownOutcome::Aborted(AbortReason::HeadsChanged);
     push.changesets = 0;
     tally.add(push);
+    tally.dismiss(Dismissal::LongBody);
+    tally.dismiss(Dismissal::Lost);
+    tally.dismiss(Dismissal::LongBody);
     let summary = summary(alloc, parts, &tally)?;
     metrics_text(alloc, &summary)
 }

@@ -47,6 +47,8 @@ pub(crate) struct Share<'a> {
     taken: usize,
     /// Whether there was no room for what came.
     is_over: bool,
+    /// Whether nothing came at last: the input ended.
+    has_ended: bool,
 }
 
 impl<'a> Share<'a> {
@@ -57,11 +59,13 @@ impl<'a> Share<'a> {
             came: 0,
             taken: 0,
             is_over: false,
+            has_ended: false,
         }
     }
 
-    /// Counts bytes that came.
+    /// Counts bytes that came: none where the input ended.
     pub(crate) fn grow<R: Wait>(&mut self, rt: &R, bytes: usize) {
+        self.has_ended = bytes == 0;
         self.came = self.came.saturating_add(bytes);
         let wanted = self.came.saturating_sub(FREE);
         let more = wanted.saturating_sub(self.taken);
@@ -78,6 +82,16 @@ impl<'a> Share<'a> {
     /// Whether there was room for all that came since the last answer.
     pub(crate) fn has_room(&self) -> bool {
         !self.is_over
+    }
+
+    /// Whether the input ended.
+    pub(crate) fn has_ended(&self) -> bool {
+        self.has_ended
+    }
+
+    /// Whether some of a request came that was not answered.
+    pub(crate) fn is_begun(&self) -> bool {
+        self.came > 0
     }
 
     /// Forgets what came, since it was answered. What was taken stays taken: the connection keeps the block of its
