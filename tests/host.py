@@ -465,6 +465,8 @@ def a_line_for_each_refused_request(host):
     text = host.ask("/team/metrics")[2].decode()
     found = re.findall(r'^hg_pushd_requests_refused_total\{reason="([^"]*)"\} (\d+)$', text, re.MULTILINE)
     want("the counts", {reason: int(count) for reason, count in found if count != "0"}, counts)
+    shown = re.findall(r"<span class=no><b>(\d+) ([^<]*)</b></span>", host.ask("/team")[2].decode())
+    want("the page", {reason: int(count) for count, reason in shown}, counts)
     lines = [host.process.stderr.readline().decode() for _ in wanted]
     told = [re.fullmatch(r"\S+Z refused, (.*)\n", line) for line in lines]
     want("the lines", sorted(it[1] if it else "no line" for it in told), sorted(wanted))

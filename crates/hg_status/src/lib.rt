@@ -36,6 +36,7 @@ mod page;
 mod push;
 mod push_counts;
 mod reason;
+mod refusals;
 mod room;
 mod rows;
 mod summary;
