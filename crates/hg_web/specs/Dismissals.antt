@@ -3,6 +3,9 @@ use Rattle.std.specs.Prelude.{ℕ, ◌==◌, Option, Some, None, if◌then◌els
 use Rattle.http1.specs.ReadError.{status_of}
 use Rattle.http_server.specs.declared.state.Refusal.{Refusal}
 use Rattle.http_server.specs.declared.state.Refusal.TheVariants as Unread
+use Rattle.http_server.specs.declared.state.Reason.TheVariants.{Asked, EndOfInput, Refused as IsRefused}
+use Rattle.http_server.specs.declared.state.State.{State}
+use Rattle.http_server.specs.declared.state.State.TheVariants.{Open, Closing, Upgraded, Aborted}
 use Rattle.hg_http.specs.declared.address.AddressFault.{AddressFault}
 use Rattle.hg_http.specs.declared.address.AddressFault.TheVariants.{OtherName, OtherPath, UnclearCommand}
 use Rattle.hg_http.specs.declared.answer.HttpAnswer.{HttpAnswer}
@@ -56,3 +59,12 @@ unread_as (Unread.InvalidPart fault) = NoRequest
 unread_as Unread.InvalidHost = NoRequest
 unread_as Unread.UnknownCoding = NoRequest
 unread_as (Unread.InvalidResponse fault) = NoRequest
+
+-- Why HTTP could not read the last request of a connection that stands so, if it could not.
+abbrev pub unread_of : State → Option Dismissal
+unread_of Open = None
+unread_of (Closing Asked) = None
+unread_of (Closing EndOfInput) = None
+unread_of (Closing (IsRefused why)) = Some (unread_as why)
+unread_of Upgraded = None
+unread_of Aborted = None

@@ -52,6 +52,8 @@ pub(crate) struct Share<'a> {
 }
 
 impl<'a> Share<'a> {
+    ghost use Rattle.std.specs.Prelude.{◌≡◌, nat_lt};
+
     /// Nothing yet.
     pub(crate) fn new(budget: &'a Budget) -> Share<'a> {
         Share {
@@ -85,12 +87,16 @@ impl<'a> Share<'a> {
     }
 
     /// Whether the input ended.
-    pub(crate) fn has_ended(&self) -> bool {
+    pub(crate) fn has_ended(&self) -> bool
+        ensures { result ≡ self.now.has_ended }
+    {
         self.has_ended
     }
 
     /// Whether some of a request came that was not answered.
-    pub(crate) fn is_begun(&self) -> bool {
+    pub(crate) fn is_begun(&self) -> bool
+        ensures { result ≡ nat_lt 0 self.now.came }
+    {
         self.came > 0
     }
 

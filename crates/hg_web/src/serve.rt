@@ -1,6 +1,7 @@
 //! A connection over HTTP.
 
-ghost use Rattle.std.specs.Prelude.{◌≡◌, ◌≢◌, ℕ, ◌⊎◌, Bool, true, false, Ok, List, [], ◌++◌};
+ghost use Rattle.std.specs.Prelude.{◌≡◌, ◌≢◌, ℕ, ◌⊎◌, Bool, true, false, Ok, None, Some, List, [], ◌++◌, nat_lt};
+ghost use Rattle.std.specs.Prelude.{if◌then◌else◌};
 ghost use Rattle.std.specs.Prelude.{IfOk, MatchResult, OnOk, OnErr};
 ghost use mathlib.Core.List.{IsPrefix};
 ghost use Rattle.std.specs.Io.KnownBytes.{Appends, Consumes, Keeps};
@@ -12,6 +13,8 @@ ghost use Rattle.hg_web.specs.Answering.{Responds};
 ghost use Rattle.hg_web.specs.Serving.{Converses, lost_text, no_room_text, ServesHttp};
 ghost use Rattle.hg_http.specs.Following.{AreRequests, FollowsAt, KeepsUp, limits_of};
 ghost use Rattle.hg_web.specs.code.Following.{Brings, EndsStretch, HasRead, HasSent, Passes};
+ghost use Rattle.hg_web.specs.code.Telling.{last_told};
+ghost use Rattle.hg_web.specs.Dismissals.{unread_of};
 
 use crate::budget::Share;
 use crate::dismissal::unread_as;
@@ -45,7 +48,8 @@ pub enum ConnectionEnd {
 /// Serves a connection until it is done, or until a read or a write fails, and each answer that depends on the
 /// repository once all done pushes that it rests on are on the device. A body may be as long as the limit on a
 /// stream. Where a request finds no room its rest is read and dropped, the answer says so, and the next one is
-/// served. The policy is asked of each push before it runs, and nothing is locked meanwhile. The names of header fields come from strangers, so the keys are to be random.
+/// served. The policy is asked of each push before it runs, and nothing is locked meanwhile. The names of header fields
+/// come from strangers, so the keys are to be random. Who watches hears of each request that is refused.
 pub fn serve_http<
     J: Storing<Global>,
     D: Device,
@@ -251,18 +255,40 @@ fn last_refusal(
     connection: &Connection,
     share: &Share<'_>,
     ended: &io::Result<Stretch>,
-) -> Option<Dismissal> {
+) -> Option<Dismissal>
+    ensures { result ≡ last_told (history connection.now).state share.now.has_ended (nat_lt 0 share.now.came) ended.now }
+{
     match ended {
         Ok(Stretch::Done) => unread(connection),
-        Ok(Stretch::Refused { .. }) if share.has_ended() => Some(Dismissal::Lost),
-        Ok(Stretch::Refused { .. }) => Some(Dismissal::NoRoom),
-        Err(_) if share.is_begun() => Some(Dismissal::Lost),
-        Err(_) => None,
+        Ok(Stretch::Refused { .. }) => Some(no_room_or_lost(share.has_ended())),
+        Err(_) => lost_if(share.is_begun()),
+    }
+}
+
+/// Why a request is refused that found no room, or that broke off in its body.
+fn no_room_or_lost(has_ended: bool) -> Dismissal
+    ensures { result ≡ (if has_ended then Dismissal.Lost else Dismissal.NoRoom) }
+{
+    match has_ended {
+        true => Dismissal::Lost,
+        false => Dismissal::NoRoom,
+    }
+}
+
+/// Why a request is refused with which its connection failed, if one was begun.
+fn lost_if(is_begun: bool) -> Option<Dismissal>
+    ensures { result ≡ (if is_begun then Some Dismissal.Lost else None) }
+{
+    match is_begun {
+        true => Some(Dismissal::Lost),
+        false => None,
     }
 }
 
 /// Why HTTP could not read a request, if it could not.
-fn unread(connection: &Connection) -> Option<Dismissal> {
+fn unread(connection: &Connection) -> Option<Dismissal>
+    ensures { result ≡ unread_of (history connection.now).state }
+{
     match connection.state() {
         State::Closing(Reason::Refused(why)) => Some(unread_as(why)),
         _ => None,
