@@ -429,6 +429,54 @@ def what_was_told_as_done_is_there_after_each_end(host):
     print(f"    300 changesets in {len(names)} pushes, {sum(it.tries for it in clients)} tries, {ends} ends")
 
 
+def a_request_that_breaks_off(host, sent):
+    with host.connect() as line:
+        line.sendall(sent)
+        line.shutdown(socket.SHUT_WR)
+        line.makefile("rb").read()
+
+
+@case
+def a_line_for_each_refused_request(host):
+    """What ends before a push is opened is told by a line, and counted by its reason."""
+    host.start("--log", "--memory", "1048576", "--path", "/team", "--name", "a")
+    kind = ("content-type: application/mercurial-0.1", "x-hgarg-1: heads=666f726365")
+    with host.connect() as line:
+        head = ["POST /team?cmd=unbundle HTTP/1.1", "host: a", *kind, "content-length: 4000000000", "", ""]
+        line.sendall("\r\n".join(head).encode())
+        want("a body over the limit", answer(line.makefile("rb"))[0], 413)
+    want("a head over the limit", host.ask("/team?cmd=heads", None, ("x: " + "a" * 20_000,))[0], 431)
+    want("a line over the limit", host.ask("/team?cmd=heads&x=" + "a" * 20_000)[0], 414)
+    with host.connect() as line:
+        line.sendall(b"no request\r\n\r\n")
+        want("no request", answer(line.makefile("rb"))[0], 400)
+    whole = request("/team?cmd=unbundle", ROOT_PUSH, kind)
+    for cut in (20, len(whole) - 7):
+        a_request_that_breaks_off(host, whole[:cut])
+    want("no room", b"out of memory" in host.ask("/team?cmd=unbundle", bytes(4 << 20), kind)[2], True)
+    with host.connect() as line:
+        line.sendall(request("/team?cmd=heads", None, ()).replace(b"host: a", b"host: b"))
+        want("another name", answer(line.makefile("rb"))[0], 421)
+    want("another path", host.ask("/other?cmd=heads")[0], 404)
+    want("no view", host.ask("/team/nothing")[0], 404)
+    want("two commands", host.ask("/team?cmd=heads&cmd=unbundle")[0], 400)
+    want("a page in a browser", host.ask("/team?cmd=unbundle", ROOT_PUSH, (*kind, "origin: null"))[0], 403)
+    want("heads that are not forced", host.ask("/team?cmd=unbundle", ROOT_PUSH, kind[:1])[1], "application/hg-error")
+    want("none of it was pushed", host.ask("/team?cmd=heads")[2], b"0" * 40 + b"\n")
+    wanted = ["body over the limit", "head over the limit", "head over the limit", "no request", "connection lost",
+              "connection lost", "out of memory", "for another server", "not found", "not found", "unclear command",
+              "forbidden", "command not taken"]
+    counts = {reason: wanted.count(reason) for reason in wanted}
+    text = host.ask("/team/metrics")[2].decode()
+    found = re.findall(r'^hg_pushd_requests_refused_total\{reason="([^"]*)"\} (\d+)$', text, re.MULTILINE)
+    want("the counts", {reason: int(count) for reason, count in found if count != "0"}, counts)
+    shown = re.findall(r"<span class=no><b>(\d+) ([^<]*)</b></span>", host.ask("/team")[2].decode())
+    want("the page", {reason: int(count) for count, reason in shown}, counts)
+    lines = [host.process.stderr.readline().decode() for _ in wanted]
+    told = [re.fullmatch(r"\S+Z refused, (.*)\n", line) for line in lines]
+    want("the lines", sorted(it[1] if it else "no line" for it in told), sorted(wanted))
+
+
 @case
 def a_body_that_ends_early(host):
     """Its push is aborted, which is answered where somebody still reads, and others go on."""

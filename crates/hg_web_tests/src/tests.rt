@@ -31,8 +31,8 @@ use hg_serve::{Point, Probe, Server};
 use hg_store::{Device, Log, read_records, recover};
 use hg_types::{NoMemory, Seq};
 use hg_web::{
-    Address, Budget, ConnectionEnd, Denial, Shown, Verdict, ViewCache, Watch, WatchedPush,
-    WebTerms, serve_http,
+    Address, Budget, ConnectionEnd, Denial, Dismissal, Shown, Verdict, ViewCache, Watch,
+    WatchedPush, WebTerms, serve_http,
 };
 use std::alloc::{AllocFailed, Allocator, Global};
 use std::hash::RandomState;
@@ -77,6 +77,9 @@ struct Tally {
     lost: usize,
     /// How many were not let through.
     denied: usize,
+    /// How many other requests were refused, and why the last one was.
+    dismissed: usize,
+    why: Option<Dismissal>,
     bytes: usize,
 }
 
@@ -88,6 +91,8 @@ impl Tally {
             kept: 0,
             lost: 0,
             denied: 0,
+            dismissed: 0,
+            why: None,
             bytes: 0,
         }
     }
@@ -119,6 +124,11 @@ impl<A: Allocator> Watch<A> for Tally {
 
     fn denied(&mut self, _why: Denial, _bundle: &[u8]) {
         self.denied = self.denied.saturating_add(1);
+    }
+
+    fn dismissed(&mut self, why: Dismissal) {
+        self.dismissed = self.dismissed.saturating_add(1);
+        self.why = Some(why);
     }
 }
 
