@@ -48,9 +48,8 @@ is_shorter version digest rest r after is =
 
 -- what was read, where no record follows
 pub all_read : (version : Version) (start file : List ℕ) (records : List Entry) (digest rest : List ℕ) (stop : NoRecord)
-    → HasRead version start file records digest rest → StopsSo stop version digest rest → AreFront version start file records stop
+    → HasRead version start file records digest rest → StopsSo stop version digest rest → AreFront version start file records stop rest
 all_read version start file records digest rest stop has stops = record {
-  tail = rest;
   each = has.each;
   spelled = has.spelled;
   stops = subst (λ (d : List ℕ). StopsSo stop version d rest) has.digest_is stops;
@@ -67,24 +66,24 @@ length-head head is = omega (arith, identity_size head.identity is.identity)
 
 -- the same after the head that a file was read to have
 pub front_is : (file : List ℕ) (head : Head) (has : HasHead file head) (size : ℕ) (version : Version)
-    (first start behind : List ℕ) (records : List Entry) (stop : NoRecord) → size ≡ head_size (version_of head)
+    (first start behind tail : List ℕ) (records : List Entry) (stop : NoRecord) → size ≡ head_size (version_of head)
     → version ≡ version_of head → first ≡ take size file → behind ≡ drop size file
-    → start ≡ sha1 first → AreFront version start behind records stop → IsFront file head records stop
-front_is file head has size version first start behind records stop size_is version_is front back digest are =
+    → start ≡ sha1 first → AreFront version start behind records stop tail → IsFront file head records stop tail
+front_is file head has size version first start behind tail records stop size_is version_is front back digest are =
     let long : length (head_bytes head) ≡ size = length-head head has.1.allowed ∙ sym size_is in
     let head_at : take size file ≡ head_bytes head = ap (take size) has.1.spelled
     ∙ take_at (head_bytes head) has.0 size long in
     let behind_at : drop size file ≡ has.0 = ap (drop size) has.1.spelled
     ∙ drop_at (head_bytes head) has.0 size long in
     let start_is : start ≡ first_digest head = digest ∙ ap sha1 (front ∙ head_at) in
-    let of_head : AreFront (version_of head) start behind records stop =
-    subst (λ (v : Version). AreFront v start behind records stop) version_is are in
-    let from : AreFront (version_of head) (first_digest head) behind records stop =
-    subst (λ (d : List ℕ). AreFront (version_of head) d behind records stop) start_is of_head in
+    let of_head : AreFront (version_of head) start behind records stop tail =
+    subst (λ (v : Version). AreFront v start behind records stop tail) version_is are in
+    let from : AreFront (version_of head) (first_digest head) behind records stop tail =
+    subst (λ (d : List ℕ). AreFront (version_of head) d behind records stop tail) start_is of_head in
     record {
       behind = has.0;
       begins = has.1;
-      front = subst (λ (l : List ℕ). AreFront (version_of head) (first_digest head) l records stop) (back ∙ behind_at) from;
+      front = subst (λ (l : List ℕ). AreFront (version_of head) (first_digest head) l records stop tail) (back ∙ behind_at) from;
     }
 
 -- what stands where no record was read

@@ -7,6 +7,7 @@ ghost use Rattle.hg_store.specs.Calls.{IsPlaced, IsPlacedWhole};
 ghost use Rattle.hg_store.specs.Head.{version_of};
 ghost use Rattle.hg_store.specs.Log.{at_rest};
 ghost use Rattle.hg_store.specs.Records.{IsRecord};
+ghost use Rattle.hg_store.specs.Tails.{is_blank};
 ghost use Rattle.hg_store.specs.declared.record.NoRecord.TheVariants.{End};
 ghost use Rattle.hg_store_tools.specs.Cutting.{HasNoPlace, HasPlace, IsCutOf, joined};
 ghost use Rattle.hg_store_tools.specs.declared.fault.Fault.TheVariants.{NoPlace as no_place};
@@ -26,35 +27,54 @@ pub struct StoreCut<A: Allocator = Global> {
     pub left: Vec<u8, A>,
 }
 
-/// What a cut before a place makes of these bytes of a store. Where no record stands there, and no torn or
-/// damaged one, it is refused. What stands after the whole records is not kept.
-pub fn cut_of<A: Allocator + Copy>(alloc: A, file: &[u8], at: usize) -> Result<StoreCut<A>, Fault>
-    ensures cut { IfOk result (λ cut. IsCutOf file.now at cut.kept.items cut.left.items) }
+/// What a cut before a place makes of the bytes of a store, and what stands after its whole records.
+#[derive(Drop)]
+pub struct TailedCut<'a, A: Allocator = Global> {
+    pub made: StoreCut<A>,
+    /// How many whole records the old store has.
+    pub whole: usize,
+    /// The bytes of the old store after these.
+    pub tail: &'a [u8],
+}
+
+/// What a cut before a place makes of these bytes of a store. It is refused where no record stands there, and after
+/// the whole records nothing but bytes that are 0, or no byte.
+pub fn cut_of<'a, A: Allocator + Copy>(
+    alloc: A,
+    file: &'a [u8],
+    at: usize,
+) -> Result<TailedCut<'a, A>, Fault>
+    ensures cut { IfOk result (λ cut.
+        IsCutOf file.now at cut.whole cut.made.kept.items cut.made.left.items cut.tail.now) }
     ensures no_place { (count : ℕ) → IsErrOf result (no_place count) → HasNoPlace file.now at count }
 {
     let front = match read_front(alloc, file) {
         Ok(front) => front,
         Err(fault) => return Err(fault),
     };
-    let count = front.records.len();
-    if !has_place(at, count, front.stop) {
-        return Err(Fault::NoPlace(count));
+    let whole = front.records.len();
+    if !has_place(at, whole, front.stop, front.tail) {
+        return Err(Fault::NoPlace(whole));
     }
     match cut_at(alloc, &front, at) {
-        Ok(cut) => Ok(cut),
+        Ok(made) => Ok(TailedCut {
+            made,
+            whole,
+            tail: front.tail,
+        }),
         Err(_) => Err(Fault::NoMemory),
     }
 }
 
-/// Whether a record stands at the place, or a torn or damaged one after so many whole ones.
-fn has_place(at: usize, count: usize, stop: NoRecord) -> bool
+/// Whether a record stands at the place, or something that is no whole one after so many that are.
+fn has_place(at: usize, count: usize, stop: NoRecord, tail: &[u8]) -> bool
     ensures within { result ≡ true → at ≤ count }
-    ensures place { result ≡ true → HasPlace at count stop }
-    ensures refused { result ≡ false → (count < at) ⊎ ((at ≡ count) × (stop ≡ End)) }
+    ensures place { result ≡ true → HasPlace at count stop tail.now }
+    ensures refused { result ≡ false → (count < at) ⊎ ((at ≡ count) × (stop ≡ End) × (is_blank tail.now ≡ true)) }
 {
     if at == count {
         match stop {
-            NoRecord::End => false,
+            NoRecord::End => !is_blank(tail),
             _ => true,
         }
     } else {
@@ -62,10 +82,17 @@ fn has_place(at: usize, count: usize, stop: NoRecord) -> bool
     }
 }
 
+/// Whether each byte is 0.
+pub fn is_blank(bytes: &[u8]) -> bool
+    ensures { result ≡ is_blank bytes.now }
+{
+    bytes.iter().all(|byte| *byte == 0)
+}
+
 /// What a cut before one of the records, or after them, makes of a store.
 fn cut_at<A: Allocator + Copy>(
     alloc: A,
-    front: &StorePrefix<A>,
+    front: &StorePrefix<'_, A>,
     at: usize,
 ) -> Result<StoreCut<A>, NoMemory>
     requires within { at ≤ length front.now.records }

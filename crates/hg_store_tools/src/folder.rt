@@ -7,7 +7,7 @@ ghost use Rattle.hg_store_tools.specs.Logging.{IsLogged};
 ghost use Rattle.hg_store_tools.specs.Reporting.{Reports};
 
 use crate::bundles::{put_log, send_log};
-use crate::cut::{CutFault, StoreCut, cut_of, put_cut};
+use crate::cut::{CutFault, StoreCut, TailedCut, cut_of, is_blank, put_cut};
 use crate::fault::{ArchiveFault, Fault, NamedFile, StoreEnd};
 use crate::form::BundleForm;
 use crate::host::{FolderShelf, checked_reader, fault_of, fault_of_store, store_reader};
@@ -15,7 +15,8 @@ use crate::report::send_report;
 use crate::upgrade::upgrade_of;
 use hg_connection::Writer;
 use hg_store::{
-    StoreFault, StoreFolder, kept_file, make_folder, new_identity, new_store, open_held, read_all,
+    DeviceError, StoreFault, StoreFolder, TailKeeper, kept_file, make_folder, new_identity,
+    new_store, open_held, read_all,
 };
 use std::alloc::Allocator;
 use std::fs::{File, Files};
@@ -94,9 +95,10 @@ pub fn file_log<'a, R: Files<File = File>, A: Allocator + Copy>(
     }
 }
 
-/// Ends the store in a folder before a place, as [`cut_of`] and [`put_cut`] say. What it leaves out is kept
-/// in the file `pushes.cut-N` of the folder, where N is the place; one that is there is not written over. A
-/// store that another process holds is refused. Of an `Err` the store is as it was, except where the new file
+/// Ends the store in a folder before a place, as [`cut_of`] and [`put_cut`] say. The pushes that it leaves out are
+/// kept in the file `pushes.cut-N` of the folder, where N is the place; one that is there is not written over. What
+/// stands after the whole records, unless it is only zeros, was kept before that in the file `pushes.tail-N`, where N
+/// is how many these are, as an opening keeps it. A store that another process holds is refused. Of an `Err` the store is as it was, except where the new file
 /// failed: then the old store is there, or the new one is.
 pub fn cut_store<'a, R: Files<File = File>, A: Allocator + Copy>(
     files: &R,
@@ -104,11 +106,15 @@ pub fn cut_store<'a, R: Files<File = File>, A: Allocator + Copy>(
     folder: &'a str,
     at: usize,
 ) -> Result<(), ArchiveFault<'a>> {
-    let mut old = about_store(open_held(files, alloc, folder), NamedFile::Store(folder))?;
-    let cut = about(cut_held(alloc, &mut old, at), NamedFile::Store(folder))?;
+    let store = NamedFile::Store(folder);
+    let mut old = about_store(open_held(files, alloc, folder), store)?;
+    let bytes = about(read_held(alloc, &mut old), store)?;
+    let cut = about(cut_of(alloc, &bytes, at), store)?;
+    let tail = NamedFile::Tail(folder, cut.whole);
+    about(keep_rest(files, alloc, folder, &cut), tail)?;
     let kept = NamedFile::Kept(folder, at);
     let name = about(cut_name(alloc, at), kept)?;
-    place_cut(files, alloc, folder, kept, name.as_str(), &cut)
+    place_cut(files, alloc, folder, kept, name.as_str(), &cut.made)
 }
 
 /// Writes the store of version 1 in a folder as one of version 2, with a name of random bytes, as [`upgrade_of`] and
@@ -123,7 +129,8 @@ pub fn upgrade_store<'a, R: Files<File = File>, A: Allocator + Copy>(
     let store = NamedFile::Store(folder);
     let mut old = about_store(open_held(files, alloc, folder), store)?;
     let identity = about_store(new_identity(files), store)?;
-    let upgrade = about(upgrade_held(alloc, &mut old, identity), store)?;
+    let bytes = about(read_held(alloc, &mut old), store)?;
+    let upgrade = about(upgrade_of(alloc, bytes, identity), store)?;
     place_cut(
         files,
         alloc,
@@ -173,27 +180,28 @@ fn shelf_name<'a>(folder: &'a str, to: &'a str, place: usize, fault: Fault) -> N
     }
 }
 
-/// What a cut before a place makes of a file.
-fn cut_held<A: Allocator + Copy>(
-    alloc: A,
-    file: &mut File,
-    at: usize,
-) -> Result<StoreCut<A>, Fault> {
+/// The bytes of a file.
+fn read_held<A: Allocator + Copy>(alloc: A, file: &mut File) -> Result<Vec<u8, A>, Fault> {
     match read_all(alloc, file) {
-        Ok(bytes) => cut_of(alloc, &bytes, at),
+        Ok(bytes) => Ok(bytes),
         Err(error) => Err(fault_of(error)),
     }
 }
 
-/// What an upgrade makes of a file.
-fn upgrade_held<A: Allocator + Copy>(
+/// Keeps what a cut leaves out after the whole records of a store, unless it is only zeros.
+fn keep_rest<R: Files<File = File>, A: Allocator + Copy>(
+    files: &R,
     alloc: A,
-    file: &mut File,
-    identity: [u8; 16],
-) -> Result<StoreCut<A>, Fault> {
-    match read_all(alloc, file) {
-        Ok(bytes) => upgrade_of(alloc, bytes, identity),
-        Err(error) => Err(fault_of(error)),
+    folder: &str,
+    cut: &TailedCut<'_, A>,
+) -> Result<(), Fault> {
+    if is_blank(cut.tail) {
+        return Ok(());
+    }
+    match StoreFolder::new(files, folder).keep(alloc, cut.whole, cut.tail) {
+        Ok(()) => Ok(()),
+        Err(DeviceError::Memory) => Err(Fault::NoMemory),
+        Err(_) => Err(Fault::Failed),
     }
 }
 

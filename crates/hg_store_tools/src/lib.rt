@@ -25,7 +25,7 @@ mod visit;
 pub use bundles::{BundleSink, put_log, send_log};
 pub use canonical::canonical_bundle;
 pub use check::check_records;
-pub use cut::{CutFault, StoreCut, cut_of, put_cut};
+pub use cut::{CutFault, StoreCut, TailedCut, cut_of, put_cut};
 pub use fault::{ArchiveFault, Fault, NamedFile, StoreEnd, TornNote};
 pub use folder::{cut_store, file_log, log_store, report_store, upgrade_store};
 pub use form::BundleForm;

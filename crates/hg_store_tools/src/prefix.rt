@@ -12,18 +12,22 @@ use hg_types::{NoMemory, Seq};
 use sha1::Sha1;
 use std::alloc::{Allocator, Global};
 
-/// What a file begins with: a head, whole records, and what stops them.
+/// What a file begins with: a head, whole records, what stops them, and the bytes that stand there.
 #[derive(Drop)]
-pub struct StorePrefix<A: Allocator = Global> {
+pub struct StorePrefix<'a, A: Allocator = Global> {
     pub head: Head,
     pub records: Seq<Entry<A>, A>,
     pub stop: NoRecord,
+    pub tail: &'a [u8],
 }
 
 /// Reads the head and the records of a file, up to its end, a torn record or damage. A file with no head is
 /// refused.
-pub fn read_front<A: Allocator + Copy>(alloc: A, file: &[u8]) -> Result<StorePrefix<A>, Fault>
-    ensures ok { IfOk result (λ front. IsFront file.now front.head front.records front.stop) }
+pub fn read_front<'a, A: Allocator + Copy>(
+    alloc: A,
+    file: &'a [u8],
+) -> Result<StorePrefix<'a, A>, Fault>
+    ensures ok { IfOk result (λ front. IsFront file.now front.head front.records front.stop front.tail.now) }
     ensures no_head { (fault : HeadFault) → IsErrOf result (has_no_head fault) → IsRefusedFor fault file.now }
     ensures no_place { (count : ℕ) → IsErrOf result (no_place count) → ⊥ }
 {
@@ -33,23 +37,24 @@ pub fn read_front<A: Allocator + Copy>(alloc: A, file: &[u8]) -> Result<StorePre
     };
     let (first, behind) = file.split_at(head.size());
     match read_frames(alloc, head.version(), &Sha1::digest(first), behind) {
-        Ok((records, stop)) => Ok(StorePrefix {
+        Ok((records, stop, tail)) => Ok(StorePrefix {
             head,
             records,
             stop,
+            tail,
         }),
         Err(_) => Err(Fault::NoMemory),
     }
 }
 
-/// The records after a head, the first of which stands after that digest, and what stops them.
-fn read_frames<A: Allocator + Copy>(
+/// The records after a head, the first of which stands after that digest, what stops them, and what stands there.
+fn read_frames<'a, A: Allocator + Copy>(
     alloc: A,
     version: Version,
     start: &[u8; 20],
-    bytes: &[u8],
-) -> Result<(Seq<Entry<A>, A>, NoRecord), NoMemory>
-    ensures { IfOk result (λ found. AreFront version start.now bytes.now found.0 found.1) }
+    bytes: &'a [u8],
+) -> Result<(Seq<Entry<A>, A>, NoRecord, &'a [u8]), NoMemory>
+    ensures { IfOk result (λ found. AreFront version start.now bytes.now found.0 found.1 found.2.now) }
 {
     let mut records = Seq::new(alloc);
     let mut digest = *start;
@@ -63,5 +68,5 @@ fn read_frames<A: Allocator + Copy>(
             Err(stop) => break 'records stop,
         }
     };
-    Ok((records, stop))
+    Ok((records, stop, rest))
 }

@@ -340,7 +340,7 @@ fn memory_refused(rt: HostRuntime) -> Result<(), Fail> {
             Err(Fault::NoMemory) => seen[4] = true,
             Ok(cut) => {
                 seen[5] = true;
-                assert!(rt; log.as_slice().get(68..) == Some(cut.kept.as_slice()));
+                assert!(rt; log.as_slice().get(68..) == Some(cut.made.kept.as_slice()));
             }
             Err(_) => assert!(rt; false, "a cut with {sixteens} times 16 bytes"),
         }
@@ -350,12 +350,13 @@ fn memory_refused(rt: HostRuntime) -> Result<(), Fail> {
 }
 
 /// Cuts a file before each place, and says at which there is one: what is left and kept has to be that of the
-/// bundles.
+/// bundles, and the tail has to be told.
 fn places_of<R: Abort>(
     rt: &R,
     alloc: Global,
     file: &[u8],
     bundles: &[&[u8]],
+    tail: &[u8],
 ) -> Result<Vec<usize>, Fail> {
     let mut places = Vec::new(alloc);
     for at in 0..5usize {
@@ -363,9 +364,11 @@ fn places_of<R: Abort>(
             Ok(cut) => {
                 places.push(at)?;
                 let left = shut_store(alloc, false, &bundles[..at.min(bundles.len())])?;
-                assert!(rt; cut.left.as_slice() == left.as_slice(), "at {at}");
+                assert!(rt; cut.made.left.as_slice() == left.as_slice(), "at {at}");
                 let kept = joined(alloc, &bundles[at.min(bundles.len())..])?;
-                assert!(rt; cut.kept.as_slice() == kept.as_slice(), "at {at}");
+                assert!(rt; cut.made.kept.as_slice() == kept.as_slice(), "at {at}");
+                assert_eq!(rt; cut.whole, bundles.len(), "at {at}");
+                assert!(rt; cut.tail == tail, "at {at}");
             }
             Err(fault) => assert!(rt; fault == Fault::NoPlace(bundles.len()), "at {at}"),
         }
@@ -390,7 +393,7 @@ fn a_store_of_version_1(rt: HostRuntime) -> Result<(), Fail> {
         Ok(cut) => {
             let mut left = store_with(alloc, &old_head(false), &bundles[..1])?;
             left.push(0)?;
-            assert!(rt; cut.left.as_slice() == left.as_slice());
+            assert!(rt; cut.made.left.as_slice() == left.as_slice());
         }
         Err(_) => assert!(rt; false, "a cut"),
     }
@@ -414,29 +417,41 @@ fn a_store_of_version_1(rt: HostRuntime) -> Result<(), Fail> {
 }
 
 // A cut before each place.
-// M1, E, M2, whole, torn and damaged after them; a gate of 2 after them; M1, E, M2 with its last byte
-// turned. Result: three places; four; four; three, of which the last is the damaged one.
+// M1, E, M2, with a shut gate and zeros, with no gate, and torn and damaged after them; with a gate of 2 after them; M1,
+// E, M2 with its last byte turned; M1, E, M2 with a shut gate and a byte that is 1 after them. Result: three places;
+// three; four; four; three, of which the last is the damaged one; four. What stands after the whole records is told.
 #[test]
 fn cuts(rt: HostRuntime) -> Result<(), Fail> {
     let alloc = rt.alloc();
     let bundles: [&[u8]; 3] = [&ONE, &EMPTY, &TWO];
-    let whole = shut_store(alloc, false, &bundles)?;
-    let three: [usize; 3] = [0, 1, 2];
-    let four: [usize; 4] = [0, 1, 2, 3];
-    assert!(rt; places_of(&rt, alloc, &whole, &bundles)?.as_slice() == three.as_slice());
-    let bare = store_of(alloc, false, &bundles)?;
-    assert!(rt; places_of(&rt, alloc, &bare, &bundles)?.as_slice() == three.as_slice());
-    let mut torn = store_of(alloc, false, &bundles)?;
-    torn.extend_from_slice(&[1, 0, 0, 0, 12])?;
-    assert!(rt; places_of(&rt, alloc, &torn, &bundles)?.as_slice() == four.as_slice());
-    let mut damaged = store_of(alloc, false, &bundles)?;
-    damaged.push(2)?;
-    assert!(rt; places_of(&rt, alloc, &damaged, &bundles)?.as_slice() == four.as_slice());
-    let mut turned = store_of(alloc, false, &bundles)?;
+    let stored = store_of(alloc, false, &bundles)?;
+    let tails: [(&[u8], usize); 6] = [
+        (&[0], 3),
+        (&[0, 0, 0], 3),
+        (&[], 3),
+        (&[255, 0, 0, 0, 12], 4),
+        (&[2], 4),
+        (&[0, 0, 1], 4),
+    ];
+    for (tail, places) in tails {
+        let mut file = stored.as_slice().to_vec(alloc)?;
+        file.extend_from_slice(tail)?;
+        let found = places_of(&rt, alloc, &file, &bundles, tail)?;
+        assert!(rt; found.len() == places, "{places} places");
+        for (at, place) in found.iter().enumerate() {
+            assert_eq!(rt; *place, at);
+        }
+    }
+    let two = store_of(alloc, false, &bundles[..2])?.len();
+    let mut turned = stored;
     let last = turned.len().saturating_sub(1);
     turn(&mut turned, last, 1);
-    assert!(rt; places_of(&rt, alloc, &turned, &bundles[..2])?.as_slice() == three.as_slice());
-    match whole.as_slice().get(..37) {
+    let tail = turned.as_slice().get(two..).unwrap_or(&[]);
+    assert_eq!(rt;
+        places_of(&rt, alloc, &turned, &bundles[..2], tail)?.len(),
+        3
+    );
+    match turned.as_slice().get(..37) {
         Some(front) => assert!(rt; cut_of(alloc, front, 0).is_err()),
         None => assert!(rt; false, "a store below its head"),
     }
@@ -454,7 +469,7 @@ fn new_files_that_fail(rt: HostRuntime) -> Result<(), Fail> {
     for calls in 0..9usize {
         let mut kept = Paper::new(alloc, &[], calls.min(4))?;
         let mut new = Paper::new(alloc, &[], calls.saturating_sub(4))?;
-        let told = put_cut(&cut, &mut kept, &mut new);
+        let told = put_cut(&cut.made, &mut kept, &mut new);
         let wanted = match calls {
             0..4 => Err(CutFault::Kept),
             4..8 => Err(CutFault::New),
