@@ -12,6 +12,10 @@
 //!   time.
 //! - the records read one by one; the first cut short, too large, behind another gate, with another
 //!   digest. Result: each with what follows it, and the end; torn, torn, damaged, damaged.
+//! - the stores by pieces, from readers that give 1, 7 or all bytes at once and are interrupted before each time: cut at
+//!   each length; each gate with each other value, and each other byte with six; from readers that fail at each byte; over
+//!   heaps below 1,200 bytes. Result: as by hand; as of all bytes at once; the whole records before, and that the reader
+//!   failed; the same or out of memory, to a head and to a record.
 //! - each byte of each record with each other value. Result: damage after the records before it; or torn, or the
 //!   end, by a gate or a size.
 //! - a batch of 1, 2 and 3 records after one, where the file fails at each of its calls: 8, 12 and
@@ -55,6 +59,8 @@ mod device_tests;
 mod folder_tests;
 #[cfg(test)]
 mod paper;
+#[cfg(test)]
+mod pieces_tests;
 #[cfg(test)]
 mod tail_tests;
 #[cfg(test)]
