@@ -477,8 +477,8 @@ fn new_files_that_fail(rt: HostRuntime) -> Result<(), Fail> {
         };
         assert!(rt; told == wanted, "{calls} calls");
         assert!(rt; kept.is_named == (calls >= 3) && new.is_named == (calls >= 7));
-        assert!(rt; !kept.is_named || kept.synced.as_slice() == cut.kept.as_slice());
-        assert!(rt; !new.is_named || new.synced.as_slice() == cut.left.as_slice());
+        assert!(rt; !kept.is_named || kept.synced.as_slice() == cut.made.kept.as_slice());
+        assert!(rt; !new.is_named || new.synced.as_slice() == cut.made.left.as_slice());
     }
     Ok(())
 }
