@@ -357,7 +357,7 @@ def a_store_cut_at_each_of_its_lengths(room):
 
 @case
 def a_torn_store_is_ended(room):
-    """The log of a torn store has its whole pushes, and the cut that its line names mends it."""
+    """The log of a torn store has its whole pushes, and the cut that its line names mends it and keeps the rest."""
     data, ends = store_of(TWO)
     for number, length in enumerate((ends[0] + 1, ends[1] - 1, ends[1] + 1, ends[2] - 1)):
         whole, name = (0, 0, 1, 1)[number], f"store-{number}"
@@ -366,7 +366,8 @@ def a_torn_store_is_ended(room):
         wanted = {".": None, **{f"{place:010}": TWO[place] for place in range(whole)}}
         want("log of a torn store", found_in(room.path(f"log-{number}")), wanted)
         room.run(f"cut --store {name} --at {whole}")
-        left = {".": None, "pushes": store_of(TWO[:whole])[0], f"pushes.cut-{whole}": b""}
+        left = {".": None, "pushes": store_of(TWO[:whole])[0], f"pushes.cut-{whole}": b"",
+                f"pushes.tail-{whole}": data[ends[whole]:length]}
         want("files of a torn store that was cut", found_in(room.path(name)), left)
         room.looks(f"report --store {name}", journal(whole))
 

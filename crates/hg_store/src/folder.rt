@@ -13,7 +13,7 @@ use crate::device::{Device, DeviceError};
 use crate::file::StoreFile;
 use crate::head::{Head, Setup};
 use crate::history::Call;
-use crate::host::{HostFile, device_error, read_all};
+use crate::host::{HostFile, device_error};
 use crate::names::StoreFolder;
 use crate::place::create_file;
 use crate::placed::{Access, PlacedFile, hold, open_plain, path_in, sync_folder};
@@ -136,29 +136,19 @@ fn find<R: Files<File = File>, A: Allocator + Copy>(
     }
 }
 
-/// The bytes of the store in a folder, also while another process holds it. Nothing is changed, and nothing is
-/// held.
-pub fn store_bytes<R: Files<File = File>, A: Allocator + Copy>(
+/// The file of the store in a folder, to be read, also while another process holds it. Nothing is changed, and nothing
+/// is held.
+pub fn store_file<R: Files<File = File>, A: Allocator + Copy>(
     files: &R,
     alloc: A,
     folder: &str,
-) -> Result<Vec<u8, A>, StoreFault>
+) -> Result<File, StoreFault>
     ensures { IfErr result IsOfFolder }
 {
     let name = path_in(alloc, folder, NAME)?;
     match open_plain(files, Access::Read, name.as_str()) {
-        Ok(Some(file)) => bytes_of(alloc, file),
+        Ok(Some(file)) => Ok(file),
         Ok(None) => Err(StoreFault::Linked),
-        Err(error) => Err(store_fault(error)),
-    }
-}
-
-/// All bytes of a file of a store.
-fn bytes_of<A: Allocator + Copy>(alloc: A, mut file: File) -> Result<Vec<u8, A>, StoreFault>
-    ensures { IfErr result IsOfFolder }
-{
-    match read_all(alloc, &mut file) {
-        Ok(bytes) => Ok(bytes),
         Err(error) => Err(store_fault(error)),
     }
 }

@@ -69,7 +69,7 @@ pub use entry::{Entry, Stamp, Standing};
 pub use file::StoreFile;
 pub use folder::{
     create_store, kept_file, make_folder, new_identity, new_store, open_held, open_store,
-    store_bytes,
+    store_file,
 };
 pub use head::{Head, HeadFault, Setup, Version};
 pub use history::{Call, History};

@@ -115,7 +115,11 @@ fn a_cut_store_by_pieces(rt: HostRuntime) -> Result<(), Fail> {
                 }
                 let count = sample.whole_within(len);
                 let end = sample.end_of(count);
-                let stop = if len == end { NoRecord::End } else { NoRecord::Torn };
+                let stop = if len == end {
+                    NoRecord::End
+                } else {
+                    NoRecord::Torn
+                };
                 let wanted = Came {
                     count,
                     are_same: true,
@@ -159,13 +163,19 @@ fn a_turned_store_by_pieces(rt: HostRuntime) -> Result<(), Fail> {
                     Err(ReadFault::Damaged(count)) => (count, NoRecord::Damaged),
                     Err(_) => (4, NoRecord::End),
                 };
-                let came = match read_each(alloc, sample, &mut Slow::new(&file, 1_000, file.len())) {
-                    Ok(Came {
-                        count,
-                        are_same: true,
-                        digest: _,
-                        stop: RecordStop::NoRecord(stop),
-                    }) => (count, stop),
+                let came = match read_each(
+                    alloc,
+                    sample,
+                    &mut Slow::new(&file, 1_000, file.len()),
+                ) {
+                    Ok(
+                        Came {
+                            count,
+                            are_same: true,
+                            digest: _,
+                            stop: RecordStop::NoRecord(stop),
+                        },
+                    ) => (count, stop),
                     _ => (5, NoRecord::End),
                 };
                 assert_eq!(rt; came, wanted, "byte {at}, {add} more");
@@ -190,7 +200,11 @@ fn a_reader_that_fails(rt: HostRuntime) -> Result<(), Fail> {
                 Ok(came) => {
                     assert!(rt; good >= sample.head_size() && came.are_same, "{good} bytes");
                     assert_eq!(rt; came.count, sample.whole_within(good), "{good} bytes");
-                    assert_eq!(rt; came.stop, RecordStop::Device(DeviceError::Failed), "{good} bytes");
+                    assert_eq!(rt;
+                        came.stop,
+                        RecordStop::Device(DeviceError::Failed),
+                        "{good} bytes"
+                    );
                 }
             }
         }
@@ -209,7 +223,11 @@ fn memory_refused_to_the_pieces(rt: HostRuntime) -> Result<(), Fail> {
         let heap = LocalHeap::new(rt.alloc(), size)?;
         match read_each(&heap, sample, &mut Slow::new(sample.store, 1_000, 168)) {
             Err(stop) => {
-                assert_eq!(rt; stop, HeadStop::Device(DeviceError::Memory), "a heap of {size}");
+                assert_eq!(rt;
+                    stop,
+                    HeadStop::Device(DeviceError::Memory),
+                    "a heap of {size}"
+                );
                 no_head = no_head.saturating_add(1);
             }
             Ok(came) => {

@@ -5,7 +5,7 @@ ghost use Rattle.std.specs.Prelude.{None};
 use crate::bundles::BundleSink;
 use crate::check::check_records;
 use crate::fault::Fault;
-use hg_store::{DeviceError, RecoverFault, StoreFault};
+use hg_store::{DeviceError, RecoverFault, StoreFault, store_file};
 use std::alloc::Allocator;
 use std::fs::{File, Files};
 use std::io;
@@ -40,12 +40,13 @@ pub fn store_reader<R: Files<File = File>, A: Allocator + Copy>(
     alloc: A,
     folder: &str,
 ) -> Result<BufReader<File, A>, Fault> {
-    match read_file(files, alloc, folder) {
+    let file = match store_file(files, alloc, folder) {
+        Ok(file) => file,
+        Err(fault) => return Err(fault_of_store(fault)),
+    };
+    match BufReader::with_capacity(alloc, READ_AHEAD, file) {
         Ok(reader) => Ok(reader),
-        Err(error) => match error.kind() {
-            ErrorKind::NotFound => Err(Fault::Missing),
-            _ => Err(fault_of(error)),
-        },
+        Err(error) => Err(fault_of(error)),
     }
 }
 
@@ -61,15 +62,6 @@ pub fn checked_reader<R: Files<File = File>, A: Allocator + Copy>(
         Ok(_) => Ok(reader),
         Err(error) => Err(fault_of(error)),
     }
-}
-
-fn read_file<R: Files<File = File>, A: Allocator + Copy>(
-    files: &R,
-    alloc: A,
-    folder: &str,
-) -> io::Result<BufReader<File, A>> {
-    let name = format!(in alloc; "{folder}/pushes")?;
-    BufReader::with_capacity(alloc, READ_AHEAD, File::open(files, name.as_str())?)
 }
 
 /// A folder in which each bundle gets a file of its own, named by its place in ten digits.
