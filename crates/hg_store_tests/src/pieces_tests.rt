@@ -117,7 +117,11 @@ fn a_cut_store_by_pieces(rt: HostRuntime) -> Result<(), Fail> {
                 }
                 let count = sample.whole_within(len);
                 let end = sample.end_of(count);
-                let stop = if len == end { NoRecord::End } else { NoRecord::Torn };
+                let stop = if len == end {
+                    NoRecord::End
+                } else {
+                    NoRecord::Torn
+                };
                 let wanted = Came {
                     count,
                     are_same: true,
@@ -128,7 +132,12 @@ fn a_cut_store_by_pieces(rt: HostRuntime) -> Result<(), Fail> {
             }
             let mut more = sample.store.to_vec(alloc)?;
             more.extend_from_slice(&[0, 255, 7])?;
-            let came = read_each(alloc, alloc, sample, &mut Slow::new(&more, most, more.len()));
+            let came = read_each(
+                alloc,
+                alloc,
+                sample,
+                &mut Slow::new(&more, most, more.len()),
+            );
             let wanted = Came {
                 count: 3,
                 are_same: true,
@@ -161,13 +170,20 @@ fn a_turned_store_by_pieces(rt: HostRuntime) -> Result<(), Fail> {
                     Err(ReadFault::Damaged(count)) => (count, NoRecord::Damaged),
                     Err(_) => (4, NoRecord::End),
                 };
-                let came = match read_each(alloc, alloc, sample, &mut Slow::new(&file, 1_000, file.len())) {
-                    Ok(Came {
-                        count,
-                        are_same: true,
-                        digest: _,
-                        stop: RecordStop::NoRecord(stop),
-                    }) => (count, stop),
+                let came = match read_each(
+                    alloc,
+                    alloc,
+                    sample,
+                    &mut Slow::new(&file, 1_000, file.len()),
+                ) {
+                    Ok(
+                        Came {
+                            count,
+                            are_same: true,
+                            digest: _,
+                            stop: RecordStop::NoRecord(stop),
+                        },
+                    ) => (count, stop),
                     _ => (5, NoRecord::End),
                 };
                 assert_eq!(rt; came, wanted, "byte {at}, {add} more");
@@ -192,7 +208,11 @@ fn a_reader_that_fails(rt: HostRuntime) -> Result<(), Fail> {
                 Ok(came) => {
                     assert!(rt; good >= sample.head_size() && came.are_same, "{good} bytes");
                     assert_eq!(rt; came.count, sample.whole_within(good), "{good} bytes");
-                    assert_eq!(rt; came.stop, RecordStop::Device(DeviceError::Failed), "{good} bytes");
+                    assert_eq!(rt;
+                        came.stop,
+                        RecordStop::Device(DeviceError::Failed),
+                        "{good} bytes"
+                    );
                 }
             }
         }
@@ -212,9 +232,18 @@ fn memory_refused_to_the_pieces(rt: HostRuntime) -> Result<(), Fail> {
     let mut ample = 0usize;
     for size in 0..600usize {
         let heap = LocalHeap::new(alloc, size)?;
-        match read_each(&heap, alloc, sample, &mut Slow::new(sample.store, 1_000, 168)) {
+        match read_each(
+            &heap,
+            alloc,
+            sample,
+            &mut Slow::new(sample.store, 1_000, 168),
+        ) {
             Err(stop) => {
-                assert_eq!(rt; stop, HeadStop::Device(DeviceError::Memory), "a heap of {size}");
+                assert_eq!(rt;
+                    stop,
+                    HeadStop::Device(DeviceError::Memory),
+                    "a heap of {size}"
+                );
             }
             Ok(came) => {
                 assert_eq!(rt; (came.count, came.stop), (3, end), "a heap of {size}");
@@ -222,13 +251,20 @@ fn memory_refused_to_the_pieces(rt: HostRuntime) -> Result<(), Fail> {
             }
         }
         let heap = LocalHeap::new(alloc, size)?;
-        let came = read_each(alloc, &heap, sample, &mut Slow::new(sample.store, 1_000, 168));
-        let Ok(Came {
-            count,
-            are_same: true,
-            digest: _,
-            stop,
-        }) = came
+        let came = read_each(
+            alloc,
+            &heap,
+            sample,
+            &mut Slow::new(sample.store, 1_000, 168),
+        );
+        let Ok(
+            Came {
+                count,
+                are_same: true,
+                digest: _,
+                stop,
+            },
+        ) = came
         else {
             panic!(rt; "a heap of {size}");
         };
@@ -236,7 +272,11 @@ fn memory_refused_to_the_pieces(rt: HostRuntime) -> Result<(), Fail> {
             assert_eq!(rt; count, 3, "a heap of {size}");
             ample = ample.saturating_add(1);
         } else {
-            assert_eq!(rt; stop, RecordStop::Device(DeviceError::Memory), "a heap of {size}");
+            assert_eq!(rt;
+                stop,
+                RecordStop::Device(DeviceError::Memory),
+                "a heap of {size}"
+            );
             refused = refused.saturating_add(1);
         }
     }

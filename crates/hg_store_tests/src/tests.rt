@@ -108,7 +108,12 @@ fn behind(bytes: &[u8], at: usize) -> &[u8] {
 }
 
 /// The same bytes with that one in a place.
-pub fn turned<A: Allocator>(alloc: A, bytes: &[u8], at: usize, byte: u8) -> Result<Vec<u8, A>, Fail> {
+pub fn turned<A: Allocator>(
+    alloc: A,
+    bytes: &[u8],
+    at: usize,
+    byte: u8,
+) -> Result<Vec<u8, A>, Fail> {
     let mut file = Vec::from_slice(alloc, bytes)?;
     if let Some(there) = file.as_mut_slice().get_mut(at) {
         *there = byte;
