@@ -57,13 +57,15 @@ struct Came {
     stop: RecordStop,
 }
 
-/// Reads a head, and then records until there is none, at most four. The buffer of each is that of the one before.
-fn read_each<A: Allocator + Copy, R: Read>(
-    alloc: A,
+/// Reads a head over one heap, and then records over another until there is none, at most four. The buffer of each is
+/// that of the one before.
+fn read_each<A: Allocator + Copy, B: Allocator + Copy, R: Read>(
+    of_head: A,
+    alloc: B,
     sample: &Sample,
     reader: &mut R,
 ) -> Result<Came, HeadStop> {
-    let (head, mut digest) = match read_head(alloc, reader) {
+    let (head, mut digest) = match read_head(of_head, reader) {
         Ok(found) => found,
         Err(stop) => return Err(stop),
     };
@@ -107,7 +109,7 @@ fn a_cut_store_by_pieces(rt: HostRuntime) -> Result<(), Fail> {
         for most in [1usize, 7, 1_000] {
             for len in 0..=sample.store.len() {
                 let cut = front(sample.store, len);
-                let came = read_each(alloc, sample, &mut Slow::new(cut, most, len));
+                let came = read_each(alloc, alloc, sample, &mut Slow::new(cut, most, len));
                 if len < sample.head_size() {
                     let stop = HeadStop::Head(HeadFault::TooShort);
                     assert_eq!(rt; came, Err(stop), "{len} bytes");
@@ -130,7 +132,12 @@ fn a_cut_store_by_pieces(rt: HostRuntime) -> Result<(), Fail> {
             }
             let mut more = sample.store.to_vec(alloc)?;
             more.extend_from_slice(&[0, 255, 7])?;
-            let came = read_each(alloc, sample, &mut Slow::new(&more, most, more.len()));
+            let came = read_each(
+                alloc,
+                alloc,
+                sample,
+                &mut Slow::new(&more, most, more.len()),
+            );
             let wanted = Came {
                 count: 3,
                 are_same: true,
@@ -165,6 +172,10 @@ fn a_turned_store_by_pieces(rt: HostRuntime) -> Result<(), Fail> {
                 };
                 let came = match read_each(
                     alloc,
+<<<<<<< HEAD
+=======
+                    alloc,
+>>>>>>> 7df83b6d522f1a6d54cc315244d48f69a3c8351c
                     sample,
                     &mut Slow::new(&file, 1_000, file.len()),
                 ) {
@@ -191,7 +202,7 @@ fn a_reader_that_fails(rt: HostRuntime) -> Result<(), Fail> {
     let alloc = rt.alloc();
     for sample in &SAMPLES {
         for good in 0..sample.store.len() {
-            let came = read_each(alloc, sample, &mut Slow::new(sample.store, 7, good));
+            let came = read_each(alloc, alloc, sample, &mut Slow::new(sample.store, 7, good));
             match came {
                 Err(stop) => {
                     assert!(rt; good < sample.head_size(), "{good} bytes");
@@ -212,36 +223,71 @@ fn a_reader_that_fails(rt: HostRuntime) -> Result<(), Fail> {
     Ok(())
 }
 
-// Heaps of each size: the store is read whole, or memory is refused to its head or to a record.
+// Heaps of each size, for the head alone and for the records alone: all is read, or memory is refused, and the records
+// before are whole.
 #[test]
 fn memory_refused_to_the_pieces(rt: HostRuntime) -> Result<(), Fail> {
+    let alloc = rt.alloc();
     let sample = &SAMPLES[0];
-    let mut no_head = 0usize;
-    let mut no_record = 0usize;
+    let end = RecordStop::NoRecord(NoRecord::End);
+    let mut heads = 0usize;
+    let mut refused = 0usize;
     let mut ample = 0usize;
-    for size in 0..1200usize {
-        let heap = LocalHeap::new(rt.alloc(), size)?;
-        match read_each(&heap, sample, &mut Slow::new(sample.store, 1_000, 168)) {
+    for size in 0..600usize {
+        let heap = LocalHeap::new(alloc, size)?;
+        match read_each(
+            &heap,
+            alloc,
+            sample,
+            &mut Slow::new(sample.store, 1_000, 168),
+        ) {
             Err(stop) => {
                 assert_eq!(rt;
                     stop,
                     HeadStop::Device(DeviceError::Memory),
                     "a heap of {size}"
                 );
+<<<<<<< HEAD
                 no_head = no_head.saturating_add(1);
+=======
+>>>>>>> 7df83b6d522f1a6d54cc315244d48f69a3c8351c
             }
             Ok(came) => {
-                assert!(rt; came.are_same, "a heap of {size}");
-                if came.stop == RecordStop::Device(DeviceError::Memory) {
-                    no_record = no_record.saturating_add(1);
-                } else {
-                    let stop = RecordStop::NoRecord(NoRecord::End);
-                    assert_eq!(rt; (came.count, came.stop), (3, stop), "a heap of {size}");
-                    ample = ample.saturating_add(1);
-                }
+                assert_eq!(rt; (came.count, came.stop), (3, end), "a heap of {size}");
+                heads = heads.saturating_add(1);
             }
         }
+        let heap = LocalHeap::new(alloc, size)?;
+        let came = read_each(
+            alloc,
+            &heap,
+            sample,
+            &mut Slow::new(sample.store, 1_000, 168),
+        );
+        let Ok(
+            Came {
+                count,
+                are_same: true,
+                digest: _,
+                stop,
+            },
+        ) = came
+        else {
+            panic!(rt; "a heap of {size}");
+        };
+        if stop == end {
+            assert_eq!(rt; count, 3, "a heap of {size}");
+            ample = ample.saturating_add(1);
+        } else {
+            assert_eq!(rt;
+                stop,
+                RecordStop::Device(DeviceError::Memory),
+                "a heap of {size}"
+            );
+            refused = refused.saturating_add(1);
+        }
     }
-    assert!(rt; no_head > 0 && no_record > 0 && ample > 0);
+    assert!(rt; heads > 0 && heads < 600);
+    assert!(rt; refused > 0 && ample > 0);
     Ok(())
 }

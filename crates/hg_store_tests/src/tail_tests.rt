@@ -141,8 +141,8 @@ fn a_gate_of_another_value(rt: HostRuntime) -> Result<(), Fail> {
     Ok(())
 }
 
-// A store of three records, each byte after the head with each other value. Result: it is opened where a gate was shut,
-// and then all from that gate on is kept; else it is refused, and nothing changes.
+// A store of three records, each gate with each other value, and each other byte after the head with six. Result: it is
+// opened where a gate was shut, and then all from that gate on is kept; else it is refused, and nothing changes.
 #[test]
 fn a_byte_of_another_value(rt: HostRuntime) -> Result<(), Fail> {
     let alloc = rt.alloc();
@@ -152,7 +152,11 @@ fn a_byte_of_another_value(rt: HostRuntime) -> Result<(), Fail> {
     let sizes = [2usize, 0, 3];
     let (file, _) = store_of(alloc, &sizes, 9)?;
     for at in head..file.len() {
+        let is_gate = matches!(at.saturating_sub(head), 0 | 39 | 76 | 116);
         for add in 1..=255u8 {
+            if !is_gate && !matches!(add, 1 | 2 | 127 | 128 | 254 | 255) {
+                continue;
+            }
             let mut turned = file.to_vec(alloc)?;
             if let Some(byte) = turned.as_mut_slice().get_mut(at) {
                 *byte = byte.wrapping_add(add);
@@ -177,7 +181,7 @@ fn a_byte_of_another_value(rt: HostRuntime) -> Result<(), Fail> {
             }
         }
     }
-    assert_eq!(rt; (shut, refused), (3, 29_832));
+    assert_eq!(rt; (shut, refused), (3, 4 * 255 + 113 * 6 - 3));
     Ok(())
 }
 
