@@ -172,10 +172,7 @@ fn a_turned_store_by_pieces(rt: HostRuntime) -> Result<(), Fail> {
                 };
                 let came = match read_each(
                     alloc,
-<<<<<<< HEAD
-=======
                     alloc,
->>>>>>> 7df83b6d522f1a6d54cc315244d48f69a3c8351c
                     sample,
                     &mut Slow::new(&file, 1_000, file.len()),
                 ) {
@@ -247,10 +244,6 @@ fn memory_refused_to_the_pieces(rt: HostRuntime) -> Result<(), Fail> {
                     HeadStop::Device(DeviceError::Memory),
                     "a heap of {size}"
                 );
-<<<<<<< HEAD
-                no_head = no_head.saturating_add(1);
-=======
->>>>>>> 7df83b6d522f1a6d54cc315244d48f69a3c8351c
             }
             Ok(came) => {
                 assert_eq!(rt; (came.count, came.stop), (3, end), "a heap of {size}");
