@@ -3,6 +3,8 @@
 Makes a store of 2 GiB in FOLDER (build/store), of 32 pushes that each carry 64 MiB of zeros in a part that the server
 passes over, so that the file is sparse. `log`, `log --canonical` and `report` read it, in turns with `sha1sum` of its
 file, under an address space of 400 MiB. Of each the middle of ROUNDS (3) is told, with its peak of resident memory.
+`cut` ends it before its last push once, and `upgrade` writes the same store of version 1 anew: these need 4 GiB of
+disk.
 """
 import hashlib
 import os
@@ -24,9 +26,9 @@ LIMIT = 400 << 20
 LIMITS = (65536, 67108864, 268435456, 10000, 16777216, 1024, 2147483647)
 
 
-def write_store(path):
+def write_store(path, version=2):
     """Writes the store, with a hole for each payload."""
-    head = struct.pack(">8sBB7I", b"HGPUSHES", 2, 0, *LIMITS) + b"the name of this"
+    head = struct.pack(">8sBB7I", b"HGPUSHES", version, 0, *LIMITS) + (b"the name of this" if version == 2 else b"")
     front = b"HG20" + number(0) + header(b"other", 0, ()) + number(SIZE)
     back = number(0) + number(0)
     inner = hashlib.sha1(front)
@@ -38,9 +40,9 @@ def write_store(path):
     with open(path, "wb") as file:
         file.write(head)
         for place in range(PUSHES):
-            label = length + struct.pack(">QB", place, 3) + b"ann"
-            digest = hashlib.sha1(digest + label + inner.digest()).digest()
-            file.write(b"\xff" + label + digest + front)
+            label = length + struct.pack(">QB", place, 3) + b"ann" if version == 2 else length
+            digest = hashlib.sha1(digest + (label if version == 2 else b"") + inner.digest()).digest()
+            file.write((b"\xff" if version == 2 else b"\1") + label + digest + front)
             file.seek(SIZE, os.SEEK_CUR)
             file.write(back)
         file.write(b"\0")
@@ -75,7 +77,12 @@ def main():
     for name, runs in told.items():
         seconds, peak = statistics.median(it[0] for it in runs), max(it[1] for it in runs)
         print(f"{name}: {seconds:.2f} s, {peak:.0f} MiB, status {runs[-1][2]}")
-    os.remove(path)
+    for name, version, words in (("cut", 2, ["--at", str(PUSHES - 1)]), ("upgrade", 1, [])):
+        write_store(path, version)
+        seconds, peak, status = run([program, name, "--store", store, *words])
+        print(f"{name}: {seconds:.2f} s, {peak:.0f} MiB, status {status}")
+        for it in os.listdir(store):
+            os.remove(f"{store}/{it}")
     return 0
 
 

@@ -115,7 +115,7 @@ refused_more OtherVersion bytes rest none is = other_version bytes rest is
 refused_more Publishing bytes rest none is = bad_publishing bytes rest is
 refused_more BadLimits bytes rest none is = bad_limits bytes rest is
 
-any_file : (a : Option (List ℕ)) → (file : List ℕ) × HasToGive a file
+pub any_file : (a : Option (List ℕ)) → (file : List ℕ) × HasToGive a file
 any_file None = ([], tt)
 any_file (Some x) = (x, refl)
 
@@ -204,7 +204,7 @@ module _ (head : Head) (digest : List ℕ) (a b c : Option (List ℕ)) (begins :
     reads = record { each = each; ends = ends; spelled = refl };
   }
 
-  ends_more : (ending : StoreEnd) → ((tail ≡ []) ⊎ (ending ≢ Whole) → IsAtEnd c)
+  pub ends_more : (ending : StoreEnd) → ((tail ≡ []) ⊎ (ending ≢ Whole) → IsAtEnd c)
       → EndsSo ending (version_of head) (length records) tail
       → EndsSo ending (version_of head) (length records) (tail ++ whole_file.rest)
   ends_more Whole at_end ends = end_more tail whole_file.rest (λ empty. whole_file.over (at_end (inl empty))) ends

@@ -1,6 +1,5 @@
 pub mod CallerLemmas
 mod Frames
-mod Fronts
 mod Written
 mod Kept
 mod Parts
@@ -9,6 +8,8 @@ mod Files
 mod Logs
 mod Reports
 mod Checks
+mod Fillings
+mod Cuts
 mod Headers
 mod Plain
 mod Upgrades

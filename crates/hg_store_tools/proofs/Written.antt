@@ -1,19 +1,13 @@
--- What a writer took of bundles, and bundles that are joined.
-use Rattle.std.proofs.Common.{◌≡◌, ◌⊎◌, inl, inr, ℕ, ◌+◌, ◌<◌, List, [], ◌∷◌, ◌++◌, length, take, refl, sym, ap, ◌∙◌, subst, append_assoc, get_or}
-use Rattle.std.proofs.lemmas.List.{append-nil, take_more}
+-- What a writer took of bundles.
+use Rattle.std.proofs.Common.{◌≡◌, ◌⊎◌, inl, inr, ℕ, List, ◌++◌, refl, sym, ap, ◌∙◌, subst}
+use Rattle.std.proofs.lemmas.List.{append-nil}
 use Rattle.std.specs.Io.KnownBytes.{Appends}
-use Rattle.hg_store.specs.Entries.{Entry}
 use Rattle.hg_connection.specs.declared.sending.Sending.{Sending}
 use Rattle.hg_connection.specs.declared.sending.Sending.TheVariants.{Whole, Broken, NoMemory}
 use Rattle.hg_connection.specs.Devices.{Output}
 use Rattle.hg_connection.specs.Sent.{Sends}
-use Rattle.hg_store_tools.specs.Cutting.{joined}
 use Rattle.hg_store_tools.specs.declared.fault.Fault.TheVariants.{NoMemory as out_of_memory, Unsent}
 use Rattle.hg_store_tools.specs.Reporting.{sending_fault}
-
-joined-push : (rs : List Entry) (r : Entry) → joined (rs ++ r ∷ []) ≡ joined rs ++ r.bundle
-joined-push [] r = append-nil r.bundle
-joined-push (q ∷ rs) r = ap (λ (l : List ℕ). q.bundle ++ l) (joined-push rs r) ∙ sym (append_assoc q.bundle (joined rs) r.bundle)
 
 -- all of the bytes were taken
 pub whole_sent : (count : ℕ) (before after : Output) (bytes : List ℕ) → Sends Whole count before after bytes
@@ -23,18 +17,7 @@ whole_sent count before after bytes sends =
     ∙ append-nil sends.gone in
     subst (λ (l : List ℕ). Appends before.taken after.taken l) (sym is) sends.bytes
 
-take_next : (rs : List Entry) (i : ℕ) (r : Entry) → i < length rs → r ≡ get_or rs i r
-    → take (i + 1) rs ≡ take i rs ++ r ∷ []
-take_next rs i r lt is = take_more rs i r lt ∙ ap (λ (x : Entry). take i rs ++ x ∷ []) (sym is)
-
 pub fault_told : (sending : Sending) → (sending_fault sending ≡ Unsent) ⊎ (sending_fault sending ≡ out_of_memory)
 fault_told Whole = inl refl
 fault_told Broken = inl refl
 fault_told NoMemory = inr refl
-
--- one record more was joined
-pub joined_more : (rs : List Entry) (i : ℕ) (r : Entry) (shown now next : List ℕ) → i < length rs → r ≡ get_or rs i r
-    → shown ≡ r.bundle → now ≡ joined (take i rs) → next ≡ now ++ shown → next ≡ joined (take (i + 1) rs)
-joined_more rs i r shown now next lt is same so_far more =
-    more ∙ ap (λ (l : List ℕ). l ++ shown) so_far ∙ ap (λ (l : List ℕ). joined (take i rs) ++ l) same
-    ∙ sym (ap joined (take_next rs i r lt is) ∙ joined-push (take i rs) r)

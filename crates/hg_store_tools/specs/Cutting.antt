@@ -1,14 +1,22 @@
 -- A store that is ended before one of its records, and what is kept of those that it loses.
-use Rattle.std.specs.Prelude.{ℕ, ◌≡◌, ◌≢◌, ◌⊎◌, ◌<◌, List, [], ◌∷◌, ◌++◌, length, take, drop}
+use Rattle.std.specs.Prelude.{ℕ, ◌≡◌, ◌≢◌, ◌⊎◌, ◌<◌, ◌≤◌, ⊤, Result, Ok, Err, List, [], ◌∷◌, ◌++◌, length, take, drop}
 use Rattle.std.specs.List.{AllByRecursion}
 use Rattle.hg_store.specs.declared.head.Head.{Head}
 use Rattle.hg_store.specs.declared.head.Version.{Version}
 use Rattle.hg_store.specs.declared.record.NoRecord.{NoRecord}
 use Rattle.hg_store.specs.declared.record.NoRecord.TheVariants.{Damaged, End, Torn}
 use Rattle.hg_store.specs.Entries.{Entry}
-use Rattle.hg_store.specs.Head.{BeginsWithHead, first_digest, version_of}
+use Rattle.hg_store.specs.Head.{BeginsWithHead, IsRefusedFor, first_digest, version_of}
 use Rattle.hg_store.specs.Log.{at_rest}
+use Rattle.hg_store.specs.Calls.{IsPlaced, IsPlacedWhole}
 use Rattle.hg_store.specs.Records.{IsDamaged, IsEnd, IsRecord, IsTorn, frames, last_digest}
+use Rattle.hg_store_tools.specs.declared.cut.CutFault.{CutFault}
+use Rattle.hg_store_tools.specs.declared.cut.CutFault.TheVariants.{Kept, New, Store}
+use Rattle.hg_store_tools.specs.declared.fault.Fault.{Fault}
+use Rattle.hg_store_tools.specs.declared.fault.Fault.TheVariants.{Damaged as DamagedAt, Failed, Head as HasNoHead, NoMemory, NoPlace, Unsent}
+use Rattle.hg_store_tools.specs.declared.fault.StoreEnd.{StoreEnd}
+use Rattle.hg_store_tools.specs.declared.fault.StoreEnd.TheVariants.{Whole as WholeEnd, Torn as TornEnd}
+use Rattle.hg_store_tools.specs.Filling.{Filled, HasRecords, IsFilled, IsUnplaced, StoreFilled}
 
 -- the bundles of records, one after the other
 abbrev pub joined : List Entry → List ℕ
@@ -58,3 +66,75 @@ pub record HasNoPlace (file : List ℕ) (at count : ℕ) : Type 0 where
   pub front : IsFront file head records stop
   pub count_is : count ≡ length records
   pub behind : (count < at) ⊎ ((at ≡ count) × (stop ≡ End))
+
+-- The two new files of a cut, and how many records were read.
+pub record CutSoFar : Type 0 where
+  pub kept : Filled
+  pub left : StoreFilled
+  pub count : ℕ
+
+-- no call was made on either file
+abbrev pub AreNew : CutSoFar → Type 0
+AreNew files = (files.kept.calls ≡ []) × (files.left.file.calls ≡ [])
+
+-- neither file has got a name
+abbrev pub AreUnplaced : CutSoFar → Type 0
+AreUnplaced files = IsUnplaced files.kept.calls × IsUnplaced files.left.file.calls
+
+-- These records were read: those before the place are written to the new store, and the bundles of the others, one
+-- after the other, to the file beside it.
+pub record HasCut (head : Head) (at : ℕ) (records : List Entry) (files : CutSoFar) : Type 0 where
+  pub left : HasRecords head (take at records) files.left
+  pub kept : IsFilled (joined (drop at records)) files.kept
+  pub count_is : files.count ≡ length records
+
+-- the record at a place was written to one of the files
+abbrev pub CutsRecord : Version → ℕ → ℕ → Entry → CutSoFar → CutSoFar → Type 0
+CutsRecord version at place entry before after = (head : Head) (records : List Entry) → version ≡ version_of head →
+    place ≡ length records → HasCut head at records before → HasCut head at (records ++ entry ∷ []) after
+
+-- it was not, or not whole
+abbrev pub CutsNoRecord : Fault → CutSoFar → CutSoFar → Type 0
+CutsNoRecord fault before after =
+    ((fault ≡ Unsent) ⊎ (fault ≡ NoMemory)) × (AreUnplaced before → AreUnplaced after)
+
+-- What came of a cut of a file: neither new file got a name; or each got its name with all that it is to have on the
+-- disk, the new store not before the other.
+pub data IsCutInto (file : List ℕ) (at : ℕ) (files : CutSoFar) : Type 0 where
+  unplaced : AreUnplaced files → IsCutInto file at files
+  placed : (kept left : List ℕ) → IsCutOf file at kept left → IsPlacedWhole kept files.kept.calls →
+      IsPlacedWhole left files.left.file.calls → IsUnplaced files.left.file.calls ⊎ IsPlaced files.kept.calls →
+      IsCutInto file at files
+
+-- why a file is not cut; of memory, of the reader and of the new files nothing is said
+abbrev pub IsUncut : CutFault → List ℕ → ℕ → Type 0
+IsUncut (Store (HasNoHead fault)) file at = IsRefusedFor fault file
+IsUncut (Store (NoPlace count)) file at = HasNoPlace file at count
+IsUncut (Store NoMemory) file at = ⊤
+IsUncut (Store Failed) file at = ⊤
+IsUncut (Store other) file at = ⊥
+IsUncut (Kept fault) file at = ⊤
+IsUncut New file at = ⊤
+
+-- the names that the files have not got then
+abbrev pub LeavesBy : CutFault → CutSoFar → Type 0
+LeavesBy (Store fault) files = AreUnplaced files
+LeavesBy (Kept fault) files = IsUnplaced files.left.file.calls
+LeavesBy New files = ⊤
+
+-- the fault is about one of the new files, or about memory
+abbrev pub IsOfFiles : CutFault → Type 0
+IsOfFiles (Store NoMemory) = ⊤
+IsOfFiles (Store other) = ⊥
+IsOfFiles (Kept fault) = ⊤
+IsOfFiles New = ⊤
+
+-- what stands after the whole records of a store, by what was told of its end
+abbrev pub IsStopOf : NoRecord → Result StoreEnd Fault → Type 0
+IsStopOf End told = told ≡ Ok WholeEnd
+IsStopOf Torn told = (whole : ℕ) × (told ≡ Ok (TornEnd whole))
+IsStopOf Damaged told = (whole : ℕ) × (told ≡ Err (DamagedAt whole))
+
+-- The fault that a cut tells for one of its records: that one of the new files did not take it, or the fault itself.
+abbrev pub IsToldAs : Fault → CutFault → Type 0
+IsToldAs fault told = ((fault ≡ Unsent) × ((told ≡ Kept Failed) ⊎ (told ≡ New))) ⊎ ((fault ≢ Unsent) × (told ≡ Store fault))

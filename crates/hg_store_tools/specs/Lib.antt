@@ -3,6 +3,7 @@ pub mod Visiting
 pub mod Reporting
 pub mod Canonical
 pub mod Logging
+pub mod Filling
 pub mod Cutting
 pub mod Upgrading
 pub mod code

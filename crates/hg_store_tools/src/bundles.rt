@@ -49,7 +49,10 @@ impl<A: Allocator> Model for Logging<A> {
 }
 
 impl<W: Writer, A: Allocator + Copy> RecordVisit<W, A> for Logging<A> {
+    ghost use Rattle.std.specs.Prelude.{⊤};
     ghost use Rattle.hg_store_tools.specs.Logging.{SendsRecord, SendsNoRecord};
+
+    ghost takes = { λ _ entry. ⊤ };
 
     ghost visits = { λ s place entry before after. SendsRecord A s place entry (W.told before).taken (W.told after).taken };
 
@@ -74,7 +77,10 @@ struct Shelving<A: Allocator> {
 }
 
 impl<S: BundleSink, A: Allocator + Copy> RecordVisit<S, A> for Shelving<A> {
+    ghost use Rattle.std.specs.Prelude.{⊤};
     ghost use Rattle.hg_store_tools.specs.Logging.{PutsRecord};
+
+    ghost takes = { λ _ entry. ⊤ };
 
     ghost visits = { λ s place entry before after. PutsRecord A s.log place entry (S.has before) (S.has after) };
 

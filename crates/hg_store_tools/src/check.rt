@@ -18,6 +18,8 @@ struct Passing;
 impl<A: Allocator> RecordVisit<(), A> for Passing {
     ghost use Rattle.std.specs.Prelude.{⊤};
 
+    ghost takes = { λ _ entry. ⊤ };
+
     ghost visits = { λ _ place entry before after. ⊤ };
 
     ghost fails = { λ _ place entry fault before after. ⊥ };

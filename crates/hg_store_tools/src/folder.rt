@@ -7,22 +7,20 @@ ghost use Rattle.hg_store_tools.specs.Logging.{IsLogged};
 ghost use Rattle.hg_store_tools.specs.Reporting.{Reports};
 
 use crate::bundles::{put_log, send_log};
-use crate::cut::{CutFault, StoreCut, cut_of, put_cut};
+use crate::cut::{CutFault, CutFiles, put_cut};
 use crate::fault::{ArchiveFault, Fault, NamedFile, StoreEnd};
+use crate::filling::NewStore;
 use crate::form::BundleForm;
-use crate::host::{FolderShelf, checked_reader, fault_of, fault_of_store, store_reader};
-use crate::report::send_report;
-use crate::upgrade::upgrade_of;
-use hg_connection::Writer;
-use hg_store::{
-    StoreFault, StoreFolder, kept_file, make_folder, new_identity, new_store, open_held, read_all,
+use crate::host::{
+    FolderShelf, StoreLink, checked_reader, fault_of_store, held_reader, placed_reader, store_reader,
 };
+use crate::report::send_report;
+use crate::upgrade::put_upgrade;
+use hg_connection::Writer;
+use hg_store::{StoreFault, StoreFolder, kept_file, make_folder, new_identity, new_store};
 use std::alloc::Allocator;
 use std::fs::{File, Files};
 use std::hash::RandomState;
-
-/// The name of a store of version 1 that is kept.
-const OLD_NAME: &str = "pushes.1";
 
 /// Writes the report of the store in a folder, as [`send_report`] does, also while another process holds it.
 /// Nothing is changed, and nothing is held.
@@ -94,44 +92,67 @@ pub fn file_log<'a, R: Files<File = File>, A: Allocator + Copy>(
     }
 }
 
-/// Ends the store in a folder before a place, as [`cut_of`] and [`put_cut`] say. What it leaves out is kept
-/// in the file `pushes.cut-N` of the folder, where N is the place; one that is there is not written over. A
-/// store that another process holds is refused. Of an `Err` the store is as it was, except where the new file
-/// failed: then the old store is there, or the new one is.
+/// Ends the store in a folder before a place, as [`put_cut`] does. What it leaves out is kept in the file `pushes.cut-N`
+/// of the folder, where N is the place; one that is there is not written over. A store that another process holds is
+/// refused. It is read twice: where it has no such place, nothing is made. Of an `Err` the store is as it was, except
+/// where the new file failed: then the old store is there, or the new one is.
 pub fn cut_store<'a, R: Files<File = File>, A: Allocator + Copy>(
     files: &R,
     alloc: A,
     folder: &'a str,
     at: usize,
 ) -> Result<(), ArchiveFault<'a>> {
-    let mut old = about_store(open_held(files, alloc, folder), NamedFile::Store(folder))?;
-    let cut = about(cut_held(alloc, &mut old, at), NamedFile::Store(folder))?;
-    let kept = NamedFile::Kept(folder, at);
-    let name = about(cut_name(alloc, at), kept)?;
-    place_cut(files, alloc, folder, kept, name.as_str(), &cut)
+    let mut reader = about(
+        placed_reader(files, alloc, folder, at),
+        NamedFile::Store(folder),
+    )?;
+    let kept_name = NamedFile::Kept(folder, at);
+    let name = about(cut_name(alloc, at), kept_name)?;
+    let kept = about_store(kept_file(files, alloc, folder, name.as_str()), kept_name)?;
+    let new = match new_store(alloc, &mut StoreFolder::new(files, folder)) {
+        Ok(file) => file,
+        Err(fault) => {
+            kept.remove();
+            return about_store(Err(fault), NamedFile::New(folder));
+        }
+    };
+    let mut made = CutFiles::of(kept, new);
+    match put_cut(alloc, &mut reader, at, &mut made) {
+        Ok(()) => Ok(()),
+        Err(fault) => {
+            made.kept().remove();
+            made.new_store().remove();
+            Err(named(fault, folder, kept_name))
+        }
+    }
 }
 
-/// Writes the store of version 1 in a folder as one of version 2, with a name of random bytes, as [`upgrade_of`] and
-/// [`put_cut`] say. The old one is kept in the file `pushes.1` of the folder; one that is there is not written over. A
-/// store that another process holds is refused, and so is a torn one. Of an `Err` the store is as it was, except where
-/// the new file failed: then the old store is there, or the new one is.
+/// Writes the store of version 1 in a folder as one of version 2, with a name of random bytes, as [`put_upgrade`] does.
+/// The old file is kept as `pushes.1` of the folder; one that is there is not written over. A store that another process
+/// holds is refused, and so is a torn one. Of an `Err` the store is as it was, except where the new file failed: then
+/// the old store is there, or the new one is.
 pub fn upgrade_store<'a, R: Files<File = File>, A: Allocator + Copy>(
     files: &R,
     alloc: A,
     folder: &'a str,
 ) -> Result<(), ArchiveFault<'a>> {
     let store = NamedFile::Store(folder);
-    let mut old = about_store(open_held(files, alloc, folder), store)?;
+    let mut reader = about(held_reader(files, alloc, folder), store)?;
+    let old_name = NamedFile::Old(folder);
+    let mut old = about(StoreLink::of(files, alloc, folder), store)?;
     let identity = about_store(new_identity(files), store)?;
-    let upgrade = about(upgrade_held(alloc, &mut old, identity), store)?;
-    place_cut(
-        files,
-        alloc,
-        folder,
-        NamedFile::Old(folder),
-        OLD_NAME,
-        &upgrade,
-    )
+    let new = about_store(
+        new_store(alloc, &mut StoreFolder::new(files, folder)),
+        NamedFile::New(folder),
+    )?;
+    let mut made = NewStore::of(new);
+    match put_upgrade(alloc, &mut reader, identity, &mut old, &mut made) {
+        Ok(()) => Ok(()),
+        Err(fault) => {
+            made.file().remove();
+            Err(named(fault, folder, old_name))
+        }
+    }
 }
 
 /// The same outcome; a fault with the file that it is about.
@@ -173,62 +194,18 @@ fn shelf_name<'a>(folder: &'a str, to: &'a str, place: usize, fault: Fault) -> N
     }
 }
 
-/// What a cut before a place makes of a file.
-fn cut_held<A: Allocator + Copy>(
-    alloc: A,
-    file: &mut File,
-    at: usize,
-) -> Result<StoreCut<A>, Fault> {
-    match read_all(alloc, file) {
-        Ok(bytes) => cut_of(alloc, &bytes, at),
-        Err(error) => Err(fault_of(error)),
-    }
-}
-
-/// What an upgrade makes of a file.
-fn upgrade_held<A: Allocator + Copy>(
-    alloc: A,
-    file: &mut File,
-    identity: [u8; 16],
-) -> Result<StoreCut<A>, Fault> {
-    match read_all(alloc, file) {
-        Ok(bytes) => upgrade_of(alloc, bytes, identity),
-        Err(error) => Err(fault_of(error)),
-    }
-}
-
-/// Puts what a cut or an upgrade made into the folder, and what is kept into a file of that name.
-fn place_cut<'a, R: Files<File = File>, A: Allocator + Copy>(
-    files: &R,
-    alloc: A,
-    folder: &'a str,
-    kept_name: NamedFile<'a>,
-    name: &str,
-    cut: &StoreCut<A>,
-) -> Result<(), ArchiveFault<'a>> {
-    let mut kept = match kept_file(files, alloc, folder, name) {
-        Ok(file) => file,
-        Err(fault) => return about_store(Err(fault), kept_name),
-    };
-    let mut new = match new_store(alloc, &mut StoreFolder::new(files, folder)) {
-        Ok(file) => file,
-        Err(fault) => return about_store(Err(fault), NamedFile::New(folder)),
-    };
-    let result = put_cut(cut, &mut kept, &mut new);
-    if result.is_err() {
-        kept.remove();
-        new.remove();
-    }
-    match result {
-        Ok(()) => Ok(()),
-        Err(CutFault::Kept) => Err(ArchiveFault {
-            file: kept_name,
-            fault: Fault::Failed,
-        }),
-        Err(CutFault::New) => Err(ArchiveFault {
+/// A fault of a cut or an upgrade, with the file that it is about.
+fn named<'a>(fault: CutFault, folder: &'a str, kept: NamedFile<'a>) -> ArchiveFault<'a> {
+    match fault {
+        CutFault::Store(fault) => ArchiveFault {
+            file: NamedFile::Store(folder),
+            fault,
+        },
+        CutFault::Kept(fault) => ArchiveFault { file: kept, fault },
+        CutFault::New => ArchiveFault {
             file: NamedFile::New(folder),
             fault: Fault::Failed,
-        }),
+        },
     }
 }
 

@@ -45,7 +45,10 @@ struct Replaying<A: Allocator> {
 }
 
 impl<A: Allocator + Copy> RecordVisit<Replayed<A>, A> for Replaying<A> {
+    ghost use Rattle.std.specs.Prelude.{⊤};
     ghost use Rattle.hg_store_tools.specs.Reporting.{ReplaysNoRecord, ReplaysRecord};
+
+    ghost takes = { λ _ entry. ⊤ };
 
     ghost visits = { λ _ place entry before after. ReplaysRecord place entry before after };
 

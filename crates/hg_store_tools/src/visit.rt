@@ -2,6 +2,8 @@
 
 ghost use Rattle.std.specs.Prelude.{◌≡◌, ◌<◌, ◌+◌, ◌^◌, ℕ, List, Option, IfErr, IfOk, OnOk};
 ghost use Rattle.hg_store.specs.Entries.{Entry as AnyEntry};
+ghost use Rattle.hg_store.specs.Head.{version_of};
+ghost use Rattle.hg_store.specs.Records.{IsRecord};
 ghost use Rattle.hg_store.specs.declared.pieces.RecordStop.{RecordStop as AnyRecordStop};
 ghost use Rattle.hg_store_tools.specs.declared.fault.Fault.{Fault as AnyFault};
 ghost use Rattle.hg_store_tools.specs.Visiting.{Begins, EndsAs, FailsAs, Visits, StopsVisiting, has_no_begin};
@@ -15,6 +17,9 @@ use std::io::Read;
 
 /// What is done with each record of a store, in its order, to a target.
 pub(crate) trait RecordVisit<T, A: Allocator> {
+    /// Which records it can be done with.
+    ghost takes: { Self → AnyEntry → Type 0 };
+
     /// What is done with the record at a place.
     ghost visits: { Self → ℕ → AnyEntry → T → T → Type 0 };
 
@@ -23,7 +28,8 @@ pub(crate) trait RecordVisit<T, A: Allocator> {
 
     /// Does it with the record at a place.
     fn visit(&self, place: usize, entry: &Entry<A>, target: &mut T) -> Result<(), Fault>
-        requires { place + 1 < 2 ^ 64 }
+        requires place { place + 1 < 2 ^ 64 }
+        requires takes { takes self.now entry.now }
         ensures ok { OnOk result (visits self.now place entry.now target.old target.new) }
         ensures err { IfErr result (λ fault. fails self.now place entry.now fault target.old target.new) };
 }
@@ -60,6 +66,7 @@ pub(crate) fn visit_records<R: Read, T, V: RecordVisit<T, A>, A: Allocator + Cop
     visit: &V,
     target: &mut T,
 ) -> Result<StoreEnd, Fault>
+    requires { (entry : AnyEntry) → IsRecord (version_of begun.now.head) entry → V.takes visit.now entry }
     ensures ok { IfOk result (λ ending. Visits (V.visits visit.now) begun.now.head begun.now.digest
         (R.remaining reader.old) (R.remaining reader.new) ending target.old target.new) }
     ensures err { IfErr result (λ fault. StopsVisiting (V.visits visit.now) (V.fails visit.now) begun.now.head

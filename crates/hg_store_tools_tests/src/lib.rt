@@ -25,6 +25,9 @@
 //! - a cut of three records before each place up to the fifth, of a whole, a torn and a damaged store, where
 //!   each of the calls on the two new files fails. Result: the records before the place and what is kept; no
 //!   such place; the new file has no name where the other has none.
+//! - an upgrade of three records of version 1, where each of the calls on the new file fails, and where another file
+//!   has the second name; of a torn and a damaged store, and of one of version 2. Result: the store of version 2; the
+//!   new file has no name where the old one has no second; no upgrade.
 //! - a folder: no store; a report and a log beside a process that holds it; the log in a folder, twice; a cut
 //!   while it is held, at a place that it has not, at one that it has, and again. Result: no store; both; there
 //!   is a file; held; no such place; the records before it and the file of the others; there is a file.

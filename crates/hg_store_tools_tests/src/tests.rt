@@ -336,17 +336,50 @@ fn memory_refused(rt: HostRuntime) -> Result<(), Fail> {
             Some(false) => seen[3] = true,
             None => assert!(rt; false, "a log with {sixteens} times 16 bytes"),
         }
-        match cut_of(&heap, &file, 1) {
-            Err(Fault::NoMemory) => seen[4] = true,
-            Ok(cut) => {
+        let (told, files) = cut_of(&heap, alloc, &file, 1)?;
+        match told {
+            Err(CutFault::Store(Fault::NoMemory)) => {
+                seen[4] = true;
+                assert!(rt; !files.kept().is_named && !files.new_store().is_named);
+            }
+            Ok(()) => {
                 seen[5] = true;
-                assert!(rt; log.as_slice().get(68..) == Some(cut.kept.as_slice()));
+                assert!(rt; log.as_slice().get(68..) == Some(files.kept().synced.as_slice()));
             }
             Err(_) => assert!(rt; false, "a cut with {sixteens} times 16 bytes"),
         }
     }
     assert!(rt; seen == [true; 6]);
     Ok(())
+}
+
+/// A cut over two files in memory.
+type Cut = (Result<(), CutFault>, CutFiles<Paper, Paper>);
+
+/// A cut of a store, by files of which the calls beyond so many fail. Some bytes stand in them at first.
+fn cut_by<A: Allocator + Copy>(
+    alloc: A,
+    global: Global,
+    file: &[u8],
+    at: usize,
+    calls: [usize; 2],
+) -> Result<Cut, Fail> {
+    let kept = Paper::new(global, &[7], calls[0])?;
+    let left = Paper::new(global, &[7], calls[1])?;
+    let mut files = CutFiles::of(kept, left);
+    let mut reader = file;
+    let told = put_cut(alloc, &mut reader, at, &mut files);
+    Ok((told, files))
+}
+
+/// The same by files that do not fail.
+fn cut_of<A: Allocator + Copy>(
+    alloc: A,
+    global: Global,
+    file: &[u8],
+    at: usize,
+) -> Result<Cut, Fail> {
+    cut_by(alloc, global, file, at, [usize::MAX; 2])
 }
 
 /// Cuts a file before each place, and says at which there is one: what is left and kept has to be that of the
@@ -359,23 +392,27 @@ fn places_of<R: Abort>(
 ) -> Result<Vec<usize>, Fail> {
     let mut places = Vec::new(alloc);
     for at in 0..5usize {
-        match cut_of(alloc, file, at) {
-            Ok(cut) => {
+        let (told, files) = cut_of(alloc, alloc, file, at)?;
+        match told {
+            Ok(()) => {
                 places.push(at)?;
                 let left = shut_store(alloc, false, &bundles[..at.min(bundles.len())])?;
-                assert!(rt; cut.left.as_slice() == left.as_slice(), "at {at}");
+                assert!(rt; files.new_store().synced.as_slice() == left.as_slice(), "at {at}");
                 let kept = joined(alloc, &bundles[at.min(bundles.len())..])?;
-                assert!(rt; cut.kept.as_slice() == kept.as_slice(), "at {at}");
+                assert!(rt; files.kept().synced.as_slice() == kept.as_slice(), "at {at}");
             }
-            Err(fault) => assert!(rt; fault == Fault::NoPlace(bundles.len()), "at {at}"),
+            Err(fault) => {
+                let no_place = CutFault::Store(Fault::NoPlace(bundles.len()));
+                assert!(rt; fault == no_place, "at {at}");
+                assert!(rt; !files.kept().is_named && !files.new_store().is_named);
+            }
         }
     }
     Ok(places)
 }
 
-// A store of version 1 is read, cut and upgraded, and one of version 2 is not upgraded.
-// M1, E, M2. Result: the report and the log; of a cut before place 1 a store of version 1; of an upgrade the store of
-// version 2 of these, and the old one; torn after two; of version 2 already; damage at place 0.
+// A store of version 1 is read and cut.
+// M1, E, M2. Result: the report and the log; of a cut before place 1 a store of version 1.
 #[test]
 fn a_store_of_version_1(rt: HostRuntime) -> Result<(), Fail> {
     let alloc = rt.alloc();
@@ -386,30 +423,96 @@ fn a_store_of_version_1(rt: HostRuntime) -> Result<(), Fail> {
     assert!(rt; told == Ok(StoreEnd::Whole) && text.as_slice() == MARKERS.as_bytes());
     let (told, log) = log_of(&rt, &old, 2)?;
     assert!(rt; told == Ok(StoreEnd::Whole) && log.as_slice() == TWO.as_slice());
-    match cut_of(alloc, &old, 1) {
-        Ok(cut) => {
-            let mut left = store_with(alloc, &old_head(false), &bundles[..1])?;
-            left.push(0)?;
-            assert!(rt; cut.left.as_slice() == left.as_slice());
+    let (told, files) = cut_of(alloc, alloc, &old, 1)?;
+    let mut left = store_with(alloc, &old_head(false), &bundles[..1])?;
+    left.push(0)?;
+    assert!(rt; told == Ok(()) && files.new_store().synced.as_slice() == left.as_slice());
+    Ok(())
+}
+
+/// A store that gets a second name, or does not get it.
+#[derive(Drop)]
+struct Named {
+    is_kept: bool,
+    has_other: bool,
+}
+
+impl OldStore for Named {
+    ghost is_kept = { λ n. n.is_kept };
+
+    fn keep(&mut self) -> Result<(), Fault> {
+        if self.has_other {
+            return Err(Fault::Exists);
         }
-        Err(_) => assert!(rt; false, "a cut"),
+        self.is_kept = true;
+        Ok(())
     }
-    match upgrade_of(alloc, old.to_vec(alloc)?, [9; 16]) {
-        Ok(made) => {
-            assert!(rt; made.kept.as_slice() == old.as_slice());
-            let new = shut_store(alloc, false, &bundles)?;
-            assert!(rt; made.left.as_slice() == new.as_slice());
-            let again = upgrade_of(alloc, made.left, [9; 16]);
-            assert!(rt; again.err() == Some(Fault::Upgraded));
-        }
-        Err(_) => assert!(rt; false, "an upgrade"),
+}
+
+/// What came of an upgrade of these bytes, by a file of which the calls beyond so many fail, and the new file.
+fn upgrade_by(
+    alloc: Global,
+    file: &[u8],
+    old: &mut Named,
+    calls: usize,
+) -> Result<(Result<(), CutFault>, NewStore<Paper>), Fail> {
+    let mut new = NewStore::of(Paper::new(alloc, &[], calls)?);
+    let mut reader = file;
+    let told = put_upgrade(alloc, &mut reader, [9; 16], old, &mut new);
+    Ok((told, new))
+}
+
+/// Why these bytes are not upgraded; the old store has no second name then, and the new one has none.
+fn not_upgraded<R: Abort>(rt: &R, alloc: Global, file: &[u8]) -> Result<Option<CutFault>, Fail> {
+    let mut old = Named {
+        is_kept: false,
+        has_other: false,
+    };
+    let (told, new) = upgrade_by(alloc, file, &mut old, usize::MAX)?;
+    assert!(rt; told.is_ok() || (!old.is_kept && !new.file().is_named));
+    Ok(told.err())
+}
+
+// A store of version 1 is upgraded, and one of version 2 is not.
+// M1, E, M2, where each call fails, and where there is another file of the second name; a byte less; its first gate
+// turned; version 2. Result: the store of version 2 of these, and the old one has the second name before; the file
+// failed, and what has a name is whole; torn after two; damage at place 0; of version 2 already.
+#[test]
+fn upgrades(rt: HostRuntime) -> Result<(), Fail> {
+    let alloc = rt.alloc();
+    let bundles: [&[u8]; 3] = [&ONE, &EMPTY, &TWO];
+    let old = store_with(alloc, &old_head(false), &bundles)?;
+    let new = shut_store(alloc, false, &bundles)?;
+    for calls in 0..10usize {
+        let mut named = Named {
+            is_kept: false,
+            has_other: false,
+        };
+        let (told, made) = upgrade_by(alloc, &old, &mut named, calls)?;
+        let wanted = if calls < 8 {
+            Err(CutFault::New)
+        } else {
+            Ok(())
+        };
+        assert!(rt; told == wanted && named.is_kept == (calls >= 5), "{calls} calls");
+        assert!(rt; made.file().is_named == (calls >= 7), "{calls} calls");
+        assert!(rt; !made.file().is_named || made.file().synced.as_slice() == new.as_slice());
     }
-    let mut torn = old.to_vec(alloc)?;
-    torn.truncate(old.len().saturating_sub(1));
-    assert!(rt; upgrade_of(alloc, torn, [9; 16]).err() == Some(Fault::Torn(2)));
+    let mut named = Named {
+        is_kept: false,
+        has_other: true,
+    };
+    let (told, made) = upgrade_by(alloc, &old, &mut named, usize::MAX)?;
+    assert!(rt; told == Err(CutFault::Kept(Fault::Exists)) && !made.file().is_named);
+    let torn = &old[..old.len().saturating_sub(1)];
+    let fault = CutFault::Store(Fault::Torn(2));
+    assert!(rt; not_upgraded(&rt, alloc, torn)? == Some(fault));
     let mut damaged = old.to_vec(alloc)?;
     turn(&mut damaged, 38, 2);
-    assert!(rt; upgrade_of(alloc, damaged, [9; 16]).err() == Some(Fault::Damaged(0)));
+    let fault = CutFault::Store(Fault::Damaged(0));
+    assert!(rt; not_upgraded(&rt, alloc, &damaged)? == Some(fault));
+    let fault = CutFault::Store(Fault::Upgraded);
+    assert!(rt; not_upgraded(&rt, alloc, &new)? == Some(fault));
     Ok(())
 }
 
@@ -437,33 +540,42 @@ fn cuts(rt: HostRuntime) -> Result<(), Fail> {
     turn(&mut turned, last, 1);
     assert!(rt; places_of(&rt, alloc, &turned, &bundles[..2])?.as_slice() == three.as_slice());
     match whole.as_slice().get(..37) {
-        Some(front) => assert!(rt; cut_of(alloc, front, 0).is_err()),
+        Some(front) => {
+            let (told, _files) = cut_of(alloc, alloc, front, 0)?;
+            assert!(rt; told == Err(CutFault::Store(Fault::Head(HeadFault::TooShort))));
+        }
         None => assert!(rt; false, "a store below its head"),
     }
     Ok(())
 }
 
-// The two new files of a cut, where each of their four calls fails.
+// The two new files of a cut, where each of their five and six calls fails.
 // M1, E, M2, cut before place 1. Result: the new store has no name where what is kept may have none, and what
 // has a name is whole and synced.
 #[test]
 fn new_files_that_fail(rt: HostRuntime) -> Result<(), Fail> {
     let alloc = rt.alloc();
     let file = shut_store(alloc, false, &[&ONE, &EMPTY, &TWO])?;
-    let cut = cut_of(alloc, &file, 1)?;
-    for calls in 0..9usize {
-        let mut kept = Paper::new(alloc, &[], calls.min(4))?;
-        let mut new = Paper::new(alloc, &[], calls.saturating_sub(4))?;
-        let told = put_cut(&cut, &mut kept, &mut new);
+    let wanted_kept = joined(alloc, &[&EMPTY, &TWO])?;
+    let wanted_left = shut_store(alloc, false, &[&ONE])?;
+    for calls in 0..13usize {
+        let both = if calls < 6 {
+            [calls, usize::MAX]
+        } else {
+            [usize::MAX, calls - 6]
+        };
+        let (told, files) = cut_by(alloc, alloc, &file, 1, both)?;
         let wanted = match calls {
-            0..4 => Err(CutFault::Kept),
-            4..8 => Err(CutFault::New),
+            0..5 => Err(CutFault::Kept(Fault::Failed)),
+            6..12 => Err(CutFault::New),
             _ => Ok(()),
         };
         assert!(rt; told == wanted, "{calls} calls");
-        assert!(rt; kept.is_named == (calls >= 3) && new.is_named == (calls >= 7));
-        assert!(rt; !kept.is_named || kept.synced.as_slice() == cut.kept.as_slice());
-        assert!(rt; !new.is_named || new.synced.as_slice() == cut.left.as_slice());
+        let (kept, left) = (files.kept(), files.new_store());
+        assert!(rt; kept.is_named == (calls == 4 || calls == 5 || calls >= 9), "{calls} calls");
+        assert!(rt; left.is_named == (calls == 5 || calls >= 11), "{calls} calls");
+        assert!(rt; !kept.is_named || kept.synced.as_slice() == wanted_kept.as_slice());
+        assert!(rt; !left.is_named || left.synced.as_slice() == wanted_left.as_slice());
     }
     Ok(())
 }
