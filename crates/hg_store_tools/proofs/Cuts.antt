@@ -1,5 +1,7 @@
 -- A store that is cut, a record at a time.
-use Rattle.std.proofs.Common.{◌≡◌, ◌≢◌, ◌⊎◌, inl, inr, ℕ, zero, suc, ◌+◌, ◌<◌, ◌≤◌, List, [], ◌∷◌, ◌++◌, length, take, drop, refl, sym, ap, ◌∙◌, subst, arith, append_assoc, length-append, Option, Result, Ok, Err}
+use Rattle.std.proofs.Common.{◌≡◌, ◌≢◌, ◌⊎◌, inl, inr, ℕ, zero, suc, ◌+◌, ◌<◌, ◌≤◌, List, [], ◌∷◌, ◌++◌, length, take}
+use Rattle.std.proofs.Common.{drop, refl, sym, ap, ◌∙◌, subst, arith, append_assoc, length-append, Option, Result, Ok}
+use Rattle.std.proofs.Common.{Err}
 use Rattle.std.specs.Prelude.{IfErr, IfOk}
 use Rattle.std.proofs.lemmas.List.{append-nil, drop_all, take_all}
 use Rattle.hg_store.specs.Entries.{Entry}
@@ -11,21 +13,26 @@ use Rattle.hg_store.specs.declared.head.Head.{Head}
 use Rattle.hg_store.specs.declared.head.Version.{Version}
 use Rattle.hg_store.specs.declared.record.NoRecord.{NoRecord}
 use Rattle.hg_store.specs.declared.record.NoRecord.TheVariants.{Damaged as damaged, End as at_end, Torn as torn}
-use Rattle.hg_store_tools.specs.Cutting.{AreNew, AreUnplaced, CutSoFar, CutsNoRecord, CutsRecord, HasCut, HasNoPlace, HasPlace, IsFront, IsOfFiles, IsStopOf, IsToldAs, IsUncut, StopsSo, joined}
+use Rattle.hg_store_tools.specs.Cutting.{AreNew, AreUnplaced, CutSoFar, CutsNoRecord, CutsRecord, HasCut, HasNoPlace}
+use Rattle.hg_store_tools.specs.Cutting.{HasPlace, IsFront, IsOfFiles, IsStopOf, IsToldAs, IsUncut, StopsSo, joined}
 use Rattle.hg_store_tools.specs.Filling.{AddsRecord, Filled, FillsMore, HasRecords, IsFilled, IsUnplaced, StoreFilled}
 use Rattle.hg_store_tools.specs.Reading.{EndsSo, HasFront, IsUnread}
-use Rattle.hg_store_tools.specs.Visiting.{Begins, IsUnreadAt, StopsVisiting, Visits, VisitsEach, failed, has_no_begin, unread}
+use Rattle.hg_store_tools.specs.Visiting.{Begins, IsUnreadAt, StopsVisiting, Visits, VisitsEach, failed, has_no_begin}
+use Rattle.hg_store_tools.specs.Visiting.{unread}
 use Rattle.hg_store_tools.specs.declared.cut.CutFault.{CutFault}
 use Rattle.hg_store_tools.specs.declared.cut.CutFault.TheVariants.{Kept, New, Store}
 use Rattle.hg_store_tools.specs.declared.fault.Fault.{Fault}
-use Rattle.hg_store_tools.specs.declared.fault.Fault.TheVariants.{Damaged, Exists, Failed, Head as HasNoHead, Held, Missing, NoBundle, NoMemory, NoPlace, Refused, Torn as TornAt, Unsent, Upgraded}
+use Rattle.hg_store_tools.specs.declared.fault.Fault.TheVariants.{Damaged, Exists, Failed, Head as HasNoHead, Held}
+use Rattle.hg_store_tools.specs.declared.fault.Fault.TheVariants.{Missing, NoBundle, NoMemory, NoPlace, Refused}
+use Rattle.hg_store_tools.specs.declared.fault.Fault.TheVariants.{Torn as TornAt, Unsent, Upgraded}
 use Rattle.hg_store_tools.specs.declared.fault.StoreEnd.{StoreEnd}
 use Rattle.hg_store_tools.specs.declared.fault.StoreEnd.TheVariants.{Whole, Torn}
 use Rattle.hg_store_tools.proofs.Files.{any_file, ends_more, has_front, headless, is_unread_at, whole_file}
 
 joined-push : (rs : List Entry) (r : Entry) → joined (rs ++ r ∷ []) ≡ joined rs ++ r.bundle
 joined-push [] r = append-nil r.bundle
-joined-push (q ∷ rs) r = ap (λ (l : List ℕ). q.bundle ++ l) (joined-push rs r) ∙ sym (append_assoc q.bundle (joined rs) r.bundle)
+joined-push (q ∷ rs) r =
+    ap (λ (l : List ℕ). q.bundle ++ l) (joined-push rs r) ∙ sym (append_assoc q.bundle (joined rs) r.bundle)
 
 take-push : (at : ℕ) (rs : List Entry) (r : Entry) → length rs < at → take at (rs ++ r ∷ []) ≡ take at rs ++ r ∷ []
 take-push at rs r less =
@@ -134,12 +141,14 @@ module _ (head : Head) (digest : List ℕ) (a b c : Option (List ℕ)) (begins :
   by_end ending stop visits turn =
       let whole = whole_file head digest a b c begins visits.records visits.tail visits.each visits.gone in
       let front = has_front head digest a b c begins visits.records visits.tail visits.each visits.gone in
-      let ends = ends_more head digest a b c begins visits.records visits.tail visits.each visits.gone ending visits.over visits.ends in
+      let ends = ends_more head digest a b c begins visits.records visits.tail visits.each visits.gone ending visits.over
+      visits.ends in
       record {
         file = whole.file;
         given = whole.is;
         records = visits.records;
-        front = front_of whole.file head visits.records (visits.tail ++ whole.rest) stop front (turn (visits.tail ++ whole.rest) visits.records ends);
+        front = front_of whole.file head visits.records (visits.tail ++ whole.rest) stop front
+            (turn (visits.tail ++ whole.rest) visits.records ends);
         has = cuts_all version head at is [] visits.records 0 first last refl begun visits.visited;
       }
 

@@ -1,5 +1,7 @@
 -- What a reader gave, as the front of a file.
-use Rattle.std.proofs.Common.{◌≡◌, ◌≢◌, ◌⊎◌, inl, inr, ℕ, ◌+◌, ◌<◌, ◌≤◌, List, [], ◌∷◌, ◌++◌, length, take, drop, refl, sym, ap, ◌∙◌, subst, arith, append_assoc, length-append, take-append-drop, Option, Some, None}
+use Rattle.std.proofs.Common.{◌≡◌, ◌≢◌, ◌⊎◌, inl, inr, ℕ, ◌+◌, ◌<◌, ◌≤◌, List, [], ◌∷◌, ◌++◌, length, take, drop}
+use Rattle.std.proofs.Common.{refl, sym, ap, ◌∙◌, subst, arith, append_assoc, length-append, take-append-drop, Option}
+use Rattle.std.proofs.Common.{Some, None}
 use Rattle.std.proofs.KnownBytes.{Consumes-trans}
 use Rattle.std.proofs.lemmas.List.{append-nil, length-take-le, take_at}
 use Rattle.std.specs.Io.KnownBytes.{Consumes, IsAtEnd}
@@ -8,18 +10,23 @@ use Rattle.hg_types.specs.declared.limits.Limits.{Limits}
 use Rattle.hg_types.specs.Limits.{IsAllowed}
 use Rattle.hg_store.specs.Entries.{Entry}
 use Rattle.hg_store.specs.Files.{IsDamagedStore, IsStore, digest_behind, stored}
-use Rattle.hg_store.specs.Head.{HasBadLimits, HasBadPublishing, HasOtherMagic, HasOtherVersion, HasShortHead, IsHead, IsRefusedFor, first_digest, head_bytes, head_size, limits_bytes, magic, version_of}
+use Rattle.hg_store.specs.Head.{HasBadLimits, HasBadPublishing, HasOtherMagic, HasOtherVersion, HasShortHead, IsHead}
+use Rattle.hg_store.specs.Head.{IsRefusedFor, first_digest, head_bytes, head_size, limits_bytes, magic, version_of}
 use Rattle.hg_store.specs.Pieces.{GivesNoHead, HasToGive}
-use Rattle.hg_store.specs.Records.{IsDamaged, IsEnd, IsRecord, IsTorn, frames, label, last_digest, no_gate, open_gate, other_digest, over, shut}
+use Rattle.hg_store.specs.Records.{IsDamaged, IsEnd, IsRecord, IsTorn, frames, label, last_digest, no_gate, open_gate}
+use Rattle.hg_store.specs.Records.{other_digest, over, shut}
 use Rattle.hg_store.specs.declared.head.Head.{Head}
 use Rattle.hg_store.specs.declared.head.HeadFault.{HeadFault}
-use Rattle.hg_store.specs.declared.head.HeadFault.TheVariants.{TooShort, Magic, Version as OtherVersion, Publishing, BadLimits}
+use Rattle.hg_store.specs.declared.head.HeadFault.TheVariants.{TooShort, Magic, Version as OtherVersion, Publishing}
+use Rattle.hg_store.specs.declared.head.HeadFault.TheVariants.{BadLimits}
 use Rattle.hg_store.specs.declared.head.Version.{Version}
 use Rattle.hg_store.specs.declared.head.Version.TheVariants.{First, Second}
 use Rattle.hg_store_tools.specs.Reading.{EndsSo, HasFront, IsRead, IsUnread}
 use Rattle.hg_store_tools.specs.Visiting.{Begins, IsUnreadAt, has_no_begin}
 use Rattle.hg_store_tools.specs.declared.fault.Fault.{Fault}
-use Rattle.hg_store_tools.specs.declared.fault.Fault.TheVariants.{Damaged, Exists, Failed, Head as HasNoHead, Held, Missing, NoBundle, NoMemory, NoPlace, Refused, Torn as TornAt, Unsent, Upgraded}
+use Rattle.hg_store_tools.specs.declared.fault.Fault.TheVariants.{Damaged, Exists, Failed, Head as HasNoHead, Held}
+use Rattle.hg_store_tools.specs.declared.fault.Fault.TheVariants.{Missing, NoBundle, NoMemory, NoPlace, Refused}
+use Rattle.hg_store_tools.specs.declared.fault.Fault.TheVariants.{Torn as TornAt, Unsent, Upgraded}
 use Rattle.hg_store_tools.specs.declared.fault.StoreEnd.{StoreEnd}
 use Rattle.hg_store_tools.specs.declared.fault.StoreEnd.TheVariants.{Whole, Torn}
 

@@ -1,7 +1,9 @@
 -- A new file that is written, a piece at a time.
-use Rattle.std.proofs.Common.{◌≡◌, ◌⊎◌, inl, inr, ℕ, zero, suc, ◌+◌, ◌<◌, ◌≤◌, Bool, true, false, List, [], ◌∷◌, ◌++◌, length, take, drop, refl, sym, ap, ◌∙◌, subst, arith, append_assoc, length-append}
+use Rattle.std.proofs.Common.{◌≡◌, ◌⊎◌, inl, inr, ℕ, zero, suc, ◌+◌, ◌<◌, ◌≤◌, Bool, true, false, List, [], ◌∷◌, ◌++◌}
+use Rattle.std.proofs.Common.{length, take, drop, refl, sym, ap, ◌∙◌, subst, arith, append_assoc, length-append}
 use Rattle.std.proofs.lemmas.List.{append-nil, drop_all, take_all}
-use Rattle.hg_store.specs.Calls.{Event, FileState, IsPlaced, IsPlacedFrom, IsPlacedWhole, IsWholeAt, MayLeave, after_sync, placed, shortened, state_from, synced, wrote}
+use Rattle.hg_store.specs.Calls.{Event, FileState, IsPlaced, IsPlacedFrom, IsPlacedWhole, IsWholeAt, MayLeave}
+use Rattle.hg_store.specs.Calls.{after_sync, placed, shortened, state_from, synced, wrote}
 use Rattle.hg_store.specs.Device.{Only}
 use Rattle.hg_store.specs.declared.head.Head.{Head}
 use Rattle.hg_store.specs.declared.head.Version.{Version}
@@ -100,7 +102,8 @@ has_head head file digest bytes is first filled = record {
 }
 
 stored-push : (head : Head) (records : List Entry) (entry : Entry)
-    → stored head (records ++ entry ∷ []) ≡ stored head records ++ frame (version_of head) (digest_behind head records) entry
+    → stored head (records ++ entry ∷ [])
+    ≡ stored head records ++ frame (version_of head) (digest_behind head records) entry
 stored-push head records entry =
     ap (λ (l : List ℕ). head_bytes head ++ l) (frames-push (version_of head) (first_digest head) records entry)
     ∙ sym (append_assoc (head_bytes head) (frames (version_of head) (first_digest head) records)

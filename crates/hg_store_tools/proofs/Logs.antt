@@ -1,5 +1,6 @@
 -- Bundles that are written, or put on a shelf, from a place on.
-use Rattle.std.proofs.Common.{◌≡◌, ◌⊎◌, inl, inr, ℕ, zero, suc, ◌+◌, ◌-◌, ◌<◌, ◌≤◌, List, [], ◌∷◌, ◌++◌, length, drop, refl, sym, ap, ◌∙◌, subst, arith, append_assoc, Option, Some, None}
+use Rattle.std.proofs.Common.{◌≡◌, ◌⊎◌, inl, inr, ℕ, zero, suc, ◌+◌, ◌-◌, ◌<◌, ◌≤◌, List, [], ◌∷◌, ◌++◌, length, drop}
+use Rattle.std.proofs.Common.{refl, sym, ap, ◌∙◌, subst, arith, append_assoc, Option, Some, None}
 use Rattle.std.proofs.lemmas.List.{append-nil}
 use Rattle.std.proofs.KnownBytes.{Appends-nil, Appends-trans}
 use Rattle.std.specs.Io.KnownBytes.{Appends, Consumes}
@@ -16,7 +17,8 @@ use Rattle.hg_connection.specs.declared.sending.Sending.{Sending}
 use Rattle.hg_connection.specs.declared.sending.Sending.TheVariants.{Whole as sent_whole}
 use Rattle.hg_connection.proofs.DeviceLemmas.{Adds-nil, Adds-trans}
 use Rattle.hg_store_tools.specs.Canonical.{IsUncanonical}
-use Rattle.hg_store_tools.specs.Logging.{AreInForm, IsInForm, IsLogged, IsShelved, IsStop, IsUnlogged, LogForm, PutsRecord, SendsNoRecord, SendsRecord, numbered}
+use Rattle.hg_store_tools.specs.Logging.{AreInForm, IsInForm, IsLogged, IsShelved, IsStop, IsUnlogged, LogForm}
+use Rattle.hg_store_tools.specs.Logging.{PutsRecord, SendsNoRecord, SendsRecord, numbered}
 use Rattle.hg_store_tools.specs.Logging.{headless, stopped, uncanonical, unread, unsent}
 use Rattle.hg_store_tools.specs.Reporting.{sending_fault}
 use Rattle.hg_store_tools.specs.Visiting.{Begins, StopsVisiting, Visits, VisitsEach, has_no_begin}

@@ -1,5 +1,6 @@
 -- Records that are run one by one, and their report.
-use Rattle.std.proofs.Common.{◌≡◌, inl, inr, ℕ, zero, suc, ◌+◌, ◌<◌, List, [], ◌∷◌, ◌++◌, length, take, refl, sym, ap, ◌∙◌, subst, arith, append_assoc, length-append, Option, Some, None, get_or}
+use Rattle.std.proofs.Common.{◌≡◌, inl, inr, ℕ, zero, suc, ◌+◌, ◌<◌, List, [], ◌∷◌, ◌++◌, length, take, refl, sym, ap}
+use Rattle.std.proofs.Common.{◌∙◌, subst, arith, append_assoc, length-append, Option, Some, None, get_or}
 use Rattle.std.proofs.lemmas.List.{append-nil, take_at}
 use Rattle.std.specs.Io.KnownBytes.{Consumes}
 use Rattle.hg_types.specs.declared.limits.Limits.{Limits}
@@ -12,7 +13,8 @@ use Rattle.hg_store.specs.Head.{setup_of, version_of}
 use Rattle.hg_store.specs.Pieces.{HasToGive}
 use Rattle.hg_store.specs.Records.{frames}
 use Rattle.hg_store.specs.declared.head.Head.{Head}
-use Rattle.hg_store_tools.specs.Reporting.{IsUntold, Replayed, ReplaysNoRecord, ReplaysRecord, Reports, report_text, unrun_fault}
+use Rattle.hg_store_tools.specs.Reporting.{IsUntold, Replayed, ReplaysNoRecord, ReplaysRecord, Reports, report_text}
+use Rattle.hg_store_tools.specs.Reporting.{unrun_fault}
 use Rattle.hg_store_tools.specs.Reporting.{unread as untold_unread, unrun}
 use Rattle.hg_store_tools.specs.Visiting.{Begins, StopsVisiting, Visits, VisitsEach, failed, has_no_begin, unread}
 use Rattle.hg_store_tools.specs.declared.fault.Fault.{Fault}

@@ -1,5 +1,6 @@
 -- A store of version 1, as one of version 2.
-use Rattle.std.proofs.Common.{◌≡◌, ◌≢◌, ◌⊎◌, inl, inr, ◌+◌, ◌<◌, ◌^◌, ◌∙◌, ap, arith, refl, subst, sym, append_assoc, ℕ, List, [], ◌∷◌, ◌++◌, length, Option}
+use Rattle.std.proofs.Common.{◌≡◌, ◌≢◌, ◌⊎◌, inl, inr, ◌+◌, ◌<◌, ◌^◌, ◌∙◌, ap, arith, refl, subst, sym, append_assoc}
+use Rattle.std.proofs.Common.{ℕ, List, [], ◌∷◌, ◌++◌, length, Option}
 use Rattle.std.proofs.lemmas.List.{append-nil}
 use Rattle.std.specs.List.{AllByRecursion}
 use Rattle.hg_store.specs.Calls.{Event, IsPlacedWhole}
@@ -15,15 +16,19 @@ use Rattle.hg_store.specs.Pieces.{HasToGive}
 use Rattle.hg_store.specs.Records.{IsRecord, frames, shut}
 use Rattle.hg_store_tools.specs.Filling.{AddsRecord, HasRecords, IsUnplaced, StoreFilled}
 use Rattle.hg_store_tools.specs.Reading.{IsRead, IsUnread}
-use Rattle.hg_store_tools.specs.Upgrading.{IsNotUpgraded, IsToldOfNew, IsUpgradeOf, IsUpgraded, UpgradesNoRecord, UpgradesRecord}
+use Rattle.hg_store_tools.specs.Upgrading.{IsNotUpgraded, IsToldOfNew, IsUpgradeOf, IsUpgraded, UpgradesNoRecord}
+use Rattle.hg_store_tools.specs.Upgrading.{UpgradesRecord}
 use Rattle.hg_store_tools.specs.Visiting.{Begins, StopsVisiting, Visits, VisitsEach, failed, has_no_begin, unread}
 use Rattle.hg_store_tools.specs.declared.cut.CutFault.{CutFault}
 use Rattle.hg_store_tools.specs.declared.cut.CutFault.TheVariants.{Kept, New, Store}
 use Rattle.hg_store_tools.specs.declared.fault.Fault.{Fault}
-use Rattle.hg_store_tools.specs.declared.fault.Fault.TheVariants.{Damaged, Exists, Failed, Head as HasNoHead, Held, Missing, NoBundle, NoMemory, NoPlace, Refused, Torn as TornAt, Unsent, Upgraded}
+use Rattle.hg_store_tools.specs.declared.fault.Fault.TheVariants.{Damaged, Exists, Failed, Head as HasNoHead, Held}
+use Rattle.hg_store_tools.specs.declared.fault.Fault.TheVariants.{Missing, NoBundle, NoMemory, NoPlace, Refused}
+use Rattle.hg_store_tools.specs.declared.fault.Fault.TheVariants.{Torn as TornAt, Unsent, Upgraded}
 use Rattle.hg_store_tools.specs.declared.fault.StoreEnd.{StoreEnd}
 use Rattle.hg_store_tools.specs.declared.fault.StoreEnd.TheVariants.{Whole, Torn}
-use Rattle.hg_store_tools.proofs.Files.{any_file, file_of, has_front, headless, is_read, is_unread, is_unread_at, whole_file}
+use Rattle.hg_store_tools.proofs.Files.{any_file, file_of, has_front, headless, is_read, is_unread, is_unread_at}
+use Rattle.hg_store_tools.proofs.Files.{whole_file}
 
 -- what stands in version 1 can be written in version 2
 pub second_record : (r : Entry) → IsRecord First r → IsRecord Second r
@@ -118,7 +123,8 @@ module _ (head : Head) (digest : List ℕ) (a b c : Option (List ℕ)) (begins :
       × HasRecords new records last
   upgrade_read visits =
       let at = whole_file head digest a b c begins visits.records visits.tail visits.each visits.gone in
-      let read = is_read head digest a b c begins visits.records visits.tail visits.each visits.gone Whole visits.over visits.ends in (
+      let read = is_read head digest a b c begins visits.records visits.tail visits.each visits.gone Whole visits.over
+      visits.ends in (
         at.file,
         at.is,
         visits.records,
@@ -130,7 +136,8 @@ module _ (head : Head) (digest : List ℕ) (a b c : Option (List ℕ)) (begins :
       → IsUnplaced last.file.calls × (file : List ℕ) × HasToGive a file × IsTornStore file whole
   torn_read whole visits =
       let at = whole_file head digest a b c begins visits.records visits.tail visits.each visits.gone in
-      let read = is_read head digest a b c begins visits.records visits.tail visits.each visits.gone (Torn whole) visits.over visits.ends in (
+      let read = is_read head digest a b c begins visits.records visits.tail visits.each visits.gone (Torn whole)
+      visits.over visits.ends in (
         (upgrades_all new second [] visits.records 0 first last begun visits.visited).filled.unplaced,
         at.file,
         at.is,

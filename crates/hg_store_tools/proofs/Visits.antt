@@ -1,5 +1,6 @@
 -- Records that are gone through, one after the other.
-use Rattle.std.proofs.Common.{◌≡◌, ◌≢◌, ◌⊎◌, inl, inr, ℕ, ◌+◌, List, [], ◌∷◌, ◌++◌, length, refl, sym, ap, ◌∙◌, subst, arith, suc, length-append, Option, Some, None}
+use Rattle.std.proofs.Common.{◌≡◌, ◌≢◌, ◌⊎◌, inl, inr, ℕ, ◌+◌, List, [], ◌∷◌, ◌++◌, length, refl, sym, ap, ◌∙◌, subst}
+use Rattle.std.proofs.Common.{arith, suc, length-append, Option, Some, None}
 use Rattle.std.proofs.lemmas.List.{append-nil}
 use Rattle.std.proofs.KnownBytes.{Consumes-nil, Consumes-trans}
 use Rattle.std.specs.Io.KnownBytes.{Consumes, IsAtEnd}
@@ -15,10 +16,13 @@ use Rattle.hg_store.specs.declared.pieces.RecordStop.TheVariants.{NoRecord as no
 use Rattle.hg_store.specs.declared.record.NoRecord.{NoRecord}
 use Rattle.hg_store.specs.declared.record.NoRecord.TheVariants.{Damaged as damaged, End as at_end, Torn as torn}
 use Rattle.hg_store_tools.specs.declared.fault.Fault.{Fault}
-use Rattle.hg_store_tools.specs.declared.fault.Fault.TheVariants.{Damaged, Exists, Failed, Head as HasNoHead, Held, Missing, NoBundle, NoMemory, NoPlace, Refused, Torn as TornAt, Unsent, Upgraded}
+use Rattle.hg_store_tools.specs.declared.fault.Fault.TheVariants.{Damaged, Exists, Failed, Head as HasNoHead, Held}
+use Rattle.hg_store_tools.specs.declared.fault.Fault.TheVariants.{Missing, NoBundle, NoMemory, NoPlace, Refused}
+use Rattle.hg_store_tools.specs.declared.fault.Fault.TheVariants.{Torn as TornAt, Unsent, Upgraded}
 use Rattle.hg_store_tools.specs.declared.fault.StoreEnd.{StoreEnd}
 use Rattle.hg_store_tools.specs.declared.fault.StoreEnd.TheVariants.{Whole, Torn}
-use Rattle.hg_store_tools.specs.Visiting.{EndsAs, FailsAs, IsUnreadAt, StopsVisiting, Visits, VisitsEach, failed, unread}
+use Rattle.hg_store_tools.specs.Visiting.{EndsAs, FailsAs, IsUnreadAt, StopsVisiting, Visits, VisitsEach, failed}
+use Rattle.hg_store_tools.specs.Visiting.{unread}
 use Rattle.hg_store_tools.proofs.Frames.{each-push, frames-push, last_digest-push}
 
 visits-push : {T : Type 0} (step : ℕ → Entry → T → T → Type 0) (place : ℕ) (records : List Entry) (entry : Entry)
@@ -86,7 +90,8 @@ module _ {T : Type 0} (step : ℕ → Entry → T → T → Type 0) (version : V
               (subst (λ (n : ℕ). step n entry mid last) here done);
         }
 
-    pub tail_gone : (c : Option (List ℕ)) (tail : List ℕ) → Consumes b c tail → Consumes a c (frames version start has.records ++ tail)
+    pub tail_gone : (c : Option (List ℕ)) (tail : List ℕ) → Consumes b c tail
+        → Consumes a c (frames version start has.records ++ tail)
     tail_gone c tail gone = Consumes-trans a b c (frames version start has.records) tail has.gone gone
 
 -- what a record is read to be, or why none is

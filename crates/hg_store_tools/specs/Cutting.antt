@@ -13,7 +13,8 @@ use Rattle.hg_store.specs.Records.{IsDamaged, IsEnd, IsRecord, IsTorn, frames, l
 use Rattle.hg_store_tools.specs.declared.cut.CutFault.{CutFault}
 use Rattle.hg_store_tools.specs.declared.cut.CutFault.TheVariants.{Kept, New, Store}
 use Rattle.hg_store_tools.specs.declared.fault.Fault.{Fault}
-use Rattle.hg_store_tools.specs.declared.fault.Fault.TheVariants.{Damaged as DamagedAt, Failed, Head as HasNoHead, NoMemory, NoPlace, Unsent}
+use Rattle.hg_store_tools.specs.declared.fault.Fault.TheVariants.{Damaged as DamagedAt, Failed, Head as HasNoHead}
+use Rattle.hg_store_tools.specs.declared.fault.Fault.TheVariants.{NoMemory, NoPlace, Unsent}
 use Rattle.hg_store_tools.specs.declared.fault.StoreEnd.{StoreEnd}
 use Rattle.hg_store_tools.specs.declared.fault.StoreEnd.TheVariants.{Whole as WholeEnd, Torn as TornEnd}
 use Rattle.hg_store_tools.specs.Filling.{Filled, HasRecords, IsFilled, IsUnplaced, StoreFilled}
@@ -137,4 +138,5 @@ IsStopOf Damaged told = (whole : ℕ) × (told ≡ Err (DamagedAt whole))
 
 -- The fault that a cut tells for one of its records: that one of the new files did not take it, or the fault itself.
 abbrev pub IsToldAs : Fault → CutFault → Type 0
-IsToldAs fault told = ((fault ≡ Unsent) × ((told ≡ Kept Failed) ⊎ (told ≡ New))) ⊎ ((fault ≢ Unsent) × (told ≡ Store fault))
+IsToldAs fault told =
+    ((fault ≡ Unsent) × ((told ≡ Kept Failed) ⊎ (told ≡ New))) ⊎ ((fault ≢ Unsent) × (told ≡ Store fault))

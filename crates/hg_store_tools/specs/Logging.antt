@@ -95,10 +95,12 @@ pub data IsUnlogged (form : BundleForm) (A : Type 0) (file : List ℕ) (from : �
     (fault : Fault) : Type 0 where
   headless : IsUnread fault file → after ≡ before → IsUnlogged form A file from before after fault
   unread : (head : Head) (records : List Entry) (tail : List ℕ) (bundles : List (List ℕ)) →
-      HasFront file head records tail → IsUnreadAt fault (version_of head) (digest_behind head records) (length records) tail →
+      HasFront file head records tail →
+      IsUnreadAt fault (version_of head) (digest_behind head records) (length records) tail →
       AreInForm form A head.limits (drop from records) bundles → Appends before after (concat bundles) →
       IsUnlogged form A file from before after fault
-  stopped : (head : Head) (records : List Entry) (entry : Entry) (tail : List ℕ) (bundles : List (List ℕ)) (gone : List ℕ) →
+  stopped : (head : Head) (records : List Entry) (entry : Entry) (tail : List ℕ) (bundles : List (List ℕ))
+      (gone : List ℕ) →
       HasFront file head (records ++ entry ∷ []) tail → from ≤ length records →
       AreInForm form A head.limits (drop from records) bundles → Appends before after (concat bundles ++ gone) →
       IsStop A (record { limits = head.limits; from = from; form = form }) (length records) entry.bundle gone fault →

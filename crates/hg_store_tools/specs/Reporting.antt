@@ -3,14 +3,16 @@ use Rattle.std.specs.Prelude.{ℕ, ◌≡◌, ◌+◌, ◌++◌, List, length}
 use Rattle.hg_push.specs.Run.{RepositoryOf}
 use Rattle.hg_repo.specs.Report.{journal_lines, report_of}
 use Rattle.hg_recovery.specs.declared.restore.RestoreFault.{RestoreFault}
-use Rattle.hg_recovery.specs.declared.restore.RestoreFault.TheVariants.{NoBundle as no_bundle, Refused as refused, NoMemory as no_memory}
+use Rattle.hg_recovery.specs.declared.restore.RestoreFault.TheVariants.{NoBundle as no_bundle, Refused as refused}
+use Rattle.hg_recovery.specs.declared.restore.RestoreFault.TheVariants.{NoMemory as no_memory}
 use Rattle.hg_recovery.specs.Opening.{empty_repository}
 use Rattle.hg_recovery.specs.Replays.{IsUnrun, Replays, ReplaysOne, StopsAt}
 use Rattle.hg_store.specs.declared.head.Head.{Head}
 use Rattle.hg_store.specs.Entries.{Entry}
 use Rattle.hg_store.specs.Head.{setup_of}
 use Rattle.hg_connection.specs.declared.sending.Sending.{Sending}
-use Rattle.hg_connection.specs.declared.sending.Sending.TheVariants.{Whole as sent_whole, Broken, NoMemory as sent_no_memory}
+use Rattle.hg_connection.specs.declared.sending.Sending.TheVariants.{Whole as sent_whole, Broken}
+use Rattle.hg_connection.specs.declared.sending.Sending.TheVariants.{NoMemory as sent_no_memory}
 use Rattle.hg_connection.specs.Devices.{Output}
 use Rattle.hg_connection.specs.Sent.{Sends}
 use Rattle.hg_store_tools.specs.declared.fault.StoreEnd.{StoreEnd}

@@ -10,7 +10,8 @@ use Rattle.hg_store.specs.Log.{at_rest}
 use Rattle.hg_store_tools.specs.declared.cut.CutFault.{CutFault}
 use Rattle.hg_store_tools.specs.declared.cut.CutFault.TheVariants.{Kept, New, Store}
 use Rattle.hg_store_tools.specs.declared.fault.Fault.{Fault}
-use Rattle.hg_store_tools.specs.declared.fault.Fault.TheVariants.{Damaged, Failed, Head as HasNoHead, NoMemory, Torn, Unsent, Upgraded}
+use Rattle.hg_store_tools.specs.declared.fault.Fault.TheVariants.{Damaged, Failed, Head as HasNoHead, NoMemory, Torn}
+use Rattle.hg_store_tools.specs.declared.fault.Fault.TheVariants.{Unsent, Upgraded}
 use Rattle.hg_store_tools.specs.Filling.{AddsRecord, IsUnplaced, StoreFilled}
 
 -- The file is a store of version 1. A store of version 2 is left, of that name, of a server that is set up in the same

@@ -54,7 +54,8 @@ impl<W: Writer, A: Allocator + Copy> RecordVisit<W, A> for Logging<A> {
 
     ghost takes = { λ _ entry. ⊤ };
 
-    ghost visits = { λ s place entry before after. SendsRecord A s place entry (W.told before).taken (W.told after).taken };
+    ghost visits = { λ s place entry before after.
+        SendsRecord A s place entry (W.told before).taken (W.told after).taken };
 
     ghost fails = { λ s place entry fault before after.
         SendsNoRecord A s place entry fault (W.told before).taken (W.told after).taken };

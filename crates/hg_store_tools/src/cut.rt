@@ -1,6 +1,7 @@
 //! A store that is ended before one of its records, and what is kept of those that it loses.
 
-ghost use Rattle.std.specs.Prelude.{◌≡◌, ◌≢◌, ◌⊎◌, ◌<◌, ◌≤◌, ◌+◌, ◌^◌, [], ℕ, List, Err, IfErr, IfOk, IsErrOf, OnErr, OnOk, false, true};
+ghost use Rattle.std.specs.Prelude.{◌≡◌, ◌≢◌, ◌⊎◌, ◌<◌, ◌≤◌, ◌+◌, ◌^◌, [], ℕ, List, Err, IfErr, IfOk, IsErrOf, OnErr};
+ghost use Rattle.std.specs.Prelude.{OnOk, false, true};
 ghost use Rattle.std.specs.Prelude.{drop, length, take};
 ghost use Rattle.hg_store.specs.Calls.{IsPlaced, IsPlacedWhole};
 ghost use Rattle.hg_store.specs.Log.{at_rest};
@@ -11,7 +12,8 @@ ghost use Rattle.hg_store.specs.declared.head.Head.{Head as AnyHead};
 ghost use Rattle.hg_store.specs.declared.record.NoRecord.{NoRecord as AnyNoRecord};
 ghost use Rattle.hg_store.specs.declared.record.NoRecord.TheVariants.{End};
 ghost use Rattle.hg_store_tools.specs.Cutting.{AreNew, AreUnplaced, CutsNoRecord, CutsRecord, HasCut, HasPlace};
-ghost use Rattle.hg_store_tools.specs.Cutting.{IsCutInto, IsFront, IsOfFiles, IsStopOf, IsToldAs, IsUncut, LeavesBy, joined};
+ghost use Rattle.hg_store_tools.specs.Cutting.{IsCutInto, IsFront, IsOfFiles, IsStopOf, IsToldAs, IsUncut, LeavesBy};
+ghost use Rattle.hg_store_tools.specs.Cutting.{joined};
 ghost use Rattle.hg_store_tools.specs.Filling.{AddsRecord, FillsMore, IsUnplaced};
 ghost use Rattle.hg_store_tools.specs.declared.cut.CutFault.TheVariants.{Kept as kept_failed};
 ghost use Rattle.hg_store_tools.specs.declared.fault.Fault.TheVariants.{Damaged as damaged};

@@ -2,7 +2,8 @@
 //!
 //! `E` is a bundle without parts, `M1` and `M2` one with a part `obsmarkers` of one marker each, of the ids of
 //! twenty bytes 1 and 2, `U` one with a mandatory part of the type `UNKNOWN`, `C` one of a changeset without
-//! parents, `X` and `P` one with a part `PushKey` among others, and alone; all by hand. The report of `C` has one changeset, draft; of `M1` one marker, of `M2` another.
+//! parents, `X` and `P` one with a part `PushKey` among others, and alone; all by hand. The report of `C` has one
+//! changeset, draft; of `M1` one marker, of `M2` another.
 //!
 //! Rows of the tables, and what else the tests try:
 //!

@@ -34,7 +34,8 @@ returns-clause-ok g c =
     (reports c.in-Ok.begun.head c.in-Ok.begun.digest a b d c.in-Ok.ensures.ok _ _
     (c.empty_repository.ensures ∙ ap (λ (s : Setup). empty_repository s) c.setup.ensures) refl
     c.in-Ok-visit_records.ending told.1.items c.in-Ok-visit_records.ensures.ok
-    (subst (λ (r : Replayed g.row.A.Denot). told.1.items ≡ report_text r.repo r.count) c.replayed.view_is is.1))) c.told_text.ensures.ok
+    (subst (λ (r : Replayed g.row.A.Denot). told.1.items ≡ report_text r.repo r.count) c.replayed.view_is is.1)))
+    c.told_text.ensures.ok
 
 pub returns-clause-err : goal.returns-clause-err
 returns-clause-err g c =

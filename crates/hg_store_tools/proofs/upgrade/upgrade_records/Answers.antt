@@ -8,7 +8,8 @@ use Rattle.hg_store.specs.declared.head.Version.TheVariants.{First, Second}
 use Rattle.hg_store_tools.specs.Filling.{HasRecords}
 use Rattle.hg_store_tools.specs.Visiting.{Visits}
 use Rattle.hg_store_tools.specs.declared.fault.StoreEnd.{StoreEnd}
-use Rattle.hg_store_tools.proofs.Upgrades.{Upgrade_step, is_second, none_unplaced, not_begun, not_made, not_upgraded_so, torn_read, upgrade_read, upgraded_already}
+use Rattle.hg_store_tools.proofs.Upgrades.{Upgrade_step, is_second, none_unplaced, not_begun, not_made}
+use Rattle.hg_store_tools.proofs.Upgrades.{not_upgraded_so, torn_read, upgrade_read, upgraded_already}
 use Rattle.hg_store_tools.proofs.upgrade.upgrade_records.Goals as goal
 
 pub returns-in-Err-clause-err : goal.returns-in-Err-clause-err

@@ -1,6 +1,7 @@
 use Rattle.std.proofs.Common.{◌≡◌, ap, Err}
 use Rattle.std.proofs.lemmas.Result.{IfOk-weaker, MatchResult-weaker}
-use Rattle.hg_store_tools.proofs.Visits.{visits_all, visits_cut_off, visits_failed, visits_more, visits_none, visits_unread}
+use Rattle.hg_store_tools.proofs.Visits.{visits_all, visits_cut_off, visits_failed, visits_more, visits_none}
+use Rattle.hg_store_tools.proofs.Visits.{visits_unread}
 use Rattle.hg_store_tools.proofs.visit.visit_records.Goals as goal
 
 pub loop-place-init : goal.loop-place-init
