@@ -108,7 +108,10 @@ pub fn cut_store<'a, R: Files<File = File>, A: Allocator + Copy>(
     )?;
     let kept_name = NamedFile::Kept(folder, at);
     let name = about(cut_name(alloc, at), kept_name)?;
-    let kept = about_store(kept_file(files, alloc, folder, name.as_str()), kept_name)?;
+    let kept = match kept_file(files, alloc, folder, name.as_str()) {
+        Ok(file) => file,
+        Err(fault) => return about_store(Err(fault), kept_name),
+    };
     let new = match new_store(alloc, &mut StoreFolder::new(files, folder)) {
         Ok(file) => file,
         Err(fault) => {
@@ -141,10 +144,10 @@ pub fn upgrade_store<'a, R: Files<File = File>, A: Allocator + Copy>(
     let old_name = NamedFile::Old(folder);
     let mut old = about(StoreLink::of(files, alloc, folder), store)?;
     let identity = about_store(new_identity(files), store)?;
-    let new = about_store(
-        new_store(alloc, &mut StoreFolder::new(files, folder)),
-        NamedFile::New(folder),
-    )?;
+    let new = match new_store(alloc, &mut StoreFolder::new(files, folder)) {
+        Ok(file) => file,
+        Err(fault) => return about_store(Err(fault), NamedFile::New(folder)),
+    };
     let mut made = NewStore::of(new);
     match put_upgrade(alloc, &mut reader, identity, &mut old, &mut made) {
         Ok(()) => Ok(()),
