@@ -11,9 +11,9 @@ use lib.ListN.{get_elem?}
 use Rattle.atomic_table.specs.Table.{Me, State, step, keeps, opening, Allows, Enters, Splits, Joins}
 use Rattle.atomic_table.proofs.Lists.{at_set, set_again}
 use Rattle.hg_commit.specs.declared.known.Known.{Known}
-use Rattle.hg_commit.specs.Orders.{Came, comings_to, Event, Promised, promises_in}
+use Rattle.hg_commit.specs.Orders.{AreNumbered, Asked, asks_at, Began, begun_in, Came, comings_to, Event, Promised, promises_in}
 use Rattle.hg_commit.specs.Promises.{Promise}
-use Rattle.hg_commit.specs.code.Tallies.{AreAmong, arrives, comes, CountAtMost, heard_from, IsTallied, keeper, KnownFits}
+use Rattle.hg_commit.specs.code.Tallies.{AreAmong, arrives, asks, asks_first, begun_more, comes, CountAtMost, heard_from, IsTallied, keeper, KnownFits}
 use Rattle.hg_commit.specs.code.Tallies.{looks, one_more, raised, seat_with, shown_by, spent, united}
 
 off : false ≡ true → ⊥
@@ -28,6 +28,8 @@ promises_append : (xs ys : List Event) → promises_in (xs ++ ys) ≡ promises_i
 promises_append [] ys = refl
 promises_append (Promised p ∷ xs) ys = ap (λ l. p ∷ l) (promises_append xs ys)
 promises_append (Came seat ∷ xs) ys = promises_append xs ys
+promises_append (Began ∷ xs) ys = promises_append xs ys
+promises_append (Asked seat ∷ xs) ys = promises_append xs ys
 
 comings_append : (seat : ℕ) (xs ys : List Event) → comings_to seat (xs ++ ys) ≡ comings_to seat xs + comings_to seat ys
 comings_append seat [] ys = omega arith
@@ -36,6 +38,36 @@ comings_append seat (Came at ∷ xs) ys =
     let more = comings_append seat xs ys in
     let n : ℕ = if at == seat then 1 else 0 in
     omega (arith, more)
+comings_append seat (Began ∷ xs) ys = comings_append seat xs ys
+comings_append seat (Asked at ∷ xs) ys = comings_append seat xs ys
+
+asks_append : (seat : ℕ) (xs ys : List Event) → asks_at seat (xs ++ ys) ≡ asks_at seat xs + asks_at seat ys
+asks_append seat [] ys = omega arith
+asks_append seat (Promised p ∷ xs) ys = asks_append seat xs ys
+asks_append seat (Came at ∷ xs) ys = asks_append seat xs ys
+asks_append seat (Began ∷ xs) ys = asks_append seat xs ys
+asks_append seat (Asked at ∷ xs) ys =
+    let more = asks_append seat xs ys in
+    let n : ℕ = if at == seat then 1 else 0 in
+    omega (arith, more)
+
+begun_append : (xs ys : List Event) → begun_in (xs ++ ys) ≡ begun_in xs + begun_in ys
+begun_append [] ys = omega arith
+begun_append (Promised p ∷ xs) ys = begun_append xs ys
+begun_append (Came at ∷ xs) ys = begun_append xs ys
+begun_append (Began ∷ xs) ys = let more = begun_append xs ys in omega (arith, more)
+begun_append (Asked at ∷ xs) ys = begun_append xs ys
+
+numbered_append : (n : ℕ) (xs ys : List Event) → AreNumbered n xs → AreNumbered (n + begun_in xs) ys
+    → AreNumbered n (xs ++ ys)
+numbered_append n [] ys front more =
+    let e : n + 0 ≡ n = omega arith in subst (λ (k : ℕ). AreNumbered k ys) e more
+numbered_append n (Promised p ∷ xs) ys front more = (front.0, numbered_append n xs ys front.1 more)
+numbered_append n (Came at ∷ xs) ys front more = numbered_append n xs ys front more
+numbered_append n (Began ∷ xs) ys front more =
+    let e : n + (1 + begun_in xs) ≡ (n + 1) + begun_in xs = omega arith in
+    numbered_append (n + 1) xs ys front (subst (λ (k : ℕ). AreNumbered k ys) e more)
+numbered_append n (Asked at ∷ xs) ys front more = numbered_append n xs ys front more
 
 -- a request to a seat comes to it, and to no other
 came_here : (seat : ℕ) → comings_to seat (Came seat ∷ []) ≡ 1
@@ -43,6 +75,13 @@ came_here seat = ap (λ b. (if b then 1 else 0) + 0) (eq-eqb seat seat refl)
 
 came_elsewhere : (at seat : ℕ) → at ≢ seat → comings_to at (Came seat ∷ []) ≡ 0
 came_elsewhere at seat apart = ap (λ b. (if b then 1 else 0) + 0) (ne_eqb seat at (λ e. apart (sym e)))
+
+-- a beat that is asked for at a seat is asked for there, and at no other
+asked_here : (seat : ℕ) → asks_at seat (Asked seat ∷ []) ≡ 1
+asked_here seat = ap (λ b. (if b then 1 else 0) + 0) (eq-eqb seat seat refl)
+
+asked_elsewhere : (at seat : ℕ) → at ≢ seat → asks_at at (Asked seat ∷ []) ≡ 0
+asked_elsewhere at seat apart = ap (λ b. (if b then 1 else 0) + 0) (ne_eqb seat at (λ e. apart (sym e)))
 
 prefix_longer : {X : Type 0} (xs ys zs : List X) → IsPrefix xs ys → IsPrefix xs (ys ++ zs)
 prefix_longer xs ys zs p = (p.0 ++ zs, sym (append_assoc xs p.0 zs) ∙ ap (λ l. l ++ zs) p.1)
@@ -65,6 +104,23 @@ same_comings : (at n : ℕ) (order more : List Event) → comings_to at more ≡
     → comings_to at (order ++ more) ≡ n
 same_comings at n order more quiet is = let whole = comings_append at order more in omega (arith, whole, quiet, is)
 
+-- no ask more
+same_asks : (at n : ℕ) (order more : List Event) → asks_at at more ≡ 0 → asks_at at order ≡ n
+    → asks_at at (order ++ more) ≡ n
+same_asks at n order more quiet is = let whole = asks_append at order more in omega (arith, whole, quiet, is)
+
+-- no write more
+same_begun : (order more : List Event) → begun_in more ≡ 0 → begun_in order ≡ begun_in (order ++ more)
+same_begun order more none_more = let whole = begun_append order more in omega (arith, whole, none_more)
+
+-- at a seat nothing happens
+abbrev IsQuiet : ℕ → List Event → Type 0
+IsQuiet at more = (comings_to at more ≡ 0) × (asks_at at more ≡ 0)
+
+-- nothing happens that a keeper alone does
+abbrev IsOthers : List Event → Type 0
+IsOthers more = (promises_in more ≡ []) × (begun_in more ≡ 0)
+
 -- ---- what seats know
 
 at_below : {X : Type 0} (l : List X) (i : ℕ) (x : X) → get_elem? l i ≡ some x → i < length l
@@ -81,13 +137,20 @@ at_end (z ∷ l) x y (suc i) e =
     ⊎_elim (λ t. inl t) (λ (t : (i ≡ length l) × (x ≡ y)). inr (ap suc t.0, t.1)) (at_end l x y i e)
 
 -- what a seat knows still fits after more events, none of them at this seat
-longer : (seat : ℕ) (order more : List Event) (at : ℕ) (v : Known) → (v.is_keeper ≡ true → promises_in more ≡ [])
-    → comings_to at more ≡ 0 → KnownFits seat order at v → KnownFits seat (order ++ more) at v
+longer : (seat : ℕ) (order more : List Event) (at : ℕ) (v : Known) → (v.is_keeper ≡ true → IsOthers more)
+    → IsQuiet at more → KnownFits seat order at v → KnownFits seat (order ++ more) at v
 longer seat order more at v none_more quiet f = record {
-  kept = λ k. ((f.kept k).0, (f.kept k).1 ∙ same_promises order more (none_more k));
+  kept = λ k. (
+    (f.kept k).0,
+    (f.kept k).1 ∙ same_promises order more (none_more k).0,
+    (f.kept k).2 ∙ same_begun order more (none_more k).1,
+  );
   low = among_longer v.promises order more f.low;
   begins = prefix_longer v.order order more f.begins;
-  own = λ live. same_comings at v.came order more quiet (f.own live);
+  own = λ live. (
+    same_comings at v.came order more quiet.0 (f.own live).0,
+    same_asks at v.asked order more quiet.1 (f.own live).1,
+  );
   heard = among_longer v.heard order more f.heard;
   heard_begins = prefix_longer v.heard_order order more f.heard_begins;
 }
@@ -115,7 +178,7 @@ spent_fits seat order at = record {
 
 -- a new one that knows some promises and has seen some of the order
 copy_fits : (seat : ℕ) (order : List Event) (at : ℕ) (promises : List Promise) (front : List Event)
-    → AreAmong promises (promises_in order) → IsPrefix front order → comings_to at order ≡ 0
+    → AreAmong promises (promises_in order) → IsPrefix front order → IsQuiet at order
     → KnownFits seat order at (record (seat_with promises) { order = front })
 copy_fits seat order at promises front low begins quiet = record {
   kept = λ k. absurd (off k);
@@ -126,24 +189,25 @@ copy_fits seat order at promises front low begins quiet = record {
   heard_begins = (order, refl);
 }
 
-pub begins : IsTallied (opening (0 ∷ []) [] keeper)
+pub begins : IsTallied (opening (0 ∷ 0 ∷ []) [] keeper)
 begins = record {
   word = 0;
-  words = refl;
   seat = 0;
   order = [];
+  words = refl;
   counts = All-nil (λ p. p.count ≤ 0);
-  unseated = λ at low. refl;
+  numbered = tt;
+  unseated = λ at low. (refl, refl);
   fits = one;
 }
   where
     one : (at : ℕ) (v : Known) → get_elem? (keeper ∷ []) at ≡ some v → KnownFits 0 [] at v
     one zero v e = subst (KnownFits 0 [] 0) (some-injective _ _ e)
         (record {
-          kept = λ _. (refl, refl);
+          kept = λ _. (refl, refl, refl);
           low = none_among [];
           begins = ([], refl);
-          own = λ live. refl;
+          own = λ live. (refl, refl);
           heard = none_among [];
           heard_begins = ([], refl);
         })
@@ -151,23 +215,27 @@ begins = record {
 
 -- One event happened at a seat, and it knows that now. Where the event is a promise, the seat is the keeper's.
 happened : (s : State (Unit {0}) Known) (r : IsTallied s) (id : ℕ) (v : Known) (at : get_elem? s.views id ≡ some v)
-    (more : List Event) (word : ℕ) (words : List ℕ) (w : Known) → words ≡ word ∷ []
+    (more : List Event) (word : ℕ) (words : List ℕ) (w : Known) → words ≡ word ∷ begun_in (r.order ++ more) ∷ []
     → CountAtMost word (promises_in (r.order ++ more))
-    → ((j : ℕ) → j ≢ id → comings_to j more ≡ 0)
-    → ((j : ℕ) (u : Known) → j ≢ id → KnownFits r.seat r.order j u → u.is_keeper ≡ true → promises_in more ≡ [])
+    → AreNumbered (0 + begun_in r.order) more
+    → ((j : ℕ) → j ≢ id → IsQuiet j more)
+    → ((j : ℕ) (u : Known) → j ≢ id → KnownFits r.seat r.order j u → u.is_keeper ≡ true → IsOthers more)
     → KnownFits r.seat (r.order ++ more) id w
     → IsTallied (record { words = words; homes = s.homes; views = set s.views id w })
-happened s r id v at more word words w is counts quiet none_more mine = record {
+happened s r id v at more word words w is counts numbered quiet none_more mine = record {
   word = word;
-  words = is;
   seat = r.seat;
   order = r.order ++ more;
+  words = is;
   counts = counts;
+  numbered = numbered_append 0 r.order more r.numbered numbered;
   unseated = λ j low.
       let bound = at_below s.views id v at in
       let same : length (set s.views id w) ≡ length s.views = length-set s.views id w in
       let past : length s.views ≤ j = omega (arith, low, same) in
-      same_comings j 0 r.order more (quiet j (λ e. omega (arith, bound, past, e))) (r.unseated j past);
+      let still = quiet j (λ e. omega (arith, bound, past, e)) in
+      let was = r.unseated j past in
+      (same_comings j 0 r.order more still.0 was.0, same_asks j 0 r.order more still.1 was.1);
   fits = fits_set r.seat (r.order ++ more) s.views id w
       (λ j u apart e. let f = r.fits j u e in
       longer r.seat r.order more j u (none_more j u apart f) (quiet j apart) f) mine;
@@ -180,25 +248,69 @@ raises moment slots id me new keeps_it live most s r homes at small =
     let v = me.0 in
     let mine = r.fits id v at in
     let known = mine.kept keeps_it in
-    let p : Promise = record { count = new; moment = moment } in
+    let p : Promise = record { count = new; moment = moment; write = v.begun } in
     let more : List Event = Promised p ∷ [] in
     let order : List Event = r.order ++ more in
-    let all : one_more v.promises new moment ≡ promises_in order =
+    let all : one_more v.promises new moment v.begun ≡ promises_in order =
     ap (λ l. l ++ p ∷ []) known.1 ∙ sym (promises_append r.order more) in
-    let w : Known = record v { promises = one_more v.promises new moment; order = order } in (
+    let made = known.2 in
+    let w : Known = record v { promises = one_more v.promises new moment v.begun; order = order } in (
       w,
       keeps,
       tt,
-      happened s r id v at more new (slice_set s.words 0 new) w (ap (λ l. slice_set l 0 new) r.words)
-          (All-same (λ q. q.count ≤ new) (promises_in order) (one_more v.promises new moment) (sym all)
+      happened s r id v at more new (slice_set s.words 0 new) w
+          (ap (λ l. slice_set l 0 new) r.words ∙ ap (λ n. new ∷ n ∷ []) (same_begun r.order more refl))
+          (All-same (λ q. q.count ≤ new) (promises_in order) (one_more v.promises new moment v.begun) (sym all)
           (All-push (λ q. q.count ≤ new) v.promises p most (omega arith)))
-          (λ j apart. refl)
+          (omega (arith, made), tt)
+          (λ j apart. (refl, refl))
           (λ j u apart f k. absurd (apart ((f.kept k).0 ∙ sym known.0)))
           (record {
-            kept = λ _. (known.0, all);
-            low = subst (AreAmong (one_more v.promises new moment)) all (All-contains_itself _);
+            kept = λ _. (known.0, all, known.2 ∙ same_begun r.order more refl);
+            low = subst (AreAmong (one_more v.promises new moment v.begun)) all (All-contains_itself _);
             begins = ([], append-nil order);
-            own = λ _. same_comings id v.came r.order more refl (mine.own live);
+            own = λ _. (
+              same_comings id v.came r.order more refl (mine.own live).0,
+              same_asks id v.asked r.order more refl (mine.own live).1,
+            );
+            heard = among_longer v.heard r.order more mine.heard;
+            heard_begins = prefix_longer v.heard_order r.order more mine.heard_begins;
+          }),
+      (order, prefix_longer v.order r.order more mine.begins, refl),
+    )
+
+-- one write more began
+pub writes : (slots id : ℕ) (me : Me (Unit {0}) Known) (new : ℕ) → me.0.is_keeper ≡ true → me.0.is_spent ≡ false
+    → me.0.begun + 1 ≡ new
+    → Allows IsTallied slots id me 1 (λ _. new) (λ _. begun_more (step slots 1 new 0 none) me new)
+writes slots id me new keeps_it live next s r homes at small =
+    let v = me.0 in
+    let mine = r.fits id v at in
+    let known = mine.kept keeps_it in
+    let made = known.2 in
+    let more : List Event = Began ∷ [] in
+    let order : List Event = r.order ++ more in
+    let whole = begun_append r.order more in
+    let now : v.begun + 1 ≡ begun_in order = omega (arith, made, whole) in
+    let same = same_promises r.order more refl in
+    let w : Known = record v { order = order; begun = v.begun + 1 } in (
+      w,
+      keeps,
+      tt,
+      happened s r id v at more r.word (slice_set s.words 1 new) w
+          (ap (λ l. slice_set l 1 new) r.words ∙ ap (λ n. r.word ∷ n ∷ []) (sym next ∙ now))
+          (All-same (λ q. q.count ≤ r.word) (promises_in order) (promises_in r.order) (sym same) r.counts)
+          tt
+          (λ j apart. (refl, refl))
+          (λ j u apart f k. absurd (apart ((f.kept k).0 ∙ sym known.0)))
+          (record {
+            kept = λ _. (known.0, known.1 ∙ same, now);
+            low = among_longer v.promises r.order more mine.low;
+            begins = ([], append-nil order);
+            own = λ _. (
+              same_comings id v.came r.order more refl (mine.own live).0,
+              same_asks id v.asked r.order more refl (mine.own live).1,
+            );
             heard = among_longer v.heard r.order more mine.heard;
             heard_begins = prefix_longer v.heard_order r.order more mine.heard_begins;
           }),
@@ -214,27 +326,30 @@ come slots id me live s r homes at small =
     let more : List Event = Came id ∷ [] in
     let order : List Event = r.order ++ more in
     let w : Known = record v { order = order; came = v.came + 1 } in
-    let before = mine.own live in
+    let before = (mine.own live).0 in
     let one = came_here id in
     let whole = comings_append id r.order more in
     let own : comings_to id order ≡ v.came + 1 = omega (arith, before, one, whole) in
     let word : slice_index s.words 0 ≡ r.word = ap (λ l. slice_index l 0) r.words in
     let same = same_promises r.order more refl in
+    let still = same_begun r.order more refl in
     let counts = All-same (λ q. q.count ≤ r.word) (promises_in order) (promises_in r.order) (sym same) r.counts in
     let low = among_longer v.promises r.order more mine.low in (
       w,
       keeps,
       tt,
       happened s r id v at more r.word (slice_set s.words 0 (slice_index s.words 0)) w
-          (ap (λ l. slice_set l 0 (slice_index s.words 0)) r.words ∙ ap (λ n. n ∷ []) word)
+          (ap (λ l. slice_set l 0 (slice_index s.words 0)) r.words ∙ (ap (λ n. n ∷ begun_in r.order ∷ []) word
+          ∙ ap (λ n. r.word ∷ n ∷ []) still))
           counts
-          (λ j apart. came_elsewhere j id apart)
-          (λ j u apart f k. refl)
+          tt
+          (λ j apart. (came_elsewhere j id apart, refl))
+          (λ j u apart f k. (refl, refl))
           (record {
-            kept = λ k. ((mine.kept k).0, (mine.kept k).1 ∙ same);
+            kept = λ k. ((mine.kept k).0, (mine.kept k).1 ∙ same, (mine.kept k).2 ∙ still);
             low = low;
             begins = ([], append-nil order);
-            own = λ _. own;
+            own = λ _. (own, same_asks id v.asked r.order more refl (mine.own live).1);
             heard = among_longer v.heard r.order more mine.heard;
             heard_begins = prefix_longer v.heard_order r.order more mine.heard_begins;
           }),
@@ -259,38 +374,42 @@ arrive slots first s r homes small =
     let more : List Event = Came id ∷ [] in
     let order : List Event = r.order ++ more in
     let w : Known = record (seat_with []) { order = order; came = 1 } in
-    let none_yet = r.unseated id (omega arith) in
+    let none_yet = (r.unseated id (omega arith)).0 in
     let one = came_here id in
     let whole = comings_append id r.order more in
     let own : comings_to id order ≡ 1 = omega (arith, none_yet, one, whole) in
     let word : slice_index s.words 0 ≡ r.word = ap (λ l. slice_index l 0) r.words in
     let same = same_promises r.order more refl in
+    let still = same_begun r.order more refl in
     let counts = All-same (λ q. q.count ≤ r.word) (promises_in order) (promises_in r.order) (sym same) r.counts in
     let mine : KnownFits r.seat order id w = record {
       kept = λ k. absurd (off k);
       low = none_among (promises_in order);
       begins = ([], append-nil order);
-      own = λ _. own;
+      own = λ _. (own, same_asks id 0 r.order more refl (r.unseated id (omega arith)).1);
       heard = none_among (promises_in order);
       heard_begins = (order, refl);
     } in (
       w,
       record {
         word = r.word;
-        words = r.words;
         seat = r.seat;
         order = order;
+        words = r.words ∙ ap (λ n. r.word ∷ n ∷ []) still;
         counts = counts;
+        numbered = numbered_append 0 r.order more r.numbered tt;
         unseated = λ j low.
             let more_seats = length-append s.views (w ∷ []) in
             let past : length s.views ≤ j = omega (arith, low, more_seats) in
-            same_comings j 0 r.order more (came_elsewhere j id (λ e. omega (arith, low, more_seats, e)))
-            (r.unseated j past);
+            let was = r.unseated j past in (
+              same_comings j 0 r.order more (came_elsewhere j id (λ e. omega (arith, low, more_seats, e))) was.0,
+              same_asks j 0 r.order more refl was.1,
+            );
         fits = λ j u e. ⊎_elim
             (λ (was : get_elem? s.views j ≡ some u).
             let bound = at_below s.views j u was in
-            longer r.seat r.order more j u (λ k. refl) (came_elsewhere j id (λ same_id. omega (arith, bound, same_id)))
-            (r.fits j u was))
+            longer r.seat r.order more j u (λ k. (refl, refl))
+            (came_elsewhere j id (λ same_id. omega (arith, bound, same_id)), refl) (r.fits j u was))
             (λ (x : (j ≡ id) × (w ≡ u)). subst (λ (y : ℕ × Known). KnownFits r.seat order y.0 y.1)
             (λ i. (sym x.0 i, x.1 i)) mine)
             (at_end s.views w u j e);
@@ -308,6 +427,115 @@ arrive slots first s r homes small =
       ),
     )
 
+-- a beat was asked for at a seat
+pub ask : (slots id : ℕ) (me : Me (Unit {0}) Known) → me.0.is_spent ≡ false
+    → Allows IsTallied slots id me 1 (λ n. n) (asks (step slots 1 0 0 none) me)
+ask slots id me live s r homes at small =
+    let v = me.0 in
+    let mine = r.fits id v at in
+    let more : List Event = Asked id ∷ [] in
+    let order : List Event = r.order ++ more in
+    let w : Known = record v { order = order; asked = v.asked + 1 } in
+    let before = (mine.own live).1 in
+    let one = asked_here id in
+    let whole = asks_append id r.order more in
+    let own : asks_at id order ≡ v.asked + 1 = omega (arith, before, one, whole) in
+    let word : slice_index s.words 1 ≡ begun_in r.order = ap (λ l. slice_index l 1) r.words in
+    let same = same_promises r.order more refl in
+    let still = same_begun r.order more refl in
+    let counts = All-same (λ q. q.count ≤ r.word) (promises_in order) (promises_in r.order) (sym same) r.counts in
+    let low = among_longer v.promises r.order more mine.low in (
+      w,
+      keeps,
+      tt,
+      happened s r id v at more r.word (slice_set s.words 1 (slice_index s.words 1)) w
+          (ap (λ l. slice_set l 1 (slice_index s.words 1)) r.words ∙ ap (λ n. r.word ∷ n ∷ []) (word ∙ still))
+          counts
+          tt
+          (λ j apart. (refl, asked_elsewhere j id apart))
+          (λ j u apart f k. (refl, refl))
+          (record {
+            kept = λ k. ((mine.kept k).0, (mine.kept k).1 ∙ same, (mine.kept k).2 ∙ still);
+            low = low;
+            begins = ([], append-nil order);
+            own = λ _. (same_comings id v.came r.order more refl (mine.own live).0, own);
+            heard = among_longer v.heard r.order more mine.heard;
+            heard_begins = prefix_longer v.heard_order r.order more mine.heard_begins;
+          }),
+      (
+        record {
+          seat = id;
+          between = mine.begins.0;
+          is = λ i. record v { order = sym mine.begins.1 i ++ Asked id ∷ []; asked = v.asked + 1 };
+          own = own;
+          among = low;
+          counts = sym (word ∙ still);
+        },
+        refl,
+      ),
+    )
+
+-- a beat was asked for at a seat that is new
+pub ask_new : (slots : ℕ) (first : Me (Unit {0}) Known)
+    → Enters IsTallied slots 1 (λ n w. asks_first (step slots 1 0 0 none) first n (w, []))
+ask_new slots first s r homes small =
+    let id : ℕ = length s.views in
+    let more : List Event = Asked id ∷ [] in
+    let order : List Event = r.order ++ more in
+    let w : Known = record (seat_with []) { order = order; asked = 1 } in
+    let none_yet = (r.unseated id (omega arith)).1 in
+    let one = asked_here id in
+    let whole = asks_append id r.order more in
+    let own : asks_at id order ≡ 1 = omega (arith, none_yet, one, whole) in
+    let word : slice_index s.words 1 ≡ begun_in r.order = ap (λ l. slice_index l 1) r.words in
+    let same = same_promises r.order more refl in
+    let still = same_begun r.order more refl in
+    let counts = All-same (λ q. q.count ≤ r.word) (promises_in order) (promises_in r.order) (sym same) r.counts in
+    let mine : KnownFits r.seat order id w = record {
+      kept = λ k. absurd (off k);
+      low = none_among (promises_in order);
+      begins = ([], append-nil order);
+      own = λ _. (same_comings id 0 r.order more refl (r.unseated id (omega arith)).0, own);
+      heard = none_among (promises_in order);
+      heard_begins = (order, refl);
+    } in (
+      w,
+      record {
+        word = r.word;
+        seat = r.seat;
+        order = order;
+        words = r.words ∙ ap (λ n. r.word ∷ n ∷ []) still;
+        counts = counts;
+        numbered = numbered_append 0 r.order more r.numbered tt;
+        unseated = λ j low.
+            let more_seats = length-append s.views (w ∷ []) in
+            let past : length s.views ≤ j = omega (arith, low, more_seats) in
+            let was = r.unseated j past in (
+              same_comings j 0 r.order more refl was.0,
+              same_asks j 0 r.order more (asked_elsewhere j id (λ e. omega (arith, low, more_seats, e))) was.1,
+            );
+        fits = λ j u e. ⊎_elim
+            (λ (was : get_elem? s.views j ≡ some u).
+            let bound = at_below s.views j u was in
+            longer r.seat r.order more j u (λ k. (refl, refl))
+            (refl, asked_elsewhere j id (λ same_id. omega (arith, bound, same_id))) (r.fits j u was))
+            (λ (x : (j ≡ id) × (w ≡ u)). subst (λ (y : ℕ × Known). KnownFits r.seat order y.0 y.1)
+            (λ i. (sym x.0 i, x.1 i)) mine)
+            (at_end s.views w u j e);
+      },
+      (
+        record {
+          seat = id;
+          between = r.order;
+          is = refl;
+          own = own;
+          among = none_among (promises_in order);
+          counts = sym (word ∙ still);
+        },
+        refl,
+      ),
+    )
+
 -- a seat was made beside another, which knows as much as before
 split : (s : State (Unit {0}) Known) (r : IsTallied s) (id : ℕ) (v : Known) (at : get_elem? s.views id ≡ some v)
     (promises : List Promise) (front : List Event) → AreAmong promises (promises_in r.order) → IsPrefix front r.order
@@ -318,10 +546,11 @@ split s r id v at promises front low begins =
     let same : set s.views id v ≡ s.views = set_again s.views id v at in
     let as_many = length-set s.views id v in record {
       word = r.word;
-      words = r.words;
       seat = r.seat;
       order = r.order;
+      words = r.words;
       counts = r.counts;
+      numbered = r.numbered;
       unseated = λ j past.
           let seats = length-append (set s.views id v) (new ∷ []) in
           r.unseated j (omega (arith, past, seats, as_many));
@@ -355,10 +584,11 @@ joined : (s : State (Unit {0}) Known) (r : IsTallied s) (id : ℕ) (both : Known
     → IsTallied (record { words = s.words; homes = s.homes; views = set (set s.views id both) other spent })
 joined s r id both other mine = record {
   word = r.word;
-  words = r.words;
   seat = r.seat;
   order = r.order;
+  words = r.words;
   counts = r.counts;
+  numbered = r.numbered;
   unseated = λ j low.
       let one = length-set (set s.views id both) other spent in
       let two = length-set s.views id both in
@@ -410,10 +640,11 @@ sees slots id me live s r homes at small =
       tt,
       record {
         word = r.word;
-        words = ap (λ l. slice_set l 0 (slice_index s.words 0)) r.words ∙ ap (λ n. n ∷ []) word;
         seat = r.seat;
         order = r.order;
+        words = ap (λ l. slice_set l 0 (slice_index s.words 0)) r.words ∙ ap (λ n. n ∷ begun_in r.order ∷ []) word;
         counts = r.counts;
+        numbered = r.numbered;
         unseated = λ j low. let as_many = length-set s.views id w in r.unseated j (omega (arith, low, as_many));
         fits = fits_set r.seat r.order s.views id w (λ j u _ e. r.fits j u e)
             (record {
@@ -433,6 +664,7 @@ sees slots id me live s r homes at small =
           among = mine.low;
           heard = λ k. subst (AreAmong v.heard) (sym (mine.kept k).1) mine.heard;
           heard_begins = mine.heard_begins;
+          numbered = r.numbered;
         },
         refl,
       ),

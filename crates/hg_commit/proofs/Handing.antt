@@ -1,7 +1,7 @@
 -- Records on their way to the device.
 use Rattle.std.proofs.Common.{ℕ, zero, suc, Bool, true, false, if◌then◌else◌, take, drop, arith, eqb-true, length, true≢false}
 use Rattle.std.proofs.Common.{◌+◌, ◌==◌}
-use Rattle.std.proofs.Common.{◌≡◌, List, [], ◌∷◌, ◌++◌, refl, sym, ap, ◌∙◌, subst, append_assoc, append-nil}
+use Rattle.std.proofs.Common.{◌≡◌, List, [], ◌∷◌, ◌++◌, refl, sym, ap, ◌∙◌, append_assoc, append-nil}
 use Rattle.std.specs.Prelude.{insert, IfNone, IfSome, Option, None, Some, option_to_list}
 use Rattle.hg_store.specs.Entries.{Entry}
 use Rattle.hg_commit.specs.declared.waiting.Record.{Record}

@@ -7,3 +7,4 @@ mod Covering
 mod Living
 mod Counting
 mod Seats
+mod Beats

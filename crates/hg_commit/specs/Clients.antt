@@ -55,6 +55,14 @@ pub record Covers {A D : Type 0} (seen : D → List ℕ) (may_leave : D → List
     pub counts : rests ≤ promise.count
     pub reached : promise.moment ≡ moment kept.log.device
 
+-- One of these promises is of so many records or more, and was made after the write of that number had begun, or a
+-- later one.
+pub record AreWritten (promises : List Promise) (rests write : ℕ) : Type 0 where
+  pub promise : Promise
+  pub has : Contains promises promise
+  pub counts : rests ≤ promise.count
+  pub written : write ≤ promise.write
+
 -- So many done pushes that a client was answered by were on a device, and its receipt has a promise of them. The
 -- client has seen its promises in the one order of all that happened.
 pub record IsCovered {A D : Type 0} (seen : D → List ℕ) (may_leave : D → List ℕ → Type 0) (moment : D → ℕ)

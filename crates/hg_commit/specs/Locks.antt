@@ -7,9 +7,9 @@ use Rattle.hg_push.specs.Run.{RepositoryOf}
 use Rattle.hg_commit.specs.declared.waiting.Record.{Record}
 use Rattle.hg_commit.specs.Records.{IsRecordOf}
 
--- A log with its device, how many records are on it after those that it was opened with, the batch that is written next, for
--- how
--- many more that has room, whether it is broken, and the history that its witness has seen.
+-- A log with its device, how many records are on it after those that it was opened with, the batch that is written
+-- next, for how many more that has room, whether it is broken, and the history that its witness has seen. Writes are
+-- numbered as they begin: how many began, and the last one that made a promise.
 pub record DiskView (A D : Type 0) : Type 0 where
   pub log : Log D
   pub device : D
@@ -18,9 +18,11 @@ pub record DiskView (A D : Type 0) : Type 0 where
   pub room : ℕ
   pub is_broken : Bool
   pub history : List (Taken A)
+  pub begun : ℕ
+  pub ended : ℕ
 
 -- The records that wait, the highest place first: how many are on the device, whether it is broken, and the history
--- that their witness has seen. Writes are numbered as they begin: how many began, and the last one that ended well.
+-- that their witness has seen. Writes are numbered as they begin: how many began, and the last one that made a promise.
 pub record WaitingView (A : Type 0) : Type 0 where
   pub records : List (Record A)
   pub count : ℕ

@@ -2,7 +2,7 @@
 
 ghost use Rattle.std.specs.Prelude.{◌≡◌, ◌++◌};
 ghost use Rattle.hg_commit.specs.Clients.{promised};
-ghost use Rattle.hg_commit.specs.Orders.{AreSeen, Comes, HasGrown, no_receipt};
+ghost use Rattle.hg_commit.specs.Orders.{AreNumbered, AreSeen, Asks, Comes, HasGrown, no_receipt};
 
 use crate::promises::{Grant, OpenTally, Receipt};
 use crate::storing::Storing;
@@ -57,7 +57,9 @@ impl<J: Storing<A>, A: Allocator> KeptClient<J, A> {
         ensures both { self.new.receipt.promises ≡ self.old.receipt.promises ++ grant }
         ensures grows { HasGrown self.old.receipt self.new.receipt }
         ensures came { self.new.receipt.came ≡ self.old.receipt.came }
+        ensures asked { self.new.receipt.asked ≡ self.old.receipt.asked }
         ensures seen { AreSeen self.new.receipt }
+        ensures numbered { AreNumbered 0 self.new.receipt.order }
     {
         let held = self.receipt.take();
         self.receipt = Some(tally.join(held, grant));
@@ -72,5 +74,16 @@ impl<J: Storing<A>, A: Allocator> KeptClient<J, A> {
         let (receipt, count) = tally.come(held);
         self.receipt = Some(receipt);
         count
+    }
+
+    /// It asks for a beat. Says how many writes had begun by then.
+    pub(crate) fn ask(&mut self, tally: &OpenTally<J, A>) -> u64
+        ensures same { self.new.history ≡ self.old.history }
+        ensures asks { Asks self.old.receipt self.new.receipt result }
+    {
+        let held = self.receipt.take();
+        let (receipt, begun) = tally.ask(held);
+        self.receipt = Some(receipt);
+        begun
     }
 }

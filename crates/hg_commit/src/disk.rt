@@ -8,7 +8,7 @@ ghost use Rattle.hg_types.specs.Limits.{IsAllowed};
 ghost use Rattle.hg_store.specs.Device.{LeavesOnly};
 ghost use Rattle.hg_store.specs.Entries.{Entry};
 ghost use Rattle.hg_store.specs.Log.{IsSettled};
-ghost use Rattle.hg_commit.specs.Clients.{Covers};
+ghost use Rattle.hg_commit.specs.Clients.{AreWritten, Covers};
 ghost use Rattle.hg_commit.specs.Handing.{Fits, IsFull, record_bytes};
 ghost use Rattle.hg_commit.specs.Lives.{IsFront, IsKeptSince, Lives};
 ghost use Rattle.hg_commit.specs.Records.{IsRecordOf, KeepsRecords};
@@ -37,13 +37,17 @@ const FRAME: usize = 34;
 
 /// The device, how many records are on it after those that it was opened with, and a batch that is not written yet,
 /// with how many bytes more are left to it. The records and the batch are, in order, the bundles of the first pushes
-/// of the journal that the witness has seen. Each promise of the tally is kept, and unless it is broken the keeper
-/// has one of all these records, at this moment. After a write or a sync that failed the device is not called again.
+/// of the journal that the witness has seen. Writes are numbered as they begin: how many began, and the number of the
+/// last one that made a promise. Each promise of the tally is kept, and unless it is broken the keeper has one of all
+/// these records, at this moment, made as that write had begun. After a write or a sync that failed the device is not
+/// called again.
 pub struct Disk<J: Storing<A>, D: Device, A: Allocator = Global> {
     log: Log<D>,
     count: usize,
     batch: Vec<Sealed<A>, A>,
     left: usize,
+    begun: u64,
+    ended: u64,
     is_broken: bool,
     witness: Client<J, A>,
     keeper: Keeper<J, A>,
@@ -68,6 +72,8 @@ impl<J: Storing<A>, D: Device, A: Allocator> Model for Disk<J, D, A> {
       room = vec_capacity d.batch - vec_len d.batch;
       is_broken = d.is_broken;
       history = d.witness;
+      begun = d.begun;
+      ended = d.ended;
     } };
 
     ghost invariant = { λ d. IsAllowed J.first.settings.limits
@@ -75,10 +81,12 @@ impl<J: Storing<A>, D: Device, A: Allocator> Model for Disk<J, D, A> {
         × AreRecordsFrom J.first d.witness d.count d.batch.items
         × Lives D.moment D.left_since D.may_leave J.head J.stored J.first J.opened d.witness d.count
         d.log.device
-        × All (IsKeptSince D.moment D.left_since J.head J.stored J.first d.witness d.count d.log.device) d.keeper
+        × All (IsKeptSince D.moment D.left_since J.head J.stored J.first d.witness d.count d.log.device) d.keeper.promises
         × (d.is_broken ≡ false →
-        Contains d.keeper (record { count = d.count; moment = D.moment d.log.device }))
-        × (d.left ≡ BATCH_BYTES - batch_bytes d.batch.items) };
+        Contains d.keeper.promises
+        (record { count = d.count; moment = D.moment d.log.device; write = d.ended }))
+        × (d.left ≡ BATCH_BYTES - batch_bytes d.batch.items)
+        × (d.begun ≡ d.keeper.begun) };
 }
 
 impl<J: Storing<A>, D: Device, A: Allocator + Copy> Disk<J, D, A> {
@@ -92,9 +100,12 @@ impl<J: Storing<A>, D: Device, A: Allocator + Copy> Disk<J, D, A> {
         requires settled { IsSettled D.seen D.may_leave J.head J.stored log }
         requires opened { J.opened ≡ D.moment log.device }
         requires allowed { IsAllowed J.first.settings.limits }
-        requires nothing { keeper ≡ record { count = 0; moment = D.moment log.device } ∷ [] }
+        requires nothing { keeper ≡ record {
+          promises = record { count = 0; moment = D.moment log.device; write = 0 } ∷ [];
+          begun = 0;
+        } }
         ensures made { IfOk result (λ disk. (disk.device ≡ log.device) × (disk.count ≡ 0) × (disk.batch ≡ [])
-            × (disk.is_broken ≡ false) × (disk.history ≡ witness)) }
+            × (disk.is_broken ≡ false) × (disk.history ≡ witness) × (disk.begun ≡ 0) × (disk.ended ≡ 0)) }
         ensures refused { IfErr result (λ back. back ≡ (log, witness, keeper)) }
     {
         records_are_read_back();
@@ -104,6 +115,8 @@ impl<J: Storing<A>, D: Device, A: Allocator + Copy> Disk<J, D, A> {
                 count: 0,
                 batch,
                 left: BATCH_BYTES,
+                begun: 0,
+                ended: 0,
                 is_broken: false,
                 witness,
                 keeper,
@@ -124,6 +137,37 @@ impl<J: Storing<A>, D: Device, A: Allocator + Copy> Disk<J, D, A> {
         ensures { result ≡ self.now.is_broken }
     {
         self.is_broken
+    }
+
+    /// How many writes began.
+    pub fn begun(&self) -> u64
+        ensures { result ≡ self.now.begun }
+    {
+        self.begun
+    }
+
+    /// The number of the last write that made a promise.
+    pub fn ended(&self) -> u64
+        ensures { result ≡ self.now.ended }
+    {
+        self.ended
+    }
+
+    /// A write begins, with the next number. Where the numbers end, the device is broken from then on.
+    pub fn begin(&mut self, tally: &OpenTally<J, A>)
+        ensures lasting { self.old.is_broken ≡ true → self.new.is_broken ≡ true }
+        ensures begun { self.new.is_broken ≡ false → self.new.begun ≡ self.old.begun + 1 }
+        ensures same { (self.new.history ≡ self.old.history) × (self.new.count ≡ self.old.count)
+            × (self.new.batch ≡ self.old.batch) × (self.new.device ≡ self.old.device)
+            × (self.new.ended ≡ self.old.ended) }
+    {
+        match self.begun.checked_add(1) {
+            Some(number) => {
+                tally.begin_write(&mut self.keeper, number);
+                self.begun = number;
+            }
+            None => self.is_broken = true,
+        }
     }
 
     /// The place of the record that the batch takes next. `None` where it has room for no more.
@@ -177,6 +221,7 @@ impl<J: Storing<A>, D: Device, A: Allocator + Copy> Disk<J, D, A> {
         ensures same { self.new ≡ self.old }
         ensures covered { Covers D.seen D.may_leave D.moment J.head J.stored J.first self.old.history result
             self.old.count }
+        ensures written { AreWritten result self.old.count self.old.ended }
     {
         tally.grant(&mut self.keeper)
     }
@@ -219,6 +264,7 @@ impl<J: Storing<A>, D: Device, A: Allocator + Copy> Disk<J, D, A> {
         // A batch has a beat.
         ensures beat { self.old.batch ≢ [] → self.new.is_broken ≡ false →
             D.beats self.old.device < D.beats self.new.device }
+        ensures ended { self.old.batch ≢ [] → self.new.is_broken ≡ false → self.new.ended ≡ self.old.begun }
     {
         records_are_read_back();
         if self.is_broken || self.batch.is_empty() {
@@ -236,6 +282,7 @@ impl<J: Storing<A>, D: Device, A: Allocator + Copy> Disk<J, D, A> {
         self.batch.clear();
         self.left = BATCH_BYTES;
         tally.raise(&mut self.keeper, self.count, &self.log);
+        self.ended = self.begun;
     }
 
     /// **A beat**: the device writes and syncs, and its file stays as it is. All that is on it is promised once more, by
@@ -245,6 +292,7 @@ impl<J: Storing<A>, D: Device, A: Allocator + Copy> Disk<J, D, A> {
         ensures same { (self.new.history ≡ self.old.history) × (self.new.count ≡ self.old.count)
             × (self.new.batch ≡ self.old.batch) }
         ensures beat { self.new.is_broken ≡ false → D.beats self.old.device < D.beats self.new.device }
+        ensures ended { self.new.is_broken ≡ false → self.new.ended ≡ self.old.begun }
 
         // At any moment of the call an end leaves the records that are on the device.
         ensures any_moment { LeavesOnly D.moment D.left_since self.old.device self.new.device
@@ -260,6 +308,7 @@ impl<J: Storing<A>, D: Device, A: Allocator + Copy> Disk<J, D, A> {
         }
         let count = self.count;
         tally.raise(&mut self.keeper, count, &self.log);
+        self.ended = self.begun;
     }
 
     /// Writes the batch. Where it has no record, and beats are wanted, there is a beat.
@@ -267,6 +316,7 @@ impl<J: Storing<A>, D: Device, A: Allocator + Copy> Disk<J, D, A> {
         ensures lasting { self.old.is_broken ≡ true → self.new.is_broken ≡ true }
         ensures beat { with_beats ≡ true → self.new.is_broken ≡ false →
             D.beats self.old.device < D.beats self.new.device }
+        ensures ended { with_beats ≡ true → self.new.is_broken ≡ false → self.new.ended ≡ self.old.begun }
     {
         if with_beats && self.is_idle() {
             self.beat(tally);
@@ -286,13 +336,15 @@ impl<J: Storing<A>, D: Device, A: Allocator + Copy> Disk<J, D, A> {
         ensures broken { result.2 ≡ self.is_broken }
         ensures history { result.3 ≡ self.history }
         ensures keeper { All (IsKeptSince D.moment D.left_since J.head J.stored J.first result.3 result.1
-            result.0.device) result.4 }
+            result.0.device) result.4.promises }
     {
         let Disk {
             log,
             count,
             batch: _,
             left: _,
+            begun: _,
+            ended: _,
             is_broken,
             witness,
             keeper,

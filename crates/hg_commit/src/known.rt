@@ -19,6 +19,10 @@ pub struct Known {
     pub ghost order: { List Event } by { order_coded },
     /// How many requests came to it.
     pub ghost came: { ℕ },
+    /// How many beats were asked for at it.
+    pub ghost asked: { ℕ },
+    /// How many writes began. The keeper alone knows it.
+    pub ghost begun: { ℕ },
     /// The promises that it heard of from another seat.
     pub ghost heard: { List Promise } by { promises_coded },
     /// What it heard that this one has seen.

@@ -1,12 +1,12 @@
 //! A ledger: what a server keeps, for threads.
 
-ghost use Rattle.std.specs.Prelude.{◌≡◌, ◌≤◌, ◌<◌, ◌-◌, ℕ, [], false, All, IfErr, IfOk, IfSome, option_to_list};
+ghost use Rattle.std.specs.Prelude.{◌≡◌, ◌≤◌, ◌<◌, ◌+◌, ◌-◌, ℕ, [], false, true, All, IfErr, IfOk, IfSome, option_to_list};
 ghost use mathlib.Core.List.{IsPrefix};
 ghost use Rattle.hg_types.specs.Limits.{IsAllowed};
 ghost use Rattle.hg_store.specs.Log.{IsSettled};
-ghost use Rattle.hg_commit.specs.Clients.{Covers, IsCovered, IsGranted};
+ghost use Rattle.hg_commit.specs.Clients.{AreWritten, Covers, IsCovered, IsGranted};
 ghost use Rattle.hg_commit.specs.Lives.{IsKeptSince, Lives};
-ghost use Rattle.hg_commit.specs.Orders.{Comes, HasGrown};
+ghost use Rattle.hg_commit.specs.Orders.{Asks, Comes, HasBeat, HasGrown};
 ghost use Rattle.hg_commit.specs.Receipts.{IsTallyOf};
 ghost use Rattle.hg_commit.specs.Records.{IsRecordOf, KeepsRecords, done_in};
 
@@ -95,7 +95,9 @@ impl<J: Storing<A>, D: Device, A: Allocator + Copy> Ledger<J, D, A> {
     /// The ledger with beats, or without, as it is at first. With beats what has no record of its own is kept, and a
     /// receipt is given, only once a write and a sync went well that began after the call: the device was this server's
     /// then. All who wait share one, and a batch of records counts as one. Without beats nothing is called for these.
-    pub fn beating(mut self, has_beats: bool) -> Self {
+    pub fn beating(mut self, has_beats: bool) -> Self
+        ensures { result.has_beats ≡ has_beats }
+    {
         self.has_beats = has_beats;
         self
     }
@@ -128,13 +130,27 @@ impl<J: Storing<A>, D: Device, A: Allocator + Copy> Ledger<J, D, A> {
         ensures kept { IfOk result (λ kept. (kept.rests ≡ rests) × (kept.handed ≡ option_to_list entry) × IsGranted client kept.client
             × IsCovered D.seen D.may_leave D.moment J.head J.stored J.first kept.client rests) }
         ensures failed { IfErr result (λ back. IsGranted client back.0) }
+
+        // With beats, what has no record of its own rests on one that began after the call.
+        ensures beat { self.now.has_beats ≡ true → entry ≡ None →
+            IfOk result (λ kept. HasBeat client.receipt kept.client.receipt rests) }
     {
         let mut client = client;
-        let with_beat = self.has_beats && entry.is_none();
+        let with_beat = self.needs_beat(&entry);
         let handed = self.hand_in(rt, server, &mut client.client, room, rests, entry);
         match self.await_receipt(rt, server, &mut client, rests, with_beat) {
             Ok(()) => Ok(Kept::new(client, rests, handed)),
             Err(fault) => Err((client, fault)),
+        }
+    }
+
+    /// Whether an answer with that record, if there is one, is to rest on a beat.
+    fn needs_beat(&self, entry: &Option<Sealed<A>>) -> bool
+        ensures { self.now.has_beats ≡ true → entry.now ≡ None → result ≡ true }
+    {
+        match entry {
+            Some(_) => false,
+            None => self.has_beats,
         }
     }
 
@@ -190,8 +206,29 @@ impl<J: Storing<A>, D: Device, A: Allocator + Copy> Ledger<J, D, A> {
         ensures came { client.new.receipt.came ≡ client.old.receipt.came }
         ensures covered { IfOk result (λ _. IsCovered D.seen D.may_leave D.moment J.head J.stored J.first client.new
             rests) }
+
+        // With beats it stands on a write that began after the call and so after all that the client had seen, as that
+        // its request came, and what it had looked at. And the write ended well.
+        ensures beat { self.now.has_beats ≡ true →
+            IfOk result (λ _. HasBeat client.old.receipt client.new.receipt rests) }
     {
         self.await_receipt(rt, server, client, rests, self.has_beats)
+    }
+
+    /// The write that is waited for before an answer: where that is to rest on a beat, the next one that begins, for
+    /// which the client asks, and else none, as 0. `None` where the numbers end.
+    fn awaited(&self, client: &mut KeptClient<J, A>, with_beat: bool) -> Option<u64>
+        ensures same { client.new.history ≡ client.old.history }
+        ensures grows { HasGrown client.old.receipt client.new.receipt }
+        ensures came { client.new.receipt.came ≡ client.old.receipt.came }
+        ensures asked { with_beat ≡ true → IfSome result (λ write. (begun : ℕ) × (write ≡ begun + 1)
+            × Asks client.old.receipt client.new.receipt begun) }
+    {
+        if !with_beat {
+            return Some(0);
+        }
+        let begun = client.ask(&self.tally);
+        begun.checked_add(1)
     }
 
     /// Waits until so many done pushes are on the device, and maybe for a beat that begins now. The client has a receipt
@@ -210,8 +247,13 @@ impl<J: Storing<A>, D: Device, A: Allocator + Copy> Ledger<J, D, A> {
         ensures came { client.new.receipt.came ≡ client.old.receipt.came }
         ensures covered { IfOk result (λ _. IsCovered D.seen D.may_leave D.moment J.head J.stored J.first client.new
             rests) }
+        ensures beat { with_beat ≡ true →
+            IfOk result (λ _. HasBeat client.old.receipt client.new.receipt rests) }
     {
-        match self.await_records(rt, server, &mut client.client, rests, with_beat) {
+        let Some(awaited) = self.awaited(client, with_beat) else {
+            return Err(NotStored);
+        };
+        match self.await_records(rt, server, &mut client.client, rests, awaited) {
             Ok(grant) => {
                 client.take_in(&self.tally, grant);
                 Ok(())
@@ -220,24 +262,23 @@ impl<J: Storing<A>, D: Device, A: Allocator + Copy> Ledger<J, D, A> {
         }
     }
 
-    /// A grant for so many done pushes, once they are on the device, and maybe behind a beat that begins now.
+    /// A grant for so many done pushes, once they are on the device and the write of that number, or a later one, ended
+    /// well.
     fn await_records<R: Wait>(
         &self,
         rt: &R,
         server: &Server<J, A>,
         client: &mut Client<J, A>,
         rests: usize,
-        with_beat: bool,
+        awaited: u64,
     ) -> Result<Grant<J, A>, NotStored>
         requires { rests ≤ done_in J.first client.old }
         ensures same { client.new ≡ client.old }
         ensures covered { IfOk result (λ grant. Covers D.seen D.may_leave D.moment J.head J.stored J.first client.old
             grant rests) }
+        ensures written { IfOk result (λ grant. AreWritten grant rests awaited) }
     {
         let mut waiting = self.waiting.lock(rt);
-        let Some(awaited) = waiting.awaited(with_beat) else {
-            return Err(NotStored);
-        };
         'waiting: for _ in rt.forever() {
             match waiting.step(rt, server, client, &self.tally, rests, awaited) {
                 Ok(grant) => return Ok(grant),
@@ -260,7 +301,8 @@ impl<J: Storing<A>, D: Device, A: Allocator + Copy> Ledger<J, D, A> {
         mut waiting: MutexGuard<'_, Waiting<J, D, A>>,
     ) {
         let mut disk = self.disk.lock(rt);
-        waiting.begin();
+        disk.begin(&self.tally);
+        waiting.begin(&*disk);
         waiting.load(rt, server, &mut *disk);
         drop(waiting);
         disk.advance(&self.tally, self.has_beats);

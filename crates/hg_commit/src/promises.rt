@@ -2,16 +2,17 @@
 //! promises.
 //!
 //! A tally is a list of promises that only grows. One seat at it, the keeper, knows all of them and makes more. A
-//! receipt is a seat that knows some. The requests of clients come to their seats. All promises and all requests that
-//! came have one order: that in which one word of memory was written and read. Each seat has seen a front of it. None
-//! of this is there when the program runs, except that word: the contracts know the rest.
+//! receipt is a seat that knows some. The requests of clients come to their seats, and beats are asked for there. The
+//! keeper also begins writes. All promises, requests, asks and begins of writes have one order: that in which two words
+//! of memory were written and read. Each seat has seen a front of it. None of this is there when the program runs,
+//! except these words: how many records were promised, and how many writes began. The contracts know the rest.
 
-ghost use Rattle.std.specs.Prelude.{◌≡◌, ◌^◌, ◌++◌, ◌∷◌, [], All, Contains, IfOk};
+ghost use Rattle.std.specs.Prelude.{◌≡◌, ◌+◌, ◌^◌, ◌++◌, ◌∷◌, [], All, Contains, IfOk};
 ghost use mathlib.Core.List.{IsPrefix};
 ghost use Rattle.hg_commit.specs.Clients.{promised};
-ghost use Rattle.hg_commit.specs.Orders.{AreSeen, Comes, HasGrown, no_receipt};
+ghost use Rattle.hg_commit.specs.Orders.{AreNumbered, AreSeen, Asks, Comes, HasGrown, no_receipt};
 ghost use Rattle.hg_commit.specs.Receipts.{IsTallyOf};
-ghost use Rattle.hg_commit.specs.code.Tallies.{CountAtMost};
+ghost use Rattle.hg_commit.specs.code.Tallies.{CountAtMost, raised_to};
 
 use crate::known::Known;
 use crate::rooms::MOST_ROOMS;
@@ -54,6 +55,15 @@ impl<M: Moment> Play<(), Known> for Raises<M> {
     ghost use Rattle.hg_commit.specs.code.Tallies.{raised};
 
     ghost then = { raised M.moment };
+}
+
+/// The keeper begins a write more.
+struct Begins;
+
+impl Play<(), Known> for Begins {
+    ghost use Rattle.hg_commit.specs.code.Tallies.{begun_more};
+
+    ghost then = { begun_more };
 }
 
 /// A seat is made that knows what another knows, but is no keeper.
@@ -127,6 +137,24 @@ impl Play<(), Known> for Arrivals {
     ghost then = { arrives };
 }
 
+/// A beat is asked for at a seat.
+struct Asking;
+
+impl Play<(), Known> for Asking {
+    ghost use Rattle.hg_commit.specs.code.Tallies.{asks};
+
+    ghost then = { asks };
+}
+
+/// A beat is asked for, at a seat that is new.
+struct FirstAsking;
+
+impl Play<(), Known> for FirstAsking {
+    ghost use Rattle.hg_commit.specs.code.Tallies.{asks_first};
+
+    ghost then = { asks_first };
+}
+
 /// What was promised of a device. Contracts see which tally it is, the promises, and what was seen of the one order.
 #[derive(Drop)]
 pub struct Promises<A: Allocator = Global> {
@@ -136,7 +164,7 @@ pub struct Promises<A: Allocator = Global> {
 }
 
 impl<A: Allocator> Model for Promises<A> {
-    ghost use Rattle.std.specs.Prelude.{◌≡◌, ◌^◌};
+    ghost use Rattle.std.specs.Prelude.{◌≡◌, ◌<◌, ◌^◌};
     ghost use Rattle.hg_commit.specs.code.Tallies.{IsKeeperAt};
     ghost use Rattle.hg_commit.specs.Receipts.{TallyView};
 
@@ -145,12 +173,14 @@ impl<A: Allocator> Model for Promises<A> {
     ghost view = { λ t. record {
       id = t.table.shared.table_id;
       promises = t.keeper.me.0.promises;
+      begun = t.keeper.me.0.begun;
       order = t.keeper.me.0.order;
       name = t.rooms.name;
       parts = t.rooms.parts;
     } };
 
-    ghost invariant = { λ t. IsKeeperAt t.table.shared.table_id t.keeper × (t.rooms.parts ≡ 2 ^ 62) };
+    ghost invariant = { λ t. IsKeeperAt t.table.shared.table_id t.keeper × (t.rooms.parts ≡ 2 ^ 62)
+        × (1 < t.table.shared.table_id.words) };
 }
 
 /// The tally of that name, which threads share.
@@ -168,10 +198,11 @@ impl<J: Storing<A>, A: Allocator> Model for OpenTally<J, A> {
 
     ghost view = { λ t. t.table.shared.table_id };
 
-    ghost invariant = { λ t. (t.table.shared.table_id ≡ J.tally) × (0 < J.tally.words) };
+    ghost invariant = { λ t. (t.table.shared.table_id ≡ J.tally) × (0 < J.tally.words) × (1 < J.tally.words) };
 }
 
-/// The right to make promises at the tally of that name. Contracts see all that were made.
+/// The right to make promises at the tally of that name, and to begin writes. Contracts see all promises that were
+/// made, and how many writes began.
 #[derive(Drop)]
 pub struct Keeper<J: Storing<A>, A: Allocator = Global> {
     seat: Seat<(), Known>,
@@ -194,13 +225,12 @@ pub struct Receipt<J: Storing<A>, A: Allocator = Global> {
 }
 
 impl<J: Storing<A>, A: Allocator> Model for Keeper<J, A> {
-    ghost use Rattle.std.specs.Prelude.{List};
     ghost use Rattle.hg_commit.specs.code.Tallies.{IsKeeperAt};
-    ghost use Rattle.hg_commit.specs.Promises.{Promise};
+    ghost use Rattle.hg_commit.specs.Promises.{KeeperView};
 
-    ghost Value = { List Promise };
+    ghost Value = { KeeperView };
 
-    ghost view = { λ k. k.seat.me.0.promises };
+    ghost view = { λ k. record { promises = k.seat.me.0.promises; begun = k.seat.me.0.begun } };
 
     ghost invariant = { λ k. IsKeeperAt J.tally k.seat };
 }
@@ -231,9 +261,9 @@ impl<J: Storing<A>, A: Allocator> Model for Receipt<J, A> {
 impl<A: Allocator> Promises<A> {
     /// A tally of no promise.
     pub fn new(alloc: A) -> Result<Promises<A>, NoMemory>
-        ensures { IfOk result (λ tally. (tally.promises ≡ []) × (tally.order ≡ [])) }
+        ensures { IfOk result (λ tally. (tally.promises ≡ []) × (tally.begun ≡ 0) × (tally.order ≡ [])) }
     {
-        let (table, keeper) = Table::of_words(alloc, &[0], &())?;
+        let (table, keeper) = Table::of_words(alloc, &[0, 0], &())?;
         Ok(Promises {
             table,
             keeper,
@@ -244,7 +274,7 @@ impl<A: Allocator> Promises<A> {
     /// The tally of that name, for threads, the right to make promises, and by what rooms are counted.
     pub(crate) fn open<J: Storing<A>>(self) -> (OpenTally<J, A>, Keeper<J, A>, Blank)
         requires { IsTallyOf J.tally J.name J.parts self }
-        ensures promises { result.1 ≡ self.promises }
+        ensures promises { result.1 ≡ record { promises = self.promises; begun = self.begun } }
         ensures rooms { (result.2.name ≡ J.name) × (result.2.parts ≡ J.parts) × (result.2.parts ≡ 2 ^ 62) }
     {
         let Promises {
@@ -283,7 +313,7 @@ impl<A: Allocator> Promises<A> {
 impl<J: Storing<A>, A: Allocator> OpenTally<J, A> {
     /// The tally, when no thread shares it any more.
     pub fn close(self, keeper: Keeper<J, A>) -> Promises<A>
-        ensures { (result.id ≡ J.tally) × (result.promises ≡ keeper) }
+        ensures { (result.id ≡ J.tally) × (result.promises ≡ keeper.promises) × (result.begun ≡ keeper.begun) }
     {
         let OpenTally { table, of: _ } = self;
         let Keeper { seat, of: _ } = keeper;
@@ -296,17 +326,26 @@ impl<J: Storing<A>, A: Allocator> OpenTally<J, A> {
 
     /// Promises that so many records are on the device of this log, at its moment now. No promise before counts more.
     pub fn raise<D: Device>(&self, keeper: &mut Keeper<J, A>, count: usize, log: &Log<D>)
-        requires { CountAtMost count keeper.old }
-        ensures { keeper.new
-            ≡ keeper.old ++ record { count = count; moment = D.moment log.now.device } ∷ [] }
+        requires { CountAtMost count keeper.old.promises }
+        ensures { keeper.new ≡ raised_to keeper.old count (D.moment log.now.device) }
     {
         raise_at::<Brand, J, D, A>(self, keeper, count, log);
+    }
+
+    /// A write of that number begins.
+    pub fn begin_write(&self, keeper: &mut Keeper<J, A>, number: u64)
+        requires { keeper.old.begun + 1 ≡ number }
+        ensures { keeper.new ≡ record keeper.old { begun = number } }
+    {
+        self.table
+            .shared
+            .store::<Begins>(&mut keeper.seat, 1, number);
     }
 
     /// A grant of all that was promised.
     pub fn grant(&self, keeper: &mut Keeper<J, A>) -> Grant<J, A>
         ensures same { keeper.new ≡ keeper.old }
-        ensures promised { result ≡ keeper.old }
+        ensures promised { result ≡ keeper.old.promises }
     {
         let seat = self.table.shared.split_seat::<Copies>(&mut keeper.seat);
         Grant {
@@ -332,7 +371,9 @@ impl<J: Storing<A>, A: Allocator> OpenTally<J, A> {
         ensures both { result.promises ≡ (promised receipt).promises ++ grant }
         ensures grows { HasGrown (promised receipt) result }
         ensures came { result.came ≡ (promised receipt).came }
+        ensures asked { result.asked ≡ (promised receipt).asked }
         ensures seen { AreSeen result }
+        ensures numbered { AreNumbered 0 result.order }
     {
         match receipt {
             Some(receipt) => self.unite(receipt, grant),
@@ -342,8 +383,9 @@ impl<J: Storing<A>, A: Allocator> OpenTally<J, A> {
 
     fn begin(&self, grant: Grant<J, A>) -> Receipt<J, A>
         ensures all { result.promises ≡ grant }
-        ensures none { result.came ≡ 0 }
+        ensures none { (result.came ≡ 0) × (result.asked ≡ 0) }
         ensures seen { AreSeen result }
+        ensures numbered { AreNumbered 0 result.order }
     {
         let mut seat = grant.seat;
         self.table.shared.load::<Looks>(&mut seat, 0);
@@ -357,7 +399,9 @@ impl<J: Storing<A>, A: Allocator> OpenTally<J, A> {
         ensures both { result.promises ≡ receipt.promises ++ grant }
         ensures grows { HasGrown receipt result }
         ensures came { result.came ≡ receipt.came }
+        ensures asked { result.asked ≡ receipt.asked }
         ensures seen { AreSeen result }
+        ensures numbered { AreNumbered 0 result.order }
     {
         let mut seat = receipt.seat;
         self.table.shared.join_seat::<Unites>(&mut seat, grant.seat);
@@ -401,6 +445,40 @@ impl<J: Storing<A>, A: Allocator> OpenTally<J, A> {
         };
         (receipt, count)
     }
+
+    /// **A beat is asked for**: the client has seen then what happened so far, and this last. Says how many writes had
+    /// begun by then.
+    pub fn ask(&self, receipt: Option<Receipt<J, A>>) -> (Receipt<J, A>, u64)
+        ensures { Asks (promised receipt) result.0 result.1 }
+    {
+        match receipt {
+            Some(receipt) => self.ask_again(receipt),
+            None => self.ask_first(),
+        }
+    }
+
+    fn ask_first(&self) -> (Receipt<J, A>, u64)
+        ensures { Asks no_receipt result.0 result.1 }
+    {
+        let (begun, seat) = self.table.shared.load_new_seat::<FirstAsking>(1);
+        let receipt = Receipt {
+            seat,
+            of: PhantomData,
+        };
+        (receipt, begun)
+    }
+
+    fn ask_again(&self, receipt: Receipt<J, A>) -> (Receipt<J, A>, u64)
+        ensures { Asks receipt result.0 result.1 }
+    {
+        let mut seat = receipt.seat;
+        let begun = self.table.shared.load::<Asking>(&mut seat, 1);
+        let receipt = Receipt {
+            seat,
+            of: PhantomData,
+        };
+        (receipt, begun)
+    }
 }
 
 /// The same, at a moment that the call names.
@@ -411,9 +489,8 @@ fn raise_at<M: Moment, J: Storing<A>, D: Device, A: Allocator>(
     log: &Log<D>,
 )
     requires moment { M.moment ≡ D.moment log.now.device }
-    requires most { CountAtMost count keeper.old }
-    ensures { keeper.new
-        ≡ keeper.old ++ record { count = count; moment = D.moment log.now.device } ∷ [] }
+    requires most { CountAtMost count keeper.old.promises }
+    ensures { keeper.new ≡ raised_to keeper.old count (D.moment log.now.device) }
 {
     let _log = log;
     tally

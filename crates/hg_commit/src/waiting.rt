@@ -1,7 +1,7 @@
 //! The records that wait, under their lock.
 
 ghost use Rattle.std.specs.Prelude.{◌≡◌, ◌≢◌, ◌≤◌, ◌<◌, ◌+◌, ◌-◌, ◌^◌, ◌++◌, ◌∷◌, [], false, true, length, IfOk, IfSome, IfNone};
-ghost use Rattle.hg_commit.specs.Clients.{Covers};
+ghost use Rattle.hg_commit.specs.Clients.{AreWritten, Covers};
 ghost use Rattle.hg_commit.specs.Locks.{IsHandedIn};
 ghost use mathlib.Core.List.{IsPrefix};
 ghost use Rattle.hg_commit.specs.Handing.{Fits, IfLast, IsWithin, MovesTo, Stays, TakesNoMore};
@@ -41,8 +41,8 @@ pub enum NextStep {
 
 /// The records that wait, the highest place first, and room for more; how many are on the device, with a grant
 /// for them; whether a thread writes, how many are on the device after that, and at which door that is waited for;
-/// how many writes began, and the number of the last one that ended well; and whether a write or a sync failed. Where
-/// nothing is to be written, a write is a beat.
+/// how many writes began, and the number of the last one that made a promise; and whether a write or a sync failed.
+/// Where nothing is to be written, a write is a beat.
 pub struct Waiting<J: Storing<A>, D: Device, A: Allocator = Global> {
     records: Vec<Record<A>, A>,
     rooms: Rooms<J, A>,
@@ -60,7 +60,7 @@ pub struct Waiting<J: Storing<A>, D: Device, A: Allocator = Global> {
 
 impl<J: Storing<A>, D: Device, A: Allocator> Model for Waiting<J, D, A> {
     ghost use Rattle.std.specs.Prelude.{◌≡◌, ◌≤◌, ◌+◌, false, vec_len, vec_capacity};
-    ghost use Rattle.hg_commit.specs.Clients.{Covers};
+    ghost use Rattle.hg_commit.specs.Clients.{AreWritten, Covers};
     ghost use Rattle.hg_commit.specs.Locks.{AreWaiting, WaitingView};
 
     ghost Value = { WaitingView A };
@@ -76,13 +76,15 @@ impl<J: Storing<A>, D: Device, A: Allocator> Model for Waiting<J, D, A> {
 
     ghost invariant = { λ w. AreWaiting J.first w.witness w.records.items
         × (w.is_broken ≡ false → Covers D.seen D.may_leave D.moment J.head J.stored J.first w.witness w.counted w.count)
-        × (vec_len w.records + w.rooms ≤ vec_capacity w.records) };
+        × (vec_len w.records + w.rooms ≤ vec_capacity w.records)
+        × (w.is_broken ≡ false → AreWritten w.counted w.count w.ended) };
 }
 
 impl<J: Storing<A>, D: Device, A: Allocator + Copy> Waiting<J, D, A> {
     /// None wait.
     pub fn new(alloc: A, witness: Client<J, A>, counted: Grant<J, A>, rooms: Rooms<J, A>) -> Self
         requires kept { Covers D.seen D.may_leave D.moment J.head J.stored J.first witness counted 0 }
+        requires written { AreWritten counted 0 0 }
         requires rooms { rooms ≡ 0 }
     {
         Waiting {
@@ -144,18 +146,6 @@ impl<J: Storing<A>, D: Device, A: Allocator + Copy> Waiting<J, D, A> {
         handed
     }
 
-    /// The write that is waited for before an answer: where that is to rest on a beat, the next one that begins, and
-    /// else none, as 0. `None` where the numbers end.
-    pub fn awaited(&self, with_beat: bool) -> Option<u64>
-        ensures { with_beat ≡ true → IfSome result (λ write. write ≡ self.now.begun + 1) }
-    {
-        if with_beat {
-            self.begun.checked_add(1)
-        } else {
-            Some(0)
-        }
-    }
-
     /// The grant of a thread whose reply rests on so many done pushes, once the write of that number ended well, or what
     /// comes next for it.
     pub fn step<R: Wait>(
@@ -171,6 +161,7 @@ impl<J: Storing<A>, D: Device, A: Allocator + Copy> Waiting<J, D, A> {
         ensures same { client.new ≡ client.old }
         ensures whole { IfOk result (λ _. self.old.is_broken ≡ false) }
         ensures awaited { IfOk result (λ _. awaited ≤ self.old.ended) }
+        ensures written { IfOk result (λ grant. AreWritten grant rests awaited) }
         ensures covered { IfOk result (λ grant. Covers D.seen D.may_leave D.moment J.head J.stored J.first client.old
             grant rests) }
     {
@@ -209,6 +200,7 @@ impl<J: Storing<A>, D: Device, A: Allocator + Copy> Waiting<J, D, A> {
         requires done { rests ≤ done_in J.first client.old }
         ensures same { client.new ≡ client.old }
         ensures covered { Covers D.seen D.may_leave D.moment J.head J.stored J.first client.old result rests }
+        ensures written { AreWritten result rests self.old.ended }
     {
         records_stay::<A>();
         server.meet(rt, client, &mut self.witness);
@@ -223,12 +215,11 @@ impl<J: Storing<A>, D: Device, A: Allocator + Copy> Waiting<J, D, A> {
         }
     }
 
-    /// A write begins, with the next number.
-    pub fn begin(&mut self)
-        ensures begun { self.old.begun < 2 ^ 64 - 1 → self.new.begun ≡ self.old.begun + 1 }
-        ensures same { self.new ≡ record self.old { begun = self.new.begun } }
+    /// Notes that a write began, and its number.
+    pub fn begin(&mut self, disk: &Disk<J, D, A>)
+        ensures { self.new ≡ record self.old { begun = disk.now.begun } }
     {
-        self.begun = self.begun.saturating_add(1);
+        self.begun = disk.begun();
     }
 
     /// Moves the records that come next into the batch of a thread that writes, as many as may. Those who waited for the
@@ -306,7 +297,7 @@ impl<J: Storing<A>, D: Device, A: Allocator + Copy> Waiting<J, D, A> {
     )
         ensures lasting { self.old.is_broken ≡ true → self.new.is_broken ≡ true }
         ensures failed { disk.old.is_broken ≡ true → (self.new.is_broken ≡ true) × (self.new.ended ≡ self.old.ended) }
-        ensures ended { disk.old.is_broken ≡ false → self.new.ended ≡ self.old.begun }
+        ensures ended { disk.old.is_broken ≡ false → self.new.ended ≡ disk.old.ended }
     {
         records_stay::<A>();
         self.is_writing = false;
@@ -314,7 +305,7 @@ impl<J: Storing<A>, D: Device, A: Allocator + Copy> Waiting<J, D, A> {
             self.is_broken = true;
             return;
         }
-        self.ended = self.begun;
+        self.ended = disk.ended();
         self.count = disk.count();
         self.counted = disk.counted(tally);
         disk.show(rt, server, &mut self.witness);

@@ -3,6 +3,7 @@
 use crate::tests::state;
 use hg_help_serve_tests::{marker, settings};
 use hg_help_store_tests::device::Memory;
+use hg_help_store_tests::drawer::Drawer;
 use hg_recovery::replay_records;
 use hg_repo::Repo;
 use hg_serve::Closed;
@@ -71,7 +72,7 @@ pub fn starts_again<R: RandomSource + Abort>(
 ) -> Option<usize> {
     let file = device.crashed(part).ok()?;
     let mut device = Memory::new(alloc, &file, 9).ok()?;
-    let found = recover(alloc, &mut device).ok()?;
+    let found = recover(alloc, &mut device, &mut Drawer::new(alloc)).ok()?;
     let count = found.records.len();
     let is_again = kept <= count && is_front(rt, alloc, found.records.as_slice(), closed);
     if is_again { Some(count) } else { None }

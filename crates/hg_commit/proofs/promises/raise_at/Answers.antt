@@ -1,4 +1,5 @@
 use Rattle.std.proofs.Common.{rules, sym, subst}
+use Rattle.hg_commit.specs.Promises.{KeeperView}
 use Rattle.hg_commit.specs.code.Tallies.{CountAtMost}
 use Rattle.hg_commit.proofs.Counting.{raises}
 use Rattle.hg_commit.proofs.promises.raise_at.Goals as goal
@@ -8,5 +9,5 @@ store-requires g c = (
   search rules,
   search rules,
   raises _ _ _ _ _ c.keeper.invariant.0 c.keeper.invariant.1.3
-      (subst (CountAtMost c.args.count) (sym c.keeper.view_is) c.requires.most),
+      (subst (λ (v : KeeperView). CountAtMost c.args.count v.promises) (sym c.keeper.view_is) c.requires.most),
 )

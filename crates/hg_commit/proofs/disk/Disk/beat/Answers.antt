@@ -1,9 +1,10 @@
-use Rattle.std.proofs.Common.{◌≡◌, ◌<◌, ◌≤◌, ◌++◌, ◌∷◌, [], false, true, ℕ, List, sym, subst, ◌∙◌, arith}
+use Rattle.std.proofs.Common.{◌≡◌, ◌<◌, ◌≤◌, ◌++◌, ◌∷◌, [], false, true, ℕ, List, ap, sym, subst, ◌∙◌, arith}
 use Rattle.hg_store.specs.Device.{LeavesOnly}
 use Rattle.std.specs.Prelude.{Contains}
 use Rattle.std.proofs.lemmas.List.Elements.{All-push, All-same, All-weaker, Contains-push}
 use Rattle.hg_commit.specs.Lives.{IsFront, IsKeptSince}
-use Rattle.hg_commit.specs.Promises.{Promise}
+use Rattle.hg_commit.specs.Promises.{KeeperView, Promise}
+use Rattle.hg_commit.specs.code.Tallies.{one_more}
 use Rattle.hg_commit.specs.Locks.{DiskView}
 use Rattle.hg_commit.proofs.Keeping.{keeps_same}
 use Rattle.hg_commit.proofs.Lists.{went_well}
@@ -20,7 +21,7 @@ pub raise-requires : goal.raise-requires
 raise-requires g c =
     let d = c.self.inside in
     All-weaker (IsKeptSince g.D.Device.moment g.D.Device.left_since g.J.Storing.head g.J.Storing.stored
-    g.J.Naming.first d.witness d.count d.log.device) (λ p. p.count ≤ d.count) (λ p k. k.few) d.keeper
+    g.J.Naming.first d.witness d.count d.log.device) (λ p. p.count ≤ d.count) (λ p k. k.few) d.keeper.promises
     c.self.invariant.4
 
 -- a beat that failed leaves what was there, too
@@ -43,9 +44,10 @@ invariant_of-self g c =
       lives_failed moment left_since g.D.Device.may_leave head stored first g.J.Storing.opened d.witness d.count
           d.log.device now (g.met.D.Device.counts_now now) i.3 run,
       promises_after moment left_since head stored first d.witness d.count d.count d.log.device now (omega arith) run
-          d.keeper i.4,
+          d.keeper.promises i.4,
       λ b. absurd (let e : true ≡ false = b in cc),
       i.6,
+      i.7,
     )
 
 -- one that went well leaves all as it was, and promises it by now
@@ -67,7 +69,10 @@ invariant_of-self-2 g c =
     (c.beat.ensures.same head (stored ++ k.records) k.settled)) in
     let run = beat_front seen may_leave head stored first moment left_since d.witness d.count d.log k d.log.device now
     (c.beat.ensures.any_moment head (stored ++ k.records) k.settled) in
-    let one : Promise = record { count = d.count; moment = moment now } in
+    let one : Promise = record { count = d.count; moment = moment now; write = d.begun } in
+    let raised : c.raise.new.keeper.promises ≡ d.keeper.promises ++ one ∷ [] =
+    ap (λ (v : KeeperView). v.promises) c.raise.ensures
+    ∙ ap (λ (n : ℕ). one_more d.keeper.promises d.count (moment now) n) (sym i.7) in
     let Kept : Promise → Type 0 = IsKeptSince moment left_since head stored first d.witness d.count now in
     let front = kept_front seen may_leave head stored first c.records_are_read_back.ensures d.witness d.count
     c.beat.new.self keeps in (
@@ -76,14 +81,15 @@ invariant_of-self-2 g c =
       i.2,
       lives_after moment left_since may_leave head stored first g.J.Storing.opened d.witness d.count d.count
           d.log.device now i.3 run front,
-      All-same Kept c.raise.new.keeper (d.keeper ++ one ∷ []) c.raise.ensures
-          (All-push Kept d.keeper one
+      All-same Kept c.raise.new.keeper.promises (d.keeper.promises ++ one ∷ []) raised
+          (All-push Kept d.keeper.promises one
           (promises_after moment left_since head stored first d.witness d.count d.count d.log.device now (omega arith)
-          run d.keeper i.4)
-          (promise_now moment left_since head stored first may_leave d.witness d.count now
+          run d.keeper.promises i.4)
+          (promise_now moment left_since head stored first may_leave d.witness d.count d.begun now
           (g.met.D.Device.only_now now) front)),
-      λ b. subst (λ (l : List Promise). Contains l one) (sym c.raise.ensures) (Contains-push d.keeper one),
+      λ b. subst (λ (l : List Promise). Contains l one) (sym raised) (Contains-push d.keeper.promises one),
       i.6,
+      i.7 ∙ sym (ap (λ (v : KeeperView). v.begun) c.raise.ensures),
     )
 
 pub returns-then-is_err-clause-any_moment : goal.returns-then-is_err-clause-any_moment

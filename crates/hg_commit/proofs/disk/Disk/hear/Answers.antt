@@ -21,7 +21,8 @@ invariant_of-self g c =
           (λ k entry r. c.records_stay.ensures.later first old new k entry c.meet.ensures.later r) i.3,
       promises_on g.D.Device.moment g.D.Device.left_since g.J.Storing.head g.J.Storing.stored first old new d.count
           d.log.device (λ k entry r. c.records_stay.ensures.later first old new k entry c.meet.ensures.later r)
-          d.keeper i.4,
+          d.keeper.promises i.4,
       i.5,
       i.6,
+      i.7,
     )

@@ -26,6 +26,7 @@ invariant_of-self g c =
       subst (λ (l : List Entry). c.unwrap_or-self-inside.result ≡ BATCH_BYTES - batch_bytes l) (sym c.push_reserved.ensures.items)
           (left_on BATCH_BYTES d.left c.unwrap_or-self-inside.result d.batch.items c.args.entry c.left_beside.result i.6
           c.left_beside.ensures c.unwrap_or-self-inside.ensures),
+      i.7,
     )
 
 pub push_reserved-requires : goal.push_reserved-requires

@@ -8,7 +8,8 @@ use Rattle.hg_store.specs.Log.{IsBeforeOrAfter, IsSettled}
 use Rattle.std.specs.Prelude.{Contains}
 use Rattle.std.proofs.lemmas.List.Elements.{All-push, All-same, All-weaker, Contains-push}
 use Rattle.hg_commit.specs.Lives.{IsFront, IsKeptSince}
-use Rattle.hg_commit.specs.Promises.{Promise}
+use Rattle.hg_commit.specs.Promises.{KeeperView, Promise}
+use Rattle.hg_commit.specs.code.Tallies.{one_more}
 use Rattle.hg_commit.specs.Handing.{batch_bytes}
 use Rattle.hg_commit.specs.Locks.{DiskView}
 use Rattle.hg_commit.specs.Records.{AreRecordsFrom, KeepsRecords}
@@ -33,7 +34,7 @@ raise-requires g c =
     let d = c.self.inside in
     All-weaker (IsKeptSince g.D.Device.moment g.D.Device.left_since g.J.Storing.head g.J.Storing.stored
     g.J.Naming.first d.witness d.count d.log.device) (λ p. p.count ≤ d.count + c.len.result)
-    (λ p k. let few = k.few in omega (arith, few)) d.keeper c.self.invariant.4
+    (λ p k. let few = k.few in omega (arith, few)) d.keeper.promises c.self.invariant.4
 
 -- an append that failed leaves what was there, too
 pub invariant_of-self-then-is_err : goal.invariant_of-self-then-is_err
@@ -57,9 +58,10 @@ invariant_of-self-then-is_err g c =
       lives_failed moment left_since g.D.Device.may_leave head stored first g.J.Storing.opened d.witness d.count
           d.log.device c.append.new.self.device (g.met.D.Device.counts_now c.append.new.self.device) i.3 run,
       promises_after moment left_since head stored first d.witness d.count d.count d.log.device
-          c.append.new.self.device (omega arith) run d.keeper i.4,
+          c.append.new.self.device (omega arith) run d.keeper.promises i.4,
       λ b. absurd (let e : true ≡ false = b in cc),
       i.6,
+      i.7,
     )
 
 pub returns-then-is_err-clause-any_moment : goal.returns-then-is_err-clause-any_moment
@@ -127,7 +129,10 @@ invariant_of-self-2 g c =
     (c.append.ensures.any_moment head (stored ++ k.records) k.settled)) in
     let now = c.append.new.self.device in
     let count : ℕ = d.count + c.len.result in
-    let one : Promise = record { count = count; moment = moment now } in
+    let one : Promise = record { count = count; moment = moment now; write = d.begun } in
+    let raised : c.raise.new.keeper.promises ≡ d.keeper.promises ++ one ∷ [] =
+    ap (λ (v : KeeperView). v.promises) c.raise.ensures
+    ∙ ap (λ (n : ℕ). one_more d.keeper.promises count (moment now) n) (sym i.7) in
     let Kept : Promise → Type 0 = IsKeptSince moment left_since head stored first d.witness count now in
     let front = kept_front seen may_leave head stored first c.records_are_read_back.ensures d.witness count
     c.append.new.self keeps in (
@@ -138,14 +143,15 @@ invariant_of-self-2 g c =
       lives_after moment left_since may_leave head stored first g.J.Storing.opened d.witness d.count
           (d.count + c.len.result) d.log.device c.append.new.self.device i.3 run
           front,
-      All-same Kept c.raise.new.keeper (d.keeper ++ one ∷ []) c.raise.ensures
-          (All-push Kept d.keeper one
+      All-same Kept c.raise.new.keeper.promises (d.keeper.promises ++ one ∷ []) raised
+          (All-push Kept d.keeper.promises one
           (promises_after moment left_since head stored first d.witness d.count count d.log.device now (omega arith)
-          run d.keeper i.4)
-          (promise_now moment left_since head stored first may_leave d.witness count now
+          run d.keeper.promises i.4)
+          (promise_now moment left_since head stored first may_leave d.witness count d.begun now
           (g.met.D.Device.only_now now) front)),
-      λ b. subst (λ (l : List Promise). Contains l one) (sym c.raise.ensures) (Contains-push d.keeper one),
+      λ b. subst (λ (l : List Promise). Contains l one) (sym raised) (Contains-push d.keeper.promises one),
       subst (λ (l : List Entry). BATCH_BYTES ≡ BATCH_BYTES - batch_bytes l) (sym c.clear.ensures.items) refl,
+      i.7 ∙ sym (ap (λ (v : KeeperView). v.begun) c.raise.ensures),
     )
 
 pub append-requires-clause-settled : goal.append-requires-clause-settled
@@ -211,6 +217,9 @@ returns-clause-added g c = λ records settled b.
 
 pub returns-then-self-clause-beat : goal.returns-then-self-clause-beat
 returns-then-self-clause-beat g c = λ some b. absurd (some (returns-then-self-clause-written g c b).1)
+
+pub returns-then-self-clause-ended : goal.returns-then-self-clause-ended
+returns-then-self-clause-ended g c = λ some b. absurd (some (returns-then-self-clause-written g c b).1)
 
 pub returns-clause-beat : goal.returns-clause-beat
 returns-clause-beat g c = λ some b.

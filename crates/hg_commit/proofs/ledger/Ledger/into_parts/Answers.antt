@@ -7,5 +7,5 @@ pub returns-clause-promises : goal.returns-clause-promises
 returns-clause-promises g c =
     let parts = c.into_parts-log.result in
     All-same (λ (p : Promise). IsKeptSince g.D.Device.moment g.D.Device.left_since g.J.Storing.head g.J.Storing.stored
-    g.J.Naming.first parts.3 parts.1 parts.0.device p) c.close.result.promises parts.4 c.close.ensures.1
+    g.J.Naming.first parts.3 parts.1 parts.0.device p) c.close.result.promises parts.4.promises c.close.ensures.1
     c.into_parts-log.ensures.keeper

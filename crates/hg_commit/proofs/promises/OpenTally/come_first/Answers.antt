@@ -15,7 +15,7 @@ invariant_of-receipt g c =
       t.among,
       (
         e.0 ∙ c.self.invariant.0,
-        c.self.invariant.1,
+        c.self.invariant.2,
         e.1,
         came_spent (seat_with []) made.me.0 c.load_new_seat-count.result.0 t,
       ),

@@ -5,7 +5,7 @@ use Rattle.hg_commit.specs.Orders.{HasGrown, ReceiptView}
 use Rattle.hg_commit.specs.Promises.{Promise}
 use Rattle.hg_commit.specs.code.Tallies.{receipt_of, Sees}
 use Rattle.hg_commit.proofs.Counting.{sees, unites}
-use Rattle.hg_commit.proofs.Seats.{saw_among, saw_spent, united_grows, united_promises}
+use Rattle.hg_commit.proofs.Seats.{saw_among, saw_numbered, saw_spent, united_grows, united_promises}
 use Rattle.hg_commit.proofs.promises.OpenTally.unite.Goals as goal
 
 pub join_seat-requires : goal.join_seat-requires
@@ -60,3 +60,12 @@ returns-clause-came g c =
 
 pub returns-clause-seen : goal.returns-clause-seen
 returns-clause-seen g c = saw_among c.join_seat.new.seat.me.0 c.load.new.seat.me.0 c.load.ensures.2.0
+
+pub returns-clause-asked : goal.returns-clause-asked
+returns-clause-asked g c =
+    let joined = ap (λ (m : Me (Unit {0}) Known). m.0) c.join_seat.ensures.2 in
+    ap (λ (v : Known). v.asked) c.load.ensures.2.0.is
+    ∙ (ap (λ (v : Known). v.asked) joined ∙ ap (λ (r : ReceiptView). r.asked) c.receipt.view_is)
+
+pub returns-clause-numbered : goal.returns-clause-numbered
+returns-clause-numbered g c = saw_numbered c.join_seat.new.seat.me.0 c.load.new.seat.me.0 c.load.ensures.2.0

@@ -30,6 +30,7 @@ invariant_of-self g c =
           (i.1 b),
       room_left (is_ok c.insert.result) _ _ _ _ _ _ c.insert.ensures.len c.give_back.ensures i.2
           c.insert.ensures.capacity,
+      i.3,
     )
 
 pub returns-clause-taken : goal.returns-clause-taken

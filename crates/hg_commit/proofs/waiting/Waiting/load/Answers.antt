@@ -3,7 +3,7 @@ use Rattle.std.specs.Prelude.{IfNone, Option, vec_len, vec_capacity}
 use mathlib.Core.List.{IsPrefix}
 use Rattle.hg_types.specs.declared.item.Taken.{Taken}
 use Rattle.hg_store.specs.Entries.{Entry}
-use Rattle.hg_commit.specs.Clients.{Covers}
+use Rattle.hg_commit.specs.Clients.{AreWritten, Covers}
 use Rattle.hg_commit.specs.Handing.{IfLast, IsFull, MovesTo, Stays}
 use Rattle.hg_commit.specs.Locks.{AreWaiting, WaitingView}
 use Rattle.hg_commit.specs.Records.{IsRecordOf}
@@ -20,7 +20,8 @@ invariant_of-self g c =
     subst (λ (h : List (Taken g.row.A.Denot)). AreWaiting first h w.records.items
     × (w.is_broken ≡ false → Covers g.D.Device.seen g.D.Device.may_leave g.D.Device.moment g.J.Storing.head
     g.J.Storing.stored first h w.counted w.count)
-    × (vec_len w.records + w.rooms ≤ vec_capacity w.records)) (sym c.hear.ensures.same) c.self.invariant
+    × (vec_len w.records + w.rooms ≤ vec_capacity w.records)
+    × (w.is_broken ≡ false → AreWritten w.counted w.count w.ended)) (sym c.hear.ensures.same) c.self.invariant
 
 pub loading-init : goal.loading-init
 loading-init g c =

@@ -2,7 +2,7 @@ use Rattle.std.proofs.Common.{◌≡◌, ℕ, sym, subst}
 use mathlib.Core.List.{IsPrefix}
 use Rattle.std.proofs.lemmas.List.Elements.{All-weaker}
 use Rattle.hg_commit.specs.declared.waiting.Record.{Record}
-use Rattle.hg_commit.specs.Clients.{Covers}
+use Rattle.hg_commit.specs.Clients.{AreWritten, Covers}
 use Rattle.hg_commit.specs.Locks.{DiskView}
 use Rattle.hg_commit.specs.Records.{IsRecordOf}
 use Rattle.hg_commit.proofs.Covering.{covered_on}
@@ -29,4 +29,7 @@ invariant_of-self-2 g c =
           (λ k entry r. c.records_stay.ensures.later first there new k entry all r)
           c.counted.ensures.covered),
       i.2,
+      λ b. subst (λ (n : ℕ). AreWritten c.counted.result n c.ended-self-inside.result) count
+          (subst (λ (n : ℕ). AreWritten c.counted.result c.args.disk.now.count n) (sym c.ended-self-inside.ensures)
+          c.counted.ensures.written),
     )

@@ -19,6 +19,7 @@ invariant_of-self g c =
       (All-pop Waits w.records.items c.pop.new.self.items c.pop.result c.pop.ensures.items i.0).0,
       i.1,
       search rules,
+      i.3,
     )
 
 pub returns-then-comes_at-clause-found : goal.returns-then-comes_at-clause-found

@@ -1,0 +1,164 @@
+-- A beat that was asked for, in the one order.
+use Rattle.std.proofs.Common.{ℕ, ◌≡◌, ◌⊎◌, ◌≤◌, ◌<◌, ◌+◌, ◌∙◌, List, [], ◌∷◌, ◌++◌, sym, ap, subst, inl, inr, ⊎_elim, append_assoc, append-nil, arith}
+use Rattle.std.specs.Prelude.{Contains, IfSome, Option, None, Some}
+use Rattle.std.specs.Option.{SomeIff}
+use mathlib.Core.List.{IsPrefix}
+use Rattle.std.proofs.lemmas.List.Elements.{All-contains, Contains-push_cases, Contains-append_cases}
+use Rattle.hg_commit.specs.Orders.{AreNumbered, AreSeen, Asked, Asks, Began, begun_in, Came, Event, HasBeat, HasGrown, Promised, promises_in, ReceiptView}
+use Rattle.hg_commit.specs.Clients.{AreWritten}
+use Rattle.hg_commit.specs.Promises.{Promise}
+
+-- it is the first, or one of the others
+first_or : {X : Type 0} (x y : X) (xs : List X) → Contains (x ∷ xs) y → (x ≡ y) ⊎ Contains xs y
+first_or x y xs has = ⊎_elim
+    (λ (c : Contains (x ∷ []) y). ⊎_elim (λ (n : Contains [] y). absurd (let low = n.1 in omega (arith, low)))
+    (λ (e : x ≡ y). inl e) (Contains-push_cases [] x y c))
+    (λ (c : Contains xs y). inr c) (Contains-append_cases (x ∷ []) xs y has)
+
+none_in : {X : Type 0} (x : X) → Contains [] x → ⊥
+none_in x has = let low = has.1 in omega (arith, low)
+
+-- A promise that was made after more writes had begun than in a front stands behind it.
+record IsBehind (n : ℕ) (front more : List Event) (p : Promise) : Type 0 where
+  has : Contains (promises_in more) p
+  numbered : AreNumbered (n + begun_in front) more
+
+behind : (n : ℕ) (front more : List Event) (p : Promise) → AreNumbered n (front ++ more)
+    → Contains (promises_in (front ++ more)) p → n + begun_in front < p.write → IsBehind n front more p
+behind n [] more p all has low =
+    let e : n ≡ n + 0 = omega arith in
+    record { has = has; numbered = subst (λ (k : ℕ). AreNumbered k more) e all }
+behind n (Promised q ∷ front) more p all has low =
+    let it = behind n front more p all.1
+    (⊎_elim (λ (e : q ≡ p). let same = ap (λ (x : Promise). x.write) e in let made = all.0 in
+    absurd (omega (arith, same, made, low))) (λ (c : Contains (promises_in (front ++ more)) p). c)
+    (first_or q p (promises_in (front ++ more)) has)) low in
+    record { has = it.has; numbered = it.numbered }
+behind n (Came seat ∷ front) more p all has low =
+    let it = behind n front more p all has low in record { has = it.has; numbered = it.numbered }
+behind n (Began ∷ front) more p all has low =
+    let it = behind (n + 1) front more p all has (omega (arith, low)) in
+    let e : (n + 1) + begun_in front ≡ n + (1 + begun_in front) = omega arith in
+    record { has = it.has; numbered = subst (λ (k : ℕ). AreNumbered k more) e it.numbered }
+behind n (Asked seat ∷ front) more p all has low =
+    let it = behind n front more p all has low in record { has = it.has; numbered = it.numbered }
+
+-- where it stands
+record StandsAt (n : ℕ) (more : List Event) (p : Promise) : Type 0 where
+  between : List Event
+  later : List Event
+  is : more ≡ between ++ Promised p ∷ later
+  number : n + begun_in between ≡ p.write
+
+stands : (n : ℕ) (more : List Event) (p : Promise) → AreNumbered n more → Contains (promises_in more) p → StandsAt n more p
+stands n [] p all has = absurd (none_in p has)
+stands n (Promised q ∷ more) p all has = ⊎_elim
+    (λ (e : q ≡ p). let same = ap (λ (x : Promise). x.write) e in let made = all.0 in
+    record {
+      between = [];
+      later = more;
+      is = ap (λ (x : Promise). Promised x ∷ more) e;
+      number = omega (arith, same, made);
+    })
+    (λ (c : Contains (promises_in more) p). let it = stands n more p all.1 c in
+    record {
+      between = Promised q ∷ it.between;
+      later = it.later;
+      is = ap (λ l. Promised q ∷ l) it.is;
+      number = it.number;
+    })
+    (first_or q p (promises_in more) has)
+stands n (Came seat ∷ more) p all has = let it = stands n more p all has in record {
+  between = Came seat ∷ it.between;
+  later = it.later;
+  is = ap (λ l. Came seat ∷ l) it.is;
+  number = it.number;
+}
+stands n (Began ∷ more) p all has =
+    let it = stands (n + 1) more p all has in
+    let number = it.number in
+    record {
+      between = Began ∷ it.between;
+      later = it.later;
+      is = ap (λ l. Began ∷ l) it.is;
+      number = omega (arith, number);
+    }
+stands n (Asked seat ∷ more) p all has = let it = stands n more p all has in record {
+  between = Asked seat ∷ it.between;
+  later = it.later;
+  is = ap (λ l. Asked seat ∷ l) it.is;
+  number = it.number;
+}
+
+-- Who asked for a beat and has a promise then that was made after a later write had begun has that beat.
+pub beat_of : (before asked now : ReceiptView) (begun rests : ℕ) (p : Promise) → Asks before asked begun
+    → now.asked ≡ asked.asked → IsPrefix asked.order now.order → AreNumbered 0 now.order → AreSeen now
+    → Contains now.promises p → begun < p.write → rests ≤ p.count → HasBeat before now rests
+beat_of before asked now begun rests p asks one front numbered seen has low enough =
+    let there = All-contains (Contains (promises_in now.order)) now.promises p seen has in
+    let whole = sym front.1 in
+    let count = asks.counts in
+    let back = behind 0 asked.order front.0 p (subst (AreNumbered 0) whole numbered)
+    (subst (λ (l : List Event). Contains (promises_in l) p) whole there) (omega (arith, count, low)) in
+    let it = stands (0 + begun_in asked.order) front.0 p back.numbered back.has in
+    let number = it.number in
+    record {
+      asked = asked;
+      begun = begun;
+      asks = asks;
+      one = one;
+      between = it.between;
+      promise = p;
+      later = it.later;
+      order = whole ∙ ap (λ l. asked.order ++ l) it.is;
+      began = omega (arith, number, count, low);
+      has = has;
+      counts = enough;
+    }
+
+-- ---- what a client's receipt has after it asked
+
+pub as_before : (r : ReceiptView) → HasGrown r r
+as_before r = record {
+  promises = ([], append-nil r.promises);
+  order = ([], append-nil r.order);
+  came = omega arith;
+}
+
+pub asks_grown : (before asked : ReceiptView) (begun : ℕ) → Asks before asked begun → HasGrown before asked
+asks_grown before asked begun a =
+    let same = a.came in
+    record {
+      promises = ([], append-nil before.promises ∙ sym a.same);
+      order = (
+        a.between ++ Asked a.seat ∷ [],
+        sym (append_assoc before.order a.between (Asked a.seat ∷ [])) ∙ sym a.last,
+      );
+      came = omega (arith, same);
+    }
+
+prefix_again : {X : Type 0} (xs ys zs : List X) → IsPrefix xs ys → IsPrefix ys zs → IsPrefix xs zs
+prefix_again xs ys zs p q = (p.0 ++ q.0, sym (append_assoc xs p.0 q.0) ∙ (ap (λ l. l ++ q.0) p.1 ∙ q.1))
+
+pub grown_again : (one two three : ReceiptView) → HasGrown one two → HasGrown two three → HasGrown one three
+grown_again one two three p q =
+    let first = p.came in
+    let second = q.came in
+    record {
+      promises = prefix_again one.promises two.promises three.promises p.promises q.promises;
+      order = prefix_again one.order two.order three.order p.order q.order;
+      came = omega (arith, first, second);
+    }
+
+-- the next number, where there is one
+pub next_of : (r : Option ℕ) (P : Type 0) (begun : ℕ) (before now : ReceiptView) → SomeIff r P (begun + 1)
+    → Asks before now begun → IfSome r (λ write. (n : ℕ) × (write ≡ n + 1) × Asks before now n)
+next_of None P begun before now is asks = tt
+next_of (Some write) P begun before now is asks = (begun, is.1, asks)
+
+-- after an earlier write, too
+pub written_less : (promises : List Promise) (rests late write : ℕ) → write ≤ late → AreWritten promises rests late
+    → AreWritten promises rests write
+written_less promises rests late write low w =
+    let written = w.written in
+    record { promise = w.promise; has = w.has; counts = w.counts; written = omega (arith, written, low) }
