@@ -6,6 +6,7 @@ ghost use Rattle.hg_store.specs.Log.{IsSettled};
 ghost use Rattle.hg_help_serve_tests.specs.Beginning.{first_head};
 
 use hg_help_store_tests::device::Memory;
+use hg_help_store_tests::drawer::Drawer;
 use hg_recovery::replay_records;
 use hg_repo::Repo;
 use hg_serve::Closed;
@@ -38,7 +39,7 @@ pub fn new_log(alloc: Global, calls: usize) -> Option<Log<Memory>>
     let mut file = Vec::new(alloc);
     head.put(&mut file).ok()?;
     let mut device = Memory::new(alloc, &file, calls).ok()?;
-    let found = recover(alloc, &mut device).ok()?;
+    let found = recover(alloc, &mut device, &mut Drawer::new(alloc)).ok()?;
     if found.head != head || !found.records.is_empty() {
         return None;
     }
@@ -65,7 +66,7 @@ pub fn starts_again<R: RandomSource>(
 ) -> Option<usize> {
     let file = device.crashed(part).ok()?;
     let mut device = Memory::new(alloc, &file, 9).ok()?;
-    let found = recover(alloc, &mut device).ok()?;
+    let found = recover(alloc, &mut device, &mut Drawer::new(alloc)).ok()?;
     let mut repo = Repo::new(alloc, settings(), RandomState::new(rt).ok()?);
     replay_records(alloc, &mut repo, found.records.as_slice()).ok()?;
     let count = found.records.len();

@@ -3,4 +3,5 @@
 #![tactic(auto)]
 
 pub mod device;
+pub mod drawer;
 pub mod paper;

@@ -20,4 +20,4 @@ mod restore;
 pub use opening::{
     IfMissing, OpeningFault, Recovered, empty_repository, recover_records, recover_store,
 };
-pub use restore::{RestoreFault, record_parts, replay_records};
+pub use restore::{RestoreFault, record_parts, replay_record, replay_records};

@@ -6,6 +6,7 @@ ghost use Rattle.hg_store.specs.Head.{head_for};
 ghost use Rattle.hg_store.specs.Log.{IsSettled};
 ghost use Rattle.hg_store.specs.Folders.{IsMadeWhereNone};
 ghost use Rattle.hg_store.specs.Openings.{IsFound, IsOfFolder, IsUnopened};
+ghost use Rattle.hg_store.specs.Tails.{LosesNothing};
 ghost use Rattle.hg_store.specs.declared.start.StoreFault.{StoreFault as AnyStoreFault};
 ghost use Rattle.hg_recovery.specs.Faults.{status_of, whole_before_torn};
 ghost use Rattle.hg_recovery.specs.Opening.{empty_repository, head_of, records_of, setup_for, AreNamesIf, IsOpened};
@@ -18,7 +19,7 @@ use crate::restore::{RestoreFault, replay_records};
 use hg_repo::Repo;
 use hg_store::{
     Calls, Device, DeviceError, Entry, HostFile, Log, Opened, ReadFault, RecoverFault, Setup,
-    StoreFault, StoreFile, StoreFolder, create_store, open_store,
+    StoreFault, StoreFile, StoreFolder, TailFault, create_store, open_store,
 };
 use hg_types::{Limits, Noted, Seq, Settings};
 use std::alloc::{Allocator, Global};
@@ -47,6 +48,7 @@ impl OpeningFault {
             OpeningFault::Store(StoreFault::Recover(RecoverFault::Device(DeviceError::Memory))) =>
                 4,
             OpeningFault::Store(StoreFault::Recover(RecoverFault::Read(ReadFault::NoMemory))) => 4,
+            OpeningFault::Store(StoreFault::Recover(RecoverFault::Tail(TailFault::NoMemory))) => 4,
             _ => 3,
         }
     }
@@ -105,7 +107,8 @@ pub enum IfMissing {
 }
 
 /// Opens the store in a folder, and runs its records, one by one, on the empty repository. Where there is none it is
-/// made, or missing. It is held against other processes. A store that is refused is as it was.
+/// made, or missing. It is held against other processes. A store that is refused is as it was. What one had after its
+/// last whole record is kept in a file beside it before it is cut off, unless each byte of it is 0.
 pub fn recover_store<R: Files<File = File>>(
     alloc: Global,
     state: RandomState,
@@ -121,6 +124,11 @@ pub fn recover_store<R: Files<File = File>>(
     ensures found { IfOk result (λ recovered. IsFound (head_of publishing recovered.identity)
         (records_of recovered.records.items) [] (⟦<HostFile as Calls>⟧.history recovered.log.device.calls)) }
 
+    // No byte of the file is lost: what it had after its last whole record is only zeros, or was kept in the folder
+    // before it was cut off.
+    ensures tail { IfOk result (λ recovered. LosesNothing [] (⟦<HostFile as Calls>⟧.history recovered.log.device.calls)
+        folder.new) }
+
     // No new store takes the place of one that is there; and where that is refused, none is made.
     ensures names { AreNamesIf if_missing folder.old folder.new }
 
@@ -128,7 +136,8 @@ pub fn recover_store<R: Files<File = File>>(
         StopsStored Global ⟦<StoreFile<HostFile> as Device>⟧.seen ⟦<StoreFile<HostFile> as Device>⟧.may_leave
         publishing fault }
     ensures unopened { (fault : AnyStoreFault) → IsErrOf result (no_store fault) → IsOfFolder fault
-        ⊎ ((read : HostFile) × IsUnopened fault (setup_for publishing) [] (⟦<HostFile as Calls>⟧.history read)) }
+        ⊎ ((read : HostFile) × IsUnopened fault (setup_for publishing) [] (⟦<HostFile as Calls>⟧.history read)
+        × LosesNothing [] (⟦<HostFile as Calls>⟧.history read) folder.new) }
 {
     let opened = open_in(alloc, folder, &setup_for(publishing), if_missing)?;
     let Opened {
@@ -178,7 +187,10 @@ fn open_in<R: Files<File = File>>(
         (⟦<HostFile as Calls>⟧.history opened.log.device.calls)) }
     ensures names { AreNamesIf if_missing folder.old folder.new }
     ensures err { IfErr result (λ fault. IsOfFolder fault ⊎ ((read : HostFile)
-        × IsUnopened fault setup.now [] (⟦<HostFile as Calls>⟧.history read))) }
+        × IsUnopened fault setup.now [] (⟦<HostFile as Calls>⟧.history read)
+        × LosesNothing [] (⟦<HostFile as Calls>⟧.history read) folder.new)) }
+    ensures tail { IfOk result (λ opened. LosesNothing []
+        (⟦<HostFile as Calls>⟧.history opened.log.device.calls) folder.new) }
 {
     match if_missing {
         IfMissing::Create => open_or_create(alloc, folder, setup),
@@ -198,7 +210,10 @@ fn open_or_create<R: Files<File = File>>(
         (⟦<HostFile as Calls>⟧.history opened.log.device.calls)) }
     ensures names { IsMadeWhereNone folder.old folder.new }
     ensures err { IfErr result (λ fault. IsOfFolder fault ⊎ ((read : HostFile)
-        × IsUnopened fault setup.now [] (⟦<HostFile as Calls>⟧.history read))) }
+        × IsUnopened fault setup.now [] (⟦<HostFile as Calls>⟧.history read)
+        × LosesNothing [] (⟦<HostFile as Calls>⟧.history read) folder.new)) }
+    ensures tail { IfOk result (λ opened. LosesNothing []
+        (⟦<HostFile as Calls>⟧.history opened.log.device.calls) folder.new) }
 {
     match open_store(alloc, folder, setup) {
         Err(StoreFault::Missing) => {

@@ -62,8 +62,8 @@ pub fn replay_records<A: Allocator + Copy>(
     Ok(())
 }
 
-/// Runs the record at a place as a push.
-fn replay_record<A: Allocator + Copy>(
+/// Runs the record at a place as a push. Of an `Err` the repository is as it was.
+pub fn replay_record<A: Allocator + Copy>(
     alloc: A,
     repo: &mut Repo<A>,
     place: usize,

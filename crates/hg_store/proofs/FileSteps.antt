@@ -1,10 +1,11 @@
 -- What a crash leaves of a file that is known by its calls.
-use Rattle.std.proofs.Common.{◌≡◌, ◌⊎◌, inl, inr, ℕ, zero, suc, ◌+◌, ◌-◌, ◌≤◌, max, List, [], ◌∷◌, ◌++◌, length, take, drop, Bool, true, false}
-use Rattle.std.proofs.Common.{refl, sym, ap, ◌∙◌, subst, arith, append_assoc, length-append, length-drop, take-append-drop}
+use Rattle.std.proofs.Common.{◌≡◌, ◌⊎◌, inl, inr, ℕ, zero, suc, ◌+◌, ◌-◌, ◌≤◌, max, List, ◌∷◌, ◌++◌, length, take}
+use Rattle.std.proofs.Common.{drop, Bool, true, false}
+use Rattle.std.proofs.Common.{refl, sym, ap, ◌∙◌, subst, arith, append_assoc, length-append, length-drop}
 use Rattle.std.proofs.Math.Nat.{le-max_left, le-max_right}
 use Rattle.std.proofs.lemmas.List.{take_at, drop_at, take_all, length-take-le}
 use Rattle.hg_store.specs.Calls.{Event, MayLeave, shortened, state_of, wrote}
-use Rattle.hg_store.specs.Device.{Cut, Overwrites, Torn}
+use Rattle.hg_store.specs.Device.{Cut, Torn}
 
 cut_same : (len : ℕ) (file : List ℕ) → Cut len file file
 cut_same len file = record { no_shorter = inr refl; front = take_all (length file) file (omega arith) }

@@ -1,9 +1,9 @@
 -- A front of a file of records, cut anywhere.
-use Rattle.std.proofs.Common.{◌≡◌, ◌≢◌, ◌⊎◌, inl, inr, ℕ, zero, suc, ◌+◌, ◌-◌, ◌<◌, ◌≤◌, ◌^◌, List, [], ◌∷◌, ◌++◌}
-use Rattle.std.proofs.Common.{length, take, drop, refl, sym, ap, ◌∙◌, arith, append_assoc, length-append, length-take, subst}
+use Rattle.std.proofs.Common.{◌≡◌, ◌⊎◌, inl, inr, ℕ, zero, suc, ◌+◌, ◌-◌, ◌<◌, ◌≤◌, List, [], ◌∷◌, ◌++◌}
+use Rattle.std.proofs.Common.{length, take, drop, refl, sym, ap, ◌∙◌, arith, append_assoc, length-append, length-take}
 use Rattle.std.specs.List.{AllByRecursion}
 use Rattle.std.proofs.lemmas.Bool.{cases_lt}
-use Rattle.std.proofs.lemmas.List.{take-append-le, length-take-le, take_all, append-nil}
+use Rattle.std.proofs.lemmas.List.{take-append-le, append-nil}
 use Rattle.hg_store.specs.declared.head.Head.{Head}
 use Rattle.hg_store.specs.declared.head.HeadFault.TheVariants.{TooShort}
 use Rattle.hg_store.specs.declared.head.Version.{Version}
@@ -12,7 +12,7 @@ use Rattle.hg_store.specs.Entries.{Entry}
 use Rattle.hg_store.specs.Files.{FrontIsStore, stored}
 use Rattle.hg_store.specs.Head.{HasShortHead, IsHead, IsRefusedFor, first_digest, head_bytes, head_size, magic, version_byte, version_of}
 use Rattle.hg_store.specs.Records.{IsEnd, IsRecord, IsTorn, ReadsRecords, cut_off, digest_of, frame, frames, label, numbers_bytes, numbers_of, numbers_size, open_gate, over, short, shut}
-use Rattle.hg_store.proofs.Frames.{length-digest, length-frame, length-numbers}
+use Rattle.hg_store.proofs.Frames.{length-frame, length-numbers}
 use Rattle.hg_store.proofs.Heads.{length-head}
 
 -- The first n bytes of these records and a shut gate are read as the first of them.

@@ -1,5 +1,6 @@
 -- The head of a store.
-use Rattle.std.proofs.Common.{◌≡◌, ◌≢◌, ℕ, zero, suc, ◌+◌, ◌<◌, ◌≤◌, ◌^◌, List, [], ◌∷◌, ◌++◌, length, take, drop, take-append-drop, Bool, true, false}
+use Rattle.std.proofs.Common.{◌≡◌, ℕ, zero, suc, ◌+◌, ◌<◌, ◌≤◌, List, [], ◌∷◌, ◌++◌, length, take, drop}
+use Rattle.std.proofs.Common.{take-append-drop, Bool, true, false}
 use Rattle.std.proofs.Common.{inl, inr, refl, sym, ap, ◌∙◌, subst, arith, append_assoc, length-append}
 use Rattle.std.specs.Prelude.{IsTrue, ◌↔◌, Option, Some, None}
 use Rattle.hg_types.specs.declared.limits.Limits.{Limits}
@@ -8,9 +9,12 @@ use Rattle.hg_store.specs.declared.head.Head.{Head}
 use Rattle.hg_store.specs.declared.head.Version.{Version}
 use Rattle.hg_store.specs.declared.head.Version.TheVariants.{First, Second}
 use Rattle.hg_store.specs.declared.head.HeadFault.{HeadFault}
-use Rattle.hg_store.specs.declared.head.HeadFault.TheVariants.{TooShort, Magic, Version as OtherVersion, Publishing, BadLimits}
+use Rattle.hg_store.specs.declared.head.HeadFault.TheVariants.{TooShort, Magic, Version as OtherVersion, Publishing}
+use Rattle.hg_store.specs.declared.head.HeadFault.TheVariants.{BadLimits}
 use Rattle.hg_store.specs.code.Heads.{LimitsFit}
-use Rattle.hg_store.specs.Head.{BeginsWithHead, HasBadLimits, HasBadPublishing, HasHead, HasOneHead, HasOtherVersion, HasShortHead, IsHead, IsIdentity, IsRefusedFor, head_bytes, head_size, identity_bytes, limit_bytes, limits_bytes, magic, publishing_byte, version_by, version_byte, version_of}
+use Rattle.hg_store.specs.Head.{HasBadLimits, HasBadPublishing, HasHead, HasOneHead, HasOtherVersion, HasShortHead}
+use Rattle.hg_store.specs.Head.{IsHead, IsIdentity, IsRefusedFor, head_bytes, head_size, identity_bytes, limit_bytes}
+use Rattle.hg_store.specs.Head.{limits_bytes, magic, publishing_byte, version_by, version_byte, version_of}
 use Rattle.hg_store.proofs.Frames.{fronts, size_is}
 
 -- the name of a store makes the rest of its head

@@ -5,6 +5,7 @@ mod NoDamage
 mod Fronts
 mod Reading
 mod Stepping
+mod ByPiece
 mod Moments
 mod Crash
 mod Staying
@@ -12,3 +13,5 @@ mod Repair
 mod FileSteps
 mod Opens
 mod AtRest
+mod Tails
+mod Again

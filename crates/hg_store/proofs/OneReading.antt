@@ -1,5 +1,6 @@
 -- Two readings of the same bytes are one.
-use Rattle.std.proofs.Common.{◌≡◌, ◌⊎◌, inl, inr, ℕ, ◌+◌, ◌<◌, ◌^◌, List, [], ◌∷◌, ◌++◌, length, take, drop, refl, sym, ap, ◌∙◌, arith, subst}
+use Rattle.std.proofs.Common.{◌≡◌, ◌⊎◌, inl, inr, ℕ, List, [], ◌∷◌, ◌++◌, length, drop, refl, sym, ap, ◌∙◌, arith}
+use Rattle.std.proofs.Common.{subst}
 use Rattle.std.proofs.Common.{append_assoc, length-append}
 use Rattle.std.specs.List.{AllByRecursion}
 use Rattle.hg_store.specs.declared.head.Head.{Head}
@@ -7,10 +8,13 @@ use Rattle.hg_store.specs.Entries.{Entry}
 use Rattle.hg_store.specs.declared.head.Version.{Version}
 use Rattle.hg_store.specs.declared.numbers.Numbers.{Numbers}
 use Rattle.hg_store.specs.Files.{IsStore}
-use Rattle.hg_store.specs.Head.{first_digest, head_bytes, version_of}
+use Rattle.hg_store.specs.Head.{first_digest, version_of}
 use Rattle.hg_store.proofs.Heads.{heads_are}
-use Rattle.hg_store.specs.Records.{AreNumbers, IsRecord, IsDamaged, IsEnd, IsNext, IsTorn, ReadsRecords, cut_off, digest_of, frame, frames, label, last_digest, no_gate, numbers_bytes, numbers_of, numbers_size, open_gate, other_digest, over, short, shut}
-use Rattle.hg_store.proofs.Frames.{frame_is, frame_fields, fronts, labels_are, length-digest, length-frame, length-label, length-numbers, not_shut, numbers_are}
+use Rattle.hg_store.specs.Records.{IsRecord, IsDamaged, IsEnd, IsNext, IsTorn, ReadsRecords, cut_off, digest_of}
+use Rattle.hg_store.specs.Records.{frame, frames, label, no_gate, numbers_bytes, numbers_of, open_gate, other_digest}
+use Rattle.hg_store.specs.Records.{over, short, shut}
+use Rattle.hg_store.proofs.Frames.{frame_is, frame_fields, fronts, labels_are, length-digest, length-label, not_shut}
+use Rattle.hg_store.proofs.Frames.{numbers_are}
 
 gates : (a b : ℕ) (x y bytes : List ℕ) → bytes ≡ a ∷ x → bytes ≡ b ∷ y → a ≡ b
 gates a b x y bytes p q = let both : a ∷ x ≡ b ∷ y = sym p ∙ q in cc

@@ -1,13 +1,16 @@
 -- The head of a store that is opened.
 use Rattle.std.proofs.Common.{◌≡◌, ◌∙◌, ◌+◌, inl, inr, ℕ, List, [], ◌∷◌, length, ap, arith, sym, subst}
 use Rattle.std.specs.Prelude.{Result, Err, Option, None, Some}
+use Rattle.hg_store.specs.declared.device.DeviceError.{DeviceError}
 use Rattle.hg_store.specs.declared.head.Head.{Head}
 use Rattle.hg_store.specs.declared.head.Setup.{Setup}
 use Rattle.hg_store.specs.declared.head.Version.TheVariants.{Second}
 use Rattle.hg_store.specs.declared.head.HeadFault.{HeadFault}
 use Rattle.hg_store.specs.declared.opening.RecoverFault.{RecoverFault}
-use Rattle.hg_store.specs.declared.opening.RecoverFault.TheVariants.{Read, OldVersion, Torn, Device}
+use Rattle.hg_store.specs.declared.opening.RecoverFault.TheVariants.{Read, OldVersion, Torn, Tail, Device}
 use Rattle.hg_store.specs.declared.read.ReadFault.{ReadFault}
+use Rattle.hg_store.specs.declared.tail.TailFault.{TailFault}
+use Rattle.hg_store.specs.Tails.{IsTailRefused}
 use Rattle.hg_store.specs.declared.start.StoreFault.{StoreFault}
 use Rattle.hg_store.specs.declared.start.StoreFault.TheVariants.{Missing, Exists, Held, Linked, OtherPublishing, OtherLimits, Recover}
 use Rattle.hg_store.specs.Calls.{Continue, Event, LeftSince, MayLeave, began, state_of}
@@ -70,6 +73,7 @@ refused_is fault setup bytes before now read refused = as_told fault refused
     as_told (Recover (Read fault)) why = (bytes, left, why)
     as_told (Recover OldVersion) why = (bytes, left, why)
     as_told (Recover (Torn whole)) why = (bytes, left, why)
+    as_told (Recover (Tail fault)) why = (bytes, left, why)
     as_told (Recover (Device fault)) none = absurd none
     as_told Missing none = absurd none
     as_told Exists none = absurd none
@@ -120,6 +124,9 @@ module _ (bytes : List ℕ) (before at_first : List Event) (read : at_first ≡ 
       (unread : (fault : ReadFault) → r ≡ Err (Read fault) → IsUnread fault (state_of at_first).seen
       × ((state_of now).seen ≡ (state_of at_first).seen)
       × ((left : List ℕ) → MayLeave (state_of now) left → MayLeave (state_of at_first) left))
+      (tail : (fault : TailFault) → r ≡ Err (Tail fault) → IsTailRefused fault (state_of at_first).seen
+      × ((state_of now).seen ≡ (state_of at_first).seen)
+      × ((left : List ℕ) → MayLeave (state_of now) left → MayLeave (state_of at_first) left))
       (each : (its : Head) (records : List Entry) → StandsFor its records (state_of at_first).seen
       → (left : List ℕ) → LeftSince now (length at_first) left → StandsFor its records left) where
     pub stopped_is : (fault : RecoverFault) → r ≡ Err fault → IsUnopened (Recover fault) setup before now
@@ -132,6 +139,9 @@ module _ (bytes : List ℕ) (before at_first : List Event) (read : at_first ≡ 
     stopped_is (Torn whole) is =
         let why = torn whole is in
         (bytes, left_is now more why.1 why.2, subst (λ (file : List ℕ). IsTornStore file whole) seen_is why.0)
+    stopped_is (Tail fault) is =
+        let why = tail fault is in
+        (bytes, left_is now more why.1 why.2, subst (IsTailRefused fault) seen_is why.0)
     stopped_is (Device fault) is = inr (
       bytes,
       record {
@@ -141,3 +151,18 @@ module _ (bytes : List ℕ) (before at_first : List Event) (read : at_first ≡ 
             (subst (λ n. LeftSince now n left) moment_is may);
       },
     )
+
+  -- a store that was brought in order, and failed after that
+  pub failed_is : (setup : Setup) (now : List Event) (more : Continue at_first now)
+      → ((its : Head) (records : List Entry) → StandsFor its records (state_of at_first).seen
+      → (left : List ℕ) → LeftSince now (length at_first) left → StandsFor its records left)
+      → (error : DeviceError) → IsUnopened (Recover (Device error)) setup before now
+  failed_is setup now more each error = inr (
+    bytes,
+    record {
+      read_first = subst (λ calls. Continue calls now) read more;
+      any_moment = λ its records stands left may.
+          each its records (subst (StandsFor its records) (sym seen_is) stands) left
+          (subst (λ n. LeftSince now n left) moment_is may);
+    },
+  )

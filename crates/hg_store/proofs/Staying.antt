@@ -5,11 +5,11 @@ use Rattle.std.proofs.Common.{append_assoc, length-append, take-append-drop}
 use Rattle.std.proofs.lemmas.List.{drop-append-le, take_all, take_more}
 use Rattle.std.specs.List.{AllByRecursion}
 use Rattle.hg_store.specs.Entries.{Entry}
-use Rattle.hg_store.specs.declared.head.Version.{Version}
 use Rattle.hg_store.specs.declared.head.Version.TheVariants.{Second}
 use Rattle.hg_store.specs.Device.{Elapses, Only}
 use Rattle.hg_store.specs.code.Fronts.{Begin, Begins, KeepsFront}
-use Rattle.hg_store.specs.Records.{IsRecord, digest_of, frame, frames, label, last_digest, numbers_bytes, numbers_of, open_gate}
+use Rattle.hg_store.specs.Records.{IsRecord, digest_of, frame, frames, last_digest, numbers_bytes, numbers_of}
+use Rattle.hg_store.specs.Records.{open_gate}
 use Rattle.hg_store.proofs.Frames.{batch_more, each-push, frames-append, length-frame}
 use Rattle.hg_store.proofs.Moments.{started, goes_on, one_behind}
 

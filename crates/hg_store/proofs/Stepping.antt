@@ -1,9 +1,11 @@
 -- One record at the front of some bytes.
-use Rattle.std.proofs.Common.{◌≡◌, ◌≢◌, ℕ, ◌+◌, ◌-◌, ◌<◌, ◌≤◌, ◌^◌, List, ◌∷◌, ◌++◌, length, take, drop}
-use Rattle.std.proofs.Common.{refl, sym, ap, ◌∙◌, arith, append_assoc, subst, take-append-drop, length-drop, Bool, true, false}
+use Rattle.std.proofs.Common.{◌≡◌, ◌≢◌, ℕ, ◌+◌, ◌-◌, ◌<◌, ◌≤◌, List, ◌∷◌, ◌++◌, length, take, drop}
+use Rattle.std.proofs.Common.{sym, ap, ◌∙◌, arith, append_assoc, subst, take-append-drop, length-drop, Bool, true}
+use Rattle.std.proofs.Common.{false}
 use Rattle.std.specs.Prelude.{IsTrue, ◌↔◌}
 use Rattle.std.proofs.lemmas.List.{length-take-le}
-use Rattle.hg_store.specs.Records.{AreNumbers, IsDamaged, IsNext, IsRecord, IsTorn, chained_label, cut_off, digest_of, frame, label, numbers_bytes, numbers_of, open_gate, other_digest}
+use Rattle.hg_store.specs.Records.{AreNumbers, IsDamaged, IsNext, IsRecord, IsTorn, chained_label, cut_off, digest_of}
+use Rattle.hg_store.specs.Records.{label, numbers_bytes, numbers_of, open_gate, other_digest}
 use Rattle.sha1.specs.Sha1.{sha1}
 use Rattle.hg_store.specs.declared.numbers.Numbers.{Numbers}
 use Rattle.hg_store.specs.Entries.{Entry}

@@ -39,6 +39,10 @@ missed = (6, 0, [], true)
 abbrev pub renewed : Event
 renewed = (7, 0, [], true)
 
+-- in a folder: these bytes were kept in a new file, all of them on the disk: what stood after so many records
+abbrev pub tail_kept : ℕ → List ℕ → Event
+tail_kept place bytes = (8, place, bytes, true)
+
 -- What is known of a file.
 pub record FileState : Type 0 where
   -- the bytes that a read returns

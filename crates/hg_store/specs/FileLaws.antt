@@ -1,5 +1,5 @@
 -- What holds of each file that is known by its calls.
-use Rattle.std.specs.Prelude.{ℕ, ◌≡◌, ◌⊎◌, ◌≤◌, ◌<◌, List, [], ◌∷◌, ◌++◌, length}
+use Rattle.std.specs.Prelude.{ℕ, ◌≤◌, ◌<◌, List, [], ◌∷◌, ◌++◌, length}
 use Rattle.std.proofs.Common.{inl, inr, arith, ap, sym, ◌∙◌, append_assoc}
 use Rattle.hg_store.specs.Calls.{Continue, Event, LeftBefore, LeftSince, MayLeave, state_of}
 

@@ -3,22 +3,23 @@ use Rattle.std.specs.Prelude.{◌≡◌, ◌⊎◌, List, ◌∷◌}
 use Rattle.hg_store.specs.declared.start.StoreFault.{StoreFault}
 use Rattle.hg_store.specs.declared.start.StoreFault.TheVariants.{Missing}
 use Rattle.hg_store.specs.Calls.{Event, missed, renewed}
+use Rattle.hg_store.specs.Tails.{IsKeptAtMost}
 
--- A store was looked for: where there was none that is noted, and else nothing was done.
+-- A store was looked for: where there was none that is noted, and else its tail was kept at most.
 abbrev pub IsLookedFor : StoreFault → List Event → List Event → Type 0
 IsLookedFor Missing before now = now ≡ missed ∷ before
-IsLookedFor other before now = now ≡ before
+IsLookedFor other before now = IsKeptAtMost before now
 
 -- a file was made that may take the place of a store, or nothing was done
 abbrev pub IsMadeAtMost : List Event → List Event → Type 0
 IsMadeAtMost before now = (now ≡ before) ⊎ (now ≡ renewed ∷ before)
 
--- a store was looked for, and there was none, or nothing was done
+-- a store was looked for, and there was none, or its tail was kept at most
 abbrev pub IsMissedAtMost : List Event → List Event → Type 0
-IsMissedAtMost before now = (now ≡ before) ⊎ (now ≡ missed ∷ before)
+IsMissedAtMost before now = IsKeptAtMost before now ⊎ (now ≡ missed ∷ before)
 
 -- Nothing took the place of a store that was there: where a file was made that may take it, it was looked for
 -- just before, and there was none.
 abbrev pub IsMadeWhereNone : List Event → List Event → Type 0
-IsMadeWhereNone before now = (now ≡ before)
+IsMadeWhereNone before now = IsKeptAtMost before now
     ⊎ ((made : List Event) × IsMadeAtMost (missed ∷ before) made × IsMissedAtMost made now)

@@ -1,8 +1,8 @@
 -- What is noted of a call.
-use Rattle.std.specs.Prelude.{ℕ, List}
 use Rattle.hg_store.specs.declared.history.Call.{Call}
-use Rattle.hg_store.specs.declared.history.Call.TheVariants.{Began, Wrote, Shortened, Synced, Placed, GaveUp, Missed, Renewed}
-use Rattle.hg_store.specs.Calls.{Event, began, wrote, shortened, synced, placed, gave_up, missed, renewed}
+use Rattle.hg_store.specs.declared.history.Call.TheVariants.{Began, Wrote, Shortened, Synced, Placed, GaveUp, Missed}
+use Rattle.hg_store.specs.declared.history.Call.TheVariants.{Renewed, TailKept}
+use Rattle.hg_store.specs.Calls.{Event, began, wrote, shortened, synced, placed, gave_up, missed, renewed, tail_kept}
 
 -- what a call was, and what it answered
 abbrev pub event_of : Call → Event
@@ -14,3 +14,4 @@ event_of (Placed ok) = placed ok
 event_of GaveUp = gave_up
 event_of Missed = missed
 event_of Renewed = renewed
+event_of (TailKept place bytes) = tail_kept place bytes.now

@@ -1,6 +1,7 @@
 pub mod Head
 pub mod Entries
 pub mod Records
+pub mod Pieces
 pub mod Files
 pub mod Device
 pub mod Log
@@ -9,4 +10,6 @@ pub mod History
 pub mod FileLaws
 pub mod Openings
 pub mod Folders
+pub mod Tails
+pub mod Again
 pub mod code

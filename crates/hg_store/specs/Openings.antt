@@ -2,7 +2,7 @@
 use Rattle.std.specs.Prelude.{ℕ, ◌≡◌, ◌≢◌, ◌⊎◌, ◌+◌, List, ◌∷◌, length, ⊤}
 use Rattle.hg_store.specs.declared.head.Head.{Head}
 use Rattle.hg_store.specs.declared.head.Setup.{Setup}
-use Rattle.hg_store.specs.declared.opening.RecoverFault.TheVariants.{Read, OldVersion, Torn, Device}
+use Rattle.hg_store.specs.declared.opening.RecoverFault.TheVariants.{Read, OldVersion, Torn, Tail, Device}
 use Rattle.hg_store.specs.declared.start.StoreFault.{StoreFault}
 use Rattle.hg_store.specs.declared.start.StoreFault.TheVariants.{Missing, Exists, Held, Linked, OtherPublishing, OtherLimits, Recover}
 use Rattle.hg_store.specs.Calls.{Continue, Event, LeftSince, MayLeave, began, state_of}
@@ -10,6 +10,7 @@ use Rattle.hg_store.specs.Device.{Only}
 use Rattle.hg_store.specs.Entries.{Entry}
 use Rattle.hg_store.specs.Files.{IsOldStore, IsTornStore, IsUnread, StandsFor}
 use Rattle.hg_store.specs.Head.{HasHead}
+use Rattle.hg_store.specs.Tails.{IsTailRefused}
 
 -- A store in a file is open for more records. The first call on the file read it: the bytes that were found stand for
 -- these records, and so does what a crash may have left of it at any moment since.
@@ -36,6 +37,7 @@ IsRefusedAs OtherLimits setup bytes = (head : Head) × HasHead bytes head × (he
 IsRefusedAs (Recover (Read fault)) setup bytes = IsUnread fault bytes
 IsRefusedAs (Recover OldVersion) setup bytes = IsOldStore bytes
 IsRefusedAs (Recover (Torn whole)) setup bytes = IsTornStore bytes whole
+IsRefusedAs (Recover (Tail fault)) setup bytes = IsTailRefused fault bytes
 IsRefusedAs other setup bytes = ⊥
 
 -- A file was read, and holds the bytes that were found, all of them on the disk.

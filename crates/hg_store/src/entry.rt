@@ -116,6 +116,13 @@ impl<A: Allocator> Entry<A> {
         self.bundle.as_slice()
     }
 
+    /// Its bundle, which takes no memory.
+    pub fn into_bundle(self) -> Vec<u8, A>
+        ensures { result.items ≡ self.bundle }
+    {
+        self.bundle.into_vec()
+    }
+
     /// Its numbers.
     pub(crate) fn numbers(&self) -> Numbers
         requires { IsSized self.now }

@@ -1,13 +1,15 @@
 //! A device over the calls on a file: what is known of the file by the calls that were made, and what they
 //! answered.
 
-ghost use Rattle.std.specs.Prelude.{◌≡◌, ◌∷◌, List, ℕ, Some, Ok, IfOk, MatchResult, false, is_ok, length};
+ghost use Rattle.std.specs.Prelude.{◌≡◌, ◌⊎◌, [], ◌∷◌, List, ℕ, Some, Ok, IfOk, MatchResult, false, true, is_ok};
+ghost use Rattle.std.specs.Prelude.{length};
 ghost use Rattle.hg_store.specs.Calls.{Continue, Event, LeftSince, MayLeave, beats_in, began, ends_written, gave_up};
-ghost use Rattle.hg_store.specs.Calls.{state_of};
+ghost use Rattle.hg_store.specs.Calls.{state_of, synced, wrote};
 ghost use Rattle.hg_store.specs.FileLaws.{more_continue, now_alone, now_counts};
 
 use crate::calls::Calls;
 use crate::device::{Device, DeviceError};
+use crate::head::OPEN;
 use hg_types::Seq;
 use std::alloc::{Allocator, Global};
 use std::io;
@@ -57,6 +59,39 @@ impl<C: Calls, A: Allocator + Copy> StoreFile<C, A> {
             broken: _,
         } = self;
         calls
+    }
+
+    /// Writes the byte of an open gate.
+    pub(crate) fn write_again(&mut self, at: usize) -> Result<(), DeviceError>
+        ensures { MatchResult result
+            (λ _. C.Calls.history self.new.calls ≡ wrote at (255 ∷ []) true ∷ C.Calls.history self.old.calls)
+            (λ _. (C.Calls.history self.new.calls ≡ wrote at (255 ∷ []) false ∷ C.Calls.history self.old.calls)
+            ⊎ (C.Calls.history self.new.calls ≡ gave_up ∷ C.Calls.history self.old.calls)) }
+    {
+        if self.broken {
+            self.refuse();
+            return Err(DeviceError::Failed);
+        }
+        self.unread = None;
+        let answer = self.calls.write(at, &[OPEN]);
+        self.broken = answer.is_err();
+        told(answer)
+    }
+
+    /// Brings all that was written to the disk.
+    pub(crate) fn sync_again(&mut self) -> Result<(), DeviceError>
+        ensures { MatchResult result
+            (λ _. C.Calls.history self.new.calls ≡ synced true ∷ C.Calls.history self.old.calls)
+            (λ _. (C.Calls.history self.new.calls ≡ synced false ∷ C.Calls.history self.old.calls)
+            ⊎ (C.Calls.history self.new.calls ≡ gave_up ∷ C.Calls.history self.old.calls)) }
+    {
+        if self.broken {
+            self.refuse();
+            return Err(DeviceError::Failed);
+        }
+        let synced = self.calls.sync();
+        self.broken = synced.is_err();
+        told(synced)
     }
 
     /// Refuses a call.

@@ -6,13 +6,14 @@ ghost use Rattle.hg_store.specs.Folders.{IsLookedFor, IsMadeAtMost};
 ghost use Rattle.hg_store.specs.Head.{head_for};
 ghost use Rattle.hg_store.specs.Log.{IsSettled};
 ghost use Rattle.hg_store.specs.Openings.{IsFound, IsOfFolder, IsUnopened};
+ghost use Rattle.hg_store.specs.Tails.{IsKeptAtMost, LosesNothing};
 
 use crate::calls::Calls;
 use crate::device::{Device, DeviceError};
 use crate::file::StoreFile;
 use crate::head::{Head, Setup};
 use crate::history::Call;
-use crate::host::{HostFile, device_error, read_all};
+use crate::host::{HostFile, device_error};
 use crate::names::StoreFolder;
 use crate::place::create_file;
 use crate::placed::{Access, PlacedFile, hold, open_plain, path_in, sync_folder};
@@ -80,7 +81,7 @@ pub fn new_identity<R: Files<File = File>>(files: &R) -> Result<[u8; 16], StoreF
 
 /// Opens the store in a folder, and holds it against other processes until it is dropped. The folder is synced, since
 /// whoever gave the file its name may have ended before that; where this fails the store is not opened. Then it is
-/// read and brought in order as [`open_file`] does.
+/// read, its tail is kept in the folder, and it is brought in order, as [`open_file`] does.
 pub fn open_store<R: Files<File = File>, A: Allocator + Copy>(
     alloc: A,
     folder: &mut StoreFolder<'_, R>,
@@ -91,13 +92,18 @@ pub fn open_store<R: Files<File = File>, A: Allocator + Copy>(
     ensures found { IfOk result (λ opened. IsFound (head_for setup.now opened.identity) opened.records []
         (⟦<HostFile as Calls>⟧.history opened.log.device.calls)) }
     ensures err { IfErr result (λ fault. IsOfFolder fault ⊎ ((read : HostFile)
-        × IsUnopened fault setup.now [] (⟦<HostFile as Calls>⟧.history read))) }
-    ensures names { MatchResult result (λ _. folder.new ≡ folder.old)
+        × IsUnopened fault setup.now [] (⟦<HostFile as Calls>⟧.history read)
+        × LosesNothing [] (⟦<HostFile as Calls>⟧.history read) folder.new)) }
+    ensures names { MatchResult result (λ _. IsKeptAtMost folder.old folder.new)
         (λ fault. IsLookedFor fault folder.old folder.new) }
+
+    // What the file had after its last whole record is kept before it is cut off.
+    ensures tail { IfOk result (λ opened. LosesNothing []
+        (⟦<HostFile as Calls>⟧.history opened.log.device.calls) folder.new) }
 {
     let file = find(alloc, folder)?;
     sync_names(folder.files(), alloc, folder.path())?;
-    match open_file(alloc, HostFile::new(file), setup) {
+    match open_file(alloc, HostFile::new(file), setup, folder) {
         Ok(opened) => Ok(opened),
         Err(left) => Err(left.fault),
     }
@@ -130,29 +136,19 @@ fn find<R: Files<File = File>, A: Allocator + Copy>(
     }
 }
 
-/// The bytes of the store in a folder, also while another process holds it. Nothing is changed, and nothing is
-/// held.
-pub fn store_bytes<R: Files<File = File>, A: Allocator + Copy>(
+/// The file of the store in a folder, to be read, also while another process holds it. Nothing is changed, and nothing
+/// is held.
+pub fn store_file<R: Files<File = File>, A: Allocator + Copy>(
     files: &R,
     alloc: A,
     folder: &str,
-) -> Result<Vec<u8, A>, StoreFault>
+) -> Result<File, StoreFault>
     ensures { IfErr result IsOfFolder }
 {
     let name = path_in(alloc, folder, NAME)?;
     match open_plain(files, Access::Read, name.as_str()) {
-        Ok(Some(file)) => bytes_of(alloc, file),
+        Ok(Some(file)) => Ok(file),
         Ok(None) => Err(StoreFault::Linked),
-        Err(error) => Err(store_fault(error)),
-    }
-}
-
-/// All bytes of a file of a store.
-fn bytes_of<A: Allocator + Copy>(alloc: A, mut file: File) -> Result<Vec<u8, A>, StoreFault>
-    ensures { IfErr result IsOfFolder }
-{
-    match read_all(alloc, &mut file) {
-        Ok(bytes) => Ok(bytes),
         Err(error) => Err(store_fault(error)),
     }
 }

@@ -16,10 +16,10 @@ use thiserror::Error;
 const MAGIC: [u8; 8] = *b"HGPUSHES";
 
 /// How many bytes a head of version 1 has, and so a head at least.
-const FIRST: usize = 38;
+pub(crate) const FIRST: usize = 38;
 
 /// How many bytes the name of a store has.
-const IDENTITY: usize = 16;
+pub(crate) const IDENTITY: usize = 16;
 
 /// The gate in front of a record of version 2.
 pub(crate) const OPEN: u8 = 255;

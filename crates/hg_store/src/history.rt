@@ -36,6 +36,8 @@ pub enum Call<'a> {
     Missed,
     /// In a folder: a file was made that may get the name of the store, in the place of one that has it.
     Renewed,
+    /// In a folder: these bytes, which stood after so many records, were kept in a new file.
+    TailKept(usize, &'a [u8]),
 }
 
 impl History {

@@ -62,6 +62,16 @@ impl Numbers {
     }
 }
 
+/// How many bytes the numbers of a record have.
+pub(crate) fn numbers_size(version: Version) -> usize
+    ensures { result ≡ numbers_size version }
+{
+    match version {
+        Version::First => FIRST,
+        Version::Second => SECOND,
+    }
+}
+
 /// The numbers of a record after its gate, and what follows them. `None` where there are too few bytes.
 pub(crate) fn read_numbers(version: Version, bytes: &[u8]) -> Option<(Numbers, &[u8])>
     ensures numbers { IfSome result (λ found. AreNumbers version found.0) }

@@ -1,22 +1,28 @@
 //! A store that is opened again.
 
-ghost use Rattle.std.specs.Prelude.{◌≡◌, ◌<◌, ◌≤◌, ◌+◌, List, ℕ, IfOk, IsErrOf, OnOk, length, take};
+ghost use Rattle.std.specs.Prelude.{◌≡◌, ◌<◌, ◌≤◌, ◌+◌, List, ℕ, IfOk, IsErrOf, OnOk, drop, length, take};
 ghost use Rattle.hg_store.specs.Device.{IsUnchanged, LeavesOnly, Only};
 ghost use Rattle.hg_store.specs.Entries.{Entry as AnyEntry};
-ghost use Rattle.hg_store.specs.Files.{IsOldStore, IsTornStore, IsUnread, StandsFor};
+ghost use Rattle.hg_store.specs.Files.{IsOldStore, IsStore, IsTornStore, IsUnread, StandsFor, digest_behind};
+ghost use Rattle.hg_store.specs.Head.{version_of};
 ghost use Rattle.hg_store.specs.Log.{IsSettledAt, at_rest};
+ghost use Rattle.hg_store.specs.Tails.{HidesRecords, IsKeptAtMost, IsTailRefused, IsTailSafe};
 ghost use Rattle.hg_store.specs.code.Batches.{EndsAt};
 ghost use Rattle.hg_store.specs.code.Steps.{MayBeCut};
 ghost use Rattle.hg_store.specs.declared.head.Head.{Head};
 ghost use Rattle.hg_store.specs.declared.device.DeviceError.TheVariants.{Failed, Full};
 ghost use Rattle.hg_store.specs.declared.read.ReadFault.{ReadFault as AnyReadFault};
+ghost use Rattle.hg_store.specs.declared.tail.TailFault.{TailFault as AnyTailFault};
 ghost use Rattle.hg_store.specs.declared.opening.RecoverFault.TheVariants.{Device as device_fault};
-ghost use Rattle.hg_store.specs.declared.opening.RecoverFault.TheVariants.{OldVersion as old_version, Read as unread, Torn as torn_behind};
+ghost use Rattle.hg_store.specs.declared.opening.RecoverFault.TheVariants.{OldVersion as old_version, Read as unread};
+ghost use Rattle.hg_store.specs.declared.opening.RecoverFault.TheVariants.{Tail as tail_refused};
+ghost use Rattle.hg_store.specs.declared.opening.RecoverFault.TheVariants.{Torn as torn_behind};
 
 use crate::device::{Device, DeviceError};
 use crate::log::put_synced;
 use crate::read::{Found, ReadFault, read_records};
 use crate::record::SHUT;
+use crate::tail::{TailFault, TailKeeper, keep_tail};
 use std::alloc::Allocator;
 use thiserror::Error;
 
@@ -32,6 +38,9 @@ pub enum RecoverFault {
     /// After so many whole records stands a torn one. Nothing is changed.
     #[error("a torn record behind {0} whole ones")]
     Torn(usize),
+    /// It is not opened for what stands after its whole records. Nothing is changed.
+    #[error("{0}")]
+    Tail(TailFault),
     /// The device failed, or memory was refused.
     #[error("{0}")]
     Device(DeviceError),
@@ -59,12 +68,15 @@ impl From<DeviceError> for RecoverFault {
     }
 }
 
-/// Reads a store of version 2, and brings its end in order: what stands after a shut gate is cut off, and where there
-/// is no gate a shut one is written; then all is on the device. A torn store, one of version 1 and one that is not read
-/// are refused, and nothing in them is changed. After an `Err` of the device, recover again.
-pub fn recover<A: Allocator + Copy, D: Device>(
+/// Reads a store of version 2, and brings its end in order: what stands after its whole records is kept, unless each
+/// byte of it is 0, and then what stands after a shut gate is cut off, and where there is no gate a shut one is
+/// written;
+/// then all is on the device. A torn store is refused, and so is one of version 1, one that hides more records than one
+/// batch holds, and one that is not read, and nothing in them is changed. After an `Err` of the device, recover again.
+pub fn recover<A: Allocator + Copy, D: Device, K: TailKeeper>(
     alloc: A,
     device: &mut D,
+    keeper: &mut K,
 ) -> Result<Found<A>, RecoverFault>
     ensures read { IfOk result (λ found. StandsFor found.head found.records (D.seen device.old)) }
     ensures settled { IfOk result (λ found. IsSettledAt D.seen D.may_leave found.head found.records device.new
@@ -75,7 +87,18 @@ pub fn recover<A: Allocator + Copy, D: Device>(
         Only (D.seen device.old) (D.may_leave device.old) →
         LeavesOnly D.moment D.left_since device.old device.new (StandsFor head records) }
 
+    // What stands after the records is kept before it is cut off: no byte of the file is lost.
+    ensures tail { (head : Head) (records : List AnyEntry) (tail : List ℕ) →
+        IsStore (D.seen device.old) head records tail → Only (D.seen device.old) (D.may_leave device.old) →
+        IsTailSafe D.moment D.left_since (D.seen device.old) (length records) tail (K.done keeper.new) device.old
+        device.new }
+    ensures done { IsKeptAtMost (K.done keeper.old) (K.done keeper.new) }
+    ensures shown { IfOk result (λ found. HidesRecords (version_of found.head)
+        (digest_behind found.head found.records) (drop found.end (D.seen device.old)) → ⊥) }
+
     ensures same_file { D.goes_on device.old device.new }
+    ensures tail_refused { (fault : AnyTailFault) → IsErrOf result (tail_refused fault) →
+        IsTailRefused fault (D.seen device.old) × IsUnchanged D.seen D.may_leave device.old device.new }
     ensures torn { (whole : ℕ) → IsErrOf result (torn_behind whole) →
         IsTornStore (D.seen device.old) whole × IsUnchanged D.seen D.may_leave device.old device.new }
     ensures old_version { IsErrOf result old_version →
@@ -92,6 +115,17 @@ pub fn recover<A: Allocator + Copy, D: Device>(
     }
     if found.is_torn {
         return Err(RecoverFault::Torn(found.records.len()));
+    }
+    let (_whole, tail) = bytes.split_at(found.end);
+    if let Err(fault) = keep_tail(
+        alloc,
+        keeper,
+        found.head.version(),
+        &found.digest,
+        found.records.len(),
+        tail,
+    ) {
+        return Err(RecoverFault::Tail(fault));
     }
     shut_gate(device, found.end, bytes.len())?;
     Ok(found)

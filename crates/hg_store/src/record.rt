@@ -18,7 +18,7 @@ use std::alloc::Allocator;
 pub(crate) const SHUT: u8 = 0;
 
 /// How many bytes a digest has.
-const DIGEST: usize = 20;
+pub(crate) const DIGEST: usize = 20;
 
 /// Why no record is read where one might stand.
 #[derive(Clone, Copy, Debug, PartialEq, Eq)]
@@ -126,7 +126,7 @@ pub fn next_record<'a>(
 }
 
 /// The record after an open gate.
-fn record_behind<'a>(
+pub(crate) fn record_behind<'a>(
     version: Version,
     digest: &mut [u8; 20],
     behind: &'a [u8],

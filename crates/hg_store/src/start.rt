@@ -1,19 +1,23 @@
 //! A store in a file that is opened for more records.
 
 ghost use Rattle.std.specs.Prelude.{◌≡◌, IfErr, IfOk, OnOk};
+ghost use Rattle.hg_store.specs.Again.{AreOpenedAfter};
 ghost use Rattle.hg_store.specs.Head.{HasHead, head_for, setup_of};
 ghost use Rattle.hg_store.specs.Log.{IsSettled};
 ghost use Rattle.hg_store.specs.Openings.{IsFound, IsRefusedAs, IsUnopened};
+ghost use Rattle.hg_store.specs.Tails.{IsKeptAtMost, LosesNothing};
 ghost use Rattle.hg_store.specs.declared.head.Head.{Head as AnyHead};
 
 use crate::calls::Calls;
 use crate::device::{Device, DeviceError};
 use crate::entry::Entry;
 use crate::file::StoreFile;
+use crate::gates::open_again;
 use crate::head::{Head, Setup};
 use crate::log::Log;
 use crate::opening::{RecoverFault, recover};
 use crate::read::ReadFault;
+use crate::tail::TailKeeper;
 use hg_types::{NoMemory, Seq};
 use std::alloc::{Allocator, Global};
 use thiserror::Error;
@@ -108,13 +112,14 @@ pub struct Unopened<C: Calls> {
     pub calls: C,
 }
 
-/// Opens the store of a server that is set up in this way: reads it, and brings its end in order as
+/// Opens the store of a server that is set up in this way: reads it, keeps its tail, and brings its end in order, as
 /// [`recover`] does. A store of another server is refused, and so is one that [`recover`] refuses, each for what
 /// was read; then nothing in it is changed.
-pub fn open_file<C: Calls, A: Allocator + Copy>(
+pub fn open_file<C: Calls, K: TailKeeper, A: Allocator + Copy>(
     alloc: A,
     calls: C,
     setup: &Setup,
+    keeper: &mut K,
 ) -> Result<Opened<C, A>, Unopened<C>>
     ensures settled { IfOk result (λ opened. IsSettled ⟦<StoreFile<C, A> as Device>⟧.seen
         ⟦<StoreFile<C, A> as Device>⟧.may_leave (head_for setup.now opened.identity) opened.records opened.log) }
@@ -122,6 +127,18 @@ pub fn open_file<C: Calls, A: Allocator + Copy>(
         (C.Calls.history opened.log.device.calls)) }
     ensures err { IfErr result (λ left. IsUnopened left.fault setup.now (C.Calls.history calls)
         (C.Calls.history left.calls)) }
+
+    // The gates of the last records are written once more and synced: what was read of them may not have been on the
+    // disk.
+    ensures again { IfOk result (λ opened. AreOpenedAfter (head_for setup.now opened.identity) opened.records
+        (C.Calls.history calls) (C.Calls.history opened.log.device.calls)) }
+
+    // What the file had after its last whole record is kept before it is cut off.
+    ensures tail { IfOk result (λ opened. LosesNothing (C.Calls.history calls)
+        (C.Calls.history opened.log.device.calls) (K.done keeper.new)) }
+    ensures tail_err { IfErr result (λ left. LosesNothing (C.Calls.history calls) (C.Calls.history left.calls)
+        (K.done keeper.new)) }
+    ensures done { IsKeptAtMost (K.done keeper.old) (K.done keeper.new) }
 {
     let mut calls = calls;
     let bytes = match calls.begin(alloc) {
@@ -132,10 +149,13 @@ pub fn open_file<C: Calls, A: Allocator + Copy>(
         return Err(left_over(fault, calls));
     }
     let mut device = StoreFile::of(calls, bytes);
-    let found = match recover(alloc, &mut device) {
+    let found = match recover(alloc, &mut device, keeper) {
         Ok(found) => found,
         Err(fault) => return Err(left_over(StoreFault::from(fault), device.into_calls())),
     };
+    if let Err(error) = open_again(&mut device, &found) {
+        return Err(left_over(StoreFault::from(error), device.into_calls()));
+    }
     let Some(identity) = found.head.identity else {
         unreachable!();
     };

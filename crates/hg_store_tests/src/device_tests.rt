@@ -11,6 +11,7 @@ ghost use Rattle.hg_store.specs.declared.head.Version.TheVariants.{Second};
 
 use crate::paper::outcomes;
 use crate::tests::{TOO_MANY, put_next};
+use hg_help_store_tests::drawer::Drawer;
 use hg_help_store_tests::paper::Paper;
 use hg_store::*;
 use hg_types::{Limits, NoMemory, Seq};
@@ -85,21 +86,25 @@ fn records<A: Allocator + Copy>(
 }
 
 /// A file with a store of one record, of which so many calls succeed beside those that open it: reading takes one
-/// call, and bringing its end in order two.
+/// call, bringing its end in order two, and writing its gate once more two.
 fn paper_with(alloc: Global, calls: usize, room: usize) -> Result<Paper, Fail> {
     let store = store_of(alloc, 1)?;
-    let mut paper = Paper::new(alloc, &store, calls.saturating_add(3))?;
+    let mut paper = Paper::new(alloc, &store, calls.saturating_add(5))?;
     paper.room = room;
     Ok(paper)
 }
 
 /// The store on a file, opened.
-fn opened<A: Allocator + Copy>(alloc: A, paper: Paper) -> Result<Opened<Paper, A>, StoreFault>
+fn opened<A: Allocator + Copy>(
+    alloc: A,
+    paper: Paper,
+    drawer: &mut Drawer,
+) -> Result<Opened<Paper, A>, StoreFault>
     ensures { IfOk result (λ opened. (head : AnyHead) × (records : List AnyEntry)
         × IsSettled ⟦<StoreFile<Paper, A> as Device>⟧.seen ⟦<StoreFile<Paper, A> as Device>⟧.may_leave
         head records opened.log) }
 {
-    match open_file(alloc, paper, &standard()) {
+    match open_file(alloc, paper, &standard(), drawer) {
         Ok(opened) => Ok(opened),
         Err(left) => Err(left.fault),
     }
@@ -155,7 +160,15 @@ fn a_batch_on_a_file_that_fails(rt: HostRuntime) -> Result<(), Fail> {
         let batch = records(alloc, 1, size + 1)?;
         let all = size.saturating_mul(4).saturating_add(4);
         for calls in 0..all.saturating_add(1) {
-            let Opened { log, records: had, .. } = opened(alloc, paper_with(alloc, calls, NO_LIMIT)?)?;
+            let Opened {
+                log,
+                records: had,
+                ..
+            } = opened(
+                alloc,
+                paper_with(alloc, calls, NO_LIMIT)?,
+                &mut Drawer::new(alloc),
+            )?;
             drop(had);
             let (result, paper) = added(log, &batch);
             assert_eq!(rt;
@@ -181,7 +194,15 @@ fn a_batch_on_a_full_disk(rt: HostRuntime) -> Result<(), Fail> {
     let after = store_of(alloc, 3)?.len();
     let batch = records(alloc, 1, 3)?;
     for room in before..after.saturating_add(2) {
-        let Opened { log, records: had, .. } = opened(alloc, paper_with(alloc, NO_LIMIT, room)?)?;
+        let Opened {
+            log,
+            records: had,
+            ..
+        } = opened(
+            alloc,
+            paper_with(alloc, NO_LIMIT, room)?,
+            &mut Drawer::new(alloc),
+        )?;
         drop(had);
         let (result, paper) = added(log, &batch);
         assert_eq!(rt; result.is_ok(), room >= after, "room for {room}");
@@ -199,7 +220,15 @@ fn a_file_after_a_failure(rt: HostRuntime) -> Result<(), Fail> {
     let alloc = rt.alloc();
     let batch = records(alloc, 1, 2)?;
     let room = store_of(alloc, 1)?.len();
-    let Opened { log, records: had, .. } = opened(alloc, paper_with(alloc, NO_LIMIT, room)?)?;
+    let Opened {
+        log,
+        records: had,
+        ..
+    } = opened(
+        alloc,
+        paper_with(alloc, NO_LIMIT, room)?,
+        &mut Drawer::new(alloc),
+    )?;
     drop(had);
     let mut log = log;
     assert_eq!(rt; log.append(&batch), Err(DeviceError::Failed));
@@ -242,7 +271,7 @@ fn brought_in_order(
     match paper.begin(alloc) {
         Ok(bytes) => {
             let mut device = StoreFile::of(paper, bytes);
-            let found = match recover(alloc, &mut device) {
+            let found = match recover(alloc, &mut device, &mut Drawer::new(alloc)) {
                 Ok(found) => Ok(found.records.len()),
                 Err(fault) => Err(fault),
             };
@@ -291,7 +320,7 @@ fn front(bytes: &[u8], len: usize) -> &[u8] {
 /// Why a store of these bytes is not opened. It takes one call, so none that changes the file.
 fn refusal(alloc: Global, file: &[u8], setup: &Setup) -> Result<Option<StoreFault>, Fail> {
     let paper = Paper::new(alloc, file, 1)?;
-    match open_file(alloc, paper, setup) {
+    match open_file(alloc, paper, setup, &mut Drawer::new(alloc)) {
         Ok(_) => Ok(None),
         Err(left) => Ok(Some(left.fault)),
     }
@@ -511,9 +540,13 @@ fn refused_over(fault: StoreFault) -> Came {
 /// Opens a store over a heap, gives up its records, makes a batch, takes all that is left of the heap, and adds the
 /// batch.
 fn added_over(alloc: Global, heap: &LocalHeap, paper: Paper) -> Result<Came, Fail> {
-    match opened(heap, paper) {
+    match opened(heap, paper, &mut Drawer::new(alloc)) {
         Ok(opened) => {
-            let Opened { log, records: had, .. } = opened;
+            let Opened {
+                log,
+                records: had,
+                ..
+            } = opened;
             drop(had);
             let Ok(batch) = records(heap, 1, 3) else {
                 return Ok(Came::NoBatch);

@@ -84,7 +84,7 @@ fn a_store_in_a_folder(rt: HostRuntime) -> Result<(), Fail> {
     assert!(rt; begin_with(opened.records.as_slice(), b"first"));
     assert_eq!(rt; opened.log.end, ENDS[2]);
     assert_eq!(rt; refusal(&rt, folder, &standard()), Some(StoreFault::Held));
-    let bytes = store_bytes(&rt, alloc, folder)?;
+    let bytes = read_all(alloc, &mut store_file(&rt, alloc, folder)?)?;
     assert_eq!(rt; read_records(alloc, &bytes)?.records.len(), 2);
     drop(opened);
 
@@ -144,7 +144,7 @@ fn a_file_cut_anywhere(rt: HostRuntime) -> Result<(), Fail> {
             usize::from(len >= ENDS[1])
         };
         let is_whole = len == 132 || ENDS.contains(&len);
-        let bytes = store_bytes(&rt, alloc, folder)?;
+        let bytes = read_all(alloc, &mut store_file(&rt, alloc, folder)?)?;
         let beside = read_records(alloc, &bytes);
         let refused = refusal(&rt, folder, &standard());
         if len < 54 {

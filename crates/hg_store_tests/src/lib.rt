@@ -12,6 +12,10 @@
 //!   time.
 //! - the records read one by one; the first cut short, too large, behind another gate, with another
 //!   digest. Result: each with what follows it, and the end; torn, torn, damaged, damaged.
+//! - the stores by pieces, from readers that give 1, 7 or all bytes at once and are interrupted before each time: cut
+//!   at each length; each gate with each other value, and each other byte with six; from readers that fail at each
+//!   byte; the head and the records over heaps below 600 bytes. Result: as by hand; as of all bytes at once; the whole
+//!   records before, and that the reader failed; the same, or out of memory.
 //! - each byte of each record with each other value. Result: damage after the records before it; or torn, or the
 //!   end, by a gate or a size.
 //! - a batch of 1, 2 and 3 records after one, where the file fails at each of its calls: 8, 12 and
@@ -21,6 +25,15 @@
 //!   else the store failed; after that no call is made.
 //! - a store without its gate, and with bytes after it, opened where the file fails at each call.
 //!   Result: its records and a shut gate; in each outcome its records.
+//! - five records with each gate shut, and with each other value; three with each gate of each other value, and each
+//!   other byte after the head with six, and cut at each length; zeroes after the records; up to 200 records behind a
+//!   shut gate. Result: what stands behind a shut gate is kept as it stood and cut off, where it has at most 64 records
+//!   and is not of zeroes alone; else the store is refused, and nothing changes. In a folder the same tail is kept
+//! once,
+//!   and no other is lost.
+//! - 0 to 100 records, where the file fails at its last call and where none does. Result: it is opened where none
+//! fails,
+//!   after as many calls as there are gates to write again, 64 at most.
 //! - another publishing flag, other limits, a byte turned, a record cut short, a head cut short.
 //!   Result: each by its name, after one call, which reads.
 //! - a new store where the file fails at each of its four calls, over no bytes and over a longer
@@ -49,5 +62,9 @@ mod device_tests;
 mod folder_tests;
 #[cfg(test)]
 mod paper;
+#[cfg(test)]
+mod pieces_tests;
+#[cfg(test)]
+mod tail_tests;
 #[cfg(test)]
 mod tests;

@@ -31,13 +31,13 @@ const OLD_STORE: [u8; 120] = [
 ];
 
 /// A store, and where its head and each of its records ends.
-struct Sample {
-    version: Version,
-    store: &'static [u8],
+pub struct Sample {
+    pub version: Version,
+    pub store: &'static [u8],
     ends: [usize; 4],
 }
 
-const SAMPLES: [Sample; 2] = [
+pub const SAMPLES: [Sample; 2] = [
     Sample {
         version: Version::Second,
         store: &STORE,
@@ -98,7 +98,7 @@ fn standard(version: Version) -> Head {
 }
 
 /// The first so many bytes.
-fn front(bytes: &[u8], len: usize) -> &[u8] {
+pub fn front(bytes: &[u8], len: usize) -> &[u8] {
     &bytes[..len.min(bytes.len())]
 }
 
@@ -108,7 +108,12 @@ fn behind(bytes: &[u8], at: usize) -> &[u8] {
 }
 
 /// The same bytes with that one in a place.
-fn turned<A: Allocator>(alloc: A, bytes: &[u8], at: usize, byte: u8) -> Result<Vec<u8, A>, Fail> {
+pub fn turned<A: Allocator>(
+    alloc: A,
+    bytes: &[u8],
+    at: usize,
+    byte: u8,
+) -> Result<Vec<u8, A>, Fail> {
     let mut file = Vec::from_slice(alloc, bytes)?;
     if let Some(there) = file.as_mut_slice().get_mut(at) {
         *there = byte;
@@ -117,12 +122,12 @@ fn turned<A: Allocator>(alloc: A, bytes: &[u8], at: usize, byte: u8) -> Result<V
 }
 
 impl Sample {
-    fn head_size(&self) -> usize {
+    pub fn head_size(&self) -> usize {
         self.ends[0]
     }
 
     /// How many of the records end within so many bytes.
-    fn whole_within(&self, len: usize) -> usize {
+    pub fn whole_within(&self, len: usize) -> usize {
         let mut count = 0usize;
         for end in [self.ends[1], self.ends[2], self.ends[3]] {
             if end <= len {
@@ -133,12 +138,12 @@ impl Sample {
     }
 
     /// Where so many records end, and 0 records the head.
-    fn end_of(&self, whole: usize) -> usize {
+    pub fn end_of(&self, whole: usize) -> usize {
         self.ends[whole.min(3)]
     }
 
     /// The time, the name and the bundle of a record.
-    fn record(&self, place: usize) -> (u64, &'static [u8], &'static [u8]) {
+    pub fn record(&self, place: usize) -> (u64, &'static [u8], &'static [u8]) {
         let (time, name, bundle) = RECORDS[place.min(2)];
         match self.version {
             Version::First => (0, b"", bundle),

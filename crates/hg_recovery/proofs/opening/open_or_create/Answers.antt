@@ -21,4 +21,5 @@ returns-in_default g c = record {
   names = once c.args.folder.now c.open_store.new.folder
       (looked_for c.open_store.result c.args.folder.now c.open_store.new.folder c.open_store.ensures.names);
   err = c.in_default.ensures.err;
+  tail = c.in_default.ensures.tail;
 }

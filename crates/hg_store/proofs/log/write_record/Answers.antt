@@ -1,8 +1,7 @@
-use Rattle.std.proofs.Common.{◌≡◌, ◌∙◌, ◌-◌, ◌++◌, ◌∷◌, List, ℕ, ap, arith, drop, length, take, length-append}
+use Rattle.std.proofs.Common.{◌≡◌, ◌∙◌, ◌-◌, ◌++◌, ◌∷◌, List, ℕ, ap, arith, drop, length, take}
 use Rattle.std.proofs.lemmas.List.{take_rest}
 use Rattle.hg_store.proofs.Repair.{if_ok}
 use Rattle.hg_store.proofs.Staying.{kept_on, record_written}
-use Rattle.hg_store.specs.Entries.{Entry}
 use Rattle.hg_store.specs.Records.{numbers_bytes, open_gate}
 use Rattle.hg_store.specs.declared.head.Version.TheVariants.{Second}
 use Rattle.hg_store.specs.declared.numbers.Numbers.{Numbers}

@@ -1,4 +1,4 @@
-use Rattle.std.proofs.Common.{◌≡◌, ◌∙◌, ℕ, List, ◌∷◌, [], ◌+◌, take, arith}
+use Rattle.std.proofs.Common.{◌≡◌, ◌∙◌, ◌∷◌, [], ◌+◌, take, arith}
 use Rattle.hg_store.specs.Device.{Overwrites}
 use Rattle.hg_store.specs.Log.{at_rest}
 use Rattle.hg_store.proofs.Moments.{weakly}

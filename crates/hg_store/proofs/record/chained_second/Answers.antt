@@ -1,4 +1,4 @@
-use Rattle.std.proofs.Common.{◌∙◌, ap, [], refl}
+use Rattle.std.proofs.Common.{◌∙◌, ap, []}
 use Rattle.sha1.specs.Sha1.{sha1}
 use Rattle.hg_store.specs.Records.{numbers_bytes}
 use Rattle.hg_store.specs.declared.head.Version.TheVariants.{Second}

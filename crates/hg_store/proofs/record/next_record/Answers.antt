@@ -1,4 +1,4 @@
-use Rattle.std.proofs.Common.{◌≡◌, ℕ, List, ◌∷◌, sym, ap, ◌∙◌, subst}
+use Rattle.std.proofs.Common.{◌≡◌, ℕ, ◌∷◌, sym, ap, ◌∙◌, subst}
 use Rattle.hg_store.specs.Records.{IsDamaged, IsTorn, no_gate, open_gate, shut}
 use Rattle.hg_store.proofs.record.next_record.Goals as goal
 

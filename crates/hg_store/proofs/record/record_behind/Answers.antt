@@ -1,6 +1,6 @@
 use Rattle.std.proofs.Common.{refl}
 use Rattle.hg_store.specs.Records.{short}
-use Rattle.hg_store.proofs.Stepping.{cut_is, damaged_is, digest_is, entry_of, next_is, whole_is}
+use Rattle.hg_store.proofs.Stepping.{cut_is, damaged_is, digest_is, entry_of, whole_is}
 use Rattle.hg_store.proofs.record.record_behind.Goals as goal
 
 pub returns-in_default-clause-torn : goal.returns-in_default-clause-torn
