@@ -4,9 +4,12 @@ use Rattle.hg_connection.specs.Devices.{Output}
 use Rattle.hg_connection.specs.declared.sending.Sending.TheVariants.{Whole as sent_whole}
 use Rattle.hg_connection.specs.Sent.{Sends}
 use Rattle.hg_store_tools.specs.declared.fault.StoreEnd.{StoreEnd}
-use Rattle.hg_store_tools.specs.declared.canonical_log.BundleForm.{BundleForm}
-use Rattle.hg_store_tools.specs.Canonical.{IsLoggedAs}
+use Rattle.hg_store_tools.specs.declared.form.BundleForm.{BundleForm}
+use Rattle.hg_store_tools.specs.Listing.{IsListed}
+use Rattle.hg_store_tools.specs.Logging.{IsLogged}
+use Rattle.hg_store_tools.specs.declared.follow.FollowEnd.{FollowEnd}
 use Rattle.hg_store_tools.specs.Reporting.{Reports}
+use Rattle.hg_store_tools.specs.Trails.{IsFollowed}
 
 -- the report of some file that is a store was written, whole, and flushed
 abbrev pub ReportsStore : (A : Type 0) → Output → Output → Type 0
@@ -16,4 +19,12 @@ ReportsStore A before after = (file : List ℕ) × (ending : StoreEnd) × (text 
 -- the bundles of some file that is a store were written from a place on in that form, one after the other
 abbrev pub LogsStore : (A : Type 0) → ℕ → BundleForm → Option (List ℕ) → Option (List ℕ) → Type 0
 LogsStore A from form before after = (file : List ℕ) × (ending : StoreEnd)
-    × IsLoggedAs form A file from ending before after
+    × IsLogged form A file from ending before after
+
+-- the frames of a store that was followed were written from a place on in that form, as far as it says
+abbrev pub FollowsStore : (A : Type 0) → ℕ → BundleForm → Option (List ℕ) → Option (List ℕ) → Type 0
+FollowsStore A from form before after = (end : FollowEnd) × IsFollowed form A from end before after
+
+-- the lines of the pushes of some file that is a store were written from a place on, one after the other
+abbrev pub ListsStore : (A : Type 0) → ℕ → Option (List ℕ) → Option (List ℕ) → Type 0
+ListsStore A from before after = (file : List ℕ) × (ending : StoreEnd) × IsListed A file from ending before after

@@ -3,14 +3,14 @@
 //! Each call gives the status, and prints on standard error what is to be said of it.
 
 ghost use Rattle.std.specs.Prelude.{◌≡◌, ◌≢◌};
-ghost use Rattle.hg_commands.specs.Archive.{LogsStore, ReportsStore};
+ghost use Rattle.hg_commands.specs.Archive.{FollowsStore, ListsStore, LogsStore, ReportsStore};
 ghost use Rattle.hg_commands.specs.Commands.{IsDeviceStatus, IsStoreStatus};
 
 use crate::command_line::tell;
 use hg_connection::Writer;
 use hg_store_tools::{
-    ArchiveFault, BundleForm, StoreEnd, TornNote, cut_store, file_log, log_store, report_store,
-    upgrade_store,
+    ArchiveFault, BundleForm, FollowStop, StoreEnd, TornNote, cut_store, file_log, follow_store,
+    list_store, log_store, report_store, upgrade_store,
 };
 use std::alloc::Global;
 use std::fs::{File, Files};
@@ -63,6 +63,51 @@ pub fn log_to<R: Files<File = File> + Eprint>(
 {
     match file_log(rt, alloc, store, from, form, folder) {
         Ok(ending) => read(rt, store, ending),
+        Err(fault) => refused(rt, &fault),
+    }
+}
+
+/// Writes a line for each push of a store from a place on. The status 0 says that the writer took those of a file, one
+/// after the other.
+pub fn list<R: Files<File = File> + Eprint, W: Writer>(
+    rt: &R,
+    alloc: Global,
+    store: &str,
+    from: usize,
+    writer: &mut W,
+) -> u8
+    ensures { result ≡ 0 → ListsStore Global from (W.told writer.old).taken (W.told writer.new).taken }
+{
+    match list_store(rt, alloc, store, from, writer) {
+        Ok(ending) => read(rt, store, ending),
+        Err(fault) => refused(rt, &fault),
+    }
+}
+
+/// The descriptor of standard output.
+const STANDARD_OUTPUT: i32 = 1;
+
+/// Writes a frame for each push of a store from a place on, with its bundle in that form, and goes on as pushes become
+/// durable. The writer is standard output. The status 0 says that nobody reads there any more.
+pub fn follow<R: Files<File = File> + Eprint, W: Writer>(
+    rt: &R,
+    alloc: Global,
+    store: &str,
+    from: usize,
+    form: BundleForm,
+    writer: &mut W,
+) -> u8
+    ensures status { IsStoreStatus result }
+    ensures frames { FollowsStore Global from form (W.told writer.old).taken (W.told writer.new).taken }
+{
+    match follow_store(rt, alloc, store, from, form, STANDARD_OUTPUT, writer) {
+        Ok(FollowStop::ReaderGone) => 0,
+        Ok(FollowStop::Replaced) => {
+            let _ = eprintln!(rt;
+                "hg_pushd: {store}/pushes: another file has this name, or none: follow it anew"
+            );
+            3
+        }
         Err(fault) => refused(rt, &fault),
     }
 }

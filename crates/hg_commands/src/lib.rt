@@ -4,7 +4,7 @@
 //! [`one`] runs a bundle from standard input, [`replay`] the bundles of files, and [`serve`] the bundles of
 //! connections. [`hg_replay::run_one`] and [`hg_replay::run_replay`] are the first two from any readers to any
 //! writer, proved from the bytes read to the bytes written; [`serve_on`] is the third from its seed to its report,
-//! over `hg_tcp`. [`report`], [`log`], [`log_to`], [`cut`] and
+//! over `hg_tcp`. [`report`], [`log`], [`log_to`], [`list`], [`follow`], [`cut`] and
 //! [`upgrade`] read a store, end it, and write it anew, over `hg_store_tools`.
 //! [`take_closed`] is called before any file is opened, and [`device_status`] is the status of a device that failed.
 #![tactic(auto)]
@@ -17,7 +17,7 @@ mod report_file;
 mod service;
 mod standard;
 
-pub use archive::{cut, log, log_to, report, upgrade};
+pub use archive::{cut, follow, list, log, log_to, report, upgrade};
 pub use command_line::{
     Hosting, Job, Serving, asked_for, job_of, line_of, tell, usage_status, words,
 };

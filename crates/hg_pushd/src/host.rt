@@ -8,7 +8,7 @@ use hg_host::{
     Ended, HookAddress, HookTerms, HostTerms, HostingRuntime, Over, answer_as_standby, serve_store,
 };
 use hg_recovery::{IfMissing, OpeningFault, Recovered, recover_store};
-use hg_store::{Device, HostFile, StoreFault, StoreFile, StoreFolder};
+use hg_store::{Device, HostFile, KeptTail, StoreFault, StoreFile, StoreFolder};
 use hg_store_tools::TornNote;
 use std::fs::{File, Files};
 use std::hash::RandomState;
@@ -70,8 +70,9 @@ fn printed<R: Eprint>(rt: &R, status: u8) -> u8 {
     status
 }
 
-/// Opens the store. Where none is there it is made, or refused if it has to be there.
-fn open<R: Files<File = File> + AllocGlobal>(
+/// Opens the store. Where none is there it is made, or refused if it has to be there. What it had after its last whole
+/// record is kept, and that is printed.
+fn open<R: Files<File = File> + AllocGlobal + Eprint>(
     rt: &R,
     state: RandomState,
     hosting: &Hosting<'_>,
@@ -85,13 +86,26 @@ fn open<R: Files<File = File> + AllocGlobal>(
     } else {
         IfMissing::Create
     };
-    recover_store(
+    let recovered = recover_store(
         rt.alloc(),
         state,
         &mut folder,
         hosting.publishing,
         if_missing,
-    )
+    );
+    if let Some(kept) = folder.kept() {
+        print_kept(rt, hosting.store, kept);
+    }
+    recovered
+}
+
+/// Prints where the tail of a store is kept.
+fn print_kept<R: Eprint>(rt: &R, folder: &str, kept: KeptTail) {
+    let size = kept.size;
+    let place = kept.place;
+    let _ = eprintln!(rt;
+        "hg_pushd: {folder}/pushes: {place} pushes are whole; {size} bytes behind them are kept in {folder}/{kept}"
+    );
 }
 
 /// Binds the address, and serves what was recovered. Where the numbers of pushes come to their end, the store is

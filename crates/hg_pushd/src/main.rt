@@ -3,7 +3,8 @@
 //! `hg_pushd one` reads a bundle from standard input, runs it and writes the reply bundle to standard output.
 //! `hg_pushd replay` runs the bundles of files, one after the other, and writes a report of what the
 //! repository then holds. `hg_pushd serve` accepts connections and serves each on a thread. `hg_pushd report`,
-//! `hg_pushd log`, `hg_pushd cut` and `hg_pushd upgrade` read a store, end it, and write it anew. All of these are
+//! `hg_pushd log` (also as it follows one), `hg_pushd cut` and `hg_pushd upgrade` read a store, end it, and write it
+//! anew. All of these are
 //! functions of `hg_commands`.
 //! `hg_pushd host` answers HTTP, and keeps each push in a store: [`host`] begins it, over `hg_host`. The command
 //! line is read by `hg_commands`.
@@ -12,8 +13,8 @@
 mod host;
 
 use hg_commands::{
-    Job, asked_for, cut, device_status, log, log_to, one, replay, report, serve, take_closed, tell,
-    upgrade, words,
+    Job, asked_for, cut, device_status, follow, list, log, log_to, one, replay, report, serve,
+    take_closed, tell, upgrade, words,
 };
 use hg_host::HostingRuntime;
 use hg_store_tools::BundleForm;
@@ -48,9 +49,22 @@ where
         Job::Log {
             store,
             from,
+            list: true,
+            ..
+        } => list(rt, rt.alloc(), store, *from, &mut io::writer(rt)),
+        Job::Log {
+            store,
+            from,
             form,
             to,
+            list: false,
         } => write_log(rt, store, *from, *form, *to),
+        Job::Follow {
+            store,
+            from,
+            form,
+            ..
+        } => follow_log(rt, store, *from, *form),
         Job::Cut { store, at } => cut(rt, rt.alloc(), store, *at),
         Job::Upgrade { store } => upgrade(rt, rt.alloc(), store),
     }
@@ -73,6 +87,14 @@ where
         Some(folder) => log_to(rt, rt.alloc(), store, from, form, folder),
         None => log(rt, rt.alloc(), store, from, form, &mut io::writer(rt)),
     }
+}
+
+/// Writes a frame for each push of a store from a place on in that form, to standard output, and goes on.
+fn follow_log<R>(rt: &R, store: &str, from: usize, form: BundleForm) -> u8
+where
+    R: Files<File = File> + Print + Eprint + AllocGlobal,
+{
+    follow(rt, rt.alloc(), store, from, form, &mut io::writer(rt))
 }
 
 /// The same, with random bytes from the system, and with the standard descriptors that are closed taken. A system

@@ -1,12 +1,19 @@
 pub mod CallerLemmas
 mod Frames
-mod Fronts
 mod Written
-mod Rests
-mod Told
 mod Kept
 mod Parts
-mod CanonicalLog
+mod Visits
+mod Files
+mod Logs
+mod Followings
+mod Reports
+mod Checks
+mod Fillings
+mod Cuts
 mod Headers
 mod Plain
 mod Upgrades
+pub mod Dates
+mod Lists
+mod Escapes

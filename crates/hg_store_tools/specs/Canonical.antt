@@ -1,9 +1,8 @@
 -- The canonical bundle of a push: of its parts those that may change a repository, and of their parameters those
 -- that say how.
-use Rattle.std.specs.Prelude.{ℕ, ◌≡◌, ◌⊎◌, ◌<◌, ◌+◌, ⊤, Bool, List, [], ◌∷◌, ◌++◌, Option, Some, None, option_map, codes}
-use Rattle.std.specs.Prelude.{bytes_eq, drop, filter, length, slice_index_or, take}
-use Rattle.std.specs.List.{concat, filter_map, flat_map, list_any}
-use Rattle.std.specs.Io.KnownBytes.{Appends}
+use Rattle.std.specs.Prelude.{ℕ, ◌≡◌, ⊤, Bool, List, [], ◌∷◌, ◌++◌, Option, Some, None, option_map, codes}
+use Rattle.std.specs.Prelude.{bytes_eq, filter}
+use Rattle.std.specs.List.{filter_map, flat_map, list_any}
 use Rattle.hg_types.specs.declared.limits.Limits.{Limits}
 use Rattle.hg_types.specs.declared.part.Param.{Param}
 use Rattle.hg_types.specs.declared.part.Part.{Part}
@@ -16,16 +15,9 @@ use Rattle.hg_parts.specs.declared.table.PartType.TheVariants.{ReplyCaps, Check,
 use Rattle.hg_parts.specs.declared.table.PartType.TheVariants.{Obsmarkers, Pushkey, Output, ErrorAbort}
 use Rattle.hg_parts.specs.PartTypes.{Support, Supported, Unsupported, support_of}
 use Rattle.hg_store.specs.Entries.{Entry}
-use Rattle.hg_store.specs.declared.head.Head.{Head}
-use Rattle.hg_connection.specs.Devices.{TellsMore}
 use Rattle.hg_recovery.specs.Replays.{IsNoBundle}
-use Rattle.hg_store_tools.specs.declared.canonical_log.BundleForm.{BundleForm}
-use Rattle.hg_store_tools.specs.declared.canonical_log.BundleForm.TheVariants.{Stored, Canonical}
 use Rattle.hg_store_tools.specs.declared.fault.Fault.{Fault}
-use Rattle.hg_store_tools.specs.declared.fault.Fault.TheVariants.{NoBundle, NoMemory, Unsent}
-use Rattle.hg_store_tools.specs.declared.fault.StoreEnd.{StoreEnd}
-use Rattle.hg_store_tools.specs.Logging.{IsLogged}
-use Rattle.hg_store_tools.specs.Reading.{IsRead, IsUnread}
+use Rattle.hg_store_tools.specs.declared.fault.Fault.TheVariants.{NoBundle, NoMemory}
 
 -- the names of the parameters that say what a part of that type changes; of one that changes nothing there are none
 abbrev pub names_for : PartType → Option (List (List ℕ))
@@ -90,63 +82,3 @@ AreCanonicalOf A limits [] [] = ⊤
 AreCanonicalOf A limits (entry ∷ records) (bundle ∷ bundles) =
     IsCanonicalOf A limits entry.bundle bundle × AreCanonicalOf A limits records bundles
 AreCanonicalOf A limits records bundles = ⊥
-
--- bundles with their places, the first of which is this one
-abbrev pub numbered : ℕ → List (List ℕ) → List (ℕ × List ℕ)
-numbered place [] = []
-numbered place (first ∷ others) = (place, first) ∷ numbered (place + 1) others
-
--- ---- a log of them
-
--- The file is a store, whose bundles from a place on were written in their canonical form, one after the other.
-pub record IsLoggedCanonically (A : Type 0) (file : List ℕ) (from : ℕ) (ending : StoreEnd)
-    (before after : Option (List ℕ)) : Type 0 where
-  pub head : Head
-  pub records : List Entry
-  pub read : IsRead file head records ending
-  pub bundles : List (List ℕ)
-  pub are : AreCanonicalOf A head.limits (drop from records) bundles
-  pub sent : Appends before after (concat bundles)
-
--- Why the canonical bundle of the record at a place was not written, of which this much was: it has none, or the
--- writer took a front of it.
-pub data IsStop (A : Type 0) (limits : Limits) (place : ℕ) (bytes gone : List ℕ) (fault : Fault) : Type 0 where
-  uncanonical : gone ≡ [] → IsUncanonical A fault place limits bytes → IsStop A limits place bytes gone fault
-  unsent : (bundle rest : List ℕ) → IsCanonicalOf A limits bytes bundle → bundle ≡ gone ++ rest →
-      (fault ≡ Unsent) ⊎ (fault ≡ NoMemory) → IsStop A limits place bytes gone fault
-
--- Of the records, the first of which is at that place, some were written, and then a front of the next one alone.
-pub record StopsCanonically (A : Type 0) (limits : Limits) (first : ℕ) (records : List Entry)
-    (before after : Option (List ℕ)) (fault : Fault) : Type 0 where
-  pub count : ℕ
-  pub entry : Entry
-  pub more : count < length records
-  pub at : entry ≡ slice_index_or records count entry
-  pub bundles : List (List ℕ)
-  pub are : AreCanonicalOf A limits (take count records) bundles
-  pub gone : List ℕ
-  pub sent : Appends before after (concat bundles ++ gone)
-  pub stop : IsStop A limits (first + count) entry.bundle gone fault
-
--- Why not all bundles were written: the file is not read, and nothing was written; or one of them was not.
-pub data IsUnloggedCanonically (A : Type 0) (file : List ℕ) (from : ℕ) (before after : Option (List ℕ))
-    (fault : Fault) : Type 0 where
-  unread : IsUnread fault file → after ≡ before → IsUnloggedCanonically A file from before after fault
-  stopped : (head : Head) (records : List Entry) (ending : StoreEnd) → IsRead file head records ending →
-      StopsCanonically A head.limits from (drop from records) before after fault →
-      IsUnloggedCanonically A file from before after fault
-
--- The file is a store, whose bundles from a place on were put on a shelf in their canonical form, each at its place.
-pub record IsShelvedCanonically (A : Type 0) (file : List ℕ) (from : ℕ) (ending : StoreEnd)
-    (before after : Option (List (ℕ × List ℕ))) : Type 0 where
-  pub head : Head
-  pub records : List Entry
-  pub read : IsRead file head records ending
-  pub bundles : List (List ℕ)
-  pub are : AreCanonicalOf A head.limits (drop from records) bundles
-  pub put : TellsMore before after (numbered from bundles)
-
--- the bundles were written as they are stored, or in their canonical form
-abbrev pub IsLoggedAs : BundleForm → Type 0 → List ℕ → ℕ → StoreEnd → Option (List ℕ) → Option (List ℕ) → Type 0
-IsLoggedAs Stored A file from ending before after = IsLogged file from ending before after
-IsLoggedAs Canonical A file from ending before after = IsLoggedCanonically A file from ending before after

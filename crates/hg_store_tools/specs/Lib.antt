@@ -1,7 +1,15 @@
 pub mod Reading
+pub mod Visiting
 pub mod Reporting
-pub mod Logging
 pub mod Canonical
+pub mod Logging
+pub mod Filling
+pub mod PushFrames
+pub mod TrailNotes
+pub mod Trails
+pub mod Date
+pub mod ChangesetCount
+pub mod Listing
 pub mod Cutting
 pub mod Upgrading
 pub mod code

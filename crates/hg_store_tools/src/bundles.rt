@@ -1,17 +1,20 @@
 //! The pushes of a store, each as its bundle: one after the other to a writer, or each to a place of its own.
 
-ghost use Rattle.std.specs.Prelude.{◌≡◌, ◌<◌, ◌+◌, ◌^◌, ◌∷◌, [], ℕ, List, Option, IfErr, IfOk, OnErr, OnOk};
-ghost use Rattle.std.specs.Prelude.{drop, length};
-ghost use Rattle.std.specs.Io.KnownBytes.{Appends};
+ghost use Rattle.std.specs.Prelude.{◌≡◌, ◌∷◌, [], ℕ, List, Option, IfErr, IfOk, OnErr, OnOk};
 ghost use Rattle.hg_connection.specs.Devices.{TellsMore};
-ghost use Rattle.hg_store_tools.specs.Logging.{IsLogged, IsShelved, IsUnlogged, TakesFront, joined, with_places};
+ghost use Rattle.hg_store.specs.Pieces.{HasToGive};
+ghost use Rattle.hg_store_tools.specs.Logging.{IsLogged, IsShelved, IsUnlogged};
 
 use crate::fault::{Fault, StoreEnd};
-use crate::read::read_whole;
+use crate::form::{BundleForm, in_form};
 use crate::report::sent;
+use crate::visit::{RecordVisit, begin, visit_records};
 use hg_connection::Writer;
 use hg_store::Entry;
+use hg_types::Limits;
 use std::alloc::Allocator;
+use std::io::Read;
+use std::marker::Model;
 
 /// A place for the bundles of pushes.
 pub trait BundleSink {
@@ -25,95 +28,125 @@ pub trait BundleSink {
         ensures refused { OnErr result (has self.new ≡ has self.old) };
 }
 
-/// Writes the bundles of these bytes of a store, from a place on, one after the other. After the last
-/// record there is none. A torn store gives those that are whole, and says so; of a damaged one nothing is
-/// written.
-pub fn send_log<A: Allocator + Copy, W: Writer>(
-    alloc: A,
-    file: Vec<u8, A>,
-    from: usize,
-    writer: &mut W,
-) -> Result<StoreEnd, Fault>
-    ensures ok { IfOk result (λ ending.
-        IsLogged file.items from ending (W.told writer.old).taken (W.told writer.new).taken) }
-    ensures err { IfErr result (λ fault.
-        IsUnlogged file.items from (W.told writer.old).taken (W.told writer.new).taken fault) }
-{
-    let whole = match read_whole(alloc, file) {
-        Ok(whole) => whole,
-        Err(fault) => return Err(fault),
-    };
-    match send_each(writer, records_from(whole.records.as_slice(), from)) {
-        Ok(()) => {}
-        Err(fault) => return Err(fault),
-    }
-    Ok(whole.ending)
+/// Which bundles of a store are written, and in which form.
+#[derive(Drop)]
+pub(crate) struct Logging<A: Allocator> {
+    pub(crate) alloc: A,
+    pub(crate) limits: Limits,
+    pub(crate) from: usize,
+    pub(crate) form: BundleForm,
 }
 
-/// The records from a place on, none where it is after the last.
-pub(crate) fn records_from<A: Allocator>(records: &[Entry<A>], from: usize) -> &[Entry<A>]
-    ensures { result.now ≡ drop from records.now }
-{
-    if from < records.len() {
-        &records[from..]
-    } else {
-        &[]
-    }
+impl<A: Allocator> Model for Logging<A> {
+    ghost use Rattle.hg_types.specs.Limits.{IsAllowed};
+    ghost use Rattle.hg_store_tools.specs.Logging.{LogForm};
+
+    ghost Value = { LogForm };
+
+    ghost view = { λ l. record { limits = l.limits; from = l.from; form = l.form } };
+
+    ghost invariant = { λ l. IsAllowed l.limits };
 }
 
-/// Writes the bundles of the records, one after the other.
-fn send_each<A: Allocator + Copy, W: Writer>(
-    writer: &mut W,
-    records: &[Entry<A>],
-) -> Result<(), Fault>
-    ensures ok { OnOk result (Appends (W.told writer.old).taken (W.told writer.new).taken
-        (joined records.now)) }
-    ensures err { IfErr result (λ fault.
-        TakesFront (joined records.now) (W.told writer.old).taken (W.told writer.new).taken fault) }
-{
-    for record in records {
-        match sent(writer, record.bundle()) {
-            Ok(()) => {}
-            Err(fault) => return Err(fault),
+impl<W: Writer, A: Allocator + Copy> RecordVisit<W, A> for Logging<A> {
+    ghost use Rattle.std.specs.Prelude.{⊤};
+    ghost use Rattle.hg_store_tools.specs.Logging.{SendsRecord, SendsNoRecord};
+
+    ghost takes = { λ _ entry. ⊤ };
+
+    ghost visits = { λ s place entry before after.
+        SendsRecord A s place entry (W.told before).taken (W.told after).taken };
+
+    ghost fails = { λ s place entry fault before after.
+        SendsNoRecord A s place entry fault (W.told before).taken (W.told after).taken };
+
+    fn visit(&self, place: usize, entry: &Entry<A>, target: &mut W) -> Result<(), Fault> {
+        if place < self.from {
+            return Ok(());
+        }
+        match in_form(self.alloc, self.limits, self.form, place, entry.bundle()) {
+            Ok(bundle) => sent(target, bundle.bytes()),
+            Err(fault) => Err(fault),
         }
     }
-    Ok(())
 }
 
-/// Puts the bundles of these bytes of a store, from a place on, on a shelf, as [`send_log`] writes them.
-pub fn put_log<A: Allocator + Copy, S: BundleSink>(
-    alloc: A,
-    file: Vec<u8, A>,
-    from: usize,
-    shelf: &mut S,
-) -> Result<StoreEnd, Fault>
-    ensures ok { IfOk result (λ ending.
-        IsShelved file.items from ending (S.has shelf.old) (S.has shelf.new)) }
-{
-    let whole = match read_whole(alloc, file) {
-        Ok(whole) => whole,
-        Err(fault) => return Err(fault),
-    };
-    match put_each(shelf, records_from(whole.records.as_slice(), from), from) {
-        Ok(()) => Ok(whole.ending),
-        Err(fault) => Err(fault),
-    }
+/// The bundles of a store that are put on a shelf.
+#[derive(Drop)]
+struct Shelving<A: Allocator> {
+    log: Logging<A>,
 }
 
-/// Puts the bundles of the records, the first at this place.
-fn put_each<A: Allocator + Copy, S: BundleSink>(
-    shelf: &mut S,
-    records: &[Entry<A>],
-    first: usize,
-) -> Result<(), Fault>
-    requires { first + length records.now < 2 ^ 64 }
-    ensures { OnOk result (TellsMore (S.has shelf.old) (S.has shelf.new) (with_places first records.now)) }
-{
-    for (count, record) in records.iter().enumerate() {
-        match shelf.put(first + count, record.bundle()) {
-            Ok(()) => {}
-            Err(fault) => return Err(fault),
+impl<S: BundleSink, A: Allocator + Copy> RecordVisit<S, A> for Shelving<A> {
+    ghost use Rattle.std.specs.Prelude.{⊤};
+    ghost use Rattle.hg_store_tools.specs.Logging.{PutsRecord};
+
+    ghost takes = { λ _ entry. ⊤ };
+
+    ghost visits = { λ s place entry before after. PutsRecord A s.log place entry (S.has before) (S.has after) };
+
+    ghost fails = { λ s place entry fault before after. S.has after ≡ S.has before };
+
+    fn visit(&self, place: usize, entry: &Entry<A>, target: &mut S) -> Result<(), Fault> {
+        let log = &self.log;
+        if place < log.from {
+            return Ok(());
+        }
+        match in_form(log.alloc, log.limits, log.form, place, entry.bundle()) {
+            Ok(bundle) => target.put(place, bundle.bytes()),
+            Err(fault) => Err(fault),
         }
     }
-    Ok(())
+}
+
+/// Writes the bundles of a store that the reader gives, from a place on and in that form, one after the other, each as
+/// it was read and found right. After the last record there is none. A torn store gives those that are whole, and says
+/// so, and a damaged one those before the damage.
+pub fn send_log<R: Read, W: Writer, A: Allocator + Copy>(
+    alloc: A,
+    reader: &mut R,
+    from: usize,
+    form: BundleForm,
+    writer: &mut W,
+) -> Result<StoreEnd, Fault>
+    ensures ok { IfOk result (λ ending. (file : List ℕ) × HasToGive (R.remaining reader.old) file
+        × IsLogged form A file from ending (W.told writer.old).taken (W.told writer.new).taken) }
+    ensures err { IfErr result (λ fault. (file : List ℕ) × HasToGive (R.remaining reader.old) file
+        × IsUnlogged form A file from (W.told writer.old).taken (W.told writer.new).taken fault) }
+{
+    let begun = match begin(alloc, reader) {
+        Ok(begun) => begun,
+        Err(fault) => return Err(fault),
+    };
+    let logging = Logging {
+        alloc,
+        limits: begun.head.limits,
+        from,
+        form,
+    };
+    visit_records(alloc, &begun, reader, &logging, writer)
+}
+
+/// Puts the bundles of a store that the reader gives on a shelf, as [`send_log`] writes them.
+pub fn put_log<R: Read, S: BundleSink, A: Allocator + Copy>(
+    alloc: A,
+    reader: &mut R,
+    from: usize,
+    form: BundleForm,
+    shelf: &mut S,
+) -> Result<StoreEnd, Fault>
+    ensures ok { IfOk result (λ ending. (file : List ℕ) × HasToGive (R.remaining reader.old) file
+        × IsShelved form A file from ending (S.has shelf.old) (S.has shelf.new)) }
+{
+    let begun = match begin(alloc, reader) {
+        Ok(begun) => begun,
+        Err(fault) => return Err(fault),
+    };
+    let log = Logging {
+        alloc,
+        limits: begun.head.limits,
+        from,
+        form,
+    };
+    visit_records(alloc, &begun, reader, &Shelving { log }, shelf)
 }

@@ -80,6 +80,8 @@ pub enum NamedFile<'a> {
     New(&'a str),
     /// What is kept in this folder of a cut before that place.
     Kept(&'a str, usize),
+    /// What is kept in this folder of a store behind so many whole records.
+    Tail(&'a str, usize),
     /// The store of version 1 that is kept in this folder.
     Old(&'a str),
     /// The file in this folder of the push at that place.
@@ -96,6 +98,7 @@ impl fmt::Display for NamedFile<'_> {
             NamedFile::Store(folder) => write!(f, "{folder}/pushes"),
             NamedFile::New(folder) => write!(f, "{folder}/pushes.new"),
             NamedFile::Kept(folder, place) => write!(f, "{folder}/pushes.cut-{place}"),
+            NamedFile::Tail(folder, place) => write!(f, "{folder}/pushes.tail-{place}"),
             NamedFile::Old(folder) => write!(f, "{folder}/pushes.1"),
             NamedFile::Push(folder, place) => write!(f, "{folder}/{place:010}"),
             NamedFile::Folder(folder) => write!(f, "{folder}"),

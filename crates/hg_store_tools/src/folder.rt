@@ -3,26 +3,29 @@
 ghost use Rattle.std.specs.Prelude.{ℕ, List, IfOk};
 ghost use Rattle.hg_connection.specs.declared.sending.Sending.TheVariants.{Whole as sent_whole};
 ghost use Rattle.hg_connection.specs.Sent.{Sends};
-ghost use Rattle.hg_store_tools.specs.Canonical.{IsLoggedAs};
+ghost use Rattle.hg_store_tools.specs.Listing.{IsListed};
+ghost use Rattle.hg_store_tools.specs.Logging.{IsLogged};
 ghost use Rattle.hg_store_tools.specs.Reporting.{Reports};
 
-use crate::canonical_log::{BundleForm, put_log_as, send_log_as};
-use crate::cut::{CutFault, StoreCut, cut_of, put_cut};
+use crate::bundles::{put_log, send_log};
+use crate::cut::{CutFault, CutFiles, put_cut};
 use crate::fault::{ArchiveFault, Fault, NamedFile, StoreEnd};
-use crate::host::{FolderShelf, fault_of, fault_of_store};
+use crate::filling::NewStore;
+use crate::form::BundleForm;
+use crate::host::{
+    FolderShelf, StoreLink, StoreReads, checked_reader, fault_of_store, find_place, first_reader,
+    store_reader,
+};
+use crate::listing::send_list;
 use crate::report::send_report;
-use crate::upgrade::upgrade_of;
+use crate::upgrade::put_upgrade;
 use hg_connection::Writer;
 use hg_store::{
-    StoreFault, StoreFolder, kept_file, make_folder, new_identity, new_store, open_held, read_all,
-    store_bytes,
+    StoreFault, StoreFolder, kept_file, make_folder, new_identity, new_store, open_held,
 };
 use std::alloc::Allocator;
 use std::fs::{File, Files};
 use std::hash::RandomState;
-
-/// The name of a store of version 1 that is kept.
-const OLD_NAME: &str = "pushes.1";
 
 /// Writes the report of the store in a folder, as [`send_report`] does, also while another process holds it.
 /// Nothing is changed, and nothing is held.
@@ -37,16 +40,16 @@ pub fn report_store<'a, R: Files<File = File>, A: Allocator + Copy, W: Writer>(
         × Reports A file ending text
         × Sends sent_whole count (W.told writer.old) (W.told writer.new) text) }
 {
-    let file = about_store(store_bytes(files, alloc, folder), NamedFile::Store(folder))?;
-    match send_report(alloc, state, file, writer) {
+    let mut reader = about(store_reader(files, alloc, folder), NamedFile::Store(folder))?;
+    match send_report(alloc, state, &mut reader, writer) {
         Ok(ending) => Ok(ending),
         Err(fault) => Err(sending_fault(folder, fault)),
     }
 }
 
-/// Writes the bundles of the store in a folder, from a place on, in that form, as [`send_log`](crate::send_log) and
-/// [`send_canonical_log`](crate::send_canonical_log) do, also while another process holds it. Nothing is changed, and
-/// nothing is held.
+/// Writes the bundles of the store in a folder, from a place on, in that form, as [`send_log`] does, also while another
+/// process holds it. Nothing is changed, and nothing is held. The store is read twice: of a damaged one nothing is
+/// written.
 pub fn log_store<'a, R: Files<File = File>, A: Allocator + Copy, W: Writer>(
     files: &R,
     alloc: A,
@@ -56,18 +59,45 @@ pub fn log_store<'a, R: Files<File = File>, A: Allocator + Copy, W: Writer>(
     writer: &mut W,
 ) -> Result<StoreEnd, ArchiveFault<'a>>
     ensures { IfOk result (λ ending. (file : List ℕ)
-        × IsLoggedAs form A file from ending (W.told writer.old).taken (W.told writer.new).taken) }
+        × IsLogged form A file from ending (W.told writer.old).taken (W.told writer.new).taken) }
 {
-    let file = about_store(store_bytes(files, alloc, folder), NamedFile::Store(folder))?;
-    match send_log_as(alloc, file, from, form, writer) {
+    let mut reader = about(
+        checked_reader(files, alloc, folder),
+        NamedFile::Store(folder),
+    )?;
+    match send_log(alloc, &mut reader, from, form, writer) {
         Ok(ending) => Ok(ending),
         Err(fault) => Err(sending_fault(folder, fault)),
     }
 }
 
-/// The same, each bundle in a file of its own in another folder, named by its place in ten digits. That
-/// folder is made if it is not there. A file that is there is not written over: of those from it on none is
-/// made.
+/// Writes a line for each push of the store in a folder, from a place on, as [`send_list`] does, also while another
+/// process holds it. Nothing is changed, and nothing is held. The store is read twice: of a damaged one nothing is
+/// written.
+pub fn list_store<'a, R: Files<File = File>, A: Allocator + Copy, W: Writer>(
+    files: &R,
+    alloc: A,
+    folder: &'a str,
+    from: usize,
+    writer: &mut W,
+) -> Result<StoreEnd, ArchiveFault<'a>>
+    ensures { IfOk result (λ ending. (file : List ℕ)
+        × IsListed A file from ending (W.told writer.old).taken (W.told writer.new).taken) }
+{
+    let mut reader = about(
+        checked_reader(files, alloc, folder),
+        NamedFile::Store(folder),
+    )?;
+    match send_list(alloc, &mut reader, from, writer) {
+        Ok(ending) => Ok(ending),
+        Err(fault) => Err(sending_fault(folder, fault)),
+    }
+}
+
+/// The bundles of the store in a folder as [`log_store`] writes them, each in a file of its own in another folder,
+/// named by its place in ten digits. That
+/// folder is made if it is not there, and not for a damaged store. A file that is there is not written over: of those
+/// from it on none is made.
 pub fn file_log<'a, R: Files<File = File>, A: Allocator + Copy>(
     files: &R,
     alloc: A,
@@ -76,10 +106,13 @@ pub fn file_log<'a, R: Files<File = File>, A: Allocator + Copy>(
     form: BundleForm,
     to: &'a str,
 ) -> Result<StoreEnd, ArchiveFault<'a>> {
-    let file = about_store(store_bytes(files, alloc, folder), NamedFile::Store(folder))?;
+    let mut reader = about(
+        checked_reader(files, alloc, folder),
+        NamedFile::Store(folder),
+    )?;
     about_store(make_folder(files, alloc, to), NamedFile::Folder(to))?;
     let mut shelf = FolderShelf::of(files, alloc, to);
-    match put_log_as(alloc, file, from, form, &mut shelf) {
+    match put_log(alloc, &mut reader, from, form, &mut shelf) {
         Ok(ending) => Ok(ending),
         Err(fault) => Err(ArchiveFault {
             file: shelf_name(folder, to, shelf.place, fault),
@@ -88,44 +121,78 @@ pub fn file_log<'a, R: Files<File = File>, A: Allocator + Copy>(
     }
 }
 
-/// Ends the store in a folder before a place, as [`cut_of`] and [`put_cut`] say. What it leaves out is kept
-/// in the file `pushes.cut-N` of the folder, where N is the place; one that is there is not written over. A
-/// store that another process holds is refused. Of an `Err` the store is as it was, except where the new file
-/// failed: then the old store is there, or the new one is.
+/// Ends the store in a folder before a place, as [`put_cut`] does. The pushes that it leaves out are kept in the file
+/// `pushes.cut-N` of the folder, where N is the place; one that is there is not written over. What stands after the
+/// whole
+/// records, unless it is only zeros, is kept before that in the file `pushes.tail-N`, where N is how many these are,
+/// as an
+/// opening keeps it. A store that another process holds is refused. It is read twice: where it has no such place,
+/// nothing
+/// is made. Of an `Err` the store is as it was, except where the new file failed: then the old store is there, or the
+/// new
+/// one is.
 pub fn cut_store<'a, R: Files<File = File>, A: Allocator + Copy>(
     files: &R,
     alloc: A,
     folder: &'a str,
     at: usize,
 ) -> Result<(), ArchiveFault<'a>> {
-    let mut old = about_store(open_held(files, alloc, folder), NamedFile::Store(folder))?;
-    let cut = about(cut_held(alloc, &mut old, at), NamedFile::Store(folder))?;
-    let kept = NamedFile::Kept(folder, at);
-    let name = about(cut_name(alloc, at), kept)?;
-    place_cut(files, alloc, folder, kept, name.as_str(), &cut)
+    let store = NamedFile::Store(folder);
+    let file = about_store(open_held(files, alloc, folder), store)?;
+    let reads = StoreReads::of(&file, alloc);
+    about(find_place(alloc, &reads, at), store)?;
+    let kept_name = NamedFile::Kept(folder, at);
+    let name = about(cut_name(alloc, at), kept_name)?;
+    let mut beside = StoreFolder::new(files, folder);
+    let kept = match kept_file(files, alloc, folder, name.as_str()) {
+        Ok(file) => file,
+        Err(fault) => return about_store(Err(fault), kept_name),
+    };
+    let new = match new_store(alloc, &mut beside) {
+        Ok(file) => file,
+        Err(fault) => {
+            kept.remove();
+            return about_store(Err(fault), NamedFile::New(folder));
+        }
+    };
+    let mut made = CutFiles::of(kept, new);
+    match put_cut(alloc, &reads, at, &mut beside, &mut made) {
+        Ok(()) => Ok(()),
+        Err(fault) => {
+            made.kept().remove();
+            made.new_store().remove();
+            Err(named(fault, folder, kept_name))
+        }
+    }
 }
 
-/// Writes the store of version 1 in a folder as one of version 2, with a name of random bytes, as [`upgrade_of`] and
-/// [`put_cut`] say. The old one is kept in the file `pushes.1` of the folder; one that is there is not written over. A
-/// store that another process holds is refused, and so is a torn one. Of an `Err` the store is as it was, except where
-/// the new file failed: then the old store is there, or the new one is.
+/// Writes the store of version 1 in a folder as one of version 2, with a name of random bytes, as [`put_upgrade`] does.
+/// The old file is kept as `pushes.1` of the folder; one that is there is not written over. A store that another
+/// process holds is refused, and so is a torn one. Of an `Err` the store is as it was, except where the new file
+/// failed:
+/// then the old store is there, or the new one is.
 pub fn upgrade_store<'a, R: Files<File = File>, A: Allocator + Copy>(
     files: &R,
     alloc: A,
     folder: &'a str,
 ) -> Result<(), ArchiveFault<'a>> {
     let store = NamedFile::Store(folder);
-    let mut old = about_store(open_held(files, alloc, folder), store)?;
+    let file = about_store(open_held(files, alloc, folder), store)?;
+    let mut reader = about(first_reader(&file, alloc), store)?;
+    let mut old = about(StoreLink::of(files, alloc, folder), store)?;
     let identity = about_store(new_identity(files), store)?;
-    let upgrade = about(upgrade_held(alloc, &mut old, identity), store)?;
-    place_cut(
-        files,
-        alloc,
-        folder,
-        NamedFile::Old(folder),
-        OLD_NAME,
-        &upgrade,
-    )
+    let new = match new_store(alloc, &mut StoreFolder::new(files, folder)) {
+        Ok(file) => file,
+        Err(fault) => return about_store(Err(fault), NamedFile::New(folder)),
+    };
+    let mut made = NewStore::of(new);
+    match put_upgrade(alloc, &mut reader, identity, &mut old, &mut made) {
+        Ok(()) => Ok(()),
+        Err(fault) => {
+            made.file().remove();
+            Err(named(fault, folder, NamedFile::Old(folder)))
+        }
+    }
 }
 
 /// The same outcome; a fault with the file that it is about.
@@ -151,7 +218,7 @@ fn about_store<'a, T>(
 }
 
 /// A fault where bytes of a store were sent.
-fn sending_fault(folder: &str, fault: Fault) -> ArchiveFault<'_> {
+pub(crate) fn sending_fault(folder: &str, fault: Fault) -> ArchiveFault<'_> {
     let file = match fault {
         Fault::Unsent => NamedFile::Output,
         _ => NamedFile::Store(folder),
@@ -167,62 +234,22 @@ fn shelf_name<'a>(folder: &'a str, to: &'a str, place: usize, fault: Fault) -> N
     }
 }
 
-/// What a cut before a place makes of a file.
-fn cut_held<A: Allocator + Copy>(
-    alloc: A,
-    file: &mut File,
-    at: usize,
-) -> Result<StoreCut<A>, Fault> {
-    match read_all(alloc, file) {
-        Ok(bytes) => cut_of(alloc, &bytes, at),
-        Err(error) => Err(fault_of(error)),
-    }
-}
-
-/// What an upgrade makes of a file.
-fn upgrade_held<A: Allocator + Copy>(
-    alloc: A,
-    file: &mut File,
-    identity: [u8; 16],
-) -> Result<StoreCut<A>, Fault> {
-    match read_all(alloc, file) {
-        Ok(bytes) => upgrade_of(alloc, bytes, identity),
-        Err(error) => Err(fault_of(error)),
-    }
-}
-
-/// Puts what a cut or an upgrade made into the folder, and what is kept into a file of that name.
-fn place_cut<'a, R: Files<File = File>, A: Allocator + Copy>(
-    files: &R,
-    alloc: A,
-    folder: &'a str,
-    kept_name: NamedFile<'a>,
-    name: &str,
-    cut: &StoreCut<A>,
-) -> Result<(), ArchiveFault<'a>> {
-    let mut kept = match kept_file(files, alloc, folder, name) {
-        Ok(file) => file,
-        Err(fault) => return about_store(Err(fault), kept_name),
-    };
-    let mut new = match new_store(alloc, &mut StoreFolder::new(files, folder)) {
-        Ok(file) => file,
-        Err(fault) => return about_store(Err(fault), NamedFile::New(folder)),
-    };
-    let result = put_cut(cut, &mut kept, &mut new);
-    if result.is_err() {
-        kept.remove();
-        new.remove();
-    }
-    match result {
-        Ok(()) => Ok(()),
-        Err(CutFault::Kept) => Err(ArchiveFault {
-            file: kept_name,
-            fault: Fault::Failed,
-        }),
-        Err(CutFault::New) => Err(ArchiveFault {
+/// A fault of a cut or an upgrade, with the file that it is about.
+fn named<'a>(fault: CutFault, folder: &'a str, kept: NamedFile<'a>) -> ArchiveFault<'a> {
+    match fault {
+        CutFault::Store(fault) => ArchiveFault {
+            file: NamedFile::Store(folder),
+            fault,
+        },
+        CutFault::Tail(whole, fault) => ArchiveFault {
+            file: NamedFile::Tail(folder, whole),
+            fault,
+        },
+        CutFault::Kept(fault) => ArchiveFault { file: kept, fault },
+        CutFault::New => ArchiveFault {
             file: NamedFile::New(folder),
             fault: Fault::Failed,
-        }),
+        },
     }
 }
 

@@ -2,13 +2,17 @@
 
 ghost use Rattle.std.specs.Prelude.{None};
 
-use crate::bundles::BundleSink;
+use crate::bundles::{BundleSink, put_log};
+use crate::check::check_records;
 use crate::fault::Fault;
-use hg_store::{DeviceError, RecoverFault, StoreFault};
+use crate::form::BundleForm;
+use crate::rest::{StoreBytes, has_place, stop_of};
+use crate::upgrade::OldStore;
+use hg_store::{DeviceError, NoRecord, RecoverFault, StoreFault, store_file};
 use std::alloc::Allocator;
 use std::fs::{File, Files};
-use std::io;
-use std::io::{ErrorKind, Write};
+use std::io::{BufReader, ErrorKind, Read, Seek, SeekFrom, Write};
+use std::{fs, io};
 
 /// The error of the system as a fault of a store.
 pub fn fault_of(error: io::Error) -> Fault {
@@ -27,6 +31,168 @@ pub fn fault_of_store(fault: StoreFault) -> Fault {
         StoreFault::Held => Fault::Held,
         StoreFault::Recover(RecoverFault::Device(DeviceError::Memory)) => Fault::NoMemory,
         _ => Fault::Failed,
+    }
+}
+
+/// How many bytes of a store are read at a time.
+const READ_AHEAD: usize = 65_536;
+
+/// A reader of the store in a folder, which is not held.
+pub fn store_reader<R: Files<File = File>, A: Allocator + Copy>(
+    files: &R,
+    alloc: A,
+    folder: &str,
+) -> Result<BufReader<File, A>, Fault> {
+    let file = match store_file(files, alloc, folder) {
+        Ok(file) => file,
+        Err(fault) => return Err(fault_of_store(fault)),
+    };
+    match BufReader::with_capacity(alloc, READ_AHEAD, file) {
+        Ok(reader) => Ok(reader),
+        Err(error) => Err(fault_of(error)),
+    }
+}
+
+/// A reader of the store in a folder, at its front, of which all records were read and found right.
+pub fn checked_reader<R: Files<File = File>, A: Allocator + Copy>(
+    files: &R,
+    alloc: A,
+    folder: &str,
+) -> Result<BufReader<File, A>, Fault> {
+    let mut reader = store_reader(files, alloc, folder)?;
+    check_records(alloc, &mut reader)?;
+    match reader.seek(SeekFrom::Start(0)) {
+        Ok(_) => Ok(reader),
+        Err(error) => Err(fault_of(error)),
+    }
+}
+
+/// The file of a store, which is read from any place on.
+#[derive(Drop)]
+pub struct StoreReads<'a, A: Allocator> {
+    file: &'a File,
+    alloc: A,
+}
+
+impl<'a, A: Allocator + Copy> StoreReads<'a, A> {
+    /// Reads of a file, one after the other.
+    pub fn of(file: &'a File, alloc: A) -> Self {
+        StoreReads { file, alloc }
+    }
+
+    /// A reader of the file from that place on.
+    fn go_to(&self, place: usize) -> io::Result<BufReader<&'a File, A>> {
+        let mut file = self.file;
+        file.seek(SeekFrom::Start(place as u64))?;
+        BufReader::with_capacity(self.alloc, READ_AHEAD, file)
+    }
+}
+
+impl<'a, A: Allocator + Copy> StoreBytes<BufReader<&'a File, A>> for StoreReads<'a, A> {
+    ghost bytes = { λ _. None };
+
+    fn reader_from(&self, place: usize) -> Result<BufReader<&'a File, A>, DeviceError> {
+        match self.go_to(place) {
+            Ok(reader) => Ok(reader),
+            Err(error) => match error.kind() {
+                ErrorKind::OutOfMemory => Err(DeviceError::Memory),
+                _ => Err(DeviceError::Failed),
+            },
+        }
+    }
+}
+
+/// A reader of the file of a store from its front on.
+pub fn first_reader<A: Allocator + Copy>(
+    file: &File,
+    alloc: A,
+) -> Result<BufReader<&File, A>, Fault> {
+    match StoreReads::of(file, alloc).go_to(0) {
+        Ok(reader) => Ok(reader),
+        Err(error) => Err(fault_of(error)),
+    }
+}
+
+/// Looks for a place of a store at which it can be cut, before anything is made.
+pub fn find_place<A: Allocator + Copy>(
+    alloc: A,
+    store: &StoreReads<'_, A>,
+    at: usize,
+) -> Result<(), Fault> {
+    let mut reader = first_reader(store.file, alloc)?;
+    let mut counter = Counter { count: 0 };
+    let ending = put_log(alloc, &mut reader, 0, BundleForm::Stored, &mut counter);
+    let stop = stop_of(ending)?;
+    let mut behind = Vec::new(alloc);
+    if at == counter.count && stop == NoRecord::End {
+        match reader.read_to_end(&mut behind) {
+            Ok(_) => {}
+            Err(error) => return Err(fault_of(error)),
+        }
+    }
+    if !has_place(at, counter.count, stop, &behind) {
+        return Err(Fault::NoPlace(counter.count));
+    }
+    Ok(())
+}
+
+/// How many bundles were put.
+#[derive(Drop)]
+struct Counter {
+    count: usize,
+}
+
+impl BundleSink for Counter {
+    ghost has = { λ _. None };
+
+    fn put(&mut self, _place: usize, _bundle: &[u8]) -> Result<(), Fault> {
+        self.count = self.count.saturating_add(1);
+        Ok(())
+    }
+}
+
+/// The store in a folder, and its second name there.
+#[derive(Drop)]
+pub struct StoreLink<'a, R: Files, A: Allocator> {
+    files: &'a R,
+    folder: &'a str,
+    name: String<A>,
+    second: String<A>,
+    is_kept: bool,
+}
+
+impl<'a, R: Files<File = File>, A: Allocator + Copy> StoreLink<'a, R, A> {
+    /// The store in a folder, which gets the second name `pushes.1`.
+    pub fn of(files: &'a R, alloc: A, folder: &'a str) -> Result<Self, Fault> {
+        let name = format!(in alloc; "{folder}/pushes")?;
+        let second = format!(in alloc; "{folder}/pushes.1")?;
+        Ok(StoreLink {
+            files,
+            folder,
+            name,
+            second,
+            is_kept: false,
+        })
+    }
+
+    /// Gives the store its second name, and syncs the folder.
+    fn link(&self) -> io::Result<()> {
+        fs::hard_link(self.files, self.name.as_str(), self.second.as_str())?;
+        File::open(self.files, self.folder)?.sync_all()
+    }
+}
+
+impl<'a, R: Files<File = File>, A: Allocator + Copy> OldStore for StoreLink<'a, R, A> {
+    ghost is_kept = { λ l. l.is_kept };
+
+    fn keep(&mut self) -> Result<(), Fault> {
+        match self.link() {
+            Ok(()) => {
+                self.is_kept = true;
+                Ok(())
+            }
+            Err(error) => Err(fault_of(error)),
+        }
     }
 }
 

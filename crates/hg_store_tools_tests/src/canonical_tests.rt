@@ -59,7 +59,8 @@ fn canonical_logs(rt: HostRuntime) -> Result<(), Fail> {
             wanted.extend_from_slice(bundle)?;
         }
         let mut log = Vec::new(alloc);
-        let told = send_canonical_log(alloc, file.to_vec(alloc)?, from, &mut log);
+        let mut reader = file.as_slice();
+        let told = send_log(alloc, &mut reader, from, BundleForm::Canonical, &mut log);
         assert!(rt; told == Ok(StoreEnd::Whole) && log.as_slice() == wanted.as_slice());
         let mut board = Board {
             alloc,
@@ -67,7 +68,8 @@ fn canonical_logs(rt: HostRuntime) -> Result<(), Fail> {
             bytes: Vec::new(alloc),
             taken: 3,
         };
-        let told = put_canonical_log(alloc, file.to_vec(alloc)?, from, &mut board);
+        let mut reader = file.as_slice();
+        let told = put_log(alloc, &mut reader, from, BundleForm::Canonical, &mut board);
         assert!(rt; told == Ok(StoreEnd::Whole) && board.bytes.as_slice() == wanted.as_slice());
         let places: [usize; 3] = [0, 1, 2];
         assert!(rt; board.places.as_slice() == &places[from.min(3)..]);
@@ -83,7 +85,8 @@ fn canonical_logs_that_stop(rt: HostRuntime) -> Result<(), Fail> {
     let alloc = rt.alloc();
     let file = shut_store(alloc, false, &[&MIXED, &EMPTY[..11]])?;
     let mut log = Vec::new(alloc);
-    let told = send_canonical_log(alloc, file, 0, &mut log);
+    let mut reader = file.as_slice();
+    let told = send_log(alloc, &mut reader, 0, BundleForm::Canonical, &mut log);
     assert!(rt; told == Err(Fault::NoBundle(1)) && log.as_slice() == PLAIN.as_slice());
     let file = shut_store(alloc, false, &[&MIXED])?;
     for room in 0..PLAIN.len() {
@@ -91,7 +94,8 @@ fn canonical_logs_that_stop(rt: HostRuntime) -> Result<(), Fail> {
             bytes: Vec::new(alloc),
             room,
         };
-        let told = send_canonical_log(alloc, file.to_vec(alloc)?, 0, &mut narrow);
+        let mut reader = file.as_slice();
+        let told = send_log(alloc, &mut reader, 0, BundleForm::Canonical, &mut narrow);
         assert!(rt; told == Err(Fault::Unsent) && narrow.bytes.as_slice() == &PLAIN[..room]);
     }
     Ok(())

@@ -137,6 +137,7 @@ fn beside_a_server(rt: HostRuntime) -> Result<(), Fail> {
     assert!(rt; cut_store(&rt, alloc, folder, 3) == Ok(()));
     assert!(rt; fs::read(&rt, name)?.as_slice() == file.as_slice());
     assert_eq!(rt; fs::read(&rt, "hg_tools_beside/pushes.cut-3")?.len(), 0);
+    assert_eq!(rt; fs::read(&rt, "hg_tools_beside/pushes.tail-3")?.len(), 1);
     fs::remove_dir_all(&rt, folder)?;
     Ok(())
 }
@@ -239,6 +240,30 @@ fn an_upgrade_in_a_folder(rt: HostRuntime) -> Result<(), Fail> {
     };
     assert!(rt; upgrade_store(&rt, alloc, folder) == Err(exists));
     assert!(rt; fs::read(&rt, name)?.as_slice() == old.as_slice());
+    fs::remove_dir_all(&rt, folder)?;
+    Ok(())
+}
+
+// A store whose second gate turned to 0, ended behind its one whole record.
+// M1, E, M2. Result: M1 is left, and opened; no bundle is kept, and all from that gate on.
+#[test]
+fn a_cut_of_what_is_hidden(rt: HostRuntime) -> Result<(), Fail> {
+    let folder = "hg_tools_hidden";
+    let name = "hg_tools_hidden/pushes";
+    let alloc = rt.alloc();
+    fill(&rt, folder)?;
+    let mut file = fs::read(&rt, name)?;
+    let gate = 88 + ONE.len();
+    turn(&mut file, gate, 255);
+    assert!(rt; file.as_slice().get(gate) == Some(&0));
+    fs::write(&rt, name, file.as_slice())?;
+    assert!(rt; cut_store(&rt, alloc, folder, 1) == Ok(()));
+    assert_eq!(rt; fs::read(&rt, "hg_tools_hidden/pushes.cut-1")?.len(), 0);
+    let tail = fs::read(&rt, "hg_tools_hidden/pushes.tail-1")?;
+    assert!(rt; file.as_slice().get(gate..) == Some(tail.as_slice()));
+    let opened = open_store(alloc, &mut StoreFolder::new(&rt, folder), &setup(false))?;
+    assert_eq!(rt; opened.records.len(), 1);
+    drop(opened);
     fs::remove_dir_all(&rt, folder)?;
     Ok(())
 }

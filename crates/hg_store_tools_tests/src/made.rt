@@ -108,6 +108,25 @@ fn put_next<A: Allocator + Copy>(
     }
 }
 
+/// A store of records with these times, names and bundles, without a gate after them.
+pub fn stamped<A: Allocator + Copy>(
+    alloc: A,
+    records: &[(u64, &[u8], &[u8])],
+) -> Result<Vec<u8, A>, NoMemory> {
+    let mut bytes = Vec::new(alloc);
+    head(false).put(&mut bytes)?;
+    let mut digest = Sha1::digest(&bytes);
+    for (time, name, bundle) in records {
+        if bundle.len() >= TOO_MANY || name.len() > 255 {
+            return Err(NoMemory);
+        }
+        let stamp = Stamp::new(*time, Seq::copy_of(alloc, name)?);
+        let entry = Entry::new(stamp, Seq::copy_of(alloc, bundle)?);
+        digest = put_record(&mut bytes, Version::Second, &digest, &entry)?;
+    }
+    Ok(bytes)
+}
+
 /// Turns these bits of the byte at a place, where there is one.
 pub fn turn(bytes: &mut [u8], at: usize, bits: u8) {
     if at < bytes.len() {

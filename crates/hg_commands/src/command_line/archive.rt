@@ -38,12 +38,28 @@ pub const LOG: CommandRow<'static> = CommandRow {
             help: "Where each push gets a file of its own, named by its place; made if it is not there",
         },
         OptionRow {
+            name: "follow",
+            kind: Kind::Flag,
+            value: "",
+            is_required: false,
+            default: &[],
+            help: "Each push in a frame with its place, time and name, once it is durable; goes on until its reader ends",
+        },
+        OptionRow {
             name: "canonical",
             kind: Kind::Flag,
             value: "",
             is_required: false,
             default: &[],
             help: "Each push with nothing in it but what may change a repository",
+        },
+        OptionRow {
+            name: "list",
+            kind: Kind::Flag,
+            value: "",
+            is_required: false,
+            default: &[],
+            help: "A line for each push instead: its place, when, by whom, changesets, bytes",
         },
     ],
 };
@@ -86,11 +102,20 @@ pub fn read_report<'a>(matches: &ArgMatches<'a>) -> Job<'a> {
 
 /// Reads what stands after `log`.
 pub fn read_log<'a>(matches: &ArgMatches<'a>) -> Job<'a> {
+    if matches.get_flag("follow") {
+        return Job::Follow {
+            store: word_of(matches, "store"),
+            from: place_of(matches, "from"),
+            form: form_of(matches),
+            to: matches.get_str("to"),
+        };
+    }
     Job::Log {
         store: word_of(matches, "store"),
         from: place_of(matches, "from"),
         form: form_of(matches),
         to: matches.get_str("to"),
+        list: matches.get_flag("list"),
     }
 }
 
@@ -99,6 +124,19 @@ pub fn read_cut<'a>(matches: &ArgMatches<'a>) -> Job<'a> {
     Job::Cut {
         store: word_of(matches, "store"),
         at: place_of(matches, "at"),
+    }
+}
+
+/// What is wrong with the options of `log` that stand beside `--list`, if something is.
+pub fn list_fault(form: BundleForm, to: Option<&str>) -> Option<&'static str> {
+    match (form, to) {
+        (BundleForm::Stored, None) => None,
+        (BundleForm::Canonical, _) => Some(
+            "--list writes no bundles, so --canonical cannot stand with it",
+        ),
+        (BundleForm::Stored, Some(_)) => Some(
+            "--list writes to standard output, so --to cannot stand with it",
+        ),
     }
 }
 

@@ -1,7 +1,7 @@
 //! The command line.
 
 use crate::command_line::archive::{
-    CUT, LOG, REPORT, UPGRADE, read_cut, read_log, read_report, read_upgrade,
+    CUT, LOG, REPORT, UPGRADE, list_fault, read_cut, read_log, read_report, read_upgrade,
 };
 use crate::command_line::hosting::{HOST, Hosting, read_hosting};
 use crate::command_line::options::{CommandRow, Kind, OptionRow, PUBLISHING, command_of};
@@ -32,8 +32,18 @@ pub enum Job<'a> {
     Report {
         store: &'a str,
     },
-    /// The bundles of a store from a place on in that form, to standard output or each to a file of its own.
+    /// The bundles of a store from a place on in that form, to standard output or each to a file of its own; or a line
+    /// for each.
     Log {
+        store: &'a str,
+        from: usize,
+        form: BundleForm,
+        to: Option<&'a str>,
+        list: bool,
+    },
+    /// A frame for each push of a store from a place on in that form, to standard output, and on as pushes become
+    /// durable.
+    Follow {
         store: &'a str,
         from: usize,
         form: BundleForm,
@@ -174,6 +184,13 @@ pub fn job_of<'a>(alloc: Global, words: &'a [String]) -> Result<Job<'a>, Error> 
 fn fault_in(job: &Job<'_>) -> Option<&'static str> {
     match job {
         Job::Host(hosting) => hosting.fault(),
+        Job::Follow { to: Some(_), .. } => Some("--follow and --to exclude one another"),
+        Job::Log {
+            form,
+            to,
+            list: true,
+            ..
+        } => list_fault(*form, *to),
         _ => None,
     }
 }

@@ -322,13 +322,31 @@ fn asks_log_as(
                 from,
                 form,
                 to,
+                list,
             },
         ) => {
             is_same_word(Some(store), Some("S"))
+                && !list
                 && from == first
                 && form == wanted
                 && is_same_word(to, folder)
         }
+        _ => false,
+    })
+}
+
+/// Whether the words ask for the lines of the pushes of the store `S` from that place on.
+fn asks_list(alloc: Global, words: &[&str], first: usize) -> Result<bool, Fail> {
+    Ok(match job_of(alloc, &spoken(alloc, words)?) {
+        Ok(
+            Job::Log {
+                store,
+                from,
+                form: BundleForm::Stored,
+                to: None,
+                list: true,
+            },
+        ) => is_same_word(Some(store), Some("S")) && from == first,
         _ => false,
     })
 }
@@ -341,6 +359,26 @@ fn asks_log(
     folder: Option<&str>,
 ) -> Result<bool, Fail> {
     asks_log_as(alloc, words, first, BundleForm::Stored, folder)
+}
+
+/// Whether the words ask to follow the store `S` from that place on, in that form.
+fn asks_follow(
+    alloc: Global,
+    words: &[&str],
+    first: usize,
+    wanted: BundleForm,
+) -> Result<bool, Fail> {
+    Ok(match job_of(alloc, &spoken(alloc, words)?) {
+        Ok(
+            Job::Follow {
+                store,
+                from,
+                form,
+                ..
+            },
+        ) => is_same_word(Some(store), Some("S")) && from == first && form == wanted,
+        _ => false,
+    })
 }
 
 /// Whether the words ask for a cut of the store `S` before that place.
@@ -368,6 +406,8 @@ fn words_that_look_at_a_store(rt: HostRuntime) -> Result<(), Fail> {
         )?
     );
     assert!(rt; asks_log(alloc, &["log", "--store", "S", "--to", "F"], 0, Some("F"))?);
+    assert!(rt; asks_list(alloc, &["log", "--store", "S", "--list"], 0)?);
+    assert!(rt; asks_list(alloc, &["log", "--list", "--from", "7", "--store", "S"], 7)?);
     assert!(rt;
         asks_log(
             alloc,
@@ -389,6 +429,30 @@ fn words_that_look_at_a_store(rt: HostRuntime) -> Result<(), Fail> {
 }
 
 #[test]
+fn words_that_follow_a_store(rt: HostRuntime) -> Result<(), Fail> {
+    let alloc = rt.alloc();
+    let stored = BundleForm::Stored;
+    assert!(rt; asks_follow(alloc, &["log", "--store", "S", "--follow"], 0, stored)?);
+    assert!(rt;
+        asks_follow(
+            alloc,
+            &["log", "--follow", "--from", "7", "--store", "S"],
+            7,
+            stored
+        )?
+    );
+    assert!(rt;
+        asks_follow(
+            alloc,
+            &["log", "--store", "S", "--canonical", "--follow"],
+            0,
+            BundleForm::Canonical
+        )?
+    );
+    Ok(())
+}
+
+#[test]
 fn words_that_end_a_store(rt: HostRuntime) -> Result<(), Fail> {
     let alloc = rt.alloc();
     assert!(rt; asks_cut(alloc, &["cut", "--store", "S", "--at", "0"], 0)?);
@@ -403,10 +467,14 @@ fn words_that_end_a_store(rt: HostRuntime) -> Result<(), Fail> {
     Ok(())
 }
 
-/// A missing store or place, no number, one past the range, and a word too many.
+/// A missing store or place, no number, one past the range, a word too many, and a folder of what is followed.
 #[test]
 fn words_that_a_store_refuses(rt: HostRuntime) -> Result<(), Fail> {
-    let cases: [&[&str]; 12] = [
+    let cases: [&[&str]; 16] = [
+        &["log", "--store", "S", "--follow", "--to", "F"],
+        &["log", "--follow"],
+        &["log", "--store", "S", "--list", "--canonical"],
+        &["log", "--store", "S", "--list", "--to", "F"],
         &["report"],
         &["report", "--store", "S", "--publishing"],
         &["report", "--store", "S", "more"],

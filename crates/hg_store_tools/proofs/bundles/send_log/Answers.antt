@@ -1,8 +1,27 @@
-use Rattle.hg_store_tools.proofs.Told.{unsent_log}
+use Rattle.std.proofs.lemmas.Result.{IfOk-weaker, MatchResult-weaker}
+use Rattle.hg_store_tools.proofs.Logs.{logged, unlogged, unlogged_headless}
 use Rattle.hg_store_tools.proofs.bundles.send_log.Goals as goal
 
-pub returns-in-Err-send_each-clause-err : goal.returns-in-Err-send_each-clause-err
-returns-in-Err-send_each-clause-err g c =
-    unsent_log c.args.file.items c.args.from c.in-Ok.whole.head c.in-Ok.whole.records _ _ c.in-Ok.whole.ending _ _
-    c.in-Err-send_each.fault c.as_slice.ensures c.records_from.ensures c.in-Ok.ensures.ok
-    c.in-Err-send_each.ensures.err
+pub returns-in-Err-clause-err : goal.returns-in-Err-clause-err
+returns-in-Err-clause-err g c =
+    unlogged_headless c.args.form g.row.A.Denot c.args.from c.in-Err.fault (g.R.Read.remaining c.args.reader.now)
+    (g.R.Read.remaining c.begin.new.reader) (g.W.Writer.told c.args.writer.now).taken c.in-Err.ensures.err
+
+pub returns-clause-ok : goal.returns-clause-ok
+returns-clause-ok g c =
+    let a = g.R.Read.remaining c.args.reader.now in
+    let b = g.R.Read.remaining c.begin.new.reader in
+    let d = g.R.Read.remaining c.visit_records.new.reader in
+    IfOk-weaker c.visit_records.result _ _
+    (λ ending visits. logged c.args.form g.row.A.Denot c.args.from c.in-Ok.begun.head c.in-Ok.begun.digest a b d
+    c.in-Ok.ensures.ok (λ w. (g.W.Writer.told w).taken) c.args.writer.now c.visit_records.new.target ending visits)
+    c.visit_records.ensures.ok
+
+pub returns-clause-err : goal.returns-clause-err
+returns-clause-err g c =
+    let a = g.R.Read.remaining c.args.reader.now in
+    let b = g.R.Read.remaining c.begin.new.reader in
+    let d = g.R.Read.remaining c.visit_records.new.reader in
+    MatchResult-weaker c.visit_records.result c.visit_records.ensures.err (λ _ _. tt)
+    (λ fault stops. unlogged c.args.form g.row.A.Denot c.args.from c.in-Ok.begun.head c.in-Ok.begun.digest a b d
+    c.in-Ok.ensures.ok (λ w. (g.W.Writer.told w).taken) c.args.writer.now c.visit_records.new.target fault stops)
