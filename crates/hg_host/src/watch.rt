@@ -1,12 +1,14 @@
-//! Who watches a connection: how long each push took, and a line for it.
+//! Who watches a connection: how long each push took, and a line for it and for each request that was refused.
 
 use crate::hook::HookPool;
 use hg_serve::{Point, Probe};
 use hg_status::{
-    AbortReason, Board, Push, ShownOutcome, brought_by, log_line, millis_now, shown_outcome,
+    AbortReason, Board, Push, ShownOutcome, brought_by, dismissal_line, log_line, millis_now,
+    shown_outcome,
 };
 use hg_tcp::{Over, Places};
-use hg_web::{Denial, Watch, WatchedPush};
+use hg_types::{NoMemory, Seq};
+use hg_web::{Denial, Dismissal, Watch, WatchedPush};
 use std::alloc::Global;
 use std::str;
 use std::sync::Wait;
@@ -55,8 +57,9 @@ impl<'a, R: Wait + Clock + Eprint> Watcher<'a, R> {
         }
     }
 
-    fn print(&self, push: &Push) {
-        let Ok(line) = log_line(self.alloc, push) else {
+    /// Prints a line, if it was made.
+    fn print(&self, line: Result<Seq<u8>, NoMemory>) {
+        let Ok(line) = line else {
             return;
         };
         if let Ok(text) = str::from_utf8(line.as_slice()) {
@@ -108,7 +111,7 @@ impl<R: Wait + Clock + Eprint> Watch<Global> for Watcher<'_, R> {
             self.slots.end(self.rt, Over::NumbersEnd);
         }
         if self.logs && pushed.is_kept {
-            self.print(&push);
+            self.print(log_line(self.alloc, &push));
         }
     }
 
@@ -116,7 +119,6 @@ impl<R: Wait + Clock + Eprint> Watch<Global> for Watcher<'_, R> {
         let reason = match why {
             Denial::Refused => AbortReason::NotLet,
             Denial::NoAnswer => AbortReason::NoHook,
-            Denial::NoMemory => AbortReason::NoMemory,
         };
         let push = Push {
             time: millis_now(self.rt) / 1_000,
@@ -128,7 +130,15 @@ impl<R: Wait + Clock + Eprint> Watch<Global> for Watcher<'_, R> {
         };
         self.board.count(push);
         if self.logs {
-            self.print(&push);
+            self.print(log_line(self.alloc, &push));
+        }
+    }
+
+    fn dismissed(&mut self, why: Dismissal) {
+        self.board.dismiss(why);
+        if self.logs {
+            let time = millis_now(self.rt) / 1_000;
+            self.print(dismissal_line(self.alloc, time, why));
         }
     }
 }

@@ -48,13 +48,38 @@ pub enum Denial {
     Refused,
     /// Nobody said that it may run.
     NoAnswer,
-    /// Memory was refused for the question or its answer.
-    NoMemory,
+}
+
+/// Why a request was refused, of which no push was opened.
+#[derive(Clone, Copy, Debug, PartialEq, Eq)]
+pub enum Dismissal {
+    /// Its body is longer than a body may be.
+    LongBody,
+    /// Its line or its head is longer than one may be.
+    LongHead,
+    /// It is no request of HTTP, or one of a form that is not served.
+    NoRequest,
+    /// Its connection ended, failed or fell silent before it was whole.
+    Lost,
+    /// There was no room for it, or memory was refused for what it asks.
+    NoRoom,
+    /// It is for a server of another name.
+    OtherServer,
+    /// There is nothing at its path.
+    NotFound,
+    /// Its command may be read otherwise.
+    Unclear,
+    /// A page in a browser could have sent it.
+    Forbidden,
+    /// Its command is not taken in this form, or not at this address.
+    NotTaken,
+    /// No push could be opened for it.
+    NotOpened,
 }
 
 /// Watches one connection: it hears of the places that a push reaches under way, by which times can be taken
 /// (after `Marked` it waits for the lock, after `Answered` for the device), and of each push that ended, before
-/// its answer is sent, or was not let through and so not opened.
+/// its answer is sent, or was not let through and so not opened. Of each other request that is refused it hears why.
 pub trait Watch<A: Allocator>: Probe {
     /// What time it is, in milliseconds since 1970; 0 where there is no clock.
     fn time(&self) -> u64;
@@ -62,4 +87,6 @@ pub trait Watch<A: Allocator>: Probe {
     fn pushed(&mut self, pushed: &WatchedPush<'_, A>);
 
     fn denied(&mut self, why: Denial, bundle: &[u8]);
+
+    fn dismissed(&mut self, why: Dismissal);
 }

@@ -22,7 +22,7 @@ mod reading;
 mod view_cache;
 mod viewing;
 
-pub use around::{Denial, Shown, Watch, WatchedPush};
+pub use around::{Denial, Dismissal, Shown, Watch, WatchedPush};
 pub use bound::refusal_of;
 pub use growth::repositories_grow;
 pub use long::{Piece, is_long};

@@ -4,7 +4,8 @@ use Rattle.std.proofs.Common.{if◌then◌else◌}
 use Rattle.hg_status.specs.declared.date.Date.{Date}
 use Rattle.hg_status.specs.declared.push.Push.{Push}
 use Rattle.hg_status.specs.declared.push_counts.Counters.{Counters}
-use Rattle.hg_status.specs.Page.{end_text, push_row_of, put, with_piece, with_push_rows, with_push_table, with_pushes}
+use Rattle.hg_status.specs.Page.{end_text, push_row_of, put, refusals_line, with_piece, with_push_rows, with_push_table}
+use Rattle.hg_status.specs.Page.{with_pushes}
 use Rattle.hg_status.specs.Page.{HasEnd, HasPushes, HasPushRows, IsPushRow}
 
 rows_after : (rows : List (Push × Date)) (row : Push × Date) (text : List ℕ) → with_push_rows (rows ++ row ∷ []) text
@@ -52,6 +53,12 @@ pushes_some recent before table rows after some begun so is =
       says = is ∙ ap (λ (t : List ℕ). put t (codes "</table></div>\n"))
           (so.says ∙ ap (with_push_rows so.rows) begun) ∙ sym (other (length recent == 0) _ _ some);
     }
+
+-- some requests that were refused
+pub refusals_some : (items : List ℕ) → (length items == 0) ≡ false
+    → refusals_line items ≡ codes "<p class=k>" ++ (items ++ codes "</p>\n")
+unfolding refusals_line
+refusals_some items some = other (length items == 0) _ _ some
 
 -- the end
 pub ended : (counters : Counters) (aborted : ℕ) (start time : Date) (before after text old : List ℕ) → old ≡ []

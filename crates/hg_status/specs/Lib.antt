@@ -2,6 +2,7 @@ pub mod Shown
 pub mod Name
 pub mod Holdings
 pub mod Reasons
+pub mod Dismissed
 pub mod Numbers
 pub mod Line
 pub mod PushCounts

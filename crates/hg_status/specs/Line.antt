@@ -1,10 +1,12 @@
--- The line of a push.
+-- The line of a push, and that of a request that was refused before one was opened.
 use Rattle.std.specs.Prelude.{◌≡◌, ℕ, List, [], ◌++◌, codes, decimal}
 use Rattle.hg_status.specs.declared.push.ShownOutcome.{ShownOutcome}
 use Rattle.hg_status.specs.declared.push.ShownOutcome.TheVariants.{Done, Aborted}
 use Rattle.hg_status.specs.declared.push.Push.{Push}
 use Rattle.hg_status.specs.declared.push.AbortReason.{AbortReason}
 use Rattle.hg_status.specs.declared.push.AbortReason.TheVariants.{StreamFault}
+use Rattle.hg_queries.specs.declared.around.Dismissal.{Dismissal}
+use Rattle.hg_status.specs.Dismissed.{name_of_dismissal}
 use Rattle.hg_status.specs.Numbers.{millis}
 use Rattle.hg_status.specs.Reasons.{name_of_reason}
 
@@ -34,3 +36,12 @@ cost_text push = codes ": " ++ (decimal push.changesets ++ (codes " changesets, 
 pub record IsLine (push : Push) (line : List ℕ) : Type 0 where
   pub date : List ℕ
   pub says : line ≡ date ++ (codes "Z " ++ (outcome_text push.outcome ++ cost_text push))
+
+-- why a request was refused
+unfoldable pub refused_text : Dismissal → List ℕ
+refused_text why = codes "refused, " ++ (name_of_dismissal why ++ codes "\n")
+
+-- the line of a request that was refused: a date, and why
+pub record IsDismissalLine (why : Dismissal) (line : List ℕ) : Type 0 where
+  pub date : List ℕ
+  pub says : line ≡ date ++ (codes "Z " ++ refused_text why)

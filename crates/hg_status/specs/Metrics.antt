@@ -10,6 +10,9 @@ use Rattle.hg_status.specs.declared.push_counts.Counters.{Counters}
 use Rattle.hg_status.specs.declared.summary.Summary.{Summary}
 use Rattle.hg_status.specs.Numbers.{seconds}
 use Rattle.hg_status.specs.Reasons.{name_of_reason, place_of}
+use Rattle.hg_queries.specs.declared.around.Dismissal.{Dismissal}
+use Rattle.hg_queries.specs.declared.around.Dismissal.TheVariants as Why
+use Rattle.hg_status.specs.Dismissed.{name_of_dismissal, place_of_dismissal}
 
 -- a line with what a number is, and one with its type
 unfoldable pub head_lines : List ℕ → List ℕ → List ℕ → List ℕ
@@ -90,6 +93,35 @@ push_lines counters =
     ++ (refused_lines counters ++ (cut_lines counters ++ (denied_lines counters
     ++ counter (codes "pushes_done_total") (codes "Pushes that were done.") (decimal counters.done)))))
 
+unfoldable pub dismissed_line : Counters → Dismissal → List ℕ
+dismissed_line counters why = labelled_line (codes "requests_refused_total") (codes "reason")
+    (name_of_dismissal why) (slice_index counters.dismissed (place_of_dismissal why))
+
+-- requests that were not read whole or found no room
+unfoldable pub unread_lines : Counters → List ℕ
+unread_lines counters =
+    dismissed_line counters Why.LongBody
+    ++ (dismissed_line counters Why.LongHead
+    ++ (dismissed_line counters Why.NoRequest
+    ++ (dismissed_line counters Why.Lost
+    ++ dismissed_line counters Why.NoRoom)))
+
+-- and those that were refused for what they ask
+unfoldable pub untaken_lines : Counters → List ℕ
+untaken_lines counters =
+    dismissed_line counters Why.OtherServer
+    ++ (dismissed_line counters Why.NotFound
+    ++ (dismissed_line counters Why.Unclear
+    ++ (dismissed_line counters Why.Forbidden
+    ++ (dismissed_line counters Why.NotTaken
+    ++ dismissed_line counters Why.NotOpened))))
+
+unfoldable pub dismissed_lines : Counters → List ℕ
+dismissed_lines counters =
+    head_lines (codes "requests_refused_total") (codes "counter")
+    (codes "Requests that were refused before a push was opened, by reason.")
+    ++ (unread_lines counters ++ untaken_lines counters)
+
 unfoldable pub cost_lines : Counters → List ℕ
 cost_lines counters =
     counter (codes "pushed_changesets_total") (codes "Changesets that pushes added.") (decimal counters.changesets)
@@ -101,4 +133,5 @@ cost_lines counters =
 -- all of them
 abbrev pub metrics_of : {A : Type 0} → Summary A → List ℕ
 metrics_of summary = holdings_lines summary
-    ++ (phase_lines summary.phases ++ (push_lines summary.counters ++ cost_lines summary.counters))
+    ++ (phase_lines summary.phases ++ (push_lines summary.counters ++ (dismissed_lines summary.counters
+    ++ cost_lines summary.counters)))

@@ -1,6 +1,7 @@
 -- The page of a summary.
-use Rattle.std.specs.Prelude.{◌≡◌, ℕ, ◌-◌, ◌/◌, ◌%◌, ◌^◌, ◌==◌, Bool, false, not, nat_lt, min, List, [], ◌∷◌, ◌++◌, length, codes, decimal}
-use Rattle.std.specs.Prelude.{if◌then◌else◌}
+use Rattle.std.specs.Prelude.{◌≡◌, ℕ, ◌-◌, ◌/◌, ◌%◌, ◌^◌, ◌==◌, Bool, false, not, nat_lt, min, List, [], ◌∷◌, ◌++◌}
+use Rattle.std.specs.Prelude.{length, codes, decimal}
+use Rattle.std.specs.Prelude.{if◌then◌else◌, slice_index}
 use Rattle.std.specs.Fmt.{format_spec, padded_integral}
 use Rattle.hg_status.specs.declared.date.Date.{Date}
 use Rattle.hg_status.specs.declared.heads.ShownHead.{ShownHead}
@@ -11,6 +12,9 @@ use Rattle.hg_status.specs.declared.push.ShownOutcome.{ShownOutcome}
 use Rattle.hg_status.specs.declared.push.ShownOutcome.TheVariants.{Done, Aborted}
 use Rattle.hg_status.specs.declared.push_counts.Counters.{Counters}
 use Rattle.hg_status.specs.declared.summary.Summary.{Summary}
+use Rattle.hg_queries.specs.declared.around.Dismissal.{Dismissal}
+use Rattle.hg_queries.specs.declared.around.Dismissal.TheVariants as Why
+use Rattle.hg_status.specs.Dismissed.{name_of_dismissal, place_of_dismissal}
 use Rattle.hg_status.specs.Line.{reason_text, waits_text}
 use Rattle.hg_status.specs.PushCounts.{sum_of}
 use Rattle.hg_status.specs.Rows.{row_of}
@@ -147,6 +151,47 @@ pub record HasPushes (recent : List Push) (before after : List ℕ) : Type 0 whe
   pub rows : List (Push × Date)
   pub says : after ≡ with_pushes recent rows before
 
+-- ---- its refused requests
+
+-- how many requests were refused for a reason, where some were
+abbrev pub refused_item : ℕ → List ℕ → List ℕ
+refused_item count reason = if count == 0 then []
+    else codes "<span class=no><b>" ++ (decimal count ++ (codes " " ++ (reason ++ codes "</b></span>\n")))
+
+unfoldable pub dismissed_item : Counters → Dismissal → List ℕ
+dismissed_item counters why = refused_item (slice_index counters.dismissed (place_of_dismissal why)) (name_of_dismissal why)
+
+-- requests that were not read whole or found no room
+unfoldable pub unread_items : Counters → List ℕ
+unread_items counters =
+    dismissed_item counters Why.LongBody
+    ++ (dismissed_item counters Why.LongHead
+    ++ (dismissed_item counters Why.NoRequest
+    ++ (dismissed_item counters Why.Lost
+    ++ dismissed_item counters Why.NoRoom)))
+
+-- and those that were refused for what they ask
+unfoldable pub untaken_items : Counters → List ℕ
+untaken_items counters =
+    dismissed_item counters Why.OtherServer
+    ++ (dismissed_item counters Why.NotFound
+    ++ (dismissed_item counters Why.Unclear
+    ++ (dismissed_item counters Why.Forbidden
+    ++ (dismissed_item counters Why.NotTaken
+    ++ dismissed_item counters Why.NotOpened))))
+
+unfoldable pub dismissed_items : Counters → List ℕ
+dismissed_items counters = unread_items counters ++ untaken_items counters
+
+-- a line of them, or that there were none
+unfoldable pub refusals_line : List ℕ → List ℕ
+refusals_line items = if length items == 0 then codes "<p><i>None since the start.</i></p>\n"
+    else codes "<p class=k>" ++ (items ++ codes "</p>\n")
+
+unfoldable pub refusals_text : Counters → List ℕ
+refusals_text counters = codes "<h2>Refused requests <i>before a push was opened</i></h2>\n"
+    ++ refusals_line (dismissed_items counters)
+
 -- ---- its end
 
 unfoldable pub end_text : Counters → ℕ → Date → Date → List ℕ
@@ -169,11 +214,11 @@ unfoldable pub front_of : {A : Type 0} → List ℕ → Summary A → List ℕ
 front_of top summary = with_heads summary.holdings (put (put (put (put [] top) (title_text summary))
     (numbers_text summary.holdings)) (phases_text summary.phases))
 
--- Of the front each byte is told. After it stand rows of pushes and the end, which have the numbers of some pushes and
--- some dates: no name.
+-- Of the front each byte is told. After it stand rows of pushes, how many requests were refused and the end, which have
+-- the numbers of some pushes and some dates: no name.
 pub record IsPageOf {A : Type 0} (top : List ℕ) (summary : Summary A) (text : List ℕ) : Type 0 where
   pub heads : List ℕ
   pub is_front : heads ≡ front_of top summary
   pub rows : List ℕ
   pub has_pushes : HasPushes summary.recent heads rows
-  pub has_end : HasEnd summary.counters rows text
+  pub has_end : HasEnd summary.counters (put rows (refusals_text summary.counters)) text

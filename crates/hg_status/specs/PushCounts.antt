@@ -5,6 +5,8 @@ use Rattle.hg_status.specs.declared.push.ShownOutcome.{ShownOutcome}
 use Rattle.hg_status.specs.declared.push.ShownOutcome.TheVariants.{Done, Aborted}
 use Rattle.hg_status.specs.declared.push.Push.{Push}
 use Rattle.hg_status.specs.declared.push_counts.Counters.{Counters}
+use Rattle.hg_queries.specs.declared.around.Dismissal.{Dismissal}
+use Rattle.hg_status.specs.Dismissed.{place_of_dismissal}
 use Rattle.hg_status.specs.Reasons.{place_of}
 
 -- no push was added since that second
@@ -13,6 +15,7 @@ no_pushes start = record {
   start = start;
   done = 0;
   aborted = replicate 16 0;
+  dismissed = replicate 11 0;
   changesets = 0;
   bytes = 0;
   locked = 0;
@@ -39,10 +42,18 @@ counted counters push = record {
   start = counters.start;
   done = done_with counters.done push.outcome;
   aborted = aborted_with counters.aborted push.outcome;
+  dismissed = counters.dismissed;
   changesets = sum_of counters.changesets push.changesets;
   bytes = sum_of counters.bytes push.bytes;
   locked = sum_of counters.locked push.locked;
   synced = sum_of counters.synced push.synced;
+}
+
+-- the numbers with one request more that was refused before a push was opened
+abbrev pub with_dismissed : Counters → Dismissal → Counters
+with_dismissed counters why = record counters {
+  dismissed = slice_set counters.dismissed (place_of_dismissal why)
+      (sum_of (slice_index counters.dismissed (place_of_dismissal why)) 1);
 }
 
 -- the last hundred with one more

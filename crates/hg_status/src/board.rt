@@ -12,7 +12,7 @@ use crate::push::Push;
 use crate::push_counts::{Counters, PushCounts};
 use crate::summary::Summary;
 use hg_parts::Store;
-use hg_queries::Shown;
+use hg_queries::{Dismissal, Shown};
 use hg_repo::Repo;
 use hg_types::{NoMemory, Seq, Settings};
 use std::alloc::{Allocator, Global};
@@ -70,6 +70,11 @@ impl<'a, R: Wait + Clock> Board<'a, R> {
     /// Counts a push that was not opened.
     pub fn count(&self, push: Push) {
         self.tally.lock(self.rt).add(push);
+    }
+
+    /// Counts a request that was refused before a push was opened.
+    pub fn dismiss(&self, why: Dismissal) {
+        self.tally.lock(self.rt).dismiss(why);
     }
 
     /// Counts a push that ended, in any way. A done one is in the store.

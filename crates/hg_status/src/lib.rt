@@ -4,7 +4,9 @@
 //! It takes two steps, so that nothing dear is done while a repository is locked. [`holdings_of`] reads what
 //! is shown of a repository. The [`PushCounts`] counts pushes and keeps the last of them. From these a
 //! [`Summary`] is put together, and [`page_text`] and [`metrics_text`] write it without the repository.
-//! [`log_line`] is the line of one push. Whatever clients named is shown escaped ([`shown_names_are_harmless`]). Nothing here starts a thread or waits.
+//! [`log_line`] is the line of one push, and [`dismissal_line`] that of a request that was refused before one
+//! was opened. Whatever clients named is shown escaped ([`shown_names_are_harmless`]). Nothing here starts a
+//! thread or waits.
 //!
 //! What a browser and a collector of counters are shown of a server.
 //!
@@ -22,6 +24,7 @@
 mod board;
 mod brought;
 mod date;
+mod dismissed;
 mod heads;
 mod holdings;
 mod laws;
@@ -33,6 +36,7 @@ mod page;
 mod push;
 mod push_counts;
 mod reason;
+mod refusals;
 mod room;
 mod rows;
 mod summary;
@@ -40,9 +44,10 @@ mod summary;
 pub use board::{Board, millis_now};
 pub use brought::brought_by;
 pub use date::{Date, date_of};
+pub use hg_queries::Dismissal;
 pub use holdings::{Holdings, ShownHead, holdings_of};
 pub use laws::shown_names_are_harmless;
-pub use line::log_line;
+pub use line::{dismissal_line, log_line};
 pub use metrics::metrics_text;
 pub use name::Name;
 pub use page::page_text;

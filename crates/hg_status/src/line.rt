@@ -1,11 +1,15 @@
-//! The line of a push.
+//! The line of a push, and that of a request that was refused before one was opened.
 
-ghost use Rattle.std.specs.Prelude.{◌≡◌, ◌++◌, IfOk, OnOk, string_bytes};
-ghost use Rattle.hg_status.specs.Line.{cost_text, outcome_text, reason_text, waits_text, IsLine};
+ghost use Rattle.std.specs.Prelude.{◌≡◌, ◌++◌, codes, IfOk, OnOk, string_bytes};
+ghost use Rattle.hg_status.specs.Line.{cost_text, outcome_text, reason_text, refused_text, waits_text};
+ghost use Rattle.hg_status.specs.Line.{IsDismissalLine, IsLine};
+ghost use Rattle.hg_status.specs.Page.{day_text, time_text};
 
-use crate::date::{date_of, push_day, push_time};
+use crate::date::{Date, date_of, push_day, push_time};
+use crate::dismissed::name;
 use crate::numbers::push_millis;
 use crate::push::{AbortReason, Push, ShownOutcome};
+use hg_queries::Dismissal;
 use hg_types::{NoMemory, Seq};
 use std::alloc::Allocator;
 
@@ -16,13 +20,49 @@ pub fn log_line<A: Allocator + Copy>(alloc: A, push: &Push) -> Result<Seq<u8, A>
 {
     let mut line = String::new(alloc);
     let date = date_of(push.time);
-    push_day(&mut line, &date)?;
-    line.push('T')?;
-    push_time(&mut line, &date)?;
+    push_date(&mut line, &date)?;
     line.push_str("Z ")?;
     push_outcome(&mut line, push.outcome)?;
     push_cost(&mut line, push)?;
     Ok(Seq::from_vec(line.into_bytes()))
+}
+
+/// The line of a request that was refused before a push was opened: when, and why. A line feed ends it.
+pub fn dismissal_line<A: Allocator + Copy>(
+    alloc: A,
+    time: u64,
+    why: Dismissal,
+) -> Result<Seq<u8, A>, NoMemory>
+    ensures { IfOk result (λ line. IsDismissalLine why line) }
+{
+    let mut line = String::new(alloc);
+    let date = date_of(time);
+    push_date(&mut line, &date)?;
+    line.push_str("Z ")?;
+    push_refusal(&mut line, why)?;
+    Ok(Seq::from_vec(line.into_bytes()))
+}
+
+/// Adds a date, as `2026-11-25T06:12:03`.
+fn push_date<A: Allocator>(line: &mut String<A>, date: &Date) -> Result<(), NoMemory>
+    ensures { OnOk result (string_bytes line.new
+        ≡ string_bytes line.old ++ (day_text date.now ++ (codes "T" ++ time_text date.now))) }
+{
+    push_day(line, date)?;
+    line.push_str("T")?;
+    push_time(line, date)?;
+    Ok(())
+}
+
+/// Adds why a request was refused.
+#[tactic(auto, unfolding(crate::specs::Line::refused_text))]
+fn push_refusal<A: Allocator>(line: &mut String<A>, why: Dismissal) -> Result<(), NoMemory>
+    ensures { OnOk result (string_bytes line.new ≡ string_bytes line.old ++ refused_text why) }
+{
+    line.push_str("refused, ")?;
+    line.push_str(name(why))?;
+    line.push_str("\n")?;
+    Ok(())
 }
 
 /// Adds what a push brought, and what it cost.

@@ -1,16 +1,19 @@
 //! The numbers in the text form that Prometheus reads.
 
 ghost use Rattle.std.specs.Prelude.{◌≡◌, ◌++◌, IfOk, OnOk, codes, decimal, string_bytes};
-ghost use Rattle.hg_status.specs.Metrics.{aborted_line, cost_lines, cut_lines, denied_lines, head_lines};
+ghost use Rattle.hg_status.specs.Metrics.{aborted_line, cost_lines, cut_lines, denied_lines, dismissed_line};
+ghost use Rattle.hg_status.specs.Metrics.{dismissed_lines, head_lines, unread_lines, untaken_lines};
 ghost use Rattle.hg_status.specs.Metrics.{holdings_lines, labelled_line, metrics_of, phase_line, phase_lines};
 ghost use Rattle.hg_status.specs.Metrics.{number_lines, push_lines, refused_lines, value_line};
 ghost use Rattle.hg_status.specs.Numbers.{seconds};
 
+use crate::dismissed::{name, place};
 use crate::numbers::push_seconds;
 use crate::push::AbortReason;
 use crate::push_counts::Counters;
 use crate::summary::Summary;
 use hg_phases::PhaseCounts;
+use hg_queries::Dismissal;
 use hg_types::{NoMemory, Seq};
 use std::alloc::Allocator;
 
@@ -26,6 +29,7 @@ pub fn metrics_text<A: Allocator + Copy>(
     push_holdings(&mut text, summary)?;
     push_phases(&mut text, &summary.phases)?;
     push_pushes(&mut text, &summary.counters)?;
+    push_dismissals(&mut text, &summary.counters)?;
     push_costs(&mut text, &summary.counters)?;
     Ok(Seq::from_vec(text.into_bytes()))
 }
@@ -192,6 +196,62 @@ fn push_aborted<A: Allocator>(
 {
     let count = counters.aborted[reason.place()];
     push_labelled(text, "pushes_aborted_total", "reason", reason.name(), count)
+}
+
+/// Adds how many requests were refused before a push was opened, by reason.
+#[tactic(auto, unfolding(crate::specs::Metrics::dismissed_lines))]
+fn push_dismissals<A: Allocator>(text: &mut String<A>, counters: &Counters) -> Result<(), NoMemory>
+    ensures { OnOk result (string_bytes text.new ≡ string_bytes text.old ++ dismissed_lines counters.now) }
+{
+    push_head(
+        text,
+        "requests_refused_total",
+        "counter",
+        "Requests that were refused before a push was opened, by reason.",
+    )?;
+    push_unread(text, counters)?;
+    push_untaken(text, counters)?;
+    Ok(())
+}
+
+/// Adds how many requests were refused that were not read whole, or found no room.
+#[tactic(auto, unfolding(crate::specs::Metrics::unread_lines))]
+fn push_unread<A: Allocator>(text: &mut String<A>, counters: &Counters) -> Result<(), NoMemory>
+    ensures { OnOk result (string_bytes text.new ≡ string_bytes text.old ++ unread_lines counters.now) }
+{
+    push_dismissed(text, counters, Dismissal::LongBody)?;
+    push_dismissed(text, counters, Dismissal::LongHead)?;
+    push_dismissed(text, counters, Dismissal::NoRequest)?;
+    push_dismissed(text, counters, Dismissal::Lost)?;
+    push_dismissed(text, counters, Dismissal::NoRoom)?;
+    Ok(())
+}
+
+/// Adds how many requests were refused for what they ask.
+#[tactic(auto, unfolding(crate::specs::Metrics::untaken_lines))]
+fn push_untaken<A: Allocator>(text: &mut String<A>, counters: &Counters) -> Result<(), NoMemory>
+    ensures { OnOk result (string_bytes text.new ≡ string_bytes text.old ++ untaken_lines counters.now) }
+{
+    push_dismissed(text, counters, Dismissal::OtherServer)?;
+    push_dismissed(text, counters, Dismissal::NotFound)?;
+    push_dismissed(text, counters, Dismissal::Unclear)?;
+    push_dismissed(text, counters, Dismissal::Forbidden)?;
+    push_dismissed(text, counters, Dismissal::NotTaken)?;
+    push_dismissed(text, counters, Dismissal::NotOpened)?;
+    Ok(())
+}
+
+/// Adds how many requests were refused for a reason.
+#[tactic(auto, unfolding(crate::specs::Metrics::dismissed_line))]
+fn push_dismissed<A: Allocator>(
+    text: &mut String<A>,
+    counters: &Counters,
+    why: Dismissal,
+) -> Result<(), NoMemory>
+    ensures { OnOk result (string_bytes text.new ≡ string_bytes text.old ++ dismissed_line counters.now why) }
+{
+    let count = counters.dismissed[place(why)];
+    push_labelled(text, "requests_refused_total", "reason", name(why), count)
 }
 
 /// Adds what pushes brought, and how long they held the lock and waited for the disk.

@@ -3,12 +3,13 @@
 ghost use Rattle.std.specs.Prelude.{◌≡◌, ◌≤◌, ◌++◌, length, IfOk, OnOk, string_bytes};
 ghost use Rattle.hg_status.specs.Page.{end_text, held_text, moment_text, numbers_text, phases_text, publishing_text, put};
 ghost use Rattle.hg_status.specs.Page.{title_text, with_head_rows, with_head_table, with_heads, with_left_out};
-ghost use Rattle.hg_status.specs.Page.{HasEnd, HasPushes, HasPushRows, IsPageOf};
+ghost use Rattle.hg_status.specs.Page.{refusals_text, HasEnd, HasPushes, HasPushRows, IsPageOf};
 
 use crate::date::{Date, date_of, push_day, push_time};
 use crate::holdings::{Holdings, ShownHead};
 use crate::push::Push;
 use crate::push_counts::Counters;
+use crate::refusals::push_refusals;
 use crate::room::Page;
 use crate::rows::{head_row, push_row};
 use crate::summary::Summary;
@@ -106,6 +107,7 @@ pub fn page_text<A: Allocator + Copy>(
     put_phases(alloc, &mut page, summary)?;
     put_heads(alloc, &mut page, summary)?;
     put_pushes(alloc, &mut page, summary.recent.as_slice())?;
+    put_refusals(alloc, &mut page, &summary.counters)?;
     put_end(alloc, &mut page, &summary.counters, summary.time)?;
     Ok(Seq::from_vec(page.into_text().into_bytes()))
 }
@@ -305,6 +307,20 @@ fn put_push_rows<A: Allocator + Copy>(
         let row = push_row(alloc, push)?;
         page.put_within(row.as_str(), PUSHES_END)?;
     }
+    Ok(())
+}
+
+/// Puts how many requests were refused before a push was opened, by reason.
+fn put_refusals<A: Allocator + Copy>(
+    alloc: A,
+    page: &mut Page<A>,
+    counters: &Counters,
+) -> Result<(), NoMemory>
+    ensures { OnOk result (string_bytes page.new.text ≡ put (string_bytes page.old.text) (refusals_text counters.now)) }
+{
+    let mut text = String::new(alloc);
+    push_refusals(alloc, &mut text, counters)?;
+    page.put(text.as_str())?;
     Ok(())
 }
 

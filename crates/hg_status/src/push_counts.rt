@@ -1,9 +1,11 @@
 //! The pushes since a start, counted, and the last of them.
 
 ghost use Rattle.std.specs.Prelude.{◌≡◌, ◌≤◌, [], vec_capacity, IfOk};
-ghost use Rattle.hg_status.specs.PushCounts.{counted, no_pushes, recent_with};
+ghost use Rattle.hg_status.specs.PushCounts.{counted, no_pushes, recent_with, with_dismissed};
 
+use crate::dismissed::{DISMISSALS, place};
 use crate::push::{Push, REASONS, ShownOutcome};
+use hg_queries::Dismissal;
 use hg_types::{NoMemory, Seq};
 use std::alloc::{Allocator, Global};
 
@@ -19,6 +21,8 @@ pub struct Counters {
     pub done: u64,
     /// How many pushes were aborted, by the place of the reason.
     pub aborted: [u64; REASONS],
+    /// How many other requests were refused, by the place of the reason.
+    pub dismissed: [u64; DISMISSALS],
     /// How many changesets the pushes added.
     pub changesets: u64,
     /// How many bytes their bundles had, those of aborted ones too.
@@ -49,6 +53,7 @@ impl<A: Allocator> PushCounts<A> {
             start,
             done: 0,
             aborted: [0; REASONS],
+            dismissed: [0; DISMISSALS],
             changesets: 0,
             bytes: 0,
             locked: 0,
@@ -78,6 +83,14 @@ impl<A: Allocator> PushCounts<A> {
     {
         self.counters = with_push(self.counters, &push);
         keep(&mut self.recent, push);
+    }
+
+    /// Counts a request that was refused before a push was opened.
+    pub fn dismiss(&mut self, why: Dismissal)
+        ensures counters { self.new.counters ≡ with_dismissed self.old.counters why }
+        ensures recent { self.new.recent ≡ self.old.recent }
+    {
+        self.counters = with_dismissal(self.counters, why);
     }
 }
 
@@ -113,5 +126,15 @@ fn with_push(counters: Counters, push: &Push) -> Counters
     counters.bytes = counters.bytes.saturating_add(push.bytes);
     counters.locked = counters.locked.saturating_add(push.locked);
     counters.synced = counters.synced.saturating_add(push.synced);
+    counters
+}
+
+/// What they come to with one request more that was refused.
+fn with_dismissal(counters: Counters, why: Dismissal) -> Counters
+    ensures { result ≡ with_dismissed counters why }
+{
+    let mut counters = counters;
+    let at = place(why);
+    counters.dismissed[at] = counters.dismissed[at].saturating_add(1);
     counters
 }

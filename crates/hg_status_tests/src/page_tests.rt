@@ -179,7 +179,13 @@ fn an_empty_repository(rt: HostRuntime) -> Result<(), Fail> {
     let text = text?;
     assert!(rt; has(&text, b"<b>0</b>changesets"));
     assert!(rt; has(&text, b"No changesets yet."));
-    assert!(rt; has(&text, b"None since the start."));
+    assert!(rt;
+        has(
+            &text,
+            b"<h2>Pushes <i>the latest first</i></h2>\n<p><i>None since the start."
+        )
+    );
+    assert!(rt; has(&text, b"opened</i></h2>\n<p><i>None since the start."));
     assert!(rt; has(&text, b"2026-11-25 06:12:03"));
     assert!(rt; text.as_slice().ends_with(b"</footer></main></html>\n"));
     let lower = b"<script";
@@ -404,6 +410,9 @@ fn ten_thousand_heads_and_bookmarks(rt: HostRuntime) -> Result<(), Fail> {
             synced: u64::MAX,
         });
     }
+    for why in ALL_DISMISSALS {
+        tally.dismiss(why);
+    }
     assert_eq!(rt; tally.recent().len(), 100);
     assert_eq!(rt; tally.counters().done, 150);
     let mut parts = empty(alloc, state);
@@ -418,12 +427,52 @@ fn ten_thousand_heads_and_bookmarks(rt: HostRuntime) -> Result<(), Fail> {
     assert!(rt; has(&text, b"<td>50<td>"));
     assert!(rt; !has(&text, b"<td>49<td>"));
     assert!(rt; has(&text, b"9999-12-31"));
+    assert!(rt; has(&text, b"<b>1 body over the limit</b>"));
+    assert!(rt; has(&text, b"<b>1 no push opened</b>"));
     assert!(rt; text.as_slice().ends_with(b"</footer></main></html>\n"));
     let digits = hex::encode(alloc, &last.0[..6])?;
     assert!(rt; has(&text, digits.as_bytes()));
     // All names on one head: eight are shown.
     assert!(rt; of_one.len() <= 65_535);
     assert!(rt; has(&of_one, b"<i>and 9992 more</i>"));
+    Ok(())
+}
+
+/// All reasons for which a request is refused before a push is opened.
+const ALL_DISMISSALS: [Dismissal; 11] = [
+    Dismissal::LongBody,
+    Dismissal::LongHead,
+    Dismissal::NoRequest,
+    Dismissal::Lost,
+    Dismissal::NoRoom,
+    Dismissal::OtherServer,
+    Dismissal::NotFound,
+    Dismissal::Unclear,
+    Dismissal::Forbidden,
+    Dismissal::NotTaken,
+    Dismissal::NotOpened,
+];
+
+/// The page of an empty repository after three requests were refused.
+fn refusals_page(alloc: Global, parts: &Parts<Global>) -> Result<Seq<u8>, NoMemory> {
+    let mut tally = PushCounts::new(alloc, 0)?;
+    tally.dismiss(Dismissal::LongBody);
+    tally.dismiss(Dismissal::NotFound);
+    tally.dismiss(Dismissal::LongBody);
+    page(alloc, parts, &tally)
+}
+
+#[test]
+fn refused_requests_are_on_the_page(rt: HostRuntime) -> Result<(), Fail> {
+    let alloc: Global = rt.alloc();
+    let state = RandomState::new(&rt)?;
+    let parts = empty(alloc, state);
+    let text = refusals_page(alloc, &parts);
+    drop(parts);
+    let text = text?;
+    let shown = b"<h2>Refused requests <i>before a push was opened</i></h2>\n<p class=k>\
+        <span class=no><b>2 body over the limit</b></span>\n<span class=no><b>1 not found</b></span>\n</p>\n";
+    assert!(rt; has(&text, shown));
     Ok(())
 }
 
@@ -447,12 +496,15 @@ fn show_parts<A: Allocator + Copy>(alloc: A, parts: &mut Parts<A>) -> Result<(),
         synced: 0,
     };
     tally.add(push);
+    tally.dismiss(Dismissal::Forbidden);
     let summary = summary(alloc, parts, &tally)?;
     let text = page_text(alloc, &summary)?;
     drop(text);
     let text = metrics_text(alloc, &summary)?;
     drop(text);
     let text = log_line(alloc, &push)?;
+    drop(text);
+    let text = dismissal_line(alloc, 0, Dismissal::NotTaken)?;
     drop(text);
     Ok(())
 }
@@ -496,6 +548,10 @@ fn the_numbers(rt: HostRuntime) -> Result<(), Fail> {
         b"hg_pushd_pushes_done_total 1\n".as_slice(),
         b"hg_pushd_pushes_aborted_total{reason=\"heads changed\"} 1\n".as_slice(),
         b"hg_pushd_pushes_aborted_total{reason=\"out of memory\"} 0\n".as_slice(),
+        b"# TYPE hg_pushd_requests_refused_total counter\n".as_slice(),
+        b"hg_pushd_requests_refused_total{reason=\"body over the limit\"} 2\n".as_slice(),
+        b"hg_pushd_requests_refused_total{reason=\"head over the limit\"} 0\n".as_slice(),
+        b"hg_pushd_requests_refused_total{reason=\"connection lost\"} 1\n".as_slice(),
         b"hg_pushd_pushed_changesets_total 1\n".as_slice(),
         b"hg_pushd_pushed_bytes_total 800\n".as_slice(),
         b"hg_pushd_lock_seconds_total 3.000000\n".as_slice(),
@@ -525,6 +581,9 @@ fn numbers_text(alloc: Global, parts: &mut Parts<Global>) -> Result<Seq<u8>, NoM
     push.outcome = ShownOutcome::Aborted(AbortReason::HeadsChanged);
     push.changesets = 0;
     tally.add(push);
+    tally.dismiss(Dismissal::LongBody);
+    tally.dismiss(Dismissal::Lost);
+    tally.dismiss(Dismissal::LongBody);
     let summary = summary(alloc, parts, &tally)?;
     metrics_text(alloc, &summary)
 }

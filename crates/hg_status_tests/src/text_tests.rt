@@ -40,6 +40,12 @@ fn the_line_of_a_push(rt: HostRuntime) {
     );
 }
 
+#[test]
+fn the_line_of_a_refused_request(rt: HostRuntime) {
+    let line = dismissal_line(rt.alloc(), 1_795_587_123, Dismissal::LongBody);
+    assert!(rt; is_text(line, b"2026-11-25T06:12:03Z refused, body over the limit\n"));
+}
+
 /// Days whose dates other programs tell.
 #[test]
 fn dates(rt: HostRuntime) {

@@ -2,3 +2,4 @@ pub mod Wires
 pub mod Rounds
 pub mod Following
 pub mod Bodies
+pub mod Telling

@@ -16,6 +16,7 @@ ghost use Rattle.hg_web.specs.Answering.{around_of, capabilities_with, is_look, 
 ghost use Rattle.hg_http.specs.Policies.{AsksOnce, HasAsked};
 ghost use Rattle.hg_web.specs.Pushes.{Answered};
 
+use crate::dismissal::tell_answer;
 use crate::key::push_key;
 use crate::letting::unbundle_if_let;
 use crate::long::{LongCommand, LongCommands};
@@ -39,8 +40,35 @@ use std::alloc::Allocator;
 use std::sync::Wait;
 
 /// Answers a request. Its client has then seen what the answer speaks of. Where the store failed, there is no
-/// answer.
+/// answer. Who watches hears why it is refused, if it is.
 pub fn answer_request<
+    J: Storing<A>,
+    D: Device,
+    A: Allocator + Copy,
+    R: Wait,
+    S: Shown<A>,
+    V: Watch<A>,
+    P: Policy<A>,
+>(
+    host: &Host<'_, J, D, R, A>,
+    terms: &WebTerms<'_, S>,
+    client: KeptClient<J, A>,
+    request: &Request<Bytes>,
+    watch: &mut V,
+    policy: &mut P,
+) -> (KeptClient<J, A>, Result<HttpAnswer<A>, NotStored>)
+    ensures answered { Answered (AnswersRequest J.capacity J.first
+        (around_of (IsCovered D.seen D.may_leave D.moment J.head J.stored J.first) S.is_page S.are_metrics terms.now)
+        (HasAsked (P.asked policy.old) (P.asked policy.new)) request.now) client result.1 result.0 }
+    ensures asks { AsksOnce (P.asked policy.old) (P.asked policy.new) }
+{
+    let (client, answer) = answer_addressed(host, terms, client, request, watch, policy);
+    tell_answer(watch, &answer);
+    (client, answer)
+}
+
+/// Answers a request, or says that it is for another server, or may be read otherwise.
+fn answer_addressed<
     J: Storing<A>,
     D: Device,
     A: Allocator + Copy,

@@ -47,9 +47,13 @@ pub(crate) struct Share<'a> {
     taken: usize,
     /// Whether there was no room for what came.
     is_over: bool,
+    /// Whether nothing came at last: the input ended.
+    has_ended: bool,
 }
 
 impl<'a> Share<'a> {
+    ghost use Rattle.std.specs.Prelude.{◌≡◌, nat_lt};
+
     /// Nothing yet.
     pub(crate) fn new(budget: &'a Budget) -> Share<'a> {
         Share {
@@ -57,11 +61,13 @@ impl<'a> Share<'a> {
             came: 0,
             taken: 0,
             is_over: false,
+            has_ended: false,
         }
     }
 
-    /// Counts bytes that came.
+    /// Counts bytes that came: none where the input ended.
     pub(crate) fn grow<R: Wait>(&mut self, rt: &R, bytes: usize) {
+        self.has_ended = bytes == 0;
         self.came = self.came.saturating_add(bytes);
         let wanted = self.came.saturating_sub(FREE);
         let more = wanted.saturating_sub(self.taken);
@@ -78,6 +84,20 @@ impl<'a> Share<'a> {
     /// Whether there was room for all that came since the last answer.
     pub(crate) fn has_room(&self) -> bool {
         !self.is_over
+    }
+
+    /// Whether the input ended.
+    pub(crate) fn has_ended(&self) -> bool
+        ensures { result ≡ self.now.has_ended }
+    {
+        self.has_ended
+    }
+
+    /// Whether some of a request came that was not answered.
+    pub(crate) fn is_begun(&self) -> bool
+        ensures { result ≡ nat_lt 0 self.now.came }
+    {
+        self.came > 0
     }
 
     /// Forgets what came, since it was answered. What was taken stays taken: the connection keeps the block of its

@@ -92,13 +92,12 @@ fn ask<P: Policy<A>, V: Watch<A>, A: Allocator>(
     denial_of(verdict)
 }
 
-/// Why a push may not run, if it may not.
+/// Why a push may not run, if it may not. Where memory was refused, the answer says so, and who watches hears of that.
 fn reason_of<A: Allocator>(verdict: &Verdict<A>) -> Option<Denial> {
     match verdict {
-        Verdict::LetThrough => None,
+        Verdict::LetThrough | Verdict::NoMemory => None,
         Verdict::Refused(_) => Some(Denial::Refused),
         Verdict::NoAnswer => Some(Denial::NoAnswer),
-        Verdict::NoMemory => Some(Denial::NoMemory),
     }
 }
 

@@ -1,6 +1,7 @@
 //! A connection over HTTP.
 
-ghost use Rattle.std.specs.Prelude.{◌≡◌, ◌≢◌, ℕ, ◌⊎◌, Bool, true, false, Ok, List, [], ◌++◌};
+ghost use Rattle.std.specs.Prelude.{◌≡◌, ◌≢◌, ℕ, ◌⊎◌, Bool, true, false, Ok, None, Some, List, [], ◌++◌, nat_lt};
+ghost use Rattle.std.specs.Prelude.{if◌then◌else◌};
 ghost use Rattle.std.specs.Prelude.{IfOk, MatchResult, OnOk, OnErr};
 ghost use mathlib.Core.List.{IsPrefix};
 ghost use Rattle.std.specs.Io.KnownBytes.{Appends, Consumes, Keeps};
@@ -12,18 +13,21 @@ ghost use Rattle.hg_web.specs.Answering.{Responds};
 ghost use Rattle.hg_web.specs.Serving.{Converses, lost_text, no_room_text, ServesHttp};
 ghost use Rattle.hg_http.specs.Following.{AreRequests, FollowsAt, KeepsUp, limits_of};
 ghost use Rattle.hg_web.specs.code.Following.{Brings, EndsStretch, HasRead, HasSent, Passes};
+ghost use Rattle.hg_web.specs.code.Telling.{last_told};
+ghost use Rattle.hg_web.specs.Dismissals.{unread_of};
 
 use crate::budget::Share;
+use crate::dismissal::unread_as;
 use crate::terms::{Host, WebTerms};
 use crate::wire::Wire;
 use hg_commit::{KeptClient, Ledger, Storing};
 use hg_connection::{Sending, send};
 use hg_durable::Keeping;
 use hg_http::{Follower, Policy, RequestEnd};
-use hg_queries::{Shown, ViewCache, Watch};
+use hg_queries::{Dismissal, Shown, ViewCache, Watch};
 use hg_serve::Server;
 use hg_store::Device;
-use http_server::{Config, Connection, State};
+use http_server::{Config, Connection, Reason, State};
 use std::alloc::{Allocator, Global};
 use std::hash::RandomState;
 use std::io;
@@ -44,7 +48,8 @@ pub enum ConnectionEnd {
 /// Serves a connection until it is done, or until a read or a write fails, and each answer that depends on the
 /// repository once all done pushes that it rests on are on the device. A body may be as long as the limit on a
 /// stream. Where a request finds no room its rest is read and dropped, the answer says so, and the next one is
-/// served. The policy is asked of each push before it runs, and nothing is locked meanwhile. The names of header fields come from strangers, so the keys are to be random.
+/// served. The policy is asked of each push before it runs, and nothing is locked meanwhile. The names of header fields
+/// come from strangers, so the keys are to be random. Who watches hears of each request that is refused.
 pub fn serve_http<
     J: Storing<Global>,
     D: Device,
@@ -162,7 +167,7 @@ fn serve_stretches<
     'stretches: for _ in 0..u64::MAX {
         let mut connection = Connection::new(alloc, keys, config);
         let mut follower = Follower::new(alloc, config.limits);
-        let ended = converse(
+        let ended = serve_stretch(
             rt,
             &mut connection,
             &mut follower,
@@ -185,6 +190,109 @@ fn serve_stretches<
         }
     }
     Err(ErrorKind::TimedOut.into())
+}
+
+/// Serves one stretch of requests, and tells who watches why the last one was refused, if it was.
+fn serve_stretch<
+    J: Storing<A>,
+    D: Device,
+    R: Wait,
+    S: Shown<A>,
+    V: Watch<A>,
+    P: Policy<A>,
+    A: Allocator + Copy,
+    I: BufRead,
+    W: Write,
+>(
+    rt: &R,
+    connection: &mut Connection,
+    follower: &mut Follower,
+    wire: &mut Wire<'_, J, D, R, S, V, P, A>,
+    share: &mut Share<'_>,
+    reader: &mut I,
+    writer: &mut W,
+) -> io::Result<Stretch>
+    requires { (history connection.old ≡ new_history) × FollowsAt follower.old [] 0
+        × (limits_of follower.old ≡ (config_of connection.old).limits) }
+    ensures { EndsStretch (config_of connection.old) (Responds J.capacity J.first
+        (IsCovered D.seen D.may_leave D.moment J.head J.stored J.first) S.is_page S.are_metrics) wire.old wire.new
+        (I.remaining reader.old) (I.remaining reader.new) (W.contents writer.old) (W.contents writer.new)
+        follower.new result }
+{
+    let ended = converse(rt, connection, follower, wire, share, reader, writer);
+    tell_refused(connection, share, wire, &ended);
+    ended
+}
+
+/// Tells who watches why the last request of a stretch was refused, if it was.
+fn tell_refused<
+    J: Storing<A>,
+    D: Device,
+    R: Wait,
+    S: Shown<A>,
+    V: Watch<A>,
+    P: Policy<A>,
+    A: Allocator + Copy,
+>(
+    connection: &Connection,
+    share: &Share<'_>,
+    wire: &mut Wire<'_, J, D, R, S, V, P, A>,
+    ended: &io::Result<Stretch>,
+)
+    ensures { wire.new ≡ wire.old }
+{
+    if wire.has_failed() {
+        return;
+    }
+    if let Some(why) = last_refusal(connection, share, ended) {
+        wire.dismiss(why);
+    }
+}
+
+/// Why the last request of a stretch was refused, if it was: HTTP could not read it, it found no room, or the
+/// connection ended, failed or fell silent within it. What was refused by its answer is told before that is sent.
+fn last_refusal(
+    connection: &Connection,
+    share: &Share<'_>,
+    ended: &io::Result<Stretch>,
+) -> Option<Dismissal>
+    ensures { result ≡ last_told (history connection.now).state share.now.has_ended (nat_lt 0 share.now.came) ended.now }
+{
+    match ended {
+        Ok(Stretch::Done) => unread(connection),
+        Ok(Stretch::Refused { .. }) => Some(no_room_or_lost(share.has_ended())),
+        Err(_) => lost_if(share.is_begun()),
+    }
+}
+
+/// Why a request is refused that found no room, or that broke off in its body.
+fn no_room_or_lost(has_ended: bool) -> Dismissal
+    ensures { result ≡ (if has_ended then Dismissal.Lost else Dismissal.NoRoom) }
+{
+    match has_ended {
+        true => Dismissal::Lost,
+        false => Dismissal::NoRoom,
+    }
+}
+
+/// Why a request is refused with which its connection failed, if one was begun.
+fn lost_if(is_begun: bool) -> Option<Dismissal>
+    ensures { result ≡ (if is_begun then Some Dismissal.Lost else None) }
+{
+    match is_begun {
+        true => Some(Dismissal::Lost),
+        false => None,
+    }
+}
+
+/// Why HTTP could not read a request, if it could not.
+fn unread(connection: &Connection) -> Option<Dismissal>
+    ensures { result ≡ unread_of (history connection.now).state }
+{
+    match connection.state() {
+        State::Closing(Reason::Refused(why)) => Some(unread_as(why)),
+        _ => None,
+    }
 }
 
 /// Reads and drops the rest of a request that found no room, if it was not read whole, and answers that. Says

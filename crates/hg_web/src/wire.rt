@@ -10,7 +10,7 @@ use crate::terms::{Host, WebTerms};
 use bytes::Bytes;
 use hg_commit::{KeptClient, NotStored, Storing};
 use hg_http::{Policy, respond};
-use hg_queries::{Shown, Watch};
+use hg_queries::{Dismissal, Shown, Watch};
 use hg_store::Device;
 use http::Request;
 use http_server::{Log, Response, Service};
@@ -132,6 +132,13 @@ where
         ensures { self.new ≡ self.old }
     {
         hold(self.global, &mut self.spare)
+    }
+
+    /// Tells who watches why a request was refused.
+    pub(crate) fn dismiss(&mut self, why: Dismissal)
+        ensures { self.new ≡ self.old }
+    {
+        self.watch.dismissed(why);
     }
 
     /// Its client and its policy, and whether the store failed before a request was answered.

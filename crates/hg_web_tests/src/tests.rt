@@ -23,6 +23,7 @@ use hg_commit::{KeptClient, Ledger, Parts, Storing};
 use hg_durable::{ClosedKept, close_kept};
 use hg_help_serve_tests::{client_of, new_log, settings};
 use hg_help_store_tests::device::Memory;
+use hg_help_store_tests::drawer::Drawer;
 use hg_queue::{PartQueue, Taker};
 use hg_recovery::replay_records;
 use hg_repo::Repo;
@@ -30,8 +31,8 @@ use hg_serve::{Point, Probe, Server};
 use hg_store::{Device, Log, read_records, recover};
 use hg_types::{NoMemory, Seq};
 use hg_web::{
-    Address, Budget, ConnectionEnd, Denial, Shown, Verdict, ViewCache, Watch, WatchedPush,
-    WebTerms, serve_http,
+    Address, Budget, ConnectionEnd, Denial, Dismissal, Shown, Verdict, ViewCache, Watch,
+    WatchedPush, WebTerms, serve_http,
 };
 use std::alloc::{AllocFailed, Allocator, Global};
 use std::hash::RandomState;
@@ -76,6 +77,9 @@ struct Tally {
     lost: usize,
     /// How many were not let through.
     denied: usize,
+    /// How many other requests were refused, and why the last one was.
+    dismissed: usize,
+    why: Option<Dismissal>,
     bytes: usize,
 }
 
@@ -87,6 +91,8 @@ impl Tally {
             kept: 0,
             lost: 0,
             denied: 0,
+            dismissed: 0,
+            why: None,
             bytes: 0,
         }
     }
@@ -118,6 +124,11 @@ impl<A: Allocator> Watch<A> for Tally {
 
     fn denied(&mut self, _why: Denial, _bundle: &[u8]) {
         self.denied = self.denied.saturating_add(1);
+    }
+
+    fn dismissed(&mut self, why: Dismissal) {
+        self.dismissed = self.dismissed.saturating_add(1);
+        self.why = Some(why);
     }
 }
 
@@ -237,7 +248,7 @@ fn kept_on<R: RandomSource + Abort>(rt: &R, alloc: Global, device: &Memory) -> u
         Ok(device) => device,
         Err(_) => panic!(rt; "no memory for a device"),
     };
-    let found = match recover(alloc, &mut again) {
+    let found = match recover(alloc, &mut again, &mut Drawer::new(alloc)) {
         Ok(found) => found,
         Err(_) => panic!(rt; "no store is left"),
     };

@@ -63,15 +63,23 @@ fn a_conversation_is_cut_at_many_bytes(rt: HostRuntime) {
             None => panic!(rt; "a place too far"),
         }
         let mut wanted_end = ConnectionEnd::Done;
+        let mut lost = None;
         if !asked.iter().any(|place| *place == count) {
             let (answer, end) = answer_to(&ASKED_0[asked[whole]..count]);
             assert!(rt; wanted.extend_from_slice(answer).is_ok());
             wanted_end = end;
+            lost = Some(Dismissal::Lost);
         }
         let step = 1 + count % 97;
         let left = served(&rt, alloc, &[&ASKED_0[..count]], Way { step, ..PLAIN });
         assert!(rt; left.end == wanted_end, "{count}");
         assert!(rt; left.told == wanted, "{count}");
+        assert!(rt; left.tally.why == lost, "{count}");
+        assert_eq!(rt;
+            left.tally.dismissed,
+            usize::from(lost.is_some()),
+            "{count}"
+        );
         // the push is the sixth request
         assert_eq!(rt; left.kept, whole / 6, "{count}");
         if count % 61 == 0 && whole < 6 {

@@ -260,6 +260,8 @@ fn a_real_bundle_waits_to_be_asked_on(rt: HostRuntime) {
     let left = served(&rt, alloc, &[too_long.as_slice()], PLAIN);
     assert!(rt; left.told.starts_with(b"HTTP/1.1 413 "));
     assert_eq!(rt; left.kept, 0);
+    assert_eq!(rt; left.tally.dismissed, 1);
+    assert!(rt; left.tally.why == Some(Dismissal::LongBody));
 }
 
 /// A request that asks to close the connection: it is answered, and what comes after it is not. So is one of

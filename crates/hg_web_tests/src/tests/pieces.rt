@@ -217,6 +217,8 @@ fn assert_no_room<R: RandomSource + Wait + Abort>(rt: &R, alloc: Global, asked: 
         assert!(rt; left.end == ConnectionEnd::Done);
         assert!(rt; left.told.as_slice() == told.as_slice());
         assert_eq!(rt; left.kept, 1);
+        assert_eq!(rt; left.tally.dismissed, 3);
+        assert!(rt; left.tally.why == Some(Dismissal::NoRoom));
     }
     let left = served(
         rt,

@@ -68,19 +68,40 @@ fn request<R: Abort>(
     }
 }
 
+/// What who watches hears of a request that is answered so.
+fn reason_of(told: &[u8]) -> Option<Dismissal> {
+    if told == FORBIDDEN {
+        return Some(Dismissal::Forbidden);
+    }
+    if told == NOT_FOUND {
+        return Some(Dismissal::NotFound);
+    }
+    if told == BAD_REQUEST {
+        return Some(Dismissal::Unclear);
+    }
+    // that a key was not set is no refusal
+    if told == NOT_SET {
+        return None;
+    }
+    Some(Dismissal::NotTaken)
+}
+
 /// Sends this after a first push, on a connection of its own, and the requests that come after it: the first
-/// is answered so, the others as if it had not been there, and nothing more is stored.
+/// is answered so, the others as if it had not been there, and nothing more is stored. Who watches hears why.
 fn assert_refused<R: RandomSource + Wait + Abort>(
     rt: &R,
     alloc: Global,
     asked: &[u8],
     told: &[u8],
 ) {
+    let why = reason_of(told);
     let asked = joined(rt, alloc, &[asked, AFTER]);
     let told = joined(rt, alloc, &[told, TOLD_AFTER]);
     let left = served(rt, alloc, &[ASKED_0, asked.as_slice()], PLAIN);
     assert!(rt; left.end == ConnectionEnd::Done);
     assert!(rt; left.told == told);
+    assert!(rt; left.tally.why == why);
+    assert_eq!(rt; left.tally.dismissed, usize::from(why.is_some()));
     assert_eq!(rt; left.journal, 1);
     assert_eq!(rt; left.kept, 1);
 }
@@ -474,6 +495,17 @@ fn heads_of_requests_have_a_limit(rt: HostRuntime) {
     );
 }
 
+/// What who watches hears of a request that HTTP answers so.
+fn unread_by(status: &str) -> Dismissal {
+    if status.starts_with("413 ") {
+        return Dismissal::LongBody;
+    }
+    if status.starts_with("414 ") || status.starts_with("431 ") {
+        return Dismissal::LongHead;
+    }
+    Dismissal::NoRequest
+}
+
 /// Is answered with that status, and nothing after it; then another client pushes.
 fn assert_closed<R: RandomSource + Wait + Abort>(
     rt: &R,
@@ -490,6 +522,8 @@ fn assert_closed<R: RandomSource + Wait + Abort>(
     let left = served(rt, alloc, &[ASKED_0, talk.as_slice()], PLAIN);
     assert!(rt; left.end == ConnectionEnd::Done);
     assert!(rt; left.told == told, "{status}");
+    assert_eq!(rt; left.tally.dismissed, 1, "{status}");
+    assert!(rt; left.tally.why == Some(unread_by(status)), "{status}");
     assert_eq!(rt; left.kept, 1);
     let left = served(rt, alloc, &[asked, ASKED_0], PLAIN);
     assert!(rt; left.told.as_slice() == TOLD_0);
@@ -526,6 +560,8 @@ fn pushes_that_may_not_run(rt: HostRuntime) {
     );
     assert_eq!(rt; left.asked, 2);
     assert_eq!(rt; left.tally.denied, 2);
+    assert_eq!(rt; left.tally.dismissed, 1);
+    assert!(rt; left.tally.why == Some(Dismissal::NotTaken));
     assert_eq!(rt; left.journal, 0);
     assert_eq!(rt; left.kept, 0);
     let left = served(&rt, alloc, &[asked.as_slice()], PLAIN);

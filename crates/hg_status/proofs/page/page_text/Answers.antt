@@ -18,5 +18,5 @@ returns-clause-shown g c =
       rows = string_bytes c.put_pushes.new.page.text;
       has_pushes = rw c.as_slice.ensures at c.in_ok-put_pushes.ensures;
       has_end = rw (c.from_vec.ensures, c.into_bytes.ensures.value)
-          (rw (sym c.into_text.ensures.text) at c.in_ok-put_end.ensures);
+          (rw (sym c.into_text.ensures.text, c.in_ok-put_refusals.ensures) at c.in_ok-put_end.ensures);
     }
