@@ -1,12 +1,13 @@
 #!/usr/bin/env python3
 """Tries the mirror on stores that this script writes.
 
-    python3 mirror/check.py [--short | --only scenes|publishing|following|bad|starts|killed|SCENE]
+    python3 mirror/check.py PROGRAM [--short | --only scenes|publishing|following|bad|starts|killed|SCENE]
 
 Scenes of pushes are recorded from a real `hg push` to a real `hg serve`. Each is mirrored, from a store and
 from a log, and what the mirror holds is compared with what `hg serve` held, line by line. Then the mirror is
 ended by SIGKILL at random moments and started again, it follows a store that grows, and it is given stores
-that it has to refuse. It needs the command `hg`, and some minutes. With --short some scenes are left out, it is
+that it has to refuse. PROGRAM is the built hg_pushd, which follows the stores. It needs the command `hg`, and some
+minutes. With --short some scenes are left out, it is
 killed less often, and may be later with a push, as on a busy machine.
 """
 
@@ -449,10 +450,10 @@ def try_bad_store(results, folder, place, bundles, version):
         ("publishing byte", changed(9, 2), 0, "publishes nor"),
         ("limit of 0", whole[:10] + bytes(4) + whole[14:], 0, "limits"),
         ("limit above the standard", whole[:10] + b"\0\1\0\1" + whole[14:], 0, "limits"),
-        ("other gate", changed(second, 2), 1, "damaged behind 1"),
-        ("gate of the other version", changed(second, stores.OPEN[3 - version][0]), 1, "damaged behind 1"),
-        ("byte of a bundle", changed(digest + 25, whole[digest + 25] ^ 1), 1, "damaged behind 1"),
-        ("byte of a digest", changed(digest + 1, whole[digest + 1] ^ 1), 1, "damaged behind 1"),
+        ("other gate", changed(second, 2), 1, "damage at place 1"),
+        ("gate of the other version", changed(second, stores.OPEN[3 - version][0]), 1, "damage at place 1"),
+        ("byte of a bundle", changed(digest + 25, whole[digest + 25] ^ 1), 1, "damage at place 1"),
+        ("byte of a digest", changed(digest + 1, whole[digest + 1] ^ 1), 1, "damage at place 1"),
         ("damaged length", changed(second + 1, 255), 1, "torn behind 1"),
         ("gate alone", whole[:second + 1], 1, "torn behind 1"),
         ("cut in a length", whole[:second + 3], 1, "torn behind 1"),
@@ -464,9 +465,9 @@ def try_bad_store(results, folder, place, bundles, version):
         ("of a server that publishes", store(bundles, True, version=version), 0, "publish = yes"),
     ]
     if version == 2:
-        rows += [("byte of a time", changed(second + 6, 7), 1, "damaged behind 1"),
-                 ("byte of a name", changed(second + 14, 65), 1, "damaged behind 1"),
-                 ("length of a name", changed(second + 13, 0), 1, "damaged behind 1"),
+        rows += [("byte of a time", changed(second + 6, 7), 1, "damage at place 1"),
+                 ("byte of a name", changed(second + 14, 65), 1, "damage at place 1"),
+                 ("length of a name", changed(second + 13, 0), 1, "damage at place 1"),
                  ("cut in a name", whole[:second + 15], 1, "torn behind 1")]
     for number, (what, data, count, words) in enumerate(rows):
         what, name = f"version {version}: {what}", place.repository(f"bad{version}-{number}")
@@ -529,10 +530,11 @@ def try_starts(results, folder, version):
     spoilt[first] ^= 1
     last = len(store(bundles[:2], end=b""))
     start("three pushes", store(bundles[:3]), "in all", 3)
-    start("damage in what was mirrored is not looked at", bytes(spoilt), "in all", 5)
+    start("damage in what was mirrored", bytes(spoilt), "damage at place 0", 3)
+    start("five pushes", whole, "in all", 5)
     spoilt = bytearray(store(bundles[:3]))
     spoilt[last + FRONT[version] - 19] ^= 1
-    start("another digest of the last record", bytes(spoilt), "damaged behind 2", 5)
+    start("another digest of the last record", bytes(spoilt), "has 3", 5)
     start("a store that ends before it", store(bundles[:4]), "has 4", 5)
     start("other pushes before it", store(bundles[1:2] + bundles[1:]), "not those mirrored", 5)
     status, said = place.run("mirror", "-R", name, "--log", "-", given=b"".join(bundles))
@@ -542,7 +544,7 @@ def try_starts(results, folder, version):
     results.see("starts: one more from a log", status == 0 and place.count(name) == 6, said)
     spoilt = bytearray(store(more))
     spoilt[first] ^= 1
-    start("after a log all is read", bytes(spoilt), "damaged behind 0", 6)
+    start("after a log all is read", bytes(spoilt), "damage at place 0", 6)
     start("after a log all is compared", store(more), "in all", 6)
 
 
@@ -622,8 +624,11 @@ def following(results, folder, only):
 
 def main():
     stores.skip_without_hg("check.py")
-    only = sys.argv[2] if sys.argv[1:2] == ["--only"] else None
-    if sys.argv[1:] == ["--short"]:
+    if len(sys.argv) < 2:
+        sys.exit(__doc__)
+    stores.PROGRAM = os.path.abspath(sys.argv[1])
+    only = sys.argv[3] if sys.argv[2:3] == ["--only"] else None
+    if sys.argv[2:] == ["--short"]:
         only = "short"
         globals().update(SHORT)
     results = Results("check.py")

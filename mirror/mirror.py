@@ -13,6 +13,13 @@ serves to those who clone and pull. Each push is applied in one transaction,
 with the number of pushes applied so far. So the command may be ended at any
 moment, by any signal, and started again.
 
+It gets them from the command ``hg_pushd log --follow --canonical``: each once
+it is on the disk, and with nothing in it but what may change a repository.
+Where ``hg_pushd`` is not on the path, a setting says where it is::
+
+  [mirror]
+  program = /opt/deqtorap/bin/hg_pushd
+
 The repository is the mirror's alone: nothing else may commit or push to it.
 Its ``.hg/hgrc`` says whether it publishes, as the server does, and lets those
 who pull have the markers::
@@ -39,7 +46,9 @@ them. Of an obsolete one it gets what is shown below it.
 import collections
 import hashlib
 import os
+import select
 import struct
+import subprocess
 import sys
 import time
 
@@ -75,6 +84,8 @@ configitem = registrar.configitem(configtable)
 configitem(b'mirror', b'patience', default=10)
 # The folder of the store, all of whose pushes a pull waits for.
 configitem(b'mirror', b'store', default=b'')
+# What writes the pushes of a store.
+configitem(b'mirror', b'program', default=b'hg_pushd')
 
 # The store: a head, then records. A record is an open gate, the length of a
 # bundle, what is said of the push, a digest, and the bundle. Version 1 says
@@ -89,13 +100,23 @@ STAMP = struct.Struct('>QB')
 # The most that each limit of a head may be, in their order.
 STANDARD = (65536, 67108864, 268435456, 10000, 16777216, 1024, 2147483647)
 
-# How long to wait, in seconds, before the gate is looked at again.
-PAUSE = 0.05
+# How long a pull waits, in seconds, before it looks again, and after how long
+# without a push the mirror looks whether the store still has its name.
+PAUSE, QUIET = 0.05, 1
+
+# What a frame of `hg_pushd log --follow` has before the name and behind it:
+# the place, the time, the length of the name; the length of the bundle, its
+# digest.
+FRAME = struct.Struct('>QQB')
+BUNDLE = struct.Struct('>I20s')
 
 # The file, in the repository's store, with how many pushes were applied and
-# the digest of all of their bundles; where they came from a store also where
-# the last record begins and ends there, and its digest.
+# the digest of all of their canonical bundles; where they came from a store
+# also where the last record begins and ends there, and its digest.
 KEPT = b'pushes-mirrored'
+# What stands before the digest. Without it, it is of the bundles as they came,
+# and the pushes cannot be compared.
+CANONICAL = b'canonical:'
 NOTHING = b'\0' * 20
 
 
@@ -125,9 +146,14 @@ front = collections.namedtuple('front', 'said told start size')
 
 
 class store:
-    """The file of a store, read from its head on, also while it grows."""
+    """The file of a store: what its head says, and where its records stand.
+
+    It is read to know how many pushes there are, and whether the last one that
+    was mirrored is at its place. The pushes come from a follower.
+    """
 
     def __init__(self, folder):
+        self.folder = folder
         self.path = os.path.join(folder, b'pushes')
         try:
             self.file = open(self.path, 'rb', buffering=0)
@@ -223,18 +249,22 @@ class store:
             raise self.torn()
         return found
 
-    def next(self):
-        """The bundle of the next record; None where the records end."""
+    def passover(self):
+        """Passes over the next record, which is there."""
         found = self.front_at(self.end)
-        if found is None:
-            return None
-        bundle = self.whole_at(found.start, found.size)
-        if found.told != sha1(self.digest + found.said + sha1(bundle)):
-            raise self.damaged()
         self.digest, self.start = found.told, self.end
         self.end = found.start + found.size
         self.count += 1
-        return bundle
+
+    def total(self):
+        """How many pushes there are, and whether no damage was seen."""
+        place, count = self.end, self.count
+        try:
+            while (found := self.front_at(place)) is not None:
+                place, count = found.start + found.size, count + 1
+        except badstore:
+            return count, False
+        return count, True
 
     def damaged(self):
         return self.bad(_(b'is damaged behind %d whole pushes') % self.count)
@@ -252,29 +282,108 @@ class store:
         return (now.st_dev, now.st_ino) != (here.st_dev, here.st_ino)
 
 
-def fromstore(found, state, once):
-    """Each bundle of a store, those to come too unless once."""
-    while True:
-        bundle = found.next()
-        if bundle is not None:
-            yield bundle
-            continue
-        if found.count < state.count:
-            raise fewer(found, state)
-        if once:
-            return
-        time.sleep(PAUSE)
-        if found.isreplaced():
-            raise badstore(
-                _(b'another file is in the place of %s now') % found.path,
-                hint=_(b'start the mirror again: it compares the two'),
+class follower:
+    """The canonical bundles of a store, each once it is on the disk.
+
+    The push server's program writes them in frames. It ends by itself once
+    nobody reads them.
+    """
+
+    def __init__(self, program, folder, place):
+        words = [program, b'log', b'--store', folder, b'--follow']
+        words += [b'--canonical', b'--from', b'%d' % place]
+        try:
+            self.process = subprocess.Popen(
+                words,
+                bufsize=0,
+                stdin=subprocess.DEVNULL,
+                stdout=subprocess.PIPE,
+                stderr=subprocess.PIPE,
             )
+        except OSError as fault:
+            raise error.Abort(
+                _(b'%s cannot be run: %s')
+                % (program, stringutil.forcebytestr(fault)),
+                hint=_(b"the setting 'program' of [mirror] says where it is"),
+            )
+        self.place = place
+
+    def take(self, size):
+        pieces = []
+        while size:
+            piece = self.process.stdout.read(size)
+            if not piece:
+                raise self.ended()
+            pieces.append(piece)
+            size -= len(piece)
+        return b''.join(pieces)
+
+    def isquiet(self):
+        """Whether nothing comes for a while."""
+        return not select.select([self.process.stdout], [], [], QUIET)[0]
+
+    def next(self):
+        """The bundle of the next push, for which it waits."""
+        place, _time, named = FRAME.unpack(self.take(FRAME.size))
+        self.take(named)
+        size, digest = BUNDLE.unpack(self.take(BUNDLE.size))
+        bundle = self.take(size)
+        if place != self.place or digest != sha1(bundle):
+            raise badstore(
+                _(b'push %d did not come whole from its store') % self.place
+            )
+        self.place += 1
+        return bundle
+
+    def ended(self):
+        """Why no more pushes come: what the program said of it."""
+        told = self.process.stderr.read().strip()
+        return badstore(
+            told or _(b'the program that follows the store ended'),
+            hint=_(b'the pushes before it were mirrored'),
+        )
+
+    def end(self):
+        self.process.stdout.close()
+        self.process.stderr.close()
+        self.process.wait()
 
 
-def fewer(found, state):
+def fromstore(program, found, state, once):
+    """Each bundle of a store, those to come too unless once."""
+    count, iswhole = found.total()
+    if iswhole and count < state.count:
+        raise fewer(found, state, count)
+    # where damage stands the program says which
+    last = count if once and iswhole else None
+    if found.count == last:
+        return
+    pushes = follower(program, found.folder, found.count)
+    try:
+        while found.count != last:
+            isquiet = pushes.isquiet()
+            if found.isreplaced():
+                raise replaced(found)
+            if isquiet:
+                continue
+            bundle = pushes.next()
+            found.passover()
+            yield bundle
+    finally:
+        pushes.end()
+
+
+def replaced(found):
+    return badstore(
+        _(b'another file is in the place of %s now') % found.path,
+        hint=_(b'start the mirror again: it compares the two'),
+    )
+
+
+def fewer(found, state, count):
     return badstore(
         _(b'%d pushes were mirrored here, and %s has %d')
-        % (state.count, found.path, found.count),
+        % (state.count, found.path, count),
         hint=_(b'was the store cut? then mirror it to a new repository'),
     )
 
@@ -398,23 +507,25 @@ class mirrored:
         self.count, self.digest, self.record = 0, NOTHING, None
         kept = repo.svfs.tryread(KEPT).split()
         if kept:
-            self.count, self.digest = int(kept[0]), fromhex(kept[1])
+            self.count, self.digest = int(kept[0]), digestin(kept[1])
         if len(kept) == 5:
             self.record = int(kept[2]), int(kept[3]), fromhex(kept[4])
 
     def pushes(self, found):
         """How many pushes a store has."""
         found.skip(self)
-        count = found.count
-        while (record := found.front_at(found.end)) is not None:
-            found.end, count = record.start + record.size, count + 1
-        return count
+        return found.total()[0]
+
+    def canonical(self, bundle):
+        """The canonical bundle of a push: a store's is one."""
+        return bundle if self.source else canonical.canonical(bundle)
 
     def apply(self, bundle):
         """Applies the next push, and notes it in the same transaction."""
         repo, found, count = self.repo, self.source, self.count + 1
-        digest = sha1(self.digest + sha1(bundle))
-        words = [b'%d' % count, tohex(digest)]
+        only = self.canonical(bundle)
+        digest = joined(self.digest, only)
+        words = [b'%d' % count, digestout(digest)]
         if found:
             words += [b'%d' % found.start, b'%d' % found.end]
             words += [tohex(found.digest)]
@@ -426,7 +537,6 @@ class mirrored:
         try:
             with repo.wlock(), repo.lock():
                 self.checkalone()
-                only = canonical.canonical(bundle)
                 incoming.Incoming(repo, only)
                 with repo.transaction(b'push') as tr:
                     url = b'mirror:%d' % self.count
@@ -450,6 +560,22 @@ class mirrored:
                 _(b'another mirror has applied pushes here meanwhile'),
                 hint=_(b'end one of the two'),
             )
+
+
+def joined(digest, bundle):
+    """The digest of all bundles with one more, where that of all is known."""
+    return digest and sha1(digest + sha1(bundle))
+
+
+def digestin(word):
+    """The digest that a word tells; nothing where it is of no canonical ones."""
+    if word.startswith(CANONICAL):
+        return fromhex(word[len(CANONICAL) :])
+    return None
+
+
+def digestout(digest):
+    return CANONICAL + tohex(digest) if digest else b'unknown'
 
 
 def run(repo, tr, bundle):
@@ -583,8 +709,8 @@ def follow(ui, state, bundles, place, tell):
     tell(state.count)
     for bundle in bundles:
         if place < state.count:
-            if digest is not None:
-                digest = sha1(digest + sha1(bundle))
+            if digest:
+                digest = joined(digest, state.canonical(bundle))
                 checksame(state, place + 1, digest)
         else:
             applynext(ui, state, bundle)
@@ -623,6 +749,11 @@ def teller(path):
 
 def checksame(state, count, digest):
     """The pushes that were mirrored have to be those that are read."""
+    if count == state.count and state.digest is None:
+        raise error.Abort(
+            _(b'the first %d pushes cannot be compared with those here') % count,
+            hint=_(b'an older version mirrored them: mirror to a new repository'),
+        )
     if count == state.count and digest != state.digest:
         raise error.Abort(
             _(b'the first %d pushes are not those mirrored here') % count,
@@ -676,7 +807,8 @@ def mirror(ui, repo, **opts):
         checkpublishing(repo, found)
         found.skip(state)
         state.source = found
-        bundles, first = fromstore(found, state, opts['once']), found.count
+        program, first = ui.config(b'mirror', b'program'), found.count
+        bundles = fromstore(program, found, state, opts['once'])
     else:
         bundles, first = fromlog(ui, log), opts['from']
         if first < 0:

@@ -253,6 +253,7 @@ def try_refused(results, place, kept, number, what, spoil):
 def main(words):
     stores.skip_without_hg("refused.py")
     program = os.path.abspath(words[0]) if words else None
+    stores.PROGRAM = program or stores.PROGRAM
     results = Results("refused.py")
     with tempfile.TemporaryDirectory() as folder:
         place = Place(folder)

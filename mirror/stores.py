@@ -21,10 +21,14 @@ publish = no
 evolution = all
 [extensions]
 mirror = {}
+[mirror]
+program = {}
 [web]
 allow-push = *
 push_ssl = no
 """
+# The program that follows stores, as `main` of a script was told it.
+PROGRAM = "hg_pushd"
 
 
 def sha1(data):
@@ -72,7 +76,7 @@ class Place:
     def __init__(self, folder):
         self.folder = folder
         with open(f"{folder}/hgrc", "w", encoding="utf-8") as file:
-            file.write(SETTINGS.format(EXTENSION))
+            file.write(SETTINGS.format(EXTENSION, PROGRAM))
         self.environment = {
             "PATH": os.environ["PATH"], "HGRCPATH": f"{folder}/hgrc", "HGPLAIN": "1", "LC_ALL": "C.UTF-8",
             "HOME": folder, "PYTHONDONTWRITEBYTECODE": "1", "CHGSOCKNAME": f"{folder}/chg", "CHGTIMEOUT": "120",

@@ -44,6 +44,8 @@ evolution = all
 [extensions]
 rebase =
 mirror = {top}/mirror/mirror.py
+[mirror]
+program = {program}
 """
 # The markers of a repository, in the bytes of a report.
 MARKERS = """
@@ -61,7 +63,7 @@ class Place:
         self.folder, self.program, self.publishes = folder, program, publishes
         self.started, self.mirror, self.kills, self.is_over = [], None, 0, False
         with open(f"{folder}/hgrc", "w", encoding="utf-8") as file:
-            file.write(SETTINGS.format(top=TOP))
+            file.write(SETTINGS.format(top=TOP, program=program))
         self.environment = {"PATH": os.environ["PATH"], "HGRCPATH": f"{folder}/hgrc", "HGPLAIN": "1",
                             "LC_ALL": "C.UTF-8", "HOME": folder, "PYTHONDONTWRITEBYTECODE": "1", "CHGSOCKNAME": f"{folder}/chg",
                             "CHGTIMEOUT": "120"}

@@ -105,6 +105,8 @@ MERCURIAL = """\
 username = somebody
 [extensions]
 mirror = {top}/mirror/mirror.py
+[mirror]
+program = {program}
 [phases]
 publish = no
 [experimental]
@@ -474,12 +476,13 @@ class Trial:
     def __init__(self, room, cluster, machines, number, name, turn):
         self.room, self.cluster, self.name, self.turn = f"{room}/trial-{number}", cluster, name, turn
         self.third = machines["three"]
+        program = self.third.program
         self.holder, self.other = (machines[it] for it in (("one", "two") if number % 2 else ("two", "one")))
         self.store, self.began, self.over, self.deposed, self.since = f"store-{number}", None, None, None, None
         self.ends_by_itself, self.mirror, self.hgweb, self.lost, self.quiet = False, None, None, [], None
         os.makedirs(f"{self.room}/log")
         with open(f"{self.room}/hgrc", "w", encoding="utf-8") as file:
-            file.write(MERCURIAL.format(top=TOP))
+            file.write(MERCURIAL.format(top=TOP, program=program))
         self.environment = {"PATH": os.environ["PATH"], "HGRCPATH": f"{self.room}/hgrc", "HGPLAIN": "1",
                             "LC_ALL": "C.UTF-8", "HOME": self.room, "PYTHONDONTWRITEBYTECODE": "1"}
         self.clients = Clients(self)

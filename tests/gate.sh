@@ -30,7 +30,7 @@ start() {
     timeout -k 15 "$longest" "$@" > "$room/$piece" 2>&1 < /dev/null &
     started[$piece]=$!
 }
-start mirror python3 mirror/check.py --short
+start mirror python3 mirror/check.py "$program" --short
 start refused python3 mirror/refused.py "$program"
 start hook python3 tests/hook.py --program "$program"
 start pulls python3 tests/pulls.py "$program"

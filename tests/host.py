@@ -4,6 +4,7 @@ Each case has a folder with a store of its own. Requests are made here, byte by 
 Mercurial (`conversations/`) are held again; where the command `hg` is installed, an unmodified Mercurial pushes too.
 Replies are compared whole, and the report with what the client has.
 """
+import datetime
 import hashlib
 import io
 import os
@@ -12,6 +13,7 @@ import resource
 import signal
 import shutil
 import socket
+import struct
 import subprocess
 import sys
 import tempfile
@@ -25,6 +27,7 @@ PROGRAM = os.path.abspath(sys.argv[1])
 HERE = os.path.dirname(os.path.abspath(__file__))
 HG = shutil.which("hg")
 CASES = []
+LIMITS = (65536, 67108864, 268435456, 10000, 16777216, 1024, 2147483647)
 ROOT = "b80de5d138758541c5f05265ad144ab9fa86d1db"
 EMPTY_REPLY = b"HG20" + bytes(8)
 LOST_REPLY = (b"HG20" + bytes(7) + b"\x2a\x0bERROR:ABORT" + bytes(4) + b"\x01\x00\x07\x0fmessageconnection lost"
@@ -65,7 +68,10 @@ class Host:
         self.process = subprocess.Popen([PROGRAM, "host", "--store", self.store, "--listen", "127.0.0.1:0", *words],
                                         stderr=subprocess.PIPE, stdin=subprocess.DEVNULL,
                                         restore_signals=not ignores_signals)
-        self.said = self.process.stderr.readline().decode()
+        self.said, self.kept = self.process.stderr.readline().decode(), []
+        while " bytes behind them are kept in " in self.said:
+            self.kept.append(self.said)
+            self.said = self.process.stderr.readline().decode()
         found = re.fullmatch(r"hg_pushd: listening on http://127\.0\.0\.1:(\d+)/, (\d+) pushes, (\d+) changesets\n",
                              self.said)
         if not found:
@@ -278,6 +284,26 @@ def who_pushed_stands_in_the_record(host):
 
 
 @case
+def who_pushed_and_when_is_listed(host):
+    """A line for each push: its place, the second, who, changesets and bytes."""
+    kind = ("content-type: application/mercurial-0.1", "x-hgarg-1: heads=666f726365")
+    host.start("--user-header", "x-remote-user")
+    first = time.time()
+    for body, more in ((EMPTY, ()), (ROOT_PUSH, ("x-remote-user: ann lee",))):
+        want("a push", host.ask("/?cmd=unbundle", body, kind + more)[0], 200)
+    last = time.time()
+    for asked in range(3):
+        status, listed, said = host.run("log", "--store", host.store, "--list", "--from", str(asked))
+        want("the list", (status, said), (0, ""))
+        lines = [it.split(" ") for it in listed.decode().splitlines()]
+        want("the lines", [it[:1] + it[2:] for it in lines],
+             [["0", "-", "0", "12"], ["1", "ann%20lee", "1", str(len(ROOT_PUSH))]][asked:])
+        for _, when, *_ in lines:
+            at = datetime.datetime.strptime(when, "%Y-%m-%dT%H:%M:%SZ").replace(tzinfo=datetime.timezone.utc).timestamp()
+            want(f"{when} is between the pushes", int(first) <= at <= last, True)
+
+
+@case
 def a_store_that_has_to_be_there(host):
     """A file system that is not mounted: its folder is empty, and stays so. One that is there is opened."""
     words = ("host", "--store", host.store, "--listen", "127.0.0.1:0")
@@ -424,6 +450,54 @@ def what_was_told_as_done_is_there_after_each_end(host):
     print(f"    300 changesets in {len(names)} pushes, {sum(it.tries for it in clients)} tries, {ends} ends")
 
 
+def a_request_that_breaks_off(host, sent):
+    with host.connect() as line:
+        line.sendall(sent)
+        line.shutdown(socket.SHUT_WR)
+        line.makefile("rb").read()
+
+
+@case
+def a_line_for_each_refused_request(host):
+    """What ends before a push is opened is told by a line, and counted by its reason."""
+    host.start("--log", "--memory", "1048576", "--path", "/team", "--name", "a")
+    kind = ("content-type: application/mercurial-0.1", "x-hgarg-1: heads=666f726365")
+    with host.connect() as line:
+        head = ["POST /team?cmd=unbundle HTTP/1.1", "host: a", *kind, "content-length: 4000000000", "", ""]
+        line.sendall("\r\n".join(head).encode())
+        want("a body over the limit", answer(line.makefile("rb"))[0], 413)
+    want("a head over the limit", host.ask("/team?cmd=heads", None, ("x: " + "a" * 20_000,))[0], 431)
+    want("a line over the limit", host.ask("/team?cmd=heads&x=" + "a" * 20_000)[0], 414)
+    with host.connect() as line:
+        line.sendall(b"no request\r\n\r\n")
+        want("no request", answer(line.makefile("rb"))[0], 400)
+    whole = request("/team?cmd=unbundle", ROOT_PUSH, kind)
+    for cut in (20, len(whole) - 7):
+        a_request_that_breaks_off(host, whole[:cut])
+    want("no room", b"out of memory" in host.ask("/team?cmd=unbundle", bytes(4 << 20), kind)[2], True)
+    with host.connect() as line:
+        line.sendall(request("/team?cmd=heads", None, ()).replace(b"host: a", b"host: b"))
+        want("another name", answer(line.makefile("rb"))[0], 421)
+    want("another path", host.ask("/other?cmd=heads")[0], 404)
+    want("no view", host.ask("/team/nothing")[0], 404)
+    want("two commands", host.ask("/team?cmd=heads&cmd=unbundle")[0], 400)
+    want("a page in a browser", host.ask("/team?cmd=unbundle", ROOT_PUSH, (*kind, "origin: null"))[0], 403)
+    want("heads that are not forced", host.ask("/team?cmd=unbundle", ROOT_PUSH, kind[:1])[1], "application/hg-error")
+    want("none of it was pushed", host.ask("/team?cmd=heads")[2], b"0" * 40 + b"\n")
+    wanted = ["body over the limit", "head over the limit", "head over the limit", "no request", "connection lost",
+              "connection lost", "out of memory", "for another server", "not found", "not found", "unclear command",
+              "forbidden", "command not taken"]
+    counts = {reason: wanted.count(reason) for reason in wanted}
+    text = host.ask("/team/metrics")[2].decode()
+    found = re.findall(r'^hg_pushd_requests_refused_total\{reason="([^"]*)"\} (\d+)$', text, re.MULTILINE)
+    want("the counts", {reason: int(count) for reason, count in found if count != "0"}, counts)
+    shown = re.findall(r"<span class=no><b>(\d+) ([^<]*)</b></span>", host.ask("/team")[2].decode())
+    want("the page", {reason: int(count) for count, reason in shown}, counts)
+    lines = [host.process.stderr.readline().decode() for _ in wanted]
+    told = [re.fullmatch(r"\S+Z refused, (.*)\n", line) for line in lines]
+    want("the lines", sorted(it[1] if it else "no line" for it in told), sorted(wanted))
+
+
 @case
 def a_body_that_ends_early(host):
     """Its push is aborted, which is answered where somebody still reads, and others go on."""
@@ -523,6 +597,75 @@ def a_store_cut_at_each_of_its_lengths(host):
         want(f"{length} bytes: {said}", (status, wanted in said), (3, True))
         with open(path, "rb") as file:
             want(f"the file of {length} bytes", file.read(), whole[:length])
+
+
+def frames_of(bundles):
+    """A store of these bundles, and where the gate of each record stands."""
+    made = b"HGPUSHES\2\0" + struct.pack(">7I", *LIMITS) + b"the name of this"
+    digest, gates = hashlib.sha1(made).digest(), []
+    for it in bundles:
+        label = len(it).to_bytes(4, "big") + bytes(9)
+        digest = hashlib.sha1(digest + label + hashlib.sha1(it).digest()).digest()
+        gates.append(len(made))
+        made += b"\xff" + label + digest + it
+    return made + b"\0", gates
+
+
+def files_in(folder):
+    """Its files but the store, each with its bytes."""
+    found = {}
+    for name in os.listdir(folder):
+        if name != "pushes":
+            with open(f"{folder}/{name}", "rb") as file:
+                found[name] = file.read()
+    return found
+
+
+@case
+def a_gate_that_became_shut(host):
+    """Of five pushes the gate of the second becomes 0: the last four are kept, and that is printed; and so are three, of
+    which the second has 16 MiB. Where it hides more than one batch, or becomes anything else, the store is refused, and
+    stays as it is."""
+    whole, gates = frames_of([EMPTY] * 5)
+    os.mkdir(host.store)
+    path = f"{host.store}/pushes"
+    for at, value in [(gate, value) for gate in gates for value in (1, 2, 127, 128, 254)]:
+        turned = bytearray(whole)
+        turned[at] = value
+        with open(path, "wb") as file:
+            file.write(turned)
+        status, _, said = host.run("host", "--store", host.store, "--listen", "127.0.0.1:0")
+        want(f"gate {value}", (status, f"{path}: a store that is not read: damage" in said), (3, True))
+        with open(path, "rb") as file:
+            want("the file", file.read(), bytes(turned))
+    most = [EMPTY, bytes(2 ** 24 - 34), EMPTY]
+    for bundles, again in (([EMPTY] * 4, 0), ([EMPTY] * 4, 0), ([ROOT_PUSH] * 4, 2), (most, 3)):
+        whole, gates = frames_of([EMPTY] + bundles)
+        turned = bytearray(whole)
+        turned[gates[1]] = 0
+        with open(path, "wb") as file:
+            file.write(turned)
+        want("it is served", host.start(), (1, 0))
+        name = "pushes.tail-1" + (f".{again}" if again else "")
+        size = len(whole) - gates[1]
+        want("what is said", host.kept, [
+            f"hg_pushd: {path}: 1 pushes are whole; {size} bytes behind them are kept in {host.store}/{name}\n"])
+        host.kill()
+        want("what is kept", files_in(host.store)[name], bytes(turned[gates[1]:]))
+        with open(path, "rb") as file:
+            want("the store", file.read(), whole[:gates[1]] + b"\0")
+    for bundles in ([EMPTY] * 70, [EMPTY, EMPTY, bytes(2 ** 24 - 33), EMPTY]):
+        whole, gates = frames_of(bundles)
+        turned = bytearray(whole)
+        turned[gates[1]] = 0
+        with open(path, "wb") as file:
+            file.write(turned)
+        before = files_in(host.store)
+        status, _, said = host.run("host", "--store", host.store, "--listen", "127.0.0.1:0")
+        want(f"more than a batch: {said}", (status, f"{path}: " in said and "`hg_pushd cut`" in said), (3, True))
+        with open(path, "rb") as file:
+            want("the file", file.read(), bytes(turned))
+        want("the other files", files_in(host.store), before)
 
 
 @case

@@ -36,6 +36,8 @@ username = somebody
 evolution = all
 [extensions]
 mirror = {top}/mirror/mirror.py
+[mirror]
+program = {program}
 """
 
 
@@ -73,7 +75,7 @@ class Place:
     def __init__(self, folder, program):
         self.folder, self.started = folder, []
         with open(f"{folder}/hgrc", "w", encoding="utf-8") as file:
-            file.write(SETTINGS.format(top=TOP))
+            file.write(SETTINGS.format(top=TOP, program=program))
         self.environment = {"PATH": os.environ["PATH"], "HGRCPATH": f"{folder}/hgrc", "HGPLAIN": "1", "HOME": folder,
                             "LC_ALL": "C.UTF-8", "PYTHONDONTWRITEBYTECODE": "1"}
         host = self.start(program, "host", "--store", "store", "--listen", "127.0.0.1:0", "--also", STREAMED)

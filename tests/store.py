@@ -3,6 +3,7 @@
 Each case writes the file of a store byte by byte, as its format is, and runs `report`, `log`, `cut` or `replay`. It
 compares the status, standard output, the lines on standard error, and every file below the case's own folder.
 """
+import datetime
 import fcntl
 import glob
 import hashlib
@@ -13,7 +14,7 @@ import subprocess
 import sys
 import tempfile
 
-from bundles import CAPS, EMPTY, NULL, ROOT_PUSH, any_bundle, bundle, chunks, group, header, heads, number
+from bundles import CAPS, EMPTY, NULL, ROOT_PUSH, any_bundle, bundle, changesets_in, chunks, group, header, heads, number
 
 sys.dont_write_bytecode = True
 sys.path.append(f"{os.path.dirname(os.path.dirname(os.path.abspath(__file__)))}/mirror")
@@ -238,6 +239,60 @@ def a_canonical_log(room):
     room.looks("report --store store", root_report() + journal(2))
 
 
+def line_of(place, time, name, bundle):
+    """The line of a push: when it was pushed, in milliseconds, and by whom."""
+    late = time // 1000 >= 253402300800
+    when = "-" if time == 0 or late else (datetime.datetime(1970, 1, 1) + datetime.timedelta(milliseconds=time)).strftime(
+        "%Y-%m-%dT%H:%M:%SZ").rjust(20, "0")
+    who = "".join(chr(it) if chr(it).isascii() and chr(it).isalnum() else f"%{it:02X}" for it in name) or "-"
+    return f"{place} {when} {who} {len(list(changesets_in(bundle)))} {len(bundle)}\n".encode()
+
+
+@case
+def each_row_is_listed(room):
+    """A line for each push, from each place on."""
+    for it in rows():
+        room.store(it.store())
+        lines = [line_of(place, 1000 * place, USER, text) for place, text in enumerate(it.bundles)]
+        room.looks("log --store store --list", b"".join(lines))
+        for first in range(len(lines) + 2):
+            room.looks(f"log --store store --list --from {first}", b"".join(lines[first:]))
+
+
+@case
+def times_and_names_of_a_list(room):
+    """A time that is not known or has no date, one of each year from 1970 to 9999, and each byte in a name."""
+    stamps = [(0, b""), (1, b"-"), (253402300799999, bytes(range(128))), (253402300800000, bytes(range(128, 256))),
+              (2**64 - 1, b"ann"), (1796016667999, b"ann lee@example.org")]
+    dice = random.Random(5)
+    stamps += [(1000 * dice.randrange(31556952 * year, 31556952 * (year + 1)), b"%d" % year) for year in range(8029)]
+    bundles = [EMPTY] * len(stamps)
+    room.store(store_of(bundles, stamps=stamps)[0])
+    lines = [line_of(place, *stamp, EMPTY) for place, stamp in enumerate(stamps)]
+    want("one of them", lines[5], b"5 2026-11-30T05:31:07Z ann%20lee%40example%2Eorg 0 12\n")
+    room.looks("log --store store --list", b"".join(lines))
+    room.store(store_of(bundles[:3], version=1)[0])
+    room.looks("log --store store --list", b"".join(b"%d - - 0 12\n" % place for place in range(3)))
+
+
+@case
+def a_list_that_stops(room):
+    """Torn, damaged, of a record that is no bundle, and with what it excludes."""
+    push = bundle(CAPS, group((b"", NULL)))
+    lines = [line_of(place, 1000 * place, USER, push) for place in range(3)]
+    data, ends = store_of((push, push, push))
+    room.store(data[:ends[2] + 5])
+    room.looks("log --store store --list", b"".join(lines[:2]), line=torn("store", 2))
+    room.store(data[:ends[2] - 1] + b"?" + data[ends[2]:])
+    room.looks("log --store store --list", status=3, line="store/pushes: damage at place 1")
+    room.store(store_of((push, push[:-1], push))[0])
+    room.looks("log --store store --list", lines[0], status=3, line="store/pushes: damage at place 1: no bundle")
+    room.looks("log --store store --list --from 2", lines[2])
+    for more in ("--canonical", "--to log"):
+        done = room.start(*f"log --store store --list {more}".split())
+        want(f"--list {more}", (done.returncode, done.stdout), (2, b""))
+
+
 @case
 def a_canonical_log_is_replayed(room):
     """The pushes of each row in their canonical form, as the mirror has them, have the same report."""
@@ -357,7 +412,7 @@ def a_store_cut_at_each_of_its_lengths(room):
 
 @case
 def a_torn_store_is_ended(room):
-    """The log of a torn store has its whole pushes, and the cut that its line names mends it."""
+    """The log of a torn store has its whole pushes, and the cut that its line names mends it and keeps the rest."""
     data, ends = store_of(TWO)
     for number, length in enumerate((ends[0] + 1, ends[1] - 1, ends[1] + 1, ends[2] - 1)):
         whole, name = (0, 0, 1, 1)[number], f"store-{number}"
@@ -366,7 +421,8 @@ def a_torn_store_is_ended(room):
         wanted = {".": None, **{f"{place:010}": TWO[place] for place in range(whole)}}
         want("log of a torn store", found_in(room.path(f"log-{number}")), wanted)
         room.run(f"cut --store {name} --at {whole}")
-        left = {".": None, "pushes": store_of(TWO[:whole])[0], f"pushes.cut-{whole}": b""}
+        left = {".": None, "pushes": store_of(TWO[:whole])[0], f"pushes.cut-{whole}": b"",
+                f"pushes.tail-{whole}": data[ends[whole]:length]}
         want("files of a torn store that was cut", found_in(room.path(name)), left)
         room.looks(f"report --store {name}", journal(whole))
 
@@ -384,7 +440,7 @@ def one_byte_changed(room):
             room.looks("report --store store", status=3, line=line)
             room.looks("log --store store", status=3, line=line)
     room.run("log --store store --to log", status=3, line="store/pushes: damage at place 1")
-    want("files of its log", found_in(room.path("log")), {".": None})
+    want("files of its log", found_in(room.path("log")), {})
 
 
 @case
