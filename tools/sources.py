@@ -104,7 +104,33 @@ def parts_of_impl(line):
     made = re.search(r"\b([A-Z]\w*)<([^<>]*)>\s*$", head)
     if not is_trait and made and re.search(r"\b(u\d+|i\d+|bool|char)\b", made[2]):
         return "", "+".join([made[1], *re.findall(r"\w+", made[2])])
-    return (last_word(of_trait) if is_trait else ""), last_word(of_type)
+    return (last_word(of_trait) + named_arguments(head) if is_trait else ""), last_word(of_type)
+
+
+def named_arguments(head):
+    """What the prover adds to the name of a trait that an `impl` line has at types of its own: those of
+    `impl<A> Visit<(), A> for Row<A>` are `Unit`, of `Visit<Reader<&File>, A>` `ReaderRefFile`, of `Visit<u8, A>` `U8`."""
+    behind = without_front(head)
+    given = re.findall(r"(?:^<|, )(?:const )?(\w+)", head.removesuffix(behind))
+    of_trait = re.match(r"\s*[\w:]+<(.*)> for ", behind)
+    if not of_trait:
+        return ""
+    words = re.findall(r"'\w+|\(\)|&|\w+", of_trait[1])
+    named = {"()": "Unit", "&": "Ref"}
+    words = [it for it in words if it not in (*given, "mut") and not it.startswith("'")]
+    return "".join(named.get(it, it[0].upper() + it[1:]) for it in words)
+
+
+def without_front(head):
+    """An `impl` line behind its parameters."""
+    if not head.startswith("<"):
+        return head
+    depth = 0
+    for at, sign in enumerate(head):
+        depth += (sign == "<") - (sign == ">" and head[at - 1] != "-")
+        if depth == 0:
+            return head[at + 1:]
+    return ""
 
 
 class Function:
