@@ -195,7 +195,8 @@ module _ (head : Head) (records : List Entry) (before now : List Event) (left at
 
   module _ (r : Entry) (is : r ≡ get_or records k r) where
     end : at ≡ length (stored head (take k records)) + (34 + length r.stamp.name + length r.bundle)
-    end = so_far.place ∙ ap (λ (n : ℕ). length (stored head (take n records))) last ∙ next_end head records version k r less is
+    end = so_far.place ∙ ap (λ (n : ℕ). length (stored head (take n records))) last ∙ next_end head records version
+        k r less is
 
     pub fits : 34 + length r.stamp.name + length r.bundle ≤ at
     fits = omega (arith, end)

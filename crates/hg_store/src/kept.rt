@@ -28,8 +28,7 @@ pub struct KeptTail {
 }
 
 /// The name of its file: `pushes.tail-N`, where N is the place of its first record, or `pushes.tail-N.2` and so on
-/// where
-/// there is one already.
+/// where there is one already.
 impl fmt::Display for KeptTail {
     fn fmt<W: fmt::Write>(&self, f: &mut fmt::Formatter<W>) -> fmt::Result {
         let place = self.place;

@@ -1,14 +1,11 @@
 //! A store: a file of records, each on the disk before it is acknowledged. A crash leaves whole records,
 //! none skipped.
 //!
-//! A record is the bundle of a push, any bytes, with a stamp: when it came, and who pushed it. [`put_record`] writes it
-//! after its numbers, its name and its digest, which takes in the digest of the record before; [`read_records`] reads
-//! the
-//! records of a store, up to its end or to a torn record. [`laws`] says that a store is read in one way, and that a
-//! front
-//! of it, cut anywhere, is read as the records that are whole in it. [`Log`] adds records on a [`Device`], each with
-//! the
-//! digest of its bundle, as [`Sealed`] makes it. Nothing here starts a thread or waits.
+//! A record is the bundle of a push, any bytes, with a stamp: when it came, and who pushed it. [`put_record`] writes
+//! it after its numbers, its name and its digest, which takes in the digest of the record before; [`read_records`]
+//! reads the records of a store, up to its end or to a torn record. [`laws`] says that a store is read in one way,
+//! and that a front of it, cut anywhere, is read as the records that are whole in it. [`Log`] adds records on a
+//! [`Device`], each with the digest of its bundle, as [`Sealed`] makes it. Nothing here starts a thread or waits.
 //!
 //! Numbers of several bytes have the high byte first. The head of a store has 54 bytes:
 //!
@@ -40,9 +37,8 @@
 //! after an open gate is a torn record. Another gate is damage, and so is another digest in a whole record.
 //!
 //! Version 1 is read, and gets no more records. There the head has the byte 1 and no name, an open gate is 1, a
-//! record has
-//! no time, no number of a name and no name, and its digest takes in that of the record before and the SHA-1 of its
-//! bundle.
+//! record has no time, no number of a name and no name, and its digest takes in that of the record before and the
+//! SHA-1 of its bundle.
 #![tactic(auto)]
 
 mod calls;

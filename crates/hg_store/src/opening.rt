@@ -70,9 +70,9 @@ impl From<DeviceError> for RecoverFault {
 
 /// Reads a store of version 2, and brings its end in order: what stands after its whole records is kept, unless each
 /// byte of it is 0, and then what stands after a shut gate is cut off, and where there is no gate a shut one is
-/// written;
-/// then all is on the device. A torn store is refused, and so is one of version 1, one that hides more records than one
-/// batch holds, and one that is not read, and nothing in them is changed. After an `Err` of the device, recover again.
+/// written; then all is on the device. A torn store is refused, and so is one of version 1, one that hides more
+/// records than one batch holds, and one that is not read, and nothing in them is changed. After an `Err` of the
+/// device, recover again.
 pub fn recover<A: Allocator + Copy, D: Device, K: TailKeeper>(
     alloc: A,
     device: &mut D,

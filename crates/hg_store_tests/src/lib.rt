@@ -27,13 +27,11 @@
 //!   Result: its records and a shut gate; in each outcome its records.
 //! - five records with each gate shut, and with each other value; three with each gate of each other value, and each
 //!   other byte after the head with six, and cut at each length; zeroes after the records; up to 200 records behind a
-//!   shut gate. Result: what stands behind a shut gate is kept as it stood and cut off, where it has at most 64 records
-//!   and is not of zeroes alone; else the store is refused, and nothing changes. In a folder the same tail is kept
-//! once,
-//!   and no other is lost.
+//!   shut gate. Result: what stands behind a shut gate is kept as it stood and cut off, where it has at most 64
+//!   records and is not of zeroes alone; else the store is refused, and nothing changes. In a folder the same tail is
+//!   kept once, and no other is lost.
 //! - 0 to 100 records, where the file fails at its last call and where none does. Result: it is opened where none
-//! fails,
-//!   after as many calls as there are gates to write again, 64 at most.
+//!   fails, after as many calls as there are gates to write again, 64 at most.
 //! - another publishing flag, other limits, a byte turned, a record cut short, a head cut short.
 //!   Result: each by its name, after one call, which reads.
 //! - a new store where the file fails at each of its four calls, over no bytes and over a longer

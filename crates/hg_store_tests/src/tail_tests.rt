@@ -186,8 +186,7 @@ fn a_byte_of_another_value(rt: HostRuntime) -> Result<(), Fail> {
 }
 
 // The same store cut at each of its lengths. Result: behind the head and each record it is opened with what is whole,
-// and
-// else it is refused, and nothing changes.
+// and else it is refused, and nothing changes.
 #[test]
 fn a_length_of_its_own(rt: HostRuntime) -> Result<(), Fail> {
     let alloc = rt.alloc();

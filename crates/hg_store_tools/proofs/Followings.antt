@@ -195,7 +195,8 @@ pub record Finding (found durable now_found now_durable more : List Entry) : Typ
 pub finding_none : (found durable : List Entry) → Finding found durable found durable []
 finding_none found durable = record { found_is = sym (append-nil found); durable_is = refl }
 
-pub finding_more : (found durable now_found now_durable more : List Entry) (next : Entry) (then_found then_durable : List Entry)
+pub finding_more : (found durable now_found now_durable more : List Entry) (next : Entry)
+    (then_found then_durable : List Entry)
     → Finding found durable now_found now_durable more → then_found ≡ now_found ++ next ∷ [] → then_durable ≡ now_durable
     → Finding found durable then_found then_durable (more ++ next ∷ [])
 finding_more found durable now_found now_durable more next then_found then_durable finding found_is durable_is = record {
@@ -241,7 +242,8 @@ module _ (A : Type 0) (log : LogForm) where
     pub are : AreFramesOf A log place (take index records) frames
     pub sent : Appends before now frames
 
-  pub sending_none : (place : ℕ) (records : List Entry) (before : Option (List ℕ)) → HasSent place records 0 place before before
+  pub sending_none : (place : ℕ) (records : List Entry) (before : Option (List ℕ)) → HasSent place records 0 place
+      before before
   sending_none place records before =
       record { next_is = omega arith; frames = []; are = refl; sent = Appends-nil before }
 
@@ -439,7 +441,8 @@ module _ (A : Type 0) (log : LogForm) where
       step_unsynced fault same why =
           unsynced more (still ∙ found_is) (same ∙ durable_is) refl (sync_ends fault (length found) why)
 
-      module _ (shown : List Entry) (after : Option (List ℕ)) (synced : now_durable ≡ mid_found) (shown_is : shown ≡ more) where
+      module _ (shown : List Entry) (after : Option (List ℕ)) (synced : now_durable ≡ mid_found)
+          (shown_is : shown ≡ more) where
         pub step_sent : (next : ℕ) → SendsFrames A log place shown next taken after
             → Follows A log next found durable now_found now_durable taken after
         step_sent next sends = record {

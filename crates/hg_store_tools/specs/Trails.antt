@@ -30,8 +30,7 @@ EndsSync Failed = ⊤
 EndsSync other = ⊥
 
 -- what is written of the record at a place: nothing before those that are asked for, and then its frame, with its
--- bundle
--- in the form that is asked for
+-- bundle in the form that is asked for
 abbrev pub IsFrameOf : Type 0 → LogForm → ℕ → Entry → List ℕ → Type 0
 IsFrameOf A log place entry frame = ((place < log.from) × (frame ≡ [])) ⊎ ((log.from ≤ place)
     × (bundle : List ℕ) × IsInForm log.form A log.limits entry.bundle bundle
@@ -104,8 +103,7 @@ pub record Follows (A : Type 0) (log : LogForm) (next : ℕ) (found durable now_
   pub sent : Appends before after frames
 
 -- More records were found, or none. Nothing was written, and no other is durable than before; or all are durable, and
--- the
--- frames of the first of them were written, and at most a front of the next one's.
+-- the frames of the first of them were written, and at most a front of the next one's.
 pub data StopsFollowing (A : Type 0) (log : LogForm) (fault : Fault) (found durable now_found now_durable : List Entry)
     (before after : Option (List ℕ)) : Type 0 where
   unsynced : (more : List Entry) → now_found ≡ found ++ more → now_durable ≡ durable → after ≡ before →

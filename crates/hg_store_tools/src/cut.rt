@@ -248,9 +248,8 @@ impl<K: NewFile, N: NewFile, A: Allocator + Copy> RecordVisit<CutFiles<K, N>, A>
 /// Cuts a store before a place: the records before it are written to a new store, and the bundles of the others, one
 /// after the other, to a file beside it. Where no record stands there, and after the whole records nothing but bytes
 /// that are 0, or no byte, it is refused. What else stands after the whole records is kept first. Then each file gets
-/// its
-/// name once it is on the disk: so at any moment the old store or the new one is there, and the new one not before what
-/// it leaves out is kept. The store is in memory for two records, and then for what stands after them.
+/// its name once it is on the disk: so at any moment the old store or the new one is there, and the new one not
+/// before what it leaves out is kept. The store is in memory for two records, and then for what stands after them.
 pub fn put_cut<
     R: Read + Drop,
     S: StoreBytes<R>,

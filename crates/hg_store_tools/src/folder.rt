@@ -123,14 +123,10 @@ pub fn file_log<'a, R: Files<File = File>, A: Allocator + Copy>(
 
 /// Ends the store in a folder before a place, as [`put_cut`] does. The pushes that it leaves out are kept in the file
 /// `pushes.cut-N` of the folder, where N is the place; one that is there is not written over. What stands after the
-/// whole
-/// records, unless it is only zeros, is kept before that in the file `pushes.tail-N`, where N is how many these are,
-/// as an
-/// opening keeps it. A store that another process holds is refused. It is read twice: where it has no such place,
-/// nothing
-/// is made. Of an `Err` the store is as it was, except where the new file failed: then the old store is there, or the
-/// new
-/// one is.
+/// whole records, unless it is only zeros, is kept before that in the file `pushes.tail-N`, where N is how many these
+/// are, as an opening keeps it. A store that another process holds is refused. It is read twice: where it has no such
+/// place, nothing is made. Of an `Err` the store is as it was, except where the new file failed: then the old store
+/// is there, or the new one is.
 pub fn cut_store<'a, R: Files<File = File>, A: Allocator + Copy>(
     files: &R,
     alloc: A,
@@ -166,11 +162,10 @@ pub fn cut_store<'a, R: Files<File = File>, A: Allocator + Copy>(
     }
 }
 
-/// Writes the store of version 1 in a folder as one of version 2, with a name of random bytes, as [`put_upgrade`] does.
-/// The old file is kept as `pushes.1` of the folder; one that is there is not written over. A store that another
-/// process holds is refused, and so is a torn one. Of an `Err` the store is as it was, except where the new file
-/// failed:
-/// then the old store is there, or the new one is.
+/// Writes the store of version 1 in a folder as one of version 2, with a name of random bytes, as [`put_upgrade`]
+/// does. The old file is kept as `pushes.1` of the folder; one that is there is not written over. A store that
+/// another process holds is refused, and so is a torn one. Of an `Err` the store is as it was, except where the new
+/// file failed: then the old store is there, or the new one is.
 pub fn upgrade_store<'a, R: Files<File = File>, A: Allocator + Copy>(
     files: &R,
     alloc: A,

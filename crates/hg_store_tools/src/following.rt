@@ -166,9 +166,8 @@ pub fn follow_store<'a, R: Files<File = File>, A: Allocator + Copy, W: Writer>(
 }
 
 /// Has the system read the file from the disk: what it keeps of it is brought there and dropped, since after a sync
-/// that
-/// failed it may be other than what the disk has. A later failure is told by the sync of this file. Gives what is known
-/// of the file.
+/// that failed it may be other than what the disk has. A later failure is told by the sync of this file. Gives what
+/// is known of the file.
 fn read_anew(file: &File) -> io::Result<Metadata> {
     file.sync_data()?;
     let advised = libc::posix_fadvise(file.as_raw_fd(), 0, 0, libc::POSIX_FADV_DONTNEED);

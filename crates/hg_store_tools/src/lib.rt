@@ -1,18 +1,15 @@
 //! A store that is read, and ended, beside the server: the report of what it holds, its pushes as bundles, and
 //! a cut before one of them.
 //!
-//! [`send_report`], [`send_log`] and [`put_log`] are these over a store that a reader gives, in memory for one record,
-//! to any writer. [`canonical_bundle`] writes of a bundle what may change a repository alone: in that [`BundleForm`]
-//! the pushes of a store are given too. [`send_list`] writes a line for each push. [`brought_by`] counts the changesets
-//! of a bundle, and [`date_of`] gives the date of a second. [`check_records`] goes through a store and writes nothing.
-//! [`put_cut`] ends a store, of [`StoreBytes`], and [`put_upgrade`] makes one of version 2 of one of version 1: both
-//! write
-//! to new files as they read.
-//! [`report_store`], [`log_store`], [`list_store`], [`file_log`], [`cut_store`] and [`upgrade_store`] do it with a
-//! store
-//! in a folder. [`follow_store`] writes a frame for each push of a store once it is durable, and goes on while the
-//! store
-//! grows; [`send_trail`] does it with any file that grows. Nothing here starts a thread, and no other call waits.
+//! [`send_report`], [`send_log`] and [`put_log`] are these over a store that a reader gives, in memory for one
+//! record, to any writer. [`canonical_bundle`] writes of a bundle what may change a repository alone: in that
+//! [`BundleForm`] the pushes of a store are given too. [`send_list`] writes a line for each push. [`brought_by`]
+//! counts the changesets of a bundle, and [`date_of`] gives the date of a second. [`check_records`] goes through a
+//! store and writes nothing. [`put_cut`] ends a store, of [`StoreBytes`], and [`put_upgrade`] makes one of version 2
+//! of one of version 1: both write to new files as they read. [`report_store`], [`log_store`], [`list_store`],
+//! [`file_log`], [`cut_store`] and [`upgrade_store`] do it with a store in a folder. [`follow_store`] writes a frame
+//! for each push of a store once it is durable, and goes on while the store grows; [`send_trail`] does it with any
+//! file that grows. Nothing here starts a thread, and no other call waits.
 #![tactic(auto)]
 
 mod brought;

@@ -7,8 +7,7 @@ ghost use Rattle.hg_store_tools.specs.TrailNotes.{Note};
 use std::marker::Model;
 
 /// What was done with a store that is followed, the newest first. It has no bytes, and its functions do nothing when
-/// they
-/// run: so what it says is as true as the code that notes it.
+/// they run: so what it says is as true as the code that notes it.
 #[derive(Drop)]
 pub struct TrailNotes {
     pub ghost steps: { List Note },

@@ -291,8 +291,7 @@ fn a_sync_that_fails(rt: HostRuntime) -> Result<(), Fail> {
 
 // Damage and torn records at each of three places, and a file without a head.
 // A gate of 254, another digest, each length of the record; each length of a head. Result: the frames before it, and
-// its
-// place; no store, and nothing written.
+// its place; no store, and nothing written.
 #[test]
 fn damage(rt: HostRuntime) -> Result<(), Fail> {
     let alloc = rt.alloc();

@@ -37,13 +37,12 @@
 //! - a log of canonical bundles of `X`, `E`, `X` from each place; one that meets no bundle; a writer that fails after
 //!   each number of bytes; each growth refused. Result: `P`, `E`, `P` from there on; what stands before it; a front;
 //!   out of memory, or `P`.
-//! - a store that is followed while it grows: from each place, behind a shut gate, with a tail that is cut off, with a
-//!   writer that fails after each number of bytes, a sync that fails, damage, canonical bundles, and each growth
-//! refused.
-//!   Result: a frame for each push, by hand, and none before the file was synced with its gate open.
+//! - a store that is followed while it grows: from each place, behind a shut gate, with a tail that is cut off, with
+//!   a writer that fails after each number of bytes, a sync that fails, damage, canonical bundles, and each growth
+//!   refused. Result: a frame for each push, by hand, and none before the file was synced with its gate open.
 //! - the lines of a store of `C` by `ann lee`, `E` without a stamp and `M1` after the year 9999 by `-`, from each
-//! place;
-//!   what ends them; each growth refused. Result: a line for each from there on; those before it; out of memory.
+//!   place; what ends them; each growth refused. Result: a line for each from there on; those before it; out of
+//!   memory.
 //! - the changesets of `E`, `M1`, `X`, `C`, and of `C` whose changegroup cannot be read. Result: 0, but 1 of `C`.
 //! - dates around leap days, and at the ends of 1970 and of 9999. Result: the calendar's; after it none.
 #![tactic(auto)]

@@ -10,8 +10,7 @@ use std::process::Abort;
 use std::test::*;
 
 /// The lines of a store of C at 2026-11-30T05:31:07.999Z by `ann lee`, E without a stamp, and M1 at the first
-/// millisecond
-/// after the year 9999 by `-`.
+/// millisecond after the year 9999 by `-`.
 const LINES: [&str; 3] = [
     "0 2026-11-30T05:31:07Z ann%20lee 1 193\n",
     "1 - - 0 12\n",

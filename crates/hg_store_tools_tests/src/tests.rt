@@ -570,10 +570,9 @@ fn upgrades(rt: HostRuntime) -> Result<(), Fail> {
 
 // A cut before each place.
 // M1, E, M2, with a shut gate and zeros, with no gate, and torn and damaged after them; with a gate of 2 after them;
-// M1,
-// E, M2 with its last byte turned; M1, E, M2 with a shut gate and a byte that is 1 after them. Result: three places;
-// three; four; four; three, of which the last is the damaged one; four. What stands after the whole records is kept
-// where a byte of it is not 0.
+// M1, E, M2 with its last byte turned; M1, E, M2 with a shut gate and a byte that is 1 after them. Result: three
+// places; three; four; four; three, of which the last is the damaged one; four. What stands after the whole records
+// is kept where a byte of it is not 0.
 #[test]
 fn cuts(rt: HostRuntime) -> Result<(), Fail> {
     let alloc = rt.alloc();
@@ -654,8 +653,7 @@ fn new_files_that_fail(rt: HostRuntime) -> Result<(), Fail> {
 
 // A cut of a torn store, where the tail is not kept.
 // M1, E, M2, cut before place 1, with three bytes after them. Result: told by the number of the records, and neither
-// new
-// file has a name.
+// new file has a name.
 #[test]
 fn a_tail_that_is_not_kept(rt: HostRuntime) -> Result<(), Fail> {
     let alloc = rt.alloc();
