@@ -54,8 +54,7 @@ stretches-preserved g c =
     let r = c.in_ok-refuse-in-Refused.ensures in
     one_refused _ _ _ _ _ _ _ _ _ _ _ _ _ e.0 e.2.0 r.0 c.stretches.invariant
     (is_refused c.args.config e.0 e.2.0 r.0 w f e.1 e.2.2 r.4.0) e.2.1 r.2
-    (subst (λ text. Appends (g.W.Write.contents c.serve_stretch-ended.new.writer)
-        (g.W.Write.contents c.refuse.new.writer) text)
+    (subst (λ text. Appends (g.W.Write.contents c.serve_stretch-ended.new.writer) (g.W.Write.contents c.refuse.new.writer) text)
     (r.4.1 ∙ ap no_room_text c.if-branch.false) r.3)
 
 pub returns : goal.returns
