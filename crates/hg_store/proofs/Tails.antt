@@ -291,8 +291,12 @@ module _ (bytes : List ℕ) (before at_first now done : List Event) (read : at_f
       → (is_blank tail ≡ true) ⊎ (IsKept (length records) tail done
       ⊎ ((left : List ℕ) → LeftSince now (length at_first) left → left ≡ bytes)))
       → LosesNothing before now done
-  lost_none safe = inr (bytes, since, λ head records tail store. in_calls (length records) tail
-      (safe head records tail store))
+  lost_none safe = inr (
+    bytes,
+    since,
+    λ head records tail store. in_calls (length records) tail
+        (safe head records tail store),
+  )
     where
       in_calls : (place : ℕ) (tail : List ℕ) → (is_blank tail ≡ true) ⊎ (IsKept place tail done
           ⊎ ((left : List ℕ) → LeftSince now (length at_first) left → left ≡ bytes))

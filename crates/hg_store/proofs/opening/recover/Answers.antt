@@ -168,7 +168,7 @@ returns-in_err-shut_gate-clause-tail g c = λ head records tail store only.
     (LeavesOnly g.D.Device.moment g.D.Device.left_since c.args.device.now c.shut_gate.new.device
     (λ (l : List ℕ). l ≡ g.D.Device.seen c.args.device.now)) (c.deref.ensures.value ∙ c.in_ok-bytes.ensures.bytes)
     c.in_ok-found.ensures.store (c.split_at.ensures.back ∙ ap (drop c.in_ok-found.found.end)
-        (c.deref-2.ensures.value ∙ sym c.deref.ensures.value)) c.len-2.ensures c.in_default.ensures.kept store
+    (c.deref-2.ensures.value ∙ sym c.deref.ensures.value)) c.len-2.ensures c.in_default.ensures.kept store
 
 pub returns-in_err-shut_gate-clause-done : goal.returns-in_err-shut_gate-clause-done
 returns-in_err-shut_gate-clause-done g c =
@@ -183,7 +183,7 @@ returns-clause-tail g c = λ head records tail store only.
     (LeavesOnly g.D.Device.moment g.D.Device.left_since c.args.device.now c.shut_gate.new.device
     (λ (l : List ℕ). l ≡ g.D.Device.seen c.args.device.now)) (c.deref.ensures.value ∙ c.in_ok-bytes.ensures.bytes)
     c.in_ok-found.ensures.store (c.split_at.ensures.back ∙ ap (drop c.in_ok-found.found.end)
-        (c.deref-2.ensures.value ∙ sym c.deref.ensures.value)) c.len-2.ensures c.in_default.ensures.kept store
+    (c.deref-2.ensures.value ∙ sym c.deref.ensures.value)) c.len-2.ensures c.in_default.ensures.kept store
 
 pub returns-clause-done : goal.returns-clause-done
 returns-clause-done g c =
@@ -195,8 +195,8 @@ returns-clause-shown g c =
     shown_is (g.D.Device.seen c.args.device.now) c.deref.result.now c.split_at.result.1.now
     c.in_ok-found.found.digest c.in_ok-found.found.head c.in_ok-found.found.records c.version.result
     c.in_ok-found.found.end (c.deref.ensures.value ∙ c.in_ok-bytes.ensures.bytes)
-        (c.split_at.ensures.back ∙ ap (drop c.in_ok-found.found.end)
-        (c.deref-2.ensures.value ∙ sym c.deref.ensures.value))
+    (c.split_at.ensures.back ∙ ap (drop c.in_ok-found.found.end)
+    (c.deref-2.ensures.value ∙ sym c.deref.ensures.value))
     c.version.ensures c.in_ok-found.ensures.digest c.in_default.ensures.shown
 
 pub returns-in-Err-clause-tail_refused : goal.returns-in-Err-clause-tail_refused
@@ -209,7 +209,7 @@ returns-in-Err-clause-tail_refused g c = λ fault is.
           (g.D.Device.seen c.args.device.now) c.deref.result.now c.split_at.result.1.now c.in_ok-found.found.digest
           c.in_ok-found.found.end whole c.len-2.result (c.deref.ensures.value ∙ c.in_ok-bytes.ensures.bytes)
           c.in_ok-found.ensures.store (c.split_at.ensures.back ∙ ap (drop c.in_ok-found.found.end)
-              (c.deref-2.ensures.value ∙ sym c.deref.ensures.value)) c.version.ensures c.in_ok-found.ensures.digest
+          (c.deref-2.ensures.value ∙ sym c.deref.ensures.value)) c.version.ensures c.in_ok-found.ensures.digest
           c.len-2.ensures why.0 why.1)),
       record { same = c.read.ensures.seen; outcomes = c.read.ensures.crash },
     )

@@ -71,7 +71,7 @@ returns-in-Err-open_again-clause-err g c =
     let now = g.C.Calls.history c.open_again.new.device.calls in
     let read = ap g.C.Calls.history c.of-device.ensures ∙ c.in-Ok.ensures in
     let why = failed_is c.in-Ok.bytes before at_first read c.args.setup.now now
-        (all_more at_first mid now c.open_again.ensures.still
+    (all_more at_first mid now c.open_again.ensures.still
     c.recover.ensures.same_file) (λ its records stands.
     after_still at_first mid now c.open_again.ensures.still c.recover.ensures.same_file (StandsFor its records)
     (c.recover.ensures.any_moment its records stands (only_first c.in-Ok.bytes before at_first read)).each)

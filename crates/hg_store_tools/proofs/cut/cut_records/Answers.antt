@@ -78,7 +78,7 @@ returns-then-not-has_place-clause-err g c =
     no_place c.in-Ok-begin.begun.head c.in-Ok-begin.begun.digest a b d c.in-Ok-begin.ensures.ok
     c.version-version.result c.version-version.ensures c.args.at c.begin-2.new.self c.visit_records.new.target begun
     bytes rest.stop rest.tail.items c.deref.result.now c.deref.ensures.value c.files.inside.count
-        (ap (λ (f : CutSoFar). f.count) c.files.view_is) cut
+    (ap (λ (f : CutSoFar). f.count) c.files.view_is) cut
     (c.has_place.ensures.refused c.if-not-has_place.true)
 
 pub returns-clause-ok : goal.returns-clause-ok
@@ -102,5 +102,5 @@ returns-clause-ok g c =
     cut_ok c.in-Ok-begin.begun.head c.in-Ok-begin.begun.digest a b d c.in-Ok-begin.ensures.ok
     c.version-version.result c.version-version.ensures c.args.at c.begin-2.new.self c.visit_records.new.target begun
     bytes rest.stop rest.tail.items c.deref.result.now c.deref.ensures.value c.files.inside.count
-        (ap (λ (f : CutSoFar). f.count) c.files.view_is) cut
+    (ap (λ (f : CutSoFar). f.count) c.files.view_is) cut
     (c.has_place.ensures.place c.if-not-has_place.false)

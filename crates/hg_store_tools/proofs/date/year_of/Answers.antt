@@ -7,5 +7,10 @@ loop-passed-init c = omega (arith, days_of_years-zero)
 
 pub loop-passed-preserved : goal.loop-passed-preserved
 loop-passed-preserved c =
-    omega (arith, c.loop-passed.invariant, days_of_years-next c.loop-passed.passed, c.days_of_year-days.ensures,
-        c.if-left-days.false)
+    omega (
+      arith,
+      c.loop-passed.invariant,
+      days_of_years-next c.loop-passed.passed,
+      c.days_of_year-days.ensures,
+      c.if-left-days.false,
+    )

@@ -19,6 +19,6 @@ returns g c =
       is
           ∙ ap (λ (n : List ℕ). line_text c.args.place when (who_text n) c.args.count (length c.bundle-bytes.result.now)) name
           ∙ ap (λ (b : List ℕ). line_text c.args.place when (who_text entry.stamp.name) c.args.count (length b))
-              c.bundle-bytes.ensures,
+          c.bundle-bytes.ensures,
     ))
     c.line_with.ensures

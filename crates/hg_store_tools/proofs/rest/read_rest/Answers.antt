@@ -14,4 +14,4 @@ pub returns-clause-bytes : goal.returns-clause-bytes
 returns-clause-bytes g c =
     rest_of c.args.end (g.S.StoreBytes.bytes c.args.store.now) (g.R.Read.remaining c.in-Ok.reader)
     c.new-tail.result.items c.read_to_end.new.buf.items c.new-tail.ensures.items c.in-Ok.ensures
-        c.in-Ok-read_to_end.ensures.bytes
+    c.in-Ok-read_to_end.ensures.bytes
