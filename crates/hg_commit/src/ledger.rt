@@ -247,14 +247,7 @@ impl<J: Storing<A>, D: Device, A: Allocator + Copy> Ledger<J, D, A> {
         let Some(awaited) = awaited else {
             return Err(NotStored);
         };
-        match self.await_records(
-            rt,
-            server,
-            &mut client.client,
-            rests,
-            awaited,
-            has_record,
-        ) {
+        match self.await_records(rt, server, &mut client.client, rests, awaited, has_record) {
             Ok(grant) => {
                 client.take_in(&self.tally, grant);
                 Ok(())
