@@ -147,10 +147,10 @@ pub may_be_told : {A D E : Type 0} (seen : D → List ℕ) (may_leave : D → Li
     → IfOk kept (λ k. MayBeTold first how k)
 may_be_told {A} seen may_leave moment head stored limits capacity first before waited x how (Ok kept) beats asked is same
     all = record {
-  push = x.push;
-  rests_on = subst (λ (y : KeptView A × Outcome (Done A) (Refusal A)). RestsOn run_push first
-      (newest_first y.0.client.history) x.push y.1 y.0.rests) (λ i. (sym all.0 i, same i)) is.rests_on;
-  told = subst (λ (h : Outcome (Done A) (Refusal A)). CanBeTold h) same is.answers.told;
-}
+      push = x.push;
+      rests_on = subst (λ (y : KeptView A × Outcome (Done A) (Refusal A)). RestsOn run_push first
+          (newest_first y.0.client.history) x.push y.1 y.0.rests) (λ i. (sym all.0 i, same i)) is.rests_on;
+      told = subst (λ (h : Outcome (Done A) (Refusal A)). CanBeTold h) same is.answers.told;
+    }
 may_be_told seen may_leave moment head stored limits capacity first before waited x how (Err back) beats asked is same
     all = tt

@@ -211,10 +211,11 @@ not_earlier all n other p asked after rests alone behind first seen came beat lo
     let seen_then = over_before all n other asked after rests it.front
     (it.back ++ Tallied other (Promised p) ∷ own) alone behind seen beat spelled low in
     let until : List Happening = came.early ++ Tallied other (Promised p) ∷ came.between in
-    let front : IsPrefix it.front until =
-    ((Opened other ∷ it.back) ++ Tallied other (Promised p) ∷ came.between,
-    sym (append_assoc it.front (Opened other ∷ it.back) (Tallied other (Promised p) ∷ came.between))
-    ∙ ap (λ l. l ++ Tallied other (Promised p) ∷ came.between) (sym it.is)) in
+    let front : IsPrefix it.front until = (
+      (Opened other ∷ it.back) ++ Tallied other (Promised p) ∷ came.between,
+      sym (append_assoc it.front (Opened other ∷ it.back) (Tallied other (Promised p) ∷ came.between))
+          ∙ ap (λ l. l ++ Tallied other (Promised p) ∷ came.between) (sym it.is),
+    ) in
     let short = prefix_short beat.asked.order (order_of n it.front) seen_then in
     let within = prefix_short (order_of n it.front) (order_of n until) (order_front n it.front until front) in
     let here = ap length came.seen in
