@@ -103,7 +103,7 @@ where
           seen = client;
           asked = P.asked policy;
           terms = terms.now;
-          beats = host.keeping.ledger.now.has_beats;
+          beats = host.entry.keeping.ledger.now.has_beats;
           answered = 0;
         } }
     {
