@@ -101,9 +101,13 @@ order_of number (Tallied at event ∷ later) =
     (if at == number then event ∷ [] else []) ++ order_of number later
 order_of number (Wrote at ∷ later) = order_of number later
 
+-- the server of that number opened the store between these
+abbrev pub OpensBetween : List Happening → ℕ → List Happening → List Happening → Type 0
+OpensBetween early number late all = all ≡ early ++ Opened number ∷ late
+
 -- **The premise of the holder.** Once a later server has opened the store, no write of an earlier one ends well.
 abbrev pub HoldsAlone : List Happening → Type 0
-HoldsAlone all = (early late : List Happening) (number other : ℕ) → all ≡ early ++ Opened number ∷ late →
+HoldsAlone all = (early late : List Happening) (number other : ℕ) → OpensBetween early number late all →
     other < number → ¬ (Contains late (Wrote other))
 
 -- A promise stands behind the end of the write that began last before it, if one had begun: no other began since then.

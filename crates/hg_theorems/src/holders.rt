@@ -1,13 +1,13 @@
 //! Servers one after the other over one store. The functions do nothing: what they ensure is a theorem.
 
-ghost use Rattle.std.specs.Prelude.{◌≡◌, ◌≤◌, ◌<◌, ◌++◌, ◌∷◌, ℕ, Bool, List};
+ghost use Rattle.std.specs.Prelude.{◌≤◌, ◌<◌, ℕ, Bool, List};
 ghost use mathlib.Core.List.{IsPrefix};
 ghost use Rattle.hg_store.specs.declared.head.Head.{Head};
 ghost use Rattle.hg_commit.specs.Orders.{Comes, HasBeat, ReceiptView};
 ghost use Rattle.hg_commit.specs.Promises.{Promise};
 ghost use Rattle.hg_recovery.specs.Opening.{IsRecovered};
 ghost use Rattle.hg_theorems.specs.Holders.{AreInARow, CameBehind, EachHasAllBefore, Happening, HasAllOf, HasServed};
-ghost use Rattle.hg_theorems.specs.Holders.{HoldsAlone, Opened, OpensFirst, order_of, PromisesBehindWrites, Server, TakesOver};
+ghost use Rattle.hg_theorems.specs.Holders.{HoldsAlone, OpensBetween, OpensFirst, order_of, PromisesBehindWrites, Server, TakesOver};
 
 use crate::recovery::{fronts_are_recovered, what_a_client_saw_done_is_recovered};
 use hg_recovery::laws::{a_front_of_records_runs, records_lead_to_one_repository};
@@ -49,7 +49,7 @@ pub fn a_beat_is_asked_for_before_the_next_server_opens()
     ensures { (all : List Happening) (number later : ℕ) (before after : ReceiptView) (rests : ℕ)
         (early late : List Happening) → HoldsAlone all → PromisesBehindWrites all →
         IsPrefix after.order (order_of number all) → (beat : HasBeat before after rests) →
-        all ≡ early ++ Opened later ∷ late → number < later → IsPrefix beat.asked.order (order_of number early) }
+        OpensBetween early later late all → number < later → IsPrefix beat.asked.order (order_of number early) }
 {}
 
 /// **What was answered before a request came is in its answer, where that rests on a beat.** The request came behind a
