@@ -4,6 +4,7 @@ use Rattle.std.specs.Prelude.{Result, Ok, Err}
 use Rattle.hg_store.specs.Entries.{Stamp}
 use Rattle.hg_push.specs.Run.{RepositoryOf}
 use Rattle.hg_commit.specs.Clients.{KeptSeen}
+use Rattle.hg_commit.specs.Orders.{ReceiptView}
 use Rattle.hg_http.specs.declared.hook.policy.Verdict.{Verdict}
 use Rattle.hg_http.specs.declared.answer.HttpAnswer.{HttpAnswer}
 use Rattle.hg_web.specs.Answering.{OrLacks}

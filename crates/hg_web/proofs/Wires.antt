@@ -7,6 +7,7 @@ use Rattle.http_server.specs.declared.response.Response.{Response}
 use Rattle.hg_parts.specs.Repository.{Repository}
 use Rattle.hg_push.specs.Run.{RepositoryOf}
 use Rattle.hg_commit.specs.Clients.{IsLater, KeptSeen}
+use Rattle.hg_commit.specs.Orders.{ReceiptView}
 use Rattle.hg_http.specs.Policies.{Asked, AsksOnce, HasAsked}
 use Rattle.hg_http.specs.declared.answer.HttpAnswer.{HttpAnswer}
 use Rattle.hg_http.specs.Responses.{CarriesAnswer}
