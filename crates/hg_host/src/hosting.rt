@@ -228,7 +228,7 @@ where
     ensures { (capacity : ℕ) × IfSome result.left (EndsHost D.seen D.may_leave D.moment D.left_since capacity
         recovered.repo (head_of recovered.publishing recovered.identity) (records_of recovered.records.items)
         (D.moment recovered.log.device) ⟦<Board<'a, R> as Shown<Global>>⟧.is_page
-        ⟦<Board<'a, R> as Shown<Global>>⟧.are_metrics terms.shared) }
+        ⟦<Board<'a, R> as Shown<Global>>⟧.are_metrics terms.entry.shared) }
 {
     let capacity = terms.capacity.clamp(1, 65_536);
     let Ok((queue, taker)) = PartQueue::new(alloc, capacity) else {
