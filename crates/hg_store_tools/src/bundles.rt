@@ -8,7 +8,8 @@ ghost use Rattle.hg_store_tools.specs.Logging.{IsLogged, IsShelved, IsUnlogged};
 use crate::fault::{Fault, StoreEnd};
 use crate::form::{BundleForm, in_form};
 use crate::report::sent;
-use crate::visit::{RecordVisit, begin, visit_records};
+use crate::marks::StoreStart;
+use crate::visit::{RecordVisit, begin, visit_from, visit_records};
 use hg_connection::Writer;
 use hg_store::Entry;
 use hg_types::Limits;
@@ -127,6 +128,26 @@ pub fn send_log<R: Read, W: Writer, A: Allocator + Copy>(
     visit_records(alloc, &begun, reader, &logging, writer)
 }
 
+/// Writes the bundles of a store that the reader gives from a mark on, as [`send_log`] writes them.
+pub fn send_log_on<R: Read, W: Writer, A: Allocator + Copy>(
+    alloc: A,
+    start: &StoreStart,
+    reader: &mut R,
+    from: usize,
+    form: BundleForm,
+    writer: &mut W,
+) -> Result<StoreEnd, Fault>
+{
+    let logging = Logging {
+        alloc,
+        limits: start.head.limits,
+        from,
+        form,
+    };
+    let begun = start.begun();
+    visit_from(alloc, &begun, start.mark.place, reader, &logging, writer)
+}
+
 /// Puts the bundles of a store that the reader gives on a shelf, as [`send_log`] writes them.
 pub fn put_log<R: Read, S: BundleSink, A: Allocator + Copy>(
     alloc: A,
@@ -149,4 +170,25 @@ pub fn put_log<R: Read, S: BundleSink, A: Allocator + Copy>(
         form,
     };
     visit_records(alloc, &begun, reader, &Shelving { log }, shelf)
+}
+
+/// Puts the bundles of a store that the reader gives from a mark on, as [`put_log`] puts them.
+pub fn put_log_on<R: Read, S: BundleSink, A: Allocator + Copy>(
+    alloc: A,
+    start: &StoreStart,
+    reader: &mut R,
+    from: usize,
+    form: BundleForm,
+    shelf: &mut S,
+) -> Result<StoreEnd, Fault>
+{
+    let log = Logging {
+        alloc,
+        limits: start.head.limits,
+        from,
+        form,
+    };
+    let begun = start.begun();
+    let shelving = Shelving { log };
+    visit_from(alloc, &begun, start.mark.place, reader, &shelving, shelf)
 }

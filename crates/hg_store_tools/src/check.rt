@@ -7,7 +7,8 @@ ghost use Rattle.hg_store.specs.declared.head.Head.{Head as AnyHead};
 ghost use Rattle.hg_store_tools.specs.Reading.{IsRead, IsUnread};
 
 use crate::fault::{Fault, StoreEnd};
-use crate::visit::{RecordVisit, begin, visit_records};
+use crate::marks::StoreStart;
+use crate::visit::{RecordVisit, begin, visit_from, visit_records};
 use hg_store::Entry;
 use std::alloc::Allocator;
 use std::io::Read;
@@ -45,4 +46,15 @@ pub fn check_records<R: Read, A: Allocator + Copy>(
         Err(fault) => return Err(fault),
     };
     visit_records(alloc, &begun, reader, &Passing, &mut ())
+}
+
+/// Reads all records of a store that the reader gives from a mark on, as [`check_records`] does.
+pub fn check_records_on<R: Read, A: Allocator + Copy>(
+    alloc: A,
+    start: &StoreStart,
+    reader: &mut R,
+) -> Result<StoreEnd, Fault>
+{
+    let begun = start.begun();
+    visit_from(alloc, &begun, start.mark.place, reader, &Passing, &mut ())
 }

@@ -7,16 +7,16 @@ ghost use Rattle.hg_store_tools.specs.Listing.{IsListed};
 ghost use Rattle.hg_store_tools.specs.Logging.{IsLogged};
 ghost use Rattle.hg_store_tools.specs.Reporting.{Reports};
 
-use crate::bundles::{put_log, send_log};
+use crate::bundles::{put_log_on, send_log_on};
 use crate::cut::{CutFault, CutFiles, put_cut};
 use crate::fault::{ArchiveFault, Fault, NamedFile, StoreEnd};
 use crate::filling::NewStore;
 use crate::form::BundleForm;
 use crate::host::{
-    FolderShelf, StoreLink, StoreReads, checked_reader, fault_of_store, find_place, first_reader,
+    FolderShelf, StoreLink, StoreReads, checked_start, fault_of_store, find_place, first_reader,
     store_reader,
 };
-use crate::listing::send_list;
+use crate::listing::send_list_on;
 use crate::report::send_report;
 use crate::upgrade::put_upgrade;
 use hg_connection::Writer;
@@ -61,11 +61,9 @@ pub fn log_store<'a, R: Files<File = File>, A: Allocator + Copy, W: Writer>(
     ensures { IfOk result (λ ending. (file : List ℕ)
         × IsLogged form A file from ending (W.told writer.old).taken (W.told writer.new).taken) }
 {
-    let mut reader = about(
-        checked_reader(files, alloc, folder),
-        NamedFile::Store(folder),
-    )?;
-    match send_log(alloc, &mut reader, from, form, writer) {
+    let store = NamedFile::Store(folder);
+    let (start, mut reader) = about(checked_start(files, alloc, folder, from), store)?;
+    match send_log_on(alloc, &start, &mut reader, from, form, writer) {
         Ok(ending) => Ok(ending),
         Err(fault) => Err(sending_fault(folder, fault)),
     }
@@ -84,11 +82,9 @@ pub fn list_store<'a, R: Files<File = File>, A: Allocator + Copy, W: Writer>(
     ensures { IfOk result (λ ending. (file : List ℕ)
         × IsListed A file from ending (W.told writer.old).taken (W.told writer.new).taken) }
 {
-    let mut reader = about(
-        checked_reader(files, alloc, folder),
-        NamedFile::Store(folder),
-    )?;
-    match send_list(alloc, &mut reader, from, writer) {
+    let store = NamedFile::Store(folder);
+    let (start, mut reader) = about(checked_start(files, alloc, folder, from), store)?;
+    match send_list_on(alloc, &start, &mut reader, from, writer) {
         Ok(ending) => Ok(ending),
         Err(fault) => Err(sending_fault(folder, fault)),
     }
@@ -106,13 +102,11 @@ pub fn file_log<'a, R: Files<File = File>, A: Allocator + Copy>(
     form: BundleForm,
     to: &'a str,
 ) -> Result<StoreEnd, ArchiveFault<'a>> {
-    let mut reader = about(
-        checked_reader(files, alloc, folder),
-        NamedFile::Store(folder),
-    )?;
+    let store = NamedFile::Store(folder);
+    let (start, mut reader) = about(checked_start(files, alloc, folder, from), store)?;
     about_store(make_folder(files, alloc, to), NamedFile::Folder(to))?;
     let mut shelf = FolderShelf::of(files, alloc, to);
-    match put_log(alloc, &mut reader, from, form, &mut shelf) {
+    match put_log_on(alloc, &start, &mut reader, from, form, &mut shelf) {
         Ok(ending) => Ok(ending),
         Err(fault) => Err(ArchiveFault {
             file: shelf_name(folder, to, shelf.place, fault),

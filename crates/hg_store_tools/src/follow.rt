@@ -170,10 +170,11 @@ pub enum FollowEnd {
 }
 
 /// Follows a store in which nothing was found yet, until that is not to go on, or cannot: it writes the frames of its
-/// records, each once they are durable.
+/// records, the first of which is at this place, each once they are durable.
 pub(crate) fn follow<T: StoreTrail<A>, W: Writer, P: Pause, A: Allocator + Copy>(
     trail: &mut T,
     log: &Logging<A>,
+    first: usize,
     writer: &mut W,
     pause: &mut P,
 ) -> FollowEnd
@@ -182,7 +183,7 @@ pub(crate) fn follow<T: StoreTrail<A>, W: Writer, P: Pause, A: Allocator + Copy>
     ensures { HasFollowed A log.now result (T.found trail.new) (T.durable trail.new)
         (W.told writer.old).taken (W.told writer.new).taken }
 {
-    let mut place = 0;
+    let mut place = first;
     let mut is_idle = false;
     'following: for _ in 0..u64::MAX {
         if !pause.goes_on(is_idle) {

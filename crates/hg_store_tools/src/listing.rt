@@ -11,7 +11,8 @@ use crate::brought::brought_by;
 use crate::date::{date_of, push_date};
 use crate::fault::{Fault, StoreEnd};
 use crate::report::sent;
-use crate::visit::{RecordVisit, begin, visit_records};
+use crate::marks::StoreStart;
+use crate::visit::{RecordVisit, begin, visit_from, visit_records};
 use hg_connection::Writer;
 use hg_store::Entry;
 use hg_types::{Limits, NoMemory};
@@ -85,6 +86,24 @@ pub fn send_list<R: Read, W: Writer, A: Allocator + Copy>(
         from,
     };
     visit_records(alloc, &begun, reader, &listing, writer)
+}
+
+/// Writes a line for each push of a store that the reader gives from a mark on, as [`send_list`] does.
+pub fn send_list_on<R: Read, W: Writer, A: Allocator + Copy>(
+    alloc: A,
+    start: &StoreStart,
+    reader: &mut R,
+    from: usize,
+    writer: &mut W,
+) -> Result<StoreEnd, Fault>
+{
+    let listing = Listing {
+        alloc,
+        limits: start.head.limits,
+        from,
+    };
+    let begun = start.begun();
+    visit_from(alloc, &begun, start.mark.place, reader, &listing, writer)
 }
 
 /// The line of the push at a place. An `Err` says that its bundle is none within the limits, or that memory was

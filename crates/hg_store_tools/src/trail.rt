@@ -8,6 +8,7 @@ ghost use Rattle.hg_store_tools.specs.TrailNotes.{durable_in, found_in};
 use crate::fault::Fault;
 use crate::follow::StoreTrail;
 use crate::notes::{TrailNotes, TrailStep};
+use crate::marks::{StoreStart, record_size};
 use crate::visit::{Beginning, begin};
 use hg_store::{DeviceError, Entry, NoRecord, RecordStop, Version, read_record};
 use std::alloc::Allocator;
@@ -35,14 +36,16 @@ pub struct FileTrail<F: GrowingFile + Drop, A: Allocator> {
     version: Version,
     /// That of the record that was found last, or of the head.
     digest: [u8; 20],
-    /// How many records were found.
+    /// The place of the first record that is looked for.
+    first: usize,
+    /// That of the next one.
     place: usize,
     /// Where the gate of the next one stands.
     gate: u64,
     /// Whether the file was read on from somewhere else than that gate.
     is_astray: bool,
     notes: TrailNotes,
-    ghost counted: { place ≡ length (found_in notes.steps) },
+    ghost counted: { place ≡ first + length (found_in notes.steps) },
 }
 
 impl<F: GrowingFile + Drop, A: Allocator + Copy> FileTrail<F, A> {
@@ -65,12 +68,32 @@ impl<F: GrowingFile + Drop, A: Allocator + Copy> FileTrail<F, A> {
             file,
             version,
             digest: begun.digest,
+            first: 0,
             place: 0,
-            gate: head_size(version),
+            gate: begun.head.size() as u64,
             is_astray: true,
             notes: TrailNotes::new(),
         };
         Ok((trail, begun))
+    }
+
+    /// The store of a file, from a mark on.
+    pub(crate) fn on(alloc: A, file: F, start: &StoreStart) -> Self
+        ensures steps { result.notes.steps ≡ [] }
+        ensures first { result.first ≡ start.now.mark.place }
+    {
+        let mark = &start.mark;
+        FileTrail {
+            alloc,
+            file,
+            version: start.head.version(),
+            digest: mark.digest,
+            first: mark.place,
+            place: mark.place,
+            gate: mark.offset as u64,
+            is_astray: true,
+            notes: TrailNotes::new(),
+        }
     }
 
     /// Whether a record stands at the gate, or damage. The gate is looked at alone, and what stands behind it is read
@@ -102,6 +125,12 @@ impl<F: GrowingFile + Drop, A: Allocator + Copy> FileTrail<F, A> {
         )
     }
 
+    /// Where the gate stands behind a record that is read at this one.
+    fn gate_behind(&self, entry: &Entry<A>) -> Option<u64> {
+        let size = record_size(self.version, entry)?;
+        self.gate.checked_add(size as u64)
+    }
+
     /// Notes a record that was read, and goes on behind it.
     fn pass(&mut self, entry: Entry<A>) -> Result<Option<Entry<A>>, Fault>
         ensures found { IfOk result (λ next. found_in self.new.notes.steps ≡ with_next (found_in self.old.notes.steps) next) }
@@ -109,8 +138,7 @@ impl<F: GrowingFile + Drop, A: Allocator + Copy> FileTrail<F, A> {
         ensures durable { durable_in self.new.notes.steps ≡ durable_in self.old.notes.steps }
         ensures why { IfErr result (λ fault. fault ≡ Fault.Failed) }
     {
-        let size = record_size(self.version, &entry);
-        let (Some(gate), Some(place)) = (self.gate.checked_add(size), self.place.checked_add(1))
+        let (Some(gate), Some(place)) = (self.gate_behind(&entry), self.place.checked_add(1))
         else {
             drop(entry);
             return Err(Fault::Failed);
@@ -123,25 +151,6 @@ impl<F: GrowingFile + Drop, A: Allocator + Copy> FileTrail<F, A> {
         self.is_astray = false;
         Ok(Some(entry))
     }
-}
-
-/// How many bytes a head has.
-fn head_size(version: Version) -> u64 {
-    match version {
-        Version::First => 38,
-        Version::Second => 54,
-    }
-}
-
-/// How many bytes a record has.
-fn record_size<A: Allocator>(version: Version, entry: &Entry<A>) -> u64 {
-    let beside: u64 = match version {
-        Version::First => 25,
-        Version::Second => 34,
-    };
-    let name = entry.stamp().name().len() as u64;
-    let bundle = entry.bundle().len() as u64;
-    beside.saturating_add(name).saturating_add(bundle)
 }
 
 /// Why no record is found after so many. That none stands there yet is no fault.
