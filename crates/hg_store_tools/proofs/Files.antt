@@ -151,7 +151,7 @@ headless Unsent a b none = absurd none
 
 -- ---- after a head
 
-damaged_more : (version : Version) (digest bytes rest : List ℕ) → IsDamaged version digest bytes
+pub damaged_more : (version : Version) (digest bytes rest : List ℕ) → IsDamaged version digest bytes
     → IsDamaged version digest (bytes ++ rest)
 damaged_more version digest bytes rest damaged = elim damaged [
   | no_gate gate behind is some other ↦ no_gate gate (behind ++ rest) (ap (λ (l : List ℕ). l ++ rest) is) some other
@@ -166,7 +166,7 @@ damaged_more version digest bytes rest damaged = elim damaged [
       sized size differs
 ]
 
-end_more : (bytes rest : List ℕ) → (bytes ≡ [] → rest ≡ []) → IsEnd bytes → IsEnd (bytes ++ rest)
+pub end_more : (bytes rest : List ℕ) → (bytes ≡ [] → rest ≡ []) → IsEnd bytes → IsEnd (bytes ++ rest)
 end_more bytes rest none end = elim end [
   | over empty ↦ over (ap (λ (l : List ℕ). l ++ rest) empty ∙ none empty)
   | shut behind is ↦ shut (behind ++ rest) (ap (λ (l : List ℕ). l ++ rest) is)

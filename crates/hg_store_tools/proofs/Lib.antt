@@ -5,6 +5,7 @@ mod Kept
 mod Parts
 mod Visits
 mod Files
+mod Places
 mod Logs
 mod Followings
 mod Reports

@@ -3,8 +3,8 @@
 ghost use Rattle.std.specs.Prelude.{ℕ, List, IfOk};
 ghost use Rattle.hg_connection.specs.declared.sending.Sending.TheVariants.{Whole as sent_whole};
 ghost use Rattle.hg_connection.specs.Sent.{Sends};
-ghost use Rattle.hg_store_tools.specs.Listing.{IsListed};
-ghost use Rattle.hg_store_tools.specs.Logging.{IsLogged};
+ghost use Rattle.hg_store_tools.specs.Listing.{ListsFrom};
+ghost use Rattle.hg_store_tools.specs.Logging.{LogsFrom};
 ghost use Rattle.hg_store_tools.specs.Reporting.{Reports};
 
 use crate::bundles::{put_log_on, send_log_on};
@@ -58,8 +58,7 @@ pub fn log_store<'a, R: Files<File = File>, A: Allocator + Copy, W: Writer>(
     form: BundleForm,
     writer: &mut W,
 ) -> Result<StoreEnd, ArchiveFault<'a>>
-    ensures { IfOk result (λ ending. (file : List ℕ)
-        × IsLogged form A file from ending (W.told writer.old).taken (W.told writer.new).taken) }
+    ensures { IfOk result (λ ending. LogsFrom form A from ending (W.told writer.old).taken (W.told writer.new).taken) }
 {
     let store = NamedFile::Store(folder);
     let (start, mut reader) = about(checked_start(files, alloc, folder, from), store)?;
@@ -79,8 +78,7 @@ pub fn list_store<'a, R: Files<File = File>, A: Allocator + Copy, W: Writer>(
     from: usize,
     writer: &mut W,
 ) -> Result<StoreEnd, ArchiveFault<'a>>
-    ensures { IfOk result (λ ending. (file : List ℕ)
-        × IsListed A file from ending (W.told writer.old).taken (W.told writer.new).taken) }
+    ensures { IfOk result (λ ending. ListsFrom A from ending (W.told writer.old).taken (W.told writer.new).taken) }
 {
     let store = NamedFile::Store(folder);
     let (start, mut reader) = about(checked_start(files, alloc, folder, from), store)?;

@@ -1,6 +1,7 @@
 //! What a fault of the system is, and a shelf in a folder.
 
-ghost use Rattle.std.specs.Prelude.{None};
+ghost use Rattle.std.specs.Prelude.{◌≤◌, None, IfOk};
+ghost use Rattle.hg_store.specs.Head.{IsHead};
 
 use crate::bundles::{BundleSink, put_log};
 use crate::check::check_records_on;
@@ -63,7 +64,10 @@ pub fn checked_start<R: Files<File = File>, A: Allocator + Copy>(
     alloc: A,
     folder: &str,
     from: usize,
-) -> Result<(StoreStart, BufReader<File, A>), Fault> {
+) -> Result<(StoreStart, BufReader<File, A>), Fault>
+    ensures head { IfOk result (λ found. IsHead found.0.head) }
+    ensures mark { IfOk result (λ found. found.0.mark.place ≤ from) }
+{
     let mut reader = store_reader(files, alloc, folder)?;
     let start = placed_start(files, alloc, folder, reader.get_ref(), from)?;
     seek_to(&mut reader, start.mark.offset)?;
@@ -91,7 +95,10 @@ pub fn placed_start<R: Files<File = File>, A: Allocator + Copy>(
     folder: &str,
     file: &File,
     from: usize,
-) -> Result<StoreStart, Fault> {
+) -> Result<StoreStart, Fault>
+    ensures head { IfOk result (λ start. IsHead start.head) }
+    ensures mark { IfOk result (λ start. start.mark.place ≤ from) }
+{
     let index = if from < EACH {
         Vec::new(alloc)
     } else {

@@ -10,7 +10,7 @@
 use crate::fault::Fault;
 use crate::index::{NoIndex, index_bytes, read_index};
 use crate::rest::{StoreBytes, fault_of_device};
-use crate::visit::{Beginning, begin};
+use crate::visit::begin;
 use hg_store::{Entry, Head, Version, read_record};
 use std::alloc::Allocator;
 use std::io::Read;
@@ -62,16 +62,6 @@ pub(crate) fn record_size<A: Allocator>(version: Version, entry: &Entry<A>) -> O
 pub struct StoreStart {
     pub head: Head,
     pub mark: Mark,
-}
-
-impl StoreStart {
-    /// What stands before the mark, as if it was the head.
-    pub(crate) fn begun(&self) -> Beginning {
-        Beginning {
-            head: self.head,
-            digest: self.mark.digest,
-        }
-    }
 }
 
 /// Where a log of a store begins to read, and the bytes of a new index, where more marks were found than the old one
