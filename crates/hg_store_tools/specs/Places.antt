@@ -42,10 +42,14 @@ pub record LeadsTo (version : Version) (bytes : List ℕ) (first mark : Mark) : 
   pub offset_is : mark.offset ≡ first.offset + length (frames version first.digest records)
   pub digest_is : mark.digest ≡ last_digest version first.digest records
 
+-- the mark behind a record that stands at a mark and has that digest
+abbrev pub IsBehind : Version → Mark → Entry → List ℕ → Mark → Type 0
+IsBehind version mark entry digest next = (next.place ≡ mark.place + 1)
+    × (next.offset ≡ mark.offset + length (frame version mark.digest entry)) × (next.digest ≡ digest)
+
 -- one of the marks
 abbrev pub IsAmong : Mark → List Mark → Type 0
-IsAmong mark [] = ⊥
-IsAmong mark (other ∷ others) = (mark ≡ other) ⊎ IsAmong mark others
+IsAmong mark marks = (before : List Mark) × (after : List Mark) × (marks ≡ before ++ mark ∷ after)
 
 -- A record stands at the mark, in a file with that head: to it lead the records from the front, or from a mark that is
 -- known.
@@ -100,3 +104,17 @@ index_bytes first marks = index_front marks ++ sha1 (first ++ index_front marks)
 -- the marks that an index of a store with that head says; what is no index of it says none
 abbrev pub Says : List ℕ → Head → List Mark → Type 0
 Says index head known = (known ≡ []) ⊎ (index ≡ index_bytes (first_digest head) known)
+
+-- where a log begins to read in a file that is a store with that head: at its front, or at a record that is reached
+-- from there or from a mark of the index
+abbrev pub BeginsAt : List ℕ → List ℕ → Head → Mark → Type 0
+BeginsAt file index head mark = (mark ≡ front_mark head)
+    ⊎ ((known : List Mark) × Says index head known × IsReached file head known mark)
+
+-- The bytes are a new index: each of its marks is one of the old one, or a record stands at it that is reached.
+pub record IsIndexOf (file index : List ℕ) (head : Head) (bytes : List ℕ) : Type 0 where
+  pub known : List Mark
+  pub says : Says index head known
+  pub marks : List Mark
+  pub spelled : bytes ≡ index_bytes (first_digest head) marks
+  pub each : AllByRecursion (λ mark. IsAmong mark known ⊎ IsReached file head known mark) marks

@@ -1,5 +1,7 @@
 //! A store in its folder, or another file that grows, which is followed.
 
+ghost use Rattle.std.specs.Prelude.{◌≤◌};
+ghost use Rattle.hg_store.specs.Head.{IsHead};
 ghost use Rattle.hg_store_tools.specs.Trails.{IsFollowed};
 ghost use Rattle.hg_store_tools.specs.declared.follow.FollowEnd.{FollowEnd as AnyEnd};
 
@@ -63,6 +65,9 @@ pub fn send_trail_on<F: GrowingFile + Drop, W: Writer, P: Pause, A: Allocator + 
     writer: &mut W,
     pause: &mut P,
 ) -> FollowEnd
+    requires head { IsHead start.now.head }
+    requires mark { start.now.mark.place ≤ from }
+    ensures { IsFollowed form A from result (W.told writer.old).taken (W.told writer.new).taken }
 {
     let log = Logging {
         alloc,

@@ -1,6 +1,6 @@
 //! The file of a store that is followed.
 
-ghost use Rattle.std.specs.Prelude.{◌≡◌, [], ℕ, None, IfErr, IfOk, OnErr, length};
+ghost use Rattle.std.specs.Prelude.{◌≡◌, ◌+◌, [], ℕ, None, IfErr, IfOk, OnErr, length};
 ghost use Rattle.hg_store.specs.Head.{IsHead};
 ghost use Rattle.hg_store_tools.specs.Trails.{EndsSync, EndsTrail, with_next};
 ghost use Rattle.hg_store_tools.specs.TrailNotes.{durable_in, found_in};
@@ -52,6 +52,7 @@ impl<F: GrowingFile + Drop, A: Allocator + Copy> FileTrail<F, A> {
     /// The store of a file, which is at its front, and what it begins with.
     pub(crate) fn open(alloc: A, file: F) -> Result<(Self, Beginning), Fault>
         ensures steps { IfOk result (λ opened. opened.0.notes.steps ≡ []) }
+        ensures first { IfOk result (λ opened. opened.0.first ≡ 0) }
         ensures head { IfOk result (λ opened. IsHead opened.1.head) }
     {
         let mut file = file;
@@ -99,7 +100,8 @@ impl<F: GrowingFile + Drop, A: Allocator + Copy> FileTrail<F, A> {
     /// Whether a record stands at the gate, or damage. The gate is looked at alone, and what stands behind it is read
     /// after that: so it is whole where the gate is open.
     fn is_open(&mut self) -> io::Result<bool>
-        ensures { self.new.notes.steps ≡ self.old.notes.steps }
+        ensures steps { self.new.notes.steps ≡ self.old.notes.steps }
+        ensures first { self.new.first ≡ self.old.first }
     {
         match self.file.byte_at(self.gate)? {
             None | Some(0) => Ok(false),
@@ -112,7 +114,8 @@ impl<F: GrowingFile + Drop, A: Allocator + Copy> FileTrail<F, A> {
 
     /// Reads the next record.
     fn read_next(&mut self) -> Result<Entry<A>, RecordStop>
-        ensures { self.new.notes.steps ≡ self.old.notes.steps }
+        ensures steps { self.new.notes.steps ≡ self.old.notes.steps }
+        ensures first { self.new.first ≡ self.old.first }
     {
         self.is_astray = true;
         let buffer = Vec::new(self.alloc);
@@ -136,6 +139,7 @@ impl<F: GrowingFile + Drop, A: Allocator + Copy> FileTrail<F, A> {
         ensures found { IfOk result (λ next. found_in self.new.notes.steps ≡ with_next (found_in self.old.notes.steps) next) }
         ensures none { OnErr result (self.new.notes.steps ≡ self.old.notes.steps) }
         ensures durable { durable_in self.new.notes.steps ≡ durable_in self.old.notes.steps }
+        ensures first { self.new.first ≡ self.old.first }
         ensures why { IfErr result (λ fault. fault ≡ Fault.Failed) }
     {
         let (Some(gate), Some(place)) = (self.gate_behind(&entry), self.place.checked_add(1))
@@ -182,6 +186,8 @@ impl<F: GrowingFile + Drop, A: Allocator + Copy> StoreTrail<A> for FileTrail<F, 
     ghost found = { λ t. found_in t.notes.steps };
 
     ghost durable = { λ t. durable_in t.notes.steps };
+
+    ghost first = { λ t. t.first };
 
     fn find(&mut self) -> Result<Option<Entry<A>>, Fault> {
         if !self.is_astray {
