@@ -6,6 +6,8 @@ mod Parts
 mod Visits
 mod Files
 mod Places
+mod Marks
+mod Indexes
 mod Logs
 mod Followings
 mod Reports

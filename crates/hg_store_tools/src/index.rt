@@ -1,9 +1,11 @@
 //! The index of a store: the bytes of the file that is kept beside it.
 
-ghost use Rattle.std.specs.Prelude.{◌≡◌, ◌≢◌, ◌++◌, ◌+◌, List, IfErr, IfOk, OnErr, OnOk, Err, IsErrOf, length};
+ghost use Rattle.std.specs.Prelude.{◌≡◌, ◌≢◌, ◌≤◌, ◌+◌, ◌*◌, ◌++◌, ◌↔◌, ℕ, List, None, IsTrue, IfOk, IfSome, IsErrOf, OnOk};
+ghost use Rattle.std.specs.Prelude.{length};
 ghost use Rattle.std.specs.List.{AllByRecursion};
+ghost use Rattle.std.specs.Int.{w64, to_be_bytes};
 ghost use Rattle.sha1.specs.Sha1.{sha1};
-ghost use Rattle.hg_store_tools.specs.Places.{IsMark, index_bytes, mark_bytes, marks_bytes};
+ghost use Rattle.hg_store_tools.specs.Places.{IsMark, index_bytes, index_magic, mark_bytes, marks_bytes};
 ghost use Rattle.hg_store_tools.specs.declared.index.NoIndex.TheVariants.{NotOne};
 ghost use Rattle.hg_store_tools.specs.declared.marks.Mark.{Mark as AnyMark};
 
@@ -91,23 +93,37 @@ pub fn read_index<A: Allocator>(
 }
 
 /// The bytes of the marks of an index of that store.
-fn body_of<'a>(first: &[u8; 20], bytes: &'a [u8]) -> Option<&'a [u8]> {
+fn body_of<'a>(first: &[u8; 20], bytes: &'a [u8]) -> Option<&'a [u8]>
+    ensures body { IfSome result (λ body. bytes.now ≡ (index_magic ++ body.now)
+        ++ sha1 (first.now ++ (index_magic ++ body.now))) }
+    ensures size { IfSome result (λ body. (count : ℕ) × (length body.now ≡ 36 * count)) }
+    ensures none { result ≡ None → (marks : List AnyMark) → AllByRecursion IsMark marks
+        → bytes.now ≢ index_bytes first.now marks }
+{
     if bytes.len() < MAGIC.len() + DIGEST {
         return None;
     }
     let (front, told) = bytes.split_at(bytes.len() - DIGEST);
-    let (magic, body) = front.split_at(MAGIC.len());
-    if magic != MAGIC.as_slice() || body.len() % MARK != 0 {
+    if !is_same(told, &own_digest(first, front)) {
         return None;
     }
-    if told != own_digest(first, front).as_slice() {
+    let (magic, body) = front.split_at(MAGIC.len());
+    if !is_same(magic, &MAGIC) || body.len() % MARK != 0 {
         return None;
     }
     Some(body)
 }
 
+/// Whether both have the same bytes.
+fn is_same(a: &[u8], b: &[u8]) -> bool
+    ensures { IsTrue result ↔ (a.now ≡ b.now) }
+{
+    a == b
+}
+
 /// The marks that stand in these bytes, one after the other.
 fn read_marks<A: Allocator>(alloc: A, body: &[u8]) -> Result<Vec<Mark, A>, NoMemory>
+    requires { (count : ℕ) × (length body.now ≡ 36 * count) }
     ensures { IfOk result (λ marks. body.now ≡ marks_bytes marks.items) }
 {
     let mut marks = Vec::new(alloc);
@@ -121,7 +137,11 @@ fn read_marks<A: Allocator>(alloc: A, body: &[u8]) -> Result<Vec<Mark, A>, NoMem
 }
 
 /// A mark, and what follows it.
-fn read_mark(bytes: &[u8]) -> (Mark, &[u8]) {
+fn read_mark(bytes: &[u8]) -> (Mark, &[u8])
+    requires { 36 ≤ length bytes.now }
+    ensures spelled { bytes.now ≡ mark_bytes result.0 ++ result.1.now }
+    ensures length { length bytes.now ≡ 36 + length result.1.now }
+{
     let (front, behind) = bytes.split_at(MARK);
     let (place, front) = read_number(front);
     let (offset, front) = read_number(front);
@@ -136,12 +156,14 @@ fn read_mark(bytes: &[u8]) -> (Mark, &[u8]) {
 }
 
 /// A number of eight bytes, the high byte first, and what follows it.
-fn read_number(bytes: &[u8]) -> (usize, &[u8]) {
+fn read_number(bytes: &[u8]) -> (usize, &[u8])
+    requires { 8 ≤ length bytes.now }
+    ensures spelled { bytes.now ≡ to_be_bytes w64 result.0 ++ result.1.now }
+    ensures length { length bytes.now ≡ 8 + length result.1.now }
+{
     let [a, b, c, d, e, f, g, h, behind @ ..] = bytes else {
         unreachable!();
     };
-    (
-        u64::from_be_bytes([*a, *b, *c, *d, *e, *f, *g, *h]) as usize,
-        behind,
-    )
+    let number = u64::from_be_bytes([*a, *b, *c, *d, *e, *f, *g, *h]);
+    (number as usize, behind)
 }

@@ -59,6 +59,8 @@ mod listing_tests;
 #[cfg(test)]
 mod made;
 #[cfg(test)]
+mod marks_tests;
+#[cfg(test)]
 mod paper;
 #[cfg(test)]
 mod tests;
