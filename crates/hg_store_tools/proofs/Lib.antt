@@ -6,7 +6,7 @@ mod Parts
 mod Visits
 mod Files
 mod Places
-mod Marks
+mod Walks
 mod Indexes
 mod Logs
 mod Followings

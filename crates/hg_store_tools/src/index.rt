@@ -1,6 +1,6 @@
 //! The index of a store: the bytes of the file that is kept beside it.
 
-ghost use Rattle.std.specs.Prelude.{◌≡◌, ◌≢◌, ◌≤◌, ◌+◌, ◌*◌, ◌++◌, ◌↔◌, ℕ, List, None, IsTrue, IfOk, IfSome, IsErrOf, OnOk};
+ghost use Rattle.std.specs.Prelude.{◌≡◌, ◌≢◌, ◌≤◌, ◌+◌, ◌%◌, ◌++◌, ◌↔◌, ℕ, List, None, IsTrue, IfOk, IfSome, IsErrOf, OnOk};
 ghost use Rattle.std.specs.Prelude.{length};
 ghost use Rattle.std.specs.List.{AllByRecursion};
 ghost use Rattle.std.specs.Int.{w64, to_be_bytes};
@@ -96,7 +96,7 @@ pub fn read_index<A: Allocator>(
 fn body_of<'a>(first: &[u8; 20], bytes: &'a [u8]) -> Option<&'a [u8]>
     ensures body { IfSome result (λ body. bytes.now ≡ (index_magic ++ body.now)
         ++ sha1 (first.now ++ (index_magic ++ body.now))) }
-    ensures size { IfSome result (λ body. (count : ℕ) × (length body.now ≡ 36 * count)) }
+    ensures size { IfSome result (λ body. length body.now % 36 ≡ 0) }
     ensures none { result ≡ None → (marks : List AnyMark) → AllByRecursion IsMark marks
         → bytes.now ≢ index_bytes first.now marks }
 {
@@ -108,7 +108,10 @@ fn body_of<'a>(first: &[u8; 20], bytes: &'a [u8]) -> Option<&'a [u8]>
         return None;
     }
     let (magic, body) = front.split_at(MAGIC.len());
-    if !is_same(magic, &MAGIC) || body.len() % MARK != 0 {
+    if !is_same(magic, &MAGIC) {
+        return None;
+    }
+    if body.len() % MARK != 0 {
         return None;
     }
     Some(body)
@@ -123,7 +126,7 @@ fn is_same(a: &[u8], b: &[u8]) -> bool
 
 /// The marks that stand in these bytes, one after the other.
 fn read_marks<A: Allocator>(alloc: A, body: &[u8]) -> Result<Vec<Mark, A>, NoMemory>
-    requires { (count : ℕ) × (length body.now ≡ 36 * count) }
+    requires { length body.now % 36 ≡ 0 }
     ensures { IfOk result (λ marks. body.now ≡ marks_bytes marks.items) }
 {
     let mut marks = Vec::new(alloc);
