@@ -25,7 +25,7 @@ use Rattle.hg_store_tools.specs.Visiting.{failed as not_done, unread as not_read
 use Rattle.hg_store_tools.specs.declared.fault.Fault.{Fault}
 use Rattle.hg_store_tools.specs.declared.fault.Fault.TheVariants.{NoMemory, Unsent}
 use Rattle.hg_store_tools.specs.declared.fault.StoreEnd.{StoreEnd}
-use Rattle.hg_store_tools.proofs.Files.{has_front, headless as has_no_head, is_read, is_unread_at, whole_file}
+use Rattle.hg_store_tools.proofs.Files.{from_front, has_front, headless as has_no_head, is_read, is_unread_at, whole_file}
 use Rattle.hg_store_tools.specs.declared.marks.Mark.{Mark}
 use Rattle.hg_store_tools.proofs.Places.{read_on, rest_of}
 use Rattle.hg_store_tools.proofs.Written.{fault_told, whole_sent}
@@ -192,7 +192,9 @@ module _ (A : Type 0) (from : ℕ) (head : Head) (digest : List ℕ) (a b c : Op
               (is_unread_at head digest a b mid begins records tail each gone fault why)
               (from_first A (list_form head from) records sent.0 sent.1) sent.2,
         )
-    | not_done records entry mid each gone visited why ↦
+    | not_done records entry mid each gone visited here ↦
+        let why = subst (λ (n : ℕ). ListsNoRecord A (list_form head from) n entry fault (taken mid) (taken last))
+        (from_front (length records)) here in
         let all : Consumes b c (frames (version_of head) digest (records ++ entry ∷ []) ++ []) =
         subst (Consumes b c) (sym (append-nil (frames (version_of head) digest (records ++ entry ∷ [])))) gone in
         let at = whole_file head digest a b c begins (records ++ entry ∷ []) [] each all in

@@ -29,7 +29,7 @@ use Rattle.hg_store_tools.specs.declared.fault.Fault.TheVariants.{NoMemory, Unse
 use Rattle.hg_store_tools.specs.declared.fault.StoreEnd.{StoreEnd}
 use Rattle.hg_store_tools.specs.declared.form.BundleForm.{BundleForm}
 use Rattle.hg_store_tools.specs.declared.form.BundleForm.TheVariants.{Stored, Canonical}
-use Rattle.hg_store_tools.proofs.Files.{has_front, headless as has_no_head, is_read, is_unread_at, whole_file}
+use Rattle.hg_store_tools.proofs.Files.{from_front, has_front, headless as has_no_head, is_read, is_unread_at, whole_file}
 use Rattle.hg_store_tools.specs.declared.marks.Mark.{Mark}
 use Rattle.hg_store_tools.proofs.Places.{read_on, rest_of}
 use Rattle.hg_store_tools.proofs.Written.{fault_told, whole_sent}
@@ -227,7 +227,9 @@ module _ (form : BundleForm) (A : Type 0) (from : ℕ) (head : Head) (digest : L
                 (is_unread_at head digest a b mid begins records tail each gone fault why)
                 (from_first A (log_form form head from) records sent.0 sent.1) sent.2,
           )
-      | not_done records entry mid each gone visited why ↦
+      | not_done records entry mid each gone visited here ↦
+          let why = subst (λ (n : ℕ). SendsNoRecord A (log_form form head from) n entry fault (taken mid) (taken last))
+          (from_front (length records)) here in
           let all : Consumes b c (frames (version_of head) digest (records ++ entry ∷ []) ++ []) =
           subst (Consumes b c) (sym (append-nil (frames (version_of head) digest (records ++ entry ∷ [])))) gone in
           let at = whole_file head digest a b c begins (records ++ entry ∷ []) [] each all in

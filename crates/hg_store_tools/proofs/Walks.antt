@@ -16,6 +16,7 @@ use Rattle.hg_store.specs.declared.head.Version.TheVariants.{First, Second}
 use Rattle.hg_store.specs.declared.numbers.Numbers.{Numbers}
 use Rattle.hg_store_tools.specs.Places.{BeginsAt, IsAmong, IsBehind, IsIndexOf, IsReached, LeadsTo, Says, front_mark}
 use Rattle.hg_store_tools.specs.Places.{index_bytes}
+use Rattle.hg_store_tools.specs.Reading.{GivesFrom}
 use Rattle.hg_store_tools.specs.Visiting.{Begins}
 use Rattle.hg_store_tools.specs.declared.marks.Mark.{Mark}
 use Rattle.hg_store_tools.specs.declared.marks.StoreStart.{StoreStart}
@@ -32,9 +33,9 @@ length-numbers : (version : Version) (numbers : Numbers)
 length-numbers First numbers = refl
 length-numbers Second numbers = refl
 
-pub length-frame : (version : Version) (before : List ℕ) (r : Entry)
+pub frame_long : (version : Version) (before : List ℕ) (r : Entry)
     → length (frame version before r) ≡ 21 + numbers_size version + length r.stamp.name + length r.bundle
-length-frame version before r =
+frame_long version before r =
     let digest : List ℕ = digest_of version before r in
     omega (
       arith,
@@ -44,6 +45,12 @@ length-frame version before r =
       length-append (numbers_bytes version (numbers_of r)) r.stamp.name,
       length-numbers version (numbers_of r),
     )
+
+pub size_so : (version : Version) (entry : Entry) (size beside : ℕ) (name bundle : List ℕ)
+    → size ≡ beside + length name + length bundle → beside ≡ 21 + numbers_size version → name ≡ entry.stamp.name
+    → bundle ≡ entry.bundle → (before : List ℕ) → size ≡ length (frame version before entry)
+size_so version entry size beside name bundle sum beside_is name_is bundle_is before =
+    omega (arith, sum, beside_is, ap length name_is, ap length bundle_is, frame_long version before entry)
 
 -- ---- lists of marks
 
@@ -86,9 +93,9 @@ pub record Walking (version : Version) (first : Mark) (until : ℕ) (a b : Optio
   pub places : AllByRecursion (λ (m : Mark). m.place ≤ until) marks
   pub lead : (bytes : List ℕ) → a ≡ Some bytes → AllByRecursion (LeadsTo version bytes first) marks
 
-pub walking_none : (version : Version) (first : Mark) (until : ℕ) (a : Option (List ℕ)) → first.place ≤ until
-    → Walking version first until a a first []
-walking_none version first until a within = record {
+pub walking_none : (version : Version) (first : Mark) (until : ℕ) (a : Option (List ℕ)) (marks : List Mark)
+    → first.place ≤ until → marks ≡ [] → Walking version first until a a first marks
+walking_none version first until a marks within none = record {
   records = [];
   each = tt;
   gone = Consumes-nil a;
@@ -96,8 +103,8 @@ walking_none version first until a within = record {
   offset_is = omega arith;
   digest_is = refl;
   within = within;
-  places = tt;
-  lead = λ _ _. tt;
+  places = subst (AllByRecursion (λ (m : Mark). m.place ≤ until)) (sym none) tt;
+  lead = λ bytes _. subst (AllByRecursion (LeadsTo version bytes first)) (sym none) tt;
 }
 
 given_by : (bytes x : List ℕ) (c : Option (List ℕ)) → Consumes (Some bytes) c x → (rest : List ℕ) × (bytes ≡ x ++ rest)
@@ -183,11 +190,22 @@ lead_of version head a first marks is lead bytes given =
 
 -- ---- where a log begins
 
-pub has_head : (file : List ℕ) (b : Option (List ℕ)) (head : Head) (digest : List ℕ) → Begins (Some file) b head digest
+has_head : (file : List ℕ) (b : Option (List ℕ)) (head : Head) (digest : List ℕ) → Begins (Some file) b head digest
     → HasHead file head
 has_head file b head digest begins =
     let at = given_by file (head_bytes head) b begins.gone in
     (at.0, record { spelled = at.1; allowed = begins.is })
+
+-- what a reader of a store gives from a place on
+pub given_from : (place : ℕ) (file : List ℕ) (bytes a : Option (List ℕ)) → bytes ≡ Some file → GivesFrom place bytes a
+    → a ≡ Some (drop place file)
+given_from place file bytes a is gives = subst (λ (o : Option (List ℕ)). GivesFrom place o a) is gives
+
+pub has_head_of : (file : List ℕ) (bytes a b : Option (List ℕ)) (head : Head) (digest : List ℕ) → bytes ≡ Some file
+    → GivesFrom 0 bytes a → Begins a b head digest → HasHead file head
+has_head_of file bytes a b head digest is gives begins =
+    has_head file b head digest
+    (subst (λ (o : Option (List ℕ)). Begins o b head digest) (given_from 0 file bytes a is gives) begins)
 
 module _ (file index : List ℕ) (head : Head) (front : Mark) (found known : List Mark) (said : Mark)
     (front_is : front ≡ front_mark head) (says : Says index head known)

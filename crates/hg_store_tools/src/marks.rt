@@ -73,7 +73,8 @@ pub(crate) fn record_size<A: Allocator>(version: Version, entry: &Entry<A>) -> O
     ensures { IfSome result (λ size. (before : List ℕ) → size ≡ length (frame version before entry.now)) }
 {
     let named = size_beside(version).checked_add(entry.stamp().name().len())?;
-    named.checked_add(entry.bundle().len())
+    let size = named.checked_add(entry.bundle().len())?;
+    Some(size)
 }
 
 /// How many bytes a record has beside its name and its bundle.
