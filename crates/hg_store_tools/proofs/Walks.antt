@@ -1,5 +1,8 @@
 -- Marks of a store that is read from one of them on.
 use Rattle.std.proofs.Common.{◌≡◌, ◌⊎◌, inl, inr, ℕ, zero, suc, ◌+◌, ◌<◌, ◌≤◌, List, [], ◌∷◌, ◌++◌, length, drop}
+use Rattle.std.proofs.Common.{get_or, take, take-append-drop, Result, Ok, Err}
+use Rattle.std.proofs.lemmas.List.{drop_more}
+use Rattle.std.specs.Prelude.{IfOk}
 use Rattle.std.proofs.Common.{refl, sym, ap, ◌∙◌, subst, arith, append_assoc, length-append, Option, Some, None}
 use Rattle.std.proofs.KnownBytes.{Consumes-nil, Consumes-trans}
 use Rattle.std.specs.Io.KnownBytes.{Consumes}
@@ -77,6 +80,14 @@ all_middle P (other ∷ before) after mark each = all_middle P before after mark
 pub all_among : (P : Mark → Type 0) (marks : List Mark) (mark : Mark) → IsAmong mark marks → AllByRecursion P marks
     → P mark
 all_among P marks mark among each = all_middle P among.0 among.1 mark (subst (AllByRecursion P) among.2 each)
+
+-- a mark of a list, with those before it and those behind it
+pub split_at : (marks : List Mark) (n : ℕ) (none : Mark) → n < length marks
+    → (after : List Mark) × (marks ≡ take n marks ++ get_or marks n none ∷ after)
+split_at marks n none less = (
+  drop (n + 1) marks,
+  sym (take-append-drop n marks) ∙ ap (λ (ms : List Mark). take n marks ++ ms) (drop_more marks n none less),
+)
 
 -- ---- records from a mark on
 
@@ -206,6 +217,29 @@ pub has_head_of : (file : List ℕ) (bytes a b : Option (List ℕ)) (head : Head
 has_head_of file bytes a b head digest is gives begins =
     has_head file b head digest
     (subst (λ (o : Option (List ℕ)). Begins o b head digest) (given_from 0 file bytes a is gives) begins)
+
+pub says_so : (index : List ℕ) (head : Head) (front : Mark) (known : List Mark) → front ≡ front_mark head
+    → (known ≡ []) ⊎ (index ≡ index_bytes front.digest known) → Says index head known
+says_so index head front known front_is said = elim said [
+  | inl none ↦ inl none
+  | inr is ↦ inr (is ∙ ap (λ (m : Mark). index_bytes m.digest known) front_is)
+]
+
+-- what holds of what a call gave, by two of its clauses
+pub both_ok : {T E : Type 0} {P Q S : T → Type 0} (told : Result T E) → IfOk told P → IfOk told Q
+    → ((value : T) → P value → Q value → S value) → IfOk told S
+both_ok (Ok value) first second step = step value first second
+both_ok (Err fault) first second step = tt
+
+pub found_place : (head : Head) (front mark : Mark) (until from : ℕ) (found shown : List Mark) → front ≡ front_mark head
+    → shown ≡ found → AllByRecursion (λ (m : Mark). m.place ≤ until) found → until ≤ from
+    → (mark ≡ front) ⊎ IsAmong mark shown → mark.place ≤ from
+found_place head front mark until from found shown front_is shown_is places within among = elim among [
+  | inl same ↦ omega (arith, ap (λ (m : Mark). m.place) (same ∙ front_is))
+  | inr one ↦
+      let each = subst (AllByRecursion (λ (m : Mark). m.place ≤ until)) (sym shown_is) places in
+      omega (arith, all_among (λ (m : Mark). m.place ≤ until) shown mark one each, within)
+]
 
 module _ (file index : List ℕ) (head : Head) (front : Mark) (found known : List Mark) (said : Mark)
     (front_is : front ≡ front_mark head) (says : Says index head known)
