@@ -44,7 +44,7 @@ returns-then-not-is_empty-clause-index g c =
     (inr (c.in-Some.earlier.now, after, split))
     (subst (AllByRecursion (LeadsTo (version_of front.head) _ c.in-Some.mark))
     (sym c.deref-then-not-is_empty.ensures.value) (c.in-Ok-walk.ensures.lead file given))
-    told.start c.in-Some.earlier.now (c.in-Some.mark ∷ after) bytes is split so))
+    told.start c.in-Some.earlier.now (c.in-Some.mark ∷ after) bytes.items is split so))
 
 pub returns-in-Ok-walk-2-clause-mark : goal.returns-in-Ok-walk-2-clause-mark
 returns-in-Ok-walk-2-clause-mark g c =
@@ -75,4 +75,4 @@ returns-in-Ok-walk-2-clause-index g c =
     c.deref-in-Ok-walk-2.result.now [] front.mark c.in-Ok.ensures.mark (inl refl) (inl c.in-Ok.ensures.mark)
     (subst (AllByRecursion (LeadsTo (version_of front.head) _ front.mark)) (sym c.deref-in-Ok-walk-2.ensures.value)
     (c.in-Ok-walk-2.ensures.lead file given))
-    told.start [] [] bytes is refl so))
+    told.start [] [] bytes.items is refl so))
