@@ -7,6 +7,7 @@ mod Visits
 mod Files
 mod Places
 mod Walks
+mod Marked
 mod Indexes
 mod Logs
 mod Followings

@@ -31,6 +31,7 @@ mod form;
 mod frame;
 mod host;
 mod index;
+pub mod laws;
 mod listing;
 mod marks;
 mod notes;
