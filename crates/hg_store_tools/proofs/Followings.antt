@@ -204,10 +204,10 @@ pub finding_more : (first : ℕ) (found durable : List Entry) (now_first : ℕ) 
     → Finding first found durable then_first then_found then_durable (more ++ next ∷ [])
 finding_more first found durable now_first now_found now_durable more next then_first then_found then_durable finding
     found_is durable_is first_is = record {
-  first_is = first_is ∙ finding.first_is;
-  found_is = found_is ∙ ap (λ (rs : List Entry). rs ++ next ∷ []) finding.found_is ∙ append_assoc found more (next ∷ []);
-  durable_is = durable_is ∙ finding.durable_is;
-}
+      first_is = first_is ∙ finding.first_is;
+      found_is = found_is ∙ ap (λ (rs : List Entry). rs ++ next ∷ []) finding.found_is ∙ append_assoc found more (next ∷ []);
+      durable_is = durable_is ∙ finding.durable_is;
+    }
 
 -- ---- frames
 

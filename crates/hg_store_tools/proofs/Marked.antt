@@ -61,7 +61,8 @@ mark_rest file head mark rest has =
     ap (drop mark.offset) has.front.spelled
     ∙ drop_at (stored head has.earlier) rest mark.offset (sym has.offset_is)
 
-pub mark_front : (file : List ℕ) (head : Head) → HasHead file head → (rest : List ℕ) × HasMark file head (front_mark head) rest
+pub mark_front : (file : List ℕ) (head : Head) → HasHead file head
+    → (rest : List ℕ) × HasMark file head (front_mark head) rest
 mark_front file head has = (
   has.0,
   record {

@@ -1,16 +1,15 @@
 //! The pushes of a store, each as its bundle: one after the other to a writer, or each to a place of its own.
 
-ghost use Rattle.std.specs.Prelude.{◌≡◌, ◌∷◌, [], ℕ, List, Option, IfErr, IfOk, OnErr, OnOk};
+ghost use Rattle.std.specs.Prelude.{◌≡◌, ◌≤◌, ◌∷◌, [], ℕ, List, Option, IfErr, IfOk, OnErr, OnOk};
 ghost use Rattle.hg_connection.specs.Devices.{TellsMore};
-ghost use Rattle.hg_store.specs.Pieces.{HasToGive};
-ghost use Rattle.std.specs.Prelude.{◌≤◌};
 ghost use Rattle.hg_store.specs.Head.{IsHead};
+ghost use Rattle.hg_store.specs.Pieces.{HasToGive};
 ghost use Rattle.hg_store_tools.specs.Logging.{IsLogged, IsLoggedOn, IsShelved, IsShelvedOn, IsUnlogged};
 
 use crate::fault::{Fault, StoreEnd};
 use crate::form::{BundleForm, in_form};
-use crate::report::sent;
 use crate::marks::StoreStart;
+use crate::report::sent;
 use crate::visit::{Beginning, RecordVisit, begin, visit_from, visit_records};
 use hg_connection::Writer;
 use hg_store::Entry;

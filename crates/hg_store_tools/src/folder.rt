@@ -48,8 +48,8 @@ pub fn report_store<'a, R: Files<File = File>, A: Allocator + Copy, W: Writer>(
 }
 
 /// Writes the bundles of the store in a folder, from a place on, in that form, as [`send_log`] does, also while another
-/// process holds it. Nothing is changed, and nothing is held. The store is read twice: of a damaged one nothing is
-/// written.
+/// process holds it. Nothing is changed but its index, and nothing is held. The store is read twice, from the last mark
+/// before that place on that its index has: of one that is damaged there nothing is written.
 pub fn log_store<'a, R: Files<File = File>, A: Allocator + Copy, W: Writer>(
     files: &R,
     alloc: A,
@@ -69,8 +69,8 @@ pub fn log_store<'a, R: Files<File = File>, A: Allocator + Copy, W: Writer>(
 }
 
 /// Writes a line for each push of the store in a folder, from a place on, as [`send_list`] does, also while another
-/// process holds it. Nothing is changed, and nothing is held. The store is read twice: of a damaged one nothing is
-/// written.
+/// process holds it. Nothing is changed but its index, and nothing is held. The store is read twice, from the last mark
+/// before that place on that its index has: of one that is damaged there nothing is written.
 pub fn list_store<'a, R: Files<File = File>, A: Allocator + Copy, W: Writer>(
     files: &R,
     alloc: A,

@@ -55,7 +55,7 @@ pub fn send_trail<F: GrowingFile + Drop, W: Writer, P: Pause, A: Allocator + Cop
     follow(&mut trail, &log, 0, writer, pause)
 }
 
-/// The same of a store from a mark on.
+/// The same of a store from a mark on. No record before that is read.
 pub fn send_trail_on<F: GrowingFile + Drop, W: Writer, P: Pause, A: Allocator + Copy>(
     alloc: A,
     start: &StoreStart,
@@ -158,7 +158,7 @@ fn is_reader_gone(output: i32, wait: i32) -> bool {
 }
 
 /// Follows the store in a folder, as [`send_trail`] does, also while another process holds it. It is looked at five
-/// times a second. Nothing is changed, and nothing is held or made. The descriptor is that of the writer: it ends once
+/// times a second. Nothing is changed but its index, and nothing is held. The descriptor is that of the writer: it ends once
 /// nobody reads there.
 pub fn follow_store<'a, R: Files<File = File>, A: Allocator + Copy, W: Writer>(
     files: &R,

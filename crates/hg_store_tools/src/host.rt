@@ -1,4 +1,4 @@
-//! What a fault of the system is, and a shelf in a folder.
+//! What a fault of the system is, the index of a store in its folder, and a shelf in a folder.
 
 ghost use Rattle.std.specs.Prelude.{◌≤◌, None, IfOk};
 ghost use Rattle.hg_store.specs.Head.{IsHead};
@@ -84,7 +84,7 @@ fn seek_to<A: Allocator>(reader: &mut BufReader<File, A>, place: usize) -> Resul
     }
 }
 
-/// The name of the index of a store, and the one beside it while it is made.
+/// The name of the index of a store.
 const INDEX: &str = "pushes.index";
 
 /// Where a log of the store in a folder, whose file this is, begins to read, by its index. That is made anew where it has
@@ -147,10 +147,12 @@ fn index_in<R: Files<File = File>, A: Allocator + Copy>(
 
 /// How many bytes the index of a store of so many bytes has at most.
 fn most_of_index(size: u64) -> u64 {
-    (size / (25 * EACH as u64)).saturating_mul(36).saturating_add(64)
+    (size / (25 * EACH as u64))
+        .saturating_mul(36)
+        .saturating_add(64)
 }
 
-/// Writes the index of a store to a new file beside it, which then takes its place. Nothing is synced for it.
+/// Writes the index of a store to a new file beside it, which then takes its place. What it says need not be on the disk.
 fn write_index_file<R: Files<File = File>, A: Allocator + Copy>(
     files: &R,
     alloc: A,

@@ -8,6 +8,9 @@
 //! [`put_cut`] ends a store, of [`StoreBytes`], and [`put_upgrade`] makes one of version 2 of one of version 1: both
 //! write
 //! to new files as they read.
+//! [`find_start`] looks where a log from a place on begins to read, by the index of a store ([`index_bytes`]), and
+//! [`send_log_on`], [`put_log_on`] and [`send_list_on`] read from there on. [`laws`] says that this gives what is read
+//! from the front.
 //! [`report_store`], [`log_store`], [`list_store`], [`file_log`], [`cut_store`] and [`upgrade_store`] do it with a
 //! store
 //! in a folder. [`follow_store`] writes a frame for each push of a store once it is durable, and goes on while the

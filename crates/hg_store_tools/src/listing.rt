@@ -1,20 +1,18 @@
 //! The pushes of a store, a line for each.
 
-ghost use Rattle.std.specs.Prelude.{◌≡◌, ◌++◌, ℕ, List, IfErr, IfOk, OnOk, length, string_bytes};
+ghost use Rattle.std.specs.Prelude.{◌≡◌, ◌≤◌, ◌++◌, ℕ, List, IfErr, IfOk, OnOk, length, string_bytes};
 ghost use Rattle.hg_types.specs.Limits.{IsAllowed};
 ghost use Rattle.hg_repo.specs.Report.{escaped};
+ghost use Rattle.hg_store.specs.Head.{IsHead};
 ghost use Rattle.hg_store.specs.Pieces.{HasToGive};
 ghost use Rattle.hg_store_tools.specs.Canonical.{IsUncanonical};
-ghost use Rattle.std.specs.Prelude.{◌≤◌};
-ghost use Rattle.hg_store.specs.Head.{IsHead};
-ghost use Rattle.hg_store_tools.specs.Listing.{IsListedOn};
-ghost use Rattle.hg_store_tools.specs.Listing.{IsLine, IsListed, IsUnlisted, IsWhen, line_text, who_text};
+ghost use Rattle.hg_store_tools.specs.Listing.{IsLine, IsListed, IsListedOn, IsUnlisted, IsWhen, line_text, who_text};
 
 use crate::brought::brought_by;
 use crate::date::{date_of, push_date};
 use crate::fault::{Fault, StoreEnd};
-use crate::report::sent;
 use crate::marks::StoreStart;
+use crate::report::sent;
 use crate::visit::{Beginning, RecordVisit, begin, visit_from, visit_records};
 use hg_connection::Writer;
 use hg_store::Entry;

@@ -34,7 +34,7 @@ use hg_types::NoMemory;
 use std::alloc::Allocator;
 use std::io::Read;
 
-/// Each so many records one has a mark in an index.
+/// One record of so many has a mark in an index.
 pub const EACH: usize = 1_024;
 
 /// Where a record of a store stands, or is to stand.
@@ -102,9 +102,9 @@ pub struct FoundStart<A: Allocator> {
     pub index: Option<Vec<u8, A>>,
 }
 
-/// Looks where a log of a store that begins at a place begins to read: at the last mark before it, or at the front of
-/// the store. The bytes are those of its index, or whatever was found in its place. From the last mark of the index that
-/// is not behind that place the records are read up to it.
+/// Looks where a log of a store that begins at a place begins to read: at the last mark that is not behind it, or at the
+/// front of the store. The bytes are those of its index, or whatever was found in its place. From the last such mark of
+/// the index the records are read up to it.
 pub fn find_start<R: Read + Drop, S: StoreBytes<R>, A: Allocator + Copy>(
     alloc: A,
     store: &S,

@@ -7,8 +7,8 @@ ghost use Rattle.hg_store_tools.specs.TrailNotes.{durable_in, found_in};
 
 use crate::fault::Fault;
 use crate::follow::StoreTrail;
-use crate::notes::{TrailNotes, TrailStep};
 use crate::marks::{StoreStart, record_size};
+use crate::notes::{TrailNotes, TrailStep};
 use crate::visit::{Beginning, begin};
 use hg_store::{DeviceError, Entry, NoRecord, RecordStop, Version, read_record};
 use std::alloc::Allocator;
@@ -142,8 +142,7 @@ impl<F: GrowingFile + Drop, A: Allocator + Copy> FileTrail<F, A> {
         ensures first { self.new.first ≡ self.old.first }
         ensures why { IfErr result (λ fault. fault ≡ Fault.Failed) }
     {
-        let (Some(gate), Some(place)) = (self.gate_behind(&entry), self.place.checked_add(1))
-        else {
+        let (Some(gate), Some(place)) = (self.gate_behind(&entry), self.place.checked_add(1)) else {
             drop(entry);
             return Err(Fault::Failed);
         };

@@ -6,8 +6,8 @@ ghost use Rattle.hg_store.specs.Head.{version_of};
 ghost use Rattle.hg_store.specs.Records.{IsRecord};
 ghost use Rattle.hg_store.specs.declared.pieces.RecordStop.{RecordStop as AnyRecordStop};
 ghost use Rattle.hg_store_tools.specs.declared.fault.Fault.{Fault as AnyFault};
-ghost use Rattle.hg_store_tools.specs.Visiting.{Begins, EndsAs, FailsAs, Visits, StopsVisiting, has_no_begin};
-ghost use Rattle.hg_store_tools.specs.Visiting.{VisitsFrom, StopsVisitingFrom};
+ghost use Rattle.hg_store_tools.specs.Visiting.{Begins, EndsAs, FailsAs, StopsVisiting, StopsVisitingFrom, Visits};
+ghost use Rattle.hg_store_tools.specs.Visiting.{VisitsFrom, has_no_begin};
 
 use crate::fault::{Fault, StoreEnd};
 use hg_store::{
@@ -76,7 +76,7 @@ pub(crate) fn visit_records<R: Read, T, V: RecordVisit<T, A>, A: Allocator + Cop
     visit_from(alloc, begun, 0, reader, visit, target)
 }
 
-/// The same of the records from a place on, where what the store begins with has the digest of the one before that.
+/// The same of the records from a place on, where the digest is that of the record before it.
 pub(crate) fn visit_from<R: Read, T, V: RecordVisit<T, A>, A: Allocator + Copy>(
     alloc: A,
     begun: &Beginning,
