@@ -9,6 +9,7 @@ use hg_types::{NoMemory, Seq};
 use linked_list_allocator::LocalHeap;
 use sha1::Sha1;
 use std::alloc::{Allocator, Global};
+use std::fs;
 use std::test::*;
 
 /// The bytes of a store.
@@ -271,5 +272,34 @@ fn no_memory(rt: HostRuntime) -> Result<(), Fail> {
         }
     }
     assert!(rt; refused > 0 && found > 0);
+    Ok(())
+}
+
+// A log and a list of a store in a folder, from place 1,098: without an index, by it, and by one of which a byte was
+// turned. 1,100 records. Result: the last two each time, and the index anew.
+#[test]
+fn logs_of_a_folder_by_an_index(rt: HostRuntime) -> Result<(), Fail> {
+    let folder = "hg_tools_index";
+    let name = "hg_tools_index/pushes.index";
+    let alloc = rt.alloc();
+    let _ = fs::remove_dir_all(&rt, folder);
+    fs::create_dir(&rt, folder)?;
+    let bytes = many(alloc, 1_100)?;
+    fs::write(&rt, "hg_tools_index/pushes", bytes.as_slice())?;
+    let index = index_of(alloc, &bytes, &[0, 1_024])?;
+    for _ in 0..3 {
+        let mut log = Vec::new(alloc);
+        let told = log_store(&rt, alloc, folder, 1_098, BundleForm::Stored, &mut log);
+        assert!(rt; told == Ok(StoreEnd::Whole));
+        assert!(rt; log.len() == 24 && log.as_slice().get(12..) == Some(EMPTY.as_slice()));
+        assert!(rt; fs::read(&rt, name)?.as_slice() == index.as_slice());
+        let mut text = Vec::new(alloc);
+        assert!(rt; list_store(&rt, alloc, folder, 1_098, &mut text) == Ok(StoreEnd::Whole));
+        assert!(rt; text.as_slice() == b"1098 - - 0 12\n1099 - - 0 12\n".as_slice());
+        let mut other = index.clone()?;
+        turn(&mut other, 40, 1);
+        fs::write(&rt, name, other.as_slice())?;
+    }
+    fs::remove_dir_all(&rt, folder)?;
     Ok(())
 }
