@@ -1,8 +1,9 @@
 //! A store in its folder.
 
-ghost use Rattle.std.specs.Prelude.{ℕ, List, IfOk};
+ghost use Rattle.std.specs.Prelude.{◌≤◌, ℕ, List, IfOk};
 ghost use Rattle.hg_connection.specs.declared.sending.Sending.TheVariants.{Whole as sent_whole};
 ghost use Rattle.hg_connection.specs.Sent.{Sends};
+ghost use Rattle.hg_store.specs.Head.{IsHead};
 ghost use Rattle.hg_store_tools.specs.Listing.{ListsFrom};
 ghost use Rattle.hg_store_tools.specs.Logging.{LogsFrom};
 ghost use Rattle.hg_store_tools.specs.Reporting.{Reports};
@@ -17,6 +18,7 @@ use crate::host::{
     store_reader,
 };
 use crate::listing::send_list_on;
+use crate::marks::StoreStart;
 use crate::report::send_report;
 use crate::upgrade::put_upgrade;
 use hg_connection::Writer;
@@ -26,6 +28,7 @@ use hg_store::{
 use std::alloc::Allocator;
 use std::fs::{File, Files};
 use std::hash::RandomState;
+use std::io::BufReader;
 
 /// Writes the report of the store in a folder, as [`send_report`] does, also while another process holds it.
 /// Nothing is changed, and nothing is held.
@@ -60,8 +63,7 @@ pub fn log_store<'a, R: Files<File = File>, A: Allocator + Copy, W: Writer>(
 ) -> Result<StoreEnd, ArchiveFault<'a>>
     ensures { IfOk result (λ ending. LogsFrom form A from ending (W.told writer.old).taken (W.told writer.new).taken) }
 {
-    let store = NamedFile::Store(folder);
-    let (start, mut reader) = about(checked_start(files, alloc, folder, from), store)?;
+    let (start, mut reader) = log_start(files, alloc, folder, from)?;
     match send_log_on(alloc, &start, &mut reader, from, form, writer) {
         Ok(ending) => Ok(ending),
         Err(fault) => Err(sending_fault(folder, fault)),
@@ -80,8 +82,7 @@ pub fn list_store<'a, R: Files<File = File>, A: Allocator + Copy, W: Writer>(
 ) -> Result<StoreEnd, ArchiveFault<'a>>
     ensures { IfOk result (λ ending. ListsFrom A from ending (W.told writer.old).taken (W.told writer.new).taken) }
 {
-    let store = NamedFile::Store(folder);
-    let (start, mut reader) = about(checked_start(files, alloc, folder, from), store)?;
+    let (start, mut reader) = log_start(files, alloc, folder, from)?;
     match send_list_on(alloc, &start, &mut reader, from, writer) {
         Ok(ending) => Ok(ending),
         Err(fault) => Err(sending_fault(folder, fault)),
@@ -100,8 +101,7 @@ pub fn file_log<'a, R: Files<File = File>, A: Allocator + Copy>(
     form: BundleForm,
     to: &'a str,
 ) -> Result<StoreEnd, ArchiveFault<'a>> {
-    let store = NamedFile::Store(folder);
-    let (start, mut reader) = about(checked_start(files, alloc, folder, from), store)?;
+    let (start, mut reader) = log_start(files, alloc, folder, from)?;
     about_store(make_folder(files, alloc, to), NamedFile::Folder(to))?;
     let mut shelf = FolderShelf::of(files, alloc, to);
     match put_log_on(alloc, &start, &mut reader, from, form, &mut shelf) {
@@ -184,6 +184,25 @@ pub fn upgrade_store<'a, R: Files<File = File>, A: Allocator + Copy>(
             made.file().remove();
             Err(named(fault, folder, NamedFile::Old(folder)))
         }
+    }
+}
+
+/// Where a log of the store in a folder that begins at that place begins to read, as [`checked_start`] says.
+fn log_start<'a, R: Files<File = File>, A: Allocator + Copy>(
+    files: &R,
+    alloc: A,
+    folder: &'a str,
+    from: usize,
+) -> Result<(StoreStart, BufReader<File, A>), ArchiveFault<'a>>
+    ensures head { IfOk result (λ found. IsHead found.0.head) }
+    ensures mark { IfOk result (λ found. found.0.mark.place ≤ from) }
+{
+    match checked_start(files, alloc, folder, from) {
+        Ok(found) => Ok(found),
+        Err(fault) => Err(ArchiveFault {
+            file: NamedFile::Store(folder),
+            fault,
+        }),
     }
 }
 
